@@ -1,0 +1,6 @@
+pub mod Planes
+pub mod Lending
+pub mod WaveView
+pub mod Value
+pub mod Wave
+pub mod Contents

@@ -1,0 +1,29 @@
+use Rattle.std.specs.Prelude.{ℕ, Bool, ◌-◌, true, false, List, [], ◌∷◌, ◌&&◌, length, replicate, slice_index_or, nat_eq}
+use Rattle.vcd_core.specs.declared.bit.Bit.{Bit}
+use Rattle.vcd_core.specs.declared.bit.Bit.TheVariants.{Zero, One, X, Z}
+
+-- the value of this width that is x in every bit
+abbrev pub all_x : ℕ → List Bit
+all_x width = replicate width X
+
+-- bit k of a value, counted from the least significant end; x outside it
+abbrev pub letter_at : List Bit → ℕ → Bit
+letter_at v k = slice_index_or v (length v - 1 - k) X
+
+-- the number of a letter
+abbrev pub letter_number : Bit → ℕ
+letter_number Zero = 0
+letter_number One = 1
+letter_number X = 2
+letter_number Z = 3
+
+-- whether two letters are the same
+abbrev pub same_letter : Bit → Bit → Bool
+same_letter a b = nat_eq (letter_number a) (letter_number b)
+
+-- whether two values have the same letters
+unfoldable pub same_letters : List Bit → List Bit → Bool
+same_letters [] [] = true
+same_letters [] (b ∷ w) = false
+same_letters (a ∷ v) [] = false
+same_letters (a ∷ v) (b ∷ w) = same_letter a b && same_letters v w

@@ -1,0 +1,8 @@
+use Rattle.std.specs.Prelude.{ℕ, List}
+use Rattle.vcd_core.specs.declared.wave.Change.{Change}
+
+-- what contracts see of a wave: its width in bits, its changes, and how many more it holds without memory
+pub record WaveView : Type 0 where
+  pub width : ℕ
+  pub changes : List Change
+  pub room : ℕ

@@ -1,0 +1,81 @@
+use crate::seq::Seq;
+use crate::wave::Wave;
+use std::marker::Model;
+
+/// A word of the file: bytes without white space.
+pub type Word = Seq<u8>;
+
+/// What a header entry is: `$date`, `$version` or `$comment` (IEEE 1364-2005, 18.2.3).
+#[derive(Clone, Copy, Debug, PartialEq, Eq)]
+pub enum HeaderKind {
+    Date,
+    Version,
+    Comment,
+}
+
+/// A header entry: the words between its keyword and `$end`.
+#[derive(Drop)]
+pub struct Header {
+    pub kind: HeaderKind,
+    pub words: Seq<Word>,
+}
+
+/// The unit of a timescale, from a second down to a femtosecond.
+#[derive(Clone, Copy, Debug, PartialEq, Eq)]
+pub enum TimeUnit {
+    Second,
+    Millisecond,
+    Microsecond,
+    Nanosecond,
+    Picosecond,
+    Femtosecond,
+}
+
+/// How long a tick is: `count` is 1, 10 or 100 (IEEE 1364-2005, 18.2.3.7).
+#[derive(Clone, Copy, Debug, PartialEq, Eq)]
+pub struct Timescale {
+    pub count: u64,
+    pub unit: TimeUnit,
+}
+
+/// A scope: its kind, such as `module`, and the words of its name.
+#[derive(Drop)]
+pub struct ScopeName {
+    pub kind: Word,
+    pub words: Seq<Word>,
+}
+
+/// The scopes that a signal stands in, outermost first.
+///
+/// Contracts see the list of scope names.
+#[derive(Drop)]
+pub struct ScopePath {
+    scopes: Vec<ScopeName>,
+}
+
+impl Model for ScopePath {
+    ghost use Rattle.std.specs.Prelude.{List};
+    ghost use Rattle.vcd_core.specs.declared.capture.ScopeName.{ScopeName};
+
+    ghost Value = { List ScopeName };
+
+    ghost view = { λ p. p.scopes.items };
+}
+
+/// A signal: where it stands, its kind such as `wire`, the words of its name, and its wave.
+#[derive(Drop)]
+pub struct Signal {
+    pub scopes: ScopePath,
+    pub kind: Word,
+    pub words: Seq<Word>,
+    pub wave: Wave,
+}
+
+/// A capture: what a value change dump says, up to the tick `end`.
+#[derive(Drop)]
+pub struct Capture {
+    pub header: Seq<Header>,
+    pub timescale: Option<Timescale>,
+    pub end: u64,
+    pub signals: Seq<Signal>,
+}
