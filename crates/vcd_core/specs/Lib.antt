@@ -1,4 +1,6 @@
 pub mod Planes
+pub mod PlaneLaws
+pub mod ValueLaws
 pub mod Lending
 pub mod WaveView
 pub mod Value

@@ -1,0 +1,2 @@
+pub mod PlaneBits
+pub mod ValueLemmas
