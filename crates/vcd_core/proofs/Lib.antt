@@ -1,2 +1,3 @@
 pub mod PlaneBits
 pub mod ValueLemmas
+pub mod Waves

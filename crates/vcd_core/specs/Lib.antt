@@ -5,4 +5,5 @@ pub mod Lending
 pub mod WaveView
 pub mod Value
 pub mod Wave
+pub mod Pushed
 pub mod Contents
