@@ -1,3 +1,4 @@
 pub mod PlaneBits
 pub mod ValueLemmas
 pub mod Waves
+pub mod Pushes
