@@ -272,3 +272,30 @@ unfolding pushed
 pushed_other width cs tick value kept is other =
     ap (λ l. l ++ change tick value ∷ []) is
     ∙ sym (ap (λ b. if b then changes_before tick cs else changes_before tick cs ++ change tick value ∷ []) (ap (λ l. same_letters value (last_value (all_x width) l)) (sym is) ∙ other))
+
+upto_lower : (low high : ℕ) (cs : List Change) → low ≤ high → AllUpTo low cs → AllUpTo high cs
+upto_lower low high [] le upto = tt
+upto_lower low high (c ∷ cs) le (first, rest) = (omega arith, upto_lower low high cs le rest)
+
+-- the ticks of a rising list are at most that of the last change
+upto_last : (floor : ℕ) (before : List Bit) (rest : List Change) (last : Change) → ChangesFrom floor before (rest ++ last ∷ []) → AllUpTo last.tick (rest ++ last ∷ [])
+upto_last floor before [] last rise = (omega arith, tt)
+upto_last floor before (c ∷ rest) last rise =
+    let later = upto_last (c.tick + 1) c.value rest last rise.3 in
+    (omega (arith, rise_to_last (c.tick + 1) c.value rest last rise.3), later)
+  where
+    rise_to_last : (floor : ℕ) (before : List Bit) (rest : List Change) (last : Change) → ChangesFrom floor before (rest ++ last ∷ []) → floor ≤ last.tick
+    rise_to_last floor before [] last rise = rise.0
+    rise_to_last floor before (c ∷ rest) last rise = omega (arith, rise.0, rise_to_last (c.tick + 1) c.value rest last rise.3)
+
+-- so the last tick tells whether all are up to the end
+pub upto_from_last : (width end : ℕ) (cs rest : List Change) (last : Change) → IsWave width cs → cs ≡ rest ++ last ∷ [] → last.tick ≤ end → AllUpTo end cs
+upto_from_last width end cs rest last is split le =
+    subst (AllUpTo end) (sym split) (upto_lower last.tick end _ le (upto_last 0 (all_x width) rest last (subst (ChangesFrom 0 (all_x width)) split is.rise)))
+
+pub last_upto : (end : ℕ) (cs rest : List Change) (last : Change) → cs ≡ rest ++ last ∷ [] → AllUpTo end cs → last.tick ≤ end
+last_upto end cs rest last split upto = reach rest (subst (AllUpTo end) split upto)
+  where
+    reach : (rest : List Change) → AllUpTo end (rest ++ last ∷ []) → last.tick ≤ end
+    reach [] upto = upto.0
+    reach (c ∷ rest) upto = reach rest upto.1

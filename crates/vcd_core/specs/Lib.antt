@@ -7,3 +7,6 @@ pub mod Value
 pub mod Wave
 pub mod Pushed
 pub mod Contents
+pub mod Word
+pub mod Sound
+pub mod Laws
