@@ -5,3 +5,4 @@ pub mod Value
 pub mod Wave
 pub mod Contents
 pub mod Names
+pub mod NameParts

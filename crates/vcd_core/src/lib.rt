@@ -7,6 +7,7 @@
 
 pub mod bit;
 pub mod capture;
+mod names;
 pub mod seq;
 pub mod value;
 pub mod wave;

@@ -1,0 +1,2 @@
+pub mod NameWalks
+pub mod Lookups
