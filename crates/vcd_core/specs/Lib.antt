@@ -6,3 +6,4 @@ pub mod Wave
 pub mod Contents
 pub mod Names
 pub mod NameParts
+pub mod Device

@@ -7,6 +7,8 @@
 
 pub mod bit;
 pub mod capture;
+pub mod device;
+pub mod memory;
 mod names;
 pub mod seq;
 pub mod value;
@@ -16,6 +18,8 @@ pub use bit::Bit;
 pub use capture::{
     Capture, Header, HeaderKind, ScopeName, ScopePath, Signal, TimeUnit, Timescale, Word,
 };
+pub use device::{DeviceFault, FromRead, Sink, Source, ToWrite};
+pub use memory::NoMemory;
 pub use seq::Seq;
 pub use value::{Value, WIDTH_LIMIT};
 pub use wave::{Change, Wave};
