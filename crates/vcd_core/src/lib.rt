@@ -10,6 +10,7 @@ pub mod capture;
 pub mod device;
 pub mod memory;
 mod names;
+mod planes;
 pub mod seq;
 pub mod value;
 pub mod wave;
