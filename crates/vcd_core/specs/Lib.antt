@@ -10,3 +10,6 @@ pub mod Contents
 pub mod Word
 pub mod Sound
 pub mod Laws
+pub mod Names
+pub mod NameParts
+pub mod Device

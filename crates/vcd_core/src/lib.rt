@@ -8,8 +8,10 @@
 pub mod bit;
 pub mod capture;
 mod change_list;
+pub mod device;
 pub mod laws;
 pub mod memory;
+mod names;
 mod planes;
 pub mod seq;
 mod soundness;
@@ -22,6 +24,7 @@ pub use capture::{
     Capture, END_LIMIT, Header, HeaderKind, SIGNAL_LIMIT, ScopeName, ScopePath, Signal, TimeUnit,
     Timescale, Word,
 };
+pub use device::{DeviceFault, FromRead, Sink, Source, ToWrite};
 pub use memory::NoMemory;
 pub use seq::Seq;
 pub use value::{Value, WIDTH_LIMIT};
