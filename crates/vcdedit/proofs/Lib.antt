@@ -1,0 +1,2 @@
+pub mod CasesOfWords
+pub mod CasesOfLetters
