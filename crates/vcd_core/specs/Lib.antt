@@ -4,3 +4,4 @@ pub mod WaveView
 pub mod Value
 pub mod Wave
 pub mod Contents
+pub mod Names
