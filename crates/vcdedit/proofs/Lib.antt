@@ -1,2 +1,4 @@
 pub mod CasesOfWords
 pub mod CasesOfLetters
+pub mod Replay
+pub mod CasesOfText

@@ -1,3 +1,12 @@
 pub mod Words
 pub mod Letters
 pub mod FaultNames
+pub mod RefusalNames
+pub mod Text
+pub mod Effect
+pub mod Allowed
+pub mod Machine
+pub mod InForce
+pub mod Script
+pub mod Reply
+pub mod Run
