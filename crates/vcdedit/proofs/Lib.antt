@@ -1,4 +1,7 @@
 pub mod CasesOfWords
 pub mod CasesOfLetters
-pub mod Replay
 pub mod CasesOfText
+pub mod CasesOfSession
+pub mod CasesOfRun
+pub mod Replay
+pub mod Steps

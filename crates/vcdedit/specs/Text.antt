@@ -1,5 +1,5 @@
 -- The text of a capture: a value change dump (IEEE 1364-2005, 18.2) in one fixed form.
-use Rattle.std.specs.Prelude.{ℕ, zero, suc, Bool, ◌+◌, ◌-◌, ◌/◌, ◌%◌, ◌==◌, ◌&&◌, not, if◌then◌else◌, List, [], ◌∷◌, ◌++◌, length, map, drop, replicate, Option, Some, None, codes}
+use Rattle.std.specs.Prelude.{ℕ, zero, suc, Bool, ◌+◌, ◌-◌, ◌/◌, ◌%◌, ◌==◌, ◌&&◌, not, if◌then◌else◌, nat_lt, List, [], ◌∷◌, ◌++◌, length, map, drop, replicate, Option, Some, None, codes}
 use Rattle.std.specs.List.{filter, flat_map, enumerate_from, join_with_byte, common_prefix_len}
 use Rattle.std.specs.Str.{bytes_eq}
 use Rattle.std.specs.Cmp.Lexicographic.{pointwise}
@@ -89,26 +89,30 @@ signal_lines opened position [] = map (λ scope. upscope_line) opened
 signal_lines opened position (s ∷ ss) = scope_lines opened s.scopes ++ var_line position s ∷ signal_lines s.scopes (suc position) ss
 
 -- a value with its code (18.2): one letter and the code in one word, or `b` (98) with the short form, and the code
-abbrev pub value_line : ℕ → ℕ → List Bit → Line
-value_line position width value =
-    if width == 1 then (printed value ++ code_of position) ∷ []
+abbrev pub value_line : ℕ → List Bit → Line
+value_line position value =
+    if length value == 1 then (printed value ++ code_of position) ∷ []
     else (98 ∷ printed (short value)) ∷ code_of position ∷ []
 
 -- the value of a signal at a tick
 abbrev pub signal_value : SignalContents → ℕ → List Bit
 signal_value s t = value_at s.width s.changes t
 
--- whether a signal has another value at tick t + 1 than at tick t
-abbrev pub differs_after : ℕ → SignalContents → Bool
-differs_after t s = not (same_letters (signal_value s (suc t)) (signal_value s t))
+-- whether a signal differs at a tick from the tick before
+abbrev pub differs_at : ℕ → SignalContents → Bool
+differs_at t s = not (same_letters (signal_value s t) (signal_value s (t - 1)))
 
 -- the values at a tick of some signals, each with its position
 abbrev pub value_lines : ℕ → List (ℕ × SignalContents) → List Line
-value_lines t signals = map (λ p. value_line p.0 p.1.width (signal_value p.1 t)) signals
+value_lines t signals = map (λ p. value_line p.0 (signal_value p.1 t)) signals
 
--- the values at tick t + 1 of the signals that differ there from tick t, in their order
+-- the values at a tick of all signals, in their order
+abbrev pub all_values : List SignalContents → ℕ → List Line
+all_values signals t = value_lines t (enumerate_from 0 signals)
+
+-- the values at a tick of the signals that differ there from the tick before, in their order
 abbrev pub new_values : List SignalContents → ℕ → List Line
-new_values signals t = value_lines (suc t) (filter (λ p. differs_after t p.1) (enumerate_from 0 signals))
+new_values signals t = value_lines t (filter (λ p. differs_at t p.1) (enumerate_from 0 signals))
 
 -- the stamp of a tick: `#` (35) and its number (18.2)
 abbrev pub stamp_line : ℕ → Line
@@ -119,22 +123,20 @@ abbrev pub stamped : ℕ → List Line → List Line
 stamped t [] = []
 stamped t (v ∷ vs) = stamp_line t ∷ v ∷ vs
 
--- the values of all signals at tick 0 (`$dumpvars`: 18.2)
+-- the values at tick 0, between `$dumpvars` and `$end` (18.2)
 abbrev pub first_lines : List SignalContents → List Line
-first_lines signals =
-    stamp_line 0 ∷ (codes "$dumpvars" ∷ []) ∷ (value_lines 0 (enumerate_from 0 signals) ++ (end_word ∷ []) ∷ [])
+first_lines signals = stamp_line 0 ∷ (codes "$dumpvars" ∷ []) ∷ (all_values signals 0 ++ (end_word ∷ []) ∷ [])
 
--- what changes at the n ticks behind tick t, tick by tick
+-- what changes at n ticks, tick by tick from t on
 unfoldable pub tick_lines : List SignalContents → ℕ → ℕ → List Line
 tick_lines signals t zero = []
-tick_lines signals t (suc n) = stamped (suc t) (new_values signals t) ++ tick_lines signals (suc t) n
+tick_lines signals t (suc n) = stamped t (new_values signals t) ++ tick_lines signals (suc t) n
 
 -- the stamp of the end, where it is above 0 and nothing changes at it
 abbrev pub end_lines : List SignalContents → ℕ → List Line
-end_lines signals zero = []
-end_lines signals (suc t) = if length (new_values signals t) == 0 then stamp_line (suc t) ∷ [] else []
+end_lines signals end = if nat_lt 0 end && (length (new_values signals end) == 0) then stamp_line end ∷ [] else []
 
--- the lines of a capture: header, timescale, declarations, the values at tick 0, the changes, the end
+-- the lines of a capture: header, timescale, declarations, the values at tick 0, the changes at the ticks 1 to the end, the end
 unfoldable pub lines_of : Contents → List Line
 lines_of c =
     map header_line c.header
@@ -142,7 +144,7 @@ lines_of c =
     ++ signal_lines [] 0 c.signals
     ++ (codes "$enddefinitions" ∷ end_word ∷ [])
     ∷ first_lines c.signals
-    ++ tick_lines c.signals 0 c.end
+    ++ tick_lines c.signals 1 c.end
     ++ end_lines c.signals c.end
 
 -- the text of a capture, byte for byte
