@@ -1,2 +1,4 @@
 pub mod CasesOfWords
 pub mod CasesOfLetters
+pub mod CasesOfFiles
+pub mod CasesOfFaults

@@ -1,3 +1,6 @@
 pub mod Words
 pub mod Letters
 pub mod FaultNames
+pub mod Grammar
+pub mod Faults
+pub mod Meaning
