@@ -1,5 +1,7 @@
 pub mod CasesOfWords
 pub mod CasesOfLetters
+pub mod CasesOfFiles
+pub mod CasesOfFaults
 pub mod CasesOfText
 pub mod CasesOfSession
 pub mod CasesOfRun
