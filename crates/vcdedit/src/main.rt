@@ -1,6 +1,8 @@
 //! `vcdedit`: edits four-state value change dump files (IEEE 1364-2005, 18.2) by script.
 #![tactic(auto)]
 
-mod fault;
+pub mod fault;
+#[cfg(test)]
+mod tests;
 
 fn main(_rt: HostRuntime) {}
