@@ -4,12 +4,12 @@ use Rattle.std.specs.Prelude.{ℕ, List, [], ◌∷◌, take, drop, codes}
 use Rattle.std.specs.Fmt.{digits}
 use Rattle.vcdedit.specs.declared.fault.Fault.TheVariants.{Truncated, BadTimescale, BadScope, UpscopeAtTop, BadVar, MixedCode, BadTime, TimeBackwards, UnknownCode, ValueTooLong}
 use Rattle.vcdedit.specs.Words.{word, words_from, words_of}
-use Rattle.vcdedit.specs.Grammar.{Item, scope, upscope, variable, end_definitions, stamp, vector, bracket}
-use Rattle.vcdedit.specs.Faults.{FileFault, FrontFault, shown, too_early, declaration_due, code_due, upscope_at_top, no_timescale, no_kind, variable_too_short, no_size, code_mixed, no_tick, tick_goes_back, digits_of_none, letter_of_none, value_too_long}
+use Rattle.vcdedit.specs.Items.{Item, scope, upscope, variable, end_definitions, stamp, vector, bracket}
+use Rattle.vcdedit.specs.Faults.{FileFault, FrontFault, shown, too_early, declaration_due, code_due, declaring, changing, upscope_at_top, no_timescale, no_kind, no_variable, no_size, code_mixed, no_tick, tick_goes_back, letter_of_none, pair_of_none, value_too_long}
 
 -- one variable, and the end of the declarations
 abbrev one_variable : List Item
-one_variable = variable (codes "wire") (codes "1") (codes "!") (codes "a") [] ∷ end_definitions ∷ []
+one_variable = variable (codes "wire" ∷ codes "1" ∷ codes "!" ∷ codes "a" ∷ []) ∷ end_definitions ∷ []
 
 -- a stamp below the one before it, also where only the closed words are known
 abbrev time_back : List ℕ
@@ -18,7 +18,7 @@ time_back = codes "$var wire 1 ! a $end\n$enddefinitions $end\n#10\n#9\n"
 time_goes_back : FileFault time_back 4 TimeBackwards
 unfolding words_from
 time_goes_back = shown (record {
-  items = variable (codes "wire") (codes "1") (codes "!") (codes "a") [] ∷ end_definitions ∷ stamp (codes "10") ∷ [];
+  items = variable (codes "wire" ∷ codes "1" ∷ codes "!" ∷ codes "a" ∷ []) ∷ end_definitions ∷ stamp (codes "10") ∷ [];
   whole = take 9 (words_of time_back);
   begun = [];
   word = word (codes "#9") 4;
@@ -26,14 +26,14 @@ time_goes_back = shown (record {
   parts = refl;
   spelled = refl;
   allowed = search arith;
-  decided = tick_goes_back (codes "9") refl refl refl refl (omega arith) refl;
-  shown = refl;
+  decided = changing refl (tick_goes_back (codes "9") refl refl refl (omega arith) refl);
+  at = refl;
 })
 
 time_goes_back_in_front : FrontFault time_back 4 TimeBackwards
 unfolding words_from
 time_goes_back_in_front = record {
-  items = variable (codes "wire") (codes "1") (codes "!") (codes "a") [] ∷ end_definitions ∷ stamp (codes "10") ∷ [];
+  items = variable (codes "wire" ∷ codes "1" ∷ codes "!" ∷ codes "a" ∷ []) ∷ end_definitions ∷ stamp (codes "10") ∷ [];
   whole = take 9 (words_of time_back);
   begun = [];
   word = word (codes "#9") 4;
@@ -41,8 +41,8 @@ time_goes_back_in_front = record {
   parts = refl;
   spelled = refl;
   allowed = search arith;
-  decided = tick_goes_back (codes "9") refl refl refl refl (omega arith) refl;
-  shown = refl;
+  decided = changing refl (tick_goes_back (codes "9") refl refl refl (omega arith) refl);
+  at = refl;
 }
 
 -- the file ends where a code is due
@@ -52,7 +52,7 @@ no_code = codes "$var wire 1 ! a $end\n$enddefinitions $end\n#0\nb101"
 ends_before_code : FileFault no_code 4 Truncated
 unfolding words_from
 ends_before_code = too_early (record {
-  items = variable (codes "wire") (codes "1") (codes "!") (codes "a") [] ∷ end_definitions ∷ stamp (codes "0") ∷ [];
+  items = variable (codes "wire" ∷ codes "1" ∷ codes "!" ∷ codes "a" ∷ []) ∷ end_definitions ∷ stamp (codes "0") ∷ [];
   begun = codes "b101" ∷ [];
   spelled = refl;
   allowed = search arith;
@@ -79,8 +79,8 @@ tick_too_great = shown (record {
   parts = refl;
   spelled = refl;
   allowed = search arith;
-  decided = no_tick (codes "9223372036854775808") refl refl refl refl refl;
-  shown = refl;
+  decided = changing refl (no_tick (codes "9223372036854775808") refl refl refl refl);
+  at = refl;
 })
 
 -- files of one line
@@ -95,8 +95,8 @@ two_nanoseconds = shown (record {
   parts = refl;
   spelled = refl;
   allowed = tt;
-  decided = no_timescale (codes "2" ∷ codes "ns" ∷ []) refl refl refl refl refl refl;
-  shown = refl;
+  decided = declaring refl (no_timescale (codes "2" ∷ codes "ns" ∷ []) refl refl refl refl refl);
+  at = refl;
 })
 
 scope_without_kind : FileFault (codes "$scope $end\n") 1 BadScope
@@ -110,8 +110,8 @@ scope_without_kind = shown (record {
   parts = refl;
   spelled = refl;
   allowed = tt;
-  decided = no_kind refl refl refl refl;
-  shown = refl;
+  decided = declaring refl (no_kind refl refl refl);
+  at = refl;
 })
 
 variable_without_name : FileFault (codes "$var wire 1 ! $end\n") 1 BadVar
@@ -125,8 +125,8 @@ variable_without_name = shown (record {
   parts = refl;
   spelled = refl;
   allowed = tt;
-  decided = variable_too_short (codes "wire" ∷ codes "1" ∷ codes "!" ∷ []) refl refl refl refl (omega arith) refl refl;
-  shown = refl;
+  decided = declaring refl (no_variable (codes "wire" ∷ codes "1" ∷ codes "!" ∷ []) refl refl refl refl refl refl);
+  at = refl;
 })
 
 -- a size that is no number is decided at its word, of a skipped kind too, though the file ends there
@@ -141,8 +141,8 @@ real_without_size = shown (record {
   parts = refl;
   spelled = refl;
   allowed = tt;
-  decided = no_size (codes "real") refl refl refl refl refl;
-  shown = refl;
+  decided = declaring refl (no_size (codes "real") refl refl refl refl);
+  at = refl;
 })
 
 -- `$upscope` with no scope open is decided at this word, whatever follows
@@ -157,8 +157,8 @@ upscope_alone = shown (record {
   parts = refl;
   spelled = refl;
   allowed = tt;
-  decided = upscope_at_top refl refl refl refl refl;
-  shown = refl;
+  decided = declaring refl (upscope_at_top refl refl refl refl);
+  at = refl;
 })
 
 abbrev two_sizes : List ℕ
@@ -167,7 +167,7 @@ two_sizes = codes "$var wire 1 ! a $end $var wire 2 ! b $end\n"
 code_of_two_sizes : FileFault two_sizes 1 MixedCode
 unfolding words_from
 code_of_two_sizes = shown (record {
-  items = variable (codes "wire") (codes "1") (codes "!") (codes "a") [] ∷ [];
+  items = variable (codes "wire" ∷ codes "1" ∷ codes "!" ∷ codes "a" ∷ []) ∷ [];
   whole = take 6 (words_of two_sizes);
   begun = take 5 (drop 6 (words_of two_sizes));
   word = word (codes "$end") 1;
@@ -175,8 +175,8 @@ code_of_two_sizes = shown (record {
   parts = refl;
   spelled = refl;
   allowed = search arith;
-  decided = code_mixed (codes "wire") (codes "2") (codes "!") (codes "b") [] refl refl refl refl refl refl refl;
-  shown = refl;
+  decided = declaring refl (code_mixed (codes "wire" ∷ codes "2" ∷ codes "!" ∷ codes "b" ∷ []) _ refl refl refl refl refl refl refl);
+  at = refl;
 })
 
 unknown_code : FileFault (codes "$enddefinitions $end 1\"\n") 1 UnknownCode
@@ -190,8 +190,8 @@ unknown_code = shown (record {
   parts = refl;
   spelled = refl;
   allowed = search arith;
-  decided = letter_of_none 49 (codes "\"") refl refl refl refl (omega arith) refl refl;
-  shown = refl;
+  decided = changing refl (letter_of_none 49 (codes "\"") refl refl refl (omega arith) refl refl);
+  at = refl;
 })
 
 -- a change of two words has the line of its first, also where `$end` stands in the place of the code
@@ -206,8 +206,8 @@ unknown_code_of_vector = shown (record {
   parts = refl;
   spelled = refl;
   allowed = search arith;
-  decided = digits_of_none 98 (codes "1") refl refl refl refl refl;
-  shown = refl;
+  decided = changing refl (pair_of_none 98 (codes "1") refl refl refl refl);
+  at = refl;
 })
 
 -- more digits than bits
@@ -217,7 +217,7 @@ long_value = codes "$scope module top $end\n$var wire 4 ! v $end\n$upscope $end\
 value_of_five_digits : FileFault long_value 10 ValueTooLong
 unfolding words_from
 value_of_five_digits = shown (record {
-  items = scope (codes "module") (codes "top" ∷ []) ∷ variable (codes "wire") (codes "4") (codes "!") (codes "v") [] ∷ upscope ∷ end_definitions
+  items = scope (codes "module") (codes "top" ∷ []) ∷ variable (codes "wire" ∷ codes "4" ∷ codes "!" ∷ codes "v" ∷ []) ∷ upscope ∷ end_definitions
       ∷ stamp (codes "0") ∷ bracket (codes "$dumpvars") ∷ vector 98 (codes "x") (codes "!") ∷ bracket (codes "$end") ∷ stamp (codes "1") ∷ [];
   whole = take 20 (words_of long_value);
   begun = word (codes "b00001") 10 ∷ [];
@@ -226,6 +226,6 @@ value_of_five_digits = shown (record {
   parts = refl;
   spelled = refl;
   allowed = search arith;
-  decided = value_too_long 98 (codes "00001") _ refl refl refl refl refl refl (omega arith) refl;
-  shown = refl;
+  decided = changing refl (value_too_long 98 (codes "00001") _ refl refl refl refl refl (omega arith) refl);
+  at = refl;
 })

@@ -10,7 +10,8 @@ use Rattle.vcd_core.specs.Wave.{change, changes_from}
 use Rattle.vcd_core.specs.Contents.{Contents, SignalContents}
 use Rattle.vcdedit.specs.Words.{words_from}
 use Rattle.vcd_core.specs.declared.value.TheConstants.{WIDTH_LIMIT}
-use Rattle.vcdedit.specs.Grammar.{Item, Declaration, is_skipped, timescale_of, nothing_told, after, timescale, scope, upscope, variable, end_definitions, stamp, scalar, vector, real_or_string, bracket, other}
+use Rattle.vcdedit.specs.Items.{Item, timescale_of, timescale, scope, upscope, variable, end_definitions, stamp, scalar, vector, real_or_string, bracket, other}
+use Rattle.vcdedit.specs.Grammar.{Declaration, is_skipped, nothing_told, after}
 use Rattle.vcdedit.specs.Meaning.{FileMeans, recorded_value}
 
 -- the scope `module top`
@@ -23,7 +24,7 @@ one_scalar = codes "$timescale 1ns $end\n$scope module top $end\n$var wire 1 ! a
 
 abbrev one_scalar_items : List Item
 one_scalar_items =
-    timescale (codes "1ns" ∷ []) ∷ scope (codes "module") (codes "top" ∷ []) ∷ variable (codes "wire") (codes "1") (codes "!") (codes "a") [] ∷ upscope ∷ end_definitions
+    timescale (codes "1ns" ∷ []) ∷ scope (codes "module") (codes "top" ∷ []) ∷ variable (codes "wire" ∷ codes "1" ∷ codes "!" ∷ codes "a" ∷ []) ∷ upscope ∷ end_definitions
     ∷ stamp (codes "0") ∷ bracket (codes "$dumpvars") ∷ scalar 48 (codes "!") ∷ bracket (codes "$end") ∷ stamp (codes "5") ∷ scalar 49 (codes "!") ∷ stamp (codes "9") ∷ []
 
 abbrev one_scalar_contents : Contents
@@ -49,7 +50,7 @@ one_vector = codes "$scope module top $end\n$var wire 4 ! v $end\n$upscope $end\
 
 abbrev one_vector_items : List Item
 one_vector_items =
-    scope (codes "module") (codes "top" ∷ []) ∷ variable (codes "wire") (codes "4") (codes "!") (codes "v") [] ∷ upscope ∷ end_definitions
+    scope (codes "module") (codes "top" ∷ []) ∷ variable (codes "wire" ∷ codes "4" ∷ codes "!" ∷ codes "v" ∷ []) ∷ upscope ∷ end_definitions
     ∷ stamp (codes "0") ∷ bracket (codes "$dumpvars") ∷ vector 98 (codes "x") (codes "!") ∷ bracket (codes "$end") ∷ stamp (codes "1") ∷ vector 98 (codes "1") (codes "!")
     ∷ stamp (codes "2") ∷ vector 98 (codes "z1") (codes "!") ∷ stamp (codes "3") ∷ vector 98 (codes "0") (codes "!") ∷ []
 
@@ -83,8 +84,8 @@ shared_code = codes "$scope module top $end\n$var wire 1 % a $end\n$scope module
 
 abbrev shared_code_items : List Item
 shared_code_items =
-    scope (codes "module") (codes "top" ∷ []) ∷ variable (codes "wire") (codes "1") (codes "%") (codes "a") [] ∷ scope (codes "module") (codes "sub" ∷ [])
-    ∷ variable (codes "wire") (codes "1") (codes "%") (codes "a") [] ∷ upscope ∷ upscope ∷ end_definitions
+    scope (codes "module") (codes "top" ∷ []) ∷ variable (codes "wire" ∷ codes "1" ∷ codes "%" ∷ codes "a" ∷ []) ∷ scope (codes "module") (codes "sub" ∷ [])
+    ∷ variable (codes "wire" ∷ codes "1" ∷ codes "%" ∷ codes "a" ∷ []) ∷ upscope ∷ upscope ∷ end_definitions
     ∷ stamp (codes "0") ∷ scalar 49 (codes "%") ∷ stamp (codes "3") ∷ scalar 48 (codes "%") ∷ []
 
 abbrev shared_signal : List ScopeName → SignalContents
@@ -113,8 +114,8 @@ skipped_and_comment = codes "$timescale 10 us $end\n$scope module t $end\n$var r
 
 abbrev skipped_and_comment_items : List Item
 skipped_and_comment_items =
-    timescale (codes "10" ∷ codes "us" ∷ []) ∷ scope (codes "module") (codes "t" ∷ []) ∷ variable (codes "real") (codes "64") (codes "!") (codes "v") []
-    ∷ variable (codes "event") (codes "1") (codes "\"") (codes "e") [] ∷ variable (codes "reg") (codes "2") (codes "#") (codes "q") (codes "[1:0]" ∷ []) ∷ upscope ∷ end_definitions
+    timescale (codes "10" ∷ codes "us" ∷ []) ∷ scope (codes "module") (codes "t" ∷ []) ∷ variable (codes "real" ∷ codes "64" ∷ codes "!" ∷ codes "v" ∷ [])
+    ∷ variable (codes "event" ∷ codes "1" ∷ codes "\"" ∷ codes "e" ∷ []) ∷ variable (codes "reg" ∷ codes "2" ∷ codes "#" ∷ codes "q" ∷ codes "[1:0]" ∷ []) ∷ upscope ∷ end_definitions
     ∷ other (codes "$comment") (codes "made" ∷ codes "by" ∷ codes "hand" ∷ []) ∷ stamp (codes "10") ∷ real_or_string 114 (codes "1.5") (codes "!") ∷ scalar 49 (codes "\"")
     ∷ vector 98 (codes "1x") (codes "#") ∷ stamp (codes "20") ∷ []
 
@@ -141,7 +142,7 @@ last_counts = codes "$var wire 1 ! a $end $var wire 0 # q $end $enddefinitions $
 
 abbrev last_counts_items : List Item
 last_counts_items =
-    variable (codes "wire") (codes "1") (codes "!") (codes "a") [] ∷ variable (codes "wire") (codes "0") (codes "#") (codes "q") [] ∷ end_definitions
+    variable (codes "wire" ∷ codes "1" ∷ codes "!" ∷ codes "a" ∷ []) ∷ variable (codes "wire" ∷ codes "0" ∷ codes "#" ∷ codes "q" ∷ []) ∷ end_definitions
     ∷ scalar 48 (codes "!") ∷ stamp (codes "5") ∷ scalar 48 (codes "!") ∷ scalar 49 (codes "!") ∷ stamp (codes "5") ∷ real_or_string 114 (codes "1.5") (codes "!") ∷ stamp (codes "7") ∷ []
 
 abbrev last_counts_contents : Contents
