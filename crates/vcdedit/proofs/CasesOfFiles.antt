@@ -15,11 +15,11 @@ use Rattle.vcdedit.specs.Grammar.{Declaration, is_skipped, nothing_told, after}
 use Rattle.vcdedit.specs.Meaning.{FileMeans, recorded_value}
 
 -- the scope `module top`
-abbrev module_of : List ℕ → ScopeName
+abbrev pub module_of : List ℕ → ScopeName
 module_of name = record { kind = codes "module"; words = name ∷ [] }
 
 -- one scalar
-abbrev one_scalar : List ℕ
+abbrev pub one_scalar : List ℕ
 one_scalar = codes "$timescale 1ns $end\n$scope module top $end\n$var wire 1 ! a $end\n$upscope $end\n$enddefinitions $end\n#0\n$dumpvars\n0!\n$end\n#5\n1!\n#9\n"
 
 abbrev one_scalar_items : List Item
@@ -27,7 +27,7 @@ one_scalar_items =
     timescale (codes "1ns" ∷ []) ∷ scope (codes "module") (codes "top" ∷ []) ∷ variable (codes "wire" ∷ codes "1" ∷ codes "!" ∷ codes "a" ∷ []) ∷ upscope ∷ end_definitions
     ∷ stamp (codes "0") ∷ bracket (codes "$dumpvars") ∷ scalar 48 (codes "!") ∷ bracket (codes "$end") ∷ stamp (codes "5") ∷ scalar 49 (codes "!") ∷ stamp (codes "9") ∷ []
 
-abbrev one_scalar_contents : Contents
+abbrev pub one_scalar_contents : Contents
 one_scalar_contents = record {
   header = [];
   timescale = Some (record { count = 1; unit = Nanosecond });
@@ -35,7 +35,7 @@ one_scalar_contents = record {
   signals = record { scopes = module_of (codes "top") ∷ []; kind = codes "wire"; words = codes "a" ∷ []; width = 1; changes = change 0 (Zero ∷ []) ∷ change 5 (One ∷ []) ∷ [] } ∷ [];
 }
 
-one_scalar_means : FileMeans one_scalar one_scalar_contents 0
+pub one_scalar_means : FileMeans one_scalar one_scalar_contents 0
 unfolding words_from recorded_value changes_from same_letters digits
 one_scalar_means = record {
   told = after nothing_told one_scalar_items;

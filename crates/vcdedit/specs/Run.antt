@@ -8,6 +8,7 @@ use Rattle.vcdedit.specs.declared.step.Step.{Step}
 use Rattle.vcdedit.specs.declared.step.Answer.{Answer}
 use Rattle.vcdedit.specs.declared.step.Answer.TheVariants.{Done, Refused}
 use Rattle.vcdedit.specs.RefusalNames.{step_error_name}
+use Rattle.vcdedit.specs.Meaning.{FileMeans}
 use Rattle.vcdedit.specs.Text.{text}
 use Rattle.vcdedit.specs.Machine.{Machine, fresh, step_of}
 use Rattle.vcdedit.specs.InForce.{IsReplay, in_force_after}
@@ -54,6 +55,13 @@ run_of c skipped script depth = record {
   output = text (after_lines (fresh c depth) (script_lines script)).now;
   refused = refusals skipped (fresh c depth) (script_lines script);
 }
+
+-- the capture file is accepted, and the run of the script on what it means writes this
+pub record RunWrites (file script : List ℕ) (depth : ℕ) (written : Written) : Type 0 where
+  pub contents : Contents
+  pub skipped : ℕ
+  pub means : FileMeans file contents skipped
+  pub run : written ≡ run_of contents skipped script depth
 
 -- the step that a line asks for, where it asks for one
 abbrev pub step_in : Result Command LineError → List Step
