@@ -62,6 +62,17 @@ impl Model for ScopePath {
     ghost view = { λ p. p.scopes.items };
 }
 
+impl ScopePath {
+    ghost use Rattle.std.specs.Prelude.{◌≡◌};
+
+    /// The scope names, outermost first.
+    pub fn as_slice(&self) -> &[ScopeName]
+        ensures { result.now ≡ self.now }
+    {
+        self.scopes.as_slice()
+    }
+}
+
 /// A signal: where it stands, its kind such as `wire`, the words of its name, and its wave.
 #[derive(Drop)]
 pub struct Signal {

@@ -7,6 +7,10 @@
 
 pub mod bit;
 pub mod capture;
+pub mod device;
+pub mod memory;
+mod names;
+mod planes;
 pub mod seq;
 pub mod value;
 pub mod wave;
@@ -15,6 +19,8 @@ pub use bit::Bit;
 pub use capture::{
     Capture, Header, HeaderKind, ScopeName, ScopePath, Signal, TimeUnit, Timescale, Word,
 };
+pub use device::{DeviceFault, FromRead, Sink, Source, ToWrite};
+pub use memory::NoMemory;
 pub use seq::Seq;
 pub use value::{Value, WIDTH_LIMIT};
 pub use wave::{Change, Wave};
