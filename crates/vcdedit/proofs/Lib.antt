@@ -1,4 +1,9 @@
 pub mod CasesOfWords
 pub mod CasesOfLetters
-pub mod Replay
+pub mod CasesOfFiles
+pub mod CasesOfFaults
 pub mod CasesOfText
+pub mod CasesOfSession
+pub mod CasesOfRun
+pub mod Replay
+pub mod Steps

@@ -1,5 +1,5 @@
 -- Which fault an edit has: the project's own.
-use Rattle.std.specs.Prelude.{◌≡◌, ℕ, Bool, ◌||◌, ◌==◌, if◌then◌else◌, nat_le, List, [], ◌∷◌, length, Option, Some, None, codes}
+use Rattle.std.specs.Prelude.{◌≡◌, ◌⊎◌, ℕ, Bool, ◌||◌, ◌==◌, if◌then◌else◌, nat_le, List, [], ◌∷◌, length, Option, Some, None, codes}
 use Rattle.std.specs.List.{list_any, remove}
 use Rattle.std.specs.Str.{bytes_eq}
 use Rattle.vcd_core.specs.Contents.{Contents}
@@ -44,7 +44,6 @@ fault_rows e c =
 unfoldable pub fault : Edit → Contents → Option EditError
 fault e c = first_fault (fault_rows e c)
 
--- whether an edit with this fault, or with none, may be refused so: by its fault alone, or for want of memory where it has none
+-- how an edit may be refused: by the fault that it has, or for want of memory where it has none
 abbrev pub MayRefuse : Option EditError → EditError → Type 0
-MayRefuse found errors.NoMemory = found ≡ None
-MayRefuse found refusal = found ≡ Some refusal
+MayRefuse found refusal = (found ≡ Some refusal) ⊎ ((found ≡ None) × (refusal ≡ errors.NoMemory))

@@ -1,12 +1,16 @@
 pub mod Words
 pub mod Letters
 pub mod FaultNames
-pub mod RefusalNames
+pub mod Items
+pub mod Grammar
+pub mod Faults
+pub mod Meaning
 pub mod Text
 pub mod Effect
 pub mod Allowed
 pub mod Machine
 pub mod InForce
+pub mod RefusalNames
 pub mod Script
 pub mod Reply
 pub mod Run

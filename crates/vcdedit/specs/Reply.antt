@@ -1,5 +1,5 @@
 -- What the tool answers to a line of a script: the project's own.
-use Rattle.std.specs.Prelude.{ℕ, Bool, ◌==◌, if◌then◌else◌, List, [], ◌∷◌, ◌++◌, Option, Some, None, Result, Ok, Err, is_err, codes}
+use Rattle.std.specs.Prelude.{ℕ, zero, suc, Bool, List, [], ◌∷◌, ◌++◌, Option, Some, None, Result, Ok, Err, is_err, codes}
 use Rattle.std.specs.List.{flat_map}
 use Rattle.std.specs.Fmt.{decimal}
 use Rattle.vcd_core.specs.Contents.{Contents}
@@ -25,11 +25,16 @@ abbrev pub said_to_edit : Option EditError → Said
 said_to_edit None = ok
 said_to_edit (Some found) = Err (edit_error_name found)
 
+-- an undo or a redo, where so many edits are held for it; the name is that of the fault where there are none
+abbrev pub said_to_move : ℕ → List ℕ → Said
+said_to_move zero name = Err name
+said_to_move (suc held) name = ok
+
 -- a step on a capture, where so many edits can be undone and so many redone
 abbrev pub said_to_step : Step → Contents → ℕ → ℕ → Said
 said_to_step (steps.Edit e) c undoable redoable = said_to_edit (fault e c)
-said_to_step steps.Undo c undoable redoable = if undoable == 0 then Err (codes "NothingToUndo") else ok
-said_to_step steps.Redo c undoable redoable = if redoable == 0 then Err (codes "NothingToRedo") else ok
+said_to_step steps.Undo c undoable redoable = said_to_move undoable (codes "NothingToUndo")
+said_to_step steps.Redo c undoable redoable = said_to_move redoable (codes "NothingToRedo")
 
 -- a line that asks for this, or is no command
 abbrev pub said_to_command : Result Command LineError → Contents → (skipped undoable redoable : ℕ) → Said

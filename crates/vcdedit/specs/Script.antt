@@ -6,6 +6,7 @@ use Rattle.std.specs.Str.{bytes_eq}
 use Rattle.std.specs.Borrow.{Bor}
 use Rattle.vcd_core.specs.Contents.{Contents}
 use Rattle.vcd_core.specs.Names.{lookup}
+use Rattle.vcdedit.specs.declared.edit.Edit.{Edit}
 use Rattle.vcdedit.specs.declared.edit.Edit.TheVariants.{Rename}
 use Rattle.vcdedit.specs.declared.step.Step.{Step}
 use Rattle.vcdedit.specs.declared.step.Step.TheVariants as steps
@@ -38,6 +39,19 @@ abbrev pub ◌>>=◌ : {A B : Type 0} → Result A LineError → (A → Result B
 -- bytes as a borrow of them, at an address that no definition looks at
 abbrev pub lent : List ℕ → Bor (List ℕ)
 lent bytes = record { ref_ptr = (0, 0); now = bytes }
+
+-- an edit, a step and a command with their words at no address: they are equal where they say the same
+abbrev pub unplaced_edit : Edit → Edit
+unplaced_edit (Rename k word) = Rename k (lent word.now)
+
+abbrev pub unplaced_step : Step → Step
+unplaced_step (steps.Edit e) = steps.Edit (unplaced_edit e)
+unplaced_step steps.Undo = steps.Undo
+unplaced_step steps.Redo = steps.Redo
+
+abbrev pub unplaced : Command → Command
+unplaced commands.Nothing = commands.Nothing
+unplaced (commands.Step step) = commands.Step (unplaced_step step)
 
 -- the position of the signal that a word names
 abbrev pub named : Contents → List ℕ → Result ℕ LineError

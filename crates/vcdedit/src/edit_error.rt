@@ -23,7 +23,7 @@ pub enum EditError {
     BadWord,
     /// Another signal already has the full name that would arise.
     NameTaken,
-    /// No further signal has a place.
+    /// There are 65,536 signals already.
     TooManySignals,
     /// Memory was refused.
     NoMemory,
