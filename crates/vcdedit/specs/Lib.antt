@@ -14,3 +14,5 @@ pub mod RefusalNames
 pub mod Script
 pub mod Reply
 pub mod Run
+pub mod Report
+pub mod RunFaults
