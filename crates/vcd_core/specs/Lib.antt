@@ -1,7 +1,15 @@
 pub mod Planes
+pub mod PlaneLaws
+pub mod ValueLaws
 pub mod Lending
 pub mod WaveView
 pub mod Value
 pub mod Wave
+pub mod Pushed
 pub mod Contents
+pub mod Word
+pub mod Sound
+pub mod Laws
 pub mod Names
+pub mod NameParts
+pub mod Device

@@ -1,4 +1,5 @@
 use Rattle.std.specs.Prelude.{ℕ, Bool, ◌-◌, true, false, List, [], ◌∷◌, ◌&&◌, length, replicate, slice_index_or, nat_eq}
+use Rattle.std.specs.Cmp.Lexicographic.{pointwise}
 use Rattle.vcd_core.specs.declared.bit.Bit.{Bit}
 use Rattle.vcd_core.specs.declared.bit.Bit.TheVariants.{Zero, One, X, Z}
 
@@ -22,8 +23,5 @@ abbrev pub same_letter : Bit → Bit → Bool
 same_letter a b = nat_eq (letter_number a) (letter_number b)
 
 -- whether two values have the same letters
-unfoldable pub same_letters : List Bit → List Bit → Bool
-same_letters [] [] = true
-same_letters [] (b ∷ w) = false
-same_letters (a ∷ v) [] = false
-same_letters (a ∷ v) (b ∷ w) = same_letter a b && same_letters v w
+abbrev pub same_letters : List Bit → List Bit → Bool
+same_letters = pointwise same_letter

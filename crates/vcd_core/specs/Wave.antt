@@ -43,3 +43,8 @@ pub record IsWave (width : ℕ) (changes : List Change) : Type 0 where
 abbrev pub AllUpTo : ℕ → List Change → Type 0
 AllUpTo end [] = Unit {0}
 AllUpTo end (c ∷ cs) = (c.tick ≤ end) × AllUpTo end cs
+
+-- the value after all changes
+unfoldable pub last_value : List Bit → List Change → List Bit
+last_value before [] = before
+last_value before (c ∷ cs) = last_value c.value cs
