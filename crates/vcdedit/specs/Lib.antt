@@ -16,3 +16,5 @@ pub mod Script
 pub mod Reply
 pub mod Run
 pub mod Laws
+pub mod Report
+pub mod RunFaults
