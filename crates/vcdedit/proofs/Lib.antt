@@ -7,3 +7,5 @@ pub mod CasesOfSession
 pub mod CasesOfRun
 pub mod Replay
 pub mod Steps
+pub mod Histories
+pub mod Renames

@@ -18,3 +18,5 @@ pub mod Run
 pub mod Laws
 pub mod Report
 pub mod RunFaults
+pub mod NameCursor
+pub mod History

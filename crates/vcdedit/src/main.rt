@@ -11,11 +11,15 @@ pub mod fault;
 pub mod late_file;
 pub mod laws;
 pub mod line_error;
+mod name_cursor;
 pub mod opening;
 pub mod program;
+mod record;
+mod renaming;
 pub mod reporting;
 pub mod run_error;
 pub mod running;
+mod session;
 pub mod step;
 #[cfg(test)]
 mod tests;
