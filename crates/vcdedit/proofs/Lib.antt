@@ -9,3 +9,4 @@ pub mod Replay
 pub mod Steps
 pub mod Histories
 pub mod Renames
+pub mod Lines
