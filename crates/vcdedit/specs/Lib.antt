@@ -20,3 +20,6 @@ pub mod Report
 pub mod RunFaults
 pub mod NameCursor
 pub mod History
+pub mod Report
+pub mod RunFaults
+pub mod Laws
