@@ -3,3 +3,4 @@ pub mod Lookups
 pub mod PlaneBits
 pub mod ValueLemmas
 pub mod Waves
+pub mod Pushes

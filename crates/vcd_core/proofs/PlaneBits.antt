@@ -24,11 +24,11 @@ pub plane_bit-write : (words : List ℕ) (k x : ℕ) → k / 64 < length words
 unfolding plane_bit
 plane_bit-write words k x within others i apart =
     elim (cases_eq (i / 64) (k / 64)) [
-      inl here ↦
-        let low : i % 64 < 64 = omega arith in
-        let differs : i % 64 ≢ k % 64 = omega arith in
-        plane_bit-set_same words (k / 64) x i within here ∙ others (i % 64) low differs ∙ ap (λ j. bit_at (get_or words j 0) (i % 64)) (sym here)
-    | inr elsewhere ↦ plane_bit-set_other words (k / 64) x i elsewhere
+      | inl here ↦
+          let low : i % 64 < 64 = omega arith in
+          let differs : i % 64 ≢ k % 64 = omega arith in
+          plane_bit-set_same words (k / 64) x i within here ∙ others (i % 64) low differs ∙ ap (λ j. bit_at (get_or words j 0) (i % 64)) (sym here)
+      | inr elsewhere ↦ plane_bit-set_other words (k / 64) x i elsewhere
     ]
 
 -- the bits below a multiple of 64 are those of the words before it
@@ -36,16 +36,16 @@ pub bits_filled : (words : List ℕ) (j width k : ℕ) → j < length words → 
     → (k < 64 * j → plane_bit words k ≡ 1) → plane_bit (set words j (2 ^ min (width - 64 * j) 64 - 1)) k ≡ 1
 bits_filled words j width k within below inside before =
     elim (cases_lt k (64 * j)) [
-      inl earlier ↦ let elsewhere : k / 64 ≢ j = omega arith in plane_bit-set_other words j _ k elsewhere ∙ before earlier
-    | inr here ↦ plane_bit-set_same words j _ k within (omega arith) ∙ bit_at_ones (min (width - 64 * j) 64) (k % 64) (omega arith)
+      | inl earlier ↦ let elsewhere : k / 64 ≢ j = omega arith in plane_bit-set_other words j _ k elsewhere ∙ before earlier
+      | inr here ↦ plane_bit-set_same words j _ k within (omega arith) ∙ bit_at_ones (min (width - 64 * j) 64) (k % 64) (omega arith)
     ]
 
 pub bits_clear : (words : List ℕ) (j width k : ℕ) → j < length words → k < 64 * (j + 1) → width ≤ k
     → (k < 64 * j → plane_bit words k ≡ 0) → plane_bit (set words j (2 ^ min (width - 64 * j) 64 - 1)) k ≡ 0
 bits_clear words j width k within below outside before =
     elim (cases_lt k (64 * j)) [
-      inl earlier ↦ let elsewhere : k / 64 ≢ j = omega arith in plane_bit-set_other words j _ k elsewhere ∙ before earlier
-    | inr here ↦ plane_bit-set_same words j _ k within (omega arith) ∙ bit_at_ones_above (min (width - 64 * j) 64) (k % 64) (omega arith)
+      | inl earlier ↦ let elsewhere : k / 64 ≢ j = omega arith in plane_bit-set_other words j _ k elsewhere ∙ before earlier
+      | inr here ↦ plane_bit-set_same words j _ k within (omega arith) ∙ bit_at_ones_above (min (width - 64 * j) 64) (k % 64) (omega arith)
     ]
 
 -- a plane of zeros has no bit set
@@ -55,7 +55,7 @@ plane_bit-replicate n k within = ap (λ w. bit_at w (k % 64)) (get_or-replicate 
 
 pub clear_plane : (n width : ℕ) → IsPlane n width (replicate n 0)
 clear_plane n width = record {
-    sized = length-replicate n 0;
-    small = λ k d within. let here : k < n = omega (arith, length-replicate {A = ℕ} n 0) in rw get_or-replicate (omega arith);
-    clear = λ k _ within. plane_bit-replicate n k within
-  }
+  sized = length-replicate n 0;
+  small = λ k d within. let here : k < n = omega (arith, length-replicate {A = ℕ} n 0) in rw get_or-replicate (omega arith);
+  clear = λ k _ within. plane_bit-replicate n k within;
+}

@@ -58,25 +58,25 @@ changes_are before t (suc n) end [] f all rise upto same =
     (λ other. absurd (other (sym here)))
 changes_are before t (suc n) end (c ∷ cs) f all (from, other, wide, rest) (within, upto) same =
     elim (cases_eq t c.tick) [
-      inl at ↦
-        let value : c.value ≡ f t =
-            sym (value_past before c cs t (omega arith) ∙ value_early c.value c.value cs (c.tick + 1) t rest (omega arith)) ∙ same t (omega arith) (omega arith) in
-        let head : c ≡ change t (f t) = λ i. record { tick = sym at i; value = value i } in
-        let rest_at : ChangesFrom (suc t) c.value cs = subst (λ u. ChangesFrom u c.value cs) (add-one c.tick ∙ ap suc (sym at)) rest in
-        let tail : cs ≡ changes_from (f t) (suc t) n f =
-            subst (λ b. cs ≡ changes_from b (suc t) n f) value (changes_are c.value (suc t) n end cs f (omega arith) rest_at upto
-              (λ s later to. sym (value_past before c cs s (omega arith)) ∙ same s (omega arith) to)) in
-        put_cases (λ l. c ∷ cs ≡ l) (f t) before (change t (f t)) (changes_from (f t) (suc t) n f)
-        (λ equal. absurd (other (value ∙ equal)))
-        (λ _ i. head i ∷ tail i)
-    | inr apart ↦
-        let later : t < c.tick = omega arith in
-        let here : before ≡ f t =
-            sym (value_skip before c cs t later ∙ value_early before c.value cs (c.tick + 1) t rest (omega arith)) ∙ same t (omega arith) (omega arith) in
-        put_cases (λ l. c ∷ cs ≡ l) (f t) before (change t (f t)) (changes_from (f t) (suc t) n f)
-        (λ _. subst (λ b. c ∷ cs ≡ changes_from b (suc t) n f) here
+      | inl at ↦
+          let value : c.value ≡ f t =
+          sym (value_past before c cs t (omega arith) ∙ value_early c.value c.value cs (c.tick + 1) t rest (omega arith)) ∙ same t (omega arith) (omega arith) in
+          let head : c ≡ change t (f t) = λ i. record { tick = sym at i; value = value i } in
+          let rest_at : ChangesFrom (suc t) c.value cs = subst (λ u. ChangesFrom u c.value cs) (add-one c.tick ∙ ap suc (sym at)) rest in
+          let tail : cs ≡ changes_from (f t) (suc t) n f =
+          subst (λ b. cs ≡ changes_from b (suc t) n f) value (changes_are c.value (suc t) n end cs f (omega arith) rest_at upto
+          (λ s later to. sym (value_past before c cs s (omega arith)) ∙ same s (omega arith) to)) in
+          put_cases (λ l. c ∷ cs ≡ l) (f t) before (change t (f t)) (changes_from (f t) (suc t) n f)
+          (λ equal. absurd (other (value ∙ equal)))
+          (λ _ i. head i ∷ tail i)
+      | inr apart ↦
+          let later : t < c.tick = omega arith in
+          let here : before ≡ f t =
+          sym (value_skip before c cs t later ∙ value_early before c.value cs (c.tick + 1) t rest (omega arith)) ∙ same t (omega arith) (omega arith) in
+          put_cases (λ l. c ∷ cs ≡ l) (f t) before (change t (f t)) (changes_from (f t) (suc t) n f)
+          (λ _. subst (λ b. c ∷ cs ≡ changes_from b (suc t) n f) here
           (changes_are before (suc t) n end (c ∷ cs) f (omega arith) (omega arith, other, wide, rest) (within, upto) (λ s from' to. same s (omega arith) to)))
-        (λ differs. absurd (differs (sym here)))
+          (λ differs. absurd (differs (sym here)))
     ]
 
 -- the same for a whole wave
@@ -108,10 +108,10 @@ unfolding changes_from
 values_from before t zero s f from to = absurd (omega arith)
 values_from before t (suc n) s f from to =
     let here : value_from (f t) (changes_from (f t) (suc t) n f) s ≡ f s =
-        elim (cases_eq t s) [
-          inl at ↦ changes_later (f t) (f t) (suc t) n s f (omega arith) ∙ ap f at
-        | inr apart ↦ values_from (f t) (suc t) n s f (omega arith) (omega arith)
-        ] in
+    elim (cases_eq t s) [
+      | inl at ↦ changes_later (f t) (f t) (suc t) n s f (omega arith) ∙ ap f at
+      | inr apart ↦ values_from (f t) (suc t) n s f (omega arith) (omega arith)
+    ] in
     put_cases (λ l. value_from before l s ≡ f s) (f t) before (change t (f t)) (changes_from (f t) (suc t) n f)
     (λ equal. subst (λ b. value_from b (changes_from (f t) (suc t) n f) s ≡ f s) equal here)
     (λ _. value_past before (change t (f t)) (changes_from (f t) (suc t) n f) s from ∙ here)

@@ -7,6 +7,9 @@ pub mod Value
 pub mod Wave
 pub mod Pushed
 pub mod Contents
+pub mod Word
+pub mod Sound
+pub mod Laws
 pub mod Names
 pub mod NameParts
 pub mod Device

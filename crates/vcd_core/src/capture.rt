@@ -1,6 +1,16 @@
+ghost use Rattle.std.specs.Prelude.{◌≡◌, ◌↔◌, IsTrue};
+ghost use Rattle.vcd_core.specs.Contents.{contents};
+ghost use Rattle.vcd_core.specs.Sound.{IsSound};
+
 use crate::seq::Seq;
 use crate::wave::Wave;
 use std::marker::Model;
+
+/// The greatest tick of a capture's end.
+pub const END_LIMIT: u64 = 9223372036854775807;
+
+/// The greatest number of signals of a capture.
+pub const SIGNAL_LIMIT: usize = 65536;
 
 /// A word of the file: bytes without white space.
 pub type Word = Seq<u8>;
@@ -65,7 +75,14 @@ impl Model for ScopePath {
 impl ScopePath {
     ghost use Rattle.std.specs.Prelude.{◌≡◌};
 
-    /// The scope names, outermost first.
+    /// The path of these scopes, outermost first. It takes no memory.
+    pub fn from_vec(scopes: Vec<ScopeName>) -> ScopePath
+        ensures { result ≡ scopes.items }
+    {
+        ScopePath { scopes }
+    }
+
+    /// The scopes, outermost first.
     pub fn as_slice(&self) -> &[ScopeName]
         ensures { result.now ≡ self.now }
     {
@@ -89,4 +106,54 @@ pub struct Capture {
     pub timescale: Option<Timescale>,
     pub end: u64,
     pub signals: Seq<Signal>,
+}
+
+impl Capture {
+    /// The capture of these parts, without a check and without memory.
+    pub fn new(
+        header: Vec<Header>,
+        timescale: Option<Timescale>,
+        end: u64,
+        signals: Vec<Signal>,
+    ) -> Capture
+        ensures header { result.header ≡ header.items }
+        ensures timescale { result.timescale ≡ timescale }
+        ensures end { result.end ≡ end }
+        ensures signals { result.signals ≡ signals.items }
+    {
+        Capture {
+            header: Seq::from_vec(header),
+            timescale,
+            end,
+            signals: Seq::from_vec(signals),
+        }
+    }
+
+    /// The header entries, in the order of the file.
+    pub fn header(&self) -> &[Header]
+        ensures { result.now ≡ self.now.header }
+    {
+        self.header.as_slice()
+    }
+
+    /// How long a tick is, where the file says so.
+    pub fn timescale(&self) -> Option<Timescale>
+        ensures { result ≡ self.now.timescale }
+    {
+        self.timescale
+    }
+
+    /// The last tick.
+    pub fn end(&self) -> u64
+        ensures { result ≡ self.now.end }
+    {
+        self.end
+    }
+
+    /// The signals, in the order of the file.
+    pub fn signals(&self) -> &[Signal]
+        ensures { result.now ≡ self.now.signals }
+    {
+        self.signals.as_slice()
+    }
 }

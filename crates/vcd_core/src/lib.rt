@@ -7,20 +7,26 @@
 
 pub mod bit;
 pub mod capture;
+mod change_list;
 pub mod device;
+pub mod laws;
 pub mod memory;
 mod names;
 mod planes;
 pub mod seq;
+mod soundness;
 pub mod value;
 pub mod wave;
+pub mod word;
 
 pub use bit::Bit;
 pub use capture::{
-    Capture, Header, HeaderKind, ScopeName, ScopePath, Signal, TimeUnit, Timescale, Word,
+    Capture, END_LIMIT, Header, HeaderKind, SIGNAL_LIMIT, ScopeName, ScopePath, Signal, TimeUnit,
+    Timescale, Word,
 };
 pub use device::{DeviceFault, FromRead, Sink, Source, ToWrite};
 pub use memory::NoMemory;
 pub use seq::Seq;
 pub use value::{Value, WIDTH_LIMIT};
 pub use wave::{Change, Wave};
+pub use word::{is_skipped_kind, is_white_space, is_word};

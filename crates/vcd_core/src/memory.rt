@@ -1,5 +1,4 @@
-ghost use Rattle.std.specs.Prelude.{◌≡◌};
-ghost use lib.Chars.{codes};
+ghost use Rattle.std.specs.Prelude.{◌≡◌, codes};
 
 use std::alloc::{AllocError, AllocFailed};
 

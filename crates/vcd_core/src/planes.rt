@@ -62,8 +62,7 @@ fn ones(count: u64) -> u64
 /// A word is below 2 ^ 64: said of a slice that was written through a loan.
 fn words_fit(words: &[u64])
     ensures { All (λ w. w < 2 ^ 64) words.now }
-{
-}
+{}
 
 /// Sets the bits below `width`, and clears the others.
 fn fill_ones(words: &mut [u64], width: u64)

@@ -1,8 +1,14 @@
-use crate::value::Value;
+ghost use Rattle.std.specs.Prelude.{◌≡◌, ℕ, ◌+◌, ◌<◌, ◌≤◌, if◌then◌else◌, nat_lt, nat_le, [], length, count_by, take_while, IsOk, IfOk, OnOk, OnErr, All, Any};
+ghost use Rattle.vcd_core.specs.Wave.{value_at, IsWave};
+
+use crate::change_list::{push_change, value_at_end};
+use crate::memory::NoMemory;
+use crate::value::{Value, WIDTH_LIMIT};
+use std::alloc::Global;
 use std::marker::Model;
 
 /// From `tick` on, a signal has `value`.
-#[derive(Drop)]
+#[derive(Clone, Copy)]
 pub struct Change {
     pub tick: u64,
     pub value: Value,
@@ -11,7 +17,8 @@ pub struct Change {
 /// The values of a signal at every tick, kept as the list of its changes.
 ///
 /// Ticks rise strictly, each value differs from the one before it and the first from all x, and all
-/// values have one width. A wave that is x throughout has no change.
+/// values have one width. A wave that is x throughout has no change. Contracts see the width in bits,
+/// the changes, and the room: how many more changes the wave holds without new memory.
 #[derive(Drop)]
 pub struct Wave {
     width: u64,
@@ -19,8 +26,10 @@ pub struct Wave {
 }
 
 impl Model for Wave {
-    ghost use Rattle.std.specs.Prelude.{◌-◌, vec_len, vec_capacity};
+    ghost use Rattle.std.specs.Prelude.{◌-◌, ◌≤◌, vec_len, vec_capacity};
     ghost use Rattle.vcd_core.specs.WaveView.{WaveView};
+    ghost use Rattle.vcd_core.specs.Wave.{IsWave};
+    ghost use Rattle.vcd_core.specs.declared.value.TheConstants.{WIDTH_LIMIT};
 
     ghost Value = { WaveView };
 
@@ -29,4 +38,79 @@ impl Model for Wave {
       changes = w.changes.items;
       room = vec_capacity w.changes - vec_len w.changes;
     } };
+
+    ghost invariant = { λ w. (1 ≤ w.width) × (w.width ≤ WIDTH_LIMIT) × IsWave w.width w.changes.items };
+}
+
+impl Wave {
+    /// A wave of `width` bits that is x throughout. It takes no memory.
+    pub fn new(alloc: Global, width: u64) -> Wave
+        requires least { 1 ≤ width }
+        requires most { width ≤ WIDTH_LIMIT }
+        ensures width { result.width ≡ width }
+        ensures changes { result.changes ≡ [] }
+    {
+        Wave {
+            width,
+            changes: Vec::new(alloc),
+        }
+    }
+
+    /// How many bits each value has.
+    pub fn width(&self) -> u64
+        ensures width { result ≡ self.now.width }
+        ensures least { 1 ≤ result }
+        ensures most { result ≤ WIDTH_LIMIT }
+    {
+        self.width
+    }
+
+    /// The changes, rising by tick.
+    pub fn changes(&self) -> &[Change]
+        ensures changes { result.now ≡ self.now.changes }
+        ensures form { IsWave self.now.width result.now }
+    {
+        self.changes.as_slice()
+    }
+
+    /// The value at `tick`: that of the last change at or before it, else all x. A tick past the last
+    /// change has the last value.
+    ///
+    /// A search by halves: the logarithm of the number of changes.
+    pub fn at(&self, tick: u64) -> Value
+        ensures { result ≡ value_at self.now.width self.now.changes tick }
+    {
+        let count = self.changes.partition_point(|change| change.tick <= tick);
+        value_at_end(&self.changes[..count], self.width)
+    }
+
+    /// How many changes have a smaller tick, by a search by halves.
+    pub fn count_until(&self, tick: u64) -> usize
+        ensures { result ≡ count_by (λ c. nat_lt c.tick tick) self.now.changes }
+    {
+        self.changes.partition_point(|change| change.tick < tick)
+    }
+
+    /// Sets the value from `tick` on, at the end of the list: a value equal to the one before adds
+    /// nothing; an equal tick replaces, and the change vanishes where it then equals the one before it.
+    ///
+    /// Looks at the end of the list alone.
+    pub fn push(&mut self, tick: u64, value: Value) -> Result<(), NoMemory>
+        requires width { length value ≡ self.old.width }
+        requires late { All (λ c. c.tick ≤ tick) self.old.changes }
+
+        ensures values { OnOk result ((t : ℕ) → value_at self.new.width self.new.changes t ≡ (if nat_le tick t then value else value_at self.old.width self.old.changes t)) }
+        ensures last { OnOk result (All (λ c. c.tick ≤ tick) self.new.changes) }
+        ensures width { self.new.width ≡ self.old.width }
+        ensures refused { OnErr result (self.new.changes ≡ self.old.changes) }
+
+        // It succeeds where there is room for one change, or where none is added.
+        ensures in_place { 0 < self.old.room → IsOk result }
+        ensures replaces { Any (λ c. c.tick ≡ tick) self.old.changes → IsOk result }
+        ensures adds_none { value_at self.old.width self.old.changes tick ≡ value → IsOk result }
+        ensures room { length self.old.changes + self.old.room ≤ length self.new.changes + self.new.room }
+    {
+        push_change(&mut self.changes, self.width, tick, value)?;
+        Ok(())
+    }
 }

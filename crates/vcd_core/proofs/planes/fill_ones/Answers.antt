@@ -8,7 +8,7 @@ loop-word-preserved c =
     rw (c.ones.ensures, c.loop-word.invariant.left) (record {
       left = omega arith;
       below = λ k early inside. bits_filled _ _ _ k within early inside (λ before. c.loop-word.invariant.below k before inside);
-      clear = λ k early outside. bits_clear _ _ _ k within early outside (λ before. c.loop-word.invariant.clear k before outside)
+      clear = λ k early outside. bits_clear _ _ _ k within early outside (λ before. c.loop-word.invariant.clear k before outside);
     })
 
 pub returns-clause-below : goal.returns-clause-below
@@ -16,7 +16,7 @@ returns-clause-below c = λ k inside. c.loop-word.invariant.below k (omega arith
 
 pub returns-clause-plane : goal.returns-clause-plane
 returns-clause-plane c = record {
-    sized = c.loop-word.auto.words;
-    small = c.words_fit.ensures;
-    clear = λ k outside within. c.loop-word.invariant.clear k (omega arith) outside
-  }
+  sized = c.loop-word.auto.words;
+  small = c.words_fit.ensures;
+  clear = λ k outside within. c.loop-word.invariant.clear k (omega arith) outside;
+}

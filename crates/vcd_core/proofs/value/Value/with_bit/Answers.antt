@@ -15,8 +15,8 @@ plane_written : (f : Bit → ℕ) (v : List Bit) (k : ℕ) (b : Bit) (old new : 
     → (i : ℕ) → i < length v → plane_bit new i ≡ f (letter_at (set v (length v - 1 - k) b) i)
 plane_written f v k b old new bit within is at others shown i inside =
     elim (cases_eq i k) [
-      inl here ↦ ap (plane_bit new) here ∙ at ∙ sym is ∙ sym (ap f (ap (letter_at (set v (length v - 1 - k) b)) here ∙ letter_at-set_same v k b within))
-    | inr apart ↦ others i apart ∙ shown i inside ∙ sym (ap f (letter_at-set_other v k i b within inside apart))
+      | inl here ↦ ap (plane_bit new) here ∙ at ∙ sym is ∙ sym (ap f (ap (letter_at (set v (length v - 1 - k) b)) here ∙ letter_at-set_same v k b within))
+      | inr apart ↦ others i apart ∙ shown i inside ∙ sym (ap f (letter_at-set_other v k i b within inside apart))
     ]
 
 pub with_plane_bit-requires : goal.with_plane_bit-requires
@@ -32,7 +32,7 @@ invariant_of-result c =
       least = c.self.invariant.least;
       most = c.self.invariant.most;
       low = c.with_plane_bit.ensures.plane _ inside c.self.invariant.low;
-      high = c.with_plane_bit-2.ensures.plane _ inside c.self.invariant.high
+      high = c.with_plane_bit-2.ensures.plane _ inside c.self.invariant.high;
     }
 
 pub returns : goal.returns

@@ -24,6 +24,6 @@ returns c =
     let fields = λ (e : c.args.self.now ≡ c.args.other.now). same_planes _ _ _ _ c.self.invariant c.other.invariant c.self.view_is c.other.view_is e in
     same_from_decides _ _
     (Decides-like _ (λ (e, high). same_view _ _ _ _ c.self.view_is c.other.view_is e high)
-      (λ e. ((ap (λ (v : Inside). v.width) (fields e), ap (λ (v : Inside). v.low) (fields e)), ap (λ (v : Inside). v.high) (fields e)))
-      (Decides-and _ _ (Decides-and _ _ (Decides-eqb _ _) (slice_eq-Decides Decides-eqb _ _ _ c.eq-low.ensures)) (slice_eq-Decides Decides-eqb _ _ _ c.eq-high.ensures)))
+    (λ e. ((ap (λ (v : Inside). v.width) (fields e), ap (λ (v : Inside). v.low) (fields e)), ap (λ (v : Inside). v.high) (fields e)))
+    (Decides-and _ _ (Decides-and _ _ (Decides-eqb _ _) (slice_eq-Decides Decides-eqb _ _ _ c.eq-low.ensures)) (slice_eq-Decides Decides-eqb _ _ _ c.eq-high.ensures)))
     (same_letters-Decides _ _)

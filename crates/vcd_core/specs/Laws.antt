@@ -1,0 +1,26 @@
+use Rattle.std.specs.Prelude.{ℕ, ◌≡◌, ◌≤◌, List, length}
+use Rattle.vcd_core.specs.declared.bit.Bit.{Bit}
+use Rattle.vcd_core.specs.declared.wave.Change.{Change}
+use Rattle.vcd_core.specs.Wave.{value_at, changes_of, IsWave, AllUpTo}
+
+-- two waves of one width with the same value at each tick have the same changes
+abbrev pub SameValuesSameChanges : Type 0
+SameValuesSameChanges =
+    (width end : ℕ) (xs ys : List Change) → IsWave width xs → IsWave width ys → AllUpTo end xs → AllUpTo end ys
+    → ((t : ℕ) → t ≤ end → value_at width xs t ≡ value_at width ys t) → xs ≡ ys
+
+-- a wave is the list of changes of its own values
+abbrev pub ChangesOfOwnValues : Type 0
+ChangesOfOwnValues =
+    (width end : ℕ) (xs : List Change) → IsWave width xs → AllUpTo end xs → changes_of width end (value_at width xs) ≡ xs
+
+-- the value at a tick of the changes of f is f there
+abbrev pub ValuesOfChanges : Type 0
+ValuesOfChanges =
+    (width end t : ℕ) (f : ℕ → List Bit) → t ≤ end → value_at width (changes_of width end f) t ≡ f t
+
+-- the changes of f are a wave up to the end, where the values have its width
+abbrev pub ChangesAreWave : Type 0
+ChangesAreWave =
+    (width end : ℕ) (f : ℕ → List Bit) → ((t : ℕ) → length (f t) ≡ width)
+    → IsWave width (changes_of width end f) × AllUpTo end (changes_of width end f)

@@ -1,0 +1,61 @@
+//! What a wave does with its list of changes.
+
+ghost use Rattle.std.specs.Prelude.{◌≡◌, ◌≢◌, ℕ, ◌<◌, ◌≤◌, All, IsOk, OnOk, OnErr, vec_len, vec_capacity};
+ghost use Rattle.vcd_core.specs.Value.{all_x};
+ghost use Rattle.vcd_core.specs.Wave.{last_value, IsWave};
+ghost use Rattle.vcd_core.specs.Pushed.{changes_before, pushed};
+
+use crate::bit::Bit;
+use crate::memory::NoMemory;
+use crate::value::{Value, WIDTH_LIMIT};
+use crate::wave::Change;
+
+/// The value after all changes: all x where there are none.
+pub(crate) fn value_at_end(changes: &[Change], width: u64) -> Value
+    requires least { 1 ≤ width }
+    requires most { width ≤ WIDTH_LIMIT }
+    ensures { result ≡ last_value (all_x width) changes.now }
+{
+    match changes.split_last() {
+        Some((last, _)) => last.value,
+        None => Value::filled(width, Bit::X),
+    }
+}
+
+/// Takes the last change off where it stands at `tick`.
+fn pop_at(changes: &mut Vec<Change>, tick: u64)
+    requires form { (width : ℕ) × IsWave width changes.old.items }
+    requires late { All (λ c. c.tick ≤ tick) changes.old.items }
+    ensures kept { changes.new.items ≡ changes_before tick changes.old.items }
+    ensures capacity { vec_capacity changes.new ≡ vec_capacity changes.old }
+{
+    let count = changes.len();
+    if count > 0 && changes[count - 1].tick == tick {
+        changes.truncate(count - 1);
+    }
+}
+
+/// Makes `value` the value from `tick` on, by the end of the list alone.
+pub(crate) fn push_change(
+    changes: &mut Vec<Change>,
+    width: u64,
+    tick: u64,
+    value: Value,
+) -> Result<(), NoMemory>
+    requires least { 1 ≤ width }
+    requires most { width ≤ WIDTH_LIMIT }
+    requires form { IsWave width changes.old.items }
+    requires late { All (λ c. c.tick ≤ tick) changes.old.items }
+    ensures pushed { OnOk result (changes.new.items ≡ pushed width changes.old.items tick value) }
+    ensures refused { OnErr result (changes.new.items ≡ changes.old.items) }
+    ensures in_place { vec_len changes.old < vec_capacity changes.old → IsOk result }
+    ensures replaces { changes_before tick changes.old.items ≢ changes.old.items → IsOk result }
+    ensures adds_none { last_value (all_x width) (changes_before tick changes.old.items) ≡ value → IsOk result }
+    ensures capacity { vec_capacity changes.old ≤ vec_capacity changes.new }
+{
+    pop_at(changes, tick);
+    if value != value_at_end(changes.as_slice(), width) {
+        changes.push(Change { tick, value })?;
+    }
+    Ok(())
+}

@@ -1,0 +1,50 @@
+//! The words that files and scripts are made of.
+
+ghost use Rattle.std.specs.Prelude.{◌≡◌, not};
+ghost use Rattle.std.specs.List.{list_all};
+ghost use Rattle.vcd_core.specs.Word.{is_white_space as white, is_word as word_test, is_skipped_kind as skipped};
+
+use crate::capture::Word;
+
+/// Whether a byte is white space: a tab, a line feed, a vertical tab, a form feed, a carriage return or a
+/// space.
+pub fn is_white_space(byte: u8) -> bool
+    ensures { result ≡ white byte }
+{
+    matches!(byte, 9..=13 | 32)
+}
+
+/// Whether the bytes are a word that a header entry, a name or a kind may have: at least one byte, none of
+/// them white space, and not `$end`, which closes a list of words.
+pub fn is_word(bytes: &[u8]) -> bool
+    ensures { result ≡ word_test bytes.now }
+{
+    !bytes.is_empty() && is_black(bytes) && bytes != b"$end".as_slice()
+}
+
+/// Whether no byte is white space.
+fn is_black(bytes: &[u8]) -> bool
+    ensures { result ≡ list_all (λ b. not (white b)) bytes.now }
+{
+    bytes.iter().all(|byte| !is_white_space(*byte))
+}
+
+/// Whether each is a word, in the sense of [`is_word`].
+pub(crate) fn are_words(words: &[Word]) -> bool
+    ensures { result ≡ list_all word_test words.now }
+{
+    words.iter().all(|word| is_word(word.as_slice()))
+}
+
+/// Whether variables of this kind are skipped: their values are no four-state values, or they have none
+/// (IEEE 1364-2005, 18.2.3.8).
+pub fn is_skipped_kind(kind: &[u8]) -> bool
+    ensures { result ≡ skipped kind.now }
+{
+    kind == b"real".as_slice()
+        || kind == b"realtime".as_slice()
+        || kind == b"real_parameter".as_slice()
+        || kind == b"shortreal".as_slice()
+        || kind == b"event".as_slice()
+        || kind == b"string".as_slice()
+}
