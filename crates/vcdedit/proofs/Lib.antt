@@ -7,3 +7,4 @@ pub mod CasesOfSession
 pub mod CasesOfRun
 pub mod Replay
 pub mod Steps
+pub mod Lines
