@@ -1,11 +1,11 @@
 -- Worked cases: files that are refused, with fault and line.
 use Rattle.std.proofs.Common.{refl, arith}
-use Rattle.std.specs.Prelude.{ℕ, List, [], ◌∷◌, take, drop, codes}
+use Rattle.std.specs.Prelude.{ℕ, List, ◌++◌, [], ◌∷◌, take, drop, codes}
 use Rattle.std.specs.Fmt.{digits}
-use Rattle.vcdedit.specs.declared.fault.Fault.TheVariants.{Truncated, BadTimescale, BadScope, UpscopeAtTop, BadVar, MixedCode, BadTime, TimeBackwards, UnknownCode, ValueTooLong}
+use Rattle.vcdedit.specs.declared.fault.Fault.TheVariants.{Truncated, UnexpectedWord, BadChange, BadTimescale, BadScope, UpscopeAtTop, BadVar, MixedCode, BadTime, TimeBackwards, UnknownCode, ValueTooLong}
 use Rattle.vcdedit.specs.Words.{word, words_from, words_of}
 use Rattle.vcdedit.specs.Items.{Item, scope, upscope, variable, end_definitions, stamp, vector, bracket}
-use Rattle.vcdedit.specs.Faults.{FileFault, FrontFault, shown, too_early, declaration_due, code_due, declaring, changing, upscope_at_top, no_timescale, no_kind, no_variable, no_size, code_mixed, no_tick, tick_goes_back, letter_of_none, pair_of_none, value_too_long}
+use Rattle.vcdedit.specs.Faults.{FileFault, FrontFault, shown, too_early, declaration_due, code_due, among_declarations, among_changes, upscope_at_top, no_timescale, no_kind, no_variable, no_size, code_mixed, no_declaration, definitions_go_on, declaration_late, letter_alone, no_value, no_change, no_tick, tick_goes_back, letter_of_none, pair_of_none, value_too_long}
 
 -- one variable, and the end of the declarations
 abbrev one_variable : List Item
@@ -26,7 +26,7 @@ time_goes_back = shown (record {
   parts = refl;
   spelled = refl;
   allowed = search arith;
-  decided = changing refl (tick_goes_back (codes "9") refl refl refl (omega arith) refl);
+  decided = among_changes refl (tick_goes_back (codes "9") refl refl refl (omega arith) refl);
   at = refl;
 })
 
@@ -41,7 +41,7 @@ time_goes_back_in_front = record {
   parts = refl;
   spelled = refl;
   allowed = search arith;
-  decided = changing refl (tick_goes_back (codes "9") refl refl refl (omega arith) refl);
+  decided = among_changes refl (tick_goes_back (codes "9") refl refl refl (omega arith) refl);
   at = refl;
 }
 
@@ -79,7 +79,7 @@ tick_too_great = shown (record {
   parts = refl;
   spelled = refl;
   allowed = search arith;
-  decided = changing refl (no_tick (codes "9223372036854775808") refl refl refl refl);
+  decided = among_changes refl (no_tick (codes "9223372036854775808") refl refl refl refl);
   at = refl;
 })
 
@@ -95,7 +95,7 @@ two_nanoseconds = shown (record {
   parts = refl;
   spelled = refl;
   allowed = tt;
-  decided = declaring refl (no_timescale (codes "2" ∷ codes "ns" ∷ []) refl refl refl refl refl);
+  decided = among_declarations refl (no_timescale (codes "2" ∷ codes "ns" ∷ []) refl refl refl refl refl);
   at = refl;
 })
 
@@ -110,7 +110,7 @@ scope_without_kind = shown (record {
   parts = refl;
   spelled = refl;
   allowed = tt;
-  decided = declaring refl (no_kind refl refl refl);
+  decided = among_declarations refl (no_kind refl refl refl);
   at = refl;
 })
 
@@ -125,7 +125,7 @@ variable_without_name = shown (record {
   parts = refl;
   spelled = refl;
   allowed = tt;
-  decided = declaring refl (no_variable (codes "wire" ∷ codes "1" ∷ codes "!" ∷ []) refl refl refl refl refl refl);
+  decided = among_declarations refl (no_variable (codes "wire" ∷ codes "1" ∷ codes "!" ∷ []) refl refl refl refl refl refl);
   at = refl;
 })
 
@@ -141,7 +141,7 @@ real_without_size = shown (record {
   parts = refl;
   spelled = refl;
   allowed = tt;
-  decided = declaring refl (no_size (codes "real") refl refl refl refl);
+  decided = among_declarations refl (no_size (codes "real") refl refl refl refl);
   at = refl;
 })
 
@@ -157,7 +157,7 @@ upscope_alone = shown (record {
   parts = refl;
   spelled = refl;
   allowed = tt;
-  decided = declaring refl (upscope_at_top refl refl refl refl);
+  decided = among_declarations refl (upscope_at_top refl refl refl refl);
   at = refl;
 })
 
@@ -175,7 +175,7 @@ code_of_two_sizes = shown (record {
   parts = refl;
   spelled = refl;
   allowed = search arith;
-  decided = declaring refl (code_mixed (codes "wire" ∷ codes "2" ∷ codes "!" ∷ codes "b" ∷ []) _ refl refl refl refl refl refl refl);
+  decided = among_declarations refl (code_mixed (codes "wire" ∷ codes "2" ∷ codes "!" ∷ codes "b" ∷ []) _ refl refl refl refl refl refl refl);
   at = refl;
 })
 
@@ -190,7 +190,7 @@ unknown_code = shown (record {
   parts = refl;
   spelled = refl;
   allowed = search arith;
-  decided = changing refl (letter_of_none 49 (codes "\"") refl refl refl (omega arith) refl refl);
+  decided = among_changes refl (letter_of_none 49 (codes "\"") refl refl refl (omega arith) refl refl);
   at = refl;
 })
 
@@ -206,7 +206,7 @@ unknown_code_of_vector = shown (record {
   parts = refl;
   spelled = refl;
   allowed = search arith;
-  decided = changing refl (pair_of_none 98 (codes "1") refl refl refl refl);
+  decided = among_changes refl (pair_of_none 98 (codes "1") refl refl refl refl);
   at = refl;
 })
 
@@ -226,6 +226,103 @@ value_of_five_digits = shown (record {
   parts = refl;
   spelled = refl;
   allowed = search arith;
-  decided = changing refl (value_too_long 98 (codes "00001") _ refl refl refl refl refl (omega arith) refl);
+  decided = among_changes refl (value_too_long 98 (codes "00001") _ refl refl refl refl refl (omega arith) refl);
+  at = refl;
+})
+
+-- the words of a dump's brackets begin no declaration
+dump_among_declarations : FileFault (codes "$dumpvars") 1 UnexpectedWord
+unfolding words_from
+dump_among_declarations = shown (record {
+  items = [];
+  whole = [];
+  begun = [];
+  word = word (codes "$dumpvars") 1;
+  more = [];
+  parts = refl;
+  spelled = refl;
+  allowed = tt;
+  decided = among_declarations refl (no_declaration refl refl refl);
+  at = refl;
+})
+
+-- another word than `$end` behind `$enddefinitions` is decided at that word
+definitions_open : FileFault (codes "$enddefinitions\n#0") 2 UnexpectedWord
+unfolding words_from
+definitions_open = shown (record {
+  items = [];
+  whole = [];
+  begun = word (codes "$enddefinitions") 1 ∷ [];
+  word = word (codes "#0") 2;
+  more = [];
+  parts = refl;
+  spelled = refl;
+  allowed = tt;
+  decided = among_declarations refl (definitions_go_on refl refl refl);
+  at = refl;
+})
+
+-- a declaration among the changes
+scope_among_changes : FileFault (codes "$enddefinitions $end\n$scope module top $end\n") 2 UnexpectedWord
+unfolding words_from
+scope_among_changes = shown (record {
+  items = end_definitions ∷ [];
+  whole = word (codes "$enddefinitions") 1 ∷ word (codes "$end") 1 ∷ [];
+  begun = [];
+  word = word (codes "$scope") 2;
+  more = word (codes "module") 2 ∷ word (codes "top") 2 ∷ word (codes "$end") 2 ∷ [];
+  parts = refl;
+  spelled = refl;
+  allowed = search arith;
+  decided = among_changes refl (declaration_late refl refl refl);
+  at = refl;
+})
+
+-- a value letter without a code, a change without digits, and a word that is no change
+abbrev bad_changes : (change : List ℕ) → List ℕ
+bad_changes change = codes "$var wire 1 ! a $end $enddefinitions $end\n" ++ change
+
+lone_letter : FileFault (bad_changes (codes "1 !")) 2 BadChange
+unfolding words_from
+lone_letter = shown (record {
+  items = one_variable;
+  whole = take 8 (words_of (bad_changes []));
+  begun = [];
+  word = word (codes "1") 2;
+  more = word (codes "!") 2 ∷ [];
+  parts = refl;
+  spelled = refl;
+  allowed = search arith;
+  decided = among_changes refl (letter_alone 49 refl refl refl refl);
+  at = refl;
+})
+
+no_digit : FileFault (bad_changes (codes "b !")) 2 BadChange
+unfolding words_from
+no_digit = shown (record {
+  items = one_variable;
+  whole = take 8 (words_of (bad_changes []));
+  begun = word (codes "b") 2 ∷ [];
+  word = word (codes "!") 2;
+  more = [];
+  parts = refl;
+  spelled = refl;
+  allowed = search arith;
+  decided = among_changes refl (no_value 98 [] _ refl refl refl refl refl refl);
+  at = refl;
+})
+
+no_change_at_all : FileFault (bad_changes (codes "q!")) 2 BadChange
+unfolding words_from
+no_change_at_all = shown (record {
+  items = one_variable;
+  whole = take 8 (words_of (bad_changes []));
+  begun = [];
+  word = word (codes "q!") 2;
+  more = [];
+  parts = refl;
+  spelled = refl;
+  allowed = search arith;
+  decided = among_changes refl (no_change 113 (codes "!") refl refl refl refl refl);
   at = refl;
 })

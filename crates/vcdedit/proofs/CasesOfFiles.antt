@@ -5,7 +5,6 @@ use Rattle.std.specs.Fmt.{digits}
 use Rattle.vcd_core.specs.declared.bit.Bit.TheVariants.{Zero, One, X, Z}
 use Rattle.vcd_core.specs.declared.capture.TimeUnit.TheVariants.{Second, Nanosecond, Microsecond, Femtosecond}
 use Rattle.vcd_core.specs.declared.capture.ScopeName.{ScopeName}
-use Rattle.vcd_core.specs.Value.{same_letters}
 use Rattle.vcd_core.specs.Wave.{change, changes_from}
 use Rattle.vcd_core.specs.Contents.{Contents, SignalContents}
 use Rattle.vcdedit.specs.Words.{words_from}
@@ -36,7 +35,7 @@ one_scalar_contents = record {
 }
 
 pub one_scalar_means : FileMeans one_scalar one_scalar_contents 0
-unfolding words_from recorded_value changes_from same_letters digits
+unfolding words_from recorded_value changes_from digits
 one_scalar_means = record {
   told = after nothing_told one_scalar_items;
   accepted = record { items = one_scalar_items; spelled = refl; allowed = search arith; tells = refl; declared = refl };
@@ -70,7 +69,7 @@ one_vector_contents = record {
 }
 
 one_vector_means : FileMeans one_vector one_vector_contents 0
-unfolding words_from recorded_value changes_from same_letters digits
+unfolding words_from recorded_value changes_from digits
 one_vector_means = record {
   told = after nothing_told one_vector_items;
   accepted = record { items = one_vector_items; spelled = refl; allowed = search arith; tells = refl; declared = refl };
@@ -100,7 +99,7 @@ shared_code_contents = record {
 }
 
 shared_code_means : FileMeans shared_code shared_code_contents 0
-unfolding words_from recorded_value changes_from same_letters digits
+unfolding words_from recorded_value changes_from digits
 shared_code_means = record {
   told = after nothing_told shared_code_items;
   accepted = record { items = shared_code_items; spelled = refl; allowed = search arith; tells = refl; declared = refl };
@@ -128,7 +127,7 @@ skipped_and_comment_contents = record {
 }
 
 skipped_and_comment_means : FileMeans skipped_and_comment skipped_and_comment_contents 2
-unfolding words_from recorded_value changes_from same_letters digits
+unfolding words_from recorded_value changes_from digits
 skipped_and_comment_means = record {
   told = after nothing_told skipped_and_comment_items;
   accepted = record { items = skipped_and_comment_items; spelled = refl; allowed = search arith; tells = refl; declared = refl };
@@ -154,7 +153,7 @@ last_counts_contents = record {
 }
 
 last_counts_means : FileMeans last_counts last_counts_contents 1
-unfolding words_from recorded_value changes_from same_letters digits
+unfolding words_from recorded_value changes_from digits
 last_counts_means = record {
   told = after nothing_told last_counts_items;
   accepted = record { items = last_counts_items; spelled = refl; allowed = search arith; tells = refl; declared = refl };

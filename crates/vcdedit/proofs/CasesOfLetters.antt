@@ -1,7 +1,6 @@
 -- Worked cases: extension and short form of values, and decimal numbers.
 use Rattle.std.proofs.Common.{◌≡◌, refl}
 use Rattle.std.specs.Prelude.{[], ◌∷◌, true, false, map, codes}
-use Rattle.vcd_core.specs.Value.{same_letters}
 use Rattle.vcdedit.specs.Letters.{is_letter, letters_read, printed, ext, short, is_number, number_of}
 
 -- the letters 0 l L, 1 h H, x X u U w W -, z Z
@@ -22,7 +21,7 @@ short_forms : (printed (short (letters_read (codes "0001"))) ≡ codes "1") × (
     × (printed (short (letters_read (codes "zzz1"))) ≡ codes "z1") × (printed (short (letters_read (codes "xx01"))) ≡ codes "x01")
     × (printed (short (letters_read (codes "0000"))) ≡ codes "0") × (printed (short (letters_read (codes "xxxx"))) ≡ codes "x")
     × (printed (short (letters_read (codes "1"))) ≡ codes "1")
-unfolding short same_letters
+unfolding short
 short_forms = (refl, refl, refl, refl, refl, refl, refl)
 
 -- leading zeros are accepted; an empty text, a sign and another letter are not

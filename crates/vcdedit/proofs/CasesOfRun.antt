@@ -2,7 +2,6 @@
 use Rattle.std.proofs.Common.{◌≡◌, refl}
 use Rattle.std.specs.Prelude.{[], ◌∷◌, codes}
 use Rattle.std.specs.Fmt.{digits}
-use Rattle.vcd_core.specs.Value.{same_letters}
 use Rattle.vcd_core.specs.Wave.{value_from}
 use Rattle.vcd_core.specs.Names.{full_name, lookup}
 use Rattle.vcd_core.specs.Contents.{Contents}
@@ -28,13 +27,13 @@ lines_of_scripts = (refl, refl, refl, refl)
 -- a rename of the one scalar
 rename_run : run_of (one_scalar (codes "a")) 0 (codes "rename top.a b\n") 100
     ≡ record { replies = codes "ok\n"; output = one_scalar_text (codes "b"); refused = 0 }
-unfolding script_lines words_from command_of lookup full_name fault effect said after_line after_lines replies refusals text items_of signal_items code_digits tick_items value_from same_letters short digits
+unfolding script_lines words_from command_of lookup full_name fault effect said after_line after_lines replies refusals text items_of signal_items code_digits tick_items value_from short digits
 rename_run = refl
 
 -- a rename and its undo
 undo_run : run_of (one_scalar (codes "a")) 0 (codes "rename top.a b\nundo\n") 100
     ≡ record { replies = codes "ok\nok\n"; output = one_scalar_text (codes "a"); refused = 0 }
-unfolding script_lines words_from command_of lookup full_name fault effect said after_line after_lines replies refusals text items_of signal_items code_digits tick_items value_from same_letters short digits
+unfolding script_lines words_from command_of lookup full_name fault effect said after_line after_lines replies refusals text items_of signal_items code_digits tick_items value_from short digits
 undo_run = refl
 
 -- three renames in a history of two, and three undos
@@ -44,12 +43,12 @@ full_history_run : run_of (capture 0 (wire (top ∷ []) (codes "a") 1 (from 0 (c
       output = codes "$scope module top $end\n$var wire 1 ! b $end\n$upscope $end\n$enddefinitions $end\n#0\n$dumpvars\n0!\n$end\n";
       refused = 1;
     }
-unfolding script_lines words_from command_of lookup full_name fault effect said after_line after_lines replies refusals text items_of signal_items code_digits tick_items value_from same_letters short digits
+unfolding script_lines words_from command_of lookup full_name fault effect said after_line after_lines replies refusals text items_of signal_items code_digits tick_items value_from short digits
 full_history_run = refl
 
 -- the same from the bytes of the file and the script to those that are written
 rename_of_file : RunWrites one_scalar_file (codes "rename top.a b\n") 100 (record { replies = codes "ok\n"; output = one_scalar_text (codes "b"); refused = 0 })
-unfolding script_lines words_from command_of lookup full_name fault effect said after_line after_lines replies refusals text items_of signal_items code_digits tick_items value_from same_letters short digits
+unfolding script_lines words_from command_of lookup full_name fault effect said after_line after_lines replies refusals text items_of signal_items code_digits tick_items value_from short digits
 rename_of_file = record { contents = one_scalar_contents; skipped = 0; means = one_scalar_means; run = refl }
 
 -- two signals in one scope

@@ -1,21 +1,25 @@
 -- Steps where there is memory: they are steps of the machine, and the replies say what it answers.
-use Rattle.std.proofs.Common.{◌≡◌, ℕ, List, [], ◌∷◌, ◌++◌, Option, Some, None, Result, Ok, Err, length, map, refl, inl}
+use Rattle.std.proofs.Common.{◌≡◌, ◌≢◌, ◌⊎◌, ℕ, List, [], ◌∷◌, ◌++◌, Option, Some, None, Result, Ok, Err, length, map, refl, sym, ◌∙◌, ap, subst, inl, inr}
 use Rattle.vcd_core.specs.Contents.{Contents}
 use Rattle.vcdedit.specs.declared.edit.Edit.{Edit}
 use Rattle.vcdedit.specs.declared.edit.Edit.TheVariants.{Rename}
 use Rattle.vcdedit.specs.declared.edit_error.EditError.{EditError}
 use Rattle.vcdedit.specs.declared.step.Step.{Step}
 use Rattle.vcdedit.specs.declared.step.Step.TheVariants as steps
+use Rattle.vcdedit.specs.declared.step.StepError.TheVariants as refusals
 use Rattle.vcdedit.specs.declared.step.Answer.{Answer}
+use Rattle.vcdedit.specs.declared.step.Answer.TheVariants.{Done, Refused}
 use Rattle.vcdedit.specs.declared.command.Command.{Command}
 use Rattle.vcdedit.specs.declared.command.Command.TheVariants as commands
 use Rattle.vcdedit.specs.declared.line_error.LineError.{LineError}
 use Rattle.vcdedit.specs.Effect.{effect}
 use Rattle.vcdedit.specs.Allowed.{fault}
-use Rattle.vcdedit.specs.Machine.{Machine, fresh, step_of, edit_outcome, undo_outcome, redo_outcome, IsStep, IsRun}
-use Rattle.vcdedit.specs.Script.{unplaced_edit, unplaced_step, command_of}
+use Rattle.vcdedit.specs.Machine.{Machine, Outcome, refused, fresh, step_of, edit_outcome, undo_outcome, redo_outcome, IsStep, IsRun}
+use Rattle.vcdedit.specs.Lent.{unplaced_edit, unplaced_step}
+use Rattle.vcdedit.specs.Script.{command_of}
 use Rattle.vcdedit.specs.Reply.{said_to_step, said_to_edit}
-use Rattle.vcdedit.specs.Run.{after_line, after_lines, after_command, step_in, asked_by, answers_to, RunIsReplay, ReplyIsAnswer, said_to_answer}
+use Rattle.vcdedit.specs.Run.{after_line, after_lines, after_command}
+use Rattle.vcdedit.specs.Laws.{lacks_memory, step_in, asked_by, answers_to, RunIsReplay, ReplyIsAnswer, said_to_answer, IsStarved, StepIsOutcome}
 use Rattle.vcdedit.proofs.Replay.{session_is_replay}
 
 -- the address of a word counts neither for the effect of an edit nor for its fault
@@ -56,6 +60,63 @@ pub ample_step : (m : Machine) (s : Step) → IsStep m s (step_of m s).answer (s
 ample_step m (steps.Edit e) = edit_is_step (fault e m.now) e m refl
 ample_step m steps.Undo = undo_is_step m.past m refl
 ample_step m steps.Redo = redo_is_step m.future m refl
+
+-- what may come of a step is one of the two
+abbrev pub IsOutcome : Machine → Step → Answer → Machine → Type 0
+IsOutcome m s a n = (record { answer = a; after = n } ≡ step_of m s) ⊎ IsStarved m s a n
+
+pub undo_done : (past : List Contents) (m : Machine) → past ≢ [] → (undo_outcome past m).answer ≡ Done
+undo_done [] m h = absurd (h refl)
+undo_done (back ∷ older) m h = refl
+
+pub redo_done : (future : List Contents) (m : Machine) → future ≢ [] → (redo_outcome future m).answer ≡ Done
+redo_done [] m h = absurd (h refl)
+redo_done (next ∷ later) m h = refl
+
+pub outcome_of : (m : Machine) (s : Step) (a : Answer) (n : Machine) → IsStep m s a n → IsOutcome m s a n
+outcome_of m (steps.Edit e) Done n h = inl (rw (h.0, h.1) refl)
+outcome_of m (steps.Edit e) (Refused (refusals.Edit refusal)) n h =
+    elim (h.0) [ inl found ↦ inl (rw (found, h.1) refl) | inr none ↦ inr (rw (none.0) refl, ap (λ r. Refused (refusals.Edit r)) none.1, h.1) ]
+outcome_of m (steps.Edit e) (Refused refusals.NothingToUndo) n h = absurd h
+outcome_of m (steps.Edit e) (Refused refusals.NothingToRedo) n h = absurd h
+outcome_of m (steps.Edit e) (Refused refusals.NoMemory) n h = absurd h
+outcome_of m steps.Undo Done n h =
+    inl (rw (h.past) (λ i. record { answer = Done; after = record { past = n.past; now = n.now; future = h.future i; depth = h.depth i } }))
+outcome_of m steps.Undo (Refused (refusals.Edit refusal)) n h = absurd h
+outcome_of m steps.Undo (Refused refusals.NothingToUndo) n h = inl (ap (refused refusals.NothingToUndo) h.1 ∙ sym (ap (λ past. undo_outcome past m) h.0))
+outcome_of m steps.Undo (Refused refusals.NothingToRedo) n h = absurd h
+outcome_of m steps.Undo (Refused refusals.NoMemory) n h = inr (undo_done m.past m h.0, refl, h.1)
+outcome_of m steps.Redo Done n h =
+    inl (rw (h.future) (λ i. record { answer = Done; after = record { past = h.past i; now = n.now; future = n.future; depth = h.depth i } }))
+outcome_of m steps.Redo (Refused (refusals.Edit refusal)) n h = absurd h
+outcome_of m steps.Redo (Refused refusals.NothingToUndo) n h = absurd h
+outcome_of m steps.Redo (Refused refusals.NothingToRedo) n h = inl (ap (refused refusals.NothingToRedo) h.1 ∙ sym (ap (λ future. redo_outcome future m) h.0))
+outcome_of m steps.Redo (Refused refusals.NoMemory) n h = inr (redo_done m.future m h.0, refl, h.1)
+
+-- a step that would be accepted may be refused for want of memory
+pub edit_accepted : (found : Option EditError) (e : Edit) (m : Machine) → (edit_outcome found e m).answer ≡ Done → found ≡ None
+edit_accepted None e m h = refl
+edit_accepted (Some refusal) e m h = absurd (cc)
+
+pub undo_accepted : (past : List Contents) (m : Machine) → (undo_outcome past m).answer ≡ Done → past ≢ []
+undo_accepted [] m h = absurd (cc)
+undo_accepted (back ∷ older) m h = λ none. cc
+
+pub redo_accepted : (future : List Contents) (m : Machine) → (redo_outcome future m).answer ≡ Done → future ≢ []
+redo_accepted [] m h = absurd (cc)
+redo_accepted (next ∷ later) m h = λ none. cc
+
+pub starved_step : (m : Machine) (s : Step) → (step_of m s).answer ≡ Done → IsStep m s (lacks_memory s) m
+starved_step m (steps.Edit e) h = (inr (edit_accepted (fault e m.now) e m h, refl), refl)
+starved_step m steps.Undo h = (undo_accepted m.past m h, refl)
+starved_step m steps.Redo h = (redo_accepted m.future m h, refl)
+
+pub is_step : (m : Machine) (s : Step) (a : Answer) (n : Machine) → IsOutcome m s a n → IsStep m s a n
+is_step m s a n (inl same) = subst (λ (o : Outcome). IsStep m s o.answer o.after) (sym same) (ample_step m s)
+is_step m s a n (inr starved) = rw (starved.1, starved.2) (starved_step m s starved.0)
+
+pub step_is_outcome : StepIsOutcome
+step_is_outcome m s a n = (outcome_of m s a n, is_step m s a n)
 
 -- the reply to a step is the machine's answer
 pub said_to_edit_is : (found : Option EditError) (e : Edit) (m : Machine) → said_to_edit found ≡ said_to_answer (edit_outcome found e m).answer

@@ -1,27 +1,23 @@
 -- Which fault an edit has: the project's own.
-use Rattle.std.specs.Prelude.{◌≡◌, ◌⊎◌, ℕ, Bool, ◌||◌, ◌==◌, if◌then◌else◌, nat_le, List, [], ◌∷◌, length, Option, Some, None, codes}
+use Rattle.std.specs.Prelude.{◌≡◌, ◌⊎◌, ℕ, Bool, not, if◌then◌else◌, nat_le, List, [], ◌∷◌, length, Option, Some, None}
 use Rattle.std.specs.List.{list_any, remove}
 use Rattle.std.specs.Str.{bytes_eq}
 use Rattle.vcd_core.specs.Contents.{Contents}
+use Rattle.vcd_core.specs.Word.{is_word}
 use Rattle.vcd_core.specs.Names.{full_name, full_names}
 use Rattle.vcdedit.specs.declared.edit.Edit.{Edit}
 use Rattle.vcdedit.specs.declared.edit.Edit.TheVariants.{Rename}
 use Rattle.vcdedit.specs.declared.edit_error.EditError.{EditError}
 use Rattle.vcdedit.specs.declared.edit_error.EditError.TheVariants as errors
-use Rattle.vcdedit.specs.Words.{is_space}
 use Rattle.vcdedit.specs.Effect.{signal_at, renamed}
 
 -- whether a position of the edit is not below the number of signals
 abbrev pub lacks_signal : Edit → Contents → Bool
 lacks_signal (Rename k word) c = nat_le (length c.signals) k
 
--- whether bytes are no word of a file: empty, with white space, or `$end`
-abbrev pub is_no_word : List ℕ → Bool
-is_no_word bytes = length bytes == 0 || list_any is_space bytes || bytes_eq bytes (codes "$end")
-
--- whether the edit gives a name that is no word
+-- whether the edit gives a name that is no word: empty, with white space, or `$end`
 abbrev pub gives_no_word : Edit → Bool
-gives_no_word (Rename k word) = is_no_word word.now
+gives_no_word (Rename k word) = not (is_word word.now)
 
 -- whether another signal already has the full name that would arise
 abbrev pub takes_name : Edit → Contents → Bool

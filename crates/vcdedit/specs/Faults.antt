@@ -12,30 +12,41 @@ use Rattle.vcdedit.specs.Grammar.{Context, Declaration, is_skipped, has_good_siz
 -- among the declarations
 pub data DeclarationFault (c : Context) (begun : List (List ℕ)) (word : List ℕ) (fault : Fault) : Type 0 where
   -- a word that begins no declaration
-  no_declaration : begun ≡ [] → IsFalse (begins_declaration word) → fault ≡ UnexpectedWord → DeclarationFault c begun word fault
+  no_declaration : begun ≡ [] → IsFalse (begins_declaration word)
+      → fault ≡ UnexpectedWord → DeclarationFault c begun word fault
   -- at its `$end`: a `$timescale` that is none
-  no_timescale : (words : List (List ℕ)) → begun ≡ codes "$timescale" ∷ words → IsTrue (has_no_end words) → word ≡ end_word
-      → timescale_of words ≡ None → fault ≡ BadTimescale → DeclarationFault c begun word fault
+  no_timescale : (words : List (List ℕ)) → begun ≡ codes "$timescale" ∷ words → word ≡ end_word
+      → IsTrue (has_no_end words) → timescale_of words ≡ None
+      → fault ≡ BadTimescale → DeclarationFault c begun word fault
   -- `$end` in the place of a scope's kind
-  no_kind : begun ≡ codes "$scope" ∷ [] → word ≡ end_word → fault ≡ BadScope → DeclarationFault c begun word fault
+  no_kind : begun ≡ codes "$scope" ∷ [] → word ≡ end_word
+      → fault ≡ BadScope → DeclarationFault c begun word fault
   -- `$upscope` where no scope is open
-  upscope_at_top : begun ≡ [] → word ≡ codes "$upscope" → c.scopes ≡ [] → fault ≡ UpscopeAtTop → DeclarationFault c begun word fault
+  upscope_at_top : begun ≡ [] → word ≡ codes "$upscope" → c.scopes ≡ []
+      → fault ≡ UpscopeAtTop → DeclarationFault c begun word fault
   -- another word than `$end` behind `$upscope`
-  upscope_goes_on : begun ≡ codes "$upscope" ∷ [] → 0 < length c.scopes → IsFalse (is_end word) → fault ≡ UnexpectedWord → DeclarationFault c begun word fault
+  upscope_goes_on : begun ≡ codes "$upscope" ∷ [] → IsFalse (is_end word) → 0 < length c.scopes
+      → fault ≡ UnexpectedWord → DeclarationFault c begun word fault
   -- a size that is no decimal number
-  no_size : (kind : List ℕ) → begun ≡ codes "$var" ∷ kind ∷ [] → IsFalse (is_end kind) → IsFalse (is_number word) → fault ≡ BadVar → DeclarationFault c begun word fault
+  no_size : (kind : List ℕ) → begun ≡ codes "$var" ∷ kind ∷ [] → IsFalse (is_end kind) → IsFalse (is_number word)
+      → fault ≡ BadVar → DeclarationFault c begun word fault
   -- `$end` in the place of a variable's kind, size, code or name
-  no_variable : (words : List (List ℕ)) → begun ≡ codes "$var" ∷ words → IsTrue (has_no_end words) → IsTrue (has_good_size words) → word ≡ end_word
-      → declaration_of c words ≡ None → fault ≡ BadVar → DeclarationFault c begun word fault
+  no_variable : (words : List (List ℕ)) → begun ≡ codes "$var" ∷ words → word ≡ end_word
+      → IsTrue (has_no_end words) → IsTrue (has_good_size words) → declaration_of c words ≡ None
+      → fault ≡ BadVar → DeclarationFault c begun word fault
   -- at its `$end`: a variable that does not agree with the one that has its code
-  code_mixed : (words : List (List ℕ)) (d : Declaration) → begun ≡ codes "$var" ∷ words → IsTrue (has_no_end words) → IsTrue (has_good_size words) → word ≡ end_word
-      → declaration_of c words ≡ Some d → IsFalse (may_have_code (variable_of c d.code) d) → fault ≡ MixedCode → DeclarationFault c begun word fault
+  code_mixed : (words : List (List ℕ)) (d : Declaration) → begun ≡ codes "$var" ∷ words → word ≡ end_word
+      → IsTrue (has_no_end words) → IsTrue (has_good_size words) → declaration_of c words ≡ Some d
+      → IsFalse (may_have_code (variable_of c d.code) d)
+      → fault ≡ MixedCode → DeclarationFault c begun word fault
   -- at its `$end`: one signal too many
-  no_room : (words : List (List ℕ)) (d : Declaration) → begun ≡ codes "$var" ∷ words → IsTrue (has_no_end words) → IsTrue (has_good_size words) → word ≡ end_word
-      → declaration_of c words ≡ Some d → IsTrue (may_have_code (variable_of c d.code) d) → IsFalse (has_room c.declared d) → fault ≡ TooManySignals
-      → DeclarationFault c begun word fault
+  no_room : (words : List (List ℕ)) (d : Declaration) → begun ≡ codes "$var" ∷ words → word ≡ end_word
+      → IsTrue (has_no_end words) → IsTrue (has_good_size words) → declaration_of c words ≡ Some d
+      → IsTrue (may_have_code (variable_of c d.code) d) → IsFalse (has_room c.declared d)
+      → fault ≡ TooManySignals → DeclarationFault c begun word fault
   -- another word than `$end` behind `$enddefinitions`
-  definitions_go_on : begun ≡ codes "$enddefinitions" ∷ [] → IsFalse (is_end word) → fault ≡ UnexpectedWord → DeclarationFault c begun word fault
+  definitions_go_on : begun ≡ codes "$enddefinitions" ∷ [] → IsFalse (is_end word)
+      → fault ≡ UnexpectedWord → DeclarationFault c begun word fault
 
 -- the letters with which a change of two words begins
 abbrev pub pair_letters : List ℕ
@@ -44,51 +55,61 @@ pair_letters = vector_letters ++ dropped_letters
 -- among the changes
 pub data ChangeFault (c : Context) (begun : List (List ℕ)) (word : List ℕ) (fault : Fault) : Type 0 where
   -- a stamp that is no tick
-  no_tick : (digits : List ℕ) → begun ≡ [] → word ≡ 35 ∷ digits → IsFalse (is_tick digits) → fault ≡ BadTime → ChangeFault c begun word fault
+  no_tick : (digits : List ℕ) → begun ≡ [] → word ≡ 35 ∷ digits → IsFalse (is_tick digits)
+      → fault ≡ BadTime → ChangeFault c begun word fault
   -- a stamp below the one before it
-  tick_goes_back : (digits : List ℕ) → begun ≡ [] → word ≡ 35 ∷ digits → IsTrue (is_tick digits) → number_of digits < c.tick → fault ≡ TimeBackwards
-      → ChangeFault c begun word fault
+  tick_goes_back : (digits : List ℕ) → begun ≡ [] → word ≡ 35 ∷ digits → IsTrue (is_tick digits) → number_of digits < c.tick
+      → fault ≡ TimeBackwards → ChangeFault c begun word fault
   -- a value letter without a code
-  letter_alone : (letter : ℕ) → begun ≡ [] → word ≡ letter ∷ [] → IsTrue (is_letter letter) → fault ≡ BadChange → ChangeFault c begun word fault
+  letter_alone : (letter : ℕ) → begun ≡ [] → word ≡ letter ∷ [] → IsTrue (is_letter letter)
+      → fault ≡ BadChange → ChangeFault c begun word fault
   -- a value letter with a code that was not declared
-  letter_of_none : (letter : ℕ) (code : List ℕ) → begun ≡ [] → word ≡ letter ∷ code → IsTrue (is_letter letter) → 0 < length code → variable_of c code ≡ None
+  letter_of_none : (letter : ℕ) (code : List ℕ) → begun ≡ [] → word ≡ letter ∷ code → IsTrue (is_letter letter)
+      → 0 < length code → variable_of c code ≡ None
       → fault ≡ UnknownCode → ChangeFault c begun word fault
   -- a change of two words with a code that was not declared
-  pair_of_none : (first : ℕ) (text : List ℕ) → begun ≡ (first ∷ text) ∷ [] → IsTrue (is_among pair_letters first) → variable_of c word ≡ None → fault ≡ UnknownCode
-      → ChangeFault c begun word fault
+  pair_of_none : (first : ℕ) (text : List ℕ) → begun ≡ (first ∷ text) ∷ [] → IsTrue (is_among pair_letters first)
+      → variable_of c word ≡ None
+      → fault ≡ UnknownCode → ChangeFault c begun word fault
   -- no digit, or one that is no value letter, for a variable that is kept
-  no_value : (first : ℕ) (digits : List ℕ) (d : Declaration) → begun ≡ (first ∷ digits) ∷ [] → IsTrue (is_among vector_letters first) → variable_of c word ≡ Some d
-      → IsFalse (is_skipped d) → IsFalse (is_value digits) → fault ≡ BadChange → ChangeFault c begun word fault
+  no_value : (first : ℕ) (digits : List ℕ) (d : Declaration) → begun ≡ (first ∷ digits) ∷ [] → IsTrue (is_among vector_letters first)
+      → variable_of c word ≡ Some d → IsFalse (is_skipped d) → IsFalse (is_value digits)
+      → fault ≡ BadChange → ChangeFault c begun word fault
   -- more digits than the variable has bits
-  value_too_long : (first : ℕ) (digits : List ℕ) (d : Declaration) → begun ≡ (first ∷ digits) ∷ [] → IsTrue (is_among vector_letters first) → variable_of c word ≡ Some d
-      → IsFalse (is_skipped d) → IsTrue (is_value digits) → d.size < length digits → fault ≡ ValueTooLong → ChangeFault c begun word fault
+  value_too_long : (first : ℕ) (digits : List ℕ) (d : Declaration) → begun ≡ (first ∷ digits) ∷ [] → IsTrue (is_among vector_letters first)
+      → variable_of c word ≡ Some d → IsFalse (is_skipped d) → IsTrue (is_value digits) → d.size < length digits
+      → fault ≡ ValueTooLong → ChangeFault c begun word fault
   -- a word of the declarations
-  declaration_late : begun ≡ [] → IsTrue (is_one_of declaring_words word) → fault ≡ UnexpectedWord → ChangeFault c begun word fault
+  declaration_late : begun ≡ [] → IsTrue (is_one_of declaring_words word)
+      → fault ≡ UnexpectedWord → ChangeFault c begun word fault
   -- a word that begins no change
-  no_change : (first : ℕ) (text : List ℕ) → begun ≡ [] → word ≡ first ∷ text → IsFalse (is_letter first) → IsFalse (is_among (codes "#$" ++ pair_letters) first)
+  no_change : (first : ℕ) (text : List ℕ) → begun ≡ [] → word ≡ first ∷ text
+      → IsFalse (is_letter first) → IsFalse (is_among (codes "#$" ++ pair_letters) first)
       → fault ≡ BadChange → ChangeFault c begun word fault
 
 pub data Decided (c : Context) (begun : List (List ℕ)) (word : List ℕ) (fault : Fault) : Type 0 where
-  declaring : IsFalse c.changing → DeclarationFault c begun word fault → Decided c begun word fault
-  changing : IsTrue c.changing → ChangeFault c begun word fault → Decided c begun word fault
+  among_declarations : IsFalse c.changing → DeclarationFault c begun word fault → Decided c begun word fault
+  among_changes : IsTrue c.changing → ChangeFault c begun word fault → Decided c begun word fault
 
 -- the words `begun` of an item that is not whole show no fault, and something is due behind them
 pub data IsUnfinished (c : Context) (begun : List (List ℕ)) : Type 0 where
   -- the next declaration
   declaration_due : IsFalse c.changing → begun ≡ [] → IsUnfinished c begun
   -- words up to the `$end` of a header entry, a timescale or a scope
-  words_due : (word : List ℕ) (words : List (List ℕ)) → IsFalse c.changing → begun ≡ word ∷ words → IsTrue (is_one_of (codes "$timescale" ∷ codes "$scope" ∷ header_words) word)
-      → IsTrue (has_no_end words) → IsUnfinished c begun
+  words_due : (word : List ℕ) (words : List (List ℕ)) → IsFalse c.changing → begun ≡ word ∷ words
+      → IsTrue (is_one_of (codes "$timescale" ∷ codes "$scope" ∷ header_words) word) → IsTrue (has_no_end words) → IsUnfinished c begun
   -- the `$end` of `$upscope`
   upscope_due : IsFalse c.changing → begun ≡ codes "$upscope" ∷ [] → 0 < length c.scopes → IsUnfinished c begun
   -- words up to the `$end` of a `$var`
-  variable_due : (words : List (List ℕ)) → IsFalse c.changing → begun ≡ codes "$var" ∷ words → IsTrue (has_no_end words) → IsTrue (has_good_size words) → IsUnfinished c begun
+  variable_due : (words : List (List ℕ)) → IsFalse c.changing → begun ≡ codes "$var" ∷ words
+      → IsTrue (has_no_end words) → IsTrue (has_good_size words) → IsUnfinished c begun
   -- the `$end` of `$enddefinitions`
   definitions_due : IsFalse c.changing → begun ≡ codes "$enddefinitions" ∷ [] → IsUnfinished c begun
   -- the code of a change of two words
   code_due : (first : ℕ) (text : List ℕ) → IsTrue c.changing → begun ≡ (first ∷ text) ∷ [] → IsTrue (is_among pair_letters first) → IsUnfinished c begun
   -- words up to the `$end` of any other command
-  other_due : (word : List ℕ) (words : List (List ℕ)) → begun ≡ word ∷ words → IsTrue (is_other c.changing word) → IsTrue (has_no_end words) → IsUnfinished c begun
+  other_due : (word : List ℕ) (words : List (List ℕ)) → begun ≡ word ∷ words
+      → IsTrue (is_other c.changing word) → IsTrue (has_no_end words) → IsUnfinished c begun
 
 -- ---- files
 

@@ -30,7 +30,7 @@ pub record Declaration : Type 0 where
   pub code : List ℕ
   pub words : List (List ℕ)
 
--- from a tick on, what has this code has the value that these letters give
+-- a record: from this tick on, the variables of this code have the value that these letters give
 pub record Recorded : Type 0 where
   pub tick : ℕ
   pub code : List ℕ

@@ -36,7 +36,7 @@ printed_letter Z = 122
 abbrev pub printed : List Bit → List ℕ
 printed letters = map printed_letter letters
 
--- what is put on the left of a text: 0 where its leftmost letter is 0 or 1, else that letter (18.2)
+-- what is put on the left of a text: 0 where its leftmost letter is 0 or 1, else that letter (18.2); no text that is read is empty
 abbrev pub pad_letter : List Bit → Bit
 pad_letter [] = X
 pad_letter (Zero ∷ s) = Zero

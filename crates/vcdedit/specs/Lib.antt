@@ -11,6 +11,10 @@ pub mod Allowed
 pub mod Machine
 pub mod InForce
 pub mod RefusalNames
+pub mod Lent
 pub mod Script
 pub mod Reply
 pub mod Run
+pub mod Laws
+pub mod Report
+pub mod RunFaults

@@ -12,7 +12,7 @@ use Rattle.vcdedit.specs.declared.step.Answer.TheVariants.{Done, Refused}
 use Rattle.vcdedit.specs.Effect.{effect}
 use Rattle.vcdedit.specs.Allowed.{fault, MayRefuse}
 
--- the capture now, those that undo goes back to and those that redo goes on to, the nearest first, and how many may be held
+-- the capture now; the past, to which undo goes back, and the future, to which redo goes on, both with the nearest first; how many captures of the past are kept
 pub record Machine : Type 0 where
   pub past : List Contents
   pub now : Contents
@@ -40,6 +40,7 @@ pub record Outcome : Type 0 where
   pub answer : Answer
   pub after : Machine
 
+-- an accepted step
 abbrev pub done : Machine → Outcome
 done after = record { answer = Done; after = after }
 
@@ -80,7 +81,7 @@ pub record StepsForth (m n : Machine) : Type 0 where
   pub past : n.past ≡ m.now ∷ m.past
   pub depth : n.depth ≡ m.depth
 
--- which answers a step may have on the machine m, and the machine n after each; any step that would be accepted may also be refused for want of memory
+-- the answers that a step may have on the machine m, and the machine n after each: where there is no fault it is accepted, or refused for want of memory
 abbrev pub IsStep : Machine → Step → Answer → Machine → Type 0
 IsStep m (steps.Edit e) Done n = (fault e m.now ≡ None) × (n ≡ edited e m)
 IsStep m (steps.Edit e) (Refused (refusals.Edit refusal)) n = MayRefuse (fault e m.now) refusal × (n ≡ m)

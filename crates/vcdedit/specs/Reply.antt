@@ -6,10 +6,12 @@ use Rattle.vcd_core.specs.Contents.{Contents}
 use Rattle.vcdedit.specs.declared.edit_error.EditError.{EditError}
 use Rattle.vcdedit.specs.declared.step.Step.{Step}
 use Rattle.vcdedit.specs.declared.step.Step.TheVariants as steps
+use Rattle.vcdedit.specs.declared.step.StepError.{StepError}
+use Rattle.vcdedit.specs.declared.step.StepError.TheVariants as refusals
 use Rattle.vcdedit.specs.declared.command.Command.{Command}
 use Rattle.vcdedit.specs.declared.command.Command.TheVariants as commands
 use Rattle.vcdedit.specs.declared.line_error.LineError.{LineError}
-use Rattle.vcdedit.specs.RefusalNames.{edit_error_name, line_error_name}
+use Rattle.vcdedit.specs.RefusalNames.{edit_error_name, step_error_name, line_error_name}
 use Rattle.vcdedit.specs.Allowed.{fault}
 use Rattle.vcdedit.specs.Script.{command_of}
 
@@ -17,24 +19,25 @@ use Rattle.vcdedit.specs.Script.{command_of}
 abbrev pub Said : Type 0
 Said = Result (List (List ℕ)) (List ℕ)
 
-abbrev pub ok : Said
-ok = Ok (codes "ok" ∷ [])
+-- what is said to an accepted edit, undo or redo
+abbrev pub accepted : Said
+accepted = Ok (codes "ok" ∷ [])
 
 -- an edit with this fault, or with none
 abbrev pub said_to_edit : Option EditError → Said
-said_to_edit None = ok
+said_to_edit None = accepted
 said_to_edit (Some found) = Err (edit_error_name found)
 
--- an undo or a redo, where so many edits are held for it; the name is that of the fault where there are none
-abbrev pub said_to_move : ℕ → List ℕ → Said
-said_to_move zero name = Err name
-said_to_move (suc held) name = ok
+-- an undo or a redo, for which so many captures are held; it is refused where there are none
+abbrev pub said_to_move : ℕ → StepError → Said
+said_to_move zero refusal = Err (step_error_name refusal)
+said_to_move (suc held) refusal = accepted
 
 -- a step on a capture, where so many edits can be undone and so many redone
-abbrev pub said_to_step : Step → Contents → ℕ → ℕ → Said
+abbrev pub said_to_step : Step → Contents → (undoable redoable : ℕ) → Said
 said_to_step (steps.Edit e) c undoable redoable = said_to_edit (fault e c)
-said_to_step steps.Undo c undoable redoable = said_to_move undoable (codes "NothingToUndo")
-said_to_step steps.Redo c undoable redoable = said_to_move redoable (codes "NothingToRedo")
+said_to_step steps.Undo c undoable redoable = said_to_move undoable refusals.NothingToUndo
+said_to_step steps.Redo c undoable redoable = said_to_move redoable refusals.NothingToRedo
 
 -- a line that asks for this, or is no command
 abbrev pub said_to_command : Result Command LineError → Contents → (skipped undoable redoable : ℕ) → Said
@@ -43,22 +46,22 @@ said_to_command (Ok commands.Nothing) c skipped undoable redoable = Ok []
 said_to_command (Ok (commands.Step step)) c skipped undoable redoable = said_to_step step c undoable redoable
 
 -- what is said to a line on a capture, of whose file so many declarations were skipped
-unfoldable pub said : List ℕ → Contents → (skipped undoable redoable : ℕ) → Said
+unfoldable pub said : (line : List ℕ) → Contents → (skipped undoable redoable : ℕ) → Said
 said line c skipped undoable redoable = said_to_command (command_of c line) c skipped undoable redoable
 
 -- a line of a reply: it ends with a line feed (10)
 abbrev pub ended : List ℕ → List ℕ
 ended bytes = bytes ++ 10 ∷ []
 
--- the bytes of what is said to line number i
+-- the bytes of what is said to the line of this number
 abbrev pub reply_text : ℕ → Said → List ℕ
-reply_text i (Ok lines) = flat_map ended lines
-reply_text i (Err name) = ended (codes "line " ++ decimal i ++ codes ": refused: " ++ name)
+reply_text number (Ok lines) = flat_map ended lines
+reply_text number (Err name) = ended (codes "line " ++ decimal number ++ codes ": refused: " ++ name)
 
--- the reply to line number i
-abbrev pub reply : ℕ → List ℕ → Contents → (skipped undoable redoable : ℕ) → List ℕ
-reply i line c skipped undoable redoable = reply_text i (said line c skipped undoable redoable)
+-- the reply to a line: to its number and words, on a capture, whatever came before
+abbrev pub reply : (number : ℕ) → (line : List ℕ) → Contents → (skipped undoable redoable : ℕ) → List ℕ
+reply number line c skipped undoable redoable = reply_text number (said line c skipped undoable redoable)
 
 -- whether a line is refused
-abbrev pub is_refused : List ℕ → Contents → (skipped undoable redoable : ℕ) → Bool
+abbrev pub is_refused : (line : List ℕ) → Contents → (skipped undoable redoable : ℕ) → Bool
 is_refused line c skipped undoable redoable = is_err (said line c skipped undoable redoable)

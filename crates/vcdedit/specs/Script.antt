@@ -3,10 +3,8 @@ use Rattle.std.specs.Prelude.{ℕ, Bool, false, ◌==◌, if◌then◌else◌, L
 use Rattle.std.specs.List.{onto_first}
 use Rattle.std.specs.Option.{ok_or}
 use Rattle.std.specs.Str.{bytes_eq}
-use Rattle.std.specs.Borrow.{Bor}
 use Rattle.vcd_core.specs.Contents.{Contents}
 use Rattle.vcd_core.specs.Names.{lookup}
-use Rattle.vcdedit.specs.declared.edit.Edit.{Edit}
 use Rattle.vcdedit.specs.declared.edit.Edit.TheVariants.{Rename}
 use Rattle.vcdedit.specs.declared.step.Step.{Step}
 use Rattle.vcdedit.specs.declared.step.Step.TheVariants as steps
@@ -15,6 +13,7 @@ use Rattle.vcdedit.specs.declared.command.Command.TheVariants as commands
 use Rattle.vcdedit.specs.declared.line_error.LineError.{LineError}
 use Rattle.vcdedit.specs.declared.line_error.LineError.TheVariants.{UnknownCommand, WrongCount, NoSuchName}
 use Rattle.vcdedit.specs.Words.{Word, words_of}
+use Rattle.vcdedit.specs.Lent.{lent}
 
 -- the lines of a script: each ends at a line feed (10), and what stands behind the last line feed is a line where it is not empty
 unfoldable pub script_lines : List ℕ → List (List ℕ)
@@ -36,27 +35,11 @@ abbrev pub ◌>>=◌ : {A B : Type 0} → Result A LineError → (A → Result B
 (Ok x) >>= f = f x
 (Err fault) >>= f = Err fault
 
--- bytes as a borrow of them, at an address that no definition looks at
-abbrev pub lent : List ℕ → Bor (List ℕ)
-lent bytes = record { ref_ptr = (0, 0); now = bytes }
-
--- an edit, a step and a command with their words at no address: they are equal where they say the same
-abbrev pub unplaced_edit : Edit → Edit
-unplaced_edit (Rename k word) = Rename k (lent word.now)
-
-abbrev pub unplaced_step : Step → Step
-unplaced_step (steps.Edit e) = steps.Edit (unplaced_edit e)
-unplaced_step steps.Undo = steps.Undo
-unplaced_step steps.Redo = steps.Redo
-
-abbrev pub unplaced : Command → Command
-unplaced commands.Nothing = commands.Nothing
-unplaced (commands.Step step) = commands.Step (unplaced_step step)
-
 -- the position of the signal that a word names
 abbrev pub named : Contents → List ℕ → Result ℕ LineError
 named c name = ok_or (lookup c.signals name) NoSuchName
 
+-- a line asks for this step
 abbrev pub asks : Step → Result Command LineError
 asks step = Ok (commands.Step step)
 
