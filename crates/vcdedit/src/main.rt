@@ -12,6 +12,7 @@ pub mod late_file;
 pub mod laws;
 pub mod line_error;
 pub mod opening;
+pub mod output;
 pub mod program;
 pub mod reporting;
 pub mod run_error;
