@@ -13,6 +13,7 @@ pub mod laws;
 pub mod line_error;
 mod name_cursor;
 pub mod opening;
+pub mod output;
 pub mod program;
 mod record;
 mod renaming;
