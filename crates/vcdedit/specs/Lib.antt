@@ -20,6 +20,3 @@ pub mod Report
 pub mod RunFaults
 pub mod NameCursor
 pub mod History
-pub mod Report
-pub mod RunFaults
-pub mod Laws
