@@ -18,3 +18,8 @@ pub mod Run
 pub mod Report
 pub mod RunFaults
 pub mod Laws
+pub mod Spaces
+pub mod WordsLeft
+pub mod TimescaleText
+pub mod Variables
+pub mod Reading
