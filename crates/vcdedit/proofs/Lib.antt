@@ -1,3 +1,8 @@
+pub mod ReaderEnd
+pub mod ReaderVariables
+pub mod ReaderSteps
+pub mod Timescales
+pub mod WordLaws
 pub mod CasesOfWords
 pub mod CasesOfLetters
 pub mod CasesOfFiles

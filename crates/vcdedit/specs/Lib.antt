@@ -20,3 +20,9 @@ pub mod Report
 pub mod RunFaults
 pub mod NameCursor
 pub mod History
+pub mod Laws
+pub mod Spaces
+pub mod WordsLeft
+pub mod TimescaleText
+pub mod Variables
+pub mod Reading

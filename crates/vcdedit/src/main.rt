@@ -17,6 +17,7 @@ pub mod output;
 pub mod program;
 mod record;
 mod renaming;
+pub mod reading;
 pub mod reporting;
 pub mod run_error;
 pub mod running;
