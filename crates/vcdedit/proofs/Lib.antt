@@ -15,3 +15,6 @@ pub mod Steps
 pub mod Histories
 pub mod Renames
 pub mod Lines
+pub mod ScriptLines
+pub mod Answered
+pub mod LinesLeft

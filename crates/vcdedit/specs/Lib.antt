@@ -20,9 +20,13 @@ pub mod Report
 pub mod RunFaults
 pub mod NameCursor
 pub mod History
-pub mod Laws
 pub mod Spaces
 pub mod WordsLeft
 pub mod TimescaleText
 pub mod Variables
 pub mod Reading
+pub mod Replies
+pub mod ScriptParts
+pub mod Commands
+pub mod Answering
+pub mod RunLines

@@ -3,6 +3,7 @@
 //! It reads a capture and a script, answers with replies, and writes the capture that the edits give.
 #![tactic(auto)]
 
+mod answering;
 pub mod arguments;
 pub mod command;
 pub mod edit;
@@ -10,17 +11,21 @@ pub mod edit_error;
 pub mod fault;
 pub mod late_file;
 pub mod laws;
+mod line;
 pub mod line_error;
 mod name_cursor;
 pub mod opening;
 pub mod output;
 pub mod program;
+pub mod reading;
 mod record;
 mod renaming;
-pub mod reading;
+mod reply;
 pub mod reporting;
 pub mod run_error;
+mod run_lines;
 pub mod running;
+mod script;
 mod session;
 pub mod step;
 #[cfg(test)]

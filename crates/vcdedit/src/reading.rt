@@ -13,7 +13,7 @@ mod decimal;
 mod machine;
 mod timescale;
 mod variable;
-mod words;
+pub mod words;
 
 use crate::fault::{Fault, ReadError};
 use crate::reading::machine::Machine;
