@@ -1,5 +1,5 @@
 -- Which fault an edit has: the project's own.
-use Rattle.std.specs.Prelude.{◌≡◌, ◌⊎◌, ℕ, Bool, not, if◌then◌else◌, nat_le, List, [], ◌∷◌, length, Option, Some, None}
+use Rattle.std.specs.Prelude.{◌≡◌, ◌⊎◌, Bool, not, if◌then◌else◌, nat_le, List, [], ◌∷◌, length, Option, Some, None}
 use Rattle.std.specs.List.{list_any, remove}
 use Rattle.std.specs.Str.{bytes_eq}
 use Rattle.vcd_core.specs.Contents.{Contents}
