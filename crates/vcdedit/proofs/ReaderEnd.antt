@@ -1,22 +1,19 @@
 -- At the end of the file the machine holds what the file means.
-use Rattle.std.proofs.Common.{◌≡◌, ℕ, zero, suc, ◌+◌, ◌≤◌, Bool, true, false, cond, List, [], ◌∷◌, ◌++◌, length, map, All, IsTrue, refl, sym, ap, subst, ◌∙◌, arith}
+use Rattle.std.proofs.Common.{◌≡◌, ℕ, ◌+◌, cond, List, [], ◌∷◌, ◌++◌, map, All, refl, sym, ap, subst, ◌∙◌}
 use Rattle.std.specs.Prelude.{count_by}
 use Rattle.std.proofs.lemmas.List.{append-nil}
 use Rattle.std.proofs.lemmas.List.Sums.{sum_by-cons}
 use Rattle.std.proofs.lemmas.List.Elements.{All-head, All-tail}
 use Rattle.vcd_core.specs.declared.capture.Capture.{Capture}
-use Rattle.vcd_core.specs.declared.capture.Signal.{Signal}
 use Rattle.vcd_core.specs.Value.{all_x}
-use Rattle.vcd_core.specs.Wave.{changes_of}
-use Rattle.vcd_core.specs.Contents.{Contents, SignalContents, contents, signal_contents}
+use Rattle.vcd_core.specs.Contents.{contents, signal_contents}
 use Rattle.vcd_core.specs.Sound.{IsSound, IsSoundSignal}
 use Rattle.vcd_core.proofs.Waves.{wave_is}
-use Rattle.vcdedit.specs.Words.{words_of}
 use Rattle.vcdedit.specs.Items.{spellings}
-use Rattle.vcdedit.specs.Grammar.{Recorded, Declaration, is_skipped, kept, texts}
-use Rattle.vcdedit.specs.Meaning.{recorded_value, declared_signal, meaning, skipped_variables, FileMeans}
+use Rattle.vcdedit.specs.Grammar.{Recorded, is_skipped, kept}
+use Rattle.vcdedit.specs.Meaning.{recorded_value, declared_signal}
 use Rattle.vcdedit.specs.Variables.{declaration}
-use Rattle.vcdedit.specs.Reading.{is_changing, begun, Follows, told, Reads, Means}
+use Rattle.vcdedit.specs.Reading.{is_changing, begun, Follows, told, Means}
 use Rattle.vcdedit.specs.declared.reading.variable.Variable.{Variable}
 use Rattle.vcdedit.specs.declared.reading.machine.Machine.{Machine}
 use Rattle.vcdedit.specs.declared.reading.machine.Place.TheVariants.{Changes}
@@ -27,7 +24,7 @@ signal_means : (records : List Recorded) (tick : ℕ) (v : Variable) → Follows
     → signal_contents v.signal ≡ declared_signal records tick (declaration v)
 signal_means records tick v f sound =
     let wave = wave_is v.signal.wave.width tick v.signal.wave.changes
-        (λ t. recorded_value v.signal.wave.width v.code t (all_x v.signal.wave.width) records) sound.wave sound.ticks (λ t _. f.values t) in
+    (λ t. recorded_value v.signal.wave.width v.code t (all_x v.signal.wave.width) records) sound.wave sound.ticks (λ t _. f.values t) in
     λ i. record { scopes = v.signal.scopes; kind = v.signal.kind; words = v.signal.words; width = v.signal.wave.width; changes = wave i }
 
 signals_mean : (records : List Recorded) (tick : ℕ) (vs : List Variable) → All (Follows records tick) vs
@@ -51,12 +48,12 @@ ends_file m c place header timescale end signals sound = record {
   sound = sound;
   means = λ bytes r.
       let sounds : All (IsSoundSignal m.tick) (map signal_contents (map (λ v. v.signal) m.variables.items)) =
-          subst (λ n. All (IsSoundSignal n) (map signal_contents (map (λ v. v.signal) m.variables.items))) end
-          (subst (λ ss. All (IsSoundSignal c.end) (map signal_contents ss)) signals sound.signals) in
+      subst (λ n. All (IsSoundSignal n) (map signal_contents (map (λ v. v.signal) m.variables.items))) end
+      (subst (λ ss. All (IsSoundSignal c.end) (map signal_contents ss)) signals sound.signals) in
       let all : map signal_contents c.signals ≡ map (declared_signal r.records m.tick) (kept (map declaration m.variables.items)) =
-          ap (map signal_contents) signals
-          ∙ signals_mean r.records m.tick m.variables.items r.follow sounds
-          ∙ ap (map (declared_signal r.records m.tick)) (sym (all_kept r.records m.tick m.variables.items r.follow)) in
+      ap (map signal_contents) signals
+      ∙ signals_mean r.records m.tick m.variables.items r.follow sounds
+      ∙ ap (map (declared_signal r.records m.tick)) (sym (all_kept r.records m.tick m.variables.items r.follow)) in
       record {
         told = told m r.records;
         accepted = record {
