@@ -5,3 +5,4 @@ pub mod Items
 pub mod Grammar
 pub mod Faults
 pub mod Meaning
+pub mod FileLaws

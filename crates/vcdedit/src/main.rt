@@ -2,6 +2,7 @@
 #![tactic(auto)]
 
 pub mod fault;
+pub mod file_laws;
 #[cfg(test)]
 mod tests;
 
