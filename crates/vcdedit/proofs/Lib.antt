@@ -1,3 +1,5 @@
+pub mod FrontItem
+pub mod OneAnswer
 pub mod CasesOfWords
 pub mod CasesOfLetters
 pub mod CasesOfFiles

@@ -8,6 +8,7 @@ pub mod command;
 pub mod edit;
 pub mod edit_error;
 pub mod fault;
+pub mod file_laws;
 pub mod late_file;
 pub mod laws;
 pub mod line_error;
