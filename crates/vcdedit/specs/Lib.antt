@@ -15,7 +15,7 @@ pub mod Lent
 pub mod Script
 pub mod Reply
 pub mod Run
-pub mod Laws
 pub mod Report
 pub mod RunFaults
 pub mod FileLaws
+pub mod Laws
