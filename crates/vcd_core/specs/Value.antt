@@ -1,4 +1,4 @@
-use Rattle.std.specs.Prelude.{ℕ, Bool, ◌-◌, true, false, List, [], ◌∷◌, ◌&&◌, length, replicate, slice_index_or, nat_eq}
+use Rattle.std.specs.Prelude.{ℕ, Bool, ◌-◌, true, false, List, [], ◌∷◌, ◌&&◌, length, replicate, slice_index_or, nat_eq, codes}
 use Rattle.std.specs.Cmp.Lexicographic.{pointwise}
 use Rattle.vcd_core.specs.declared.bit.Bit.{Bit}
 use Rattle.vcd_core.specs.declared.bit.Bit.TheVariants.{Zero, One, X, Z}
@@ -25,3 +25,10 @@ same_letter a b = nat_eq (letter_number a) (letter_number b)
 -- whether two values have the same letters
 abbrev pub same_letters : List Bit → List Bit → Bool
 same_letters = pointwise same_letter
+
+-- the letter that is printed (IEEE 1364-2005, 18.2)
+abbrev pub letter_text : Bit → List ℕ
+letter_text Zero = codes "0"
+letter_text One = codes "1"
+letter_text X = codes "x"
+letter_text Z = codes "z"

@@ -6,6 +6,9 @@ use crate::seq::Seq;
 use crate::wave::Wave;
 use std::marker::Model;
 
+#[cfg(test)]
+mod tests;
+
 /// The greatest tick of a capture's end.
 pub const END_LIMIT: u64 = 9223372036854775807;
 
@@ -15,7 +18,7 @@ pub const SIGNAL_LIMIT: usize = 65536;
 /// A word of the file: bytes without white space.
 pub type Word = Seq<u8>;
 
-/// What a header entry is: `$date`, `$version` or `$comment` (IEEE 1364-2005, 18.2.3).
+/// What a header entry is: `$date`, `$version` or `$comment` (IEEE 1364-2005, 18.2).
 #[derive(Clone, Copy, Debug, PartialEq, Eq)]
 pub enum HeaderKind {
     Date,
@@ -41,7 +44,7 @@ pub enum TimeUnit {
     Femtosecond,
 }
 
-/// How long a tick is: `count` is 1, 10 or 100 (IEEE 1364-2005, 18.2.3.7).
+/// How long a tick is: `count` is 1, 10 or 100 (IEEE 1364-2005, 18.2).
 #[derive(Clone, Copy, Debug, PartialEq, Eq)]
 pub struct Timescale {
     pub count: u64,

@@ -3,7 +3,11 @@ ghost use Rattle.vcd_core.specs.Value.{letter_at};
 
 use crate::bit::Bit;
 use crate::planes::{filled_plane, letter, plane_bit, with_plane_bit};
+use std::fmt;
 use std::marker::Model;
+
+#[cfg(test)]
+mod tests;
 
 /// How many words of 64 bits a plane of a value has.
 pub const WORDS: usize = 2;
@@ -98,5 +102,15 @@ impl PartialEq for Value {
         let low = self.low == other.low;
         let high = self.high == other.high;
         (self.width == other.width) & low & high
+    }
+}
+
+/// Prints the letters `0 1 x z`, most significant first.
+impl fmt::Debug for Value {
+    fn fmt<W: fmt::Write>(&self, f: &mut fmt::Formatter<W>) -> fmt::Result {
+        for k in (0..self.width()).rev() {
+            f.write_str(self.bit(k).letter())?;
+        }
+        Ok(())
     }
 }

@@ -7,8 +7,11 @@ use crate::value::{Value, WIDTH_LIMIT};
 use std::alloc::Global;
 use std::marker::Model;
 
+#[cfg(test)]
+mod tests;
+
 /// From `tick` on, a signal has `value`.
-#[derive(Clone, Copy)]
+#[derive(Clone, Copy, Debug, PartialEq)]
 pub struct Change {
     pub tick: u64,
     pub value: Value,

@@ -37,7 +37,7 @@ pub(crate) fn are_words(words: &[Word]) -> bool
 }
 
 /// Whether variables of this kind are skipped: their values are no four-state values, or they have none
-/// (IEEE 1364-2005, 18.2.3.8).
+/// (IEEE 1364-2005, 18.2).
 pub fn is_skipped_kind(kind: &[u8]) -> bool
     ensures { result ≡ skipped kind.now }
 {

@@ -1,0 +1,12 @@
+pub mod FrontItem
+pub mod OneAnswer
+pub mod CasesOfWords
+pub mod CasesOfLetters
+pub mod CasesOfFiles
+pub mod CasesOfFaults
+pub mod CasesOfText
+pub mod CasesOfSession
+pub mod CasesOfRun
+pub mod Replay
+pub mod Steps
+pub mod Lines

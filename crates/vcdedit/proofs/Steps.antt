@@ -1,0 +1,156 @@
+-- Steps where there is memory: they are steps of the machine, and the replies say what it answers.
+use Rattle.std.proofs.Common.{◌≡◌, ◌≢◌, ◌⊎◌, ℕ, List, [], ◌∷◌, ◌++◌, Option, Some, None, Result, Ok, Err, length, map, refl, sym, ◌∙◌, ap, subst, inl, inr}
+use Rattle.vcd_core.specs.Contents.{Contents}
+use Rattle.vcdedit.specs.declared.edit.Edit.{Edit}
+use Rattle.vcdedit.specs.declared.edit.Edit.TheVariants.{Rename}
+use Rattle.vcdedit.specs.declared.edit_error.EditError.{EditError}
+use Rattle.vcdedit.specs.declared.step.Step.{Step}
+use Rattle.vcdedit.specs.declared.step.Step.TheVariants as steps
+use Rattle.vcdedit.specs.declared.step.StepError.TheVariants as refusals
+use Rattle.vcdedit.specs.declared.step.Answer.{Answer}
+use Rattle.vcdedit.specs.declared.step.Answer.TheVariants.{Done, Refused}
+use Rattle.vcdedit.specs.declared.command.Command.{Command}
+use Rattle.vcdedit.specs.declared.command.Command.TheVariants as commands
+use Rattle.vcdedit.specs.declared.line_error.LineError.{LineError}
+use Rattle.vcdedit.specs.Effect.{effect}
+use Rattle.vcdedit.specs.Allowed.{fault}
+use Rattle.vcdedit.specs.Machine.{Machine, Outcome, refused, fresh, step_of, edit_outcome, undo_outcome, redo_outcome, IsStep, IsRun}
+use Rattle.vcdedit.specs.Lent.{unplaced_edit, unplaced_step}
+use Rattle.vcdedit.specs.Script.{command_of}
+use Rattle.vcdedit.specs.Reply.{said_to_step, said_to_edit}
+use Rattle.vcdedit.specs.Run.{after_line, after_lines, after_command}
+use Rattle.vcdedit.specs.Laws.{lacks_memory, step_in, asked_by, answers_to, RunIsReplay, ReplyIsAnswer, said_to_answer, IsStarved, StepIsOutcome}
+use Rattle.vcdedit.proofs.Replay.{session_is_replay}
+
+-- the address of a word counts neither for the effect of an edit nor for its fault
+pub effect_unplaced : (e : Edit) (c : Contents) → effect (unplaced_edit e) c ≡ effect e c
+unfolding effect
+effect_unplaced (Rename k word) c = refl
+
+pub fault_unplaced : (e : Edit) (c : Contents) → fault (unplaced_edit e) c ≡ fault e c
+unfolding fault
+fault_unplaced (Rename k word) c = refl
+
+pub edit_unplaced : (found : Option EditError) (e : Edit) (m : Machine) → edit_outcome found (unplaced_edit e) m ≡ edit_outcome found e m
+unfolding effect
+edit_unplaced None (Rename k word) m = refl
+edit_unplaced (Some found) (Rename k word) m = refl
+
+pub step_unplaced : (m : Machine) (s : Step) → step_of m (unplaced_step s) ≡ step_of m s
+unfolding fault
+step_unplaced m (steps.Edit (Rename k word)) = edit_unplaced (fault (Rename k word) m.now) (Rename k word) m
+step_unplaced m steps.Undo = refl
+step_unplaced m steps.Redo = refl
+
+-- what comes of a step where there is memory is what may come of it
+pub edit_is_step : (found : Option EditError) (e : Edit) (m : Machine) → fault e m.now ≡ found →
+    IsStep m (steps.Edit e) (edit_outcome found e m).answer (edit_outcome found e m).after
+edit_is_step None e m h = (h, refl)
+edit_is_step (Some refusal) e m h = (inl h, refl)
+
+pub undo_is_step : (past : List Contents) (m : Machine) → m.past ≡ past → IsStep m steps.Undo (undo_outcome past m).answer (undo_outcome past m).after
+undo_is_step [] m h = (h, refl)
+undo_is_step (back ∷ older) m h = record { past = h; future = refl; depth = refl }
+
+pub redo_is_step : (future : List Contents) (m : Machine) → m.future ≡ future → IsStep m steps.Redo (redo_outcome future m).answer (redo_outcome future m).after
+redo_is_step [] m h = (h, refl)
+redo_is_step (next ∷ later) m h = record { future = h; past = refl; depth = refl }
+
+pub ample_step : (m : Machine) (s : Step) → IsStep m s (step_of m s).answer (step_of m s).after
+ample_step m (steps.Edit e) = edit_is_step (fault e m.now) e m refl
+ample_step m steps.Undo = undo_is_step m.past m refl
+ample_step m steps.Redo = redo_is_step m.future m refl
+
+-- what may come of a step is one of the two
+abbrev pub IsOutcome : Machine → Step → Answer → Machine → Type 0
+IsOutcome m s a n = (record { answer = a; after = n } ≡ step_of m s) ⊎ IsStarved m s a n
+
+pub undo_done : (past : List Contents) (m : Machine) → past ≢ [] → (undo_outcome past m).answer ≡ Done
+undo_done [] m h = absurd (h refl)
+undo_done (back ∷ older) m h = refl
+
+pub redo_done : (future : List Contents) (m : Machine) → future ≢ [] → (redo_outcome future m).answer ≡ Done
+redo_done [] m h = absurd (h refl)
+redo_done (next ∷ later) m h = refl
+
+pub outcome_of : (m : Machine) (s : Step) (a : Answer) (n : Machine) → IsStep m s a n → IsOutcome m s a n
+outcome_of m (steps.Edit e) Done n h = inl (rw (h.0, h.1) refl)
+outcome_of m (steps.Edit e) (Refused (refusals.Edit refusal)) n h =
+    elim (h.0) [ inl found ↦ inl (rw (found, h.1) refl) | inr none ↦ inr (rw (none.0) refl, ap (λ r. Refused (refusals.Edit r)) none.1, h.1) ]
+outcome_of m (steps.Edit e) (Refused refusals.NothingToUndo) n h = absurd h
+outcome_of m (steps.Edit e) (Refused refusals.NothingToRedo) n h = absurd h
+outcome_of m (steps.Edit e) (Refused refusals.NoMemory) n h = absurd h
+outcome_of m steps.Undo Done n h =
+    inl (rw (h.past) (λ i. record { answer = Done; after = record { past = n.past; now = n.now; future = h.future i; depth = h.depth i } }))
+outcome_of m steps.Undo (Refused (refusals.Edit refusal)) n h = absurd h
+outcome_of m steps.Undo (Refused refusals.NothingToUndo) n h = inl (ap (refused refusals.NothingToUndo) h.1 ∙ sym (ap (λ past. undo_outcome past m) h.0))
+outcome_of m steps.Undo (Refused refusals.NothingToRedo) n h = absurd h
+outcome_of m steps.Undo (Refused refusals.NoMemory) n h = inr (undo_done m.past m h.0, refl, h.1)
+outcome_of m steps.Redo Done n h =
+    inl (rw (h.future) (λ i. record { answer = Done; after = record { past = h.past i; now = n.now; future = n.future; depth = h.depth i } }))
+outcome_of m steps.Redo (Refused (refusals.Edit refusal)) n h = absurd h
+outcome_of m steps.Redo (Refused refusals.NothingToUndo) n h = absurd h
+outcome_of m steps.Redo (Refused refusals.NothingToRedo) n h = inl (ap (refused refusals.NothingToRedo) h.1 ∙ sym (ap (λ future. redo_outcome future m) h.0))
+outcome_of m steps.Redo (Refused refusals.NoMemory) n h = inr (redo_done m.future m h.0, refl, h.1)
+
+-- a step that would be accepted may be refused for want of memory
+pub edit_accepted : (found : Option EditError) (e : Edit) (m : Machine) → (edit_outcome found e m).answer ≡ Done → found ≡ None
+edit_accepted None e m h = refl
+edit_accepted (Some refusal) e m h = absurd (cc)
+
+pub undo_accepted : (past : List Contents) (m : Machine) → (undo_outcome past m).answer ≡ Done → past ≢ []
+undo_accepted [] m h = absurd (cc)
+undo_accepted (back ∷ older) m h = λ none. cc
+
+pub redo_accepted : (future : List Contents) (m : Machine) → (redo_outcome future m).answer ≡ Done → future ≢ []
+redo_accepted [] m h = absurd (cc)
+redo_accepted (next ∷ later) m h = λ none. cc
+
+pub starved_step : (m : Machine) (s : Step) → (step_of m s).answer ≡ Done → IsStep m s (lacks_memory s) m
+starved_step m (steps.Edit e) h = (inr (edit_accepted (fault e m.now) e m h, refl), refl)
+starved_step m steps.Undo h = (undo_accepted m.past m h, refl)
+starved_step m steps.Redo h = (redo_accepted m.future m h, refl)
+
+pub is_step : (m : Machine) (s : Step) (a : Answer) (n : Machine) → IsOutcome m s a n → IsStep m s a n
+is_step m s a n (inl same) = subst (λ (o : Outcome). IsStep m s o.answer o.after) (sym same) (ample_step m s)
+is_step m s a n (inr starved) = rw (starved.1, starved.2) (starved_step m s starved.0)
+
+pub step_is_outcome : StepIsOutcome
+step_is_outcome m s a n = (outcome_of m s a n, is_step m s a n)
+
+-- the reply to a step is the machine's answer
+pub said_to_edit_is : (found : Option EditError) (e : Edit) (m : Machine) → said_to_edit found ≡ said_to_answer (edit_outcome found e m).answer
+said_to_edit_is None e m = refl
+said_to_edit_is (Some refusal) e m = refl
+
+pub said_to_undo_is : (past : List Contents) (now : Contents) (redoable : ℕ) (m : Machine) → said_to_step steps.Undo now (length past) redoable ≡ said_to_answer (undo_outcome past m).answer
+said_to_undo_is [] now redoable m = refl
+said_to_undo_is (back ∷ older) now redoable m = refl
+
+pub said_to_redo_is : (future : List Contents) (now : Contents) (undoable : ℕ) (m : Machine) → said_to_step steps.Redo now undoable (length future) ≡ said_to_answer (redo_outcome future m).answer
+said_to_redo_is [] now undoable m = refl
+said_to_redo_is (next ∷ later) now undoable m = refl
+
+pub reply_is_answer : ReplyIsAnswer
+reply_is_answer m (steps.Edit e) = said_to_edit_is (fault e m.now) e m
+reply_is_answer m steps.Undo = said_to_undo_is m.past m.now (length m.future) m
+reply_is_answer m steps.Redo = said_to_redo_is m.future m.now (length m.past) m
+
+-- a line asks for at most one step, and leaves what comes of it
+pub command_is_run : (m : Machine) (r : Result Command LineError) (asked : List Step) (answers : List Answer) (n : Machine) → IsRun (after_command m r) asked answers n →
+    IsRun m (step_in r ++ asked) (map (λ step. (step_of m step).answer) (step_in r) ++ answers) n
+unfolding IsRun
+command_is_run m (Ok commands.Nothing) asked answers n h = h
+command_is_run m (Ok (commands.Step step)) asked answers n h = ((step_of m step).after, ample_step m step, h)
+command_is_run m (Err found) asked answers n h = h
+
+pub lines_are_run : (m : Machine) (lines : List (List ℕ)) → IsRun m (asked_by m lines) (answers_to m lines) (after_lines m lines)
+unfolding IsRun asked_by answers_to after_lines after_line
+lines_are_run m [] = refl
+lines_are_run m (line ∷ lines) =
+    let next : Machine = after_line m line in
+    command_is_run m (command_of m.now line) (asked_by next lines) (answers_to next lines) (after_lines next lines) (lines_are_run next lines)
+
+pub run_is_replay : RunIsReplay
+run_is_replay c depth lines =
+    session_is_replay c depth (asked_by (fresh c depth) lines) (answers_to (fresh c depth) lines) (after_lines (fresh c depth) lines) (lines_are_run (fresh c depth) lines)

@@ -1,0 +1,55 @@
+-- Which edits are in force, and what they make of a capture: the project's own.
+use Rattle.std.specs.Prelude.{◌≡◌, ℕ, List, [], ◌∷◌}
+use Rattle.vcd_core.specs.Contents.{Contents}
+use Rattle.vcdedit.specs.declared.edit.Edit.{Edit}
+use Rattle.vcdedit.specs.declared.step.Step.{Step}
+use Rattle.vcdedit.specs.declared.step.Step.TheVariants as steps
+use Rattle.vcdedit.specs.declared.step.Answer.{Answer}
+use Rattle.vcdedit.specs.declared.step.Answer.TheVariants.{Done, Refused}
+use Rattle.vcdedit.specs.Effect.{effect}
+use Rattle.vcdedit.specs.Machine.{Machine, fresh, IsRun}
+
+-- the edits in force, the last first, and those undone, the one undone last first
+pub record Tally : Type 0 where
+  pub in_force : List Edit
+  pub undone : List Edit
+
+-- an accepted undo: the last edit in force is undone
+abbrev pub taken_back : List Edit → List Edit → Tally
+taken_back [] undone = record { in_force = []; undone = undone }
+taken_back (e ∷ es) undone = record { in_force = es; undone = e ∷ undone }
+
+-- an accepted redo: the edit that was undone last is in force again
+abbrev pub made_again : List Edit → List Edit → Tally
+made_again in_force [] = record { in_force = in_force; undone = [] }
+made_again in_force (e ∷ es) = record { in_force = e ∷ in_force; undone = es }
+
+-- an accepted edit is in force and leaves none undone; a refused step counts for nothing
+abbrev pub counted : Tally → Step → Answer → Tally
+counted t (steps.Edit e) Done = record { in_force = e ∷ t.in_force; undone = [] }
+counted t steps.Undo Done = taken_back t.in_force t.undone
+counted t steps.Redo Done = made_again t.in_force t.undone
+counted t s (Refused refusal) = t
+
+-- the tally after steps with their answers
+unfoldable pub counted_all : Tally → List Step → List Answer → Tally
+counted_all t (s ∷ asked) (a ∷ answers) = counted_all (counted t s a) asked answers
+counted_all t asked answers = t
+
+-- the edits in force after steps with their answers, the last first
+abbrev pub in_force_after : List Step → List Answer → List Edit
+in_force_after asked answers = (counted_all (record { in_force = []; undone = [] }) asked answers).in_force
+
+-- edits made one after another, the last of them being the first of the list
+unfoldable pub replay : Contents → List Edit → Contents
+replay c [] = c
+replay c (e ∷ es) = effect e (replay c es)
+
+-- the capture is the replay of the edits in force, and the one that undo goes back to is that of those before the last
+pub record IsReplay (c : Contents) (in_force : List Edit) (m : Machine) : Type 0 where
+  pub now : m.now ≡ replay c in_force
+  pub back : (held : Contents) (older : List Contents) → m.past ≡ held ∷ older → (last : Edit) × (before : List Edit) × (in_force ≡ last ∷ before) × (held ≡ replay c before)
+
+-- whatever steps are asked and however they are answered, the capture is the replay of the edits in force
+abbrev pub SessionIsReplay : Type 0
+SessionIsReplay = (c : Contents) (depth : ℕ) (asked : List Step) (answers : List Answer) (m : Machine) → IsRun (fresh c depth) asked answers m → IsReplay c (in_force_after asked answers) m

@@ -1,0 +1,135 @@
+-- The items of a file, declarations and changes, and the words that spell them (IEEE 1364-2005, 18.2, in the project's profile).
+use Rattle.std.specs.Prelude.{ℕ, Bool, false, not, ◌&&◌, ◌||◌, ◌==◌, List, [], ◌∷◌, ◌++◌, map, find, Option, codes, decimal, bytes_eq}
+use Rattle.std.specs.List.{list_any, list_all, flat_map, concat}
+use Rattle.vcd_core.specs.declared.capture.HeaderKind.{HeaderKind}
+use Rattle.vcd_core.specs.declared.capture.HeaderKind.TheVariants.{Date, Version, Comment}
+use Rattle.vcd_core.specs.declared.capture.Timescale.{Timescale}
+use Rattle.vcd_core.specs.declared.capture.TimeUnit.{TimeUnit}
+use Rattle.vcd_core.specs.declared.capture.TimeUnit.TheVariants.{Second, Millisecond, Microsecond, Nanosecond, Picosecond, Femtosecond}
+
+-- ---- keywords
+
+abbrev pub end_word : List ℕ
+end_word = codes "$end"
+
+abbrev pub is_end : List ℕ → Bool
+is_end word = bytes_eq word end_word
+
+-- whether none of the words is `$end`
+abbrev pub has_no_end : List (List ℕ) → Bool
+has_no_end words = list_all (λ word. not (is_end word)) words
+
+-- whether a word is one of these
+abbrev pub is_one_of : List (List ℕ) → List ℕ → Bool
+is_one_of words word = list_any (bytes_eq word) words
+
+-- the words of the changes alone: the brackets of a dump, `$end` being the closing one
+abbrev pub dump_words : List (List ℕ)
+dump_words = codes "$dumpall" ∷ codes "$dumpoff" ∷ codes "$dumpon" ∷ codes "$dumpvars" ∷ end_word ∷ []
+
+-- the words of the declarations alone
+abbrev pub declaring_words : List (List ℕ)
+declaring_words = codes "$scope" ∷ codes "$upscope" ∷ codes "$var" ∷ codes "$timescale" ∷ codes "$enddefinitions" ∷ []
+
+-- the keyword of a header entry
+abbrev pub header_word : HeaderKind → List ℕ
+header_word Date = codes "$date"
+header_word Version = codes "$version"
+header_word Comment = codes "$comment"
+
+abbrev pub header_words : List (List ℕ)
+header_words = map header_word (Date ∷ Version ∷ Comment ∷ [])
+
+-- whether a word begins with `$`
+abbrev pub is_command : List ℕ → Bool
+is_command [] = false
+is_command (b ∷ bs) = b == 36
+
+-- whether a word may begin a declaration
+abbrev pub begins_declaration : List ℕ → Bool
+begins_declaration word = is_command word && not (is_one_of dump_words word)
+
+-- any other command, which is passed over; among the changes `$date`, `$version` and `$comment` are such (the project's own)
+abbrev pub is_other : (changing : Bool) → List ℕ → Bool
+is_other changing word =
+    begins_declaration word && not (is_one_of declaring_words word) && (changing || not (is_one_of header_words word))
+
+-- the letters with which a change of several bits begins
+abbrev pub vector_letters : List ℕ
+vector_letters = codes "bB"
+
+-- those of changes of real numbers and strings
+abbrev pub dropped_letters : List ℕ
+dropped_letters = codes "rRsS"
+
+-- ---- timescales
+
+-- the letters of a unit of time
+abbrev pub unit_text : TimeUnit → List ℕ
+unit_text Second = codes "s"
+unit_text Millisecond = codes "ms"
+unit_text Microsecond = codes "us"
+unit_text Nanosecond = codes "ns"
+unit_text Picosecond = codes "ps"
+unit_text Femtosecond = codes "fs"
+
+-- 1, 10 and 100 of a unit
+abbrev pub counts_of : TimeUnit → List Timescale
+counts_of unit = record { count = 1; unit = unit } ∷ record { count = 10; unit = unit } ∷ record { count = 100; unit = unit } ∷ []
+
+-- all timescales
+abbrev pub timescales : List Timescale
+timescales = flat_map counts_of (Second ∷ Millisecond ∷ Microsecond ∷ Nanosecond ∷ Picosecond ∷ Femtosecond ∷ [])
+
+-- the timescale that words spell when they are run together, if it is one
+abbrev pub timescale_of : List (List ℕ) → Option Timescale
+timescale_of words = find (λ t. bytes_eq (concat words) (decimal t.count ++ unit_text t.unit)) timescales
+
+-- ---- items
+
+-- a declaration or a change
+pub data Item : Type 0 where
+  -- `$date`, `$version` or `$comment`, and words up to `$end`
+  entry : HeaderKind → (words : List (List ℕ)) → Item
+  -- `$timescale`, and words up to `$end`
+  timescale : (words : List (List ℕ)) → Item
+  -- `$scope`, a kind, and the words of the name up to `$end`
+  scope : (kind : List ℕ) → (words : List (List ℕ)) → Item
+  -- `$upscope $end`
+  upscope : Item
+  -- `$var`, and words up to `$end`: kind, size, code, and those of the name
+  variable : (words : List (List ℕ)) → Item
+  -- `$enddefinitions $end`
+  end_definitions : Item
+  -- one word: `#` and the digits of a tick
+  stamp : (digits : List ℕ) → Item
+  -- one word: a value letter and the code
+  scalar : (letter : ℕ) → (code : List ℕ) → Item
+  -- two words: `b` or `B` and value letters, and the code
+  vector : (first : ℕ) → (digits code : List ℕ) → Item
+  -- two words: `r`, `R`, `s` or `S` and anything, and the code
+  real_or_string : (first : ℕ) → (text code : List ℕ) → Item
+  -- one word of a dump's brackets
+  bracket : (word : List ℕ) → Item
+  -- any other command, and words up to `$end`
+  other : (word : List ℕ) → (words : List (List ℕ)) → Item
+
+-- the words of an item
+abbrev pub spelling : Item → List (List ℕ)
+spelling (entry kind words) = header_word kind ∷ words ++ end_word ∷ []
+spelling (timescale words) = codes "$timescale" ∷ words ++ end_word ∷ []
+spelling (scope kind words) = codes "$scope" ∷ kind ∷ words ++ end_word ∷ []
+spelling upscope = codes "$upscope" ∷ end_word ∷ []
+spelling (variable words) = codes "$var" ∷ words ++ end_word ∷ []
+spelling end_definitions = codes "$enddefinitions" ∷ end_word ∷ []
+spelling (stamp digits) = (35 ∷ digits) ∷ []
+spelling (scalar letter code) = (letter ∷ code) ∷ []
+spelling (vector first digits code) = (first ∷ digits) ∷ code ∷ []
+spelling (real_or_string first text code) = (first ∷ text) ∷ code ∷ []
+spelling (bracket word) = word ∷ []
+spelling (other word words) = word ∷ words ++ end_word ∷ []
+
+-- the words of items in a row
+abbrev pub spellings : List Item → List (List ℕ)
+spellings [] = []
+spellings (i ∷ is) = spelling i ++ spellings is

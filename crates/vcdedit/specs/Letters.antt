@@ -1,0 +1,74 @@
+-- Letters of values, their extension and short form, and decimal numbers.
+use Rattle.std.specs.Prelude.{ℕ, ◌+◌, ◌-◌, ◌*◌, Bool, if◌then◌else◌, List, [], ◌∷◌, ◌++◌, ◌&&◌, not, ◌==◌, nat_le, nat_eq, length, map, replicate, find, Option, Some, None, is_some, unwrap_or, codes}
+use Rattle.std.specs.List.{list_any, list_all}
+use Rattle.vcd_core.specs.declared.bit.Bit.{Bit}
+use Rattle.vcd_core.specs.declared.bit.Bit.TheVariants.{Zero, One, X, Z}
+use Rattle.vcd_core.specs.Value.{same_letters}
+
+-- whether a byte is among these
+abbrev pub is_among : List ℕ → ℕ → Bool
+is_among bytes b = list_any (nat_eq b) bytes
+
+-- what a value letter is read as: 0 1 x X z Z by IEEE 1364-2005, 18.2; the others are the project's own, for files of VHDL simulators
+abbrev pub letter_read : ℕ → Option Bit
+letter_read b =
+    if is_among (codes "0lL") b then Some Zero
+    else (if is_among (codes "1hH") b then Some One
+    else (if is_among (codes "xXuUwW-") b then Some X
+    else (if is_among (codes "zZ") b then Some Z
+    else None)))
+
+abbrev pub is_letter : ℕ → Bool
+is_letter b = is_some (letter_read b)
+
+-- the letters that a text of value letters is read as
+abbrev pub letters_read : List ℕ → List Bit
+letters_read text = map (λ b. unwrap_or (letter_read b) X) text
+
+-- a letter as it is printed
+abbrev pub printed_letter : Bit → ℕ
+printed_letter Zero = 48
+printed_letter One = 49
+printed_letter X = 120
+printed_letter Z = 122
+
+-- letters as they are printed
+abbrev pub printed : List Bit → List ℕ
+printed letters = map printed_letter letters
+
+-- what is put on the left of a text: 0 where its leftmost letter is 0 or 1, else that letter (18.2); no text that is read is empty
+abbrev pub pad_letter : List Bit → Bit
+pad_letter [] = X
+pad_letter (Zero ∷ s) = Zero
+pad_letter (One ∷ s) = Zero
+pad_letter (X ∷ s) = X
+pad_letter (Z ∷ s) = Z
+
+-- a text extended on the left to a width (18.2)
+abbrev pub ext : ℕ → List Bit → List Bit
+ext width s = replicate (width - length s) (pad_letter s) ++ s
+
+-- the non-empty suffixes of a list, the shortest first
+abbrev pub suffixes : List Bit → List (List Bit)
+suffixes [] = []
+suffixes (b ∷ s) = suffixes s ++ (b ∷ s) ∷ []
+
+-- the short form of a value: its shortest non-empty suffix whose extension is the value (18.2)
+unfoldable pub short : List Bit → List Bit
+short v = unwrap_or (find (λ s. same_letters (ext (length v) s) v) (suffixes v)) v
+
+abbrev pub is_digit : ℕ → Bool
+is_digit b = nat_le 48 b && nat_le b 57
+
+-- whether a text is a decimal number: one or more of the digits 0 to 9
+abbrev pub is_number : List ℕ → Bool
+is_number text = not (length text == 0) && list_all is_digit text
+
+-- the number that digits write behind a number
+abbrev pub number_behind : ℕ → List ℕ → ℕ
+number_behind n [] = n
+number_behind n (d ∷ ds) = number_behind (n * 10 + (d - 48)) ds
+
+-- the number that a decimal number writes
+abbrev pub number_of : List ℕ → ℕ
+number_of text = number_behind 0 text

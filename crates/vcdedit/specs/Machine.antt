@@ -1,0 +1,107 @@
+-- The bounded history of a capture as a machine: the project's own.
+use Rattle.std.specs.Prelude.{◌≡◌, ◌≢◌, ℕ, List, [], ◌∷◌, take, Option, Some, None}
+use Rattle.vcd_core.specs.Contents.{Contents}
+use Rattle.vcdedit.specs.declared.edit.Edit.{Edit}
+use Rattle.vcdedit.specs.declared.edit_error.EditError.{EditError}
+use Rattle.vcdedit.specs.declared.step.Step.{Step}
+use Rattle.vcdedit.specs.declared.step.Step.TheVariants as steps
+use Rattle.vcdedit.specs.declared.step.StepError.{StepError}
+use Rattle.vcdedit.specs.declared.step.StepError.TheVariants as refusals
+use Rattle.vcdedit.specs.declared.step.Answer.{Answer}
+use Rattle.vcdedit.specs.declared.step.Answer.TheVariants.{Done, Refused}
+use Rattle.vcdedit.specs.Effect.{effect}
+use Rattle.vcdedit.specs.Allowed.{fault, MayRefuse}
+
+-- the capture now; the past, to which undo goes back, and the future, to which redo goes on, both with the nearest first; how many captures of the past are kept
+pub record Machine : Type 0 where
+  pub past : List Contents
+  pub now : Contents
+  pub future : List Contents
+  pub depth : ℕ
+
+-- a capture without a history
+abbrev pub fresh : Contents → ℕ → Machine
+fresh c depth = record { past = []; now = c; future = []; depth = depth }
+
+-- an accepted edit: the capture joins the past, of which the newest `depth` are kept; nothing is left to redo
+abbrev pub edited : Edit → Machine → Machine
+edited e m = record { past = take m.depth (m.now ∷ m.past); now = effect e m.now; future = []; depth = m.depth }
+
+-- an accepted undo, where `back` is the newest of the past and `older` the others
+abbrev pub undone : Contents → List Contents → Machine → Machine
+undone back older m = record { past = older; now = back; future = m.now ∷ m.future; depth = m.depth }
+
+-- an accepted redo, where `next` is the first of the future and `later` the others
+abbrev pub redone : Contents → List Contents → Machine → Machine
+redone next later m = record { past = m.now ∷ m.past; now = next; future = later; depth = m.depth }
+
+-- what comes of a step: the answer, and the machine after it
+pub record Outcome : Type 0 where
+  pub answer : Answer
+  pub after : Machine
+
+-- an accepted step
+abbrev pub done : Machine → Outcome
+done after = record { answer = Done; after = after }
+
+-- a refused step changes nothing
+abbrev pub refused : StepError → Machine → Outcome
+refused refusal m = record { answer = Refused refusal; after = m }
+
+-- an edit is refused by its fault, and else accepted
+abbrev pub edit_outcome : Option EditError → Edit → Machine → Outcome
+edit_outcome None e m = done (edited e m)
+edit_outcome (Some found) e m = refused (refusals.Edit found) m
+
+-- an undo is refused where the past is empty
+abbrev pub undo_outcome : List Contents → Machine → Outcome
+undo_outcome [] m = refused refusals.NothingToUndo m
+undo_outcome (back ∷ older) m = done (undone back older m)
+
+-- a redo is refused where the future is empty
+abbrev pub redo_outcome : List Contents → Machine → Outcome
+redo_outcome [] m = refused refusals.NothingToRedo m
+redo_outcome (next ∷ later) m = done (redone next later m)
+
+-- what comes of a step where there is memory
+abbrev pub step_of : Machine → Step → Outcome
+step_of m (steps.Edit e) = edit_outcome (fault e m.now) e m
+step_of m steps.Undo = undo_outcome m.past m
+step_of m steps.Redo = redo_outcome m.future m
+
+-- an undo leads from m to n
+pub record StepsBack (m n : Machine) : Type 0 where
+  pub past : m.past ≡ n.now ∷ n.past
+  pub future : n.future ≡ m.now ∷ m.future
+  pub depth : n.depth ≡ m.depth
+
+-- a redo leads from m to n
+pub record StepsForth (m n : Machine) : Type 0 where
+  pub future : m.future ≡ n.now ∷ n.future
+  pub past : n.past ≡ m.now ∷ m.past
+  pub depth : n.depth ≡ m.depth
+
+-- the answers that a step may have on the machine m, and the machine n after each: where there is no fault it is accepted, or refused for want of memory
+abbrev pub IsStep : Machine → Step → Answer → Machine → Type 0
+IsStep m (steps.Edit e) Done n = (fault e m.now ≡ None) × (n ≡ edited e m)
+IsStep m (steps.Edit e) (Refused (refusals.Edit refusal)) n = MayRefuse (fault e m.now) refusal × (n ≡ m)
+IsStep m (steps.Edit e) (Refused refusals.NothingToUndo) n = ⊥
+IsStep m (steps.Edit e) (Refused refusals.NothingToRedo) n = ⊥
+IsStep m (steps.Edit e) (Refused refusals.NoMemory) n = ⊥
+IsStep m steps.Undo Done n = StepsBack m n
+IsStep m steps.Undo (Refused (refusals.Edit refusal)) n = ⊥
+IsStep m steps.Undo (Refused refusals.NothingToUndo) n = (m.past ≡ []) × (n ≡ m)
+IsStep m steps.Undo (Refused refusals.NothingToRedo) n = ⊥
+IsStep m steps.Undo (Refused refusals.NoMemory) n = (m.past ≢ []) × (n ≡ m)
+IsStep m steps.Redo Done n = StepsForth m n
+IsStep m steps.Redo (Refused (refusals.Edit refusal)) n = ⊥
+IsStep m steps.Redo (Refused refusals.NothingToUndo) n = ⊥
+IsStep m steps.Redo (Refused refusals.NothingToRedo) n = (m.future ≡ []) × (n ≡ m)
+IsStep m steps.Redo (Refused refusals.NoMemory) n = (m.future ≢ []) × (n ≡ m)
+
+-- the steps, with these answers, lead from m to n
+unfoldable pub IsRun : Machine → List Step → List Answer → Machine → Type 0
+IsRun m [] [] n = n ≡ m
+IsRun m [] (a ∷ answers) n = ⊥
+IsRun m (s ∷ asked) [] n = ⊥
+IsRun m (s ∷ asked) (a ∷ answers) n = (between : Machine) × IsStep m s a between × IsRun between asked answers n

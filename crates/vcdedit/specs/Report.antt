@@ -1,0 +1,70 @@
+-- What the program says of a run that failed: the project's own names, statuses and lines.
+use Rattle.std.specs.Prelude.{ℕ, List, ◌++◌, codes, decimal}
+use Rattle.vcdedit.specs.FaultNames.{fault_name, write_error_name}
+use Rattle.vcdedit.specs.declared.fault.Fault.{Fault}
+use Rattle.vcdedit.specs.declared.fault.Fault.TheVariants as faults
+use Rattle.vcdedit.specs.declared.fault.WriteError.{WriteError}
+use Rattle.vcdedit.specs.declared.fault.WriteError.TheVariants as write_errors
+use Rattle.vcdedit.specs.declared.run_error.RunError.{RunError}
+use Rattle.vcdedit.specs.declared.run_error.RunError.TheVariants as run_errors
+
+-- the name of what ended a run; that of the capture's or the output's fault where it was one
+abbrev pub run_error_name : RunError → List ℕ
+run_error_name (run_errors.Capture e) = fault_name e.fault
+run_error_name run_errors.ScriptTooLarge = codes "ScriptTooLarge"
+run_error_name run_errors.ScriptReadFault = codes "ScriptReadFault"
+run_error_name (run_errors.NoMemory line) = codes "NoMemory"
+run_error_name (run_errors.ReplyFault written) = codes "ReplyFault"
+run_error_name (run_errors.Write e) = write_error_name e
+
+-- the exit status for a fault of the capture: 3 for what is wrong in it, 4 where it can't be read, 5 for want of memory
+abbrev pub capture_status : Fault → ℕ
+capture_status faults.ReadFault = 4
+capture_status faults.NoMemory = 5
+capture_status _ = 3
+
+-- the exit status for a fault of the output
+abbrev pub write_status : WriteError → ℕ
+write_status write_errors.NoMemory = 5
+write_status (write_errors.WriteFault written) = 4
+
+-- the exit status of a run that failed
+abbrev pub status_of : RunError → ℕ
+status_of (run_errors.Capture e) = capture_status e.fault
+status_of run_errors.ScriptTooLarge = 3
+status_of run_errors.ScriptReadFault = 4
+status_of (run_errors.NoMemory line) = 5
+status_of (run_errors.ReplyFault written) = 4
+status_of (run_errors.Write e) = write_status e
+
+-- the line for want of memory, wherever it arose
+abbrev pub out_of_memory : List ℕ
+out_of_memory = codes "vcdedit: out of memory\n"
+
+-- the line for a fault that was decided at a line of the capture
+abbrev pub numbered_line : Fault → ℕ → List ℕ
+numbered_line fault line = codes "vcdedit: capture line " ++ decimal line ++ codes ": " ++ fault_name fault ++ codes "\n"
+
+-- the line for a fault of the capture
+abbrev pub capture_line : Fault → ℕ → List ℕ
+capture_line faults.ReadFault line = codes "vcdedit: capture: read fault\n"
+capture_line faults.NoMemory line = out_of_memory
+capture_line fault line = numbered_line fault line
+
+-- the line for a fault of the output
+abbrev pub write_line : WriteError → List ℕ
+write_line write_errors.NoMemory = out_of_memory
+write_line (write_errors.WriteFault written) = codes "vcdedit: output: write fault\n"
+
+-- the line on standard error of a run that failed
+abbrev pub line_of : RunError → List ℕ
+line_of (run_errors.Capture e) = capture_line e.fault e.line
+line_of run_errors.ScriptTooLarge = codes "vcdedit: script: too large\n"
+line_of run_errors.ScriptReadFault = codes "vcdedit: script: read fault\n"
+line_of (run_errors.NoMemory line) = out_of_memory
+line_of (run_errors.ReplyFault written) = codes "vcdedit: replies: write fault\n"
+line_of (run_errors.Write e) = write_line e
+
+-- the line for words that are refused
+abbrev pub usage_line : List ℕ
+usage_line = codes "vcdedit: usage\n"

@@ -1,0 +1,51 @@
+-- White space and words (IEEE 1364-2005, 18.2: the file is a list of words that white space parts).
+use Rattle.std.specs.Prelude.{ℕ, ◌+◌, Bool, true, false, if◌then◌else◌, List, [], ◌∷◌, ◌&&◌, ◌||◌, ◌==◌, nat_le, count_by}
+
+-- white space: tab, line feed, vertical tab, form feed, carriage return and space
+abbrev pub is_space : ℕ → Bool
+is_space b = (nat_le 9 b && nat_le b 13) || (b == 32)
+
+-- a word, and the line that it stands on
+pub record Word : Type 0 where
+  pub text : List ℕ
+  pub line : ℕ
+
+abbrev pub word : List ℕ → ℕ → Word
+word text line = record { text = text; line = line }
+
+-- the line behind a byte: a line feed begins another
+abbrev pub line_behind : ℕ → ℕ → ℕ
+line_behind b line = if b == 10 then line + 1 else line
+
+-- whether a word ends before these bytes: white space follows, or nothing and the end of the text counts as an end
+abbrev pub ends_before : Bool → List ℕ → Bool
+ends_before whole [] = whole
+ends_before whole (b ∷ bs) = is_space b
+
+-- the words with one more byte in front of the first
+abbrev pub lengthened : ℕ → ℕ → List Word → List Word
+lengthened b line [] = []
+lengthened b line (w ∷ ws) = word (b ∷ w.text) line ∷ ws
+
+-- the words with the byte b before them: white space adds nothing, the last byte of a word is a word, another lengthens the word behind it
+abbrev pub with_byte : (space last : Bool) → ℕ → ℕ → List Word → List Word
+with_byte true last b line ws = ws
+with_byte false true b line ws = word (b ∷ []) line ∷ ws
+with_byte false false b line ws = lengthened b line ws
+
+-- the maximal runs of bytes other than white space, the first byte being on this line; only those that white space follows unless the text is whole
+unfoldable pub words_from : Bool → ℕ → List ℕ → List Word
+words_from whole line [] = []
+words_from whole line (b ∷ bs) = with_byte (is_space b) (ends_before whole bs) b line (words_from whole (line_behind b line) bs)
+
+-- the words of a file, each with its line: 1 plus the line feeds before it
+abbrev pub words_of : List ℕ → List Word
+words_of bytes = words_from true 1 bytes
+
+-- the words that white space follows: what is sure of a file of which only this front is known
+abbrev pub closed_words : List ℕ → List Word
+closed_words bytes = words_from false 1 bytes
+
+-- the line of the end of a file: 1 plus all its line feeds
+abbrev pub end_line : List ℕ → ℕ
+end_line bytes = 1 + count_by (λ b. b == 10) bytes

@@ -1,0 +1,50 @@
+ghost use Rattle.std.specs.Prelude.{◌≡◌};
+ghost use Rattle.vcdedit.specs.RefusalNames.{edit_error_name};
+
+use thiserror::Error;
+
+/// Why an edit is refused.
+#[derive(Clone, Copy, Debug, PartialEq, Eq, Error)]
+#[error("{}", self.name())]
+pub enum EditError {
+    /// A position is not below the number of signals.
+    NoSuchSignal,
+    /// An operand of a logical operator is wider than one bit.
+    NotScalar,
+    /// A bit is not below the width of its signal.
+    BadBit,
+    /// A range of ticks is empty or goes past the end.
+    BadRange,
+    /// A count of ticks is 0.
+    BadCount,
+    /// A value has another width than its signal.
+    BadValue,
+    /// A name is empty, has white space or is `$end`.
+    BadWord,
+    /// Another signal already has the full name that would arise.
+    NameTaken,
+    /// There are 65,536 signals already.
+    TooManySignals,
+    /// Memory was refused.
+    NoMemory,
+}
+
+impl EditError {
+    /// The name that the tool prints.
+    pub fn name(&self) -> &'static str
+        ensures { result.now ≡ edit_error_name self.now }
+    {
+        match self {
+            EditError::NoSuchSignal => "NoSuchSignal",
+            EditError::NotScalar => "NotScalar",
+            EditError::BadBit => "BadBit",
+            EditError::BadRange => "BadRange",
+            EditError::BadCount => "BadCount",
+            EditError::BadValue => "BadValue",
+            EditError::BadWord => "BadWord",
+            EditError::NameTaken => "NameTaken",
+            EditError::TooManySignals => "TooManySignals",
+            EditError::NoMemory => "NoMemory",
+        }
+    }
+}

@@ -1,0 +1,53 @@
+//! The inputs that the command line names.
+
+use std::io::{Input, Read};
+use std::rt::Files;
+use std::{fs, io};
+
+/// Where the bytes of an input come from.
+#[derive(Drop)]
+pub enum Origin<S, F> {
+    Standard(S),
+    File(F),
+    /// No bytes at all: the script where none is named.
+    Nothing,
+}
+
+impl<S: Read, F: Read> Read for Origin<S, F> {
+    fn read(&mut self, buf: &mut [u8]) -> io::Result<usize> {
+        match self {
+            Origin::Standard(reader) => reader.read(buf),
+            Origin::File(file) => file.read(buf),
+            Origin::Nothing => Ok(0),
+        }
+    }
+}
+
+/// Opens the capture: the file at `path`, or else standard input.
+pub fn open_capture<R: Files + Input>(
+    rt: &R,
+    path: Option<&str>,
+) -> io::Result<Origin<R::Reader, R::File>> {
+    match path {
+        Some(path) => Ok(Origin::File(fs::open(rt, path)?)),
+        None => open_standard(rt.reader()),
+    }
+}
+
+/// Opens the script: the file at `path`, or else no bytes.
+pub fn open_script<R: Files + Input>(
+    rt: &R,
+    path: Option<&str>,
+) -> io::Result<Origin<R::Reader, R::File>> {
+    match path {
+        Some(path) => Ok(Origin::File(fs::open(rt, path)?)),
+        None => Ok(Origin::Nothing),
+    }
+}
+
+/// A read of no byte fails where standard input is closed. Without it, the next file that is opened would
+/// stand in its place.
+fn open_standard<S: Read + Drop, F>(mut reader: S) -> io::Result<Origin<S, F>> {
+    let _ = reader.read(&mut [])?;
+    Ok(Origin::Standard(reader))
+}

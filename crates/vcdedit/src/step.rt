@@ -1,0 +1,51 @@
+ghost use Rattle.std.specs.Prelude.{◌≡◌};
+ghost use Rattle.vcdedit.specs.RefusalNames.{step_error_name};
+
+use crate::edit::Edit;
+use crate::edit_error::EditError;
+use thiserror::Error;
+
+/// What a session is asked to do.
+#[derive(Clone, Copy, Debug, PartialEq, Eq)]
+pub enum Step<'a> {
+    Edit(Edit<'a>),
+    /// The last edit that can be taken back is taken back.
+    Undo,
+    /// The edit that was undone last is made again.
+    Redo,
+}
+
+/// Why a step is refused.
+#[derive(Clone, Copy, Debug, PartialEq, Eq, Error)]
+#[error("{}", self.name())]
+pub enum StepError {
+    /// The edit is refused.
+    Edit(EditError),
+    /// No edit is held that could be taken back.
+    NothingToUndo,
+    /// No edit is held that could be made again.
+    NothingToRedo,
+    /// Memory was refused for an undo or a redo.
+    NoMemory,
+}
+
+impl StepError {
+    /// The name that the tool prints.
+    pub fn name(&self) -> &'static str
+        ensures { result.now ≡ step_error_name self.now }
+    {
+        match self {
+            StepError::Edit(fault) => fault.name(),
+            StepError::NothingToUndo => "NothingToUndo",
+            StepError::NothingToRedo => "NothingToRedo",
+            StepError::NoMemory => "NoMemory",
+        }
+    }
+}
+
+/// What a session answers to a step.
+#[derive(Clone, Copy, Debug, PartialEq, Eq)]
+pub enum Answer {
+    Done,
+    Refused(StepError),
+}
