@@ -19,3 +19,8 @@ pub mod Report
 pub mod RunFaults
 pub mod FileLaws
 pub mod Laws
+pub mod Spaces
+pub mod WordsLeft
+pub mod TimescaleText
+pub mod Variables
+pub mod Reading

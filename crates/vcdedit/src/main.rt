@@ -14,6 +14,7 @@ pub mod laws;
 pub mod line_error;
 pub mod opening;
 pub mod program;
+pub mod reading;
 pub mod reporting;
 pub mod run_error;
 pub mod running;
