@@ -14,4 +14,6 @@ pub mod CasesOfSession
 pub mod CasesOfRun
 pub mod Replay
 pub mod Steps
+pub mod Histories
+pub mod Renames
 pub mod Lines
