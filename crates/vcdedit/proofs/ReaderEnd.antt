@@ -27,7 +27,7 @@ signal_means : (records : List Recorded) (tick : ℕ) (v : Variable) → Follows
     → signal_contents v.signal ≡ declared_signal records tick (declaration v)
 signal_means records tick v f sound =
     let wave = wave_is v.signal.wave.width tick v.signal.wave.changes
-        (λ t. recorded_value v.signal.wave.width v.code t (all_x v.signal.wave.width) records) sound.wave sound.ticks (λ t _. f.values t) in
+    (λ t. recorded_value v.signal.wave.width v.code t (all_x v.signal.wave.width) records) sound.wave sound.ticks (λ t _. f.values t) in
     λ i. record { scopes = v.signal.scopes; kind = v.signal.kind; words = v.signal.words; width = v.signal.wave.width; changes = wave i }
 
 signals_mean : (records : List Recorded) (tick : ℕ) (vs : List Variable) → All (Follows records tick) vs
@@ -51,12 +51,12 @@ ends_file m c place header timescale end signals sound = record {
   sound = sound;
   means = λ bytes r.
       let sounds : All (IsSoundSignal m.tick) (map signal_contents (map (λ v. v.signal) m.variables.items)) =
-          subst (λ n. All (IsSoundSignal n) (map signal_contents (map (λ v. v.signal) m.variables.items))) end
-          (subst (λ ss. All (IsSoundSignal c.end) (map signal_contents ss)) signals sound.signals) in
+      subst (λ n. All (IsSoundSignal n) (map signal_contents (map (λ v. v.signal) m.variables.items))) end
+      (subst (λ ss. All (IsSoundSignal c.end) (map signal_contents ss)) signals sound.signals) in
       let all : map signal_contents c.signals ≡ map (declared_signal r.records m.tick) (kept (map declaration m.variables.items)) =
-          ap (map signal_contents) signals
-          ∙ signals_mean r.records m.tick m.variables.items r.follow sounds
-          ∙ ap (map (declared_signal r.records m.tick)) (sym (all_kept r.records m.tick m.variables.items r.follow)) in
+      ap (map signal_contents) signals
+      ∙ signals_mean r.records m.tick m.variables.items r.follow sounds
+      ∙ ap (map (declared_signal r.records m.tick)) (sym (all_kept r.records m.tick m.variables.items r.follow)) in
       record {
         told = told m r.records;
         accepted = record {

@@ -67,12 +67,12 @@ ends_item old new words word r i records allows tells spelled closed follow sile
   items = r.items ++ i ∷ [];
   records = records;
   spelled =
-    ap (λ ws. ws ++ word ∷ []) r.spelled
-    ∙ append_assoc (spellings r.items) (begun old.place old.words.items) (word ∷ [])
-    ∙ ap (λ ws. spellings r.items ++ ws) (sym spelled)
-    ∙ sym (spelled_more r.items i)
-    ∙ sym (append-nil (spellings (r.items ++ i ∷ [])))
-    ∙ ap (λ ws. spellings (r.items ++ i ∷ []) ++ ws) (sym closed);
+      ap (λ ws. ws ++ word ∷ []) r.spelled
+      ∙ append_assoc (spellings r.items) (begun old.place old.words.items) (word ∷ [])
+      ∙ ap (λ ws. spellings r.items ++ ws) (sym spelled)
+      ∙ sym (spelled_more r.items i)
+      ∙ sym (append-nil (spellings (r.items ++ i ∷ [])))
+      ∙ ap (λ ws. spellings (r.items ++ i ∷ []) ++ ws) (sym closed);
   allowed = allowed_more nothing_told r.items i r.allowed (subst (λ c. Allows c i) (sym r.tells) allows);
   tells = after_more nothing_told r.items i ∙ ap (λ c. after_item c i) r.tells ∙ tells;
   follow = follow;
@@ -123,14 +123,17 @@ closes_variable m new v place declares room pushed others words r =
     let is : declaration v ≡ d = λ i. record { scopes = declares.inside i; kind = declares.kind i; size = declares.width i; code = v.code; words = declares.named i } in
     let shares : may_have_code (variable_of (told m r.records) v.code) d ≡ true = wires_share r.records m.tick m.variables.items v.code d r.follow keeps refl in
     let small : length (kept (map declaration m.variables.items)) < signal_limit =
-        omega (arith, ap (length {A = Declaration}) (all_kept r.records m.tick m.variables.items r.follow), length-map m.variables.items declaration) in
+    omega (arith, ap (length {A = Declaration}) (all_kept r.records m.tick m.variables.items r.follow), length-map m.variables.items declaration) in
     let roomy : has_room (map declaration m.variables.items) d ≡ true = λ i. keeps i || lt-ltb _ _ small i in
     let long : length new.variables.items ≡ length m.variables.items + 1 = ap (length {A = Variable}) pushed ∙ length-append m.variables.items (v ∷ []) in
     subst (λ n. Reads n (words ++ end_word ∷ [])) (sym others)
-    (ends_item m (record m { variables = new.variables; place = Declarations }) words end_word r (variable m.words.items) r.records
-    (ap is_changing place, r.no_end, ap has_good_size declares.spelled,
-    subst (λ ws. IsSomeAnd (declaration_of (told m r.records) ws) (λ d. IsTrue (may_have_code (variable_of (told m r.records) d.code) d) × IsTrue (has_room (map declaration m.variables.items) d)))
-    (sym declares.spelled) (shares, roomy))
+    (ends_item m (record m { variables = new.variables; place = Declarations }) words end_word r (variable m.words.items) r.records (
+      ap is_changing place,
+      r.no_end,
+      ap has_good_size declares.spelled,
+      subst (λ ws. IsSomeAnd (declaration_of (told m r.records) ws) (λ d. IsTrue (may_have_code (variable_of (told m r.records) d.code) d) × IsTrue (has_room (map declaration m.variables.items) d)))
+          (sym declares.spelled) (shares, roomy),
+    )
     ((λ i. record { header = []; timescale = m.timescale; scopes = m.scopes.items; declared = map declaration m.variables.items ++ option_to_list (declaration_of (told m r.records) (declares.spelled i)); changing = is_changing (place i); records = r.records; tick = m.tick })
     ∙ (λ i. record { header = []; timescale = m.timescale; scopes = m.scopes.items; declared = map declaration m.variables.items ++ sym is i ∷ []; changing = false; records = r.records; tick = m.tick })
     ∙ (λ i. record { header = []; timescale = m.timescale; scopes = m.scopes.items; declared = sym (ap (map declaration) pushed ∙ map-append declaration m.variables.items (v ∷ [])) i; changing = false; records = r.records; tick = m.tick }))
@@ -170,7 +173,7 @@ takes_value m new letter code bit place read some any long takes others words r 
     let found = code_found r.records m.tick m.variables.items code r.follow any in
     let one : Recorded = record { tick = m.tick; code = code; letters = bit ∷ [] } in
     let more : recorded (told m r.records) code (letters_read (letter ∷ [])) (variable_of (told m r.records) code) ≡ one ∷ [] =
-        (λ i. recorded (told m r.records) code (unwrap_or (read i) X ∷ []) (found.1 i)) ∙ (λ i. cond (found.2 i) [] (one ∷ [])) in
+    (λ i. recorded (told m r.records) code (unwrap_or (read i) X ∷ []) (found.1 i)) ∙ (λ i. cond (found.2 i) [] (one ∷ [])) in
     subst (λ n. Reads n (words ++ (letter ∷ code) ∷ [])) (sym others)
     (ends_item m (record m { variables = new.variables }) words (letter ∷ code) r (scalar letter code) (r.records ++ one ∷ [])
     (ap is_changing place, ap is_some read, some, ap is_some found.1)

@@ -87,7 +87,7 @@ follows_record rs tick code bit old new f takes =
           takes.values t
           ∙ ap (λ v. if has_code code old && nat_le tick t then bit ∷ [] else v) (f.values t)
           ∙ (λ i. if bytes_eq code (sym codes i) && nat_le tick t then ext (sym one i) (bit ∷ [])
-              else recorded_value (sym width i) (sym codes i) t (all_x (sym width i)) rs)
+          else recorded_value (sym width i) (sym codes i) t (all_x (sym width i)) rs)
           ∙ sym (value_of_more new.signal.wave.width new.code t (all_x new.signal.wave.width) rs (record { tick = tick; code = code; letters = bit ∷ [] }));
     }
 

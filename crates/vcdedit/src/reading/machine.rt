@@ -304,11 +304,7 @@ fn is_wire(words: &[Word]) -> bool
 }
 
 /// The variable that words declare in these scopes.
-fn variable_of(
-    alloc: Global,
-    scopes: &[ScopeName],
-    words: &[Word],
-) -> Result<Variable, NoMemory>
+fn variable_of(alloc: Global, scopes: &[ScopeName], words: &[Word]) -> Result<Variable, NoMemory>
     requires { IsWire words.now }
     ensures { IfOk result (λ variable. Declares variable scopes.now words.now) }
 {

@@ -10,10 +10,11 @@ use Rattle.vcdedit.proofs.reading.capture_of.Goals as goal
 -- one more word is taken
 one_more : (all taken left rest : List Word) (w : Word) (old new : Machine) → all ≡ taken ++ left → left ≡ w ∷ rest → Reads old (texts taken) → ReadsOn old w.text new
     → (more : List Word) × (all ≡ more ++ rest) × Reads new (texts more)
-one_more all taken left rest w old new parts next reads step =
-    (taken ++ w ∷ [],
-    parts ∙ ap (λ l. taken ++ l) next ∙ sym (append_assoc taken (w ∷ []) rest),
-    subst (Reads new) (sym (map-append (λ (w : Word). w.text) taken (w ∷ []))) (step (texts taken) reads))
+one_more all taken left rest w old new parts next reads step = (
+  taken ++ w ∷ [],
+  parts ∙ ap (λ l. taken ++ l) next ∙ sym (append_assoc taken (w ∷ []) rest),
+  subst (Reads new) (sym (map-append (λ (w : Word). w.text) taken (w ∷ []))) (step (texts taken) reads),
+)
 
 pub loop-word-preserved : goal.loop-word-preserved
 loop-word-preserved c =

@@ -24,7 +24,7 @@ returns-then-branch c =
     let items : vec.items ≡ c.record.new.variables = with_items_is m.variables c.record.new.variables many in
     let long : length c.record.new.variables ≡ length m.variables.items = omega (arith, c.record.auto.variables, ap (length {A = Variable}) old) in
     let takes : (k : ℕ) (d : Variable) → k < length m.variables.items → Takes c.args.code.now m.tick (c.in-Some.bit ∷ []) (get_or m.variables.items k d) (get_or c.record.new.variables k d) =
-        subst (λ xs. (k : ℕ) (d : Variable) → k < length xs → Takes c.args.code.now m.tick (c.in-Some.bit ∷ []) (get_or xs k d) (get_or c.record.new.variables k d)) old
-        (subst (λ v. (k : ℕ) (d : Variable) → k < length c.deref_mut.result.now → Takes c.args.code.now m.tick v (get_or c.deref_mut.result.now k d) (get_or c.record.new.variables k d)) c.filled.ensures c.in_ok-record.ensures.takes) in
+    subst (λ xs. (k : ℕ) (d : Variable) → k < length xs → Takes c.args.code.now m.tick (c.in-Some.bit ∷ []) (get_or xs k d) (get_or c.record.new.variables k d)) old
+    (subst (λ v. (k : ℕ) (d : Variable) → k < length c.deref_mut.result.now → Takes c.args.code.now m.tick v (get_or c.deref_mut.result.now k d) (get_or c.record.new.variables k d)) c.filled.ensures c.in_ok-record.ensures.takes) in
     takes_value m (record m { variables = vec }) c.args.letter c.args.code.now c.in-Some.bit c.requires.place c.in-Some.ensures some any (ap (length {A = Variable}) items ∙ long)
     (subst (λ xs. (k : ℕ) (d : Variable) → k < length m.variables.items → Takes c.args.code.now m.tick (c.in-Some.bit ∷ []) (get_or m.variables.items k d) (get_or xs k d)) (sym items) takes) refl
