@@ -7,3 +7,9 @@ pub mod CasesOfSession
 pub mod CasesOfRun
 pub mod Replay
 pub mod Steps
+pub mod Appended
+pub mod ShortForms
+pub mod Codes
+pub mod Values
+pub mod Lines
+pub mod Scopes

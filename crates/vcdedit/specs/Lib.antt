@@ -18,3 +18,4 @@ pub mod Run
 pub mod Laws
 pub mod Report
 pub mod RunFaults
+pub mod Spaced
