@@ -13,3 +13,8 @@ pub mod Codes
 pub mod Values
 pub mod Lines
 pub mod Scopes
+pub mod Walks
+pub mod Sorting
+pub mod Counts
+pub mod Listing
+pub mod Texts

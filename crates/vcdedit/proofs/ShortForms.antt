@@ -53,6 +53,7 @@ fits_more a b s t within =
     never : (x : Bool) → (x && false) ≡ false
     never true = refl
     never false = refl
+
     by : (r : Bool) → fits (b ∷ s) t ≡ r → (same_letter (pad_letter t) a && fits (b ∷ s) t) ≡ (same_letter (pad_letter (b ∷ [])) a && fits (b ∷ s) t)
     by true e = ap (λ p. same_letter p a && fits (b ∷ s) t) (same_pad b s t e)
     by false e = ap (λ r. same_letter (pad_letter t) a && r) e ∙ never _ ∙ sym (ap (λ r. same_letter (pad_letter (b ∷ [])) a && r) e ∙ never _)

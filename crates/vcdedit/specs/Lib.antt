@@ -19,3 +19,4 @@ pub mod Laws
 pub mod Report
 pub mod RunFaults
 pub mod Spaced
+pub mod Moves

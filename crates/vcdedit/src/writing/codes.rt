@@ -7,6 +7,7 @@ use vcd_core::NoMemory;
 
 /// The first byte of the 94 that codes are made of, and how many they are (IEEE 1364-2005, 18.2.3.8).
 const FIRST: u8 = b'!';
+
 const COUNT: usize = 94;
 
 /// Appends the code of the signal at `position`: the position counted from 1, in bijective base 94 with the

@@ -44,10 +44,7 @@ fn header_keyword(kind: HeaderKind) -> &'static str
 }
 
 /// Appends the line of the timescale, where there is one.
-pub fn append_timescale(
-    out: &mut Vec<u8>,
-    timescale: Option<Timescale>,
-) -> Result<(), NoMemory>
+pub fn append_timescale(out: &mut Vec<u8>, timescale: Option<Timescale>) -> Result<(), NoMemory>
     ensures { OnOk result (out.new.items ≡ out.old.items ++ flat_map line_of (timescale_items timescale)) }
 {
     if let Some(timescale) = timescale {
@@ -88,11 +85,7 @@ pub fn append_signals(out: &mut Vec<u8>, signals: &[Signal]) -> Result<(), NoMem
     Ok(())
 }
 
-fn append_variable(
-    out: &mut Vec<u8>,
-    position: usize,
-    signal: &Signal,
-) -> Result<(), NoMemory>
+fn append_variable(out: &mut Vec<u8>, position: usize, signal: &Signal) -> Result<(), NoMemory>
     requires { position < 2 ^ 32 }
     ensures { OnOk result (out.new.items ≡ out.old.items ++ line_of (variable_item position (signal_contents signal.now))) }
 {
@@ -174,8 +167,7 @@ fn shared_len(opened: &[ScopeName], path: &[ScopeName]) -> usize
 fn is_same_scope(a: &ScopeName, b: &ScopeName) -> bool
     ensures { result ≡ same_scope a.now b.now }
 {
-    a.kind.as_slice() == b.kind.as_slice()
-        && are_same_words(a.words.as_slice(), b.words.as_slice())
+    a.kind.as_slice() == b.kind.as_slice() && are_same_words(a.words.as_slice(), b.words.as_slice())
 }
 
 fn are_same_words(a: &[Word], b: &[Word]) -> bool
