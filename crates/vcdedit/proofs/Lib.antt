@@ -17,3 +17,13 @@ pub mod Steps
 pub mod Histories
 pub mod Renames
 pub mod Lines
+pub mod Appended
+pub mod ShortForms
+pub mod Codes
+pub mod Values
+pub mod Scopes
+pub mod Walks
+pub mod Sorting
+pub mod Counts
+pub mod Listing
+pub mod Texts

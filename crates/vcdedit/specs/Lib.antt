@@ -26,3 +26,5 @@ pub mod Variables
 pub mod Reading
 pub mod NameCursor
 pub mod History
+pub mod Spaced
+pub mod Moves

@@ -27,6 +27,7 @@ pub mod step;
 #[cfg(test)]
 mod tests;
 pub mod whole;
+pub mod writing;
 
 use program::status_of_program;
 use std::process::ExitCode;
