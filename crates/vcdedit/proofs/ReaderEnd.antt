@@ -1,22 +1,19 @@
 -- At the end of the file the machine holds what the file means.
-use Rattle.std.proofs.Common.{◌≡◌, ℕ, zero, suc, ◌+◌, ◌≤◌, Bool, true, false, cond, List, [], ◌∷◌, ◌++◌, length, map, All, IsTrue, refl, sym, ap, subst, ◌∙◌, arith}
+use Rattle.std.proofs.Common.{◌≡◌, ℕ, ◌+◌, cond, List, [], ◌∷◌, ◌++◌, map, All, refl, sym, ap, subst, ◌∙◌}
 use Rattle.std.specs.Prelude.{count_by}
 use Rattle.std.proofs.lemmas.List.{append-nil}
 use Rattle.std.proofs.lemmas.List.Sums.{sum_by-cons}
 use Rattle.std.proofs.lemmas.List.Elements.{All-head, All-tail}
 use Rattle.vcd_core.specs.declared.capture.Capture.{Capture}
-use Rattle.vcd_core.specs.declared.capture.Signal.{Signal}
 use Rattle.vcd_core.specs.Value.{all_x}
-use Rattle.vcd_core.specs.Wave.{changes_of}
-use Rattle.vcd_core.specs.Contents.{Contents, SignalContents, contents, signal_contents}
+use Rattle.vcd_core.specs.Contents.{contents, signal_contents}
 use Rattle.vcd_core.specs.Sound.{IsSound, IsSoundSignal}
 use Rattle.vcd_core.proofs.Waves.{wave_is}
-use Rattle.vcdedit.specs.Words.{words_of}
 use Rattle.vcdedit.specs.Items.{spellings}
-use Rattle.vcdedit.specs.Grammar.{Recorded, Declaration, is_skipped, kept, texts}
-use Rattle.vcdedit.specs.Meaning.{recorded_value, declared_signal, meaning, skipped_variables, FileMeans}
+use Rattle.vcdedit.specs.Grammar.{Recorded, is_skipped, kept}
+use Rattle.vcdedit.specs.Meaning.{recorded_value, declared_signal}
 use Rattle.vcdedit.specs.Variables.{declaration}
-use Rattle.vcdedit.specs.Reading.{is_changing, begun, Follows, told, Reads, Means}
+use Rattle.vcdedit.specs.Reading.{is_changing, begun, Follows, told, Means}
 use Rattle.vcdedit.specs.declared.reading.variable.Variable.{Variable}
 use Rattle.vcdedit.specs.declared.reading.machine.Machine.{Machine}
 use Rattle.vcdedit.specs.declared.reading.machine.Place.TheVariants.{Changes}

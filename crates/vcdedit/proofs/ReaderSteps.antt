@@ -1,27 +1,24 @@
 -- How the machine's steps keep to the grammar: one lemma for each item.
-use Rattle.std.proofs.Common.{◌≡◌, ℕ, zero, suc, ◌+◌, ◌-◌, ◌<◌, ◌≤◌, Bool, true, false, not, cond, if◌then◌else◌, ◌&&◌, ◌||◌, ◌==◌, nat_le, nat_lt, List, [], ◌∷◌, ◌++◌, length, take, map, filter, find, get_or, Option, Some, None, IsSome, IsTrue, IfSome, IsSomeAnd, option_to_list, unwrap_or, is_some, All, refl, sym, ap, subst, ◌∙◌, arith}
-use Rattle.std.specs.Prelude.{codes, bytes_eq, count_by}
-use Rattle.std.specs.List.{list_any, list_all}
+use Rattle.std.proofs.Common.{◌≡◌, ℕ, ◌+◌, ◌-◌, ◌<◌, ◌≤◌, Bool, true, false, cond, ◌||◌, List, [], ◌∷◌, ◌++◌, length, take, map, get_or, Option, Some, None, IsSome, IsTrue, IsSomeAnd, option_to_list, unwrap_or, is_some, All, refl, sym, ap, subst, ◌∙◌, arith}
+use Rattle.std.specs.Prelude.{codes}
+use Rattle.std.specs.List.{list_any}
 use Rattle.std.proofs.lemmas.List.{append-nil, append_assoc, length-append, length-map, map-append}
 use Rattle.std.proofs.lemmas.Bool.{lt-ltb}
 use Rattle.std.proofs.Math.Seq.{take-append_seam}
-use Rattle.std.proofs.lemmas.List.Elements.{All-cons, All-head, All-tail, All-nil, All-weaker, All-push}
+use Rattle.std.proofs.lemmas.List.Elements.{All-weaker, All-push}
 use Rattle.vcd_core.specs.declared.bit.Bit.{Bit}
 use Rattle.vcd_core.specs.declared.bit.Bit.TheVariants.{X}
 use Rattle.vcd_core.specs.declared.wave.Change.{Change}
 use Rattle.vcd_core.specs.declared.capture.Timescale.{Timescale}
 use Rattle.vcd_core.specs.declared.capture.ScopeName.{ScopeName}
-use Rattle.vcd_core.specs.declared.value.TheConstants.{WIDTH_LIMIT}
 use Rattle.vcdedit.specs.Letters.{letter_read, letters_read, number_of}
 use Rattle.vcdedit.specs.Items.{Item, timescale, scope, upscope, variable, end_definitions, stamp, scalar, bracket, spelling, spellings, has_no_end, is_one_of, dump_words, end_word, timescale_of}
 use Rattle.vcdedit.specs.Grammar.{Recorded, Context, Declaration, nothing_told, Allows, AllowsAll, after, after_item, is_tick, is_skipped, kept, signal_limit, declaration_of, variable_of, may_have_code, has_room, has_good_size, recorded}
-use Rattle.vcdedit.specs.Meaning.{recorded_value}
-use Rattle.vcdedit.specs.Variables.{declaration, value_of, has_code, IsReady, Takes}
+use Rattle.vcdedit.specs.Variables.{declaration, has_code, Takes}
 use Rattle.vcdedit.specs.Reading.{is_changing, begun, Follows, Declares, told, Reads, ReadsOn}
 use Rattle.vcdedit.proofs.ReaderVariables.{wire_is_kept, all_kept, wires_share, code_found, follows_declared, follows_record, same_declared}
 use Rattle.vcdedit.specs.declared.reading.variable.Variable.{Variable}
 use Rattle.vcdedit.specs.declared.reading.machine.Machine.{Machine}
-use Rattle.vcdedit.specs.declared.reading.machine.Place.{Place}
 use Rattle.vcdedit.specs.declared.reading.machine.Place.TheVariants.{Declarations, InTimescale, InScope, InUpscope, InVariable, InEndDefinitions, Changes}
 
 -- ---- lists

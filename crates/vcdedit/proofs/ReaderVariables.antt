@@ -1,21 +1,19 @@
 -- What the reader's variables declare, and what a record makes of them.
-use Rattle.std.proofs.Common.{◌≡◌, ℕ, zero, suc, ◌+◌, ◌-◌, ◌<◌, ◌≤◌, Bool, true, false, not, cond, if◌then◌else◌, ◌&&◌, ◌||◌, ◌==◌, nat_le, nat_lt, List, [], ◌∷◌, ◌++◌, length, map, filter, find, get_or, Option, Some, None, is_some, IsTrue, IsSome, unwrap_or, option_to_list, All, refl, sym, ap, subst, ◌∙◌, arith}
-use Rattle.std.specs.Prelude.{codes, bytes_eq, count_by}
+use Rattle.std.proofs.Common.{◌≡◌, ℕ, suc, ◌<◌, ◌≤◌, Bool, true, false, not, cond, if◌then◌else◌, ◌&&◌, ◌||◌, ◌==◌, nat_le, nat_lt, List, [], ◌∷◌, ◌++◌, length, map, find, get_or, Some, All, refl, sym, ap, subst, ◌∙◌, arith}
+use Rattle.std.specs.Prelude.{codes, bytes_eq}
 use Rattle.std.specs.List.{list_any}
 use Rattle.std.proofs.lemmas.List.Elements.{All-head, All-tail, All-nil}
-use Rattle.std.proofs.lemmas.List.{append-nil}
 use Rattle.vcd_core.specs.declared.bit.Bit.{Bit}
-use Rattle.vcd_core.specs.declared.bit.Bit.TheVariants.{X}
 use Rattle.vcd_core.specs.declared.wave.Change.{Change}
 use Rattle.vcd_core.specs.declared.value.TheConstants.{WIDTH_LIMIT}
 use Rattle.vcd_core.specs.Value.{all_x}
 use Rattle.vcd_core.specs.Wave.{value_at, value_from}
 use Rattle.vcd_core.specs.declared.capture.ScopeName.{ScopeName}
-use Rattle.vcdedit.specs.Letters.{letter_read, letters_read, ext}
+use Rattle.vcdedit.specs.Letters.{ext}
 use Rattle.vcdedit.specs.Items.{is_one_of}
-use Rattle.vcdedit.specs.Grammar.{Recorded, Context, Declaration, skipped_kinds, is_skipped, kept, may_share, may_have_code, variable_of, recorded}
-use Rattle.vcdedit.specs.Meaning.{recorded_value, skipped_variables}
-use Rattle.vcdedit.specs.Variables.{declaration, value_of, has_code, IsReady, Takes}
+use Rattle.vcdedit.specs.Grammar.{Recorded, Declaration, skipped_kinds, is_skipped, kept, may_share, may_have_code}
+use Rattle.vcdedit.specs.Meaning.{recorded_value}
+use Rattle.vcdedit.specs.Variables.{declaration, has_code, Takes}
 use Rattle.vcdedit.specs.Reading.{Follows, Declares}
 use Rattle.vcdedit.specs.declared.reading.variable.Variable.{Variable}
 

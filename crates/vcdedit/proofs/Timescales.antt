@@ -1,5 +1,5 @@
 -- A text that spells a timescale is found to be that one.
-use Rattle.std.proofs.Common.{◌≡◌, ℕ, List, ◌++◌, Some, inl, inr, refl, sym, ap, subst, ◌∙◌}
+use Rattle.std.proofs.Common.{◌≡◌, ℕ, List, ◌++◌, Some, inl, inr, refl, sym, subst}
 use Rattle.std.specs.Prelude.{decimal, find, bytes_eq}
 use Rattle.std.specs.List.{concat}
 use Rattle.std.specs.Fmt.{digits}

@@ -1,10 +1,10 @@
 -- A text begins with its first word.
-use Rattle.std.proofs.Common.{◌≡◌, ℕ, zero, suc, ◌+◌, ◌<◌, ◌≤◌, Bool, true, false, not, cond, ◌&&◌, ◌==◌, List, [], ◌∷◌, ◌++◌, length, take, drop, refl, sym, ap, ◌∙◌, arith, ◌⊎◌, inl, inr}
+use Rattle.std.proofs.Common.{◌≡◌, ℕ, zero, suc, ◌+◌, ◌<◌, ◌≤◌, Bool, true, false, not, cond, ◌&&◌, ◌==◌, List, [], ◌∷◌, ◌++◌, length, take, drop, refl, sym, ap, ◌∙◌, arith}
 use Rattle.std.specs.List.{list_all}
 use Rattle.std.proofs.lemmas.List.{take-append-drop}
 use Rattle.std.proofs.lemmas.Bool.Decides.{Decides-eqb}
 use Rattle.vcdedit.specs.Spaces.{begins_with_space}
-use Rattle.vcdedit.specs.Words.{is_space, line_behind, ends_before, lengthened, with_byte, Word, word, words_from}
+use Rattle.vcdedit.specs.Words.{is_space, line_behind, ends_before, lengthened, with_byte, word, words_from}
 
 -- the parts of a conjunction
 pub both : (a b : Bool) → (a && b) ≡ true → (a ≡ true) × (b ≡ true)

@@ -1,12 +1,10 @@
 -- What the reader has taken in: the words so far spell items, and what these tell is what the machine holds.
-use Rattle.std.specs.Prelude.{◌≡◌, ℕ, ◌≤◌, Bool, true, false, not, List, [], ◌∷◌, ◌++◌, map, length, All, codes}
-use Rattle.std.specs.Str.{bytes_eq}
+use Rattle.std.specs.Prelude.{◌≡◌, ℕ, ◌≤◌, Bool, true, false, List, [], ◌∷◌, ◌++◌, map, length, All, codes}
 use Rattle.vcd_core.specs.declared.capture.ScopeName.{ScopeName}
-use Rattle.vcd_core.specs.declared.wave.Change.{Change}
 use Rattle.vcd_core.specs.Value.{all_x}
 use Rattle.vcd_core.specs.Contents.{Contents}
 use Rattle.vcd_core.specs.Sound.{IsSound}
-use Rattle.vcdedit.specs.Words.{Word, words_of}
+use Rattle.vcdedit.specs.Words.{words_of}
 use Rattle.vcdedit.specs.Items.{Item, spellings, has_no_end}
 use Rattle.vcdedit.specs.Grammar.{Recorded, Context, nothing_told, AllowsAll, after, texts}
 use Rattle.vcdedit.specs.Meaning.{recorded_value, FileMeans}

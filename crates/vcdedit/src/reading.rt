@@ -11,6 +11,8 @@ ghost use Rattle.vcdedit.specs.Meaning.{FileMeans};
 mod copies;
 mod decimal;
 mod machine;
+#[cfg(test)]
+mod tests;
 mod timescale;
 mod variable;
 mod words;

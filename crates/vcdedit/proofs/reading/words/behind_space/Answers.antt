@@ -1,7 +1,7 @@
-use Rattle.std.proofs.Common.{◌≡◌, ℕ, ◌+◌, ◌==◌, cond, true, false, List, ◌∷◌, length, sym, ap, ◌∙◌, arith, rules, add_assoc}
+use Rattle.std.proofs.Common.{◌≡◌, ℕ, ◌+◌, ◌==◌, cond, true, false, List, ◌∷◌, length, sym, ap, ◌∙◌, arith, rules}
 use Rattle.std.proofs.lemmas.Bool.Decides.{Decides-eqb}
 use Rattle.std.proofs.lemmas.Bool.{ne_eqb}
-use Rattle.vcdedit.specs.Words.{is_space, line_behind, words_from}
+use Rattle.vcdedit.specs.Words.{is_space, words_from}
 use Rattle.vcdedit.proofs.WordLaws.{space_passed}
 use Rattle.vcdedit.proofs.reading.words.behind_space.Goals as goal
 

@@ -1,4 +1,3 @@
-use Rattle.std.proofs.Common.{◌≡◌, List, ℕ, [], rules}
 use Rattle.vcdedit.proofs.ReaderSteps.{takes_bracket}
 use Rattle.vcdedit.proofs.reading.machine.Machine.change.Goals as goal
 

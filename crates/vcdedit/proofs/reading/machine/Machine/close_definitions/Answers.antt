@@ -1,4 +1,4 @@
-use Rattle.std.proofs.Common.{◌≡◌, List, ℕ, [], vec_len, sym, ◌∙◌, arith}
+use Rattle.std.proofs.Common.{◌≡◌, vec_len, sym, ◌∙◌, arith}
 use Rattle.std.proofs.lemmas.Bool.{eqb-true}
 use Rattle.vcdedit.proofs.ReaderSteps.{closes_definitions, no_items}
 use Rattle.vcdedit.proofs.reading.machine.Machine.close_definitions.Goals as goal

@@ -1,4 +1,4 @@
-use Rattle.std.proofs.Common.{◌≡◌, ℕ, ◌∷◌, List, refl, sym, ◌∙◌, rules}
+use Rattle.std.proofs.Common.{◌≡◌, ◌∷◌, refl, sym, ◌∙◌, rules}
 use Rattle.vcdedit.specs.declared.reading.machine.Place.TheVariants.{Declarations}
 use Rattle.vcdedit.proofs.ReaderSteps.{closes_scope}
 use Rattle.vcdedit.proofs.reading.machine.Machine.close_scope.Goals as goal

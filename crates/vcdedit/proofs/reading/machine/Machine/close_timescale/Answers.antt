@@ -1,4 +1,4 @@
-use Rattle.std.proofs.Common.{◌≡◌, List, ℕ, Option, Some, None, IsSome, IfSome, is_some, false, true, not, refl, sym, ap, ◌∙◌}
+use Rattle.std.proofs.Common.{◌≡◌, List, ℕ, Option, Some, None, IsSome, IfSome, false, true, not, sym, ap, ◌∙◌}
 use Rattle.vcd_core.specs.declared.capture.Timescale.{Timescale}
 use Rattle.vcdedit.specs.Items.{timescale_of}
 use Rattle.vcdedit.proofs.ReaderSteps.{closes_timescale}

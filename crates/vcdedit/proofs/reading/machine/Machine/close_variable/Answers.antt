@@ -1,4 +1,4 @@
-use Rattle.std.proofs.Common.{◌≡◌, ◌<◌, ℕ, List, length, refl, sym, subst, arith}
+use Rattle.std.proofs.Common.{◌<◌, length, refl, subst, arith}
 use Rattle.vcdedit.specs.Reading.{Declares}
 use Rattle.vcdedit.specs.declared.reading.machine.Place.TheVariants.{Declarations}
 use Rattle.vcdedit.proofs.ReaderSteps.{closes_variable}

@@ -1,4 +1,4 @@
-use Rattle.std.proofs.Common.{◌≡◌, ◌∙◌, sym, ap, true, false, not, IsTrue, rules}
+use Rattle.std.proofs.Common.{◌≡◌, ◌∙◌, rules}
 use Rattle.vcdedit.specs.declared.reading.machine.Place.TheVariants.{Changes}
 use Rattle.vcdedit.proofs.ReaderEnd.{ends_file}
 use Rattle.vcdedit.proofs.reading.machine.Machine.finish.Goals as goal

@@ -1,4 +1,4 @@
-use Rattle.std.proofs.Common.{◌≡◌, ℕ, List, [], None, false, All, length, map, refl, sym, ap, subst, arith}
+use Rattle.std.proofs.Common.{[], None, false, All, length, map, refl, sym, ap, subst, arith}
 use Rattle.std.proofs.lemmas.List.Elements.{All-nil}
 use Rattle.vcdedit.specs.Items.{has_no_end}
 use Rattle.vcdedit.specs.Variables.{declaration}

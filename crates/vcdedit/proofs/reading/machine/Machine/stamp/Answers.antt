@@ -1,4 +1,4 @@
-use Rattle.std.proofs.Common.{◌≡◌, List, ℕ, [], rules, arith}
+use Rattle.std.proofs.Common.{arith}
 use Rattle.vcdedit.proofs.ReaderSteps.{takes_stamp}
 use Rattle.vcdedit.proofs.reading.machine.Machine.stamp.Goals as goal
 
