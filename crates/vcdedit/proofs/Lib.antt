@@ -1,5 +1,10 @@
 pub mod FrontItem
 pub mod OneAnswer
+pub mod ReaderEnd
+pub mod ReaderVariables
+pub mod ReaderSteps
+pub mod Timescales
+pub mod WordLaws
 pub mod CasesOfWords
 pub mod CasesOfLetters
 pub mod CasesOfFiles
@@ -9,4 +14,6 @@ pub mod CasesOfSession
 pub mod CasesOfRun
 pub mod Replay
 pub mod Steps
+pub mod Histories
+pub mod Renames
 pub mod Lines

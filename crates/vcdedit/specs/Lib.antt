@@ -15,7 +15,14 @@ pub mod Lent
 pub mod Script
 pub mod Reply
 pub mod Run
+pub mod Laws
 pub mod Report
 pub mod RunFaults
 pub mod FileLaws
-pub mod Laws
+pub mod Spaces
+pub mod WordsLeft
+pub mod TimescaleText
+pub mod Variables
+pub mod Reading
+pub mod NameCursor
+pub mod History

@@ -1,6 +1,7 @@
 ghost use Rattle.std.specs.Prelude.{◌≡◌};
 ghost use Rattle.vcdedit.specs.RefusalNames.{edit_error_name};
 
+use std::alloc::AllocError;
 use thiserror::Error;
 
 /// Why an edit is refused.
@@ -27,6 +28,16 @@ pub enum EditError {
     TooManySignals,
     /// Memory was refused.
     NoMemory,
+}
+
+impl From<AllocError> for EditError {
+    ghost use Rattle.vcdedit.specs.declared.edit_error.EditError.TheVariants as errors;
+
+    ghost from_gives = { λ _ e. e ≡ errors.NoMemory };
+
+    fn from(_error: AllocError) -> EditError {
+        EditError::NoMemory
+    }
 }
 
 impl EditError {

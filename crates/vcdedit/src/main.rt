@@ -12,11 +12,17 @@ pub mod file_laws;
 pub mod late_file;
 pub mod laws;
 pub mod line_error;
+mod name_cursor;
 pub mod opening;
+pub mod output;
 pub mod program;
+pub mod reading;
+mod record;
+mod renaming;
 pub mod reporting;
 pub mod run_error;
 pub mod running;
+mod session;
 pub mod step;
 #[cfg(test)]
 mod tests;

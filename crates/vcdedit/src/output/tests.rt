@@ -1,0 +1,105 @@
+ghost use Rattle.std.specs.Prelude.{◌≡◌, false};
+
+use super::*;
+use std::io;
+use std::io::{ErrorKind, Write};
+use vcd_core::ToWrite;
+
+/// Takes at most `piece` bytes a call, `room` in all, and has a flush that may fail.
+#[derive(Drop)]
+struct Narrow {
+    held: Vec<u8>,
+    piece: usize,
+    room: usize,
+    flush_fails: bool,
+    flushes: usize,
+}
+
+impl Write for Narrow {
+    fn write(&mut self, bytes: &[u8]) -> io::Result<usize> {
+        let left = self.room.saturating_sub(self.held.len());
+        if left == 0 && self.piece > 0 {
+            return Err(io::Error::from(ErrorKind::StorageFull));
+        }
+        let count = bytes.len().min(self.piece).min(left);
+        match self.held.extend_from_slice(&bytes[..count]) {
+            Ok(()) => Ok(count),
+            Err(_) => Err(io::Error::from(ErrorKind::OutOfMemory)),
+        }
+    }
+
+    fn flush(&mut self) -> io::Result<()> {
+        self.flushes = self.flushes.saturating_add(1);
+        if self.flush_fails {
+            return Err(io::Error::from(ErrorKind::StorageFull));
+        }
+        Ok(())
+    }
+}
+
+fn sink_of(held: Vec<u8>, piece: usize, room: usize, flush_fails: bool) -> ToWrite<Narrow>
+    ensures { ⟦<ToWrite<Narrow> as Sink>⟧.has_failed result ≡ false }
+{
+    ToWrite::new(Narrow {
+        held,
+        piece,
+        room,
+        flush_fails,
+        flushes: 0,
+    })
+}
+
+const TEXT: &[u8] = b"#0\n$dumpvars\n0!\n$end\n";
+
+#[test]
+fn memory_takes_all(rt: HostRuntime) {
+    let mut sink = ToWrite::new(Vec::new(rt.alloc()));
+    assert_eq!(rt; write_all(&mut sink, TEXT), Ok(()));
+    assert_eq!(rt; write_and_flush(&mut sink, b"#1\n"), Ok(()));
+    assert_eq!(rt;
+        sink.into_inner().as_slice(),
+        b"#0\n$dumpvars\n0!\n$end\n#1\n".as_slice()
+    );
+}
+
+#[test]
+fn a_byte_at_a_time(rt: HostRuntime) {
+    let mut sink = sink_of(Vec::new(rt.alloc()), 1, 100, false);
+    assert_eq!(rt; write_and_flush(&mut sink, TEXT), Ok(()));
+    let writer = sink.into_inner();
+    assert_eq!(rt; writer.held.as_slice(), TEXT);
+    assert_eq!(rt; writer.flushes, 1);
+}
+
+/// Three bytes are handed over at a time where ten have room: the count is what was taken.
+#[test]
+fn fails_after_ten_bytes(rt: HostRuntime) {
+    let mut sink = sink_of(Vec::new(rt.alloc()), 3, 10, false);
+    assert_eq!(rt; write_and_flush(&mut sink, TEXT), Err(10));
+    assert!(rt; sink.failed());
+    let writer = sink.into_inner();
+    assert_eq!(rt; writer.held.as_slice(), b"#0\n$dumpva".as_slice());
+    assert_eq!(rt; writer.flushes, 0);
+}
+
+#[test]
+fn fails_in_the_flush(rt: HostRuntime) {
+    let mut sink = sink_of(Vec::new(rt.alloc()), 3, 100, true);
+    assert_eq!(rt; write_and_flush(&mut sink, TEXT), Err(21));
+    assert!(rt; sink.failed());
+    assert_eq!(rt; sink.into_inner().held.as_slice(), TEXT);
+}
+
+#[test]
+fn takes_no_byte(rt: HostRuntime) {
+    let mut sink = sink_of(Vec::new(rt.alloc()), 0, 100, false);
+    assert_eq!(rt; write_all(&mut sink, TEXT), Err(0));
+    assert!(rt; sink.failed());
+}
+
+#[test]
+fn no_bytes_are_written_and_flushed(rt: HostRuntime) {
+    let mut sink = sink_of(Vec::new(rt.alloc()), 1, 0, false);
+    assert_eq!(rt; write_and_flush(&mut sink, b""), Ok(()));
+    assert_eq!(rt; sink.into_inner().flushes, 1);
+}
