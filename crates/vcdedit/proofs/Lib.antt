@@ -17,6 +17,7 @@ pub mod Steps
 pub mod Histories
 pub mod Renames
 pub mod Lines
+pub mod TextLines
 pub mod Appended
 pub mod ShortForms
 pub mod Codes

@@ -5,7 +5,7 @@ ghost use Rattle.vcdedit.specs.Text.{code_of};
 
 use vcd_core::NoMemory;
 
-/// The first byte of the 94 that codes are made of, and how many they are (IEEE 1364-2005, 18.2.3.8).
+/// The first byte of the 94 that codes are made of, and how many they are (IEEE 1364-2005, 18.2).
 const FIRST: u8 = b'!';
 
 const COUNT: usize = 94;

@@ -1,4 +1,4 @@
-//! The declarations of a capture: header, timescale, scopes and variables (IEEE 1364-2005, 18.2.3).
+//! The declarations of a capture: header, timescale, scopes and variables (IEEE 1364-2005, 18.2).
 
 ghost use Rattle.std.specs.Prelude.{◌≡◌, ◌<◌, ◌≤◌, ◌^◌, ◌++◌, ◌∷◌, [], length, map, replicate, codes, OnOk};
 ghost use Rattle.std.specs.List.{common_prefix_len, flat_map};

@@ -2,7 +2,7 @@
 use Rattle.std.proofs.Common.{◌++◌, ap, ◌∙◌}
 use Rattle.vcdedit.specs.Items.{header_word}
 use Rattle.vcdedit.specs.Spaced.{spaced}
-use Rattle.vcdedit.proofs.Lines.{whole_line}
+use Rattle.vcdedit.proofs.TextLines.{whole_line}
 use Rattle.vcdedit.proofs.writing.declarations.append_entry.Goals as goal
 
 pub returns : goal.returns

@@ -1,7 +1,7 @@
 -- The keyword, the words and the end are the line.
 use Rattle.std.proofs.Common.{[], ◌∷◌, ◌++◌, ap, ◌∙◌, codes}
 use Rattle.vcdedit.specs.Spaced.{spaced}
-use Rattle.vcdedit.proofs.Lines.{whole_line, more_words}
+use Rattle.vcdedit.proofs.TextLines.{whole_line, more_words}
 use Rattle.vcdedit.proofs.writing.declarations.append_scope.Goals as goal
 
 pub returns : goal.returns

@@ -6,7 +6,7 @@ use Rattle.std.proofs.lemmas.List.{append-nil}
 use Rattle.vcdedit.specs.Items.{unit_text}
 use Rattle.vcdedit.specs.Text.{line_of, timescale_items}
 use Rattle.vcdedit.specs.Spaced.{spaced}
-use Rattle.vcdedit.proofs.Lines.{whole_line, more_words}
+use Rattle.vcdedit.proofs.TextLines.{whole_line, more_words}
 use Rattle.vcdedit.proofs.writing.declarations.append_timescale.Goals as goal
 
 pub returns-in_ok-append_end : goal.returns-in_ok-append_end

@@ -3,7 +3,7 @@ use Rattle.std.proofs.Common.{[], ◌∷◌, ◌++◌, ap, ◌∙◌, codes}
 use Rattle.std.specs.Prelude.{decimal}
 use Rattle.vcdedit.specs.Text.{code_of}
 use Rattle.vcdedit.specs.Spaced.{spaced}
-use Rattle.vcdedit.proofs.Lines.{whole_line, more_words}
+use Rattle.vcdedit.proofs.TextLines.{whole_line, more_words}
 use Rattle.vcdedit.proofs.writing.declarations.append_variable.Goals as goal
 
 pub returns : goal.returns
