@@ -1,5 +1,8 @@
 pub mod NameWalks
 pub mod Lookups
+pub mod EdgeLines
+pub mod EdgeLists
+pub mod EdgeSteps
 pub mod PlaneBits
 pub mod ValueLemmas
 pub mod Waves

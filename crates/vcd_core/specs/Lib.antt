@@ -13,3 +13,5 @@ pub mod Laws
 pub mod Names
 pub mod NameParts
 pub mod Device
+pub mod Edges
+pub mod EdgeWalk

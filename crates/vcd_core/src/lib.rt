@@ -9,6 +9,7 @@ pub mod bit;
 pub mod capture;
 mod change_list;
 pub mod device;
+pub mod edges;
 pub mod laws;
 pub mod memory;
 mod names;
@@ -25,6 +26,7 @@ pub use capture::{
     Timescale, Word,
 };
 pub use device::{DeviceFault, FromRead, Sink, Source, ToWrite};
+pub use edges::{Edge, Edges};
 pub use memory::NoMemory;
 pub use seq::Seq;
 pub use value::{Value, WIDTH_LIMIT};

@@ -9,6 +9,9 @@ ghost use Rattle.vcd_core.specs.NameParts.{IsRestAfter, scope_front, scopes_fron
 
 use crate::capture::{Capture, ScopeName, Signal, Word};
 
+#[cfg(test)]
+mod tests;
+
 impl Capture {
     /// Whether the signal at position `k` has this full name: the names of its scopes and its own, joined by `.`.
     pub fn name_is(&self, k: usize, name: &[u8]) -> bool

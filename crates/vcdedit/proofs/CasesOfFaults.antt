@@ -3,9 +3,11 @@ use Rattle.std.proofs.Common.{refl, arith}
 use Rattle.std.specs.Prelude.{ℕ, List, ◌++◌, [], ◌∷◌, take, drop, codes}
 use Rattle.std.specs.Fmt.{digits}
 use Rattle.vcdedit.specs.declared.fault.Fault.TheVariants.{Truncated, UnexpectedWord, BadChange, BadTimescale, BadScope, UpscopeAtTop, BadVar, MixedCode, BadTime, TimeBackwards, UnknownCode, ValueTooLong}
-use Rattle.vcdedit.specs.Words.{word, words_from, words_of}
+use Rattle.vcdedit.specs.Words.{word, words_from, words_of, closed_words}
+use Rattle.vcdedit.specs.Grammar.{nothing_told, after}
+use Rattle.vcdedit.proofs.OneAnswer.{accepted-not_refused}
 use Rattle.vcdedit.specs.Items.{Item, scope, upscope, variable, end_definitions, stamp, vector, bracket}
-use Rattle.vcdedit.specs.Faults.{FileFault, FrontFault, shown, too_early, declaration_due, code_due, among_declarations, among_changes, upscope_at_top, no_timescale, no_kind, no_variable, no_size, code_mixed, no_declaration, definitions_go_on, declaration_late, letter_alone, no_value, no_change, no_tick, tick_goes_back, letter_of_none, pair_of_none, value_too_long}
+use Rattle.vcdedit.specs.Faults.{FileFault, FrontFault, HasNoFrontFault, shown, too_early, declaration_due, code_due, among_declarations, among_changes, upscope_at_top, no_timescale, no_kind, no_variable, no_size, code_mixed, no_declaration, definitions_go_on, declaration_late, letter_alone, no_value, no_change, no_tick, tick_goes_back, letter_of_none, pair_of_none, value_too_long}
 
 -- one variable, and the end of the declarations
 abbrev one_variable : List Item
@@ -326,3 +328,15 @@ no_change_at_all = shown (record {
   decided = among_changes refl (no_change 113 (codes "!") refl refl refl refl refl);
   at = refl;
 })
+
+-- the file without its last line shows no fault: where the reader fails there, its fault is told
+front_without_fault : HasNoFrontFault (codes "$var wire 1 ! a $end\n$enddefinitions $end\n#10\n")
+unfolding words_from
+front_without_fault line fault =
+    accepted-not_refused (closed_words (codes "$var wire 1 ! a $end\n$enddefinitions $end\n#10\n")) (after nothing_told (one_variable ++ stamp (codes "10") ∷ [])) line fault (record {
+      items = one_variable ++ stamp (codes "10") ∷ [];
+      spelled = refl;
+      allowed = search arith;
+      tells = refl;
+      declared = refl;
+    })

@@ -1,3 +1,5 @@
+pub mod FrontItem
+pub mod OneAnswer
 pub mod ReaderEnd
 pub mod ReaderVariables
 pub mod ReaderSteps
@@ -18,3 +20,14 @@ pub mod Lines
 pub mod ScriptLines
 pub mod Answered
 pub mod LinesLeft
+pub mod TextLines
+pub mod Appended
+pub mod ShortForms
+pub mod Codes
+pub mod Values
+pub mod Scopes
+pub mod Walks
+pub mod Sorting
+pub mod Counts
+pub mod Listing
+pub mod Texts

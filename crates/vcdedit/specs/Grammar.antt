@@ -135,7 +135,7 @@ abbrev pub recorded : Context → List ℕ → List Bit → Option Declaration �
 recorded c code letters None = []
 recorded c code letters (Some d) = if is_skipped d then [] else record { tick = c.tick; code = code; letters = letters } ∷ []
 
--- what has been told, and this record
+-- what has been told, with this record behind the others
 abbrev pub with_record : Context → List ℕ → List Bit → Context
 with_record c code letters = record c { records = c.records ++ recorded c code letters (variable_of c code) }
 

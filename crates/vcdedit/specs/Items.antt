@@ -23,7 +23,7 @@ has_no_end words = list_all (λ word. not (is_end word)) words
 abbrev pub is_one_of : List (List ℕ) → List ℕ → Bool
 is_one_of words word = list_any (bytes_eq word) words
 
--- the words of the changes alone: the brackets of a dump
+-- the words of the changes alone: the brackets of a dump, `$end` being the closing one
 abbrev pub dump_words : List (List ℕ)
 dump_words = codes "$dumpall" ∷ codes "$dumpoff" ∷ codes "$dumpon" ∷ codes "$dumpvars" ∷ end_word ∷ []
 

@@ -20,6 +20,7 @@ pub mod Report
 pub mod RunFaults
 pub mod NameCursor
 pub mod History
+pub mod FileLaws
 pub mod Spaces
 pub mod WordsLeft
 pub mod TimescaleText
@@ -30,3 +31,7 @@ pub mod ScriptParts
 pub mod Commands
 pub mod Answering
 pub mod RunLines
+pub mod NameCursor
+pub mod History
+pub mod Spaced
+pub mod Moves

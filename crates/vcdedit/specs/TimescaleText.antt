@@ -2,7 +2,7 @@ use Rattle.std.specs.Prelude.{◌≡◌, ◌⊎◌, ℕ, ◌++◌, List, decimal
 use Rattle.vcd_core.specs.declared.capture.Timescale.{Timescale}
 use Rattle.vcdedit.specs.Items.{unit_text}
 
--- how many of a unit a tick may be (IEEE 1364-2005, 18.2.3.7)
+-- how many of a unit a tick may be (IEEE 1364-2005, 18.2)
 abbrev pub IsCount : ℕ → Type 0
 IsCount n = (n ≡ 1) ⊎ ((n ≡ 10) ⊎ (n ≡ 100))
 

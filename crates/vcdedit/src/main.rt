@@ -9,6 +9,7 @@ pub mod command;
 pub mod edit;
 pub mod edit_error;
 pub mod fault;
+pub mod file_laws;
 pub mod late_file;
 pub mod laws;
 mod line;
@@ -31,6 +32,7 @@ pub mod step;
 #[cfg(test)]
 mod tests;
 pub mod whole;
+pub mod writing;
 
 use program::status_of_program;
 use std::process::ExitCode;

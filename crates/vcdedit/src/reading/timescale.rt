@@ -1,4 +1,4 @@
-//! Timescales (IEEE 1364-2005, 18.2.3.7).
+//! Timescales (IEEE 1364-2005, 18.2).
 
 ghost use Rattle.std.specs.Prelude.{◌≡◌, ◌++◌, Some, IfSome, IfOk, decimal};
 ghost use Rattle.std.specs.List.{concat};

@@ -1,0 +1,164 @@
+ghost use Rattle.std.specs.Prelude.{◌≡◌, ℕ, [], ◌∷◌, map};
+ghost use Rattle.std.specs.Option.{option_copied};
+ghost use Rattle.vcd_core.specs.EdgeWalk.{earlier, next_of, line_on};
+
+use crate::bit::Bit;
+use crate::value::Value;
+use crate::wave::{Change, Wave};
+use std::marker::Model;
+
+#[cfg(test)]
+mod tests;
+
+/// A tick at which a wave changes, with the values of the waves just before it and at it.
+///
+/// An absent wave has none, and the value before tick 0 is all x.
+#[derive(Clone, Copy)]
+pub struct Edge {
+    pub tick: u64,
+    pub before: [Option<Value>; 4],
+    pub at: [Option<Value>; 4],
+}
+
+/// A wave from some tick on: its value just before, none where it is absent, and the changes from there on.
+#[derive(Clone, Copy)]
+struct Track<'a> {
+    value: Option<Value>,
+    rest: &'a [Change],
+}
+
+impl<'a> Track<'a> {
+    ghost use Rattle.vcd_core.specs.Edges.{line_of};
+    ghost use Rattle.vcd_core.specs.EdgeWalk.{line_on, line_after, next_tick, Rises};
+
+    /// A whole wave.
+    fn new(wave: Option<&'a Wave>) -> Track<'a>
+        ensures line { line_on result ≡ line_of (option_copied wave.entry) }
+        ensures rises { Rises 0 (line_on result) }
+    {
+        match wave {
+            Some(wave) => Track {
+                value: Some(Value::filled(wave.width(), Bit::X)),
+                rest: wave.changes(),
+            },
+            None => Track {
+                value: None,
+                rest: &[],
+            },
+        }
+    }
+
+    /// The tick of its next change.
+    fn next_tick(&self) -> Option<u64>
+        ensures { result ≡ next_tick self.now.rest.now }
+    {
+        match self.rest {
+            [change, ..] => Some(change.tick),
+            [] => None,
+        }
+    }
+
+    /// The wave past `tick`, where no change is before that tick.
+    fn after(&self, tick: u64) -> Track<'a>
+        ensures { line_on result ≡ line_after tick (line_on self.now) }
+    {
+        match self.rest {
+            [change, rest @ ..] if change.tick == tick => Track {
+                value: Some(change.value),
+                rest,
+            },
+            rest => Track {
+                value: self.value,
+                rest,
+            },
+        }
+    }
+}
+
+/// The ticks at which one of up to four waves changes, rising, each with the values just before it and at it.
+///
+/// Contracts see the list of the edges to come. Each takes a constant number of steps and no memory.
+#[derive(Drop)]
+pub struct Edges<'a> {
+    a: Track<'a>,
+    b: Track<'a>,
+    c: Track<'a>,
+    d: Track<'a>,
+}
+
+impl<'a> Model for Edges<'a> {
+    ghost use Rattle.std.specs.Prelude.{List};
+    ghost use Rattle.vcd_core.specs.declared.edges.Edge.{Edge};
+
+    ghost Value = { List Edge };
+
+    ghost use Rattle.vcd_core.specs.EdgeWalk.{edges_left, IsWalk};
+
+    ghost view = { edges_left };
+
+    ghost invariant = { IsWalk };
+}
+
+impl<'a> Edges<'a> {
+    ghost use Rattle.vcd_core.specs.Edges.{edges_of, EachUpTo};
+
+    /// The edges of the waves that are given.
+    pub fn new(
+        a: Option<&'a Wave>,
+        b: Option<&'a Wave>,
+        c: Option<&'a Wave>,
+        d: Option<&'a Wave>,
+    ) -> Edges<'a>
+        ensures edges { (end : ℕ)
+            → EachUpTo end (option_copied a.entry ∷ option_copied b.entry ∷ option_copied c.entry ∷ option_copied d.entry ∷ [])
+            → result ≡ edges_of (option_copied a.entry ∷ option_copied b.entry ∷ option_copied c.entry ∷ option_copied d.entry ∷ []) end }
+    {
+        Edges {
+            a: Track::new(a),
+            b: Track::new(b),
+            c: Track::new(c),
+            d: Track::new(d),
+        }
+    }
+}
+
+impl<'a> Iterator for Edges<'a> {
+    ghost use Rattle.std.specs.Iterator.{YieldsFirst, item_count};
+
+    type Item = Edge;
+
+    ghost next_gives = { YieldsFirst (λ left. left) };
+
+    ghost remaining = { item_count (λ left. left) };
+
+    fn next(&mut self) -> Option<Edge> {
+        let tick = next_of(&self.a, &self.b, &self.c, &self.d)?;
+        let before = [self.a.value, self.b.value, self.c.value, self.d.value];
+        self.a = self.a.after(tick);
+        self.b = self.b.after(tick);
+        self.c = self.c.after(tick);
+        self.d = self.d.after(tick);
+        let at = [self.a.value, self.b.value, self.c.value, self.d.value];
+        Some(Edge { tick, before, at })
+    }
+}
+
+/// The tick of the next change of the waves.
+fn next_of(a: &Track, b: &Track, c: &Track, d: &Track) -> Option<u64>
+    ensures { result ≡ next_of (line_on a.now ∷ line_on b.now ∷ line_on c.now ∷ line_on d.now ∷ []) }
+{
+    let last = earlier(d.next_tick(), None);
+    let later = earlier(c.next_tick(), last);
+    earlier(a.next_tick(), earlier(b.next_tick(), later))
+}
+
+/// The lesser of two ticks that may be absent.
+fn earlier(left: Option<u64>, right: Option<u64>) -> Option<u64>
+    ensures { result ≡ earlier left right }
+{
+    match (left, right) {
+        (Some(left), Some(right)) => Some(left.min(right)),
+        (Some(left), None) => Some(left),
+        (None, right) => right,
+    }
+}
