@@ -31,7 +31,5 @@ pub mod ScriptParts
 pub mod Commands
 pub mod Answering
 pub mod RunLines
-pub mod NameCursor
-pub mod History
 pub mod Spaced
 pub mod Moves
