@@ -36,3 +36,6 @@ pub fn text_of(alloc: Global, capture: &Capture) -> Result<Vec<u8>, NoMemory>
     append_moves(&mut out, signals, moves.as_slice(), capture.end())?;
     Ok(out)
 }
+
+#[cfg(test)]
+mod tests;
