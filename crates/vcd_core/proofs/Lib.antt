@@ -7,3 +7,4 @@ pub mod PlaneBits
 pub mod ValueLemmas
 pub mod Waves
 pub mod Pushes
+pub mod Splices

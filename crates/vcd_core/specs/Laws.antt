@@ -1,7 +1,8 @@
-use Rattle.std.specs.Prelude.{ℕ, ◌≡◌, ◌≤◌, List, length}
+use Rattle.std.specs.Prelude.{ℕ, ◌+◌, ◌≡◌, ◌≤◌, ℤ, pos, ◌+ℤ◌, List, length, drop, slice_range}
 use Rattle.vcd_core.specs.declared.bit.Bit.{Bit}
 use Rattle.vcd_core.specs.declared.wave.Change.{Change}
 use Rattle.vcd_core.specs.Wave.{value_at, changes_of, IsWave, AllUpTo}
+use Rattle.vcd_core.specs.Splice.{TicksFit, spliced}
 
 -- two waves of one width with the same value at each tick have the same changes
 abbrev pub SameValuesSameChanges : Type 0
@@ -24,3 +25,11 @@ abbrev pub ChangesAreWave : Type 0
 ChangesAreWave =
     (width end : ℕ) (f : ℕ → List Bit) → ((t : ℕ) → length (f t) ≡ width)
     → IsWave width (changes_of width end f) × AllUpTo end (changes_of width end f)
+
+-- a splice, and then the splice of what it gave out, with the opposite offset: both lists are as they were
+abbrev pub SpliceAndBack : Type 0
+SpliceAndBack =
+    (changes piece : List Change) (from to : ℕ) (by back : ℤ) → from ≤ to → to ≤ length changes
+    → TicksFit by (drop to changes) → by +ℤ back ≡ pos 0
+    → (spliced (spliced changes from to piece by) from (from + length piece) (slice_range changes from to) back ≡ changes)
+    × (slice_range (spliced changes from to piece by) from (from + length piece) ≡ piece)

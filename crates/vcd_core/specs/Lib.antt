@@ -6,6 +6,7 @@ pub mod WaveView
 pub mod Value
 pub mod Wave
 pub mod Pushed
+pub mod Splice
 pub mod Contents
 pub mod Word
 pub mod Sound

@@ -1,6 +1,6 @@
 //! Laws about the definitions, as contracts of functions that do nothing.
 
-ghost use Rattle.vcd_core.specs.Laws.{SameValuesSameChanges, ChangesOfOwnValues, ValuesOfChanges, ChangesAreWave};
+ghost use Rattle.vcd_core.specs.Laws.{SameValuesSameChanges, ChangesOfOwnValues, ValuesOfChanges, ChangesAreWave, SpliceAndBack};
 
 /// Two waves of one width whose changes have ticks at most `end`, with the same value at each tick 0 to
 /// `end`, have equal lists of changes. So equality tick by tick is equality of every change.
@@ -21,4 +21,10 @@ pub fn values_of_changes()
 /// The changes of a function of the tick are a wave with no change past the end.
 pub fn changes_are_wave()
     ensures { ChangesAreWave }
+{}
+
+/// A splice, and then the splice of what it gave out, with the opposite offset, leave the list and the
+/// piece as they were.
+pub fn splice_and_back()
+    ensures { SpliceAndBack }
 {}

@@ -16,6 +16,7 @@ mod names;
 mod planes;
 pub mod seq;
 mod soundness;
+mod splicing;
 pub mod value;
 pub mod wave;
 pub mod word;

@@ -1,8 +1,10 @@
-ghost use Rattle.std.specs.Prelude.{◌≡◌, ℕ, ◌+◌, ◌<◌, ◌≤◌, if◌then◌else◌, nat_lt, nat_le, [], length, count_by, take_while, IsOk, IfOk, OnOk, OnErr, All, Any};
+ghost use Rattle.std.specs.Prelude.{◌≡◌, ℕ, ◌+◌, ◌-◌, ◌<◌, ◌≤◌, if◌then◌else◌, nat_lt, nat_le, [], length, drop, slice_range, count_by, take_while, IsOk, IfOk, OnOk, OnErr, All, Any, vec_len, vec_capacity};
 ghost use Rattle.vcd_core.specs.Wave.{value_at, IsWave};
+ghost use Rattle.vcd_core.specs.Splice.{TicksFit, spliced};
 
 use crate::change_list::{push_change, value_at_end};
 use crate::memory::NoMemory;
+use crate::splicing::splice_changes;
 use crate::value::{Value, WIDTH_LIMIT};
 use std::alloc::Global;
 use std::marker::Model;
@@ -115,5 +117,42 @@ impl Wave {
     {
         push_change(&mut self.changes, self.width, tick, value)?;
         Ok(())
+    }
+
+    /// Makes room for `more` changes. The wave stays as it is, also where the memory is refused.
+    ///
+    /// It takes no memory where that room is there already.
+    pub fn reserve(&mut self, more: usize) -> Result<(), NoMemory>
+        ensures width { self.new.width ≡ self.old.width }
+        ensures changes { self.new.changes ≡ self.old.changes }
+        ensures room { OnOk result (more ≤ self.new.room) }
+        ensures in_place { more ≤ self.old.room → IsOk result }
+        ensures never_less { self.old.room ≤ self.new.room }
+    {
+        self.changes.reserve(more)?;
+        Ok(())
+    }
+    /// The changes at positions `from` up to before `to` and the contents of `piece` change places, and
+    /// the later changes move by `by` ticks.
+    ///
+    /// It takes no memory, so each list has the room for what the other gives. Each change is moved a
+    /// bounded number of times: the cost is the piece and the changes from `from` on.
+    pub fn splice(&mut self, from: usize, to: usize, piece: &mut Vec<Change>, by: i64)
+        requires ordered { from ≤ to }
+        requires within { to ≤ length self.old.changes }
+        requires fits { vec_len piece.old ≤ self.old.room + (to - from) }
+        requires piece_fits { to - from ≤ vec_capacity piece.old }
+        requires ticks { TicksFit by (drop to self.old.changes) }
+        requires form { IsWave self.old.width (spliced self.old.changes from to piece.old.items by) }
+
+        ensures width { self.new.width ≡ self.old.width }
+        ensures changes { self.new.changes ≡ spliced self.old.changes from to piece.old.items by }
+        ensures piece { piece.new.items ≡ slice_range self.old.changes from to }
+
+        // No room is lost, on either side.
+        ensures room { length self.old.changes + self.old.room ≤ length self.new.changes + self.new.room }
+        ensures piece_room { vec_capacity piece.old ≤ vec_capacity piece.new }
+    {
+        splice_changes(&mut self.changes, from, to, piece, by);
     }
 }

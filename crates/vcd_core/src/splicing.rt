@@ -1,0 +1,153 @@
+//! How a piece and a part of a list of changes change places, in place.
+
+ghost use Rattle.std.specs.Prelude.{◌≡◌, ◌≤◌, ◌+◌, ◌-◌, ◌++◌, length, take, drop, map, slice_range, vec_len, vec_capacity};
+ghost use Rattle.vcd_core.specs.Splice.{moved, TickFits, TicksFit, spliced};
+
+use crate::wave::Change;
+
+/// The changes of `list` from `at` on change places with those of `other`, one for one.
+fn swap_part(list: &mut [Change], at: usize, other: &mut [Change])
+    requires { at + length other.old ≤ length list.old }
+    ensures list { list.new ≡ take at list.old ++ other.old ++ drop (at + length other.old) list.old }
+    ensures other { other.new ≡ take (length other.old) (drop at list.old) }
+{
+    let (_, rest) = list.split_at_mut(at);
+    let (part, _) = rest.split_at_mut(other.len());
+    part.swap_with_slice(other);
+}
+
+/// The `count` changes from `at` on go to the end of the list, and the later ones come down.
+fn rotate_tail(list: &mut [Change], at: usize, count: usize)
+    requires { at + count ≤ length list.old }
+    ensures { list.new ≡ take at list.old ++ drop (at + count) list.old ++ take count (drop at list.old) }
+{
+    let (_, tail) = list.split_at_mut(at);
+    tail.rotate_left(count);
+}
+
+/// The change `by` ticks later.
+fn later(change: Change, by: i64) -> Change
+    requires { TickFits by change }
+    ensures { result ≡ moved by change }
+{
+    let tick = change.tick.checked_add_signed(by).unwrap();
+    Change {
+        tick,
+        value: change.value,
+    }
+}
+
+/// Moves every change by `by` ticks.
+fn move_ticks(changes: &mut [Change], by: i64)
+    requires { TicksFit by changes.old }
+    ensures { changes.new ≡ map (moved by) changes.old }
+{
+    for change in changes.iter_mut() {
+        let next = later(*change, by);
+        *change = next;
+    }
+}
+
+/// Moves the changes from `at` on by `by` ticks.
+fn move_tail(changes: &mut [Change], at: usize, by: i64)
+    requires within { at ≤ length changes.old }
+    requires fit { TicksFit by (drop at changes.old) }
+    ensures { changes.new ≡ take at changes.old ++ map (moved by) (drop at changes.old) }
+{
+    let (_, tail) = changes.split_at_mut(at);
+    move_ticks(tail, by);
+}
+
+/// The first `count` changes of the piece change places with as many of the list from `at` on.
+fn swap_fronts(changes: &mut Vec<Change>, at: usize, piece: &mut Vec<Change>, count: usize)
+    requires within { at + count ≤ vec_len changes.old }
+    requires front { count ≤ vec_len piece.old }
+    ensures changes { changes.new.items ≡ take at changes.old.items ++ take count piece.old.items ++ drop (at + count) changes.old.items }
+    ensures piece { piece.new.items ≡ take count (drop at changes.old.items) ++ drop count piece.old.items }
+    ensures len { vec_len changes.new ≡ vec_len changes.old }
+    ensures capacity { vec_capacity changes.new ≡ vec_capacity changes.old }
+    ensures piece_len { vec_len piece.new ≡ vec_len piece.old }
+    ensures piece_capacity { vec_capacity piece.new ≡ vec_capacity piece.old }
+{
+    let (front, _) = piece.as_mut_slice().split_at_mut(count);
+    swap_part(changes.as_mut_slice(), at, front);
+}
+
+/// The changes of the piece from `kept` on go into the list at `at`, where there is room for them.
+fn take_in(changes: &mut Vec<Change>, at: usize, piece: &mut Vec<Change>, kept: usize)
+    requires within { at ≤ vec_len changes.old }
+    requires front { kept ≤ vec_len piece.old }
+    requires room { vec_len changes.old + (vec_len piece.old - kept) ≤ vec_capacity changes.old }
+    ensures changes { changes.new.items ≡ take at changes.old.items ++ drop kept piece.old.items ++ drop at changes.old.items }
+    ensures piece { piece.new.items ≡ take kept piece.old.items }
+    ensures capacity { vec_capacity changes.old ≤ vec_capacity changes.new }
+    ensures piece_capacity { vec_capacity piece.new ≡ vec_capacity piece.old }
+{
+    let len = changes.len();
+    changes.extend_from_slice(&piece[kept..]).unwrap();
+    piece.truncate(kept);
+    rotate_tail(changes.as_mut_slice(), at, len - at);
+}
+
+/// The changes at positions `at` up to before `to` go to the end of the piece, where there is room for them.
+fn hand_out(changes: &mut Vec<Change>, at: usize, to: usize, piece: &mut Vec<Change>)
+    requires ordered { at ≤ to }
+    requires within { to ≤ vec_len changes.old }
+    requires room { vec_len piece.old + (to - at) ≤ vec_capacity piece.old }
+    ensures changes { changes.new.items ≡ take at changes.old.items ++ drop to changes.old.items }
+    ensures piece { piece.new.items ≡ piece.old.items ++ take (to - at) (drop at changes.old.items) }
+    ensures capacity { vec_capacity changes.new ≡ vec_capacity changes.old }
+    ensures piece_capacity { vec_capacity piece.old ≤ vec_capacity piece.new }
+{
+    let kept = changes.len() - (to - at);
+    piece.extend_from_slice(&changes[at..to]).unwrap();
+    rotate_tail(changes.as_mut_slice(), at, to - at);
+    changes.truncate(kept);
+}
+
+/// The changes at positions `from` up to before `to` change places with the contents of the piece.
+///
+/// What both have in common is exchanged in place; then the rest of the longer one moves.
+fn exchange(changes: &mut Vec<Change>, from: usize, to: usize, piece: &mut Vec<Change>)
+    requires ordered { from ≤ to }
+    requires within { to ≤ vec_len changes.old }
+    requires room { vec_len changes.old + vec_len piece.old ≤ vec_capacity changes.old + (to - from) }
+    requires piece_room { to - from ≤ vec_capacity piece.old }
+    ensures changes { changes.new.items ≡ take from changes.old.items ++ piece.old.items ++ drop to changes.old.items }
+    ensures piece { piece.new.items ≡ slice_range changes.old.items from to }
+    ensures capacity { vec_capacity changes.old ≤ vec_capacity changes.new }
+    ensures piece_capacity { vec_capacity piece.old ≤ vec_capacity piece.new }
+{
+    let part = to - from;
+    let come = piece.len();
+    if part <= come {
+        swap_fronts(changes, from, piece, part);
+        take_in(changes, to, piece, part);
+    } else {
+        swap_fronts(changes, from, piece, come);
+        hand_out(changes, from + come, to, piece);
+    }
+}
+
+/// A splice of two lists, with the room for both.
+pub(crate) fn splice_changes(
+    changes: &mut Vec<Change>,
+    from: usize,
+    to: usize,
+    piece: &mut Vec<Change>,
+    by: i64,
+)
+    requires ordered { from ≤ to }
+    requires within { to ≤ vec_len changes.old }
+    requires room { vec_len changes.old + vec_len piece.old ≤ vec_capacity changes.old + (to - from) }
+    requires piece_room { to - from ≤ vec_capacity piece.old }
+    requires fit { TicksFit by (drop to changes.old.items) }
+    ensures changes { changes.new.items ≡ spliced changes.old.items from to piece.old.items by }
+    ensures piece { piece.new.items ≡ slice_range changes.old.items from to }
+    ensures capacity { vec_capacity changes.old ≤ vec_capacity changes.new }
+    ensures piece_capacity { vec_capacity piece.old ≤ vec_capacity piece.new }
+{
+    let seam = from + piece.len();
+    exchange(changes, from, to, piece);
+    move_tail(changes.as_mut_slice(), seam, by);
+}
