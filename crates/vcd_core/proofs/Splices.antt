@@ -1,5 +1,5 @@
 -- Lists after a part of one and a piece changed places, and the splice that undoes a splice.
-use Rattle.std.proofs.Common.{◌≡◌, ℕ, ◌+◌, ◌-◌, ◌<◌, ◌≤◌, ℤ, pos, ◌+ℤ◌, unsigned_abs, List, [], ◌∷◌, ◌++◌, length, take, drop, map, set, get_or, All, slice_range, Option, Some, None, SomeIff, is_some, true, subst, refl, sym, ap, ◌∙◌, arith}
+use Rattle.std.proofs.Common.{◌≡◌, ℕ, ◌+◌, ◌-◌, ◌<◌, ◌≤◌, ℤ, pos, ◌+ℤ◌, unsigned_abs, List, [], ◌∷◌, ◌++◌, length, take, drop, map, set, get_or, slice_range, Option, Some, None, SomeIff, is_some, true, subst, refl, sym, ap, ◌∙◌, arith}
 use Rattle.std.specs.Int.{w64, FitsUnsigned}
 use Rattle.std.proofs.Math.Seq.{take-add, take-append_seam}
 use Rattle.std.proofs.lemmas.List.{append_assoc, append-nil, length-append, length-take-le, take_all, drop_all, take-append-le, drop-append-le, take-append-drop, drop-drop, length-map, get_or-drop, get_or-append_right}

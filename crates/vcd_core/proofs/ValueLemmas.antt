@@ -1,8 +1,7 @@
 -- The letters that two planes show.
-use Rattle.std.proofs.Common.{◌≡◌, ◌≢◌, ℕ, ◌+◌, ◌-◌, ◌*◌, ◌/◌, ◌<◌, ◌≤◌, Bool, true, false, if◌then◌else◌, List, length, replicate, get_or, refl, sym, ap, ◌∙◌, arith, inl, inr}
+use Rattle.std.proofs.Common.{◌≡◌, ◌≢◌, ℕ, ◌-◌, ◌/◌, ◌<◌, List, length, replicate, get_or, refl, sym, ap, ◌∙◌, arith}
 use Rattle.std.proofs.Math.ListN.{set}
 use Rattle.std.proofs.lemmas.List.{ext_get_or, get_or-set_same, get_or-set_other, get_or-replicate, length-replicate, length-set}
-use Rattle.std.proofs.lemmas.Bool.{cases_eq}
 use Rattle.vcd_core.specs.declared.bit.Bit.{Bit}
 use Rattle.vcd_core.specs.declared.bit.Bit.TheVariants.{Zero, One, X, Z}
 use Rattle.vcd_core.specs.Value.{letter_at}

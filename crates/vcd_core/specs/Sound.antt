@@ -1,4 +1,4 @@
-use Rattle.std.specs.Prelude.{ℕ, Bool, not, ◌&&◌, ◌||◌, ◌==◌, nat_lt, nat_le, ◌<◌, ◌≤◌, ◌^◌, List, length, All, Option, IfSome, IsTrue}
+use Rattle.std.specs.Prelude.{ℕ, Bool, not, ◌&&◌, ◌||◌, ◌==◌, ◌<◌, ◌≤◌, length, All, IfSome, IsTrue}
 use Rattle.std.specs.List.{list_all}
 use Rattle.vcd_core.specs.declared.capture.Header.{Header}
 use Rattle.vcd_core.specs.declared.capture.Timescale.{Timescale}

@@ -1,4 +1,4 @@
-use Rattle.std.specs.Prelude.{ℕ, Bool, ◌-◌, true, false, List, [], ◌∷◌, ◌&&◌, length, replicate, slice_index_or, nat_eq, codes}
+use Rattle.std.specs.Prelude.{ℕ, Bool, ◌-◌, List, length, replicate, slice_index_or, nat_eq, codes}
 use Rattle.std.specs.Cmp.Lexicographic.{pointwise}
 use Rattle.vcd_core.specs.declared.bit.Bit.{Bit}
 use Rattle.vcd_core.specs.declared.bit.Bit.TheVariants.{Zero, One, X, Z}

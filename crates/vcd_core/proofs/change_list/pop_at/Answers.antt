@@ -1,4 +1,4 @@
-use Rattle.std.proofs.Common.{◌∙◌, sym, ap, arith, ◌<◌, ◌-◌, vec_len}
+use Rattle.std.proofs.Common.{◌∙◌, sym, arith, ◌-◌}
 use Rattle.vcd_core.proofs.Pushes.{taken_off, other_tick, none_before}
 use Rattle.vcd_core.proofs.change_list.pop_at.Goals as goal
 use Rattle.vcd_core.proofs.change_list.pop_at.Goals.{else-count-gt0-via-then-count-gt0+else-index-tick, else-count-gt0-via-else-count-gt0}

@@ -1,5 +1,4 @@
 use Rattle.std.proofs.Common.{◌∙◌, ◌≡◌, sym, ap, Bool, true, false, not, List, refl}
-use Rattle.std.proofs.lemmas.Bool.{not-true, not-false}
 use Rattle.vcd_core.specs.declared.bit.Bit.{Bit}
 use Rattle.vcd_core.specs.declared.wave.Change.{Change}
 use Rattle.vcd_core.specs.ValueLaws.{same_letters-Decides}

@@ -1,4 +1,4 @@
-use Rattle.std.proofs.Common.{◌∙◌, sym, ap, arith}
+use Rattle.std.proofs.Common.{◌∙◌}
 use Rattle.vcd_core.proofs.Pushes.{last_value-split, last_value-none}
 use Rattle.vcd_core.proofs.change_list.value_at_end.Goals as goal
 

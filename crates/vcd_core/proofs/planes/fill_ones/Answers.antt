@@ -1,4 +1,4 @@
-use Rattle.std.proofs.Common.{◌<◌, length, arith, rules}
+use Rattle.std.proofs.Common.{◌<◌, length, arith}
 use Rattle.vcd_core.proofs.PlaneBits.{bits_filled, bits_clear}
 use Rattle.vcd_core.proofs.planes.fill_ones.Goals as goal
 

@@ -1,4 +1,4 @@
-use Rattle.std.proofs.Common.{◌∙◌, ◌<◌, ◌%◌, ap, sym, arith, if◌then◌else◌, refl}
+use Rattle.std.proofs.Common.{◌∙◌, ◌%◌, arith, refl}
 use Rattle.std.proofs.lemmas.Nat.Bits.{bit_at_set_same, bit_at_set_other, bit_at_clear_same, bit_at_clear_other}
 use Rattle.std.specs.Int.{w64}
 use Rattle.vcd_core.proofs.PlaneBits.{plane_bit-set_same, plane_bit-write}

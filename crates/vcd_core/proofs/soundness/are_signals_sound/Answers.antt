@@ -1,4 +1,4 @@
-use Rattle.std.proofs.Common.{rules, ◌↔◌, ◌<◌, ℕ, IsTrue, All, List, length, map, get_or, subst, arith}
+use Rattle.std.proofs.Common.{rules, ◌↔◌, IsTrue, All, List, map, subst, arith}
 use Rattle.std.proofs.lemmas.List.{length-map}
 use Rattle.std.proofs.lemmas.List.Elements.{All-map}
 use Rattle.std.proofs.Math.ListN.{get_or-map}

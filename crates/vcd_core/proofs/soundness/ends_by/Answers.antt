@@ -1,4 +1,3 @@
-use Rattle.std.proofs.Common.{arith}
 use Rattle.std.proofs.lemmas.Bool.{leb-true, le-leb}
 use Rattle.vcd_core.proofs.Pushes.{upto_from_last, last_upto}
 use Rattle.vcd_core.proofs.soundness.ends_by.Goals as goal

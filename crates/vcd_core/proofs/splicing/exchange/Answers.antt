@@ -1,4 +1,4 @@
-use Rattle.std.proofs.Common.{◌≡◌, ◌+◌, ◌-◌, ◌++◌, take, drop, ap, ◌∙◌, arith}
+use Rattle.std.proofs.Common.{◌+◌, ◌-◌, ◌++◌, take, drop, ap, ◌∙◌, arith}
 use Rattle.vcd_core.proofs.Splices.{list_after_rest, piece_after_rest}
 use Rattle.vcd_core.proofs.splicing.exchange.Goals as goal
 

@@ -1,4 +1,4 @@
-use Rattle.std.proofs.Common.{w64, arith, ◌∙◌, ◌+◌, length}
+use Rattle.std.proofs.Common.{w64, arith, ◌∙◌, ◌+◌}
 use Rattle.std.proofs.lemmas.Int.{to_z-of_z}
 use Rattle.vcd_core.proofs.Splices.{tail_fits, spliced_is, whole_list, length_kept}
 use Rattle.vcd_core.proofs.splicing.splice_changes.Goals as goal

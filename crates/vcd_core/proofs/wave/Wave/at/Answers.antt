@@ -1,4 +1,4 @@
-use Rattle.std.proofs.Common.{◌∙◌, ◌≡◌, sym, ap, arith, rules, subst, take, length}
+use Rattle.std.proofs.Common.{◌∙◌, ◌≡◌, sym, ap, arith, rules, subst, take}
 use Rattle.std.proofs.Math.Dec.{leb}
 use Rattle.std.proofs.lemmas.List.Sorted.{IsPartitionPoint-from_clause, IsPartitionedBy-leb}
 use Rattle.std.proofs.lemmas.Bool.{leb-true, leb-false}

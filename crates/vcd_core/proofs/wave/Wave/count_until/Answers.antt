@@ -1,4 +1,4 @@
-use Rattle.std.proofs.Common.{◌∙◌, ◌≡◌, sym, ap, arith, rules, subst}
+use Rattle.std.proofs.Common.{◌∙◌, sym, ap, arith, rules, subst}
 use Rattle.std.specs.List.{count_by}
 use Rattle.std.proofs.Math.Dec.{ltb}
 use Rattle.std.proofs.lemmas.List.Sorted.{IsPartitionPoint-from_clause, IsPartitionedBy-ltb}
