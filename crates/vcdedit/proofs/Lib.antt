@@ -31,3 +31,4 @@ pub mod Sorting
 pub mod Counts
 pub mod Listing
 pub mod Texts
+pub mod RunParts

@@ -33,3 +33,4 @@ pub mod Answering
 pub mod RunLines
 pub mod Spaced
 pub mod Moves
+pub mod RunEnds

@@ -2,13 +2,25 @@
 
 ghost use Rattle.std.specs.Prelude.{◌≡◌, ◌<◌, ◌≤◌, ◌⊎◌, false, true, length, vec_len, OnOk, IfOk, IfErr, IfSome, IsErrOf};
 ghost use Rattle.std.specs.Option.{ForSome};
-ghost use Rattle.vcdedit.specs.RunFaults.{IsCaptureFault};
+ghost use Rattle.std.specs.Io.KnownBytes.{Appends};
+ghost use Rattle.vcd_core.specs.Contents.{contents};
+ghost use Rattle.vcd_core.specs.Sound.{IsSound};
+ghost use Rattle.vcdedit.specs.Meaning.{FileMeans};
+ghost use Rattle.vcdedit.specs.Text.{text};
+ghost use Rattle.vcdedit.specs.History.{unwritten};
+ghost use Rattle.vcdedit.specs.RunFaults.{IsCaptureFault, IsWriteFault, IsBeforeReplies, IsBeforeOutput};
+ghost use Rattle.vcdedit.specs.RunEnds.{ScriptRan, RanToEnd, OutTakes, OutKeeps};
 
-use crate::fault::{Fault, ReadError};
+use crate::fault::{Fault, ReadError, WriteError};
+use crate::output::write_and_flush;
+use crate::reading::{Loaded, capture_of};
 use crate::run_error::{RunError, Summary};
+use crate::run_lines::run_lines;
+use crate::session::Session;
 use crate::whole::{Incomplete, read_whole};
+use crate::writing::text_of;
 use std::alloc::Global;
-use vcd_core::{Sink, Source};
+use vcd_core::{Capture, Sink, Source};
 
 /// The most bytes that a capture may have: 4 GiB.
 pub const CAPTURE_LIMIT: usize = 4_294_967_296;
@@ -17,9 +29,9 @@ pub const CAPTURE_LIMIT: usize = 4_294_967_296;
 pub const SCRIPT_LIMIT: usize = 1_048_576;
 
 /// Reads the capture, then the whole script, runs its lines in order and flushes the replies, then writes
-/// the output where there is one. `depth` is how many steps can be undone.
+/// the output where there is one, also when lines were refused. `depth` is how many steps can be undone.
 ///
-/// For now it reads both inputs and writes nothing.
+/// The first error ends it, and nothing later is begun.
 pub fn run<R: Source, S: Source, P: Sink, W: Sink>(
     alloc: Global,
     capture_reader: &mut R,
@@ -34,15 +46,113 @@ pub fn run<R: Source, S: Source, P: Sink, W: Sink>(
     requires out_ready { ForSome out (λ w. W.has_failed w.now ≡ false) }
     requires depth_least { 1 ≤ depth }
     requires depth_most { depth ≤ 1000 }
+
+    ensures written { IfOk result (λ summary. RanToEnd (R.coming capture_reader.old) (S.coming script_reader.old) depth summary.refused
+        (Appends (P.taken replies.old) (P.taken replies.new)) (OutTakes W.taken out.entry out.exit)) }
     ensures capture_ended { OnOk result (R.has_failed capture_reader.new ≡ false) }
     ensures script_ended { OnOk result (S.has_failed script_reader.new ≡ false) }
+    ensures replies_sound { OnOk result (P.has_failed replies.new ≡ false) }
+
     ensures script_too_large { IsErrOf result RunError.ScriptTooLarge →
         IfSome (S.coming script_reader.old) (λ xs. SCRIPT_LIMIT < length xs) }
     ensures script_failed { IsErrOf result RunError.ScriptReadFault → S.has_failed script_reader.new ≡ true }
+    ensures no_reply { IfErr result (λ e. IsBeforeReplies e → P.taken replies.new ≡ P.taken replies.old) }
+    ensures no_output { IfErr result (λ e. IsBeforeOutput e → OutKeeps W.taken out.entry out.exit) }
 {
-    let _capture = read_capture(alloc, capture_reader)?;
-    let _script = read_script(alloc, script_reader)?;
-    Ok(Summary { refused: 0 })
+    let edited = run_script(alloc, capture_reader, script_reader, replies, depth)?;
+    let summary = Summary {
+        refused: edited.refused,
+    };
+    match out {
+        Some(out) => {
+            write_capture(alloc, edited.session.capture(), out)?;
+            Ok(summary)
+        }
+        None => Ok(summary),
+    }
+}
+
+/// A session after the lines of a script, and how many of them were refused.
+#[derive(Drop)]
+struct Edited {
+    session: Session,
+    refused: u64,
+}
+
+/// Runs all but the output.
+fn run_script<R: Source, S: Source, P: Sink>(
+    alloc: Global,
+    capture_reader: &mut R,
+    script_reader: &mut S,
+    replies: &mut P,
+    depth: u64,
+) -> Result<Edited, RunError>
+    requires capture_ready { R.has_failed capture_reader.old ≡ false }
+    requires script_ready { S.has_failed script_reader.old ≡ false }
+    requires replies_ready { P.has_failed replies.old ≡ false }
+    requires depth_least { 1 ≤ depth }
+    requires depth_most { depth ≤ 1000 }
+    ensures ran { IfOk result (λ edited. IfSome (R.coming capture_reader.old) (λ file. IfSome (S.coming script_reader.old) (λ script.
+        ScriptRan file script depth edited.refused (Appends (P.taken replies.old) (P.taken replies.new)) edited.session.now))) }
+    ensures capture_ended { OnOk result (R.has_failed capture_reader.new ≡ false) }
+    ensures script_ended { OnOk result (S.has_failed script_reader.new ≡ false) }
+    ensures replies_sound { OnOk result (P.has_failed replies.new ≡ false) }
+    ensures script_too_large { IsErrOf result RunError.ScriptTooLarge →
+        IfSome (S.coming script_reader.old) (λ xs. SCRIPT_LIMIT < length xs) }
+    ensures script_failed { IsErrOf result RunError.ScriptReadFault → S.has_failed script_reader.new ≡ true }
+    ensures no_reply { IfErr result (λ e. IsBeforeReplies e → P.taken replies.new ≡ P.taken replies.old) }
+    ensures before_output { IfErr result IsBeforeOutput }
+{
+    let loaded = load(alloc, capture_reader)?;
+    let script = read_script(alloc, script_reader)?;
+    let mut session = begin(alloc, loaded.capture, depth)?;
+    let refused = run_lines(alloc, &mut session, script.as_slice(), replies)?;
+    Ok(Edited { session, refused })
+}
+
+/// Reads the capture.
+fn load<R: Source>(alloc: Global, reader: &mut R) -> Result<Loaded, RunError>
+    requires { R.has_failed reader.old ≡ false }
+    ensures means { IfOk result (λ loaded. IfSome (R.coming reader.old) (λ file. FileMeans file (contents loaded.capture) loaded.skipped)) }
+    ensures sound { IfOk result (λ loaded. IsSound (contents loaded.capture)) }
+    ensures ended { OnOk result (R.has_failed reader.new ≡ false) }
+    ensures fault { IfErr result IsCaptureFault }
+{
+    let bytes = read_capture(alloc, reader)?;
+    match capture_of(alloc, bytes.as_slice()) {
+        Ok(loaded) => Ok(loaded),
+        Err(error) => Err(RunError::Capture(error)),
+    }
+}
+
+/// Begins a session. Want of memory for it counts at no line.
+fn begin(alloc: Global, capture: Capture, depth: u64) -> Result<Session, RunError>
+    requires least { 1 ≤ depth }
+    requires most { depth ≤ 1000 }
+    requires sound { IsSound (contents capture) }
+    ensures new { IfOk result (λ session. session ≡ unwritten (contents capture) depth) }
+    ensures fault { IfErr result (λ e. e ≡ RunError.NoMemory 0) }
+{
+    match Session::new(alloc, capture, depth) {
+        Ok(session) => Ok(session),
+        Err(_) => Err(RunError::NoMemory { line: 0 }),
+    }
+}
+
+/// Writes the text of a capture, which is made whole before the first of its bytes is written.
+fn write_capture<W: Sink>(alloc: Global, capture: &Capture, out: &mut W) -> Result<(), RunError>
+    requires sound { IsSound (contents capture.now) }
+    requires ready { W.has_failed out.old ≡ false }
+    ensures written { OnOk result (Appends (W.taken out.old) (W.taken out.new) (text (contents capture.now))) }
+    ensures fault { IfErr result IsWriteFault }
+{
+    match text_of(alloc, capture) {
+        Ok(text) => match write_and_flush(out, text.as_slice()) {
+            Ok(()) => Ok(()),
+            Err(written) => Err(RunError::Write(WriteError::WriteFault { written })),
+        },
+        Err(_) => Err(RunError::Write(WriteError::NoMemory)),
+    }
 }
 
 fn read_capture<R: Source>(alloc: Global, reader: &mut R) -> Result<Vec<u8>, RunError>

@@ -1,0 +1,59 @@
+-- The parts of a run, put together.
+use Rattle.std.proofs.Common.{◌≡◌, ◌⊎◌, inl, inr, Result, Ok, Err, ℕ, List, Option, Some, None, refl, sym, ap}
+use Rattle.std.specs.Prelude.{IfSome, IfErr}
+use Rattle.std.specs.Io.KnownBytes.{Appends}
+use Rattle.vcd_core.specs.Contents.{Contents}
+use Rattle.vcdedit.specs.Meaning.{FileMeans}
+use Rattle.vcdedit.specs.Text.{text}
+use Rattle.vcdedit.specs.Machine.{Machine}
+use Rattle.vcdedit.specs.Script.{script_lines}
+use Rattle.vcdedit.specs.Run.{run_of}
+use Rattle.vcdedit.specs.History.{History, unwritten}
+use Rattle.vcdedit.specs.RunLines.{RunsLines}
+use Rattle.vcdedit.specs.RunEnds.{ScriptRan, RanToEnd}
+
+-- the lines of the script, run from the capture that the file means
+pub script_ran : (file script : List ℕ) (depth skipped : ℕ) (c : Contents) (new : History) (count : ℕ) (before after : Option (List ℕ)) →
+    FileMeans file c skipped → RunsLines (script_lines script) (unwritten c depth) new count before after → ScriptRan file script depth count (Appends before after) new.now
+script_ran file script depth skipped c new count before after means ran =
+    let here = ran.2 skipped in
+    record {
+      contents = c;
+      skipped = skipped;
+      means = means;
+      replies = rw (here.replies) (ran.1);
+      refused = here.refused;
+      after = ap (λ (m : Machine). m.now) here.after;
+    }
+
+-- the same where a device may not tell its bytes
+pub ran_where_told : (coming script_coming : Option (List ℕ)) (script : List ℕ) (depth skipped : ℕ) (c : Contents) (new : History) (count : ℕ) (before after : Option (List ℕ)) →
+    IfSome coming (λ f. FileMeans f c skipped) → IfSome script_coming (λ s. script ≡ s) → RunsLines (script_lines script) (unwritten c depth) new count before after →
+    IfSome coming (λ f. IfSome script_coming (λ s. ScriptRan f s depth count (Appends before after) new.now))
+ran_where_told None script_coming script depth skipped c new count before after means is ran = tt
+ran_where_told (Some f) None script depth skipped c new count before after means is ran = tt
+ran_where_told (Some f) (Some s) script depth skipped c new count before after means is ran =
+    script_ran f s depth skipped c new count before after means (rw is at ran)
+
+-- and the output
+pub ran_to_end : (file script : Option (List ℕ)) (depth count : ℕ) (took_replies took_output : List ℕ → Type 0) (now : Contents) →
+    IfSome file (λ f. IfSome script (λ s. ScriptRan f s depth count took_replies now)) → took_output (text now) → RanToEnd file script depth count took_replies took_output
+ran_to_end None script depth count took_replies took_output now ran wrote = tt
+ran_to_end (Some f) None depth count took_replies took_output now ran wrote = tt
+ran_to_end (Some f) (Some s) depth count took_replies took_output now ran wrote = (
+  run_of ran.contents ran.skipped s depth,
+  record { contents = ran.contents; skipped = ran.skipped; means = ran.means; run = refl },
+  ran.replies,
+  rw (ran.after) wrote,
+  sym ran.refused,
+)
+
+-- a writer is given, or none
+pub given_or_none : {X : Type 0} (o : Option X) → (o ≡ None) ⊎ ((x : X) × (o ≡ Some x))
+given_or_none None = inl refl
+given_or_none (Some x) = inr (x, refl)
+
+-- what holds of every error holds at each
+pub at_each_err : {A E : Type 0} (r : Result A E) (P : E → Type 0) → ((e : E) → P e) → IfErr r P
+at_each_err (Ok v) P all = tt
+at_each_err (Err e) P all = all e
