@@ -1,6 +1,6 @@
 use super::*;
 use std::io;
-use std::io::{ErrorKind, Read};
+use std::io::{ErrorKind, Read, Write};
 use std::test::Fail;
 use vcd_core::{FromRead, ToWrite};
 
@@ -76,4 +76,137 @@ fn bytes_up_to_a_limit(rt: HostRuntime) {
     let over = read_whole(&mut FromRead::new(b"abcd".as_slice()), 3, &mut front);
     assert_eq!(rt; over, Err(Incomplete::TooLarge));
     assert_eq!(rt; front.as_slice(), b"abc".as_slice());
+}
+
+/// A writer that takes nothing.
+#[derive(Drop)]
+struct Full;
+
+impl Write for Full {
+    fn write(&mut self, _buf: &[u8]) -> io::Result<usize> {
+        Err(io::Error::from(ErrorKind::StorageFull))
+    }
+
+    fn flush(&mut self) -> io::Result<()> {
+        Ok(())
+    }
+}
+
+/// The worked file with one scalar.
+const WORKED: &[u8] =
+    b"$timescale 1ns $end\n$scope module top $end\n$var wire 1 ! a $end\n$upscope $end\n$enddefinitions $end\n#0\n$dumpvars\n0!\n$end\n#5\n1!\n#9\n";
+
+/// What a run told and wrote.
+#[derive(Drop)]
+struct Ran {
+    ended: Result<Summary, RunError>,
+    replies: Vec<u8>,
+    output: Vec<u8>,
+}
+
+/// The run of a script on a capture, with devices over memory.
+fn run_in_memory<S: Read + Drop>(alloc: Global, capture: &[u8], script: S, depth: u64) -> Ran
+    requires least { 1 ≤ depth }
+    requires most { depth ≤ 1000 }
+{
+    let mut replies = ToWrite::new(Vec::new(alloc));
+    let mut out = ToWrite::new(Vec::new(alloc));
+    let ended = run(
+        alloc,
+        &mut FromRead::new(capture),
+        &mut FromRead::new(script),
+        &mut replies,
+        Some(&mut out),
+        depth,
+    );
+    Ran {
+        ended,
+        replies: replies.into_inner(),
+        output: out.into_inner(),
+    }
+}
+
+#[test]
+fn a_rename(rt: HostRuntime) {
+    let ran = run_in_memory(rt.alloc(), WORKED, b"rename top.a b\n".as_slice(), 100);
+    assert_eq!(rt; ran.ended, Ok(Summary { refused: 0 }));
+    assert_eq!(rt; ran.replies.as_slice(), b"ok\n".as_slice());
+    assert_eq!(rt;
+        ran.output.as_slice(),
+        b"$timescale 1 ns $end\n$scope module top $end\n$var wire 1 ! b $end\n$upscope $end\n$enddefinitions $end\n#0\n$dumpvars\n0!\n$end\n#5\n1!\n#9\n".as_slice()
+    );
+}
+
+#[test]
+fn a_rename_and_its_undo(rt: HostRuntime) {
+    let ran = run_in_memory(
+        rt.alloc(),
+        WORKED,
+        b"rename top.a b\nundo\n".as_slice(),
+        100,
+    );
+    assert_eq!(rt; ran.ended, Ok(Summary { refused: 0 }));
+    assert_eq!(rt; ran.replies.as_slice(), b"ok\nok\n".as_slice());
+    assert_eq!(rt;
+        ran.output.as_slice(),
+        b"$timescale 1 ns $end\n$scope module top $end\n$var wire 1 ! a $end\n$upscope $end\n$enddefinitions $end\n#0\n$dumpvars\n0!\n$end\n#5\n1!\n#9\n".as_slice()
+    );
+}
+
+#[test]
+fn a_full_history(rt: HostRuntime) {
+    let ran = run_in_memory(
+        rt.alloc(),
+        b"$scope module top $end\n$var wire 1 ! a $end\n$upscope $end\n$enddefinitions $end\n#0\n$dumpvars\n0!\n$end\n",
+        b"rename top.a b\nrename top.b c\nrename top.c d\nundo\nundo\nundo\n".as_slice(),
+        2,
+    );
+    assert_eq!(rt; ran.ended, Ok(Summary { refused: 1 }));
+    assert_eq!(rt;
+        ran.replies.as_slice(),
+        b"ok\nok\nok\nok\nok\nline 6: refused: NothingToUndo\n".as_slice()
+    );
+    assert_eq!(rt;
+        ran.output.as_slice(),
+        b"$scope module top $end\n$var wire 1 ! b $end\n$upscope $end\n$enddefinitions $end\n#0\n$dumpvars\n0!\n$end\n".as_slice()
+    );
+}
+
+#[test]
+fn refused_lines(rt: HostRuntime) {
+    let ran = run_in_memory(
+        rt.alloc(),
+        WORKED,
+        b"frob\n# rename\n\nrename top.a\nrename top.q b\nrename top.a $end\nundo now\nundo\nrename @0 b".as_slice(),
+        1,
+    );
+    assert_eq!(rt; ran.ended, Ok(Summary { refused: 6 }));
+    assert_eq!(rt;
+        ran.replies.as_slice(),
+        b"line 1: refused: UnknownCommand\nline 4: refused: WrongCount\nline 5: refused: NoSuchName\nline 6: refused: BadWord\nline 7: refused: WrongCount\nline 8: refused: NothingToUndo\nok\n".as_slice()
+    );
+}
+
+#[test]
+fn a_script_that_fails_after_a_line(rt: HostRuntime) {
+    let ran = run_in_memory(rt.alloc(), WORKED, Broken(b"rename top.a b\n"), 100);
+    assert_eq!(rt; ran.ended, Err(RunError::ScriptReadFault));
+    assert_eq!(rt; ran.replies.as_slice(), b"".as_slice());
+    assert_eq!(rt; ran.output.as_slice(), b"".as_slice());
+}
+
+#[test]
+fn replies_that_are_not_taken(rt: HostRuntime) {
+    let mut replies = ToWrite::new(Full);
+    let mut out = ToWrite::new(Vec::new(rt.alloc()));
+    let ended = run(
+        rt.alloc(),
+        &mut FromRead::new(WORKED),
+        &mut FromRead::new(b"rename top.a b\n".as_slice()),
+        &mut replies,
+        Some(&mut out),
+        100,
+    );
+    assert_eq!(rt; ended, Err(RunError::ReplyFault { written: 0 }));
+    assert_eq!(rt; out.into_inner().as_slice(), b"".as_slice());
 }
