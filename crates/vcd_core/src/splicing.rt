@@ -5,6 +5,9 @@ ghost use Rattle.vcd_core.specs.Splice.{moved, TickFits, TicksFit, spliced};
 
 use crate::wave::Change;
 
+#[cfg(test)]
+mod tests;
+
 /// The changes of `list` from `at` on change places with those of `other`, one for one.
 fn swap_part(list: &mut [Change], at: usize, other: &mut [Change])
     requires { at + length other.old ≤ length list.old }
