@@ -1,3 +1,5 @@
+ghost use Rattle.std.specs.Prelude.{◌≤◌};
+
 use super::*;
 use std::io;
 use std::io::{ErrorKind, Read, Write};
