@@ -5,16 +5,16 @@ use Rattle.std.specs.Fmt.{digits}
 use Rattle.vcd_core.specs.Wave.{value_from}
 use Rattle.vcd_core.specs.Names.{full_name, lookup}
 use Rattle.vcd_core.specs.Contents.{Contents}
-use Rattle.vcdedit.specs.Words.{words_from}
-use Rattle.vcdedit.specs.Letters.{short}
-use Rattle.vcdedit.specs.Text.{code_digits, signal_items, tick_items, items_of, text}
+use Rattle.vcd_text.specs.Words.{words_from}
+use Rattle.vcd_text.specs.Letters.{short}
+use Rattle.vcd_text.specs.Text.{code_digits, signal_items, tick_items, items_of, text}
 use Rattle.vcdedit.specs.Effect.{effect}
 use Rattle.vcdedit.specs.Allowed.{fault}
 use Rattle.vcdedit.specs.Script.{script_lines, command_of}
 use Rattle.vcdedit.specs.Reply.{said}
 use Rattle.vcdedit.specs.Run.{after_line, after_lines, replies, refusals, run_of, RunWrites}
-use Rattle.vcdedit.proofs.CasesOfFiles.{one_scalar as one_scalar_file, one_scalar_contents, one_scalar_means}
-use Rattle.vcdedit.proofs.CasesOfText.{one_scalar, one_scalar_text, capture, wire, top, from}
+use Rattle.vcd_text.proofs.CasesOfFiles.{one_scalar as one_scalar_file, one_scalar_contents, one_scalar_means}
+use Rattle.vcd_text.proofs.CasesOfText.{one_scalar, one_scalar_text, capture, wire, top, from}
 
 -- lines end at line feeds, and a last piece without one counts where it is not empty
 lines_of_scripts : (script_lines [] ≡ [])

@@ -16,7 +16,7 @@ use Rattle.vcdedit.specs.Allowed.{fault}
 use Rattle.vcdedit.specs.Machine.{Machine, fresh, step_of, done, refused}
 use Rattle.vcdedit.specs.InForce.{in_force_after, counted_all, replay}
 use Rattle.vcdedit.specs.Lent.{lent}
-use Rattle.vcdedit.proofs.CasesOfText.{one_scalar, capture, wire, top, from}
+use Rattle.vcd_text.proofs.CasesOfText.{one_scalar, capture, wire, top, from}
 
 -- the first signal gets another name
 abbrev pub rename : List ℕ → Edit

@@ -3,8 +3,8 @@ use Rattle.std.proofs.Common.{◌≡◌, ◌⊎◌, inl, inr, Result, Ok, Err, �
 use Rattle.std.specs.Prelude.{IfSome, IfErr}
 use Rattle.std.specs.Io.KnownBytes.{Appends}
 use Rattle.vcd_core.specs.Contents.{Contents}
-use Rattle.vcdedit.specs.Meaning.{FileMeans}
-use Rattle.vcdedit.specs.Text.{text}
+use Rattle.vcd_text.specs.Meaning.{FileMeans}
+use Rattle.vcd_text.specs.Text.{text}
 use Rattle.vcdedit.specs.Machine.{Machine}
 use Rattle.vcdedit.specs.Script.{script_lines}
 use Rattle.vcdedit.specs.Run.{run_of}

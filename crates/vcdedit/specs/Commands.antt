@@ -2,9 +2,9 @@
 use Rattle.std.specs.Prelude.{◌≡◌, ℕ, List, map, Result, Ok, Err}
 use Rattle.vcdedit.specs.declared.command.Command.{Command}
 use Rattle.vcdedit.specs.declared.line_error.LineError.{LineError}
-use Rattle.vcdedit.specs.declared.reading.words.Words.{Words}
-use Rattle.vcdedit.specs.Words.{Word}
-use Rattle.vcdedit.specs.WordsLeft.{words_left}
+use Rattle.vcd_text.specs.declared.reading.words.Words.{Words}
+use Rattle.vcd_text.specs.Words.{Word}
+use Rattle.vcd_text.specs.WordsLeft.{words_left}
 use Rattle.vcdedit.specs.Lent.{unplaced}
 
 -- the words of a line that are still to come

@@ -1,10 +1,10 @@
 -- What the program says of a run that failed: the project's own names, statuses and lines.
 use Rattle.std.specs.Prelude.{ℕ, List, ◌++◌, codes, decimal}
-use Rattle.vcdedit.specs.FaultNames.{fault_name, write_error_name}
-use Rattle.vcdedit.specs.declared.fault.Fault.{Fault}
-use Rattle.vcdedit.specs.declared.fault.Fault.TheVariants as faults
-use Rattle.vcdedit.specs.declared.fault.WriteError.{WriteError}
-use Rattle.vcdedit.specs.declared.fault.WriteError.TheVariants as write_errors
+use Rattle.vcd_text.specs.FaultNames.{fault_name, write_error_name}
+use Rattle.vcd_text.specs.declared.fault.Fault.{Fault}
+use Rattle.vcd_text.specs.declared.fault.Fault.TheVariants as faults
+use Rattle.vcd_text.specs.declared.fault.WriteError.{WriteError}
+use Rattle.vcd_text.specs.declared.fault.WriteError.TheVariants as write_errors
 use Rattle.vcdedit.specs.declared.run_error.RunError.{RunError}
 use Rattle.vcdedit.specs.declared.run_error.RunError.TheVariants as run_errors
 

@@ -4,8 +4,8 @@ use Rattle.vcd_core.specs.Contents.{Contents}
 use Rattle.vcdedit.specs.declared.command.Command.{Command}
 use Rattle.vcdedit.specs.declared.command.Command.TheVariants as commands
 use Rattle.vcdedit.specs.declared.line_error.LineError.{LineError}
-use Rattle.vcdedit.specs.Meaning.{FileMeans}
-use Rattle.vcdedit.specs.Text.{text}
+use Rattle.vcd_text.specs.Meaning.{FileMeans}
+use Rattle.vcd_text.specs.Text.{text}
 use Rattle.vcdedit.specs.Machine.{Machine, fresh, step_of}
 use Rattle.vcdedit.specs.Script.{script_lines, command_of}
 use Rattle.vcdedit.specs.Reply.{reply, is_refused}

@@ -4,7 +4,7 @@ use Rattle.std.specs.Prelude.{◌≡◌, ◌⊎◌, ℕ, List, Option, Some, Non
 use Rattle.std.specs.Borrow.{MutBor}
 use Rattle.std.specs.Io.KnownBytes.{Appends}
 use Rattle.vcd_core.specs.Contents.{Contents}
-use Rattle.vcdedit.specs.Meaning.{FileMeans}
+use Rattle.vcd_text.specs.Meaning.{FileMeans}
 use Rattle.vcdedit.specs.Machine.{fresh}
 use Rattle.vcdedit.specs.Script.{script_lines}
 use Rattle.vcdedit.specs.Run.{after_lines, replies, refusals, Written, RunWrites}

@@ -12,7 +12,7 @@ use Rattle.vcdedit.specs.declared.command.Command.{Command}
 use Rattle.vcdedit.specs.declared.command.Command.TheVariants as commands
 use Rattle.vcdedit.specs.declared.line_error.LineError.{LineError}
 use Rattle.vcdedit.specs.declared.line_error.LineError.TheVariants.{UnknownCommand, WrongCount, NoSuchName}
-use Rattle.vcdedit.specs.Words.{Word, words_of}
+use Rattle.vcd_text.specs.Words.{Word, words_of}
 use Rattle.vcdedit.specs.Lent.{lent}
 
 -- the lines of a script: each ends at a line feed (10), and what stands behind the last line feed is a line where it is not empty

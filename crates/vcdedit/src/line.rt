@@ -8,9 +8,9 @@ ghost use Rattle.vcdedit.specs.Commands.{texts_left, IsReading};
 use crate::command::Command;
 use crate::edit::Edit;
 use crate::line_error::LineError;
-use crate::reading::words::Words;
 use crate::step::Step;
 use vcd_core::Capture;
+use vcd_text::reading::words::Words;
 
 /// Reads a line of the script, on the capture that then stands. It takes no memory.
 ///

@@ -8,17 +8,13 @@ pub mod arguments;
 pub mod command;
 pub mod edit;
 pub mod edit_error;
-pub mod fault;
-pub mod file_laws;
 pub mod late_file;
 pub mod laws;
 mod line;
 pub mod line_error;
 mod name_cursor;
 pub mod opening;
-pub mod output;
 pub mod program;
-pub mod reading;
 mod record;
 mod renaming;
 mod reply;
@@ -31,8 +27,6 @@ mod session;
 pub mod step;
 #[cfg(test)]
 mod tests;
-pub mod whole;
-pub mod writing;
 
 use program::status_of_program;
 use std::process::ExitCode;

@@ -3,7 +3,6 @@
 ghost use Rattle.std.specs.Prelude.{◌≡◌, false};
 
 use crate::arguments::{Options, parse_words};
-use crate::fault::{Fault, ReadError};
 use crate::late_file::LateFile;
 use crate::opening::{open_capture, open_script};
 use crate::reporting::{report, report_usage, status_when_done};
@@ -13,6 +12,7 @@ use std::io::{BufWriter, ErrorKind, Write};
 use std::rt::Runtime;
 use std::{env, io};
 use vcd_core::{FromRead, Sink, ToWrite};
+use vcd_text::fault::{Fault, ReadError};
 
 /// How many bytes the replies and the output are gathered in before they go out.
 const BUFFER: usize = 65_536;

@@ -4,10 +4,10 @@ ghost use Rattle.std.specs.Prelude.{◌≡◌, ◌==◌, if◌then◌else◌, fa
 ghost use Rattle.std.specs.Io.KnownBytes.{Appends};
 ghost use Rattle.vcdedit.specs.Report.{capture_line, capture_status, line_of, numbered_line, status_of, usage_line};
 
-use crate::fault::{Fault, ReadError, WriteError};
 use crate::run_error::{RunError, Summary};
 use itoa::Buffer;
 use vcd_core::{DeviceFault, Sink};
+use vcd_text::fault::{Fault, ReadError, WriteError};
 
 /// Writes the line that says what ended a run, and gives the exit status. A fault of the writer is passed
 /// over. It takes no memory.

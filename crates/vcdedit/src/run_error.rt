@@ -3,8 +3,8 @@
 ghost use Rattle.std.specs.Prelude.{◌≡◌};
 ghost use Rattle.vcdedit.specs.Report.{run_error_name};
 
-use crate::fault::{ReadError, WriteError};
 use thiserror::Error;
+use vcd_text::fault::{ReadError, WriteError};
 
 /// What is told of a run that reached its end.
 #[derive(Clone, Copy, Debug, PartialEq, Eq)]

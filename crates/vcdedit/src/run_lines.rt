@@ -8,13 +8,13 @@ ghost use Rattle.vcdedit.specs.Replies.{said_by};
 ghost use Rattle.vcdedit.specs.RunLines.{TellsLine, RunsLines, IsLineFault};
 
 use crate::answering::answer_line;
-use crate::output::write_all;
 use crate::reply::Reply;
 use crate::run_error::RunError;
 use crate::script::split_line;
 use crate::session::Session;
 use std::alloc::Global;
 use vcd_core::Sink;
+use vcd_text::output::write_all;
 
 /// What is told of a line.
 #[derive(Clone, Copy)]

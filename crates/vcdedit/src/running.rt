@@ -5,22 +5,22 @@ ghost use Rattle.std.specs.Option.{ForSome};
 ghost use Rattle.std.specs.Io.KnownBytes.{Appends};
 ghost use Rattle.vcd_core.specs.Contents.{contents};
 ghost use Rattle.vcd_core.specs.Sound.{IsSound};
-ghost use Rattle.vcdedit.specs.Meaning.{FileMeans};
-ghost use Rattle.vcdedit.specs.Text.{text};
+ghost use Rattle.vcd_text.specs.Meaning.{FileMeans};
+ghost use Rattle.vcd_text.specs.Text.{text};
 ghost use Rattle.vcdedit.specs.History.{unwritten};
 ghost use Rattle.vcdedit.specs.RunFaults.{IsCaptureFault, IsWriteFault, IsBeforeReplies, IsBeforeOutput};
 ghost use Rattle.vcdedit.specs.RunEnds.{ScriptRan, RanToEnd, OutTakes, OutKeeps};
 
-use crate::fault::{Fault, ReadError, WriteError};
-use crate::output::write_and_flush;
-use crate::reading::{Loaded, capture_of};
 use crate::run_error::{RunError, Summary};
 use crate::run_lines::run_lines;
 use crate::session::Session;
-use crate::whole::{Incomplete, read_whole};
-use crate::writing::text_of;
 use std::alloc::Global;
 use vcd_core::{Capture, Sink, Source};
+use vcd_text::fault::{Fault, ReadError, WriteError};
+use vcd_text::output::write_and_flush;
+use vcd_text::reading::{Loaded, capture_of};
+use vcd_text::whole::{Incomplete, read_whole};
+use vcd_text::writing::text_of;
 
 /// The most bytes that a capture may have: 4 GiB.
 pub const CAPTURE_LIMIT: usize = 4_294_967_296;

@@ -1,8 +1,8 @@
 use crate::edit_error::EditError;
-use crate::fault::{Fault, ReadError, WriteError};
 use crate::line_error::LineError;
 use crate::step::StepError;
 use std::test::*;
+use vcd_text::fault::{Fault, ReadError, WriteError};
 
 /// Each message is the fault's name.
 #[test]

@@ -1,0 +1,342 @@
+-- Worked cases: files that are refused, with fault and line.
+use Rattle.std.proofs.Common.{refl, arith}
+use Rattle.std.specs.Prelude.{ℕ, List, ◌++◌, [], ◌∷◌, take, drop, codes}
+use Rattle.std.specs.Fmt.{digits}
+use Rattle.vcd_text.specs.declared.fault.Fault.TheVariants.{Truncated, UnexpectedWord, BadChange, BadTimescale, BadScope, UpscopeAtTop, BadVar, MixedCode, BadTime, TimeBackwards, UnknownCode, ValueTooLong}
+use Rattle.vcd_text.specs.Words.{word, words_from, words_of, closed_words}
+use Rattle.vcd_text.specs.Grammar.{nothing_told, after}
+use Rattle.vcd_text.proofs.OneAnswer.{accepted-not_refused}
+use Rattle.vcd_text.specs.Items.{Item, scope, upscope, variable, end_definitions, stamp, vector, bracket}
+use Rattle.vcd_text.specs.Faults.{FileFault, FrontFault, HasNoFrontFault, shown, too_early, declaration_due, code_due, among_declarations, among_changes, upscope_at_top, no_timescale, no_kind, no_variable, no_size, code_mixed, no_declaration, definitions_go_on, declaration_late, letter_alone, no_value, no_change, no_tick, tick_goes_back, letter_of_none, pair_of_none, value_too_long}
+
+-- one variable, and the end of the declarations
+abbrev one_variable : List Item
+one_variable = variable (codes "wire" ∷ codes "1" ∷ codes "!" ∷ codes "a" ∷ []) ∷ end_definitions ∷ []
+
+-- a stamp below the one before it, also where only the closed words are known
+abbrev time_back : List ℕ
+time_back = codes "$var wire 1 ! a $end\n$enddefinitions $end\n#10\n#9\n"
+
+time_goes_back : FileFault time_back 4 TimeBackwards
+unfolding words_from
+time_goes_back = shown (record {
+  items = variable (codes "wire" ∷ codes "1" ∷ codes "!" ∷ codes "a" ∷ []) ∷ end_definitions ∷ stamp (codes "10") ∷ [];
+  whole = take 9 (words_of time_back);
+  begun = [];
+  word = word (codes "#9") 4;
+  more = [];
+  parts = refl;
+  spelled = refl;
+  allowed = search arith;
+  decided = among_changes refl (tick_goes_back (codes "9") refl refl refl (omega arith) refl);
+  at = refl;
+})
+
+time_goes_back_in_front : FrontFault time_back 4 TimeBackwards
+unfolding words_from
+time_goes_back_in_front = record {
+  items = variable (codes "wire" ∷ codes "1" ∷ codes "!" ∷ codes "a" ∷ []) ∷ end_definitions ∷ stamp (codes "10") ∷ [];
+  whole = take 9 (words_of time_back);
+  begun = [];
+  word = word (codes "#9") 4;
+  more = [];
+  parts = refl;
+  spelled = refl;
+  allowed = search arith;
+  decided = among_changes refl (tick_goes_back (codes "9") refl refl refl (omega arith) refl);
+  at = refl;
+}
+
+-- the file ends where a code is due
+abbrev no_code : List ℕ
+no_code = codes "$var wire 1 ! a $end\n$enddefinitions $end\n#0\nb101"
+
+ends_before_code : FileFault no_code 4 Truncated
+unfolding words_from
+ends_before_code = too_early (record {
+  items = variable (codes "wire" ∷ codes "1" ∷ codes "!" ∷ codes "a" ∷ []) ∷ end_definitions ∷ stamp (codes "0") ∷ [];
+  begun = codes "b101" ∷ [];
+  spelled = refl;
+  allowed = search arith;
+  unfinished = code_due 98 (codes "101") refl refl refl;
+}) refl refl
+
+-- the empty file
+nothing : FileFault [] 1 Truncated
+unfolding words_from
+nothing = too_early (record { items = []; begun = []; spelled = refl; allowed = tt; unfinished = declaration_due refl refl }) refl refl
+
+-- a tick one past the greatest
+abbrev late_tick : List ℕ
+late_tick = codes "$var wire 1 ! a $end\n$enddefinitions $end\n#9223372036854775808\n#9\n"
+
+tick_too_great : FileFault late_tick 3 BadTime
+unfolding words_from
+tick_too_great = shown (record {
+  items = one_variable;
+  whole = take 8 (words_of late_tick);
+  begun = [];
+  word = word (codes "#9223372036854775808") 3;
+  more = word (codes "#9") 4 ∷ [];
+  parts = refl;
+  spelled = refl;
+  allowed = search arith;
+  decided = among_changes refl (no_tick (codes "9223372036854775808") refl refl refl refl);
+  at = refl;
+})
+
+-- files of one line
+two_nanoseconds : FileFault (codes "$timescale 2 ns $end\n") 1 BadTimescale
+unfolding words_from digits
+two_nanoseconds = shown (record {
+  items = [];
+  whole = [];
+  begun = word (codes "$timescale") 1 ∷ word (codes "2") 1 ∷ word (codes "ns") 1 ∷ [];
+  word = word (codes "$end") 1;
+  more = [];
+  parts = refl;
+  spelled = refl;
+  allowed = tt;
+  decided = among_declarations refl (no_timescale (codes "2" ∷ codes "ns" ∷ []) refl refl refl refl refl);
+  at = refl;
+})
+
+scope_without_kind : FileFault (codes "$scope $end\n") 1 BadScope
+unfolding words_from
+scope_without_kind = shown (record {
+  items = [];
+  whole = [];
+  begun = word (codes "$scope") 1 ∷ [];
+  word = word (codes "$end") 1;
+  more = [];
+  parts = refl;
+  spelled = refl;
+  allowed = tt;
+  decided = among_declarations refl (no_kind refl refl refl);
+  at = refl;
+})
+
+variable_without_name : FileFault (codes "$var wire 1 ! $end\n") 1 BadVar
+unfolding words_from
+variable_without_name = shown (record {
+  items = [];
+  whole = [];
+  begun = word (codes "$var") 1 ∷ word (codes "wire") 1 ∷ word (codes "1") 1 ∷ word (codes "!") 1 ∷ [];
+  word = word (codes "$end") 1;
+  more = [];
+  parts = refl;
+  spelled = refl;
+  allowed = tt;
+  decided = among_declarations refl (no_variable (codes "wire" ∷ codes "1" ∷ codes "!" ∷ []) refl refl refl refl refl refl);
+  at = refl;
+})
+
+-- a size that is no number is decided at its word, of a skipped kind too, though the file ends there
+real_without_size : FileFault (codes "$var real x") 1 BadVar
+unfolding words_from
+real_without_size = shown (record {
+  items = [];
+  whole = [];
+  begun = word (codes "$var") 1 ∷ word (codes "real") 1 ∷ [];
+  word = word (codes "x") 1;
+  more = [];
+  parts = refl;
+  spelled = refl;
+  allowed = tt;
+  decided = among_declarations refl (no_size (codes "real") refl refl refl refl);
+  at = refl;
+})
+
+-- `$upscope` with no scope open is decided at this word, whatever follows
+upscope_alone : FileFault (codes "\n$upscope") 2 UpscopeAtTop
+unfolding words_from
+upscope_alone = shown (record {
+  items = [];
+  whole = [];
+  begun = [];
+  word = word (codes "$upscope") 2;
+  more = [];
+  parts = refl;
+  spelled = refl;
+  allowed = tt;
+  decided = among_declarations refl (upscope_at_top refl refl refl refl);
+  at = refl;
+})
+
+abbrev two_sizes : List ℕ
+two_sizes = codes "$var wire 1 ! a $end $var wire 2 ! b $end\n"
+
+code_of_two_sizes : FileFault two_sizes 1 MixedCode
+unfolding words_from
+code_of_two_sizes = shown (record {
+  items = variable (codes "wire" ∷ codes "1" ∷ codes "!" ∷ codes "a" ∷ []) ∷ [];
+  whole = take 6 (words_of two_sizes);
+  begun = take 5 (drop 6 (words_of two_sizes));
+  word = word (codes "$end") 1;
+  more = [];
+  parts = refl;
+  spelled = refl;
+  allowed = search arith;
+  decided = among_declarations refl (code_mixed (codes "wire" ∷ codes "2" ∷ codes "!" ∷ codes "b" ∷ []) _ refl refl refl refl refl refl refl);
+  at = refl;
+})
+
+unknown_code : FileFault (codes "$enddefinitions $end 1\"\n") 1 UnknownCode
+unfolding words_from
+unknown_code = shown (record {
+  items = end_definitions ∷ [];
+  whole = word (codes "$enddefinitions") 1 ∷ word (codes "$end") 1 ∷ [];
+  begun = [];
+  word = word (codes "1\"") 1;
+  more = [];
+  parts = refl;
+  spelled = refl;
+  allowed = search arith;
+  decided = among_changes refl (letter_of_none 49 (codes "\"") refl refl refl (omega arith) refl refl);
+  at = refl;
+})
+
+-- a change of two words has the line of its first, also where `$end` stands in the place of the code
+unknown_code_of_vector : FileFault (codes "$enddefinitions $end\nb1\n$end\n") 2 UnknownCode
+unfolding words_from
+unknown_code_of_vector = shown (record {
+  items = end_definitions ∷ [];
+  whole = word (codes "$enddefinitions") 1 ∷ word (codes "$end") 1 ∷ [];
+  begun = word (codes "b1") 2 ∷ [];
+  word = word (codes "$end") 3;
+  more = [];
+  parts = refl;
+  spelled = refl;
+  allowed = search arith;
+  decided = among_changes refl (pair_of_none 98 (codes "1") refl refl refl refl);
+  at = refl;
+})
+
+-- more digits than bits
+abbrev long_value : List ℕ
+long_value = codes "$scope module top $end\n$var wire 4 ! v $end\n$upscope $end\n$enddefinitions $end\n#0\n$dumpvars\nbx !\n$end\n#1\nb00001 !\n#2\nbz1 !\n#3\nb0 !\n"
+
+value_of_five_digits : FileFault long_value 10 ValueTooLong
+unfolding words_from
+value_of_five_digits = shown (record {
+  items = scope (codes "module") (codes "top" ∷ []) ∷ variable (codes "wire" ∷ codes "4" ∷ codes "!" ∷ codes "v" ∷ []) ∷ upscope ∷ end_definitions
+      ∷ stamp (codes "0") ∷ bracket (codes "$dumpvars") ∷ vector 98 (codes "x") (codes "!") ∷ bracket (codes "$end") ∷ stamp (codes "1") ∷ [];
+  whole = take 20 (words_of long_value);
+  begun = word (codes "b00001") 10 ∷ [];
+  word = word (codes "!") 10;
+  more = drop 22 (words_of long_value);
+  parts = refl;
+  spelled = refl;
+  allowed = search arith;
+  decided = among_changes refl (value_too_long 98 (codes "00001") _ refl refl refl refl refl (omega arith) refl);
+  at = refl;
+})
+
+-- the words of a dump's brackets begin no declaration
+dump_among_declarations : FileFault (codes "$dumpvars") 1 UnexpectedWord
+unfolding words_from
+dump_among_declarations = shown (record {
+  items = [];
+  whole = [];
+  begun = [];
+  word = word (codes "$dumpvars") 1;
+  more = [];
+  parts = refl;
+  spelled = refl;
+  allowed = tt;
+  decided = among_declarations refl (no_declaration refl refl refl);
+  at = refl;
+})
+
+-- another word than `$end` behind `$enddefinitions` is decided at that word
+definitions_open : FileFault (codes "$enddefinitions\n#0") 2 UnexpectedWord
+unfolding words_from
+definitions_open = shown (record {
+  items = [];
+  whole = [];
+  begun = word (codes "$enddefinitions") 1 ∷ [];
+  word = word (codes "#0") 2;
+  more = [];
+  parts = refl;
+  spelled = refl;
+  allowed = tt;
+  decided = among_declarations refl (definitions_go_on refl refl refl);
+  at = refl;
+})
+
+-- a declaration among the changes
+scope_among_changes : FileFault (codes "$enddefinitions $end\n$scope module top $end\n") 2 UnexpectedWord
+unfolding words_from
+scope_among_changes = shown (record {
+  items = end_definitions ∷ [];
+  whole = word (codes "$enddefinitions") 1 ∷ word (codes "$end") 1 ∷ [];
+  begun = [];
+  word = word (codes "$scope") 2;
+  more = word (codes "module") 2 ∷ word (codes "top") 2 ∷ word (codes "$end") 2 ∷ [];
+  parts = refl;
+  spelled = refl;
+  allowed = search arith;
+  decided = among_changes refl (declaration_late refl refl refl);
+  at = refl;
+})
+
+-- a value letter without a code, a change without digits, and a word that is no change
+abbrev bad_changes : (change : List ℕ) → List ℕ
+bad_changes change = codes "$var wire 1 ! a $end $enddefinitions $end\n" ++ change
+
+lone_letter : FileFault (bad_changes (codes "1 !")) 2 BadChange
+unfolding words_from
+lone_letter = shown (record {
+  items = one_variable;
+  whole = take 8 (words_of (bad_changes []));
+  begun = [];
+  word = word (codes "1") 2;
+  more = word (codes "!") 2 ∷ [];
+  parts = refl;
+  spelled = refl;
+  allowed = search arith;
+  decided = among_changes refl (letter_alone 49 refl refl refl refl);
+  at = refl;
+})
+
+no_digit : FileFault (bad_changes (codes "b !")) 2 BadChange
+unfolding words_from
+no_digit = shown (record {
+  items = one_variable;
+  whole = take 8 (words_of (bad_changes []));
+  begun = word (codes "b") 2 ∷ [];
+  word = word (codes "!") 2;
+  more = [];
+  parts = refl;
+  spelled = refl;
+  allowed = search arith;
+  decided = among_changes refl (no_value 98 [] _ refl refl refl refl refl refl);
+  at = refl;
+})
+
+no_change_at_all : FileFault (bad_changes (codes "q!")) 2 BadChange
+unfolding words_from
+no_change_at_all = shown (record {
+  items = one_variable;
+  whole = take 8 (words_of (bad_changes []));
+  begun = [];
+  word = word (codes "q!") 2;
+  more = [];
+  parts = refl;
+  spelled = refl;
+  allowed = search arith;
+  decided = among_changes refl (no_change 113 (codes "!") refl refl refl refl refl);
+  at = refl;
+})
+
+-- the file without its last line shows no fault: where the reader fails there, its fault is told
+front_without_fault : HasNoFrontFault (codes "$var wire 1 ! a $end\n$enddefinitions $end\n#10\n")
+unfolding words_from
+front_without_fault line fault =
+    accepted-not_refused (closed_words (codes "$var wire 1 ! a $end\n$enddefinitions $end\n#10\n")) (after nothing_told (one_variable ++ stamp (codes "10") ∷ [])) line fault (record {
+      items = one_variable ++ stamp (codes "10") ∷ [];
+      spelled = refl;
+      allowed = search arith;
+      tells = refl;
+      declared = refl;
+    })

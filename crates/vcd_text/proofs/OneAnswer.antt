@@ -1,0 +1,187 @@
+-- A file has one answer: what it means, or its one fault with the line.
+use Rattle.std.proofs.Common.{◌≡◌, ℕ, zero, suc, Bool, true, false, List, [], ◌∷◌, ◌++◌, length, drop, refl, sym, ap, subst, ◌∙◌, append_assoc, arith}
+use Rattle.std.proofs.lemmas.List.{append-nil, drop_at, length-append, length-map, map-append}
+use Rattle.std.proofs.lemmas.Bool.{true≢false}
+use Rattle.vcd_core.specs.Contents.{Contents}
+use Rattle.vcd_text.specs.declared.fault.Fault.{Fault}
+use Rattle.vcd_text.specs.Words.{Word, words_of}
+use Rattle.vcd_text.specs.Items.{Item, spelling, spellings}
+use Rattle.vcd_text.specs.Grammar.{Context, AllowsAll, Accepts, after, after_item, nothing_told, texts}
+use Rattle.vcd_text.specs.Faults.{Refuses, Stops, FileFault, shown, too_early, line_of}
+use Rattle.vcd_text.specs.Meaning.{FileMeans, meaning, skipped_variables}
+use Rattle.vcd_text.proofs.FrontItem.{Front, whole, faulty, unfinished, ended, front_of, front_at, whole_front, fault_front, unfinished_front, place_of}
+
+abbrev IsLast : Front → Type 0
+IsLast (whole i rest) = ⊥
+IsLast (faulty place fault) = Unit {0}
+IsLast unfinished = Unit {0}
+IsLast ended = Unit {0}
+
+abbrev item_of : Item → Front → Item
+item_of d (whole i rest) = i
+item_of d (faulty place fault) = d
+item_of d unfinished = d
+item_of d ended = d
+
+abbrev rest_of : Front → List (List ℕ)
+rest_of (whole i rest) = rest
+rest_of (faulty place fault) = []
+rest_of unfinished = []
+rest_of ended = []
+
+-- two readings of the same words have the same items and end at the same word
+same_end : (c : Context) (is js : List Item) (r s : List (List ℕ)) → spellings is ++ r ≡ spellings js ++ s → AllowsAll c is → AllowsAll c js
+    → IsLast (front_of (after c is) r) → IsLast (front_of (after c js) s) → (is ≡ js) × (r ≡ s)
+same_end c [] [] r s e a b p q = (refl, e)
+same_end c [] (j ∷ js) r s e a b p q =
+    absurd (subst IsLast (ap (front_of c) (e ∙ append_assoc (spelling j) (spellings js) s) ∙ whole_front c j (spellings js ++ s) b.0) p)
+same_end c (i ∷ is) [] r s e a b p q =
+    absurd (subst IsLast (ap (front_of c) (sym e ∙ append_assoc (spelling i) (spellings is) r) ∙ whole_front c i (spellings is ++ r) a.0) q)
+same_end c (i ∷ is) (j ∷ js) r s e a b p q =
+    let f : whole i (spellings is ++ r) ≡ whole j (spellings js ++ s) =
+    sym (whole_front c i (spellings is ++ r) a.0) ∙ ap (front_of c) (sym (append_assoc (spelling i) (spellings is) r) ∙ e ∙ append_assoc (spelling j) (spellings js) s)
+    ∙ whole_front c j (spellings js ++ s) b.0 in
+    let same : i ≡ j = ap (item_of i) f in
+    let further = same_end (after_item c i) is js r s (ap rest_of f) a.1 (subst (λ x. AllowsAll (after_item c x) js) (sym same) b.1) p
+    (subst (λ x. IsLast (front_of (after (after_item c x) js) s)) (sym same) q) in
+    (ap (λ x. x ∷ is) same ∙ ap (λ x. j ∷ x) further.0, further.1)
+
+-- the words are read up to a rest that does not begin with a whole item
+record Ends (words : List (List ℕ)) (told : Context) (rest : List (List ℕ)) (last : Front) : Type 0 where
+  items : List Item
+  spelled : words ≡ spellings items ++ rest
+  allowed : AllowsAll nothing_told items
+  tells : after nothing_told items ≡ told
+  shows : front_of told rest ≡ last
+  is_last : IsLast last
+
+one_end : (words : List (List ℕ)) (c d : Context) (r s : List (List ℕ)) (f g : Front) → Ends words c r f → Ends words d s g → (c ≡ d) × (r ≡ s) × (f ≡ g)
+one_end words c d r s f g a b =
+    let p = same_end nothing_told a.items b.items r s (sym a.spelled ∙ b.spelled) a.allowed b.allowed
+    (subst IsLast (sym (ap (λ x. front_of x r) a.tells ∙ a.shows)) a.is_last) (subst IsLast (sym (ap (λ x. front_of x s) b.tells ∙ b.shows)) b.is_last) in
+    let told : c ≡ d = sym a.tells ∙ ap (after nothing_told) p.0 ∙ b.tells in
+    (told, p.1, sym a.shows ∙ ap (λ x. front_of x r) told ∙ ap (front_of d) p.1 ∙ b.shows)
+
+accepts_ends : (words : List Word) (told : Context) → Accepts words told → Ends (texts words) told [] ended
+accepts_ends words told a = record {
+  items = a.items;
+  spelled = a.spelled ∙ sym (append-nil (spellings a.items));
+  allowed = a.allowed;
+  tells = a.tells;
+  shows = front_at true told [] ended a.declared refl;
+  is_last = tt;
+}
+
+stops_ends : (words : List Word) (s : Stops words) → Ends (texts words) (after nothing_told s.items) s.begun unfinished
+stops_ends words s = record {
+  items = s.items;
+  spelled = s.spelled;
+  allowed = s.allowed;
+  tells = refl;
+  shows = unfinished_front (after nothing_told s.items) s.begun s.unfinished;
+  is_last = tt;
+}
+
+refuses_ends : (words : List Word) (line : ℕ) (fault : Fault) (r : Refuses words line fault)
+    → Ends (texts words) (after nothing_told r.items) (texts (r.begun ++ r.word ∷ r.more)) (faulty (place_of (after nothing_told r.items).changing (texts r.begun)) fault)
+refuses_ends words line fault r = record {
+  items = r.items;
+  spelled = ap texts r.parts ∙ map-append _ r.whole (r.begun ++ r.word ∷ r.more) ∙ ap (λ x. x ++ texts (r.begun ++ r.word ∷ r.more)) r.spelled;
+  allowed = r.allowed;
+  tells = refl;
+  shows = ap (front_of (after nothing_told r.items)) (map-append _ r.begun (r.word ∷ r.more)) ∙ fault_front (after nothing_told r.items) (texts r.begun) r.word.text fault (texts r.more) r.decided;
+  is_last = tt;
+}
+
+-- ---- lines
+
+-- the line of the word at a place
+abbrev line_at : List Word → ℕ → ℕ
+line_at [] place = 0
+line_at (w ∷ ws) zero = w.line
+line_at (w ∷ ws) (suc place) = line_at ws place
+
+line_behind_begun : (begun : List Word) (word : Word) (more : List Word) → line_at (begun ++ word ∷ more) (length (texts begun)) ≡ word.line
+line_behind_begun [] word more = refl
+line_behind_begun (w ∷ begun) word more = line_behind_begun begun word more
+
+line_told : (changing : Bool) (begun : List Word) (word : Word) (more : List Word) → line_at (begun ++ word ∷ more) (place_of changing (texts begun)) ≡ line_of changing begun word
+line_told false begun word more = line_behind_begun begun word more
+line_told true [] word more = refl
+line_told true (w ∷ begun) word more = refl
+
+-- two rests of one list that are equally long are the same
+same_rest : (words a b r s : List Word) → words ≡ a ++ r → words ≡ b ++ s → length r ≡ length s → r ≡ s
+same_rest words a b r s p q e =
+    let n : length a ≡ length b = omega (arith, length-append a r, length-append b s, ap length (sym p ∙ q), e) in
+    sym (drop_at a r (length a) refl) ∙ ap (drop (length a)) (sym p ∙ q) ∙ drop_at b s (length a) (sym n)
+
+abbrev place_in : Front → ℕ
+place_in (whole i rest) = 0
+place_in (faulty place fault) = place
+place_in unfinished = 0
+place_in ended = 0
+
+abbrev fault_in : Fault → Front → Fault
+fault_in d (whole i rest) = d
+fault_in d (faulty place fault) = fault
+fault_in d unfinished = d
+fault_in d ended = d
+
+-- ---- one answer for the words
+
+pub one_telling : (words : List Word) (a b : Context) → Accepts words a → Accepts words b → a ≡ b
+one_telling words a b p q = (one_end (texts words) a b [] [] ended ended (accepts_ends words a p) (accepts_ends words b q)).0
+
+pub one_fault : (words : List Word) (line other_line : ℕ) (fault other_fault : Fault) → Refuses words line fault → Refuses words other_line other_fault
+    → (line ≡ other_line) × (fault ≡ other_fault)
+one_fault words line other_line fault other_fault p q =
+    let e = one_end (texts words) _ _ _ _ _ _ (refuses_ends words line fault p) (refuses_ends words other_line other_fault q) in
+    let long : length (p.begun ++ p.word ∷ p.more) ≡ length (q.begun ++ q.word ∷ q.more) =
+    sym (length-map (p.begun ++ p.word ∷ p.more) (λ (w : Word). w.text)) ∙ ap length e.1 ∙ length-map (q.begun ++ q.word ∷ q.more) (λ (w : Word). w.text) in
+    let rests : p.begun ++ p.word ∷ p.more ≡ q.begun ++ q.word ∷ q.more = same_rest words p.whole q.whole _ _ p.parts q.parts long in (
+      p.at ∙ sym (line_told _ p.begun p.word p.more) ∙ ap (λ x. line_at x (place_of (after nothing_told p.items).changing (texts p.begun))) rests
+          ∙ ap (λ f. line_at (q.begun ++ q.word ∷ q.more) (place_in f)) e.2 ∙ line_told _ q.begun q.word q.more ∙ sym q.at,
+      ap (fault_in fault) e.2,
+    )
+
+abbrev is_ended : Front → Bool
+is_ended (whole i rest) = false
+is_ended (faulty place fault) = false
+is_ended unfinished = false
+is_ended ended = true
+
+abbrev is_unfinished : Front → Bool
+is_unfinished (whole i rest) = false
+is_unfinished (faulty place fault) = false
+is_unfinished unfinished = true
+is_unfinished ended = false
+
+pub accepted-not_refused : (words : List Word) (told : Context) (line : ℕ) (fault : Fault) → Accepts words told → Refuses words line fault → ⊥
+accepted-not_refused words told line fault p q =
+    true≢false (ap is_ended (one_end (texts words) _ _ _ _ _ _ (accepts_ends words told p) (refuses_ends words line fault q)).2)
+
+pub accepted-not_stopped : (words : List Word) (told : Context) → Accepts words told → Stops words → ⊥
+accepted-not_stopped words told p q = true≢false (ap is_ended (one_end (texts words) _ _ _ _ _ _ (accepts_ends words told p) (stops_ends words q)).2)
+
+pub stopped-not_refused : (words : List Word) (line : ℕ) (fault : Fault) → Stops words → Refuses words line fault → ⊥
+stopped-not_refused words line fault p q =
+    true≢false (ap is_unfinished (one_end (texts words) _ _ _ _ _ _ (stops_ends words p) (refuses_ends words line fault q)).2)
+
+-- ---- one answer for a file
+
+pub one_meaning : (bytes : List ℕ) (c d : Contents) (m n : ℕ) → FileMeans bytes c m → FileMeans bytes d n → (c ≡ d) × (m ≡ n)
+one_meaning bytes c d m n p q =
+    let e = one_telling (words_of bytes) p.told q.told p.accepted q.accepted in
+    (p.means ∙ ap meaning e ∙ sym q.means, p.left_out ∙ ap skipped_variables e ∙ sym q.left_out)
+
+pub one_file_fault : (bytes : List ℕ) (line other_line : ℕ) (fault other_fault : Fault) → FileFault bytes line fault → FileFault bytes other_line other_fault
+    → (line ≡ other_line) × (fault ≡ other_fault)
+one_file_fault bytes line other_line fault other_fault (shown p) (shown q) = one_fault (words_of bytes) line other_line fault other_fault p q
+one_file_fault bytes line other_line fault other_fault (shown p) (too_early q l f) = absurd (stopped-not_refused (words_of bytes) line fault q p)
+one_file_fault bytes line other_line fault other_fault (too_early p l f) (shown q) = absurd (stopped-not_refused (words_of bytes) other_line other_fault p q)
+one_file_fault bytes line other_line fault other_fault (too_early p l f) (too_early q m g) = (l ∙ sym m, f ∙ sym g)
+
+pub meaning-no_fault : (bytes : List ℕ) (c : Contents) (n line : ℕ) (fault : Fault) → FileMeans bytes c n → FileFault bytes line fault → ⊥
+meaning-no_fault bytes c n line fault p (shown q) = accepted-not_refused (words_of bytes) p.told line fault p.accepted q
+meaning-no_fault bytes c n line fault p (too_early q l f) = accepted-not_stopped (words_of bytes) p.told p.accepted q

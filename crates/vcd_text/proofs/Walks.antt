@@ -1,0 +1,142 @@
+-- A walk over the changes in order of ticks writes the text of all ticks.
+use Rattle.std.proofs.Common.{◌≡◌, ◌<◌, ◌≤◌, ◌+◌, ℕ, zero, suc, Bool, true, false, cond, ◌&&◌, ◌==◌, if◌then◌else◌, nat_lt, List, [], ◌∷◌, ◌++◌, length, map, drop, get_or, refl, sym, ap, subst, ◌∙◌, arith, append_assoc, eq-eqb}
+use Rattle.std.specs.List.{filter, flat_map, enumerate_from}
+use Rattle.std.proofs.lemmas.Bool.{lt-ltb, le-ltb, ne_eqb}
+use Rattle.std.proofs.lemmas.Grind.{flat_map-append}
+use Rattle.std.proofs.lemmas.List.{append-nil, drop_all, drop_more, get_or-drop, drop-drop, get_or_default, length-map}
+use Rattle.std.proofs.Math.ListN.{get_or-map}
+use Rattle.vcd_core.specs.declared.capture.Signal.{Signal}
+use Rattle.vcd_core.specs.Contents.{SignalContents, signal_contents}
+use Rattle.vcd_core.specs.Wave.{value_at}
+use Rattle.vcd_text.specs.declared.writing.moves.Move.{Move}
+use Rattle.vcd_text.specs.Items.{Item}
+use Rattle.vcd_text.specs.Moves.{move_of, moves_from}
+use Rattle.vcd_text.specs.Text.{code_of, differs_at, end_items, line_of, new_values, signal_value, stamp_of, stamped, tick_items, value_item, value_items}
+use Rattle.vcd_text.proofs.Appended.{carried, two_pieces}
+
+abbrev pub no_signal : SignalContents
+no_signal = record { scopes = []; kind = []; words = []; width = 0; changes = [] }
+
+-- what is written over moves, where the last stamp was that of a tick
+unfoldable pub walk : List SignalContents → ℕ → ℕ → List Move → List Item
+walk signals end last [] = if nat_lt last end then stamp_of end ∷ [] else []
+walk signals end last (m ∷ ms) =
+    (if m.tick == last then [] else stamp_of m.tick ∷ [])
+    ++ value_item (code_of m.position) (signal_value (get_or signals m.position no_signal) m.tick) ∷ walk signals end m.tick ms
+
+-- each signal stands at its position
+abbrev AllPlaced : List SignalContents → List (ℕ × SignalContents) → Type 0
+AllPlaced signals [] = Unit {0}
+AllPlaced signals (p ∷ ps) = (get_or signals p.0 no_signal ≡ p.1) × AllPlaced signals ps
+
+-- the moves of a list of signals at a tick
+abbrev at_tick : ℕ → List (ℕ × SignalContents) → List Move
+at_tick t placed = map (λ p. move_of t p.0) placed
+
+-- moves at the tick of the last stamp
+same_tick : (signals : List SignalContents) (end t : ℕ) (placed : List (ℕ × SignalContents)) (ms : List Move) → AllPlaced signals placed
+    → walk signals end t (at_tick t placed ++ ms) ≡ value_items t placed ++ walk signals end t ms
+unfolding walk
+same_tick signals end t [] ms all = refl
+same_tick signals end t (p ∷ ps) ms (at, rest) =
+    ap (λ b. (if b then [] else stamp_of t ∷ []) ++ value_item (code_of p.0) (signal_value (get_or signals p.0 no_signal) t) ∷ walk signals end t (at_tick t ps ++ ms)) (eq-eqb t t refl)
+    ∙ ap (λ s. value_item (code_of p.0) (signal_value s t) ∷ walk signals end t (at_tick t ps ++ ms)) at
+    ∙ ap (λ l. value_item (code_of p.0) (signal_value p.1 t) ∷ l) (same_tick signals end t ps ms rest)
+
+-- moves at a later tick, one at least
+later_tick : (signals : List SignalContents) (end last t : ℕ) (p : ℕ × SignalContents) (ps : List (ℕ × SignalContents)) (ms : List Move) → last < t → AllPlaced signals (p ∷ ps)
+    → walk signals end last (at_tick t (p ∷ ps) ++ ms) ≡ stamped t (value_items t (p ∷ ps)) ++ walk signals end t ms
+unfolding walk
+later_tick signals end last t p ps ms later (at, rest) =
+    ap (λ b. (if b then [] else stamp_of t ∷ []) ++ value_item (code_of p.0) (signal_value (get_or signals p.0 no_signal) t) ∷ walk signals end t (at_tick t ps ++ ms)) (ne_eqb t last (omega arith))
+    ∙ ap (λ s. stamp_of t ∷ value_item (code_of p.0) (signal_value s t) ∷ walk signals end t (at_tick t ps ++ ms)) at
+    ∙ ap (λ l. stamp_of t ∷ value_item (code_of p.0) (signal_value p.1 t) ∷ l) (same_tick signals end t ps ms rest)
+
+-- a tick before the end
+one_tick : (signals : List SignalContents) (end last t : ℕ) (placed : List (ℕ × SignalContents)) (ms : List Move) (rest : List Item) → last < t → AllPlaced signals placed
+    → walk signals end last ms ≡ rest → walk signals end t ms ≡ rest → walk signals end last (at_tick t placed ++ ms) ≡ stamped t (value_items t placed) ++ rest
+one_tick signals end last t [] ms rest later all still now = still
+one_tick signals end last t (p ∷ ps) ms rest later all still now = later_tick signals end last t p ps ms later all ∙ ap (λ l. stamped t (value_items t (p ∷ ps)) ++ l) now
+
+-- the last tick, and the stamp of the end where nothing changes at it
+last_tick : (signals : List SignalContents) (last t : ℕ) (placed : List (ℕ × SignalContents)) → last < t → AllPlaced signals placed
+    → walk signals t last (at_tick t placed ++ []) ≡ (stamped t (value_items t placed) ++ []) ++ (if nat_lt 0 t && (length (value_items t placed) == 0) then stamp_of t ∷ [] else [])
+unfolding walk
+last_tick signals last t [] later all =
+    ap (λ b. if b then stamp_of t ∷ [] else []) (lt-ltb last t later) ∙ sym (ap (λ b. if b && true then stamp_of t ∷ [] else []) (lt-ltb 0 t (omega arith)))
+last_tick signals last t (p ∷ ps) later all =
+    let more : (suc (length (value_items t ps)) == 0) ≡ false = ne_eqb (suc (length (value_items t ps))) 0 (omega arith) in
+    later_tick signals t last t p ps [] later all
+    ∙ ap (λ b. stamped t (value_items t (p ∷ ps)) ++ (if b then stamp_of t ∷ [] else [])) (le-ltb t t (omega arith))
+    ∙ append-nil (stamped t (value_items t (p ∷ ps)))
+    ∙ sym (ap (λ b. (stamped t (value_items t (p ∷ ps)) ++ []) ++ (if nat_lt 0 t && b then stamp_of t ∷ [] else [])) more
+    ∙ ap (λ b. (stamped t (value_items t (p ∷ ps)) ++ []) ++ (if b && false then stamp_of t ∷ [] else [])) (lt-ltb 0 t (omega arith))
+    ∙ append-nil _ ∙ append-nil (stamped t (value_items t (p ∷ ps))))
+
+placed_filter : (signals : List SignalContents) (t : ℕ) (placed : List (ℕ × SignalContents)) → AllPlaced signals placed → AllPlaced signals (filter (λ p. differs_at t p.1) placed)
+placed_filter signals t [] all = tt
+placed_filter signals t (p ∷ ps) (at, rest) = keep (differs_at t p.1) (placed_filter signals t ps rest)
+  where
+    keep : (b : Bool) → AllPlaced signals (filter (λ p. differs_at t p.1) ps) → AllPlaced signals (cond b (p ∷ filter (λ p. differs_at t p.1) ps) (filter (λ p. differs_at t p.1) ps))
+    keep true kept = (at, kept)
+    keep false kept = kept
+
+placed_enumerated : (signals : List SignalContents) (k : ℕ) (ss : List SignalContents) → drop k signals ≡ ss → AllPlaced signals (enumerate_from k ss)
+placed_enumerated signals k [] is = tt
+placed_enumerated signals k (s ∷ ss) is =
+    let here : get_or signals k no_signal ≡ s =
+    ap (λ n. get_or signals n no_signal) (let e : k ≡ k + 0 = omega arith in e) ∙ sym (get_or-drop k signals 0 no_signal) ∙ ap (λ l. get_or l 0 no_signal) is in
+    (here, placed_enumerated signals (k + 1) ss (sym (drop-drop 1 k signals) ∙ ap (drop 1) is))
+
+all_placed : (signals : List SignalContents) (t : ℕ) → AllPlaced signals (filter (λ p. differs_at t p.1) (enumerate_from 0 signals))
+all_placed signals t = placed_filter signals t (enumerate_from 0 signals) (placed_enumerated signals 0 signals refl)
+
+walk_ticks : (signals : List SignalContents) (n end last t : ℕ) → last < t → t + n ≡ end
+    → walk signals end last (moves_from signals t (suc n)) ≡ tick_items signals t (suc n) ++ end_items signals end
+unfolding moves_from tick_items
+walk_ticks signals zero end last t later all =
+    let at : t ≡ end = omega arith in
+    subst (λ e. walk signals e last (moves_from signals t 1) ≡ tick_items signals t 1 ++ end_items signals e) at
+    (last_tick signals last t (filter (λ p. differs_at t p.1) (enumerate_from 0 signals)) later (all_placed signals t))
+walk_ticks signals (suc n) end last t later all =
+    one_tick signals end last t (filter (λ p. differs_at t p.1) (enumerate_from 0 signals)) (moves_from signals (suc t) (suc n)) (tick_items signals (suc t) (suc n) ++ end_items signals end)
+    later (all_placed signals t) (walk_ticks signals n end last (suc t) (omega arith) (omega arith)) (walk_ticks signals n end t (suc t) (omega arith) (omega arith))
+    ∙ sym (append_assoc (stamped t (new_values signals t)) (tick_items signals (suc t) (suc n)) (end_items signals end))
+
+-- the walk over the moves of all ticks
+pub walk_is : (signals : List SignalContents) (end : ℕ) → walk signals end 0 (moves_from signals 1 end) ≡ tick_items signals 1 end ++ end_items signals end
+unfolding walk moves_from tick_items
+walk_is signals zero = refl
+walk_is signals (suc n) = walk_ticks signals n (suc n) 0 1 (omega arith) (omega arith)
+
+-- one move more is written
+pub one_walked : (signals : List Signal) (end last : ℕ) (moves : List Move) (k : ℕ) (m : Move) (s : Signal) (out one two whole : List ℕ) → k < length moves → m ≡ get_or moves k m
+    → m.position < length signals → s ≡ get_or signals m.position s → one ≡ out ++ flat_map line_of (if m.tick == last then [] else stamp_of m.tick ∷ [])
+    → two ≡ one ++ line_of (value_item (code_of m.position) (value_at s.wave.width s.wave.changes m.tick))
+    → out ++ flat_map line_of (walk (map signal_contents signals) end last (drop k moves)) ≡ whole
+    → two ++ flat_map line_of (walk (map signal_contents signals) end m.tick (drop (k + 1) moves)) ≡ whole
+unfolding walk
+one_walked signals end last moves k m s out one two whole within at inside is stamp value all =
+    let signal : get_or (map signal_contents signals) m.position no_signal ≡ signal_contents s =
+    get_or_default (map signal_contents signals) m.position no_signal (signal_contents s) (simp length-map inside)
+    ∙ get_or-map signal_contents signals m.position s ∙ ap signal_contents (sym is) in
+    carried out two (flat_map line_of (if m.tick == last then [] else stamp_of m.tick ∷ []) ++ line_of (value_item (code_of m.position) (value_at s.wave.width s.wave.changes m.tick))) _ _ whole
+    (two_pieces out one two _ _ _ stamp value refl)
+    (ap (λ l. flat_map line_of (walk (map signal_contents signals) end last l)) (drop_more moves k m within ∙ ap (λ x. x ∷ drop (k + 1) moves) (sym at))
+    ∙ flat_map-append line_of (if m.tick == last then [] else stamp_of m.tick ∷ []) _
+    ∙ ap (λ v. flat_map line_of (if m.tick == last then [] else stamp_of m.tick ∷ []) ++ (line_of (value_item (code_of m.position) (signal_value v m.tick)) ++ flat_map line_of (walk (map signal_contents signals) end m.tick (drop (k + 1) moves)))) signal
+    ∙ sym (append_assoc (flat_map line_of (if m.tick == last then [] else stamp_of m.tick ∷ [])) (line_of (value_item (code_of m.position) (value_at s.wave.width s.wave.changes m.tick))) _))
+    all
+
+-- all moves are written, and the stamp of the end
+pub all_walked : (signals : List Signal) (end last : ℕ) (moves : List Move) (k : ℕ) (out new start : List ℕ) → length moves ≤ k
+    → moves ≡ moves_from (map signal_contents signals) 1 end → new ≡ out ++ flat_map line_of (if nat_lt last end then stamp_of end ∷ [] else [])
+    → out ++ flat_map line_of (walk (map signal_contents signals) end last (drop k moves)) ≡ start ++ flat_map line_of (walk (map signal_contents signals) end 0 moves)
+    → new ≡ start ++ flat_map line_of (tick_items (map signal_contents signals) 1 end ++ end_items (map signal_contents signals) end)
+unfolding walk
+all_walked signals end last moves k out new start past is stamp all =
+    stamp
+    ∙ ap (λ l. out ++ flat_map line_of (walk (map signal_contents signals) end last l)) (sym (drop_all k moves past))
+    ∙ all
+    ∙ ap (λ l. start ++ flat_map line_of (walk (map signal_contents signals) end 0 l)) is
+    ∙ ap (λ l. start ++ flat_map line_of l) (walk_is (map signal_contents signals) end)

@@ -1,0 +1,12 @@
+use Rattle.std.proofs.Common.{◌≡◌, ◌≤◌, length}
+use Rattle.std.specs.List.{list_all}
+use Rattle.vcd_text.specs.Letters.{number_behind, is_digit}
+use Rattle.vcd_text.specs.Grammar.{tick_limit}
+use Rattle.vcd_text.proofs.reading.decimal.tick_of.Given as goal
+
+abbrev pub invariant-loop-digit : goal.invariant-loop-digit
+invariant-loop-digit l =
+    (l.tick ≤ tick_limit) × (number_behind l.tick l.rest ≡ number_behind 0 l.digits) × (list_all is_digit l.rest ≡ list_all is_digit l.digits)
+
+abbrev pub decreases-loop-digit : goal.decreases-loop-digit
+decreases-loop-digit l = length l.rest

@@ -1,0 +1,7 @@
+-- The letters passed so far are spare.
+use Rattle.std.proofs.Common.{◌≡◌, drop}
+use Rattle.vcd_text.proofs.ShortForms.{shortened}
+use Rattle.vcd_text.proofs.writing.values.spare_letters.Given as goal
+
+abbrev pub invariant-loop-k : goal.invariant-loop-k
+invariant-loop-k l = shortened (drop l.k l.value) ≡ shortened l.value

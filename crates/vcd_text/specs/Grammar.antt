@@ -1,0 +1,177 @@
+-- Which files are accepted, and what they tell: what each item asks for, and what it adds (IEEE 1364-2005, 18.2, in the project's profile).
+use Rattle.std.specs.Prelude.{◌≡◌, ℕ, ◌-◌, ◌<◌, ◌≤◌, Bool, true, false, not, ◌&&◌, ◌||◌, ◌==◌, nat_lt, nat_le, if◌then◌else◌, List, [], ◌∷◌, ◌++◌, map, length, take, filter, find, Option, Some, None, IsSome, IsSomeAnd, IsTrue, IsFalse, option_to_list, codes, bytes_eq}
+use Rattle.std.specs.List.{list_all}
+use Rattle.vcd_core.specs.declared.bit.Bit.{Bit}
+use Rattle.vcd_core.specs.declared.capture.Header.{Header}
+use Rattle.vcd_core.specs.declared.capture.Timescale.{Timescale}
+use Rattle.vcd_core.specs.declared.capture.ScopeName.{ScopeName}
+use Rattle.vcd_core.specs.declared.value.TheConstants.{WIDTH_LIMIT}
+use Rattle.vcd_text.specs.Words.{Word}
+use Rattle.vcd_text.specs.Letters.{is_among, is_letter, letters_read, is_number, number_of}
+use Rattle.vcd_text.specs.Items.{Item, entry, timescale, scope, upscope, variable, end_definitions, stamp, scalar, vector, real_or_string, bracket, other, spellings, has_no_end, is_one_of, dump_words, is_other, timescale_of, vector_letters, dropped_letters}
+
+-- ---- limits, the project's own
+
+-- the greatest tick
+abbrev pub tick_limit : ℕ
+tick_limit = 9223372036854775807
+
+-- the most signals
+abbrev pub signal_limit : ℕ
+signal_limit = 65536
+
+-- ---- what a file tells
+
+-- a variable, with the scopes that are open where it is declared
+pub record Declaration : Type 0 where
+  pub scopes : List ScopeName
+  pub kind : List ℕ
+  pub size : ℕ
+  pub code : List ℕ
+  pub words : List (List ℕ)
+
+-- a record: from this tick on, the variables of this code have the value that these letters give
+pub record Recorded : Type 0 where
+  pub tick : ℕ
+  pub code : List ℕ
+  pub letters : List Bit
+
+-- what the items so far have told: the scopes are those that are open, outermost first; the tick is the last stamp, or 0; `changing` says whether `$enddefinitions $end` has come
+pub record Context : Type 0 where
+  pub header : List Header
+  pub timescale : Option Timescale
+  pub scopes : List ScopeName
+  pub declared : List Declaration
+  pub changing : Bool
+  pub records : List Recorded
+  pub tick : ℕ
+
+-- before the first item
+abbrev pub nothing_told : Context
+nothing_told = record { header = []; timescale = None; scopes = []; declared = []; changing = false; records = []; tick = 0 }
+
+-- ---- variables
+
+-- the kinds whose values are no four-state letters
+abbrev pub skipped_kinds : List (List ℕ)
+skipped_kinds = codes "real" ∷ codes "realtime" ∷ codes "real_parameter" ∷ codes "shortreal" ∷ codes "event" ∷ codes "string" ∷ []
+
+-- whether a variable is skipped: for its kind, or as it has no bit or too many (the project's own)
+abbrev pub is_skipped : Declaration → Bool
+is_skipped d = is_one_of skipped_kinds d.kind || (d.size == 0 || nat_lt WIDTH_LIMIT d.size)
+
+-- the variables that are not skipped
+abbrev pub kept : List Declaration → List Declaration
+kept declared = filter (λ d. not (is_skipped d)) declared
+
+-- whether the size in the words of a `$var`, if it has come, is a decimal number
+abbrev pub has_good_size : List (List ℕ) → Bool
+has_good_size [] = true
+has_good_size (kind ∷ []) = true
+has_good_size (kind ∷ size ∷ words) = is_number size
+
+-- what the words of a `$var` declare: kind, size, code, and one or more words of the name
+abbrev pub declaration_of : Context → List (List ℕ) → Option Declaration
+declaration_of c [] = None
+declaration_of c (kind ∷ []) = None
+declaration_of c (kind ∷ size ∷ []) = None
+declaration_of c (kind ∷ size ∷ code ∷ []) = None
+declaration_of c (kind ∷ size ∷ code ∷ name ∷ names) = Some (record { scopes = c.scopes; kind = kind; size = number_of size; code = code; words = name ∷ names })
+
+-- the first variable of this code; the later ones agree with it
+abbrev pub variable_of : Context → List ℕ → Option Declaration
+variable_of c code = find (λ d. bytes_eq code d.code) c.declared
+
+-- whether two variables may have one code: both are skipped, or both are kept with one size
+abbrev pub may_share : Declaration → Declaration → Bool
+may_share a b = (is_skipped a && is_skipped b) || (not (is_skipped a) && not (is_skipped b) && (a.size == b.size))
+
+-- whether a variable may have its code, beside the one that has it already, if there is one
+abbrev pub may_have_code : Option Declaration → Declaration → Bool
+may_have_code None d = true
+may_have_code (Some before) d = may_share before d
+
+-- whether there is room for a variable among the signals
+abbrev pub has_room : List Declaration → Declaration → Bool
+has_room declared d = is_skipped d || nat_lt (length (kept declared)) signal_limit
+
+-- ---- changes
+
+-- whether a text is a tick
+abbrev pub is_tick : List ℕ → Bool
+is_tick digits = is_number digits && nat_le (number_of digits) tick_limit
+
+-- whether a text is one or more value letters
+abbrev pub is_value : List ℕ → Bool
+is_value digits = not (length digits == 0) && list_all is_letter digits
+
+-- whether a variable takes these digits: a skipped one any, another one a value that is not too long
+abbrev pub takes_digits : Declaration → List ℕ → Bool
+takes_digits d digits = is_skipped d || (is_value digits && nat_le (length digits) d.size)
+
+-- ---- what an item asks for
+
+abbrev pub Allows : Context → Item → Type 0
+Allows c (entry kind words) = IsFalse c.changing × IsTrue (has_no_end words)
+Allows c (timescale words) = IsFalse c.changing × IsTrue (has_no_end words) × IsSome (timescale_of words)
+Allows c (scope kind words) = IsFalse c.changing × IsTrue (has_no_end (kind ∷ words))
+Allows c upscope = IsFalse c.changing × (0 < length c.scopes)
+Allows c (variable words) =
+    IsFalse c.changing × IsTrue (has_no_end words) × IsTrue (has_good_size words)
+    × IsSomeAnd (declaration_of c words) (λ d. IsTrue (may_have_code (variable_of c d.code) d) × IsTrue (has_room c.declared d))
+Allows c end_definitions = IsFalse c.changing
+Allows c (stamp digits) = IsTrue c.changing × IsTrue (is_tick digits) × (c.tick ≤ number_of digits)
+Allows c (scalar letter code) = IsTrue c.changing × IsTrue (is_letter letter) × (0 < length code) × IsSome (variable_of c code)
+Allows c (vector first digits code) =
+    IsTrue c.changing × IsTrue (is_among vector_letters first) × IsSomeAnd (variable_of c code) (λ d. IsTrue (takes_digits d digits))
+Allows c (real_or_string first text code) = IsTrue c.changing × IsTrue (is_among dropped_letters first) × IsSome (variable_of c code)
+Allows c (bracket word) = IsTrue c.changing × IsTrue (is_one_of dump_words word)
+Allows c (other word words) = IsTrue (is_other c.changing word) × IsTrue (has_no_end words)
+
+-- ---- what an item adds
+
+-- a record of these letters at the tick, for a variable that is kept
+abbrev pub recorded : Context → List ℕ → List Bit → Option Declaration → List Recorded
+recorded c code letters None = []
+recorded c code letters (Some d) = if is_skipped d then [] else record { tick = c.tick; code = code; letters = letters } ∷ []
+
+-- what has been told, with this record behind the others
+abbrev pub with_record : Context → List ℕ → List Bit → Context
+with_record c code letters = record c { records = c.records ++ recorded c code letters (variable_of c code) }
+
+-- what has been told behind an item
+abbrev pub after_item : Context → Item → Context
+after_item c (entry kind words) = record c { header = c.header ++ record { kind = kind; words = words } ∷ [] }
+after_item c (timescale words) = record c { timescale = timescale_of words }
+after_item c (scope kind words) = record c { scopes = c.scopes ++ record { kind = kind; words = words } ∷ [] }
+after_item c upscope = record c { scopes = take (length c.scopes - 1) c.scopes }
+after_item c (variable words) = record c { declared = c.declared ++ option_to_list (declaration_of c words) }
+after_item c end_definitions = record c { changing = true }
+after_item c (stamp digits) = record c { tick = number_of digits }
+after_item c (scalar letter code) = with_record c code (letters_read (letter ∷ []))
+after_item c (vector first digits code) = with_record c code (letters_read digits)
+after_item c (real_or_string first text code) = c
+after_item c (bracket word) = c
+after_item c (other word words) = c
+
+abbrev pub after : Context → List Item → Context
+after c [] = c
+after c (i ∷ is) = after (after_item c i) is
+
+-- each item gets what it asks for, in turn
+abbrev pub AllowsAll : Context → List Item → Type 0
+AllowsAll c [] = Unit {0}
+AllowsAll c (i ∷ is) = Allows c i × AllowsAll (after_item c i) is
+
+-- ---- files
+
+abbrev pub texts : List Word → List (List ℕ)
+texts words = map (λ word. word.text) words
+
+-- the words are accepted, and tell this: they spell items, `$enddefinitions $end` among them, each of which gets what it asks for
+pub record Accepts (words : List Word) (told : Context) : Type 0 where
+  pub items : List Item
+  pub spelled : texts words ≡ spellings items
+  pub allowed : AllowsAll nothing_told items
+  pub tells : after nothing_told items ≡ told
+  pub declared : IsTrue told.changing

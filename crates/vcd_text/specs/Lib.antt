@@ -1,0 +1,16 @@
+pub mod Words
+pub mod Letters
+pub mod FaultNames
+pub mod Items
+pub mod Grammar
+pub mod Faults
+pub mod Meaning
+pub mod Text
+pub mod FileLaws
+pub mod Spaces
+pub mod WordsLeft
+pub mod TimescaleText
+pub mod Variables
+pub mod Reading
+pub mod Spaced
+pub mod Moves

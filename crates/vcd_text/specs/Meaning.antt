@@ -1,0 +1,40 @@
+-- What a file means: its signals, each with its value at every tick (IEEE 1364-2005, 18.2).
+use Rattle.std.specs.Prelude.{◌≡◌, ℕ, ◌&&◌, if◌then◌else◌, nat_le, List, [], ◌∷◌, map, count_by, bytes_eq}
+use Rattle.vcd_core.specs.declared.bit.Bit.{Bit}
+use Rattle.vcd_core.specs.Value.{all_x}
+use Rattle.vcd_core.specs.Wave.{changes_of}
+use Rattle.vcd_core.specs.Contents.{Contents, SignalContents}
+use Rattle.vcd_text.specs.Words.{words_of}
+use Rattle.vcd_text.specs.Letters.{ext}
+use Rattle.vcd_text.specs.Grammar.{Declaration, Recorded, Context, Accepts, is_skipped, kept}
+
+-- the value that a code of this width has at a tick: the extension of the last record, in the order of the file, with that code and a tick at most t; else `before`
+unfoldable pub recorded_value : ℕ → List ℕ → ℕ → List Bit → List Recorded → List Bit
+recorded_value width code t before [] = before
+recorded_value width code t before (r ∷ rs) =
+    recorded_value width code t (if bytes_eq r.code code && nat_le r.tick t then ext width r.letters else before) rs
+
+-- the signal that a variable is, up to the tick `end`: all x before its first record
+abbrev pub declared_signal : List Recorded → ℕ → Declaration → SignalContents
+declared_signal records end d = record {
+  scopes = d.scopes;
+  kind = d.kind;
+  words = d.words;
+  width = d.size;
+  changes = changes_of d.size end (λ t. recorded_value d.size d.code t (all_x d.size) records);
+}
+
+-- what a file means that has told this: each variable that is kept is a signal, in the order of the file; the end is the last stamp, or 0
+abbrev pub meaning : Context → Contents
+meaning c = record { header = c.header; timescale = c.timescale; end = c.tick; signals = map (declared_signal c.records c.tick) (kept c.declared) }
+
+-- how many variables are skipped
+abbrev pub skipped_variables : Context → ℕ
+skipped_variables c = count_by is_skipped c.declared
+
+-- the file is accepted, and means these contents, with so many variables skipped
+pub record FileMeans (bytes : List ℕ) (contents : Contents) (skipped : ℕ) : Type 0 where
+  pub told : Context
+  pub accepted : Accepts (words_of bytes) told
+  pub means : contents ≡ meaning told
+  pub left_out : skipped ≡ skipped_variables told

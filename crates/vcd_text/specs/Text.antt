@@ -1,0 +1,125 @@
+-- The text of a capture: its items in a fixed order, each on a line of its own (the format: IEEE 1364-2005, 18.2; the order and the codes: the project's own).
+use Rattle.std.specs.Prelude.{ℕ, zero, suc, Bool, ◌+◌, ◌-◌, ◌/◌, ◌%◌, ◌==◌, ◌&&◌, not, if◌then◌else◌, nat_lt, List, [], ◌∷◌, ◌++◌, length, map, drop, replicate, Option, Some, None, codes}
+use Rattle.std.specs.List.{filter, flat_map, enumerate_from, join_with_byte, common_prefix_len}
+use Rattle.std.specs.Str.{bytes_eq}
+use Rattle.std.specs.Cmp.Lexicographic.{pointwise}
+use Rattle.std.specs.Fmt.{decimal}
+use Rattle.vcd_core.specs.declared.bit.Bit.{Bit}
+use Rattle.vcd_core.specs.declared.capture.Header.{Header}
+use Rattle.vcd_core.specs.declared.capture.Timescale.{Timescale}
+use Rattle.vcd_core.specs.declared.capture.ScopeName.{ScopeName}
+use Rattle.vcd_core.specs.Value.{same_letters}
+use Rattle.vcd_core.specs.Wave.{value_at}
+use Rattle.vcd_core.specs.Contents.{Contents, SignalContents}
+use Rattle.vcd_text.specs.Letters.{printed_letter, printed, short}
+use Rattle.vcd_text.specs.Items.{Item, entry, timescale, scope, upscope, variable, end_definitions, stamp, scalar, vector, bracket, spelling, end_word, unit_text}
+
+-- the line of an item: its words with one space (32) between them, and a line feed (10)
+abbrev pub line_of : Item → List ℕ
+line_of item = join_with_byte 32 (spelling item) ++ 10 ∷ []
+
+-- ---- declarations
+
+-- the header entries (18.2)
+abbrev pub header_items : List Header → List Item
+header_items header = map (λ h. entry h.kind h.words) header
+
+-- the timescale, where there is one: its number and its unit are two words (18.2)
+abbrev pub timescale_items : Option Timescale → List Item
+timescale_items None = []
+timescale_items (Some t) = timescale (decimal t.count ∷ unit_text t.unit ∷ []) ∷ []
+
+-- whether two scopes have the same kind and the same words
+abbrev pub same_scope : ScopeName → ScopeName → Bool
+same_scope a b = bytes_eq a.kind b.kind && pointwise bytes_eq a.words b.words
+
+-- from the open scopes to those of a signal: the open ones past the front that both share are closed, then the further ones are opened (18.2)
+abbrev pub scope_items : List ScopeName → List ScopeName → List Item
+scope_items opened path =
+    let shared : ℕ = common_prefix_len same_scope opened path in
+    replicate (length opened - shared) upscope ++ map (λ s. scope s.kind s.words) (drop shared path)
+
+-- n in bijective base 94, its digits 1 to 94 being the bytes 33 to 126, the lowest first; the first number only bounds how many digits there are
+unfoldable pub code_digits : ℕ → ℕ → List ℕ
+code_digits most zero = []
+code_digits zero (suc n) = []
+code_digits (suc most) (suc n) = (33 + n % 94) ∷ code_digits most (n / 94)
+
+-- the code of the signal at a position: the position counted from 1 (the project's own)
+abbrev pub code_of : ℕ → List ℕ
+code_of position = code_digits (position + 1) (position + 1)
+
+-- the declaration of the signal at a position (18.2)
+abbrev pub variable_item : ℕ → SignalContents → Item
+variable_item position s = variable (s.kind ∷ decimal s.width ∷ code_of position ∷ s.words)
+
+-- the declarations of signals, the first at this position, while these scopes are open; at last all that are open are closed
+unfoldable pub signal_items : List ScopeName → ℕ → List SignalContents → List Item
+signal_items opened position [] = map (λ s. upscope) opened
+signal_items opened position (s ∷ ss) = scope_items opened s.scopes ++ variable_item position s ∷ signal_items s.scopes (suc position) ss
+
+-- ---- values
+
+-- a value for a code: of one bit as its letter, of more behind `b` (98) in the short form (18.2)
+abbrev pub value_item : List ℕ → List Bit → Item
+value_item code (b ∷ []) = scalar (printed_letter b) code
+value_item code value = vector 98 (printed (short value)) code
+
+-- the value of a signal at a tick
+abbrev pub signal_value : SignalContents → ℕ → List Bit
+signal_value s t = value_at s.width s.changes t
+
+-- whether a signal differs at a tick from the tick before
+abbrev pub differs_at : ℕ → SignalContents → Bool
+differs_at t s = not (same_letters (signal_value s t) (signal_value s (t - 1)))
+
+-- the values at a tick of signals, each with its position
+abbrev pub value_items : ℕ → List (ℕ × SignalContents) → List Item
+value_items t placed = map (λ p. value_item (code_of p.0) (signal_value p.1 t)) placed
+
+-- the values at a tick of all signals, in order
+abbrev pub all_values : List SignalContents → ℕ → List Item
+all_values signals t = value_items t (enumerate_from 0 signals)
+
+-- the values at a tick of the signals that differ at it, in order
+abbrev pub new_values : List SignalContents → ℕ → List Item
+new_values signals t = value_items t (filter (λ p. differs_at t p.1) (enumerate_from 0 signals))
+
+-- the stamp of a tick (18.2)
+abbrev pub stamp_of : ℕ → Item
+stamp_of t = stamp (decimal t)
+
+-- the stamp of a tick before its values, where there are any
+abbrev pub stamped : ℕ → List Item → List Item
+stamped t [] = []
+stamped t (v ∷ vs) = stamp_of t ∷ v ∷ vs
+
+-- the values at tick 0, between `$dumpvars` and `$end` (18.2)
+abbrev pub first_items : List SignalContents → List Item
+first_items signals = stamp_of 0 ∷ bracket (codes "$dumpvars") ∷ (all_values signals 0 ++ bracket end_word ∷ [])
+
+-- what differs at each of n ticks, from t on
+unfoldable pub tick_items : List SignalContents → ℕ → ℕ → List Item
+tick_items signals t zero = []
+tick_items signals t (suc n) = stamped t (new_values signals t) ++ tick_items signals (suc t) n
+
+-- the stamp of the end, where it is above 0 and nothing differs at it
+abbrev pub end_items : List SignalContents → ℕ → List Item
+end_items signals end = if nat_lt 0 end && (length (new_values signals end) == 0) then stamp_of end ∷ [] else []
+
+-- ---- files
+
+-- the items of a capture: header, timescale, declarations, the values at tick 0, what differs at the ticks 1 to the end, and the end
+unfoldable pub items_of : Contents → List Item
+items_of c =
+    header_items c.header
+    ++ timescale_items c.timescale
+    ++ signal_items [] 0 c.signals
+    ++ end_definitions
+    ∷ first_items c.signals
+    ++ tick_items c.signals 1 c.end
+    ++ end_items c.signals c.end
+
+-- the text of a capture, byte for byte
+unfoldable pub text : Contents → List ℕ
+text c = flat_map line_of (items_of c)

@@ -1,0 +1,113 @@
+//! Why a capture file could not be read or written.
+
+ghost use Rattle.std.specs.Prelude.{◌≡◌};
+ghost use Rattle.vcd_text.specs.FaultNames.{fault_name, write_error_name};
+
+use thiserror::Error;
+
+/// What is wrong with a capture file, or kept it from being read.
+///
+/// The names are the project's own. The rules of the format (IEEE 1364-2005, 18.2, in the project's
+/// profile) say which one a file has, and at which line.
+#[derive(Clone, Copy, Debug, PartialEq, Eq, Error)]
+#[error("{}", self.name())]
+pub enum Fault {
+    /// The words end before `$enddefinitions $end`, inside an item, or where a code is due.
+    Truncated,
+    /// A word that may not stand at its place.
+    UnexpectedWord,
+    /// A timescale that is not 1, 10 or 100 of a unit from `s` to `fs`.
+    BadTimescale,
+    /// A `$scope` without a kind.
+    BadScope,
+    /// `$upscope` where no scope is open.
+    UpscopeAtTop,
+    /// A `$var` without kind, size, code or name, or with a size that is no decimal number.
+    BadVar,
+    /// A code declared twice, once kept and once skipped, or with two sizes.
+    MixedCode,
+    /// A time stamp that is no decimal number, or above the greatest tick, 2^63 - 1.
+    BadTime,
+    /// A time stamp below the one before it.
+    TimeBackwards,
+    /// A change that is none, or without its code, or with a letter that is no value.
+    BadChange,
+    /// A change of a code that no `$var` declared.
+    UnknownCode,
+    /// More digits than the variable has bits.
+    ValueTooLong,
+    /// More kept variables than a capture may have signals.
+    TooManySignals,
+    /// The file has more than 4 GiB.
+    TooLarge,
+    /// The reader failed.
+    ReadFault,
+    /// Memory ran out.
+    NoMemory,
+}
+
+impl Fault {
+    /// The fault's name, as it is printed. It takes no memory.
+    pub fn name(&self) -> &'static str
+        ensures { result.now ≡ fault_name self.now }
+    {
+        match self {
+            Fault::Truncated => "Truncated",
+            Fault::UnexpectedWord => "UnexpectedWord",
+            Fault::BadTimescale => "BadTimescale",
+            Fault::BadScope => "BadScope",
+            Fault::UpscopeAtTop => "UpscopeAtTop",
+            Fault::BadVar => "BadVar",
+            Fault::MixedCode => "MixedCode",
+            Fault::BadTime => "BadTime",
+            Fault::TimeBackwards => "TimeBackwards",
+            Fault::BadChange => "BadChange",
+            Fault::UnknownCode => "UnknownCode",
+            Fault::ValueTooLong => "ValueTooLong",
+            Fault::TooManySignals => "TooManySignals",
+            Fault::TooLarge => "TooLarge",
+            Fault::ReadFault => "ReadFault",
+            Fault::NoMemory => "NoMemory",
+        }
+    }
+}
+
+/// Why a capture file could not be read, and the line at which that was decided, counted from 1.
+/// Where memory ran out the line is 0.
+#[derive(Clone, Copy, Debug, PartialEq, Eq, Error)]
+#[error("{}", self.name())]
+pub struct ReadError {
+    pub line: u64,
+    pub fault: Fault,
+}
+
+impl ReadError {
+    /// The name of the fault. It takes no memory.
+    pub fn name(&self) -> &'static str
+        ensures { result.now ≡ fault_name self.now.fault }
+    {
+        self.fault.name()
+    }
+}
+
+/// Why a capture could not be written.
+#[derive(Clone, Copy, Debug, PartialEq, Eq, Error)]
+#[error("{}", self.name())]
+pub enum WriteError {
+    /// Memory ran out; no byte was written.
+    NoMemory,
+    /// The writer failed. It took exactly the first `written` bytes of the text.
+    WriteFault { written: u128 },
+}
+
+impl WriteError {
+    /// The fault's name, as it is printed. It takes no memory.
+    pub fn name(&self) -> &'static str
+        ensures { result.now ≡ write_error_name self.now }
+    {
+        match self {
+            WriteError::NoMemory => "NoMemory",
+            WriteError::WriteFault { .. } => "WriteFault",
+        }
+    }
+}

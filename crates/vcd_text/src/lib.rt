@@ -1,0 +1,10 @@
+//! The text of four-state value change dump files (IEEE 1364-2005, 18.2): words, grammar, what a file means,
+//! and the form in which a capture is written.
+#![tactic(auto)]
+
+pub mod fault;
+pub mod file_laws;
+pub mod output;
+pub mod reading;
+pub mod whole;
+pub mod writing;

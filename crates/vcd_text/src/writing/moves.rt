@@ -1,0 +1,138 @@
+//! The values of a capture: those at tick 0, and after it the changes by tick (IEEE 1364-2005, 18.2).
+
+ghost use Rattle.std.specs.Prelude.{◌≡◌, ◌==◌, ◌<◌, ◌≤◌, ◌^◌, ◌++◌, ◌∷◌, [], ℕ, if◌then◌else◌, nat_lt, length, map, All, IfOk, OnOk};
+ghost use Rattle.std.specs.List.{flat_map};
+ghost use Rattle.vcd_core.specs.Contents.{signal_contents};
+ghost use Rattle.vcd_core.specs.Sound.{IsSoundSignal};
+ghost use Rattle.vcd_text.specs.Moves.{later_moves, listed_from, moves_from};
+ghost use Rattle.vcd_text.specs.Text.{all_values, end_items, first_items, line_of, stamp_of, tick_items};
+
+use super::values::append_value;
+use itoa::Buffer;
+use std::alloc::Global;
+use vcd_core::{Change, NoMemory, Signal};
+
+/// A signal changes at a tick. Moves are ordered by tick, then by the signal's position.
+#[derive(Clone, Copy, PartialEq, Eq, PartialOrd, Ord)]
+pub struct Move {
+    pub tick: u64,
+    pub position: usize,
+}
+
+/// Appends the values at tick 0.
+pub fn append_first_values(out: &mut Vec<u8>, signals: &[Signal]) -> Result<(), NoMemory>
+    requires { length signals.now < 2 ^ 32 }
+    ensures { OnOk result (out.new.items ≡ out.old.items ++ flat_map line_of (first_items (map signal_contents signals.now))) }
+{
+    append_stamp(out, 0)?;
+    out.extend_from_slice(b"$dumpvars\n")?;
+    append_all_values(out, signals)?;
+    out.extend_from_slice(b"$end\n")?;
+    Ok(())
+}
+
+fn append_all_values(out: &mut Vec<u8>, signals: &[Signal]) -> Result<(), NoMemory>
+    requires { length signals.now < 2 ^ 32 }
+    ensures { OnOk result (out.new.items ≡ out.old.items ++ flat_map line_of (all_values (map signal_contents signals.now) 0)) }
+{
+    for (position, signal) in signals.iter().enumerate() {
+        append_value(out, position, signal.wave.at(0))?;
+    }
+    Ok(())
+}
+
+/// Appends what changes after tick 0, in the order of `moves`, and the end. The ticks between are not looked
+/// at: a value is found by a search by halves in its wave.
+pub fn append_moves(
+    out: &mut Vec<u8>,
+    signals: &[Signal],
+    moves: &[Move],
+    end: u64,
+) -> Result<(), NoMemory>
+    requires few { length signals.now < 2 ^ 32 }
+    requires within { All (λ m. m.position < length signals.now) moves.now }
+    requires all { moves.now ≡ moves_from (map signal_contents signals.now) 1 end }
+    ensures { OnOk result (out.new.items ≡ out.old.items ++ flat_map line_of
+        (tick_items (map signal_contents signals.now) 1 end ++ end_items (map signal_contents signals.now) end)) }
+{
+    let mut last = 0;
+    for next in moves {
+        append_new_stamp(out, last, next.tick)?;
+        append_value(
+            out,
+            next.position,
+            signals[next.position].wave.at(next.tick),
+        )?;
+        last = next.tick;
+    }
+    append_last_stamp(out, last, end)?;
+    Ok(())
+}
+
+fn append_new_stamp(out: &mut Vec<u8>, last: u64, tick: u64) -> Result<(), NoMemory>
+    ensures { OnOk result (out.new.items ≡ out.old.items ++ flat_map line_of (if tick == last then [] else stamp_of tick ∷ [])) }
+{
+    if tick == last {
+        return Ok(());
+    }
+    append_stamp(out, tick)?;
+    Ok(())
+}
+
+fn append_last_stamp(out: &mut Vec<u8>, last: u64, end: u64) -> Result<(), NoMemory>
+    ensures { OnOk result (out.new.items ≡ out.old.items ++ flat_map line_of (if nat_lt last end then stamp_of end ∷ [] else [])) }
+{
+    if last >= end {
+        return Ok(());
+    }
+    append_stamp(out, end)?;
+    Ok(())
+}
+
+fn append_stamp(out: &mut Vec<u8>, tick: u64) -> Result<(), NoMemory>
+    ensures { OnOk result (out.new.items ≡ out.old.items ++ flat_map line_of (stamp_of tick ∷ [])) }
+{
+    out.push(b'#')?;
+    out.extend_from_slice(Buffer::new().format(tick).as_bytes())?;
+    out.push(b'\n')?;
+    Ok(())
+}
+
+/// All changes after tick 0, sorted by tick and position. It takes 16 bytes a change, and the time of a sort.
+pub fn sorted_moves(alloc: Global, signals: &[Signal]) -> Result<Vec<Move>, NoMemory>
+    ensures all { IfOk result (λ moves. (end : ℕ) → All (IsSoundSignal end) (map signal_contents signals.now)
+        → moves.items ≡ moves_from (map signal_contents signals.now) 1 end) }
+    ensures within { IfOk result (λ moves. All (λ m. m.position < length signals.now) moves.items) }
+{
+    let mut moves = listed_moves(alloc, signals)?;
+    moves.sort_unstable();
+    Ok(moves)
+}
+
+fn listed_moves(alloc: Global, signals: &[Signal]) -> Result<Vec<Move>, NoMemory>
+    ensures { IfOk result (λ moves. moves.items ≡ listed_from 0 (map signal_contents signals.now)) }
+{
+    let mut moves = Vec::new(alloc);
+    for (position, signal) in signals.iter().enumerate() {
+        append_later_moves(&mut moves, position, signal.wave.changes())?;
+    }
+    Ok(moves)
+}
+
+fn append_later_moves(
+    moves: &mut Vec<Move>,
+    position: usize,
+    changes: &[Change],
+) -> Result<(), NoMemory>
+    ensures { OnOk result (moves.new.items ≡ moves.old.items ++ later_moves position changes.now) }
+{
+    for change in changes {
+        if change.tick > 0 {
+            moves.push(Move {
+                tick: change.tick,
+                position,
+            })?;
+        }
+    }
+    Ok(())
+}

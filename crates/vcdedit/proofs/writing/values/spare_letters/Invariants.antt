@@ -1,7 +1,0 @@
--- The letters passed so far are spare.
-use Rattle.std.proofs.Common.{◌≡◌, drop}
-use Rattle.vcdedit.proofs.ShortForms.{shortened}
-use Rattle.vcdedit.proofs.writing.values.spare_letters.Given as goal
-
-abbrev pub invariant-loop-k : goal.invariant-loop-k
-invariant-loop-k l = shortened (drop l.k l.value) ≡ shortened l.value
