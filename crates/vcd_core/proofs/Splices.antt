@@ -1,9 +1,9 @@
 -- Lists after a part of one and a piece changed places, and the splice that undoes a splice.
-use Rattle.std.proofs.Common.{◌≡◌, ℕ, ◌+◌, ◌-◌, ◌<◌, ◌≤◌, ℤ, pos, ◌+ℤ◌, unsigned_abs, List, [], ◌∷◌, ◌++◌, length, take, drop, map, set, get_or, slice_range, Option, Some, None, SomeIff, is_some, true, subst, refl, sym, ap, ◌∙◌, arith}
+use Rattle.std.proofs.Common.{◌≡◌, ℕ, ◌+◌, ◌-◌, ◌^◌, ◌<◌, ◌≤◌, All, ℤ, pos, ◌+ℤ◌, unsigned_abs, List, [], ◌∷◌, ◌++◌, length, take, drop, map, set, get_or, slice_range, Option, Some, None, SomeIff, is_some, true, subst, refl, sym, ap, ◌∙◌, arith}
 use Rattle.std.specs.Int.{w64, FitsUnsigned}
 use Rattle.std.proofs.Math.Seq.{take-add, take-append_seam}
 use Rattle.std.proofs.lemmas.List.{append_assoc, append-nil, length-append, length-take-le, take_all, drop_all, take-append-le, drop-append-le, take-append-drop, drop-drop, length-map, get_or-drop, get_or-append_right}
-use Rattle.std.proofs.lemmas.List.Elements.{All-head, All-tail}
+use Rattle.std.proofs.lemmas.List.Elements.{All-head, All-tail, All-map, All-drop}
 use Rattle.std.proofs.lemmas.List.Edits.{map_over_more}
 use Rattle.std.proofs.lemmas.List.Folds.{drop_split}
 use Rattle.std.proofs.lemmas.Slice.{drop-append-drop}
@@ -132,6 +132,17 @@ moved_back by back (c ∷ cs) opposite fit =
     let tail = moved_back by back cs opposite (All-tail (TickFits by) c cs fit) in
     λ i. head i ∷ tail i
 
+-- a tick that was moved may move back
+tick_fits_back : (by back : ℤ) (c : Change) → c.tick < 2 ^ 64 → by +ℤ back ≡ pos 0 → TickFits by c → TickFits back (moved by c)
+unfolding moved TickFits
+tick_fits_back by back c small opposite fits =
+    let same : pos (unsigned_abs (pos c.tick +ℤ by)) +ℤ back ≡ pos c.tick = omega (arith, ints, fits.0, opposite) in
+    subst (FitsUnsigned w64) (sym same) (omega (arith, ints), omega (arith, ints, small))
+
+moved_fit : (by back : ℤ) (cs : List Change) → All (λ c. c.tick < 2 ^ 64) cs → by +ℤ back ≡ pos 0 → TicksFit by cs → TicksFit back (map (moved by) cs)
+moved_fit by back cs small opposite fit =
+    All-map (TickFits back) (moved by) cs (λ k d within. tick_fits_back by back _ (small k d within) opposite (fit k d within))
+
 module _ (cs piece : List Change) (from to : ℕ) (by back : ℤ) (ordered : from ≤ to) (within : to ≤ length cs) where
   front_is : length (take from cs) ≡ from
   front_is = length-take-le from cs (omega arith)
@@ -179,3 +190,14 @@ module _ (cs piece : List Change) (from to : ℕ) (by back : ℤ) (ordered : fro
       ∙ append_assoc (take from cs) part (drop to cs)
       ∙ ap (λ l. take from cs ++ l) (sym (drop_split cs from to ordered))
       ∙ take-append-drop from cs
+
+  -- the piece stands within the list
+  pub back_within : from + length piece ≤ length (spliced cs from to piece by)
+  unfolding spliced
+  back_within = omega (arith, both_are, length-append (take from cs ++ piece) (map (moved by) (drop to cs)))
+
+  -- the later ticks may move back
+  pub back_fits : All (λ c. c.tick < 2 ^ 64) cs → TicksFit by (drop to cs) → by +ℤ back ≡ pos 0
+      → TicksFit back (drop (from + length piece) (spliced cs from to piece by))
+  back_fits small fit opposite =
+      subst (TicksFit back) (sym later_of-spliced) (moved_fit by back (drop to cs) (All-drop (λ c. c.tick < 2 ^ 64) to cs small) opposite fit)

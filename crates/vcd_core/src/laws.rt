@@ -1,6 +1,6 @@
 //! Laws about the definitions, as contracts of functions that do nothing.
 
-ghost use Rattle.vcd_core.specs.Laws.{SameValuesSameChanges, ChangesOfOwnValues, ValuesOfChanges, ChangesAreWave, SpliceAndBack};
+ghost use Rattle.vcd_core.specs.Laws.{SameValuesSameChanges, ChangesOfOwnValues, ValuesOfChanges, ChangesAreWave, SpliceAndBack, SpliceBackIsAllowed};
 
 /// Two waves of one width whose changes have ticks at most `end`, with the same value at each tick 0 to
 /// `end`, have equal lists of changes. So equality tick by tick is equality of every change.
@@ -27,4 +27,10 @@ pub fn changes_are_wave()
 /// piece as they were.
 pub fn splice_and_back()
     ensures { SpliceAndBack }
+{}
+
+/// Where a splice of a wave was allowed, the splice of what it gave out, with the opposite offset, is allowed
+/// too, as far as the lists go: the piece stands within the list, the later ticks fit, and the result is a wave.
+pub fn splice_back_is_allowed()
+    ensures { SpliceBackIsAllowed }
 {}

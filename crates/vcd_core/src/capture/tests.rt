@@ -98,4 +98,6 @@ fn the_laws_can_be_called(_rt: HostRuntime) {
     laws::changes_of_own_values();
     laws::values_of_changes();
     laws::changes_are_wave();
+    laws::splice_and_back();
+    laws::splice_back_is_allowed();
 }
