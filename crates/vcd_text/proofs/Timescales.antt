@@ -1,49 +1,44 @@
--- A text that spells a timescale is found to be that one.
-use Rattle.std.proofs.Common.{◌≡◌, ℕ, List, ◌++◌, Some, inl, inr, refl, sym, subst}
-use Rattle.std.specs.Prelude.{decimal, find, bytes_eq}
-use Rattle.std.specs.List.{concat}
+-- A timescale is a count, the longest that fits, and the name of a unit.
+use Rattle.std.proofs.Common.{◌≡◌, ℕ, Bool, true, false, cond, ◌&&◌, ◌==◌, Option, Some, None, List, [], ◌∷◌, take, refl}
+use Rattle.std.specs.Prelude.{bytes_eq}
 use Rattle.std.specs.Fmt.{digits}
-use Rattle.vcd_core.specs.declared.capture.Timescale.{Timescale}
 use Rattle.vcd_core.specs.declared.capture.TimeUnit.{TimeUnit}
 use Rattle.vcd_core.specs.declared.capture.TimeUnit.TheVariants.{Second, Millisecond, Microsecond, Nanosecond, Picosecond, Femtosecond}
-use Rattle.vcd_text.specs.Items.{unit_text, timescales, timescale_of}
-use Rattle.vcd_text.specs.TimescaleText.{IsCount, spells}
+use Rattle.vcd_text.specs.TimescaleText.{spelled_by, unit_named, counted}
 
--- the timescale that a text spells
-abbrev found_in : List ℕ → Timescale → Type 0
-found_in text t = find (λ s. bytes_eq text (decimal s.count ++ unit_text s.unit)) timescales ≡ Some t
+-- the first of the six units that fits
+abbrev first : {A : Type 0} → (TimeUnit → A) → (s ms us ns ps fs : Bool) → Option A
+first f s ms us ns ps fs =
+    cond s (Some (f Second)) (cond ms (Some (f Millisecond)) (cond us (Some (f Microsecond)) (cond ns (Some (f Nanosecond)) (cond ps (Some (f Picosecond)) (cond fs (Some (f Femtosecond)) None)))))
 
-one : (unit : TimeUnit) → found_in (decimal 1 ++ unit_text unit) (record { count = 1; unit = unit })
+first_counted : (n : ℕ) (s ms us ns ps fs : Bool) → first (λ u. record { count = n; unit = u }) s ms us ns ps fs ≡ counted n (first (λ u. u) s ms us ns ps fs)
+first_counted n true ms us ns ps fs = refl
+first_counted n false true us ns ps fs = refl
+first_counted n false false true ns ps fs = refl
+first_counted n false false false true ps fs = refl
+first_counted n false false false false true fs = refl
+first_counted n false false false false false true = refl
+first_counted n false false false false false false = refl
+
+and_true : (b : Bool) → (b && true) ≡ false → b ≡ false
+and_true false e = refl
+and_true true e = e
+
+pub hundred : (unit : List ℕ) → spelled_by (49 ∷ 48 ∷ 48 ∷ unit) ≡ counted 100 (unit_named unit)
 unfolding digits
-one Second = refl
-one Millisecond = refl
-one Microsecond = refl
-one Nanosecond = refl
-one Picosecond = refl
-one Femtosecond = refl
+hundred unit = first_counted 100 _ _ _ _ _ _
 
-ten : (unit : TimeUnit) → found_in (decimal 10 ++ unit_text unit) (record { count = 10; unit = unit })
+pub ten : (unit : List ℕ) → bytes_eq (take 3 (49 ∷ 48 ∷ unit)) (49 ∷ 48 ∷ 48 ∷ []) ≡ false → spelled_by (49 ∷ 48 ∷ unit) ≡ counted 10 (unit_named unit)
 unfolding digits
-ten Second = refl
-ten Millisecond = refl
-ten Microsecond = refl
-ten Nanosecond = refl
-ten Picosecond = refl
-ten Femtosecond = refl
+ten [] other = refl
+ten (b ∷ bs) other = rw (and_true (b == 48) other) (first_counted 10 _ _ _ _ _ _)
 
-hundred : (unit : TimeUnit) → found_in (decimal 100 ++ unit_text unit) (record { count = 100; unit = unit })
+pub one : (unit : List ℕ) → bytes_eq (take 2 (49 ∷ unit)) (49 ∷ 48 ∷ []) ≡ false → spelled_by (49 ∷ unit) ≡ counted 1 (unit_named unit)
 unfolding digits
-hundred Second = refl
-hundred Millisecond = refl
-hundred Microsecond = refl
-hundred Nanosecond = refl
-hundred Picosecond = refl
-hundred Femtosecond = refl
+one [] other = refl
+one (b ∷ bs) other = rw (and_true (b == 48) other) (first_counted 1 _ _ _ _ _ _)
 
-counted : (n : ℕ) (unit : TimeUnit) → IsCount n → found_in (decimal n ++ unit_text unit) (record { count = n; unit = unit })
-counted n unit (inl e) = subst (λ m. found_in (decimal m ++ unit_text unit) (record { count = m; unit = unit })) (sym e) (one unit)
-counted n unit (inr (inl e)) = subst (λ m. found_in (decimal m ++ unit_text unit) (record { count = m; unit = unit })) (sym e) (ten unit)
-counted n unit (inr (inr e)) = subst (λ m. found_in (decimal m ++ unit_text unit) (record { count = m; unit = unit })) (sym e) (hundred unit)
-
-pub spelled : (t : Timescale) (words : List (List ℕ)) → spells t (concat words) → timescale_of words ≡ Some t
-spelled t words s = subst (λ text. found_in text t) (sym s.spelled) (counted t.count t.unit s.count)
+pub none : (text : List ℕ) → bytes_eq (take 1 text) (49 ∷ []) ≡ false → spelled_by text ≡ None
+unfolding digits
+none [] other = refl
+none (b ∷ bs) other = rw (and_true (b == 49) other) refl

@@ -1,10 +1,14 @@
--- A text begins with its first word.
-use Rattle.std.proofs.Common.{◌≡◌, ℕ, zero, suc, ◌+◌, ◌<◌, ◌≤◌, Bool, true, false, not, cond, ◌&&◌, ◌==◌, List, [], ◌∷◌, ◌++◌, length, take, drop, refl, sym, ap, ◌∙◌, arith}
-use Rattle.std.specs.List.{list_all}
-use Rattle.std.proofs.lemmas.List.{take-append-drop}
+-- The words of a text: the first is at its front, each is a run of bytes other than white space.
+use Rattle.std.proofs.Common.{◌≡◌, ℕ, zero, suc, ◌+◌, ◌<◌, ◌≤◌, Bool, true, false, not, cond, ◌&&◌, ◌==◌, List, [], ◌∷◌, ◌++◌, length, map, take, drop, refl, sym, ap, subst, ◌∙◌, arith}
+use Rattle.std.specs.List.{All, list_all}
+use Rattle.std.proofs.lemmas.List.{take-append-drop, append-nil}
+use Rattle.std.proofs.lemmas.List.Elements.{All-nil, All-cons, All-head, All-tail}
 use Rattle.std.proofs.lemmas.Bool.Decides.{Decides-eqb}
+use Rattle.std.proofs.lemmas.Bool.{ne_eqb}
+use Rattle.vcd_core.specs.Word.{is_word}
+use Rattle.vcd_text.specs.Items.{is_end}
 use Rattle.vcd_text.specs.Spaces.{begins_with_space}
-use Rattle.vcd_text.specs.Words.{is_space, line_behind, ends_before, lengthened, with_byte, word, words_from}
+use Rattle.vcd_text.specs.Words.{is_space, line_behind, ends_before, lengthened, with_byte, Word, word, words_from}
 
 -- the parts of a conjunction
 pub both : (a b : Bool) → (a && b) ≡ true → (a ≡ true) × (b ≡ true)
@@ -59,10 +63,98 @@ unfolding words_from
 space_passed whole line b bs space =
     ap (λ s. with_byte s (ends_before whole bs) b line (words_from whole (line_behind b line) bs)) space
 
--- there is no word where a text that does not begin with white space has none at its front
-pub no_word : (line n : ℕ) (text : List ℕ) → length (take n text) ≡ 0 → begins_with_space text ≡ false → n ≤ length text → ends_before true (drop n text) ≡ true
-    → words_from true line text ≡ []
+-- where a text has no word at its front, and no white space, it is at its end
+pub no_word : (whole : Bool) (line n : ℕ) (text : List ℕ) → length (take n text) ≡ 0 → begins_with_space text ≡ false → ends_before true (drop n text) ≡ true
+    → (words_from whole line text ≡ []) × (drop n text ≡ [])
 unfolding words_from
-no_word line n [] none black within ends = refl
-no_word line zero (b ∷ bs) none black within ends = let no : false ≡ true = sym black ∙ ends in absurd (cc)
-no_word line (suc n) (b ∷ bs) none black within ends = absurd (omega arith)
+no_word whole line zero [] none black ends = (refl, refl)
+no_word whole line (suc n) [] none black ends = (refl, refl)
+no_word whole line zero (b ∷ bs) none black ends = let no : false ≡ true = sym black ∙ ends in absurd (cc)
+no_word whole line (suc n) (b ∷ bs) none black ends = absurd (omega arith)
+
+-- a word that is not closed is none
+word_part : (line : ℕ) (w : List ℕ) → list_all (λ b. not (is_space b)) w ≡ true → words_from false line w ≡ []
+unfolding words_from
+word_part line [] black = refl
+word_part line (b ∷ []) black =
+    let here : is_space b ≡ false = not_true _ (both _ _ black).0 in
+    ap (λ s. with_byte s false b line []) here
+word_part line (b ∷ c ∷ w) black =
+    let here : is_space b ≡ false = not_true _ (both _ _ black).0 in
+    let behind : is_space c ≡ false = not_true (is_space c) (both (not (is_space c)) (list_all (λ b. not (is_space b)) w) (both (not (is_space b)) (list_all (λ b. not (is_space b)) (c ∷ w)) black).1).0 in
+    ap (λ s. with_byte s (is_space c) b line (words_from false (line_behind b line) (c ∷ w))) here
+    ∙ ap (λ e. with_byte false e b line (words_from false (line_behind b line) (c ∷ w))) behind
+    ∙ ap (lengthened b line) (word_part (line_behind b line) (c ∷ w) (both _ _ black).1)
+
+-- a word ends at the end of the text alone, where it does not end in a text that is whole
+only_at_end : (whole : Bool) (rest : List ℕ) → ends_before true rest ≡ true → ends_before whole rest ≡ false → (whole ≡ false) × (rest ≡ [])
+only_at_end whole [] ends open_end = (open_end, refl)
+only_at_end whole (b ∷ bs) ends open_end = let no : true ≡ false = sym ends ∙ open_end in absurd (cc)
+
+-- so the last word of a text that may go on is not there, and nothing follows it
+pub open_word : (whole : Bool) (line n : ℕ) (text : List ℕ) → list_all (λ b. not (is_space b)) (take n text) ≡ true
+    → ends_before true (drop n text) ≡ true → ends_before whole (drop n text) ≡ false
+    → (words_from whole line text ≡ []) × (drop n text ≡ [])
+open_word whole line n text black ends open_end =
+    let last = only_at_end whole (drop n text) ends open_end in
+    let all_of : text ≡ take n text = sym (take-append-drop n text) ∙ ap (λ rest. take n text ++ rest) last.1 ∙ append-nil (take n text) in
+    (ap (λ w. words_from w line text) last.0 ∙ ap (words_from false line) all_of ∙ word_part line (take n text) black, last.1)
+
+-- ---- what words are
+
+-- at least one byte, none of them white space
+abbrev pub is_run : List ℕ → Type 0
+is_run text = (0 < length text) × (list_all (λ b. not (is_space b)) text ≡ true)
+
+runs_with_byte : (space last : Bool) (b line : ℕ) (ws : List Word) → is_space b ≡ space → All (λ (w : Word). is_run w.text) ws → All (λ (w : Word). is_run w.text) (with_byte space last b line ws)
+runs_with_byte true last b line ws is runs = runs
+runs_with_byte false true b line ws is runs = All-cons (λ (w : Word). is_run w.text) (word (b ∷ []) line) ws (omega arith, rw is refl) runs
+runs_with_byte false false b line [] is runs = runs
+runs_with_byte false false b line (w ∷ ws) is runs =
+    let head = All-head (λ (w : Word). is_run w.text) w ws runs in
+    All-cons (λ (w : Word). is_run w.text) (word (b ∷ w.text) line) ws (omega arith, rw is head.1) (All-tail (λ (w : Word). is_run w.text) w ws runs)
+
+-- each word is such a run
+pub words_are_words : (whole : Bool) (line : ℕ) (bytes : List ℕ) → All (λ (w : Word). is_run w.text) (words_from whole line bytes)
+unfolding words_from
+words_are_words whole line [] = All-nil (λ (w : Word). is_run w.text)
+words_are_words whole line (b ∷ bs) =
+    runs_with_byte (is_space b) (ends_before whole bs) b line (words_from whole (line_behind b line) bs) refl (words_are_words whole (line_behind b line) bs)
+
+-- as tests: a run of bytes other than white space
+abbrev pub is_run_text : List ℕ → Bool
+is_run_text text = not (length text == 0) && list_all (λ b. not (is_space b)) text
+
+run_passes : (text : List ℕ) → is_run text → is_run_text text ≡ true
+run_passes text (some, black) = rw (ne_eqb (length text) 0 (λ none. absurd (omega arith)), black) refl
+
+texts_pass : (ws : List Word) → All (λ (w : Word). is_run w.text) ws → list_all is_run_text (map (λ (w : Word). w.text) ws) ≡ true
+texts_pass [] runs = refl
+texts_pass (w ∷ ws) runs =
+    ap (λ t. t && list_all is_run_text (map (λ (w : Word). w.text) ws)) (run_passes w.text (All-head (λ (w : Word). is_run w.text) w ws runs))
+    ∙ texts_pass ws (All-tail (λ (w : Word). is_run w.text) w ws runs)
+
+pub texts_are_runs : (whole : Bool) (line : ℕ) (bytes : List ℕ) → list_all is_run_text (map (λ (w : Word). w.text) (words_from whole line bytes)) ≡ true
+texts_are_runs whole line bytes = texts_pass (words_from whole line bytes) (words_are_words whole line bytes)
+
+-- a run that is not `$end` is a word that a header entry, a name or a kind may have
+pub run_is_word : (text : List ℕ) → is_run_text text ≡ true → is_end text ≡ false → is_word text ≡ true
+run_is_word text run other = ap (λ t. t && not (is_end text)) run ∙ ap not other
+
+-- they are no more than the bytes
+more_with_byte : (space last : Bool) (b line : ℕ) (ws : List Word) → length (with_byte space last b line ws) ≤ suc (length ws)
+more_with_byte true last b line ws = omega arith
+more_with_byte false true b line ws = omega arith
+more_with_byte false false b line [] = omega arith
+more_with_byte false false b line (w ∷ ws) = omega arith
+
+pub words_are_few : (whole : Bool) (line : ℕ) (bytes : List ℕ) → length (words_from whole line bytes) ≤ length bytes
+unfolding words_from
+words_are_few whole line [] = omega arith
+words_are_few whole line (b ∷ bs) =
+    omega (arith, words_are_few whole (line_behind b line) bs, more_with_byte (is_space b) (ends_before whole bs) b line (words_from whole (line_behind b line) bs))
+
+-- the first word to come is a run
+pub first_is_run : (whole : Bool) (line : ℕ) (bytes : List ℕ) (w : Word) (ws : List Word) → words_from whole line bytes ≡ w ∷ ws → is_run w.text
+first_is_run whole line bytes w ws is =
+    All-head (λ (w : Word). is_run w.text) w ws (subst (λ ws. All (λ (w : Word). is_run w.text) ws) is (words_are_words whole line bytes))

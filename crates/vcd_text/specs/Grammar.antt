@@ -6,6 +6,7 @@ use Rattle.vcd_core.specs.declared.capture.Header.{Header}
 use Rattle.vcd_core.specs.declared.capture.Timescale.{Timescale}
 use Rattle.vcd_core.specs.declared.capture.ScopeName.{ScopeName}
 use Rattle.vcd_core.specs.declared.value.TheConstants.{WIDTH_LIMIT}
+use Rattle.vcd_core.specs.declared.capture.TheConstants.{END_LIMIT, SIGNAL_LIMIT}
 use Rattle.vcd_text.specs.Words.{Word}
 use Rattle.vcd_text.specs.Letters.{is_among, is_letter, letters_read, is_number, number_of}
 use Rattle.vcd_text.specs.Items.{Item, entry, timescale, scope, upscope, variable, end_definitions, stamp, scalar, vector, real_or_string, bracket, other, spellings, has_no_end, is_one_of, dump_words, is_other, timescale_of, vector_letters, dropped_letters}
@@ -14,11 +15,11 @@ use Rattle.vcd_text.specs.Items.{Item, entry, timescale, scope, upscope, variabl
 
 -- the greatest tick
 abbrev pub tick_limit : ℕ
-tick_limit = 9223372036854775807
+tick_limit = END_LIMIT
 
 -- the most signals
 abbrev pub signal_limit : ℕ
-signal_limit = 65536
+signal_limit = SIGNAL_LIMIT
 
 -- ---- what a file tells
 

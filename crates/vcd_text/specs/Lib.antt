@@ -1,6 +1,7 @@
 pub mod Words
 pub mod Letters
 pub mod FaultNames
+pub mod WriteEnds
 pub mod Items
 pub mod Grammar
 pub mod Faults
@@ -11,6 +12,10 @@ pub mod Spaces
 pub mod WordsLeft
 pub mod TimescaleText
 pub mod Variables
+pub mod Refusals
+pub mod Inside
+pub mod Opening
 pub mod Reading
 pub mod Spaced
 pub mod Moves
+pub mod Digits

@@ -1,113 +1,132 @@
--- What the reader has taken in: the words so far spell items, and what these tell is what the machine holds.
-use Rattle.std.specs.Prelude.{◌≡◌, ℕ, ◌≤◌, Bool, true, false, List, [], ◌∷◌, ◌++◌, map, length, All, codes}
-use Rattle.vcd_core.specs.declared.capture.ScopeName.{ScopeName}
-use Rattle.vcd_core.specs.Value.{all_x}
+-- What the reader holds while it takes one word after another: what the whole items so far have told, and the words of the item that is open.
+use Rattle.std.specs.Prelude.{◌≡◌, ◌⊎◌, ℕ, ◌<◌, ◌^◌, Bool, true, false, ◌&&◌, List, [], ◌∷◌, ◌++◌, length, if◌then◌else◌, IsTrue, IsFalse, Result, Ok, Err, codes}
+use Rattle.vcd_text.specs.declared.fault.Fault.{Fault}
+use Rattle.vcd_text.specs.declared.fault.Fault.TheVariants.{NoMemory}
+use Rattle.vcd_text.specs.declared.fault.ReadError.{ReadError}
 use Rattle.vcd_core.specs.Contents.{Contents}
 use Rattle.vcd_core.specs.Sound.{IsSound}
-use Rattle.vcd_text.specs.Words.{words_of}
-use Rattle.vcd_text.specs.Items.{Item, spellings, has_no_end}
-use Rattle.vcd_text.specs.Grammar.{Recorded, Context, nothing_told, AllowsAll, after, texts}
-use Rattle.vcd_text.specs.Meaning.{recorded_value, FileMeans}
-use Rattle.vcd_text.specs.Variables.{declaration, value_of, IsReady}
-use Rattle.vcd_text.specs.declared.reading.variable.Variable.{Variable}
+use Rattle.vcd_text.specs.Words.{Word, words_of}
+use Rattle.vcd_text.specs.Meaning.{FileMeans}
+use Rattle.vcd_text.specs.Inside.{is_nothing}
+use Rattle.vcd_text.specs.Letters.{is_among}
+use Rattle.vcd_text.specs.Items.{Item, spelling, spellings, has_no_end, header_word, is_other, vector_letters, dropped_letters}
+use Rattle.vcd_text.specs.Grammar.{Context, Allows, AllowsAll, after, after_item, nothing_told, texts, has_good_size}
+use Rattle.vcd_text.specs.Faults.{Decided, Refuses}
+use Rattle.vcd_text.specs.Refusals.{out_of_memory}
+use Rattle.vcd_text.specs.Variables.{Knows}
 use Rattle.vcd_text.specs.declared.reading.machine.Machine.{Machine}
-use Rattle.vcd_text.specs.declared.reading.machine.Place.{Place}
-use Rattle.vcd_text.specs.declared.reading.machine.Place.TheVariants.{Declarations, InTimescale, InScope, InUpscope, InVariable, InEndDefinitions, Changes}
+use Rattle.vcd_text.specs.declared.reading.machine.OpenItem.{OpenItem}
+use Rattle.vcd_text.specs.declared.reading.machine.OpenItem.TheVariants as items
 
--- ---- places
+-- ---- the state
 
-abbrev pub is_changing : Place → Bool
-is_changing Changes = true
-is_changing Declarations = false
-is_changing InTimescale = false
-is_changing InScope = false
-is_changing InUpscope = false
-is_changing InVariable = false
-is_changing InEndDefinitions = false
+-- the machine holds what has been told
+pub record Agrees (m : Machine) (c : Context) : Type 0 where
+  pub header : m.header.items ≡ c.header
+  pub timescale : m.timescale ≡ c.timescale
+  pub scopes : m.scopes.items ≡ c.scopes
+  pub changing : m.changing ≡ c.changing
+  pub tick : m.tick ≡ c.tick
+  pub variables : Knows m.variables c
+  pub silent : IsFalse c.changing → c.records ≡ []
 
--- whether a declaration is open
-abbrev pub is_inside : Place → Bool
-is_inside Declarations = false
-is_inside Changes = false
-is_inside InTimescale = true
-is_inside InScope = true
-is_inside InUpscope = true
-is_inside InVariable = true
-is_inside InEndDefinitions = true
+-- a declaration is open whose words behind the keyword the machine keeps
+pub record Collects (m : Machine) (begun : List Word) (keyword : List ℕ) : Type 0 where
+  pub declares : IsFalse m.changing
+  pub spelled : texts begun ≡ keyword ∷ m.words.items
+  pub no_end : IsTrue (has_no_end m.words.items)
 
--- the words of the declaration that is open, with its keyword
-abbrev pub begun : Place → List (List ℕ) → List (List ℕ)
-begun Declarations words = []
-begun Changes words = []
-begun InTimescale words = codes "$timescale" ∷ words
-begun InScope words = codes "$scope" ∷ words
-begun InUpscope words = codes "$upscope" ∷ words
-begun InVariable words = codes "$var" ∷ words
-begun InEndDefinitions words = codes "$enddefinitions" ∷ words
+-- another command is open
+pub record PassesOver (m : Machine) (begun : List Word) : Type 0 where
+  pub keyword : List ℕ
+  pub words : List (List ℕ)
+  pub spelled : texts begun ≡ keyword ∷ words
+  pub other : IsTrue (is_other m.changing keyword)
+  pub no_end : IsTrue (has_no_end words)
 
--- a word begins the declaration that is then open
-pub record Begins (place : Place) (word : List ℕ) : Type 0 where
-  pub opens : begun place [] ≡ word ∷ []
-  pub declares : is_changing place ≡ false
+-- a change of two words is open, the first of which has one of these letters and then this text
+pub record AwaitsCode (m : Machine) (begun : List Word) (letters text : List ℕ) : Type 0 where
+  pub changes : IsTrue m.changing
+  pub word : Word
+  pub letter : ℕ
+  pub is : begun ≡ word ∷ []
+  pub spelled : word.text ≡ letter ∷ text
+  pub among : IsTrue (is_among letters letter)
+  pub line : m.line ≡ word.line
 
--- ---- variables
+-- these words of the item that is open have been taken
+abbrev pub IsBegun : Machine → List Word → OpenItem → Type 0
+IsBegun m begun items.Nothing = begun ≡ []
+IsBegun m begun (items.Entry kind) = Collects m begun (header_word kind)
+IsBegun m begun items.Timescale = Collects m begun (codes "$timescale")
+IsBegun m begun items.Scope = Collects m begun (codes "$scope")
+IsBegun m begun items.Upscope = IsFalse m.changing × (texts begun ≡ codes "$upscope" ∷ []) × (0 < length m.scopes.items)
+IsBegun m begun items.Variable = Collects m begun (codes "$var") × IsTrue (has_good_size m.words.items)
+IsBegun m begun items.EndDefinitions = IsFalse m.changing × (texts begun ≡ codes "$enddefinitions" ∷ [])
+IsBegun m begun items.Other = PassesOver m begun
+IsBegun m begun items.Vector = AwaitsCode m begun vector_letters m.text.items
+IsBegun m begun items.Dropped = (text : List ℕ) × AwaitsCode m begun dropped_letters text
 
--- the variable is a scalar wire, and its wave has at every tick the value of the records so far
-pub record Follows (records : List Recorded) (tick : ℕ) (v : Variable) : Type 0 where
-  pub kind : v.signal.kind ≡ codes "wire"
-  pub ready : IsReady tick v
-  pub values : (t : ℕ) → value_of v t ≡ recorded_value v.signal.wave.width v.code t (all_x v.signal.wave.width) records
+-- behind whole items that have told this, these words of an open item have been taken
+abbrev pub At : Machine → Context → List Word → Type 0
+At m c begun = Agrees m c × IsBegun m begun m.item
 
--- the words of a scalar wire with a name of one word
-pub record IsWire (words : List (List ℕ)) : Type 0 where
-  pub code : List ℕ
-  pub name : List ℕ
-  pub is : words ≡ codes "wire" ∷ codes "1" ∷ code ∷ name ∷ []
+-- ---- one word
 
--- a variable without a change, which these words declare in these scopes
-pub record Declares (v : Variable) (scopes : List ScopeName) (words : List (List ℕ)) : Type 0 where
-  pub name : List ℕ
-  pub inside : v.signal.scopes ≡ scopes
-  pub kind : v.signal.kind ≡ codes "wire"
-  pub named : v.signal.words ≡ name ∷ []
-  pub width : v.signal.wave.width ≡ 1
-  pub silent : v.signal.wave.changes ≡ []
-  pub spelled : words ≡ codes "wire" ∷ codes "1" ∷ v.code ∷ name ∷ []
+-- a word goes on with the open item, or ends it, which then gets what it asks for
+pub data TakesWord (c : Context) (begun : List Word) (new : Machine) : Type 0 where
+  goes_on : At new c begun → TakesWord c begun new
+  ends_item : (i : Item) → spelling i ≡ texts begun → Allows c i → At new (after_item c i) [] → TakesWord c begun new
 
--- ---- the machine
+-- what comes of a word: it is taken, or shows a fault, or memory runs out
+abbrev pub Moves : Machine → Word → Result (Unit {0}) Fault → Machine → Type 0
+Moves old w (Ok x) new = (c : Context) (begun : List Word) → At old c begun → TakesWord c (begun ++ w ∷ []) new
+Moves old w (Err fault) new = (c : Context) (begun : List Word) → At old c begun → (fault ≡ NoMemory) ⊎ Decided c (texts begun) w.text fault
 
--- what has been told, where these are the records so far
-abbrev pub told : Machine → List Recorded → Context
-told m records = record {
-  header = [];
-  timescale = m.timescale;
-  scopes = m.scopes.items;
-  declared = map declaration m.variables.items;
-  changing = is_changing m.place;
-  records = records;
-  tick = m.tick;
-}
+-- ---- the words from the first
 
--- these words have been taken
-pub record Reads (m : Machine) (words : List (List ℕ)) : Type 0 where
+-- all these words have been taken
+pub record Reads (m : Machine) (words : List Word) : Type 0 where
   pub items : List Item
-  pub records : List Recorded
-  pub spelled : words ≡ spellings items ++ begun m.place m.words.items
+  pub whole : List Word
+  pub begun : List Word
+  pub told : Context
+  pub parts : words ≡ whole ++ begun
+  pub spelled : texts whole ≡ spellings items
   pub allowed : AllowsAll nothing_told items
-  pub tells : after nothing_told items ≡ told m records
-  pub follow : All (Follows records m.tick) m.variables.items
-  pub silent : is_changing m.place ≡ false → records ≡ []
-  pub no_end : has_no_end m.words.items ≡ true
-  pub few : length m.variables.items ≤ 94
+  pub tells : after nothing_told items ≡ told
+  pub at : At m told begun
 
-abbrev pub CanRead : Machine → Type 0
-CanRead m = (words : List (List ℕ)) × Reads m words
+-- some words have been taken, fewer than a number of 64 bits can count
+pub record IsReading (m : Machine) : Type 0 where
+  pub words : List Word
+  pub reads : Reads m words
+  pub few : length words < 2 ^ 63
 
--- one more word has been taken
-abbrev pub ReadsOn : Machine → List ℕ → Machine → Type 0
-ReadsOn old word new = (words : List (List ℕ)) → Reads old words → Reads new (words ++ word ∷ [])
+-- whether a fault is want of memory
+abbrev pub lacks_memory : Fault → Bool
+lacks_memory NoMemory = true
+lacks_memory fault = false
 
--- the file whose words have been taken means these contents
-pub record Means (m : Machine) (contents : Contents) : Type 0 where
-  pub sound : IsSound contents
-  pub means : (bytes : List ℕ) → Reads m (texts (words_of bytes)) → FileMeans bytes contents 0
+-- a fault with its line; want of memory has none
+abbrev pub error_at : ℕ → Fault → ReadError
+error_at line fault = if lacks_memory fault then out_of_memory else record { line = line; fault = fault }
+
+-- a word more has been taken, or it shows a fault whatever follows, or memory has run out
+abbrev pub Steps : Machine → Word → Result (Unit {0}) ReadError → Machine → Type 0
+Steps old w (Ok x) new = (words : List Word) → Reads old words → Reads new (words ++ w ∷ [])
+Steps old w (Err e) new = (words more : List Word) → Reads old words → (e ≡ out_of_memory) ⊎ Refuses (words ++ w ∷ more) e.line e.fault
+
+-- all words of a list have been taken, or one shows a fault, or memory has run out
+abbrev pub ReadsAll : List Word → Result (Unit {0}) ReadError → Machine → Type 0
+ReadsAll words (Ok x) new = Reads new words
+ReadsAll words (Err e) new = (e ≡ out_of_memory) ⊎ Refuses words e.line e.fault
+
+-- nothing is open, and `$enddefinitions $end` has come
+abbrev pub is_complete : Machine → Bool
+is_complete m = m.changing && is_nothing m.item
+
+-- the file whose words have been taken means these contents, with so many variables skipped
+pub record Means (m : Machine) (contents : Contents) (skipped : ℕ) : Type 0 where
+  pub sound : (bytes : List ℕ) → Reads m (words_of bytes) → IsSound contents
+  pub means : (bytes : List ℕ) → Reads m (words_of bytes) → FileMeans bytes contents skipped

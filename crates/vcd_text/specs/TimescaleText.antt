@@ -1,12 +1,18 @@
-use Rattle.std.specs.Prelude.{◌≡◌, ◌⊎◌, ℕ, ◌++◌, List, decimal}
+use Rattle.std.specs.Prelude.{ℕ, ◌++◌, List, [], ◌∷◌, Option, find, bytes_eq, decimal}
+use Rattle.std.specs.Option.{option_map}
 use Rattle.vcd_core.specs.declared.capture.Timescale.{Timescale}
-use Rattle.vcd_text.specs.Items.{unit_text}
+use Rattle.vcd_core.specs.declared.capture.TimeUnit.{TimeUnit}
+use Rattle.vcd_core.specs.declared.capture.TimeUnit.TheVariants.{Second, Millisecond, Microsecond, Nanosecond, Picosecond, Femtosecond}
+use Rattle.vcd_text.specs.Items.{unit_text, timescales}
 
--- how many of a unit a tick may be (IEEE 1364-2005, 18.2)
-abbrev pub IsCount : ℕ → Type 0
-IsCount n = (n ≡ 1) ⊎ ((n ≡ 10) ⊎ (n ≡ 100))
+-- the timescale that a text spells, if it is one
+abbrev pub spelled_by : List ℕ → Option Timescale
+spelled_by text = find (λ t. bytes_eq text (decimal t.count ++ unit_text t.unit)) timescales
 
--- a text that spells a timescale
-pub record spells (t : Timescale) (text : List ℕ) : Type 0 where
-  pub count : IsCount t.count
-  pub spelled : text ≡ decimal t.count ++ unit_text t.unit
+-- the unit that a text names, if it names one
+abbrev pub unit_named : List ℕ → Option TimeUnit
+unit_named text = find (λ unit. bytes_eq text (unit_text unit)) (Second ∷ Millisecond ∷ Microsecond ∷ Nanosecond ∷ Picosecond ∷ Femtosecond ∷ [])
+
+-- so many of a unit
+abbrev pub counted : ℕ → Option TimeUnit → Option Timescale
+counted count unit = option_map (λ u. record { count = count; unit = u }) unit

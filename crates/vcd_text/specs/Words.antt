@@ -1,9 +1,10 @@
 -- White space and words (IEEE 1364-2005, 18.2: the file is a list of words that white space parts).
-use Rattle.std.specs.Prelude.{ℕ, ◌+◌, Bool, true, false, if◌then◌else◌, List, [], ◌∷◌, ◌&&◌, ◌||◌, ◌==◌, nat_le, count_by}
+use Rattle.vcd_core.specs.Word.{is_white_space}
+use Rattle.std.specs.Prelude.{ℕ, ◌+◌, Bool, true, false, if◌then◌else◌, List, [], ◌∷◌, ◌==◌, count_by}
 
 -- white space: tab, line feed, vertical tab, form feed, carriage return and space
 abbrev pub is_space : ℕ → Bool
-is_space b = (nat_le 9 b && nat_le b 13) || (b == 32)
+is_space b = is_white_space b
 
 -- a word, and the line that it stands on
 pub record Word : Type 0 where

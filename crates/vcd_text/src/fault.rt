@@ -2,7 +2,10 @@
 
 ghost use Rattle.std.specs.Prelude.{◌≡◌};
 ghost use Rattle.vcd_text.specs.FaultNames.{fault_name, write_error_name};
+ghost use Rattle.vcd_text.specs.declared.fault.Fault.TheVariants.{NoMemory};
+ghost use Rattle.vcd_text.specs.declared.fault.WriteError.TheVariants as write_errors;
 
+use std::alloc::{AllocError, AllocFailed};
 use thiserror::Error;
 
 /// What is wrong with a capture file, or kept it from being read.
@@ -72,6 +75,30 @@ impl Fault {
     }
 }
 
+impl From<vcd_core::NoMemory> for Fault {
+    ghost from_gives = { λ _ e. e ≡ NoMemory };
+
+    fn from(_refused: vcd_core::NoMemory) -> Fault {
+        Fault::NoMemory
+    }
+}
+
+impl From<AllocError> for Fault {
+    ghost from_gives = { λ _ e. e ≡ NoMemory };
+
+    fn from(_refused: AllocError) -> Fault {
+        Fault::NoMemory
+    }
+}
+
+impl<T: Drop> From<AllocFailed<T>> for Fault {
+    ghost from_gives = { λ _ e. e ≡ NoMemory };
+
+    fn from(_refused: AllocFailed<T>) -> Fault {
+        Fault::NoMemory
+    }
+}
+
 /// Why a capture file could not be read, and the line at which that was decided, counted from 1.
 /// Where memory ran out the line is 0.
 #[derive(Clone, Copy, Debug, PartialEq, Eq, Error)]
@@ -109,5 +136,13 @@ impl WriteError {
             WriteError::NoMemory => "NoMemory",
             WriteError::WriteFault { .. } => "WriteFault",
         }
+    }
+}
+
+impl From<vcd_core::NoMemory> for WriteError {
+    ghost from_gives = { λ _ e. e ≡ write_errors.NoMemory };
+
+    fn from(_error: vcd_core::NoMemory) -> WriteError {
+        WriteError::NoMemory
     }
 }

@@ -7,4 +7,10 @@ pub mod file_laws;
 pub mod output;
 pub mod reading;
 pub mod whole;
+pub mod words;
 pub mod writing;
+
+pub use fault::{Fault, ReadError, WriteError};
+pub use reading::{Loaded, read};
+pub use words::{Placed, Words};
+pub use writing::write;

@@ -1,27 +1,36 @@
-//! Reads a capture file of the simplest form: variables `wire 1`, and names of one word.
+//! Reads a capture file (IEEE 1364-2005, 18.2, in the project's profile).
 //!
 //! The whole file stands in memory. Its words go one after another through a machine, whose every step keeps
 //! to the grammar: the words so far spell items, and what these tell is what the machine holds.
 
-ghost use Rattle.std.specs.Prelude.{IfOk};
+ghost use Rattle.std.specs.Prelude.{◌≡◌, ◌⊎◌, ◌<◌, ◌≤◌, ◌^◌, [], false, length, IfOk, IfErr, IfSome, OnOk};
 ghost use Rattle.vcd_core.specs.Contents.{contents};
 ghost use Rattle.vcd_core.specs.Sound.{IsSound};
+ghost use Rattle.vcd_text.specs.Words.{end_line};
+ghost use Rattle.vcd_text.specs.WordsLeft.{words_left};
 ghost use Rattle.vcd_text.specs.Meaning.{FileMeans};
+ghost use Rattle.vcd_text.specs.Faults.{FileFault};
+ghost use Rattle.vcd_text.specs.Refusals.{out_of_memory, IsFrontAnswer, IsRefusal};
+ghost use Rattle.vcd_text.specs.Reading.{Reads, ReadsAll};
 
+mod changes;
 mod copies;
 mod decimal;
+mod declarations;
+mod letters;
 mod machine;
-#[cfg(test)]
-mod tests;
 mod timescale;
-mod variable;
-pub mod words;
+mod variables;
 
 use crate::fault::{Fault, ReadError};
 use crate::reading::machine::Machine;
-use crate::reading::words::Words;
+use crate::whole::{Incomplete, read_whole};
+use crate::words::Words;
 use std::alloc::Global;
-use vcd_core::Capture;
+use vcd_core::{Capture, Source};
+
+/// The most bytes that a capture file may have: 4 GiB.
+pub const FILE_LIMIT: usize = 4_294_967_296;
 
 /// A capture, and how many variables of its file are skipped.
 #[derive(Drop)]
@@ -30,35 +39,87 @@ pub struct Loaded {
     pub skipped: u64,
 }
 
-/// The capture that a file means (IEEE 1364-2005, 18.2, in the project's profile).
+/// Reads a capture file to its end: the capture that it means, or its first fault with the line.
 ///
-/// For now it takes files of these forms alone: `$timescale`, `$scope` with a name of one word, `$upscope`,
-/// `$var wire 1` with a name of one word, `$enddefinitions`, and then `$dumpvars`, `$end`, time stamps, and
-/// changes to `0`, `1`, `x` or `z`, with at most 94 variables. Of other files it answers a fault.
-pub fn capture_of(alloc: Global, bytes: &[u8]) -> Result<Loaded, ReadError>
-    ensures means { IfOk result (λ loaded. FileMeans bytes.now (contents loaded.capture) loaded.skipped) }
+/// Where the reader fails, or has more than 4 GiB, the words that are sure to be words of the file, since white
+/// space follows them, are looked at first: a fault in them is answered.
+///
+/// The time is that of the bytes, with one look-up and one push for each change. The whole file is held meanwhile.
+pub fn read<R: Source>(alloc: Global, reader: &mut R) -> Result<Loaded, ReadError>
+    requires ready { R.has_failed reader.old ≡ false }
+    ensures means { IfOk result (λ loaded. IfSome (R.coming reader.old) (λ file.
+        (length file ≤ FILE_LIMIT) × FileMeans file (contents loaded.capture) loaded.skipped)) }
     ensures sound { IfOk result (λ loaded. IsSound (contents loaded.capture)) }
+    ensures ended { OnOk result (R.has_failed reader.new ≡ false) }
+    ensures refused { IfErr result (λ e. IfSome (R.coming reader.old) (λ file.
+        IsRefusal file (R.has_failed reader.new) (R.coming reader.new) e)) }
 {
-    let mut words = Words::new(bytes);
-    let mut machine = Machine::new(alloc);
-    let mut line = 1;
-    while let Some(word) = words.next_word() {
-        line = word.line;
-        if let Err(fault) = machine.step(alloc, word.text) {
-            return Err(error_at(line, fault));
-        }
-    }
-    match machine.finish(alloc) {
-        Ok(capture) => Ok(Loaded {
-            capture,
-            skipped: 0,
+    let mut bytes = Vec::new(alloc);
+    match read_whole(reader, FILE_LIMIT, &mut bytes) {
+        Ok(()) => read_file(alloc, bytes.as_slice()),
+        Err(Incomplete::TooLarge) => Err(read_front(alloc, bytes.as_slice(), Fault::TooLarge)),
+        Err(Incomplete::ReadFault) => Err(read_front(alloc, bytes.as_slice(), Fault::ReadFault)),
+        Err(Incomplete::NoMemory) => Err(ReadError {
+            line: 0,
+            fault: Fault::NoMemory,
         }),
-        Err(fault) => Err(error_at(line, fault)),
     }
 }
 
-/// A fault with its line; want of memory has none.
-fn error_at(line: u64, fault: Fault) -> ReadError {
-    let line = if fault == Fault::NoMemory { 0 } else { line };
-    ReadError { line, fault }
+/// Reads a file of which all bytes are there.
+fn read_file(alloc: Global, bytes: &[u8]) -> Result<Loaded, ReadError>
+    requires within { length bytes.now ≤ FILE_LIMIT }
+    ensures means { IfOk result (λ loaded. FileMeans bytes.now (contents loaded.capture) loaded.skipped) }
+    ensures sound { IfOk result (λ loaded. IsSound (contents loaded.capture)) }
+    ensures fault { IfErr result (λ e. (e ≡ out_of_memory) ⊎ FileFault bytes.now e.line e.fault) }
+{
+    let mut machine = Machine::new(alloc);
+    read_words(&mut machine, alloc, Words::new(bytes))?;
+    if !machine.is_complete() {
+        return Err(error_at_end(bytes, Fault::Truncated));
+    }
+    match machine.finish(alloc) {
+        Ok(loaded) => Ok(loaded),
+        Err(_) => Err(ReadError {
+            line: 0,
+            fault: Fault::NoMemory,
+        }),
+    }
+}
+
+/// What is answered to a file of which only this front is known, for this reason: a fault in it, or the reason.
+fn read_front(alloc: Global, front: &[u8], reason: Fault) -> ReadError
+    requires within { length front.now ≤ FILE_LIMIT }
+    ensures { (result ≡ out_of_memory) ⊎ IsFrontAnswer front.now reason result }
+{
+    let mut machine = Machine::new(alloc);
+    match read_words(&mut machine, alloc, Words::closed(front)) {
+        Ok(()) => error_at_end(front, reason),
+        Err(error) => error,
+    }
+}
+
+/// Takes words one after another, up to the first that shows a fault.
+fn read_words(machine: &mut Machine, alloc: Global, all: Words) -> Result<(), ReadError>
+    requires first { Reads machine.old [] }
+    requires few { length (words_left all) < 2 ^ 63 }
+    ensures { ReadsAll (words_left all.entry) result machine.new }
+{
+    let mut words = all;
+    while let Some(word) = words.next_word() {
+        machine.step(alloc, word.text, word.line)?;
+    }
+    Ok(())
+}
+
+/// A fault at the line on which the bytes end.
+fn error_at_end(bytes: &[u8], fault: Fault) -> ReadError
+    ensures line { result.line ≡ end_line bytes.now }
+    ensures fault { result.fault ≡ fault }
+{
+    let feeds = bytes.iter().filter(|byte| **byte == b'\n').count();
+    ReadError {
+        line: 1 + feeds as u64,
+        fault,
+    }
 }

@@ -2,7 +2,7 @@
 
 ghost use Rattle.std.specs.Prelude.{◌≡◌, ◌≢◌, ◌<◌, ◌≤◌, ◌+◌, false, true, ℕ, nat_lt, List, [], ◌++◌, length, take, vec_len, IfOk, IfErr, IfSome, OnOk, IsErrOf};
 ghost use Rattle.std.specs.Io.{StartsWith};
-ghost use Rattle.std.specs.Io.KnownBytes.{Consumes, IsAtEnd};
+ghost use Rattle.std.specs.Io.KnownBytes.{Consumes, Keeps, IsAtEnd};
 ghost use Rattle.vcd_text.specs.declared.whole.Incomplete.TheVariants.{ReadFault, NoMemory};
 
 use std::alloc::AllocError;
@@ -49,11 +49,12 @@ pub fn read_whole<S: Source>(
     requires ready { S.has_failed source.old ≡ false }
     requires empty { bytes.old.items ≡ [] }
     ensures all { OnOk result (IfSome (S.coming source.old) (λ xs. bytes.new.items ≡ xs)) }
-    ensures within { OnOk result (vec_len bytes.new ≤ limit) }
+    ensures within { vec_len bytes.new ≤ limit }
     ensures ended { OnOk result (S.has_failed source.new ≡ false) }
     ensures too_large { IsErrOf result Incomplete.TooLarge → IfSome (S.coming source.old) (λ xs.
         (limit < length xs) × (bytes.new.items ≡ take limit xs)) }
     ensures failed { IsErrOf result Incomplete.ReadFault → S.has_failed source.new ≡ true }
+    ensures before_failure { IsErrOf result Incomplete.ReadFault → Consumes (S.coming source.old) (S.coming source.new) bytes.new.items }
     ensures front { IfSome (S.coming source.old) (λ xs. StartsWith xs bytes.new.items) }
 {
     let mut block = [0u8; BLOCK];
@@ -75,7 +76,7 @@ fn read_block<S: Source>(
         × Consumes (S.coming source.old) (S.coming source.new) piece
         × (bytes.new.items ≡ bytes.old.items ++ piece)
         × (more ≡ nat_lt 0 (length piece))) }
-    ensures within { OnOk result (vec_len bytes.new ≤ limit) }
+    ensures within { vec_len bytes.new ≤ limit }
     ensures ended { IfOk result (λ more. more ≡ false → IsAtEnd (S.coming source.new)) }
     ensures ready { OnOk result (S.has_failed source.new ≡ false) }
     ensures too_large { IsErrOf result Incomplete.TooLarge → (piece : List ℕ)
@@ -83,6 +84,7 @@ fn read_block<S: Source>(
         × (limit < vec_len bytes.old + length piece)
         × (bytes.new.items ≡ take limit (bytes.old.items ++ piece)) }
     ensures failed { IsErrOf result Incomplete.ReadFault → S.has_failed source.new ≡ true }
+    ensures kept { IsErrOf result Incomplete.ReadFault → Keeps (S.coming source.old) (S.coming source.new) }
     ensures unchanged { IfErr result (λ e. e ≢ Incomplete.TooLarge → bytes.new.items ≡ bytes.old.items) }
 {
     let count = source.read(block)?;

@@ -2,7 +2,7 @@
 use Rattle.std.specs.Prelude.{◌≡◌, ℕ, List, map, Result, Ok, Err}
 use Rattle.vcdedit.specs.declared.command.Command.{Command}
 use Rattle.vcdedit.specs.declared.line_error.LineError.{LineError}
-use Rattle.vcd_text.specs.declared.reading.words.Words.{Words}
+use Rattle.vcd_text.specs.declared.words.Words.{Words}
 use Rattle.vcd_text.specs.Words.{Word}
 use Rattle.vcd_text.specs.WordsLeft.{words_left}
 use Rattle.vcdedit.specs.Lent.{unplaced}

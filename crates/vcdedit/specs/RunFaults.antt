@@ -1,24 +1,18 @@
--- Which faults a part of a run can answer: the project's own.
+-- What is said of the fault that ended a run: the project's own.
+use Rattle.vcd_text.specs.declared.fault.ReadError.{ReadError}
+use Rattle.vcd_text.specs.declared.fault.WriteError.{WriteError}
 use Rattle.vcdedit.specs.declared.run_error.RunError.{RunError}
 use Rattle.vcdedit.specs.declared.run_error.RunError.TheVariants as run_errors
 
--- the fault is one of the capture
-abbrev pub IsCaptureFault : RunError → Type 0
-IsCaptureFault (run_errors.Capture e) = Unit {0}
-IsCaptureFault run_errors.ScriptTooLarge = ⊥
-IsCaptureFault run_errors.ScriptReadFault = ⊥
-IsCaptureFault (run_errors.NoMemory line) = ⊥
-IsCaptureFault (run_errors.ReplyFault written) = ⊥
-IsCaptureFault (run_errors.Write e) = ⊥
+-- this is said of the capture's fault, where that ended the run
+abbrev pub IfCapture : RunError → (ReadError → Type 0) → Type 0
+IfCapture (run_errors.Capture e) said = said e
+IfCapture _ said = Unit {0}
 
--- the fault is one of the output
-abbrev pub IsWriteFault : RunError → Type 0
-IsWriteFault (run_errors.Write e) = Unit {0}
-IsWriteFault (run_errors.Capture e) = ⊥
-IsWriteFault run_errors.ScriptTooLarge = ⊥
-IsWriteFault run_errors.ScriptReadFault = ⊥
-IsWriteFault (run_errors.NoMemory line) = ⊥
-IsWriteFault (run_errors.ReplyFault written) = ⊥
+-- this is said of the output's fault, where that ended the run
+abbrev pub IfWrite : RunError → (WriteError → Type 0) → Type 0
+IfWrite (run_errors.Write e) said = said e
+IfWrite _ said = Unit {0}
 
 -- the run ends before the first reply
 abbrev pub IsBeforeReplies : RunError → Type 0

@@ -10,7 +10,7 @@ use crate::edit::Edit;
 use crate::line_error::LineError;
 use crate::step::Step;
 use vcd_core::Capture;
-use vcd_text::reading::words::Words;
+use vcd_text::Words;
 
 /// Reads a line of the script, on the capture that then stands. It takes no memory.
 ///

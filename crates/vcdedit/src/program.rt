@@ -12,7 +12,7 @@ use std::io::{BufWriter, ErrorKind, Write};
 use std::rt::Runtime;
 use std::{env, io};
 use vcd_core::{FromRead, Sink, ToWrite};
-use vcd_text::fault::{Fault, ReadError};
+use vcd_text::{Fault, ReadError};
 
 /// How many bytes the replies and the output are gathered in before they go out.
 const BUFFER: usize = 65_536;

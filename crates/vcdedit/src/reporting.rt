@@ -1,13 +1,15 @@
 //! What the program says of a run: its exit status, and the line on standard error.
 
-ghost use Rattle.std.specs.Prelude.{◌≡◌, ◌==◌, if◌then◌else◌, false, true, OnOk, MatchResult};
+ghost use Rattle.std.specs.Prelude.{◌≡◌, ◌==◌, if◌then◌else◌, false, OnOk};
 ghost use Rattle.std.specs.Io.KnownBytes.{Appends};
+ghost use Rattle.vcd_core.specs.Device.{Reports};
 ghost use Rattle.vcdedit.specs.Report.{capture_line, capture_status, line_of, numbered_line, status_of, usage_line};
 
 use crate::run_error::{RunError, Summary};
 use itoa::Buffer;
 use vcd_core::{DeviceFault, Sink};
-use vcd_text::fault::{Fault, ReadError, WriteError};
+use vcd_text::output::write_all;
+use vcd_text::{Fault, ReadError, WriteError};
 
 /// Writes the line that says what ended a run, and gives the exit status. A fault of the writer is passed
 /// over. It takes no memory.
@@ -67,7 +69,7 @@ const OUT_OF_MEMORY: &[u8] = b"vcdedit: out of memory\n";
 fn write_line<W: Sink>(error: &RunError, writer: &mut W) -> Result<(), DeviceFault>
     requires { W.has_failed writer.old ≡ false }
     ensures line { OnOk result (Appends (W.taken writer.old) (W.taken writer.new) (line_of error.now)) }
-    ensures state { MatchResult result (λ _. W.has_failed writer.new ≡ false) (λ _. W.has_failed writer.new ≡ true) }
+    ensures state { Reports (W.has_failed writer.old) (W.has_failed writer.new) result }
 {
     match error {
         RunError::Capture(error) => write_capture_line(error, writer),
@@ -89,7 +91,7 @@ fn write_capture_line<W: Sink>(error: &ReadError, writer: &mut W) -> Result<(), 
     requires { W.has_failed writer.old ≡ false }
     ensures line { OnOk result
         (Appends (W.taken writer.old) (W.taken writer.new) (capture_line error.now.fault error.now.line)) }
-    ensures state { MatchResult result (λ _. W.has_failed writer.new ≡ false) (λ _. W.has_failed writer.new ≡ true) }
+    ensures state { Reports (W.has_failed writer.old) (W.has_failed writer.new) result }
 {
     match error.fault {
         Fault::ReadFault => put(writer, b"vcdedit: capture: read fault\n"),
@@ -102,7 +104,7 @@ fn write_numbered_line<W: Sink>(error: &ReadError, writer: &mut W) -> Result<(),
     requires { W.has_failed writer.old ≡ false }
     ensures line { OnOk result
         (Appends (W.taken writer.old) (W.taken writer.new) (numbered_line error.now.fault error.now.line)) }
-    ensures state { MatchResult result (λ _. W.has_failed writer.new ≡ false) (λ _. W.has_failed writer.new ≡ true) }
+    ensures state { Reports (W.has_failed writer.old) (W.has_failed writer.new) result }
 {
     put(writer, b"vcdedit: capture line ")?;
     put(writer, Buffer::new().format(error.line).as_bytes())?;
@@ -116,14 +118,12 @@ fn write_numbered_line<W: Sink>(error: &ReadError, writer: &mut W) -> Result<(),
 fn put<W: Sink>(writer: &mut W, bytes: &[u8]) -> Result<(), DeviceFault>
     requires { W.has_failed writer.old ≡ false }
     ensures bytes { OnOk result (Appends (W.taken writer.old) (W.taken writer.new) bytes.now) }
-    ensures state { MatchResult result (λ _. W.has_failed writer.new ≡ false) (λ _. W.has_failed writer.new ≡ true) }
+    ensures state { Reports (W.has_failed writer.old) (W.has_failed writer.new) result }
 {
-    let mut rest = bytes;
-    while !rest.is_empty() {
-        let count = writer.write(rest)?;
-        rest = &rest[count..];
+    match write_all(writer, bytes) {
+        Ok(()) => Ok(()),
+        Err(_) => Err(DeviceFault),
     }
-    Ok(())
 }
 
 #[cfg(test)]

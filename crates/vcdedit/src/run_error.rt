@@ -2,9 +2,10 @@
 
 ghost use Rattle.std.specs.Prelude.{◌≡◌};
 ghost use Rattle.vcdedit.specs.Report.{run_error_name};
+ghost use Rattle.vcdedit.specs.declared.run_error.RunError.TheVariants as run_errors;
 
 use thiserror::Error;
-use vcd_text::fault::{ReadError, WriteError};
+use vcd_text::{ReadError, WriteError};
 
 /// What is told of a run that reached its end.
 #[derive(Clone, Copy, Debug, PartialEq, Eq)]
@@ -46,6 +47,22 @@ impl RunError {
             RunError::ReplyFault { .. } => "ReplyFault",
             RunError::Write(error) => error.name(),
         }
+    }
+}
+
+impl From<ReadError> for RunError {
+    ghost from_gives = { λ error e. e ≡ run_errors.Capture error };
+
+    fn from(error: ReadError) -> RunError {
+        RunError::Capture(error)
+    }
+}
+
+impl From<WriteError> for RunError {
+    ghost from_gives = { λ error e. e ≡ run_errors.Write error };
+
+    fn from(error: WriteError) -> RunError {
+        RunError::Write(error)
     }
 }
 

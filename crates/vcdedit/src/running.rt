@@ -1,29 +1,23 @@
 //! The run: a capture and a script in, replies and a capture out.
 
-ghost use Rattle.std.specs.Prelude.{◌≡◌, ◌<◌, ◌≤◌, ◌⊎◌, false, true, length, vec_len, OnOk, IfOk, IfErr, IfSome, IsErrOf};
+ghost use Rattle.std.specs.Prelude.{◌≡◌, ◌<◌, ◌≤◌, ◌⊎◌, false, true, length, OnOk, IfOk, IfErr, IfSome, IsErrOf};
 ghost use Rattle.std.specs.Option.{ForSome};
 ghost use Rattle.std.specs.Io.KnownBytes.{Appends};
 ghost use Rattle.vcd_core.specs.Contents.{contents};
 ghost use Rattle.vcd_core.specs.Sound.{IsSound};
-ghost use Rattle.vcd_text.specs.Meaning.{FileMeans};
-ghost use Rattle.vcd_text.specs.Text.{text};
+ghost use Rattle.vcd_text.specs.Refusals.{IsRefusal};
 ghost use Rattle.vcdedit.specs.History.{unwritten};
-ghost use Rattle.vcdedit.specs.RunFaults.{IsCaptureFault, IsWriteFault, IsBeforeReplies, IsBeforeOutput};
-ghost use Rattle.vcdedit.specs.RunEnds.{ScriptRan, RanToEnd, OutTakes, OutKeeps};
+ghost use Rattle.vcdedit.specs.RunFaults.{IfCapture, IfWrite, IsBeforeReplies, IsBeforeOutput};
+ghost use Rattle.vcdedit.specs.RunEnds.{ScriptRan, RanToEnd, RanToOutput, IfOut, OutTakes, OutKeeps, OutStops};
 
 use crate::run_error::{RunError, Summary};
 use crate::run_lines::run_lines;
 use crate::session::Session;
 use std::alloc::Global;
 use vcd_core::{Capture, Sink, Source};
-use vcd_text::fault::{Fault, ReadError, WriteError};
-use vcd_text::output::write_and_flush;
-use vcd_text::reading::{Loaded, capture_of};
+use vcd_text::reading::FILE_LIMIT;
 use vcd_text::whole::{Incomplete, read_whole};
-use vcd_text::writing::text_of;
-
-/// The most bytes that a capture may have: 4 GiB.
-pub const CAPTURE_LIMIT: usize = 4_294_967_296;
+use vcd_text::{read, write};
 
 /// The most bytes that a script may have: 1 MiB.
 pub const SCRIPT_LIMIT: usize = 1_048_576;
@@ -52,10 +46,18 @@ pub fn run<R: Source, S: Source, P: Sink, W: Sink>(
     ensures capture_ended { OnOk result (R.has_failed capture_reader.new ≡ false) }
     ensures script_ended { OnOk result (S.has_failed script_reader.new ≡ false) }
     ensures replies_sound { OnOk result (P.has_failed replies.new ≡ false) }
+    ensures out_sound { OnOk result (IfOut out.entry out.exit (λ _ new. W.has_failed new ≡ false)) }
+    ensures capture_within { OnOk result (IfSome (R.coming capture_reader.old) (λ file. length file ≤ FILE_LIMIT)) }
+    ensures script_within { OnOk result (IfSome (S.coming script_reader.old) (λ script. length script ≤ SCRIPT_LIMIT)) }
 
+    ensures capture_refused { IfErr result (λ e. IfCapture e (λ fault. IfSome (R.coming capture_reader.old) (λ file.
+        IsRefusal file (R.has_failed capture_reader.new) (R.coming capture_reader.new) fault))) }
     ensures script_too_large { IsErrOf result RunError.ScriptTooLarge →
-        IfSome (S.coming script_reader.old) (λ xs. SCRIPT_LIMIT < length xs) }
+        IfSome (S.coming script_reader.old) (λ script. SCRIPT_LIMIT < length script) }
     ensures script_failed { IsErrOf result RunError.ScriptReadFault → S.has_failed script_reader.new ≡ true }
+    ensures output_failed { IfErr result (λ e. IfWrite e (λ fault. RanToOutput (R.coming capture_reader.old) (S.coming script_reader.old) depth
+        (Appends (P.taken replies.old) (P.taken replies.new)) (OutStops W.taken W.has_failed out.entry out.exit fault))) }
+
     ensures no_reply { IfErr result (λ e. IsBeforeReplies e → P.taken replies.new ≡ P.taken replies.old) }
     ensures no_output { IfErr result (λ e. IsBeforeOutput e → OutKeeps W.taken out.entry out.exit) }
 {
@@ -65,7 +67,7 @@ pub fn run<R: Source, S: Source, P: Sink, W: Sink>(
     };
     match out {
         Some(out) => {
-            write_capture(alloc, edited.session.capture(), out)?;
+            write(alloc, edited.session.capture(), out)?;
             Ok(summary)
         }
         None => Ok(summary),
@@ -97,32 +99,21 @@ fn run_script<R: Source, S: Source, P: Sink>(
     ensures capture_ended { OnOk result (R.has_failed capture_reader.new ≡ false) }
     ensures script_ended { OnOk result (S.has_failed script_reader.new ≡ false) }
     ensures replies_sound { OnOk result (P.has_failed replies.new ≡ false) }
+    ensures capture_within { OnOk result (IfSome (R.coming capture_reader.old) (λ file. length file ≤ FILE_LIMIT)) }
+    ensures script_within { OnOk result (IfSome (S.coming script_reader.old) (λ script. length script ≤ SCRIPT_LIMIT)) }
+    ensures capture_refused { IfErr result (λ e. IfCapture e (λ fault. IfSome (R.coming capture_reader.old) (λ file.
+        IsRefusal file (R.has_failed capture_reader.new) (R.coming capture_reader.new) fault))) }
     ensures script_too_large { IsErrOf result RunError.ScriptTooLarge →
-        IfSome (S.coming script_reader.old) (λ xs. SCRIPT_LIMIT < length xs) }
+        IfSome (S.coming script_reader.old) (λ script. SCRIPT_LIMIT < length script) }
     ensures script_failed { IsErrOf result RunError.ScriptReadFault → S.has_failed script_reader.new ≡ true }
     ensures no_reply { IfErr result (λ e. IsBeforeReplies e → P.taken replies.new ≡ P.taken replies.old) }
     ensures before_output { IfErr result IsBeforeOutput }
 {
-    let loaded = load(alloc, capture_reader)?;
+    let loaded = read(alloc, capture_reader)?;
     let script = read_script(alloc, script_reader)?;
     let mut session = begin(alloc, loaded.capture, depth)?;
     let refused = run_lines(alloc, &mut session, script.as_slice(), replies)?;
     Ok(Edited { session, refused })
-}
-
-/// Reads the capture.
-fn load<R: Source>(alloc: Global, reader: &mut R) -> Result<Loaded, RunError>
-    requires { R.has_failed reader.old ≡ false }
-    ensures means { IfOk result (λ loaded. IfSome (R.coming reader.old) (λ file. FileMeans file (contents loaded.capture) loaded.skipped)) }
-    ensures sound { IfOk result (λ loaded. IsSound (contents loaded.capture)) }
-    ensures ended { OnOk result (R.has_failed reader.new ≡ false) }
-    ensures fault { IfErr result IsCaptureFault }
-{
-    let bytes = read_capture(alloc, reader)?;
-    match capture_of(alloc, bytes.as_slice()) {
-        Ok(loaded) => Ok(loaded),
-        Err(error) => Err(RunError::Capture(error)),
-    }
 }
 
 /// Begins a session. Want of memory for it counts at no line.
@@ -139,56 +130,10 @@ fn begin(alloc: Global, capture: Capture, depth: u64) -> Result<Session, RunErro
     }
 }
 
-/// Writes the text of a capture, which is made whole before the first of its bytes is written.
-fn write_capture<W: Sink>(alloc: Global, capture: &Capture, out: &mut W) -> Result<(), RunError>
-    requires sound { IsSound (contents capture.now) }
-    requires ready { W.has_failed out.old ≡ false }
-    ensures written { OnOk result (Appends (W.taken out.old) (W.taken out.new) (text (contents capture.now))) }
-    ensures fault { IfErr result IsWriteFault }
-{
-    match text_of(alloc, capture) {
-        Ok(text) => match write_and_flush(out, text.as_slice()) {
-            Ok(()) => Ok(()),
-            Err(written) => Err(RunError::Write(WriteError::WriteFault { written })),
-        },
-        Err(_) => Err(RunError::Write(WriteError::NoMemory)),
-    }
-}
-
-fn read_capture<R: Source>(alloc: Global, reader: &mut R) -> Result<Vec<u8>, RunError>
-    requires { R.has_failed reader.old ≡ false }
-    ensures all { IfOk result (λ bytes. IfSome (R.coming reader.old) (λ xs. bytes.items ≡ xs)) }
-    ensures within { IfOk result (λ bytes. vec_len bytes ≤ CAPTURE_LIMIT) }
-    ensures ended { OnOk result (R.has_failed reader.new ≡ false) }
-    ensures fault { IfErr result IsCaptureFault }
-{
-    let mut bytes = Vec::new(alloc);
-    match read_whole(reader, CAPTURE_LIMIT, &mut bytes) {
-        Ok(()) => Ok(bytes),
-        Err(Incomplete::TooLarge) => Err(capture_fault(&bytes, Fault::TooLarge)),
-        Err(Incomplete::ReadFault) => Err(capture_fault(&bytes, Fault::ReadFault)),
-        Err(Incomplete::NoMemory) => Err(RunError::Capture(ReadError {
-            line: 0,
-            fault: Fault::NoMemory,
-        })),
-    }
-}
-
-/// A fault at the last line of what was read.
-fn capture_fault(bytes: &Vec<u8>, fault: Fault) -> RunError
-    ensures { IsCaptureFault result }
-{
-    let feeds = bytes.iter().filter(|byte| **byte == b'\n').count();
-    RunError::Capture(ReadError {
-        line: 1 + feeds as u64,
-        fault,
-    })
-}
-
 fn read_script<S: Source>(alloc: Global, reader: &mut S) -> Result<Vec<u8>, RunError>
     requires { S.has_failed reader.old ≡ false }
     ensures all { IfOk result (λ bytes. IfSome (S.coming reader.old) (λ xs. bytes.items ≡ xs)) }
-    ensures within { IfOk result (λ bytes. vec_len bytes ≤ SCRIPT_LIMIT) }
+    ensures within { IfOk result (λ bytes. length bytes.items ≤ SCRIPT_LIMIT) }
     ensures ended { OnOk result (S.has_failed reader.new ≡ false) }
     ensures too_large { IsErrOf result RunError.ScriptTooLarge →
         IfSome (S.coming reader.old) (λ xs. SCRIPT_LIMIT < length xs) }

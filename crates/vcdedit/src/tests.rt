@@ -2,7 +2,7 @@ use crate::edit_error::EditError;
 use crate::line_error::LineError;
 use crate::step::StepError;
 use std::test::*;
-use vcd_text::fault::{Fault, ReadError, WriteError};
+use vcd_text::{Fault, ReadError, WriteError};
 
 /// Each message is the fault's name.
 #[test]

@@ -1,62 +1,56 @@
 //! The reader as a machine that takes one word after another.
 
-ghost use Rattle.std.specs.Prelude.{◌≡◌, ◌≤◌, ◌∷◌, ◌++◌, [], ℕ, List, true, false, length, IsTrue, IfSome, OnOk, IfOk, codes};
-ghost use Rattle.std.specs.Str.{bytes_eq};
+ghost use Rattle.std.specs.Prelude.{◌≡◌, ◌<◌, [], true, length, IfOk};
 ghost use Rattle.vcd_core.specs.Contents.{contents};
-ghost use Rattle.vcd_text.specs.Items.{is_end, is_one_of, dump_words, end_word};
-ghost use Rattle.vcd_text.specs.Letters.{letter_read};
-ghost use Rattle.vcd_text.specs.Reading.{Reads, CanRead, ReadsOn, Begins, IsWire, Declares, is_inside, Means};
-ghost use Rattle.vcd_text.specs.declared.reading.machine.Place.TheVariants.{Declarations, InTimescale, InScope, InUpscope, InVariable, InEndDefinitions, Changes};
+ghost use Rattle.vcd_text.specs.Words.{word};
+ghost use Rattle.vcd_text.specs.Inside.{shown_line};
+ghost use Rattle.vcd_text.specs.Reading.{Reads, IsReading, Moves, Steps, error_at, is_complete, Means};
 
-use crate::fault::Fault;
-use crate::reading::copies::{copy_scopes, copy_word, copy_words};
-use crate::reading::decimal::tick_of;
-use crate::reading::timescale::timescale_in;
-use crate::reading::variable::{Variable, record, signals_of};
-use std::alloc::{AllocError, AllocFailed, Global};
-use vcd_core::{
-    Bit, Capture, NoMemory, ScopeName, ScopePath, Signal, Timescale, Value, Wave, Word,
-};
+use crate::fault::{Fault, ReadError};
+use crate::reading::Loaded;
+use crate::reading::variables::Variables;
+use std::alloc::Global;
+use vcd_core::{Capture, Header, HeaderKind, NoMemory, ScopeName, Timescale, Word};
 
-/// The most variables that have codes of one byte.
-const VARIABLE_LIMIT: usize = 94;
-
-/// Where in the file the next word stands: between two declarations, inside one, or among the changes.
+/// The item whose words are not all there yet.
 #[derive(Clone, Copy, Debug, PartialEq, Eq)]
-pub enum Place {
-    Declarations,
-    InTimescale,
-    InScope,
-    InUpscope,
-    InVariable,
-    InEndDefinitions,
-    Changes,
+pub enum OpenItem {
+    /// None: the next word begins one.
+    Nothing,
+    /// `$date`, `$version` or `$comment` among the declarations.
+    Entry(HeaderKind),
+    Timescale,
+    Scope,
+    Upscope,
+    Variable,
+    EndDefinitions,
+    /// A command that is passed over.
+    Other,
+    /// A change of several bits, whose code is due.
+    Vector,
+    /// A change of a real number or a string, whose code is due.
+    Dropped,
 }
 
 /// What has been read so far.
 #[derive(Drop)]
 pub struct Machine {
+    pub header: Vec<Header>,
     pub timescale: Option<Timescale>,
     /// The scopes that are open, outermost first.
     pub scopes: Vec<ScopeName>,
-    pub variables: Vec<Variable>,
+    pub variables: Variables,
+    /// Whether `$enddefinitions $end` has come.
+    pub changing: bool,
     /// The last time stamp, or 0.
     pub tick: u64,
-    pub place: Place,
+    pub item: OpenItem,
     /// The words of the declaration that is open, behind its keyword.
     pub words: Vec<Word>,
-}
-
-impl From<NoMemory> for Fault {
-    fn from(_refused: NoMemory) -> Fault {
-        Fault::NoMemory
-    }
-}
-
-impl<T: Drop> From<AllocFailed<T>> for Fault {
-    fn from(_refused: AllocFailed<T>) -> Fault {
-        Fault::NoMemory
-    }
+    /// The digits of the change of several bits that is open.
+    pub text: Vec<u8>,
+    /// The line of the change that is open.
+    pub line: u64,
 }
 
 impl Machine {
@@ -64,280 +58,90 @@ impl Machine {
         ensures { Reads result [] }
     {
         Machine {
+            header: Vec::new(alloc),
             timescale: None,
             scopes: Vec::new(alloc),
-            variables: Vec::new(alloc),
+            variables: Variables::new(alloc),
+            changing: false,
             tick: 0,
-            place: Place::Declarations,
+            item: OpenItem::Nothing,
             words: Vec::new(alloc),
+            text: Vec::new(alloc),
+            line: 0,
         }
     }
 
-    /// Takes the next word of the file.
-    pub fn step(&mut self, alloc: Global, word: &[u8]) -> Result<(), Fault>
-        requires { CanRead self.old }
-        ensures { OnOk result (ReadsOn self.old word.now self.new) }
+    /// Takes the next word of the file, which stands on this line.
+    pub fn step(&mut self, alloc: Global, text: &[u8], line: u64) -> Result<(), ReadError>
+        requires reading { IsReading self.old }
+        requires word { 0 < length text.now }
+        ensures { Steps self.old (word text.now line) result self.new }
     {
-        match self.place {
-            Place::Changes => self.change(word),
-            Place::Declarations => self.begin(word),
-            _ if word == b"$end".as_slice() => self.close(alloc),
-            _ => self.go_on(alloc, word),
+        let shown = self.shown_line(line);
+        match self.take(alloc, text, line) {
+            Ok(()) => Ok(()),
+            Err(fault) => Err(error_at(shown, fault)),
         }
     }
 
-    /// Begins a declaration.
-    fn begin(&mut self, word: &[u8]) -> Result<(), Fault>
-        requires { self.old.place ≡ Declarations }
-        ensures { OnOk result (ReadsOn self.old word.now self.new) }
+    /// The line that a fault of the next word bears, which stands on this line.
+    fn shown_line(&self, line: u64) -> u64
+        ensures { result ≡ shown_line self.now.item self.now.line line }
     {
-        let Some(place) = begun_by(word) else {
-            return Err(Fault::UnexpectedWord);
-        };
-        self.place = place;
-        self.words.clear();
-        Ok(())
-    }
-
-    /// Takes a word of the declaration that is open.
-    fn go_on(&mut self, alloc: Global, word: &[u8]) -> Result<(), Fault>
-        requires inside { is_inside self.old.place ≡ true }
-        requires word { is_end word.now ≡ false }
-        ensures { OnOk result (ReadsOn self.old word.now self.new) }
-    {
-        self.words.push(copy_word(alloc, word)?)?;
-        Ok(())
-    }
-
-    /// Closes the declaration that is open.
-    fn close(&mut self, alloc: Global) -> Result<(), Fault>
-        ensures { OnOk result (ReadsOn self.old end_word self.new) }
-    {
-        match self.place {
-            Place::InTimescale => self.close_timescale(alloc),
-            Place::InScope => self.close_scope(alloc),
-            Place::InUpscope => self.close_upscope(),
-            Place::InVariable => self.close_variable(alloc),
-            Place::InEndDefinitions => self.close_definitions(),
-            Place::Declarations | Place::Changes => Err(Fault::UnexpectedWord),
+        match self.item {
+            OpenItem::Vector | OpenItem::Dropped => self.line,
+            _ => line,
         }
     }
 
-    fn close_timescale(&mut self, alloc: Global) -> Result<(), Fault>
-        requires { self.old.place ≡ InTimescale }
-        ensures { OnOk result (ReadsOn self.old end_word self.new) }
+    /// Takes the next word.
+    fn take(&mut self, alloc: Global, text: &[u8], line: u64) -> Result<(), Fault>
+        requires reading { IsReading self.old }
+        requires word { 0 < length text.now }
+        ensures { Moves self.old (word text.now line) result self.new }
     {
-        let found = timescale_in(alloc, &self.words)?;
-        if found.is_none() {
-            return Err(Fault::BadTimescale);
-        }
-        self.timescale = found;
-        self.place = Place::Declarations;
-        Ok(())
-    }
-
-    fn close_scope(&mut self, alloc: Global) -> Result<(), Fault>
-        requires { self.old.place ≡ InScope }
-        ensures { OnOk result (ReadsOn self.old end_word self.new) }
-    {
-        let Some((kind, words)) = self.words.split_first() else {
-            return Err(Fault::BadScope);
-        };
-        if words.len() != 1 {
-            return Err(Fault::UnexpectedWord);
-        }
-        let scope = ScopeName {
-            kind: copy_word(alloc, kind.as_slice())?,
-            words: copy_words(alloc, words)?,
-        };
-        self.scopes.push(scope)?;
-        self.place = Place::Declarations;
-        Ok(())
-    }
-
-    fn close_upscope(&mut self) -> Result<(), Fault>
-        requires { self.old.place ≡ InUpscope }
-        ensures { OnOk result (ReadsOn self.old end_word self.new) }
-    {
-        if !self.words.is_empty() {
-            return Err(Fault::UnexpectedWord);
-        }
-        if self.scopes.pop().is_none() {
-            return Err(Fault::UpscopeAtTop);
-        }
-        self.place = Place::Declarations;
-        Ok(())
-    }
-
-    fn close_variable(&mut self, alloc: Global) -> Result<(), Fault>
-        requires { self.old.place ≡ InVariable }
-        ensures { OnOk result (ReadsOn self.old end_word self.new) }
-    {
-        if !is_wire(&self.words) {
-            return Err(Fault::BadVar);
-        }
-        if self.variables.len() >= VARIABLE_LIMIT {
-            return Err(Fault::TooManySignals);
-        }
-        let variable = variable_of(alloc, &self.scopes, &self.words)?;
-        self.variables.push(variable)?;
-        self.place = Place::Declarations;
-        Ok(())
-    }
-
-    fn close_definitions(&mut self) -> Result<(), Fault>
-        requires { self.old.place ≡ InEndDefinitions }
-        ensures { OnOk result (ReadsOn self.old end_word self.new) }
-    {
-        if !self.words.is_empty() {
-            return Err(Fault::UnexpectedWord);
-        }
-        self.place = Place::Changes;
-        Ok(())
-    }
-
-    /// Takes a word among the changes.
-    fn change(&mut self, word: &[u8]) -> Result<(), Fault>
-        requires place { self.old.place ≡ Changes }
-        requires can { CanRead self.old }
-        ensures { OnOk result (ReadsOn self.old word.now self.new) }
-    {
-        if is_bracket(word) {
-            return Ok(());
-        }
-        match word {
-            [b'#', digits @ ..] => self.stamp(digits),
-            [letter, code @ ..] => self.set(*letter, code),
-            [] => Err(Fault::UnexpectedWord),
+        match self.item {
+            OpenItem::Nothing if self.changing => self.begin_change(text, line),
+            OpenItem::Nothing => self.begin_declaration(text),
+            OpenItem::Vector => self.end_vector(text),
+            OpenItem::Dropped => self.end_dropped(text),
+            _ if text == b"$end".as_slice() => self.close(alloc),
+            _ => self.go_on(alloc, text),
         }
     }
 
-    /// Goes on to the tick of a time stamp.
-    fn stamp(&mut self, digits: &[u8]) -> Result<(), Fault>
-        requires { self.old.place ≡ Changes }
-        ensures { OnOk result (ReadsOn self.old (35 ∷ digits.now) self.new) }
+    /// Whether the words so far are a whole file.
+    pub fn is_complete(&self) -> bool
+        ensures { result ≡ is_complete self.now }
     {
-        let Some(tick) = tick_of(digits) else {
-            return Err(Fault::BadTime);
-        };
-        if tick < self.tick {
-            return Err(Fault::TimeBackwards);
-        }
-        self.tick = tick;
-        Ok(())
-    }
-
-    /// Sets each variable of a code.
-    fn set(&mut self, letter: u8, code: &[u8]) -> Result<(), Fault>
-        requires place { self.old.place ≡ Changes }
-        requires can { CanRead self.old }
-        ensures { OnOk result (ReadsOn self.old (letter ∷ code.now) self.new) }
-    {
-        let Some(bit) = bit_of(letter) else {
-            return Err(Fault::BadChange);
-        };
-        if code.is_empty() {
-            return Err(Fault::BadChange);
-        }
-        if record(&mut self.variables, code, self.tick, Value::filled(1, bit))? {
-            Ok(())
-        } else {
-            Err(Fault::UnknownCode)
-        }
+        self.changing && self.item == OpenItem::Nothing
     }
 
     /// The capture that the file means, once its last word has been taken.
-    pub fn finish(self, alloc: Global) -> Result<Capture, Fault>
-        ensures { IfOk result (λ capture. Means self (contents capture)) }
+    pub fn finish(self, alloc: Global) -> Result<Loaded, NoMemory>
+        requires { is_complete self ≡ true }
+        ensures { IfOk result (λ loaded. Means self (contents loaded.capture) loaded.skipped) }
     {
         let Machine {
+            header,
             timescale,
-            scopes: _,
             variables,
             tick,
-            place,
-            words: _,
+            ..
         } = self;
-        if place != Place::Changes {
-            return Err(Fault::Truncated);
-        }
-        let capture = Capture::new(
-            Vec::new(alloc),
-            timescale,
-            tick,
-            signals_of(alloc, variables)?,
-        );
-        if !capture.is_sound() {
-            return Err(Fault::UnexpectedWord);
-        }
-        Ok(capture)
+        let skipped = variables.skipped;
+        let signals = variables.into_signals(alloc)?;
+        let capture = Capture::new(header, timescale, tick, signals);
+        Ok(Loaded { capture, skipped })
     }
 }
 
-/// The declaration that a keyword begins.
-fn begun_by(word: &[u8]) -> Option<Place>
-    ensures { IfSome result (λ place. Begins place word.now) }
+/// A fault with its line; want of memory has none.
+fn error_at(line: u64, fault: Fault) -> ReadError
+    ensures { result ≡ error_at line fault }
 {
-    if word == b"$timescale".as_slice() {
-        Some(Place::InTimescale)
-    } else if word == b"$scope".as_slice() {
-        Some(Place::InScope)
-    } else if word == b"$upscope".as_slice() {
-        Some(Place::InUpscope)
-    } else if word == b"$var".as_slice() {
-        Some(Place::InVariable)
-    } else if word == b"$enddefinitions".as_slice() {
-        Some(Place::InEndDefinitions)
-    } else {
-        None
-    }
-}
-
-/// Whether words declare a scalar wire with a name of one word.
-fn is_wire(words: &[Word]) -> bool
-    ensures { IsTrue result → IsWire words.now }
-{
-    if words.len() != 4 || words[0].as_slice() != b"wire".as_slice() {
-        return false;
-    }
-    words[1].as_slice() == b"1".as_slice()
-}
-
-/// The variable that words declare in these scopes.
-fn variable_of(alloc: Global, scopes: &[ScopeName], words: &[Word]) -> Result<Variable, NoMemory>
-    requires { IsWire words.now }
-    ensures { IfOk result (λ variable. Declares variable scopes.now words.now) }
-{
-    let kind = copy_word(alloc, b"wire")?;
-    let code = copy_word(alloc, words[2].as_slice())?;
-    let name = copy_words(alloc, &words[3..])?;
-    let scopes = ScopePath::from_vec(copy_scopes(alloc, scopes)?);
-    let wave = Wave::new(alloc, 1);
-    let signal = Signal {
-        scopes,
-        kind,
-        words: name,
-        wave,
-    };
-    Ok(Variable { code, signal })
-}
-
-/// Whether a word is a bracket of a dump.
-fn is_bracket(word: &[u8]) -> bool
-    ensures { IsTrue result → IsTrue (is_one_of dump_words word.now) }
-{
-    word == b"$dumpvars".as_slice() || word == b"$end".as_slice()
-}
-
-/// The value that a letter stands for.
-fn bit_of(letter: u8) -> Option<Bit>
-    ensures { IfSome result (λ bit. letter_read letter ≡ Some bit) }
-{
-    match letter {
-        b'0' => Some(Bit::Zero),
-        b'1' => Some(Bit::One),
-        b'x' => Some(Bit::X),
-        b'z' => Some(Bit::Z),
-        _ => None,
+    match fault {
+        Fault::NoMemory => ReadError { line: 0, fault },
+        _ => ReadError { line, fault },
     }
 }

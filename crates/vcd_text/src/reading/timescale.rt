@@ -1,16 +1,16 @@
 //! Timescales (IEEE 1364-2005, 18.2).
 
-ghost use Rattle.std.specs.Prelude.{◌≡◌, ◌++◌, Some, IfSome, IfOk, decimal};
+ghost use Rattle.std.specs.Prelude.{◌≡◌, IfOk};
 ghost use Rattle.std.specs.List.{concat};
-ghost use Rattle.vcd_text.specs.Items.{unit_text, timescale_of};
-ghost use Rattle.vcd_text.specs.TimescaleText.{IsCount, spells};
+ghost use Rattle.vcd_text.specs.Items.{timescale_of};
+ghost use Rattle.vcd_text.specs.TimescaleText.{spelled_by, counted, unit_named};
 
 use std::alloc::Global;
 use vcd_core::{NoMemory, TimeUnit, Timescale, Word};
 
 /// The timescale that words spell when they are run together, if it is one.
 pub fn timescale_in(alloc: Global, words: &[Word]) -> Result<Option<Timescale>, NoMemory>
-    ensures { IfOk result (λ found. IfSome found (λ t. timescale_of words.now ≡ Some t)) }
+    ensures { IfOk result (λ found. timescale_of words.now ≡ found) }
 {
     let text = joined(alloc, words)?;
     Ok(timescale_of_text(&text))
@@ -27,30 +27,33 @@ fn joined(alloc: Global, words: &[Word]) -> Result<Vec<u8>, NoMemory>
     Ok(text)
 }
 
+/// The timescale that a text spells, if it is one.
 fn timescale_of_text(text: &[u8]) -> Option<Timescale>
-    ensures { IfSome result (λ t. spells t text.now) }
+    ensures { result ≡ spelled_by text.now }
 {
-    let (count, rest) = count_in(text)?;
-    let unit = unit_of(rest)?;
+    if let Some(unit) = text.strip_prefix(b"100") {
+        return timescale_with(100, unit);
+    }
+    if let Some(unit) = text.strip_prefix(b"10") {
+        return timescale_with(10, unit);
+    }
+    if let Some(unit) = text.strip_prefix(b"1") {
+        return timescale_with(1, unit);
+    }
+    None
+}
+
+/// So many of the unit that a text names, if it names one.
+fn timescale_with(count: u64, unit: &[u8]) -> Option<Timescale>
+    ensures { result ≡ counted count (unit_named unit.now) }
+{
+    let unit = unit_of(unit)?;
     Some(Timescale { count, unit })
 }
 
-/// The count at the front of a timescale, 1, 10 or 100, and what follows it.
-fn count_in(text: &[u8]) -> Option<(u64, &[u8])>
-    ensures { IfSome result (λ p. IsCount p.0 × (text.now ≡ decimal p.0 ++ p.1.now)) }
-{
-    if let Some(rest) = text.strip_prefix(b"100") {
-        return Some((100, rest));
-    }
-    if let Some(rest) = text.strip_prefix(b"10") {
-        return Some((10, rest));
-    }
-    let rest = text.strip_prefix(b"1")?;
-    Some((1, rest))
-}
-
+/// The unit that a text names, if it names one.
 fn unit_of(text: &[u8]) -> Option<TimeUnit>
-    ensures { IfSome result (λ unit. text.now ≡ unit_text unit) }
+    ensures { result ≡ unit_named text.now }
 {
     if text == b"s".as_slice() {
         Some(TimeUnit::Second)

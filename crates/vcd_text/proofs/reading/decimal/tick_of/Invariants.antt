@@ -5,8 +5,11 @@ use Rattle.vcd_text.specs.Grammar.{tick_limit}
 use Rattle.vcd_text.proofs.reading.decimal.tick_of.Given as goal
 
 abbrev pub invariant-loop-digit : goal.invariant-loop-digit
-invariant-loop-digit l =
-    (l.tick ≤ tick_limit) × (number_behind l.tick l.rest ≡ number_behind 0 l.digits) × (list_all is_digit l.rest ≡ list_all is_digit l.digits)
+invariant-loop-digit l = record {
+  small : l.tick ≤ tick_limit;
+  same : number_behind l.tick l.rest ≡ number_behind 0 l.digits;
+  tests : list_all is_digit l.rest ≡ list_all is_digit l.digits;
+}
 
 abbrev pub decreases-loop-digit : goal.decreases-loop-digit
 decreases-loop-digit l = length l.rest

@@ -1,22 +1,27 @@
-use Rattle.std.proofs.Common.{[], None, false, All, length, map, refl, sym, ap, subst, arith}
-use Rattle.std.proofs.lemmas.List.Elements.{All-nil}
-use Rattle.vcd_text.specs.Items.{has_no_end}
-use Rattle.vcd_text.specs.Variables.{declaration}
-use Rattle.vcd_text.specs.Reading.{Follows}
-use Rattle.vcd_text.specs.declared.reading.variable.Variable.{Variable}
+use Rattle.std.proofs.Common.{[], refl}
+use Rattle.vcd_text.specs.Grammar.{nothing_told}
 use Rattle.vcd_text.proofs.reading.machine.Machine.new.Goals as goal
 
 pub returns : goal.returns
-returns c =
-    let none = c.new-2.ensures.items in
+returns c = record {
+  items = [];
+  whole = [];
+  begun = [];
+  told = nothing_told;
+  parts = refl;
+  spelled = refl;
+  allowed = tt;
+  tells = refl;
+  at = (
     record {
-      items = [];
-      records = [];
-      spelled = refl;
-      allowed = tt;
-      tells = λ i. record { header = []; timescale = None; scopes = sym c.new.ensures.items i; declared = map declaration (sym none i); changing = false; records = []; tick = 0 };
-      follow = subst (All (Follows [] 0)) (sym none) (All-nil (Follows [] 0));
+      header = c.new.ensures.items;
+      timescale = refl;
+      scopes = c.new-2.ensures.items;
+      changing = refl;
+      tick = refl;
+      variables = c.new-3.ensures nothing_told refl refl;
       silent = λ _. refl;
-      no_end = ap has_no_end c.new-3.ensures.items;
-      few = omega (arith, ap (length {A = Variable}) none);
-    }
+    },
+    refl,
+  );
+}

@@ -1,0 +1,101 @@
+-- Codes of two positions differ, and a code is a word of at most three bytes.
+use Rattle.std.proofs.Common.{◌≡◌, ◌<◌, ◌≤◌, ◌+◌, ◌/◌, ◌%◌, ◌&&◌, ◌==◌, ℕ, zero, suc, Bool, true, false, not, List, [], ◌∷◌, length, refl, ap, arith, nat_le, ◌*◌, add-one}
+use Rattle.std.specs.List.{list_all}
+use Rattle.std.proofs.lemmas.Bool.{and_from, and_parts, and_right, or_from, not_from_false, false_from_ne_true, le-leb, lt-leb, leb-true, ne_eqb}
+use Rattle.std.proofs.lemmas.Slice.Eq.{bytes_eq-Decides}
+use Rattle.vcd_text.specs.Words.{is_space}
+use Rattle.vcd_text.specs.Items.{end_word, is_end}
+use Rattle.vcd_text.specs.Text.{code_digits, code_of}
+use Rattle.vcd_text.proofs.Codes.{next_digit}
+use Rattle.vcd_text.proofs.WeakerTests.{all_weaker}
+
+-- the lowest digit, or that of an empty code
+abbrev head_of : List ℕ → ℕ
+head_of [] = 0
+head_of (b ∷ bs) = b
+
+abbrev tail_of : List ℕ → List ℕ
+tail_of [] = []
+tail_of (b ∷ bs) = bs
+
+-- the greatest number of so many digits
+abbrev greatest : ℕ → ℕ
+greatest zero = 0
+greatest (suc l) = 94 * greatest l + 94
+
+-- the same digits are those of the same number
+same_number : (a b m n : ℕ) → m ≤ a → n ≤ b → code_digits a m ≡ code_digits b n → m ≡ n
+unfolding code_digits
+same_number a b zero zero in_a in_b same = refl
+same_number a zero zero (suc n) in_a in_b same = absurd (omega arith)
+same_number a (suc b) zero (suc n) in_a in_b same = absurd (cc)
+same_number zero b (suc m) n in_a in_b same = absurd (omega arith)
+same_number (suc a) b (suc m) zero in_a in_b same = absurd (cc)
+same_number (suc a) zero (suc m) (suc n) in_a in_b same = absurd (omega arith)
+same_number (suc a) (suc b) (suc m) (suc n) in_a in_b same =
+    let low : 33 + m % 94 ≡ 33 + n % 94 = ap head_of same in
+    let high : m / 94 ≡ n / 94 = same_number a b (m / 94) (n / 94) (omega arith) (omega arith) (ap tail_of same) in
+    omega arith
+
+-- positions with one code are one
+pub codes_differ : (j k : ℕ) → code_of j ≡ code_of k → j ≡ k
+codes_differ j k same =
+    let one : j + 1 ≡ k + 1 = same_number (j + 1) (k + 1) (j + 1) (k + 1) (omega arith) (omega arith) same in
+    omega arith
+
+-- whether a byte may stand in a code
+abbrev pub is_code_byte : ℕ → Bool
+is_code_byte b = nat_le 33 b && nat_le b 126
+
+digits_printable : (a n : ℕ) → list_all is_code_byte (code_digits a n) ≡ true
+unfolding code_digits
+digits_printable a zero = refl
+digits_printable zero (suc n) = refl
+digits_printable (suc a) (suc n) =
+    and_from (is_code_byte (33 + n % 94)) (list_all is_code_byte (code_digits a (n / 94)))
+    (and_from (nat_le 33 (33 + n % 94)) (nat_le (33 + n % 94) 126) (le-leb 33 (33 + n % 94) (omega arith)) (le-leb (33 + n % 94) 126 (omega arith)))
+    (digits_printable a (n / 94))
+
+-- each byte of a code is printable
+pub code_printable : (k : ℕ) → list_all is_code_byte (code_of k) ≡ true
+code_printable k = digits_printable (k + 1) (k + 1)
+
+-- a code has a byte
+pub code_not_empty : (k : ℕ) → 0 < length (code_of k)
+unfolding code_digits
+code_not_empty k = let from_one : k + 1 ≡ suc k = add-one k in rw from_one (omega arith)
+
+-- one digit more than the number without its lowest digit
+one_more_digit : (n l : ℕ) → length (code_digits (n / 94) (n / 94)) ≤ l → length (code_digits (suc n) (suc n)) ≤ suc l
+one_more_digit n l short = let same : length (code_digits (suc n) (suc n)) ≡ suc (length (code_digits (n / 94) (n / 94))) = ap length (next_digit n) in omega arith
+
+-- how many digits a number has at most
+digits_few : (l n : ℕ) → n ≤ greatest l → length (code_digits n n) ≤ l
+unfolding code_digits
+digits_few zero zero small = omega arith
+digits_few zero (suc n) small = absurd (omega arith)
+digits_few (suc l) zero small = omega arith
+digits_few (suc l) (suc n) small = one_more_digit n l (digits_few l (n / 94) (omega arith))
+
+pub code_short : (k : ℕ) → k < 65536 → length (code_of k) ≤ 3
+code_short k few = digits_few 3 (k + 1) (omega arith)
+
+-- a printable byte is no white space
+printable_is_black : (b : ℕ) → is_code_byte b ≡ true → not (is_space b) ≡ true
+printable_is_black b printable =
+    let bounds : (nat_le 33 b ≡ true) × (nat_le b 126 ≡ true) = and_parts (nat_le 33 b) (nat_le b 126) printable in
+    let above : 33 ≤ b = leb-true 33 b bounds.0 in
+    not_from_false (is_space b)
+    (or_from (nat_le 9 b && nat_le b 13) (b == 32) (and_right (nat_le 9 b) (nat_le b 13) (lt-leb b 13 (omega arith))) (ne_eqb b 32 (λ e. omega arith)))
+
+-- a code has no white space
+pub code_black : (k : ℕ) → list_all (λ b. not (is_space b)) (code_of k) ≡ true
+code_black k = all_weaker is_code_byte (λ b. not (is_space b)) printable_is_black (code_of k) (code_printable k)
+
+-- a code is not `$end`
+pub code_no_end : (k : ℕ) → k < 65536 → is_end (code_of k) ≡ false
+code_no_end k few =
+    let short : length (code_of k) ≤ 3 = code_short k few in
+    false_from_ne_true (is_end (code_of k)) (λ same.
+    let long : length (code_of k) ≡ 4 = ap length ((bytes_eq-Decides (code_of k) end_word).0 same) in
+    omega arith)

@@ -1,0 +1,61 @@
+-- How many variables are skipped: fewer than the file has words.
+use Rattle.std.proofs.Common.{◌+◌, ◌<◌, ◌≤◌, ◌^◌, List, [], ◌∷◌, ◌++◌, length, Some, None, subst, ap, arith}
+use Rattle.std.specs.Prelude.{option_to_list}
+use Rattle.std.proofs.lemmas.List.{length-append, length-map}
+use Rattle.std.proofs.lemmas.List.Sums.{count_by-le-length}
+use Rattle.vcd_text.specs.Words.{Word}
+use Rattle.vcd_text.specs.Items.{Item, entry, timescale, scope, upscope, variable, end_definitions, stamp, scalar, vector, real_or_string, bracket, other, spelling, spellings}
+use Rattle.vcd_text.specs.Grammar.{Context, after, after_item, nothing_told, is_skipped, declaration_of}
+use Rattle.vcd_text.specs.Reading.{IsReading}
+use Rattle.vcd_text.specs.declared.reading.machine.Machine.{Machine}
+
+-- an item declares one variable at most
+declared_more : (c : Context) (i : Item) → length (after_item c i).declared ≤ length c.declared + 1
+declared_more c (entry kind words) = omega arith
+declared_more c (timescale words) = omega arith
+declared_more c (scope kind words) = omega arith
+declared_more c upscope = omega arith
+declared_more c (variable words) = elim (declaration_of c words) as (λ d. length (c.declared ++ option_to_list d) ≤ length c.declared + 1)
+    [ None ↦ omega (arith, length-append c.declared []) | Some d ↦ omega (arith, length-append c.declared (d ∷ [])) ]
+declared_more c end_definitions = omega arith
+declared_more c (stamp digits) = omega arith
+declared_more c (scalar letter code) = omega arith
+declared_more c (vector first digits code) = omega arith
+declared_more c (real_or_string first text code) = omega arith
+declared_more c (bracket text) = omega arith
+declared_more c (other text words) = omega arith
+
+-- and so do items in a row
+declared_by : (c : Context) (is : List Item) → length (after c is).declared ≤ length c.declared + length is
+declared_by c [] = omega arith
+declared_by c (i ∷ is) = omega (arith, declared_by (after_item c i) is, declared_more c i)
+
+-- an item has a word
+has_words : (i : Item) → 0 < length (spelling i)
+has_words (entry kind words) = omega arith
+has_words (timescale words) = omega arith
+has_words (scope kind words) = omega arith
+has_words upscope = omega arith
+has_words (variable words) = omega arith
+has_words end_definitions = omega arith
+has_words (stamp digits) = omega arith
+has_words (scalar letter code) = omega arith
+has_words (vector first digits code) = omega arith
+has_words (real_or_string first text code) = omega arith
+has_words (bracket text) = omega arith
+has_words (other text words) = omega arith
+
+-- and so items in a row have as many words at least
+fewer_items : (is : List Item) → length is ≤ length (spellings is)
+fewer_items [] = omega arith
+fewer_items (i ∷ is) = omega (arith, length-append (spelling i) (spellings is), has_words i, fewer_items is)
+
+-- one more skipped variable can be counted
+pub few_declared : (m : Machine) → IsReading m → m.variables.skipped + 1 < 2 ^ 64
+few_declared m r =
+    let s = r.reads in
+    let skipped : m.variables.skipped ≤ length s.told.declared = omega (arith, s.at.0.variables.skipped, count_by-le-length is_skipped s.told.declared) in
+    let declared : length s.told.declared ≤ 0 + length s.items =
+    subst (λ (c : Context). length c.declared ≤ 0 + length s.items) s.tells (declared_by nothing_told s.items) in
+    let spelled : length s.items ≤ length s.whole = omega (arith, fewer_items s.items, ap length s.spelled, length-map s.whole (λ (w : Word). w.text)) in
+    omega (arith, ap length s.parts, length-append s.whole s.begun, r.few)

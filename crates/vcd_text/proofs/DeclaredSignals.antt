@@ -1,0 +1,90 @@
+-- A sound signal is declared as a variable that is kept, and its code finds it.
+use Rattle.std.proofs.Common.{◌≡◌, ◌≢◌, ℕ, zero, suc, ◌+◌, ◌<◌, Bool, true, false, not, cond, ◌||◌, ◌==◌, nat_lt, List, [], ◌∷◌, length, get_or, Some, All, refl, ap, ◌∙◌, arith}
+use Rattle.std.specs.Prelude.{find, bytes_eq, count_by, codes}
+use Rattle.std.proofs.lemmas.Bool.{false_from_ne_true, le-ltb, ne_eqb}
+use Rattle.std.proofs.lemmas.List.Elements.{All-head, All-tail}
+use Rattle.std.proofs.lemmas.List.Sums.{sum_by-cons}
+use Rattle.std.proofs.lemmas.Slice.Eq.{bytes_eq-Decides}
+use Rattle.vcd_core.specs.declared.value.TheConstants.{WIDTH_LIMIT}
+use Rattle.vcd_core.specs.Contents.{Contents, SignalContents}
+use Rattle.vcd_core.specs.Sound.{IsSoundSignal}
+use Rattle.vcd_text.specs.Items.{is_one_of}
+use Rattle.vcd_text.specs.Grammar.{Context, Declaration, is_skipped, kept, skipped_kinds}
+use Rattle.vcd_text.specs.Text.{code_of}
+use Rattle.vcd_text.proofs.CodesDiffer.{codes_differ}
+
+-- the declaration of the signal at a position
+abbrev pub declared_as : ℕ → SignalContents → Declaration
+declared_as k s = record { scopes = s.scopes; kind = s.kind; size = s.width; code = code_of k; words = s.words }
+
+-- those of signals, the first at this position
+unfoldable pub declared_of : ℕ → List SignalContents → List Declaration
+declared_of k [] = []
+declared_of k (s ∷ ss) = declared_as k s ∷ declared_of (suc k) ss
+
+-- what a capture's text has told in front of the values
+abbrev pub declared_context : Contents → Context
+declared_context c = record {
+  header = c.header;
+  timescale = c.timescale;
+  scopes = [];
+  declared = declared_of 0 c.signals;
+  changing = true;
+  records = [];
+  tick = 0;
+}
+
+-- six tests that all fail, in the other grouping
+none_passes : (a b c d e f : Bool) → not (a || b || c || d || e || f) ≡ true → (a || (b || (c || (d || (e || (f || false)))))) ≡ false
+none_passes true b c d e f h = let no : false ≡ true = h in absurd (cc)
+none_passes false true c d e f h = let no : false ≡ true = h in absurd (cc)
+none_passes false false true d e f h = let no : false ≡ true = h in absurd (cc)
+none_passes false false false true e f h = let no : false ≡ true = h in absurd (cc)
+none_passes false false false false true f h = let no : false ≡ true = h in absurd (cc)
+none_passes false false false false false true h = let no : false ≡ true = h in absurd (cc)
+none_passes false false false false false false h = refl
+
+pub sound_is_kept : (end k : ℕ) (s : SignalContents) → IsSoundSignal end s → is_skipped (declared_as k s) ≡ false
+sound_is_kept end k s sound =
+    let kind : is_one_of skipped_kinds s.kind ≡ false =
+    none_passes (bytes_eq s.kind (codes "real")) (bytes_eq s.kind (codes "realtime")) (bytes_eq s.kind (codes "real_parameter"))
+    (bytes_eq s.kind (codes "shortreal")) (bytes_eq s.kind (codes "event")) (bytes_eq s.kind (codes "string")) sound.kept in
+    let some : (s.width == 0) ≡ false = ne_eqb s.width 0 (omega (arith, sound.least)) in
+    let few : nat_lt WIDTH_LIMIT s.width ≡ false = le-ltb WIDTH_LIMIT s.width sound.most in
+    λ i. kind i || (some i || few i)
+
+-- all are kept, and none is skipped
+pub all_sound_kept : (end k : ℕ) (ss : List SignalContents) → All (IsSoundSignal end) ss → kept (declared_of k ss) ≡ declared_of k ss
+unfolding declared_of
+all_sound_kept end k [] all = refl
+all_sound_kept end k (s ∷ ss) all =
+    ap (λ b. cond (not b) (declared_as k s ∷ kept (declared_of (suc k) ss)) (kept (declared_of (suc k) ss))) (sound_is_kept end k s (All-head (IsSoundSignal end) s ss all))
+    ∙ ap (λ ds. declared_as k s ∷ ds) (all_sound_kept end (suc k) ss (All-tail (IsSoundSignal end) s ss all))
+
+pub none_skipped : (end k : ℕ) (ss : List SignalContents) → All (IsSoundSignal end) ss → count_by is_skipped (declared_of k ss) ≡ 0
+unfolding declared_of
+none_skipped end k [] all = refl
+none_skipped end k (s ∷ ss) all =
+    sum_by-cons (λ d. cond (is_skipped d) 1 0) (declared_as k s) (declared_of (suc k) ss)
+    ∙ (λ i. cond (sound_is_kept end k s (All-head (IsSoundSignal end) s ss all) i) 1 0 + none_skipped end (suc k) ss (All-tail (IsSoundSignal end) s ss all) i)
+
+-- ---- codes
+
+pub same_code : (k : ℕ) → bytes_eq (code_of k) (code_of k) ≡ true
+same_code k = (bytes_eq-Decides (code_of k) (code_of k)).1 refl
+
+pub other_code : (j k : ℕ) → j ≢ k → bytes_eq (code_of j) (code_of k) ≡ false
+other_code j k other = false_from_ne_true (bytes_eq (code_of j) (code_of k)) (λ same. other (codes_differ j k ((bytes_eq-Decides (code_of j) (code_of k)).0 same)))
+
+-- the variable of the code of a position is the signal there
+pub found_by_code : (ss : List SignalContents) (i j k : ℕ) (d : SignalContents) → j + i ≡ k → i < length ss
+    → find (λ v. bytes_eq (code_of k) v.code) (declared_of j ss) ≡ Some (declared_as k (get_or ss i d))
+unfolding declared_of
+found_by_code [] i j k d at within = absurd (omega arith)
+found_by_code (s ∷ ss) zero j k d at within =
+    let here : j ≡ k = omega arith in
+    ap (λ n. cond (bytes_eq (code_of k) (code_of n)) (Some (declared_as n s)) (find (λ v. bytes_eq (code_of k) v.code) (declared_of (suc j) ss))) here
+    ∙ ap (λ b. cond b (Some (declared_as k s)) (find (λ v. bytes_eq (code_of k) v.code) (declared_of (suc j) ss))) (same_code k)
+found_by_code (s ∷ ss) (suc i) j k d at within =
+    ap (λ b. cond b (Some (declared_as j s)) (find (λ v. bytes_eq (code_of k) v.code) (declared_of (suc j) ss))) (other_code k j (λ e. omega arith))
+    ∙ found_by_code ss i (suc j) k d (omega arith) (omega arith)

@@ -1,0 +1,386 @@
+-- A variable that is declared, skipped or kept.
+use Rattle.std.proofs.Common.{◌≡◌, ◌⊎◌, ℕ, zero, suc, ◌+◌, ◌<◌, ◌≤◌, min, Bool, true, false, not, ◌&&◌, ◌||◌, ◌==◌, cond, if◌then◌else◌, nat_lt, List, [], ◌∷◌, ◌++◌, length, map, get_or, drop, All, Option, None, Some, Result, Ok, Err, OnOk, IfErr, inl, inr, refl, sym, ap, subst, ◌∙◌, arith}
+use Rattle.std.specs.Prelude.{bytes_eq, slice_get, count_by}
+use Rattle.std.specs.Option.{option_or, option_map_or}
+use Rattle.std.proofs.lemmas.List.{append-nil, map-append, length-map, length_push}
+use Rattle.std.proofs.lemmas.List.Elements.{filter-append, All-nil}
+use Rattle.std.proofs.lemmas.Bool.{lt-ltb, le-ltb, ltb-false, eqb-true, cases_lt}
+use Rattle.indexmap.specs.IndexMap.{get_by}
+use Rattle.vcd_core.specs.declared.wave.Change.{Change}
+use Rattle.std.proofs.lemmas.List.Sums.{sum_by-append, sum_by-cons}
+use Rattle.std.proofs.lemmas.Option.{slice_get_within, same_Some}
+use Rattle.vcd_core.specs.Value.{all_x}
+use Rattle.vcd_core.specs.Wave.{value_from, value_at}
+use Rattle.vcd_core.specs.declared.capture.Signal.{Signal}
+use Rattle.vcd_text.specs.declared.fault.Fault.{Fault}
+use Rattle.vcd_text.specs.declared.fault.Fault.TheVariants as faults
+use Rattle.vcd_core.specs.declared.value.TheConstants.{WIDTH_LIMIT}
+use Rattle.vcd_text.specs.Letters.{number_of}
+use Rattle.vcd_text.specs.Items.{is_one_of}
+use Rattle.vcd_text.specs.Grammar.{Declaration, Recorded, Context, signal_limit, skipped_kinds, is_skipped, kept, variable_of, may_have_code, has_room}
+use Rattle.vcd_text.specs.Meaning.{recorded_value}
+use Rattle.vcd_text.specs.Variables.{declaration, declared_by, owner_of, HasWave, Stands, HasFirst, Knows, with_declared, mixed, many, DeclaresAs, code_mixed, no_room, Declares}
+use Rattle.vcd_text.specs.declared.reading.variables.Owner.{Owner}
+use Rattle.vcd_text.specs.declared.reading.variables.Owner.TheVariants.{Skipped, Kept}
+use Rattle.vcd_text.specs.declared.reading.variables.Variable.{Variable}
+use Rattle.vcd_text.specs.declared.reading.variables.Variables.{Variables}
+use Rattle.vcd_text.proofs.Owners.{own_code, by_code, stands_kept, stands_moved, found_with}
+
+-- ---- lists with one item more
+
+kept_skipped : (ds : List Declaration) (d : Declaration) → is_skipped d ≡ true → kept (ds ++ d ∷ []) ≡ kept ds
+kept_skipped ds d skipped =
+    filter-append (λ (e : Declaration). not (is_skipped e)) ds (d ∷ [])
+    ∙ ap (λ b. kept ds ++ cond (not b) (d ∷ []) []) skipped
+    ∙ append-nil (kept ds)
+
+kept_kept : (ds : List Declaration) (d : Declaration) → is_skipped d ≡ false → kept (ds ++ d ∷ []) ≡ kept ds ++ d ∷ []
+kept_kept ds d keeps =
+    filter-append (λ (e : Declaration). not (is_skipped e)) ds (d ∷ [])
+    ∙ ap (λ b. kept ds ++ cond (not b) (d ∷ []) []) keeps
+
+count_with : (ds : List Declaration) (d : Declaration) (b : Bool) → is_skipped d ≡ b → count_by is_skipped (ds ++ d ∷ []) ≡ count_by is_skipped ds + cond b 1 0
+count_with ds d b is =
+    sum_by-append (λ (e : Declaration). cond (is_skipped e) 1 0) ds (d ∷ [])
+    ∙ ap (λ (n : ℕ). count_by is_skipped ds + n) (sum_by-cons (λ (e : Declaration). cond (is_skipped e) 1 0) d [])
+    ∙ ap (λ x. count_by is_skipped ds + (cond x 1 0 + 0)) is
+    ∙ omega arith
+
+pub stays : (vs more : List Variable) (position : ℕ) (v : Variable) → slice_get vs position ≡ Some v → slice_get (vs ++ more) position ≡ Some v
+stays [] more position v at = let no : None ≡ Some v = at in absurd (cc)
+stays (w ∷ vs) more zero v at = at
+stays (w ∷ vs) more (suc n) v at = stays vs more n v at
+
+-- what stands in a list with one more stands in it, or is the one
+either_of : (vs : List Variable) (w : Variable) (position : ℕ) (v : Variable) → slice_get (vs ++ w ∷ []) position ≡ Some v
+    → (slice_get vs position ≡ Some v) ⊎ ((position ≡ length vs) × (w ≡ v))
+either_of [] w zero v at = inr (refl, same_Some w v at)
+either_of [] w (suc n) v at = let no : None ≡ Some v = at in absurd (cc)
+either_of (u ∷ vs) w zero v at = inl at
+either_of (u ∷ vs) w (suc n) v at = elim (either_of vs w n v at) [
+  | inl there ↦ inl there
+  | inr (end, is) ↦ inr (ap suc end, is)
+]
+
+pub last_of : (vs : List Variable) (w : Variable) → slice_get (vs ++ w ∷ []) (length vs) ≡ Some w
+last_of [] w = refl
+last_of (u ∷ vs) w = last_of vs w
+
+same_number : (n : ℕ) → (n == n) ≡ true
+same_number n = grind arith
+
+-- as many variables are kept as were declared to be
+kept_long : (vs : Variables) (c : Context) → Knows vs c → length (kept c.declared) ≡ length vs.kept.items
+kept_long vs c k = ap (length {A = Declaration}) k.kept ∙ length-map vs.kept.items declaration
+
+-- ---- what codes stand for, with one variable more
+
+module _ (records : List Recorded) (tick : ℕ) where
+  -- a variable behind the others takes nothing from a code
+  stands_longer : (vs more : List Variable) (code : List ℕ) (owner : Option Owner) (declared : Option Declaration)
+      → Stands vs records tick code owner declared → Stands (vs ++ more) records tick code owner declared
+  stands_longer vs more code owner declared s =
+      stands_moved vs (vs ++ more) records records tick tick code owner declared
+      (λ position size _ w. record { first = w.first; stands = stays vs more position w.first w.stands; coded = w.coded; sized = w.sized; ticks = w.ticks; values = w.values }) s
+
+  -- a later declaration of another code takes nothing from a code
+  stands_still : (vs : List Variable) (code : List ℕ) (owner : Option Owner) (declared : Option Declaration)
+      → Stands vs records tick code owner declared → Stands vs records tick code owner (option_or declared None)
+  stands_still vs code owner None s = s
+  stands_still vs code owner (Some d) s = s
+
+-- the code of a declaration stands for this from now on, and the others for what they stood for
+abbrev pub Puts : (old new : Variables) → List ℕ → Owner → Type 0
+Puts old new code owner = (key : List ℕ) → owner_of new key ≡ (if bytes_eq key code then Some owner else owner_of old key)
+
+-- so it is where the code stands for it already
+pub puts_same : (old new : Variables) (code : List ℕ) (owner : Owner) → new.owners ≡ old.owners → owner_of old code ≡ Some owner → Puts old new code owner
+puts_same old new code owner same had = λ key.
+    let here : owner_of new key ≡ owner_of old key = ap (λ m. get_by (λ v. bytes_eq key v.items) m) same in
+    by_code (λ b. owner_of new key ≡ (if b then Some owner else owner_of old key)) key code
+    (λ is. here ∙ ap (owner_of old) is ∙ had) (λ _. here)
+
+-- ---- a variable that is skipped
+
+module _ (old new : Variables) (c : Context) (d : Declaration) (k : Knows old c) (items : new.kept.items ≡ old.kept.items) (skipped : is_skipped d ≡ true)
+    (free : (owner_of old d.code ≡ None) ⊎ (owner_of old d.code ≡ Some Skipped)) (puts : Puts old new d.code Skipped) where
+  skip_here : (v : Option Declaration) → Stands old.kept.items c.records c.tick d.code (owner_of old d.code) v
+      → Stands old.kept.items c.records c.tick d.code (Some Skipped) (option_or v (Some d))
+  skip_here None s = skipped
+  skip_here (Some e) s = elim free [
+    | inl none ↦ absurd (subst (λ o. Stands old.kept.items c.records c.tick d.code o (Some e)) none s)
+    | inr had ↦ subst (λ o. Stands old.kept.items c.records c.tick d.code o (Some e)) had s
+  ]
+
+  skip_stands : (key : List ℕ) → Stands new.kept.items c.records c.tick key (owner_of new key) (variable_of (with_declared c d) key)
+  skip_stands key =
+      let both =
+      by_code (λ b. Stands old.kept.items c.records c.tick key (if b then Some Skipped else owner_of old key) (option_or (variable_of c key) (if b then Some d else None))) key d.code
+      (λ is. subst (λ code. Stands old.kept.items c.records c.tick code (Some Skipped) (option_or (variable_of c code) (Some d))) (sym is) (skip_here (variable_of c d.code) (k.stand d.code)))
+      (λ _. stands_still c.records c.tick old.kept.items key (owner_of old key) (variable_of c key) (k.stand key)) in
+      subst (λ vs. Stands vs c.records c.tick key (owner_of new key) (variable_of (with_declared c d) key)) (sym items)
+      (subst (λ o. Stands old.kept.items c.records c.tick key o (variable_of (with_declared c d) key)) (sym (puts key))
+      (subst (Stands old.kept.items c.records c.tick key (if bytes_eq key d.code then Some Skipped else owner_of old key)) (sym (found_with key c.declared d)) both))
+
+  not_kept : (first : ℕ) → owner_of old d.code ≡ Some (Kept first) → ⊥
+  not_kept first had = elim free [
+    | inl none ↦ let no : None ≡ Some (Kept first) = sym none ∙ had in absurd (cc)
+    | inr other ↦ let no : Some Skipped ≡ Some (Kept first) = sym other ∙ had in absurd (cc)
+  ]
+
+  skip_firsts : (position : ℕ) (v : Variable) → slice_get new.kept.items position ≡ Some v → HasFirst new position v
+  skip_firsts position v at =
+      let before = k.firsts position v (subst (λ vs. slice_get vs position ≡ Some v) items at) in
+      record {
+        owned = puts v.code
+            ∙ by_code (λ b. (if b then Some Skipped else owner_of old v.code) ≡ Some (Kept v.first)) v.code d.code
+            (λ is. absurd (not_kept v.first (ap (owner_of old) (sym is) ∙ before.owned))) (λ _. before.owned);
+        no_later = before.no_later;
+        same_size = λ w there. before.same_size w (subst (λ vs. slice_get vs v.first ≡ Some w) items there);
+      }
+
+  skip_may : (v : Option Declaration) → Stands old.kept.items c.records c.tick d.code (owner_of old d.code) v → may_have_code v d ≡ true
+  skip_may None s = refl
+  skip_may (Some e) s =
+      let also : is_skipped e ≡ true = skip_here (Some e) s in
+      λ i. (also i && skipped i) || (not (also i) && not (skipped i) && (e.size == d.size))
+
+  -- it is declared
+  pub skip_declares : new.skipped ≡ old.skipped + 1 → (x : Unit {0}) → DeclaresAs c d (Ok x) new
+  skip_declares more x = (
+    skip_may (variable_of c d.code) (k.stand d.code),
+    (λ i. skipped i || nat_lt (length (kept c.declared)) signal_limit),
+    record {
+      kept = kept_skipped c.declared d skipped ∙ k.kept ∙ ap (map declaration) (sym items);
+      skipped = more ∙ ap (λ n. n + 1) k.skipped ∙ sym (count_with c.declared d true skipped);
+      stand = skip_stands;
+      firsts = skip_firsts;
+      few = subst (λ vs. length vs ≤ signal_limit) (sym items) k.few;
+    },
+  )
+
+-- ---- a variable that is kept
+
+-- the variable that a code, a signal and the position of the first one make
+abbrev pub variable_at : (code : List ℕ) → Signal → (first : ℕ) → Variable
+variable_at code s first = record { code = code; signal = s; first = first }
+
+-- the code is new, or stands for a variable of the same size
+abbrev pub IsFree : Variables → (code : List ℕ) → Signal → (first : ℕ) → Type 0
+IsFree old code s first =
+    ((owner_of old code ≡ None) × (first ≡ length old.kept.items))
+    ⊎ ((owner_of old code ≡ Some (Kept first)) × ((w : Variable) → slice_get old.kept.items first ≡ Some w → w.signal.wave.width ≡ s.wave.width))
+
+module _ (old : Variables) (c : Context) (code : List ℕ) (s : Signal) (first : ℕ) (k : Knows old c)
+    (keeps : is_skipped (declared_by code s) ≡ false) (free : IsFree old code s first) where
+  keep_may : (v : Option Declaration) → Stands old.kept.items c.records c.tick code (owner_of old code) v → may_have_code v (declared_by code s) ≡ true
+  keep_may None stands = refl
+  keep_may (Some e) stands = elim free [
+    | inl (none, end) ↦ absurd (subst (λ o. Stands old.kept.items c.records c.tick code o (Some e)) none stands)
+    | inr (had, width) ↦
+        let there = subst (λ o. Stands old.kept.items c.records c.tick code o (Some e)) had stands in
+        let size : e.size ≡ s.wave.width = sym there.1.sized ∙ width there.1.first there.1.stands in
+        let also : is_skipped e ≡ false = there.0 in
+        (λ i. (also i && keeps i) || (not (also i) && not (keeps i) && (size i == s.wave.width))) ∙ same_number s.wave.width
+  ]
+
+  has_room_is : (b : Bool) → nat_lt (length old.kept.items) signal_limit ≡ b → has_room c.declared (declared_by code s) ≡ b
+  has_room_is b test = (λ i. keeps i || nat_lt (length (kept c.declared)) signal_limit) ∙ ap (λ n. nat_lt n signal_limit) (kept_long old c k) ∙ test
+
+  -- it may not stand here where there are too many
+  keep_full : (new : Variables) → signal_limit ≤ length old.kept.items → DeclaresAs c (declared_by code s) (Err faults.TooManySignals) new
+  keep_full new full = inr (many (keep_may (variable_of c code) (k.stand code)) (has_room_is false (le-ltb (length old.kept.items) signal_limit full)) refl)
+
+module _ (old new : Variables) (c : Context) (code : List ℕ) (s : Signal) (first : ℕ) (k : Knows old c) (records : c.records ≡ []) (silent : s.wave.changes ≡ [])
+    (keeps : is_skipped (declared_by code s) ≡ false) (items : new.kept.items ≡ old.kept.items ++ variable_at code s first ∷ [])
+    (free : IsFree old code s first)
+    (puts : Puts old new code (Kept first)) where
+  silent_wave : HasWave (old.kept.items ++ variable_at code s first ∷ []) (length old.kept.items) code s.wave.width c.records c.tick
+  unfolding recorded_value value_from
+  silent_wave = record {
+    first = variable_at code s first;
+    stands = last_of old.kept.items (variable_at code s first);
+    coded = refl;
+    sized = refl;
+    ticks = subst (All (λ (e : Change). e.tick ≤ c.tick)) (sym silent) (All-nil (λ (e : Change). e.tick ≤ c.tick));
+    values = λ t.
+        ap (λ cs. value_at s.wave.width cs t) silent
+        ∙ sym (ap (recorded_value s.wave.width code t (all_x s.wave.width)) records);
+  }
+
+  keep_here : (v : Option Declaration) → Stands old.kept.items c.records c.tick code (owner_of old code) v
+      → Stands (old.kept.items ++ variable_at code s first ∷ []) c.records c.tick code (Some (Kept first)) (option_or v (Some (declared_by code s)))
+  keep_here None stands = elim free [
+    | inl (none, end) ↦
+        (keeps, subst (λ n. HasWave (old.kept.items ++ variable_at code s first ∷ []) n code s.wave.width c.records c.tick) (sym end) silent_wave)
+    | inr (had, width) ↦ absurd (subst (λ o. Stands old.kept.items c.records c.tick code o None) had stands)
+  ]
+  keep_here (Some e) stands = elim free [
+    | inl (none, end) ↦ absurd (subst (λ o. Stands old.kept.items c.records c.tick code o (Some e)) none stands)
+    | inr (had, width) ↦
+        stands_longer c.records c.tick old.kept.items (variable_at code s first ∷ []) code (Some (Kept first)) (Some e)
+        (subst (λ o. Stands old.kept.items c.records c.tick code o (Some e)) had stands)
+  ]
+
+  keep_stands : (key : List ℕ) → Stands new.kept.items c.records c.tick key (owner_of new key) (variable_of (with_declared c (declared_by code s)) key)
+  keep_stands key =
+      let all = old.kept.items ++ variable_at code s first ∷ [] in
+      let d = declared_by code s in
+      let both =
+      by_code (λ b. Stands all c.records c.tick key (if b then Some (Kept first) else owner_of old key) (option_or (variable_of c key) (if b then Some d else None))) key code
+      (λ is. subst (λ name. Stands all c.records c.tick name (Some (Kept first)) (option_or (variable_of c name) (Some d))) (sym is) (keep_here (variable_of c code) (k.stand code)))
+      (λ _. stands_still c.records c.tick all key (owner_of old key) (variable_of c key)
+      (stands_longer c.records c.tick old.kept.items (variable_at code s first ∷ []) key (owner_of old key) (variable_of c key) (k.stand key))) in
+      subst (λ vs. Stands vs c.records c.tick key (owner_of new key) (variable_of (with_declared c d) key)) (sym items)
+      (subst (λ o. Stands all c.records c.tick key o (variable_of (with_declared c d) key)) (sym (puts key))
+      (subst (Stands all c.records c.tick key (if bytes_eq key code then Some (Kept first) else owner_of old key)) (sym (found_with key c.declared d)) both))
+
+  -- the variables before it know their first ones
+  keep_earlier : (position : ℕ) (v : Variable) → slice_get old.kept.items position ≡ Some v → HasFirst new position v
+  keep_earlier position v at =
+      let before = k.firsts position v at in
+      let within : position < length old.kept.items = slice_get_within old.kept.items position v at in
+      record {
+        owned = puts v.code
+            ∙ by_code (λ b. (if b then Some (Kept first) else owner_of old v.code) ≡ Some (Kept v.first)) v.code code
+            (λ is. elim free [
+              | inl (none, end) ↦ let no : None ≡ Some (Kept v.first) = sym none ∙ ap (owner_of old) (sym is) ∙ before.owned in absurd (cc)
+              | inr (had, width) ↦ sym had ∙ ap (owner_of old) (sym is) ∙ before.owned
+            ])
+            (λ _. before.owned);
+        no_later = before.no_later;
+        same_size = λ w there. elim (either_of old.kept.items (variable_at code s first) v.first w (subst (λ vs. slice_get vs v.first ≡ Some w) items there)) [
+          | inl stood ↦ before.same_size w stood
+          | inr (end, is) ↦ absurd (omega (arith, end, within, before.no_later))
+        ];
+      }
+
+  first_within : first ≤ length old.kept.items
+  first_within = elim free [
+    | inl (none, end) ↦ omega (arith, end)
+    | inr (had, width) ↦
+        let e = stands_kept old.kept.items c.records c.tick code (variable_of c code) first
+        (subst (λ o. Stands old.kept.items c.records c.tick code o (variable_of c code)) had (k.stand code)) in
+        omega (arith, slice_get_within old.kept.items first e.3.first e.3.stands)
+  ]
+
+  first_width : (w : Variable) → slice_get (old.kept.items ++ variable_at code s first ∷ []) first ≡ Some w → w.signal.wave.width ≡ s.wave.width
+  first_width w there = elim (either_of old.kept.items (variable_at code s first) first w there) [
+    | inl stood ↦ elim free [
+      | inl (none, end) ↦ absurd (omega (arith, end, slice_get_within old.kept.items first w stood))
+      | inr (had, width) ↦ width w stood
+    ]
+    | inr (end, is) ↦ ap (λ (u : Variable). u.signal.wave.width) (sym is)
+  ]
+
+  keep_firsts : (position : ℕ) (v : Variable) → slice_get new.kept.items position ≡ Some v → HasFirst new position v
+  keep_firsts position v at = elim (either_of old.kept.items (variable_at code s first) position v (subst (λ vs. slice_get vs position ≡ Some v) items at)) [
+    | inl stood ↦ keep_earlier position v stood
+    | inr (end, is) ↦ subst (HasFirst new position) is (record {
+      owned = puts code ∙ ap (λ b. if b then Some (Kept first) else owner_of old code) (own_code code);
+      no_later = omega (arith, end, first_within);
+      same_size = λ w there. first_width w (subst (λ vs. slice_get vs first ≡ Some w) items there);
+    })
+  ]
+
+  -- it is declared
+  pub keep_declares : length old.kept.items < signal_limit → new.skipped ≡ old.skipped → (x : Unit {0}) → DeclaresAs c (declared_by code s) (Ok x) new
+  keep_declares room same x =
+      let d = declared_by code s in (
+        keep_may old c code s first k keeps free (variable_of c code) (k.stand code),
+        has_room_is old c code s first k keeps free true (lt-ltb (length old.kept.items) signal_limit room),
+        record {
+          kept = kept_kept c.declared d keeps ∙ ap (λ ds. ds ++ d ∷ []) k.kept
+              ∙ sym (map-append declaration old.kept.items (variable_at code s first ∷ [])) ∙ ap (map declaration) (sym items);
+          skipped = same ∙ k.skipped ∙ omega arith ∙ sym (count_with c.declared d false keeps);
+          stand = keep_stands;
+          firsts = keep_firsts;
+          few = subst (λ vs. length vs ≤ signal_limit) (sym items) (omega (arith, room, length_push old.kept.items (variable_at code s first)));
+        },
+      )
+
+-- what comes of a variable that is put behind the others
+pub push_declares : (old new : Variables) (c : Context) (code : List ℕ) (s : Signal) (first : ℕ) (result : Result (Unit {0}) Fault)
+    → Knows old c → c.records ≡ [] → s.wave.changes ≡ [] → is_skipped (declared_by code s) ≡ false → IsFree old code s first
+    → OnOk result (length old.kept.items < signal_limit) → OnOk result (new.kept.items ≡ old.kept.items ++ variable_at code s first ∷ [])
+    → OnOk result (Puts old new code (Kept first)) → new.skipped ≡ old.skipped
+    → IfErr result (λ fault. (fault ≡ faults.NoMemory) ⊎ ((fault ≡ faults.TooManySignals) × (signal_limit ≤ length old.kept.items)))
+    → DeclaresAs c (declared_by code s) result new
+push_declares old new c code s first (Ok x) k records silent keeps free room items puts same refuses =
+    keep_declares old new c code s first k records silent keeps items free puts room same x
+push_declares old new c code s first (Err fault) k records silent keeps free room items puts same refuses = elim refuses [
+  | inl none ↦ inl none
+  | inr (why, full) ↦ subst (λ f. DeclaresAs c (declared_by code s) (Err f) new) (sym why) (keep_full old c code s first k keeps free new full)
+]
+
+pub when_ok : (result : Result (Unit {0}) Fault) (P : Type 0) → P → OnOk result P
+when_ok (Ok x) P p = p
+when_ok (Err fault) P p = tt
+
+-- ---- a code that may not be shared
+
+-- what a test of the width tells of a variable
+pub same_width : (o : Option Variable) (width : ℕ) → option_map_or (λ (v : Variable). v.signal.wave.width == width) o false ≡ true
+    → (w : Variable) → o ≡ Some w → w.signal.wave.width ≡ width
+same_width None width test w is = let never : None ≡ Some w = is in absurd (cc)
+same_width (Some v) width test w is = ap (λ (u : Variable). u.signal.wave.width) (sym (same_Some v w is)) ∙ eqb-true v.signal.wave.width width test
+
+-- ---- the words of a declaration
+
+-- what the words of a `$var` declare
+abbrev pub declaration_by : Context → (kind size code : List ℕ) → (names : List (List ℕ)) → Declaration
+declaration_by c kind size code names = record { scopes = c.scopes; kind = kind; size = number_of size; code = code; words = names }
+
+declares_names : (c : Context) (kind size code : List ℕ) (names : List (List ℕ)) (result : Result (Unit {0}) Fault) (new : Variables) → 0 < length names
+    → DeclaresAs c (declaration_by c kind size code names) result new → Declares c (kind ∷ size ∷ code ∷ names) result new
+declares_names c kind size code [] result new some as_one = absurd (omega (arith, some))
+declares_names c kind size code (name ∷ names) (Ok x) new some (may, room, knows) = ((may, room), knows)
+declares_names c kind size code (name ∷ names) (Err fault) new some as_one = elim as_one [
+  | inl none ↦ inl none
+  | inr (mixed may is) ↦ inr (code_mixed (declaration_by c kind size code (name ∷ names)) refl may is)
+  | inr (many may room is) ↦ inr (no_room (declaration_by c kind size code (name ∷ names)) refl may room is)
+]
+
+-- so what comes of the words is what comes of what they declare
+pub declares_words : (c : Context) (words : List (List ℕ)) (kind size code : List ℕ) (names : List (List ℕ)) (result : Result (Unit {0}) Fault) (new : Variables)
+    → words ≡ kind ∷ size ∷ code ∷ names → 0 < length names → DeclaresAs c (declaration_by c kind size code names) result new → Declares c words result new
+declares_words c words kind size code names result new are some as_one =
+    subst (λ ws. Declares c ws result new) (sym are) (declares_names c kind size code names result new some as_one)
+
+-- three words, and those behind them
+pub words_in_front : (words : List (List ℕ)) (kind size code : List ℕ) → 3 ≤ length words → kind ≡ get_or words 0 kind → size ≡ get_or words 1 size → code ≡ get_or words 2 code
+    → words ≡ kind ∷ size ∷ code ∷ drop 3 words
+words_in_front [] kind size code enough a b c = absurd (omega (arith, enough))
+words_in_front (x ∷ []) kind size code enough a b c = absurd (omega (arith, enough))
+words_in_front (x ∷ y ∷ []) kind size code enough a b c = absurd (omega (arith, enough))
+words_in_front (x ∷ y ∷ z ∷ rest) kind size code enough a b c = λ i. sym a i ∷ sym b i ∷ sym c i ∷ rest
+
+-- ---- sizes that are read up to a bound
+
+or_false : (a b : Bool) → (a || b) ≡ false → b ≡ false
+or_false true b is = let never : true ≡ false = is in absurd (cc)
+or_false false b is = is
+
+or_true : (a b : Bool) → b ≡ true → (a || b) ≡ true
+or_true true b is = refl
+or_true false b is = is
+
+same_bounds : (n size : ℕ) → size ≡ min n (WIDTH_LIMIT + 1) → (size == 0 || nat_lt WIDTH_LIMIT size) ≡ (n == 0 || nat_lt WIDTH_LIMIT n)
+same_bounds n size is = elim (cases_lt WIDTH_LIMIT n) [
+  | inr fits ↦ let same : size ≡ n = omega (arith, is, fits) in ap (λ m. m == 0 || nat_lt WIDTH_LIMIT m) same
+  | inl past ↦
+      let here : nat_lt WIDTH_LIMIT size ≡ true = lt-ltb WIDTH_LIMIT size (omega (arith, is, past)) in
+      let there : nat_lt WIDTH_LIMIT n ≡ true = lt-ltb WIDTH_LIMIT n past in
+      or_true (size == 0) (nat_lt WIDTH_LIMIT size) here ∙ sym (or_true (n == 0) (nat_lt WIDTH_LIMIT n) there)
+]
+
+-- a variable is skipped for its kind, or for the size that is read
+pub left_out : (c : Context) (kind word code : List ℕ) (names : List (List ℕ)) (size : ℕ) → size ≡ min (number_of word) (WIDTH_LIMIT + 1)
+    → is_skipped (declaration_by c kind word code names) ≡ (is_one_of skipped_kinds kind || (size == 0 || nat_lt WIDTH_LIMIT size))
+left_out c kind word code names size is = ap (λ b. is_one_of skipped_kinds kind || b) (sym (same_bounds (number_of word) size is))
+
+-- the size that is read is that of a variable that is kept
+pub kept_size : (by_kind : Bool) (n size : ℕ) → size ≡ min n (WIDTH_LIMIT + 1) → (by_kind || (size == 0 || nat_lt WIDTH_LIMIT size)) ≡ false → size ≡ n
+kept_size by_kind n size is keeps =
+    let fits : size ≤ WIDTH_LIMIT = ltb-false WIDTH_LIMIT size (or_false (size == 0) (nat_lt WIDTH_LIMIT size) (or_false by_kind (size == 0 || nat_lt WIDTH_LIMIT size) keeps)) in
+    omega (arith, is, fits)

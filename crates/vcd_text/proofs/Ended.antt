@@ -1,0 +1,109 @@
+-- What is so where no word is left.
+use Rattle.std.proofs.Common.{◌≡◌, ◌⊎◌, inl, inr, ℕ, ◌<◌, length, Bool, true, false, ◌&&◌, ◌||◌, List, [], ◌∷◌, ◌++◌, refl, sym, ap, subst, ◌∙◌}
+use Rattle.std.specs.Prelude.{IsTrue, IsFalse, codes, nat_eq}
+use Rattle.std.proofs.lemmas.List.{append-nil, map-append}
+use Rattle.std.proofs.lemmas.Bool.{and_parts, false≢true, or_cases, or_left, or_right}
+use Rattle.vcd_core.specs.declared.capture.ScopeName.{ScopeName}
+use Rattle.vcd_core.specs.declared.capture.HeaderKind.{HeaderKind}
+use Rattle.vcd_core.specs.declared.capture.HeaderKind.TheVariants.{Date, Version, Comment}
+use Rattle.vcd_text.specs.declared.fault.Fault.{Fault}
+use Rattle.vcd_text.specs.Words.{Word}
+use Rattle.vcd_text.specs.Letters.{is_among}
+use Rattle.vcd_text.specs.Items.{spellings, header_word, header_words, is_one_of, is_other, vector_letters, dropped_letters}
+use Rattle.vcd_text.specs.Grammar.{Context, Accepts, after, nothing_told, texts}
+use Rattle.vcd_text.specs.Faults.{Refuses, Stops, IsUnfinished, declaration_due, words_due, upscope_due, variable_due, definitions_due, code_due, other_due, pair_letters}
+use Rattle.vcd_text.specs.Inside.{is_nothing}
+use Rattle.vcd_text.specs.Reading.{Reads, Agrees, IsBegun, Collects, AwaitsCode, is_complete}
+use Rattle.vcd_text.specs.declared.reading.machine.Machine.{Machine}
+use Rattle.vcd_text.specs.declared.reading.machine.OpenItem.{OpenItem}
+use Rattle.vcd_text.specs.declared.reading.machine.OpenItem.TheVariants as items
+use Rattle.vcd_text.proofs.OneAnswer.{accepted-not_refused, stopped-not_refused}
+
+-- the kind of a header entry is one of three
+is_header : (kind : HeaderKind) → IsTrue (is_one_of (codes "$timescale" ∷ codes "$scope" ∷ header_words) (header_word kind))
+is_header Date = refl
+is_header Version = refl
+is_header Comment = refl
+
+collecting : (m : Machine) (c : Context) (begun : List Word) (keyword : List ℕ) → Agrees m c → Collects m begun keyword
+    → IsTrue (is_one_of (codes "$timescale" ∷ codes "$scope" ∷ header_words) keyword) → IsUnfinished c (texts begun)
+collecting m c begun keyword agrees is among = words_due keyword m.words.items (sym agrees.changing ∙ is.declares) is.spelled among is.no_end
+
+among_more : (letters more : List ℕ) (b : ℕ) → is_among letters b ≡ true → is_among (letters ++ more) b ≡ true
+among_more [] more b h = absurd (false≢true h)
+among_more (x ∷ xs) more b h =
+    elim (or_cases (nat_eq b x) (is_among xs b) h) [
+      | inl here ↦ or_left (nat_eq b x) (is_among (xs ++ more) b) here
+      | inr later ↦ or_right (nat_eq b x) (is_among (xs ++ more) b) (among_more xs more b later)
+    ]
+
+among_behind : (letters front : List ℕ) (b : ℕ) → is_among letters b ≡ true → is_among (front ++ letters) b ≡ true
+among_behind letters [] b h = h
+among_behind letters (x ∷ xs) b h = or_right (nat_eq b x) (is_among (xs ++ letters) b) (among_behind letters xs b h)
+
+not_nothing : (b : Bool) → (b && true) ≡ false → b ≡ false
+not_nothing false h = refl
+not_nothing true h = absurd (false≢true (sym h))
+
+awaiting : (m : Machine) (c : Context) (begun : List Word) (letters text : List ℕ) → Agrees m c → AwaitsCode m begun letters text
+    → ((b : ℕ) → IsTrue (is_among letters b) → IsTrue (is_among pair_letters b)) → IsUnfinished c (texts begun)
+awaiting m c begun letters text agrees is more =
+    code_due is.letter text (sym agrees.changing ∙ is.changes) (ap texts is.is ∙ ap (λ t. t ∷ []) is.spelled) (more is.letter is.among)
+
+-- something is due behind words that are no whole file
+unfinished : (m : Machine) (c : Context) (begun : List Word) (item : OpenItem) → Agrees m c → IsBegun m begun item → IsFalse (m.changing && is_nothing item) → IsUnfinished c (texts begun)
+unfinished m c begun items.Nothing agrees none no_end = declaration_due (sym agrees.changing ∙ not_nothing m.changing no_end) (ap texts none)
+unfinished m c begun (items.Entry kind) agrees is no_end = collecting m c begun (header_word kind) agrees is (is_header kind)
+unfinished m c begun items.Timescale agrees is no_end = collecting m c begun (codes "$timescale") agrees is refl
+unfinished m c begun items.Scope agrees is no_end = collecting m c begun (codes "$scope") agrees is refl
+unfinished m c begun items.Upscope agrees is no_end = upscope_due (sym agrees.changing ∙ is.0) is.1 (subst (λ (s : List ScopeName). 0 < length s) agrees.scopes is.2)
+unfinished m c begun items.Variable agrees is no_end = variable_due m.words.items (sym agrees.changing ∙ is.0.declares) is.0.spelled is.0.no_end is.1
+unfinished m c begun items.EndDefinitions agrees is no_end = definitions_due (sym agrees.changing ∙ is.0) is.1
+unfinished m c begun items.Other agrees is no_end = other_due is.keyword is.words is.spelled (subst (λ b. IsTrue (is_other b is.keyword)) agrees.changing is.other) is.no_end
+unfinished m c begun items.Vector agrees is no_end = awaiting m c begun vector_letters m.text.items agrees is (among_more vector_letters dropped_letters)
+unfinished m c begun items.Dropped agrees (text, is) no_end = awaiting m c begun dropped_letters text agrees is (among_behind dropped_letters vector_letters)
+
+texts_are : (m : Machine) (words : List Word) (r : Reads m words) → texts words ≡ spellings r.items ++ texts r.begun
+texts_are m words r = ap texts r.parts ∙ map-append (λ (w : Word). w.text) r.whole r.begun ∙ ap (λ ws. ws ++ texts r.begun) r.spelled
+
+-- words that are no whole file end too early
+pub stops : (m : Machine) (words : List Word) → Reads m words → is_complete m ≡ false → Stops words
+stops m words r incomplete = record {
+  items = r.items;
+  begun = texts r.begun;
+  spelled = texts_are m words r;
+  allowed = r.allowed;
+  unfinished = subst (λ c. IsUnfinished c (texts r.begun)) (sym r.tells) (unfinished m r.told r.begun m.item r.at.0 r.at.1 incomplete);
+}
+
+nothing_begun : (m : Machine) (begun : List Word) (item : OpenItem) → IsBegun m begun item → is_nothing item ≡ true → begun ≡ []
+nothing_begun m begun items.Nothing is none = is
+nothing_begun m begun (items.Entry kind) is none = absurd (false≢true none)
+nothing_begun m begun items.Timescale is none = absurd (false≢true none)
+nothing_begun m begun items.Scope is none = absurd (false≢true none)
+nothing_begun m begun items.Upscope is none = absurd (false≢true none)
+nothing_begun m begun items.Variable is none = absurd (false≢true none)
+nothing_begun m begun items.EndDefinitions is none = absurd (false≢true none)
+nothing_begun m begun items.Other is none = absurd (false≢true none)
+nothing_begun m begun items.Vector is none = absurd (false≢true none)
+nothing_begun m begun items.Dropped is none = absurd (false≢true none)
+
+-- words that are a whole file are accepted
+pub accepts : (m : Machine) (words : List Word) (r : Reads m words) → is_complete m ≡ true → Accepts words r.told
+accepts m words r complete =
+    let parts = and_parts m.changing (is_nothing m.item) complete in
+    record {
+      items = r.items;
+      spelled = texts_are m words r ∙ ap (λ ws. spellings r.items ++ texts ws) (nothing_begun m r.begun m.item r.at.1 parts.1) ∙ append-nil (spellings r.items);
+      allowed = r.allowed;
+      tells = r.tells;
+      declared = sym r.at.0.changing ∙ parts.0;
+    }
+
+-- words that have been taken show no fault
+pub no_fault : (m : Machine) (words : List Word) → Reads m words → (line : ℕ) (fault : Fault) → Refuses words line fault → ⊥
+no_fault m words r line fault refuses = by_test (is_complete m) refl
+  where
+    by_test : (b : Bool) → is_complete m ≡ b → ⊥
+    by_test true complete = accepted-not_refused words r.told line fault (accepts m words r complete) refuses
+    by_test false incomplete = stopped-not_refused words line fault (stops m words r incomplete) refuses

@@ -1,0 +1,104 @@
+-- A printed value is read as the value that was written.
+use Rattle.std.proofs.Common.{◌≡◌, ℕ, ◌+◌, ◌-◌, ◌<◌, ◌≤◌, Bool, true, false, not, cond, if◌then◌else◌, ◌&&◌, nat_le, List, [], ◌∷◌, ◌++◌, length, replicate, All, refl, ap, ◌∙◌, arith, Some, None}
+use Rattle.std.specs.Prelude.{find, unwrap_or, is_some}
+use Rattle.std.specs.List.{list_all}
+use Rattle.std.proofs.lemmas.Bool.{ne_eqb}
+use Rattle.std.proofs.lemmas.List.{length-map, length-replicate}
+use Rattle.std.proofs.lemmas.List.Elements.{All-nil, All-push, All-head, All-tail}
+use Rattle.vcd_core.specs.declared.bit.Bit.{Bit}
+use Rattle.vcd_core.specs.declared.bit.Bit.TheVariants.{Zero, One, X, Z}
+use Rattle.vcd_core.specs.declared.wave.Change.{Change}
+use Rattle.vcd_core.specs.Value.{all_x, same_letters}
+use Rattle.vcd_core.specs.Wave.{value_from, value_at, ChangesFrom, IsWave}
+use Rattle.vcd_core.specs.ValueLaws.{same_letters-Decides}
+use Rattle.vcd_text.specs.Letters.{is_letter, letter_read, letters_read, printed, printed_letter, pad_letter, ext, suffixes, short}
+use Rattle.vcd_text.specs.Grammar.{is_value}
+
+-- ---- letters
+
+pub letter_back : (b : Bit) → letter_read (printed_letter b) ≡ Some b
+letter_back Zero = refl
+letter_back One = refl
+letter_back X = refl
+letter_back Z = refl
+
+pub letters_back : (s : List Bit) → letters_read (printed s) ≡ s
+letters_back [] = refl
+letters_back (b ∷ s) = λ i. unwrap_or (letter_back b i) X ∷ letters_back s i
+
+all_letters : (s : List Bit) → list_all is_letter (printed s) ≡ true
+all_letters [] = refl
+all_letters (b ∷ s) = λ i. is_some (letter_back b i) && all_letters s i
+
+pub printed_is_value : (s : List Bit) → 0 < length s → is_value (printed s) ≡ true
+printed_is_value s some = λ i. not (ne_eqb (length (printed s)) 0 (omega (arith, length-map s printed_letter)) i) && all_letters s i
+
+-- ---- the short form
+
+-- what is found passes the test, or the other does
+found_passes : {A : Type 0} (p : A → Bool) (ys : List A) (x : A) → p x ≡ true → p (unwrap_or (find p ys) x) ≡ true
+found_passes p [] x passes = passes
+found_passes p (y ∷ ys) x passes = choose (p y) refl (found_passes p ys x passes)
+  where
+    choose : (b : Bool) → p y ≡ b → p (unwrap_or (find p ys) x) ≡ true → p (unwrap_or (cond b (Some y) (find p ys)) x) ≡ true
+    choose true here behind = here
+    choose false here behind = behind
+
+-- what is found has what all have, or the other has it
+found_has : {A : Type 0} (P : A → Type 0) (p : A → Bool) (ys : List A) (x : A) → All P ys → P x → P (unwrap_or (find p ys) x)
+found_has P p [] x all has = has
+found_has P p (y ∷ ys) x all has = choose (p y) (found_has P p ys x (All-tail P y ys all) has)
+  where
+    choose : (b : Bool) → P (unwrap_or (find p ys) x) → P (unwrap_or (cond b (Some y) (find p ys)) x)
+    choose true behind = All-head P y ys all
+    choose false behind = behind
+
+-- a text that is no shorter than one letter, nor longer than a width
+abbrev IsWithin : ℕ → List Bit → Type 0
+IsWithin width s = (0 < length s) × (length s ≤ width)
+
+suffixes_within : (width : ℕ) (v : List Bit) → length v ≤ width → All (IsWithin width) (suffixes v)
+suffixes_within width [] le = All-nil (IsWithin width)
+suffixes_within width (b ∷ s) le = All-push (IsWithin width) (suffixes s) (b ∷ s) (suffixes_within width s (omega arith)) (omega arith, le)
+
+-- a value is its own extension
+ext_itself : (v : List Bit) → ext (length v) v ≡ v
+ext_itself v = let none : length v - length v ≡ 0 = omega arith in ap (λ k. replicate k (pad_letter v) ++ v) none
+
+-- the extension of the short form is the value
+pub ext-short : (v : List Bit) → ext (length v) (short v) ≡ v
+unfolding short
+ext-short v =
+    (same_letters-Decides (ext (length v) (short v)) v).0
+    (found_passes (λ s. same_letters (ext (length v) s) v) (suffixes v) v ((same_letters-Decides (ext (length v) v) v).1 (ext_itself v)))
+
+-- the short form of a value has a letter, and no more than the value
+pub short_within : (v : List Bit) → 0 < length v → (0 < length (short v)) × (length (short v) ≤ length v)
+unfolding short
+short_within v some = found_has (IsWithin (length v)) (λ s. same_letters (ext (length v) s) v) (suffixes v) v (suffixes_within (length v) v (omega arith)) (some, omega arith)
+
+-- that of one letter is itself
+pub short_one : (b : Bit) → short (b ∷ []) ≡ b ∷ []
+unfolding short
+short_one b = one (same_letters (ext 1 (b ∷ [])) (b ∷ []))
+  where
+    one : (r : Bool) → unwrap_or (cond r (Some (b ∷ [])) None) (b ∷ []) ≡ b ∷ []
+    one true = refl
+    one false = refl
+
+-- ---- the width
+
+-- each value of a wave has its width
+wide_from : (width floor t : ℕ) (kept before : List Bit) (cs : List Change) → ChangesFrom floor kept cs → length kept ≡ width → length before ≡ width
+    → length (value_from before cs t) ≡ width
+unfolding value_from
+wide_from width floor t kept before [] rise long wide = wide
+wide_from width floor t kept before (c ∷ cs) (from, other, same, rest) long wide =
+    wide_from width (c.tick + 1) t c.value (if nat_le c.tick t then c.value else before) cs rest (same ∙ long) (choose (nat_le c.tick t))
+  where
+    choose : (b : Bool) → length (if b then c.value else before) ≡ width
+    choose true = same ∙ long
+    choose false = wide
+
+pub length-value_at : (width t : ℕ) (cs : List Change) → IsWave width cs → length (value_at width cs t) ≡ width
+length-value_at width t cs is = wide_from width 0 t (all_x width) (all_x width) cs is.rise (length-replicate width X) (length-replicate width X)

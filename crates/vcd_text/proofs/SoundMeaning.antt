@@ -1,0 +1,367 @@
+-- What an accepted file means is sound.
+use Rattle.std.proofs.Common.{◌≡◌, ◌⊎◌, inl, inr, ℕ, zero, suc, ◌+◌, ◌-◌, ◌<◌, ◌≤◌, Bool, true, false, cond, not, ◌&&◌, ◌||◌, List, [], ◌∷◌, ◌++◌, length, map, take, drop, replicate, Option, Some, None, IsTrue, IsFalse, IsSome, IsSomeAnd, IfSome, All, refl, sym, ap, subst, ◌∙◌, arith, eq-eqb, codes}
+use Rattle.std.specs.Prelude.{find, bytes_eq, nat_eq, ◌==◌, nat_le, nat_lt, filter}
+use Rattle.std.specs.List.{list_all, concat}
+use Rattle.std.specs.Fmt.{decimal}
+use Rattle.std.proofs.lemmas.Bool.{and_parts, and_from, or_parts, or_from, false≢true, not-true, eqb-true, eqb-false, ne_eqb, leb-true, ltb-true, ltb-false}
+use Rattle.std.proofs.lemmas.Slice.Eq.{bytes_eq-Decides}
+use Rattle.std.proofs.lemmas.List.{append-nil, length-append, length-map, length-replicate, take-append-drop}
+use Rattle.std.proofs.lemmas.List.Elements.{All-nil, All-cons, All-head, All-tail, All-push, All-map, All-weaker, All-filter, filter_passes, filter-append}
+use Rattle.std.proofs.lemmas.List.Folds.{list_all-append}
+use Rattle.vcd_core.specs.declared.bit.Bit.{Bit}
+use Rattle.vcd_core.specs.declared.bit.Bit.TheVariants.{X}
+use Rattle.vcd_core.specs.declared.value.TheConstants.{WIDTH_LIMIT}
+use Rattle.vcd_core.specs.declared.capture.TheConstants.{END_LIMIT, SIGNAL_LIMIT}
+use Rattle.vcd_core.specs.Word.{is_word, is_skipped_kind}
+use Rattle.vcd_core.specs.Value.{all_x}
+use Rattle.vcd_core.specs.Contents.{SignalContents}
+use Rattle.vcd_core.specs.Sound.{IsSound, IsSoundSignal, is_sound_header, is_sound_scope, is_sound_timescale}
+use Rattle.vcd_core.proofs.Waves.{changes_rise, changes_end}
+use Rattle.vcd_text.specs.Words.{Word, is_space, words_from, words_of, word, with_byte, lengthened, ends_before, line_behind}
+use Rattle.vcd_text.specs.Letters.{ext, pad_letter, letters_read, is_number, number_of}
+use Rattle.vcd_text.specs.Items.{Item, entry, timescale, scope, upscope, variable, end_definitions, stamp, scalar, vector, real_or_string, bracket, other, spelling, spellings, header_word, end_word, is_end, has_no_end, is_one_of, timescales, unit_text}
+use Rattle.vcd_text.specs.Grammar.{Context, Declaration, Recorded, Accepts, Allows, AllowsAll, after, after_item, nothing_told, texts, is_skipped, kept, skipped_kinds, declaration_of, variable_of, may_have_code, has_room, signal_limit, tick_limit, recorded, with_record, takes_digits, is_value}
+use Rattle.vcd_text.proofs.WordLaws.{is_run_text, texts_are_runs, run_is_word}
+use Rattle.vcd_text.specs.Meaning.{meaning, declared_signal, recorded_value}
+
+-- ---- words
+
+-- words in front of an `$end` are words of names
+clean_words : (ws rest : List (List ℕ)) → list_all is_run_text (ws ++ rest) ≡ true → has_no_end ws ≡ true → list_all is_word ws ≡ true
+clean_words [] rest all none = refl
+clean_words (w ∷ ws) rest all none =
+    let p = and_parts (is_run_text w) (list_all is_run_text (ws ++ rest)) all in
+    let q = and_parts (not (is_end w)) (has_no_end ws) none in
+    and_from (is_word w) (list_all is_word ws) (run_is_word w p.0 (not-true (is_end w) q.0)) (clean_words ws rest p.1 q.1)
+
+-- ---- lists
+
+by_test : (P : Bool → Type 0) (b : Bool) → (b ≡ true → P true) → (b ≡ false → P false) → P b
+by_test P true t f = t refl
+by_test P false t f = f refl
+
+-- what a search finds passes a test that all pass
+found_passes : {A : Type 0} (p q : A → Bool) (xs : List A) → list_all q xs ≡ true → IfSome (find p xs) (λ x. q x ≡ true)
+found_passes p q [] all = tt
+found_passes p q (x ∷ xs) all =
+    let parts = and_parts (q x) (list_all q xs) all in
+    by_test (λ b. IfSome (cond b (Some x) (find p xs)) (λ x. q x ≡ true)) (p x) (λ _. parts.0) (λ _. found_passes p q xs parts.1)
+
+-- what a search finds it finds in a longer list
+found_further : {A : Type 0} (P : A → Type 0) (p : A → Bool) (xs : List A) (y : A) → IsSomeAnd (find p xs) P → IsSomeAnd (find p (xs ++ y ∷ [])) P
+found_further P p [] y some = absurd some
+found_further P p (x ∷ xs) y some =
+    by_test (λ b. IsSomeAnd (cond b (Some x) (find p xs)) P → IsSomeAnd (cond b (Some x) (find p (xs ++ y ∷ []))) P) (p x) (λ _ h. h) (λ _ h. found_further P p xs y h) some
+
+-- what comes last is found where nothing before it is
+found_last : {A : Type 0} (p : A → Bool) (xs : List A) (y : A) → find p xs ≡ None → p y ≡ true → find p (xs ++ y ∷ []) ≡ Some y
+found_last p [] y none here = ap (λ b. cond b (Some y) None) here
+found_last p (x ∷ xs) y none here =
+    by_test (λ b. cond b (Some x) (find p xs) ≡ None → cond b (Some x) (find p (xs ++ y ∷ [])) ≡ Some y) (p x) (λ _ h. absurd (cc h)) (λ _ h. found_last p xs y h here) none
+
+all_taken : {A : Type 0} (p : A → Bool) (n : ℕ) (xs : List A) → list_all p xs ≡ true → list_all p (take n xs) ≡ true
+all_taken p n xs all = (and_parts (list_all p (take n xs)) (list_all p (drop n xs)) (sym (list_all-append p (take n xs) (drop n xs)) ∙ ap (list_all p) (take-append-drop n xs) ∙ all)).0
+
+same_bytes : (bytes : List ℕ) → bytes_eq bytes bytes ≡ true
+same_bytes [] = refl
+same_bytes (b ∷ bs) = and_from (nat_eq b b) (bytes_eq bs bs) (eq-eqb b b refl) (same_bytes bs)
+
+-- ---- what is kept to
+
+pub record IsCleanDeclaration (d : Declaration) : Type 0 where
+  scopes : list_all is_sound_scope d.scopes ≡ true
+  kind : is_word d.kind ≡ true
+  named : 0 < length d.words
+  words : list_all is_word d.words ≡ true
+
+-- the variable of a code has the size of this one, where it is kept
+abbrev Agrees : Context → Declaration → Type 0
+Agrees c d = is_skipped d ≡ false → IsSomeAnd (variable_of c d.code) (λ e. (e.size ≡ d.size) × (is_skipped e ≡ false))
+
+-- the variable of the record's code takes its letters
+abbrev Fits : Context → Recorded → Type 0
+Fits c r = IsSomeAnd (variable_of c r.code) (λ e. length r.letters ≤ e.size)
+
+record IsClean (c : Context) : Type 0 where
+  header : list_all is_sound_header c.header ≡ true
+  timescale : IfSome c.timescale (λ t. is_sound_timescale t ≡ true)
+  scopes : list_all is_sound_scope c.scopes ≡ true
+  declared : All IsCleanDeclaration c.declared
+  agree : All (Agrees c) c.declared
+  few : length (kept c.declared) ≤ SIGNAL_LIMIT
+  fit : All (Fits c) c.records
+  silent : c.changing ≡ false → c.records ≡ []
+  tick : c.tick ≤ END_LIMIT
+
+-- ---- sizes
+
+-- a variable that is kept has a kind with four-state letters and a width within the limit
+kept_is : (d : Declaration) → is_skipped d ≡ false → (is_one_of skipped_kinds d.kind ≡ false) × (1 ≤ d.size) × (d.size ≤ WIDTH_LIMIT)
+kept_is d keeps =
+    let p = or_parts (is_one_of skipped_kinds d.kind) (d.size == 0 || nat_lt WIDTH_LIMIT d.size) keeps in
+    let q = or_parts (d.size == 0) (nat_lt WIDTH_LIMIT d.size) p.1 in
+    let some : d.size ≡ 0 → ⊥ = eqb-false d.size 0 q.0 in
+    (p.0, positive d.size some, ltb-false WIDTH_LIMIT d.size q.1)
+  where
+    positive : (n : ℕ) → (n ≡ 0 → ⊥) → 1 ≤ n
+    positive zero none = absurd (none refl)
+    positive (suc n) none = omega arith
+
+-- a variable takes a letter
+some_kept : (o : Option Declaration) → IsSome o → IsSomeAnd o (λ e. is_skipped e ≡ false → 1 ≤ e.size)
+some_kept None some = absurd (false≢true some)
+some_kept (Some e) some = λ keeps. (kept_is e keeps).1
+
+-- a variable takes digits that are no more than its bits
+some_taken : (digits : List ℕ) (o : Option Declaration) → IsSomeAnd o (λ e. IsTrue (takes_digits e digits)) → IsSomeAnd o (λ e. is_skipped e ≡ false → length (letters_read digits) ≤ e.size)
+some_taken digits None some = absurd some
+some_taken digits (Some e) takes = λ keeps.
+    let here : (is_value digits && nat_le (length digits) e.size) ≡ true = ap (λ b. b || (is_value digits && nat_le (length digits) e.size)) (sym keeps) ∙ takes in
+    subst (λ n. n ≤ e.size) (sym (length-map digits _)) (leb-true (length digits) e.size (and_parts (is_value digits) _ here).1)
+
+-- ---- one item
+
+-- one more record
+clean_record : (c : Context) (code : List ℕ) (letters : List Bit) → IsClean c → IsTrue c.changing → IsSomeAnd (variable_of c code) (λ e. is_skipped e ≡ false → length letters ≤ e.size)
+    → IsClean (with_record c code letters)
+clean_record c code letters clean changing fits = record {
+  header = clean.header;
+  timescale = clean.timescale;
+  scopes = clean.scopes;
+  declared = clean.declared;
+  agree = clean.agree;
+  few = clean.few;
+  fit = more (variable_of c code) refl fits;
+  silent = λ no_more. absurd (false≢true (sym no_more ∙ changing));
+  tick = clean.tick;
+}
+  where
+    more : (o : Option Declaration) → variable_of c code ≡ o → IsSomeAnd o (λ e. is_skipped e ≡ false → length letters ≤ e.size) → All (Fits c) (c.records ++ recorded c code letters o)
+    more None is some = absurd some
+    more (Some e) is some =
+        let r : Recorded = record { tick = c.tick; code = code; letters = letters } in
+        by_test (λ b. All (Fits c) (c.records ++ cond b [] (r ∷ []))) (is_skipped e) (λ _. subst (All (Fits c)) (sym (append-nil c.records)) clean.fit)
+        (λ keeps. All-push (Fits c) c.records r clean.fit (subst (λ o. IsSomeAnd o (λ e. length letters ≤ e.size)) (sym is) (some keeps)))
+
+both_kept : (s e : Bool) → ((s && false) || (not s && true && e)) ≡ true → (e ≡ true) × (s ≡ false)
+both_kept true e h = absurd (false≢true h)
+both_kept false e h = (h, refl)
+
+-- one more variable
+clean_declared : (c : Context) (d : Declaration) → IsClean c → IsFalse c.changing → IsCleanDeclaration d → IsTrue (may_have_code (variable_of c d.code) d) → IsTrue (has_room c.declared d)
+    → IsClean (record c { declared = c.declared ++ d ∷ [] })
+clean_declared c d clean declaring is shares room =
+    let e : Context = record c { declared = c.declared ++ d ∷ [] } in
+    record {
+      header = clean.header;
+      timescale = clean.timescale;
+      scopes = clean.scopes;
+      declared = All-push IsCleanDeclaration c.declared d clean.declared is;
+      agree =
+          All-push (Agrees e) c.declared d (All-weaker (Agrees c) (Agrees e) (λ x agrees keeps. found_further _ (λ y. bytes_eq x.code y.code) c.declared d (agrees keeps)) c.declared clean.agree)
+          (λ keeps. first_or_same (variable_of c d.code) refl shares keeps);
+      few = counted;
+      fit = subst (All (Fits e)) (sym (clean.silent declaring)) (All-nil (Fits e));
+      silent = clean.silent;
+      tick = clean.tick;
+    }
+  where
+    first_or_same : (o : Option Declaration) → variable_of c d.code ≡ o → IsTrue (may_have_code o d) → is_skipped d ≡ false
+        → IsSomeAnd (find (λ y. bytes_eq d.code y.code) (c.declared ++ d ∷ [])) (λ e. (e.size ≡ d.size) × (is_skipped e ≡ false))
+    first_or_same None none shares keeps =
+        subst (λ o. IsSomeAnd o (λ e. (e.size ≡ d.size) × (is_skipped e ≡ false))) (sym (found_last (λ y. bytes_eq d.code y.code) c.declared d none (same_bytes d.code))) (refl, keeps)
+    first_or_same (Some x) some shares keeps =
+        let here : ((is_skipped x && false) || (not (is_skipped x) && true && (x.size == d.size))) ≡ true = (λ i. (is_skipped x && sym keeps i) || (not (is_skipped x) && not (sym keeps i) && (x.size == d.size))) ∙ shares in
+        let same = both_kept (is_skipped x) (x.size == d.size) here in
+        found_further _ (λ y. bytes_eq d.code y.code) c.declared d (subst (λ o. IsSomeAnd o (λ e. (e.size ≡ d.size) × (is_skipped e ≡ false))) (sym some) (eqb-true x.size d.size same.0, same.1))
+
+    counted : length (kept (c.declared ++ d ∷ [])) ≤ SIGNAL_LIMIT
+    counted = subst (λ n. n ≤ SIGNAL_LIMIT) (sym (ap length (filter-append (λ x. not (is_skipped x)) c.declared (d ∷ [])) ∙ length-append (kept c.declared) _))
+        (by_test (λ b. (b || nat_lt (length (kept c.declared)) signal_limit) ≡ true → length (kept c.declared) + length (cond (not b) (d ∷ []) []) ≤ SIGNAL_LIMIT) (is_skipped d)
+        (λ _ _. omega (arith, clean.few)) (λ _ room. let less = ltb-true (length (kept c.declared)) signal_limit room in omega arith) room)
+
+clean_variable : (c : Context) (words : List (List ℕ)) → IsClean c → list_all is_run_text (spelling (variable words)) ≡ true → Allows c (variable words) → IsClean (after_item c (variable words))
+clean_variable c [] clean all allows = absurd allows.3
+clean_variable c (kind ∷ []) clean all allows = absurd allows.3
+clean_variable c (kind ∷ size ∷ []) clean all allows = absurd allows.3
+clean_variable c (kind ∷ size ∷ code ∷ []) clean all allows = absurd allows.3
+clean_variable c (kind ∷ size ∷ code ∷ name ∷ names) clean all allows =
+    let words = clean_words (kind ∷ size ∷ code ∷ name ∷ names) (end_word ∷ []) all allows.1 in
+    let p = and_parts (is_word kind) (list_all is_word (size ∷ code ∷ name ∷ names)) words in
+    let q = and_parts (is_word size) (list_all is_word (code ∷ name ∷ names)) p.1 in
+    let r = and_parts (is_word code) (list_all is_word (name ∷ names)) q.1 in
+    clean_declared c (record { scopes = c.scopes; kind = kind; size = number_of size; code = code; words = name ∷ names }) clean allows.0
+    (record { scopes = clean.scopes; kind = p.0; named = omega arith; words = r.1 }) allows.3.0 allows.3.1
+
+clean_item : (c : Context) (i : Item) → IsClean c → list_all is_run_text (spelling i) ≡ true → Allows c i → IsClean (after_item c i)
+clean_item c (entry kind words) clean all allows = record {
+  header =
+      list_all-append is_sound_header c.header _
+      ∙ and_from (list_all is_sound_header c.header) (list_all is_word words && true) clean.header
+      (and_from (list_all is_word words) true (clean_words words (end_word ∷ []) (and_parts (is_run_text (header_word kind)) (list_all is_run_text (words ++ end_word ∷ [])) all).1 allows.1) refl);
+  timescale = clean.timescale;
+  scopes = clean.scopes;
+  declared = clean.declared;
+  agree = clean.agree;
+  few = clean.few;
+  fit = clean.fit;
+  silent = clean.silent;
+  tick = clean.tick;
+}
+clean_item c (timescale words) clean all allows = record {
+  header = clean.header;
+  timescale = found_passes (λ t. bytes_eq (concat words) (decimal t.count ++ unit_text t.unit)) is_sound_timescale timescales refl;
+  scopes = clean.scopes;
+  declared = clean.declared;
+  agree = clean.agree;
+  few = clean.few;
+  fit = clean.fit;
+  silent = clean.silent;
+  tick = clean.tick;
+}
+clean_item c (scope kind words) clean all allows = record {
+  header = clean.header;
+  timescale = clean.timescale;
+  scopes =
+      list_all-append is_sound_scope c.scopes _
+      ∙ and_from (list_all is_sound_scope c.scopes) (list_all is_word (kind ∷ words) && true) clean.scopes
+      (and_from (list_all is_word (kind ∷ words)) true (clean_words (kind ∷ words) (end_word ∷ []) all allows.1) refl);
+  declared = clean.declared;
+  agree = clean.agree;
+  few = clean.few;
+  fit = clean.fit;
+  silent = clean.silent;
+  tick = clean.tick;
+}
+clean_item c upscope clean all allows = record {
+  header = clean.header;
+  timescale = clean.timescale;
+  scopes = all_taken is_sound_scope (length c.scopes - 1) c.scopes clean.scopes;
+  declared = clean.declared;
+  agree = clean.agree;
+  few = clean.few;
+  fit = clean.fit;
+  silent = clean.silent;
+  tick = clean.tick;
+}
+clean_item c (variable words) clean all allows = clean_variable c words clean all allows
+clean_item c end_definitions clean all allows = record {
+  header = clean.header;
+  timescale = clean.timescale;
+  scopes = clean.scopes;
+  declared = clean.declared;
+  agree = clean.agree;
+  few = clean.few;
+  fit = clean.fit;
+  silent = λ no_more. absurd (false≢true (sym no_more));
+  tick = clean.tick;
+}
+clean_item c (stamp digits) clean all allows = record {
+  header = clean.header;
+  timescale = clean.timescale;
+  scopes = clean.scopes;
+  declared = clean.declared;
+  agree = clean.agree;
+  few = clean.few;
+  fit = clean.fit;
+  silent = clean.silent;
+  tick = leb-true (number_of digits) tick_limit (and_parts (is_number digits) (nat_le (number_of digits) tick_limit) allows.1).1;
+}
+clean_item c (scalar letter code) clean all allows =
+    clean_record c code (letters_read (letter ∷ [])) clean allows.0 (some_kept (variable_of c code) allows.3)
+clean_item c (vector first digits code) clean all allows =
+    clean_record c code (letters_read digits) clean allows.0 (some_taken digits (variable_of c code) allows.2)
+clean_item c (real_or_string first text code) clean all allows = clean
+clean_item c (bracket word) clean all allows = clean
+clean_item c (other word words) clean all allows = clean
+
+clean_items : (c : Context) (is : List Item) → IsClean c → list_all is_run_text (spellings is) ≡ true → AllowsAll c is → IsClean (after c is)
+clean_items c [] clean all allows = clean
+clean_items c (i ∷ is) clean all allows =
+    let p = and_parts (list_all is_run_text (spelling i)) (list_all is_run_text (spellings is)) (sym (list_all-append is_run_text (spelling i) (spellings is)) ∙ all) in
+    clean_items (after_item c i) is (clean_item c i clean p.0 allows.0) p.1 allows.1
+
+-- ---- waves
+
+length-ext : (width : ℕ) (s : List Bit) → length s ≤ width → length (ext width s) ≡ width
+length-ext width s fits =
+    length-append (replicate (width - length s) (pad_letter s)) s ∙ ap (λ n. n + length s) (length-replicate (width - length s) (pad_letter s)) ∙ omega arith
+
+-- a record of this code has letters for so many bits
+abbrev FitsWidth : ℕ → List ℕ → Recorded → Type 0
+FitsWidth width code r = bytes_eq r.code code ≡ true → length r.letters ≤ width
+
+recorded_length : (width : ℕ) (code : List ℕ) (t : ℕ) (before : List Bit) (rs : List Recorded) → length before ≡ width
+    → All (FitsWidth width code) rs → length (recorded_value width code t before rs) ≡ width
+unfolding recorded_value
+recorded_length width code t before [] long all = long
+recorded_length width code t before (r ∷ rs) long all =
+    recorded_length width code t (cond (bytes_eq r.code code && nat_le r.tick t) (ext width r.letters) before) rs
+    (by_test (λ b. length (cond b (ext width r.letters) before) ≡ width) (bytes_eq r.code code && nat_le r.tick t)
+    (λ here. length-ext width r.letters (All-head (FitsWidth width code) r rs all (and_parts (bytes_eq r.code code) (nat_le r.tick t) here).0)) (λ _. long)) (All-tail (FitsWidth width code) r rs all)
+
+-- the records of a code that is kept fit its width
+records_fit : (c : Context) (d : Declaration) → Agrees c d → is_skipped d ≡ false → All (Fits c) c.records → All (FitsWidth d.size d.code) c.records
+records_fit c d agrees keeps fit = All-weaker (Fits c) (FitsWidth d.size d.code)
+    (λ r fits same. let code : r.code ≡ d.code = (bytes_eq-Decides r.code d.code).0 same in
+    joined r (variable_of c d.code) (subst (λ k. IsSomeAnd (variable_of c k) (λ e. length r.letters ≤ e.size)) code fits) (agrees keeps)) c.records fit
+  where
+    joined : (r : Recorded) (o : Option Declaration) → IsSomeAnd o (λ e. length r.letters ≤ e.size) → IsSomeAnd o (λ e. (e.size ≡ d.size) × (is_skipped e ≡ false)) → length r.letters ≤ d.size
+    joined r None some same = absurd some
+    joined r (Some e) fits same = subst (λ n. length r.letters ≤ n) same.0 fits
+
+kept_kind : (kind : List ℕ) → is_one_of skipped_kinds kind ≡ false → is_skipped_kind kind ≡ false
+kept_kind kind none =
+    let is : List ℕ → Bool = bytes_eq kind in
+    let a = or_parts (is (codes "real")) (is_one_of (codes "realtime" ∷ codes "real_parameter" ∷ codes "shortreal" ∷ codes "event" ∷ codes "string" ∷ []) kind) none in
+    let b = or_parts (is (codes "realtime")) (is_one_of (codes "real_parameter" ∷ codes "shortreal" ∷ codes "event" ∷ codes "string" ∷ []) kind) a.1 in
+    let c = or_parts (is (codes "real_parameter")) (is_one_of (codes "shortreal" ∷ codes "event" ∷ codes "string" ∷ []) kind) b.1 in
+    let d = or_parts (is (codes "shortreal")) (is_one_of (codes "event" ∷ codes "string" ∷ []) kind) c.1 in
+    let e = or_parts (is (codes "event")) (is_one_of (codes "string" ∷ []) kind) d.1 in
+    let f = or_parts (is (codes "string")) false e.1 in
+    λ i. a.0 i || b.0 i || c.0 i || d.0 i || e.0 i || f.0 i
+
+sound_signal : (c : Context) (d : Declaration) → IsClean c → IsCleanDeclaration d → Agrees c d → is_skipped d ≡ false → IsSoundSignal c.tick (declared_signal c.records c.tick d)
+sound_signal c d clean is agrees keeps =
+    let width = kept_is d keeps in
+    let values : (t : ℕ) → length (recorded_value d.size d.code t (all_x d.size) c.records) ≡ d.size = λ t.
+    recorded_length d.size d.code t (all_x d.size) c.records (length-replicate d.size X) (records_fit c d agrees keeps clean.fit) in
+    record {
+      scopes = is.scopes;
+      kind = is.kind;
+      kept = ap not (kept_kind d.kind width.0);
+      named = is.named;
+      words = is.words;
+      least = width.1;
+      most = width.2;
+      wave = changes_rise d.size c.tick _ values;
+      ticks = changes_end d.size c.tick _;
+    }
+
+clean_start : IsClean nothing_told
+clean_start = record {
+  header = refl;
+  timescale = tt;
+  scopes = refl;
+  declared = All-nil IsCleanDeclaration;
+  agree = All-nil (Agrees nothing_told);
+  few = omega arith;
+  fit = All-nil (Fits nothing_told);
+  silent = λ _. refl;
+  tick = omega arith;
+}
+
+pub meaning_is_sound : (bytes : List ℕ) (told : Context) → Accepts (words_of bytes) told → IsSound (meaning told)
+meaning_is_sound bytes told accepted =
+    let clean : IsClean told = subst IsClean accepted.tells (clean_items nothing_told accepted.items clean_start (ap (list_all is_run_text) (sym accepted.spelled) ∙ texts_are_runs true 1 bytes) accepted.allowed) in
+    let declared = All-filter (λ d. not (is_skipped d)) IsCleanDeclaration told.declared clean.declared in
+    let agree = All-filter (λ d. not (is_skipped d)) (Agrees told) told.declared clean.agree in
+    let keeps = filter_passes (λ d. not (is_skipped d)) told.declared in
+    record {
+      header = clean.header;
+      timescale = clean.timescale;
+      end = clean.tick;
+      few = subst (λ n. n ≤ SIGNAL_LIMIT) (sym (length-map (kept told.declared) (declared_signal told.records told.tick))) clean.few;
+      signals = All-map (IsSoundSignal told.tick) (declared_signal told.records told.tick) (kept told.declared)
+          (λ k d within. sound_signal told _ clean (declared k d within) (agree k d within) (not-true _ (keeps k d within)));
+    }

@@ -1,0 +1,66 @@
+-- The timescale of a sound capture is read back.
+use Rattle.std.proofs.Common.{◌≡◌, ◌⊎◌, ◌==◌, ◌||◌, ◌++◌, ◌<◌, ◌^◌, ℕ, List, true, [], ◌∷◌, Some, inl, inr, refl, sym, ap, subst, ◌∙◌, arith, decimal, append-nil}
+use Rattle.std.specs.Prelude.{find, bytes_eq}
+use Rattle.std.specs.Fmt.{digits}
+use Rattle.std.proofs.lemmas.Bool.{or_cases, eqb-true}
+use Rattle.vcd_core.specs.declared.capture.Timescale.{Timescale}
+use Rattle.vcd_core.specs.declared.capture.TimeUnit.{TimeUnit}
+use Rattle.vcd_core.specs.declared.capture.TimeUnit.TheVariants.{Second, Millisecond, Microsecond, Nanosecond, Picosecond, Femtosecond}
+use Rattle.vcd_core.specs.Sound.{is_sound_timescale}
+use Rattle.vcd_text.specs.Items.{unit_text, timescales, timescale_of}
+
+-- how many of a unit a tick may be (IEEE 1364-2005, 18.2)
+abbrev pub IsCount : ℕ → Type 0
+IsCount n = (n ≡ 1) ⊎ ((n ≡ 10) ⊎ (n ≡ 100))
+
+pub sound_count : (t : Timescale) → is_sound_timescale t ≡ true → IsCount t.count
+sound_count t sound = elim (or_cases (t.count == 1 || t.count == 10) (t.count == 100) sound) [
+  | inl few ↦ elim (or_cases (t.count == 1) (t.count == 10) few) [ inl one ↦ inl (eqb-true t.count 1 one) | inr ten ↦ inr (inl (eqb-true t.count 10 ten)) ]
+  | inr hundred ↦ inr (inr (eqb-true t.count 100 hundred))
+]
+
+pub count_small : (n : ℕ) → IsCount n → n < 2 ^ 64
+count_small n (inl e) = omega arith
+count_small n (inr (inl e)) = omega arith
+count_small n (inr (inr e)) = omega arith
+
+-- the timescale that a text spells
+abbrev found_in : List ℕ → Timescale → Type 0
+found_in text t = find (λ s. bytes_eq text (decimal s.count ++ unit_text s.unit)) timescales ≡ Some t
+
+one : (unit : TimeUnit) → found_in (decimal 1 ++ unit_text unit) (record { count = 1; unit = unit })
+unfolding digits
+one Second = refl
+one Millisecond = refl
+one Microsecond = refl
+one Nanosecond = refl
+one Picosecond = refl
+one Femtosecond = refl
+
+ten : (unit : TimeUnit) → found_in (decimal 10 ++ unit_text unit) (record { count = 10; unit = unit })
+unfolding digits
+ten Second = refl
+ten Millisecond = refl
+ten Microsecond = refl
+ten Nanosecond = refl
+ten Picosecond = refl
+ten Femtosecond = refl
+
+hundred : (unit : TimeUnit) → found_in (decimal 100 ++ unit_text unit) (record { count = 100; unit = unit })
+unfolding digits
+hundred Second = refl
+hundred Millisecond = refl
+hundred Microsecond = refl
+hundred Nanosecond = refl
+hundred Picosecond = refl
+hundred Femtosecond = refl
+
+counted : (n : ℕ) (unit : TimeUnit) → IsCount n → found_in (decimal n ++ unit_text unit) (record { count = n; unit = unit })
+counted n unit (inl e) = subst (λ m. found_in (decimal m ++ unit_text unit) (record { count = m; unit = unit })) (sym e) (one unit)
+counted n unit (inr (inl e)) = subst (λ m. found_in (decimal m ++ unit_text unit) (record { count = m; unit = unit })) (sym e) (ten unit)
+counted n unit (inr (inr e)) = subst (λ m. found_in (decimal m ++ unit_text unit) (record { count = m; unit = unit })) (sym e) (hundred unit)
+
+-- its number and its unit, as two words, are read as it
+pub timescale_read : (t : Timescale) → is_sound_timescale t ≡ true → timescale_of (decimal t.count ∷ unit_text t.unit ∷ []) ≡ Some t
+timescale_read t sound =
+    subst (λ text. found_in text t) (ap (λ l. decimal t.count ++ l) (sym (append-nil (unit_text t.unit)))) (counted t.count t.unit (sound_count t sound))

@@ -1,0 +1,139 @@
+-- One more word, from the first word of the file on.
+use Rattle.std.specs.Prelude.{Bool, true, false, IsTrue, IsFalse, codes, ◌==◌, ◌&&◌, not}
+use Rattle.std.proofs.Common.{◌≡◌, ◌⊎◌, inl, inr, cond, List, [], ◌∷◌, ◌++◌, map, refl, sym, ap, subst, ◌∙◌, append_assoc}
+use Rattle.std.proofs.lemmas.List.{append-nil, map-append}
+use Rattle.std.proofs.lemmas.Bool.{and_parts, eqb-true, false≢true}
+use Rattle.std.specs.Prelude.{ℕ}
+use Rattle.vcd_text.specs.declared.fault.Fault.{Fault}
+use Rattle.vcd_text.specs.Words.{Word}
+use Rattle.vcd_text.specs.Letters.{is_among}
+use Rattle.vcd_text.specs.Items.{Item, spelling, spellings, is_other, begins_declaration, is_one_of, declaring_words, dump_words, vector_letters}
+use Rattle.vcd_text.specs.Grammar.{Context, Allows, AllowsAll, after, after_item, nothing_told, texts}
+use Rattle.vcd_text.specs.Faults.{Decided, among_declarations, among_changes, ChangeFault, no_tick, tick_goes_back, letter_alone, letter_of_none, pair_of_none, no_value, value_too_long, declaration_late, no_change, pair_letters, Refuses, line_of}
+use Rattle.vcd_text.specs.Inside.{shown_line}
+use Rattle.vcd_text.specs.Reading.{Reads, TakesWord, goes_on, ends_item, Agrees, IsBegun, lacks_memory, error_at}
+use Rattle.vcd_text.specs.Refusals.{out_of_memory}
+use Rattle.vcd_text.specs.declared.fault.Fault.TheVariants.{NoMemory}
+use Rattle.vcd_text.specs.declared.reading.machine.OpenItem.{OpenItem}
+use Rattle.vcd_text.specs.declared.reading.machine.OpenItem.TheVariants as items
+use Rattle.vcd_text.specs.declared.reading.machine.Machine.{Machine}
+
+allowed_more : (c : Context) (is : List Item) (i : Item) → AllowsAll c is → Allows (after c is) i → AllowsAll c (is ++ i ∷ [])
+allowed_more c [] i all here = (here, tt)
+allowed_more c (j ∷ is) i (first, rest) here = (first, allowed_more (after_item c j) is i rest here)
+
+after_more : (c : Context) (is : List Item) (i : Item) → after c (is ++ i ∷ []) ≡ after_item (after c is) i
+after_more c [] i = refl
+after_more c (j ∷ is) i = after_more (after_item c j) is i
+
+spelled_more : (is : List Item) (i : Item) → spellings (is ++ i ∷ []) ≡ spellings is ++ spelling i
+spelled_more [] i = append-nil (spelling i)
+spelled_more (j ∷ is) i = ap (λ ws. spelling j ++ ws) (spelled_more is i) ∙ sym (append_assoc (spelling j) (spellings is) (spelling i))
+
+-- the word goes on with the open item, or ends it
+pub one_taken : (old new : Machine) (words : List Word) (w : Word) (r : Reads old words) → TakesWord r.told (r.begun ++ w ∷ []) new → Reads new (words ++ w ∷ [])
+one_taken old new words w r (goes_on at) = record {
+  items = r.items;
+  whole = r.whole;
+  begun = r.begun ++ w ∷ [];
+  told = r.told;
+  parts = ap (λ ws. ws ++ w ∷ []) r.parts ∙ append_assoc r.whole r.begun (w ∷ []);
+  spelled = r.spelled;
+  allowed = r.allowed;
+  tells = r.tells;
+  at = at;
+}
+one_taken old new words w r (ends_item i spelled allows at) = record {
+  items = r.items ++ i ∷ [];
+  whole = words ++ w ∷ [];
+  begun = [];
+  told = after_item r.told i;
+  parts = sym (append-nil (words ++ w ∷ []));
+  spelled =
+      ap texts (ap (λ ws. ws ++ w ∷ []) r.parts ∙ append_assoc r.whole r.begun (w ∷ []))
+      ∙ map-append (λ (v : Word). v.text) r.whole (r.begun ++ w ∷ [])
+      ∙ ap (λ ws. ws ++ texts (r.begun ++ w ∷ [])) r.spelled
+      ∙ ap (λ ws. spellings r.items ++ ws) (sym spelled)
+      ∙ sym (spelled_more r.items i);
+  allowed = allowed_more nothing_told r.items i r.allowed (subst (λ c. Allows c i) (sym r.tells) allows);
+  tells = after_more nothing_told r.items i ∙ ap (λ c. after_item c i) r.tells;
+  at = at;
+}
+
+-- the word shows a fault, whatever follows it
+pub one_refused : (old : Machine) (words more : List Word) (w : Word) (r : Reads old words) (line : ℕ) (fault : Fault) → Decided r.told (texts r.begun) w.text fault
+    → line ≡ line_of r.told.changing r.begun w → Refuses (words ++ w ∷ more) line fault
+one_refused old words more w r line fault decided at = record {
+  items = r.items;
+  whole = r.whole;
+  begun = r.begun;
+  word = w;
+  more = more;
+  parts = ap (λ ws. ws ++ w ∷ more) r.parts ∙ append_assoc r.whole r.begun (w ∷ more);
+  spelled = r.spelled;
+  allowed = r.allowed;
+  decided = subst (λ c. Decided c (texts r.begun) w.text fault) (sym r.tells) decided;
+  at = at ∙ ap (λ c. line_of c.changing r.begun w) (sym r.tells);
+}
+
+-- ---- lines
+
+-- a word that begins another command begins no change of two words
+no_pair : (letters : List ℕ) (changing : Bool) (keyword : List ℕ) (words : List (List ℕ)) (first : ℕ) (text : List ℕ) → is_among letters 36 ≡ false
+    → IsTrue (is_other changing keyword) → keyword ∷ words ≡ (first ∷ text) ∷ [] → IsTrue (is_among letters first) → ⊥
+no_pair letters changing [] words first text none is same among = absurd (cc)
+no_pair letters changing (b ∷ bs) words first text none is same among =
+    let p = and_parts (begins_declaration (b ∷ bs) && not (is_one_of declaring_words (b ∷ bs))) _ is in
+    let q = and_parts (begins_declaration (b ∷ bs)) (not (is_one_of declaring_words (b ∷ bs))) p.0 in
+    let r = and_parts (b == 36) (not (is_one_of dump_words (b ∷ bs))) q.0 in
+    let first_is : b ≡ first = cc in
+    false≢true (sym none ∙ ap (is_among letters) (sym (eqb-true b 36 r.0) ∙ first_is) ∙ among)
+
+-- behind another command no word shows a fault
+passed_over : (c : Context) (keyword : List ℕ) (words : List (List ℕ)) (word : List ℕ) (fault : Fault) → IsTrue (is_other c.changing keyword) → ChangeFault c (keyword ∷ words) word fault → ⊥
+passed_over c keyword words word fault is (no_tick digits begun p q r) = absurd (cc)
+passed_over c keyword words word fault is (tick_goes_back digits begun p q r s) = absurd (cc)
+passed_over c keyword words word fault is (letter_alone letter begun p q r) = absurd (cc)
+passed_over c keyword words word fault is (letter_of_none letter code begun p q r s t) = absurd (cc)
+passed_over c keyword words word fault is (pair_of_none first text begun among p q) = no_pair pair_letters c.changing keyword words first text refl is begun among
+passed_over c keyword words word fault is (no_value first digits d begun among p q r s) = no_pair vector_letters c.changing keyword words first digits refl is begun among
+passed_over c keyword words word fault is (value_too_long first digits d begun among p q r s t) = no_pair vector_letters c.changing keyword words first digits refl is begun among
+passed_over c keyword words word fault is (declaration_late begun p q) = absurd (cc)
+passed_over c keyword words word fault is (no_change first text begun p q r s) = absurd (cc)
+
+line_of_first : (changing : Bool) (w : Word) → w.line ≡ line_of changing [] w
+line_of_first false w = refl
+line_of_first true w = refl
+
+declaring : (m : Machine) (c : Context) (begun : List Word) (w : Word) → Agrees m c → IsFalse m.changing → w.line ≡ line_of c.changing begun w
+declaring m c begun w agrees none = sym (ap (λ b. line_of b begun w) (sym agrees.changing ∙ none))
+
+-- the line that is shown is that of the definition
+pub line_shown : (m : Machine) (c : Context) (begun : List Word) (w : Word) (fault : Fault) (item : OpenItem) → Agrees m c → IsBegun m begun item → Decided c (texts begun) w.text fault
+    → shown_line item m.line w.line ≡ line_of c.changing begun w
+line_shown m c begun w fault items.Nothing agrees none decided = line_of_first c.changing w ∙ ap (λ ws. line_of c.changing ws w) (sym none)
+line_shown m c begun w fault (items.Entry kind) agrees is decided = declaring m c begun w agrees is.declares
+line_shown m c begun w fault items.Timescale agrees is decided = declaring m c begun w agrees is.declares
+line_shown m c begun w fault items.Scope agrees is decided = declaring m c begun w agrees is.declares
+line_shown m c begun w fault items.Upscope agrees is decided = declaring m c begun w agrees is.0
+line_shown m c begun w fault items.Variable agrees is decided = declaring m c begun w agrees is.0.declares
+line_shown m c begun w fault items.EndDefinitions agrees is decided = declaring m c begun w agrees is.0
+line_shown m c begun w fault items.Other agrees is (among_declarations none shows) = sym (ap (λ b. line_of b begun w) none)
+line_shown m c begun w fault items.Other agrees is (among_changes all shows) =
+    absurd (passed_over c is.keyword is.words w.text fault (subst (λ b. IsTrue (is_other b is.keyword)) agrees.changing is.other) (subst (λ ws. ChangeFault c ws w.text fault) is.spelled shows))
+line_shown m c begun w fault items.Vector agrees is decided = is.line ∙ sym ((λ i. line_of (sym agrees.changing i) (is.is i) w) ∙ ap (λ b. line_of b (is.word ∷ []) w) is.changes)
+line_shown m c begun w fault items.Dropped agrees (text, is) decided = is.line ∙ sym ((λ i. line_of (sym agrees.changing i) (is.is i) w) ∙ ap (λ b. line_of b (is.word ∷ []) w) is.changes)
+
+-- the fault of a word is that of the definition, with its line, whatever follows
+pub one_shown : (old : Machine) (words more : List Word) (w : Word) (r : Reads old words) (fault : Fault) → (fault ≡ NoMemory) ⊎ Decided r.told (texts r.begun) w.text fault
+    → (error_at (shown_line old.item old.line w.line) fault ≡ out_of_memory) ⊎ Refuses (words ++ w ∷ more) (error_at (shown_line old.item old.line w.line) fault).line (error_at (shown_line old.item old.line w.line) fault).fault
+one_shown old words more w r fault (inl none) = inl (ap (error_at (shown_line old.item old.line w.line)) none)
+one_shown old words more w r fault (inr decided) =
+    let line : ℕ = shown_line old.item old.line w.line in
+    by_test (λ b. (cond b out_of_memory (record { line = line; fault = fault }) ≡ out_of_memory)
+    ⊎ Refuses (words ++ w ∷ more) (cond b out_of_memory (record { line = line; fault = fault })).line (cond b out_of_memory (record { line = line; fault = fault })).fault)
+    (lacks_memory fault) (inl refl) (inr (one_refused old words more w r line fault decided (line_shown old r.told r.begun w fault old.item r.at.0 r.at.1 decided)))
+  where
+    by_test : (P : Bool → Type 0) (b : Bool) → P true → P false → P b
+    by_test P true t f = t
+    by_test P false t f = f

@@ -1,0 +1,31 @@
+-- The text of a sound capture is read back as the capture.
+use Rattle.std.proofs.Common.{◌++◌, refl, sym, subst}
+use Rattle.vcd_core.specs.Contents.{Contents}
+use Rattle.vcd_core.specs.Sound.{IsSound}
+use Rattle.vcd_text.specs.Grammar.{nothing_told}
+use Rattle.vcd_text.specs.Meaning.{FileMeans}
+use Rattle.vcd_text.specs.Text.{end_items, first_items, items_of, text, tick_items}
+use Rattle.vcd_text.proofs.DeclaredSignals.{declared_context}
+use Rattle.vcd_text.proofs.SpelledItems.{words_of_text}
+use Rattle.vcd_text.proofs.ItemsInTurn.{Leads, leads_both}
+use Rattle.vcd_text.proofs.TextChanges.{changes_lead, records_of, told_at}
+use Rattle.vcd_text.proofs.TextDeclarations.{declaration_items, declarations_lead, items_in_two}
+use Rattle.vcd_text.proofs.TextMeaning.{text_means, text_skips_nothing}
+
+-- the items of a sound capture's text are allowed in turn, and leave the records of its signals
+items_lead : (c : Contents) → IsSound c → Leads nothing_told (items_of c) (told_at c (records_of c) c.end)
+items_lead c sound =
+    subst (λ items. Leads nothing_told items (told_at c (records_of c) c.end)) (sym (items_in_two c))
+    (leads_both nothing_told (declared_context c) (told_at c (records_of c) c.end) (declaration_items c) (first_items c.signals ++ tick_items c.signals 1 c.end ++ end_items c.signals c.end)
+    (declarations_lead c sound) (changes_lead c sound))
+
+-- the text means the capture
+pub read_back : (c : Contents) → IsSound c → FileMeans (text c) c 0
+read_back c sound =
+    let all = items_lead c sound in
+    record {
+      told = told_at c (records_of c) c.end;
+      accepted = record { items = items_of c; spelled = words_of_text c sound; allowed = all.allowed; tells = all.tells; declared = refl };
+      means = text_means c sound;
+      left_out = text_skips_nothing c sound;
+    }

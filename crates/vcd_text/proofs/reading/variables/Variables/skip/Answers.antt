@@ -1,0 +1,30 @@
+use Rattle.std.proofs.Common.{◌∙◌, ap, sym, inl, inr, ◌+◌, if◌then◌else◌, Some, List, ℕ}
+use Rattle.std.specs.Prelude.{bytes_eq}
+use Rattle.vcd_text.specs.Variables.{owner_of}
+use Rattle.vcd_text.specs.declared.reading.variables.Owner.TheVariants.{Skipped}
+use Rattle.vcd_text.specs.declared.reading.variables.Variables.{Variables}
+use Rattle.vcd_text.proofs.DeclaredVariables.{puts_same, skip_declares}
+use Rattle.vcd_text.proofs.reading.variables.Variables.skip.Goals.{in-None+in_ok-own-in-None, in-Some-Skipped}
+use Rattle.vcd_text.proofs.reading.variables.Variables.skip.Goals as goal
+
+pub returns : goal.returns
+returns c = λ told d k coded skipped.
+    let old = c.args.self.now in
+    let now = c.match-owner.self in
+    let new : Variables = record { kept = now.kept; owners = now.owners; skipped = now.skipped + 1 } in
+    let stood = ap (owner_of old) coded ∙ sym c.owner.ensures in
+    elim c.match-owner.branch [
+      | in-None+in_ok-own-in-None w ↦
+          skip_declares old new told d k
+          (ap (λ (vs : Variables). vs.kept.items) w.self-is ∙ ap (λ kept. kept.items) w.own.ensures.kept) skipped
+          (inl (stood ∙ w.in-None.is))
+          (λ key.
+          ap (λ vs. owner_of vs key) w.self-is ∙ w.in_ok-own-in-None.ensures.owners key
+          ∙ ap (λ (code : List ℕ). if bytes_eq key code then Some Skipped else owner_of old key) (sym coded))
+          (ap (λ (vs : Variables). vs.skipped + 1) w.self-is ∙ ap (λ n. n + 1) w.own.ensures.skipped) tt
+      | in-Some-Skipped w ↦
+          let had = stood ∙ w.in-Some-Skipped.is ∙ ap Some w.in-Some-Skipped.field-0-is in
+          skip_declares old new told d k (ap (λ (vs : Variables). vs.kept.items) w.self-is) skipped (inr had)
+          (puts_same old new d.code Skipped (ap (λ (vs : Variables). vs.owners) w.self-is) had)
+          (ap (λ (vs : Variables). vs.skipped + 1) w.self-is) tt
+    ]

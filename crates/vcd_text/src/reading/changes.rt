@@ -1,0 +1,189 @@
+//! The words of changes: stamps, values, brackets of dumps, and commands that are passed over.
+//!
+//! A change takes one look-up of its code and one push. Only the digits of a change of several bits are
+//! kept till its code comes, in room that stays.
+
+ghost use Rattle.std.specs.Prelude.{◌≡◌, ◌<◌, ◌∷◌, ℕ, List, true, false, length, Ok, codes};
+ghost use Rattle.vcd_text.specs.Words.{word};
+ghost use Rattle.vcd_text.specs.Letters.{is_among, is_letter as letter_test};
+ghost use Rattle.vcd_text.specs.Items.{is_command, is_one_of, dump_words, declaring_words, vector_letters, dropped_letters};
+ghost use Rattle.vcd_text.specs.Reading.{IsReading, Moves};
+ghost use Rattle.vcd_text.specs.declared.reading.machine.OpenItem.TheVariants as items;
+
+use crate::fault::Fault;
+use crate::reading::decimal::tick_of;
+use crate::reading::letters::is_letter;
+use crate::reading::machine::{Machine, OpenItem};
+
+impl Machine {
+    /// Takes a word between two changes, which stands on this line. By its first letter it is a stamp, a
+    /// command, or the first word of a change of a value; any other word is `BadChange`.
+    pub fn begin_change(&mut self, text: &[u8], line: u64) -> Result<(), Fault>
+        requires between { self.old.item ≡ items.Nothing }
+        requires changing { self.old.changing ≡ true }
+        requires reading { IsReading self.old }
+        requires word { 0 < length text.now }
+        ensures { Moves self.old (word text.now line) result self.new }
+    {
+        match text {
+            [b'#', digits @ ..] => self.stamp(digits),
+            [b'$', ..] => self.begin_command(text),
+            [first, rest @ ..] => self.begin_value(*first, rest, line),
+            [] => Err(Fault::BadChange),
+        }
+    }
+
+    /// Goes on to the tick of a stamp, `#` and these digits: `BadTime` where they write no tick,
+    /// `TimeBackwards` where it is below the one before.
+    fn stamp(&mut self, digits: &[u8]) -> Result<(), Fault>
+        requires between { self.old.item ≡ items.Nothing }
+        requires changing { self.old.changing ≡ true }
+        ensures { (line : ℕ) → Moves self.old (word (35 ∷ digits.now) line) result self.new }
+    {
+        let Some(tick) = tick_of(digits) else {
+            return Err(Fault::BadTime);
+        };
+        if tick < self.tick {
+            return Err(Fault::TimeBackwards);
+        }
+        self.tick = tick;
+        Ok(())
+    }
+
+    /// Takes a bracket of a dump, or begins a command that is passed over; a word of the declarations is
+    /// `UnexpectedWord`.
+    fn begin_command(&mut self, text: &[u8]) -> Result<(), Fault>
+        requires between { self.old.item ≡ items.Nothing }
+        requires changing { self.old.changing ≡ true }
+        requires command { is_command text.now ≡ true }
+        ensures { (line : ℕ) → Moves self.old (word text.now line) result self.new }
+    {
+        if is_bracket(text) {
+            return Ok(());
+        }
+        if is_declaring(text) {
+            return Err(Fault::UnexpectedWord);
+        }
+        self.item = OpenItem::Other;
+        Ok(())
+    }
+
+    /// Takes the first word of a change of a value: this letter, and the rest.
+    fn begin_value(&mut self, first: u8, rest: &[u8], line: u64) -> Result<(), Fault>
+        requires between { self.old.item ≡ items.Nothing }
+        requires changing { self.old.changing ≡ true }
+        requires reading { IsReading self.old }
+        requires value { is_among (codes "#$") first ≡ false }
+        ensures { Moves self.old (word (first ∷ rest.now) line) result self.new }
+    {
+        if is_letter(first) {
+            self.set_bit(first, rest)
+        } else if is_vector_letter(first) {
+            self.begin_vector(rest, line)
+        } else if is_dropped_letter(first) {
+            self.begin_dropped(line);
+            Ok(())
+        } else {
+            Err(Fault::BadChange)
+        }
+    }
+
+    /// Sets a code to the value that a letter stands for: `BadChange` where there is no code, `UnknownCode`
+    /// where it was not declared.
+    fn set_bit(&mut self, letter: u8, code: &[u8]) -> Result<(), Fault>
+        requires between { self.old.item ≡ items.Nothing }
+        requires changing { self.old.changing ≡ true }
+        requires reading { IsReading self.old }
+        requires letter { letter_test letter ≡ true }
+        ensures { (line : ℕ) → Moves self.old (word (letter ∷ code.now) line) result self.new }
+    {
+        if code.is_empty() {
+            return Err(Fault::BadChange);
+        }
+        let digits = [letter];
+        self.variables.change(code, self.tick, digits.as_slice())
+    }
+
+    /// Begins a change of several bits, and keeps its digits.
+    fn begin_vector(&mut self, digits: &[u8], line: u64) -> Result<(), Fault>
+        requires between { self.old.item ≡ items.Nothing }
+        requires changing { self.old.changing ≡ true }
+        ensures { (first : ℕ) → is_among vector_letters first ≡ true → Moves self.old (word (first ∷ digits.now) line) result self.new }
+    {
+        self.text.clear();
+        self.text.extend_from_slice(digits)?;
+        self.item = OpenItem::Vector;
+        self.line = line;
+        Ok(())
+    }
+
+    /// Begins a change of a real number or a string.
+    fn begin_dropped(&mut self, line: u64)
+        requires between { self.old.item ≡ items.Nothing }
+        requires changing { self.old.changing ≡ true }
+        ensures { (first : ℕ) (text : List ℕ) → is_among dropped_letters first ≡ true → Moves self.old (word (first ∷ text) line) (Ok result) self.new }
+    {
+        self.item = OpenItem::Dropped;
+        self.line = line;
+    }
+
+    /// Takes the code of a change of several bits, and sets it to the digits: `UnknownCode` where it was not
+    /// declared, `BadChange` where they are no value, `ValueTooLong` where they are too many.
+    pub fn end_vector(&mut self, code: &[u8]) -> Result<(), Fault>
+        requires item { self.old.item ≡ items.Vector }
+        requires reading { IsReading self.old }
+        ensures { (line : ℕ) → Moves self.old (word code.now line) result self.new }
+    {
+        self.item = OpenItem::Nothing;
+        self.variables.change(code, self.tick, self.text.as_slice())
+    }
+
+    /// Takes the code of a change of a real number or a string, which sets nothing: `UnknownCode` where it
+    /// was not declared.
+    pub fn end_dropped(&mut self, code: &[u8]) -> Result<(), Fault>
+        requires item { self.old.item ≡ items.Dropped }
+        ensures { (line : ℕ) → Moves self.old (word code.now line) result self.new }
+    {
+        if !self.variables.has_code(code) {
+            return Err(Fault::UnknownCode);
+        }
+        self.item = OpenItem::Nothing;
+        Ok(())
+    }
+}
+
+/// Whether a change of several bits begins with this letter.
+fn is_vector_letter(letter: u8) -> bool
+    ensures { result ≡ is_among vector_letters letter }
+{
+    letter == b'b' || letter == b'B'
+}
+
+/// Whether a change of a real number or a string begins with this letter.
+fn is_dropped_letter(letter: u8) -> bool
+    ensures { result ≡ is_among dropped_letters letter }
+{
+    letter == b'r' || letter == b'R' || letter == b's' || letter == b'S'
+}
+
+/// Whether a word is one of a dump's brackets.
+fn is_bracket(text: &[u8]) -> bool
+    ensures { result ≡ is_one_of dump_words text.now }
+{
+    text == b"$dumpall".as_slice()
+        || text == b"$dumpoff".as_slice()
+        || text == b"$dumpon".as_slice()
+        || text == b"$dumpvars".as_slice()
+        || text == b"$end".as_slice()
+}
+
+/// Whether a word may stand among the declarations alone.
+fn is_declaring(text: &[u8]) -> bool
+    ensures { result ≡ is_one_of declaring_words text.now }
+{
+    text == b"$scope".as_slice()
+        || text == b"$upscope".as_slice()
+        || text == b"$var".as_slice()
+        || text == b"$timescale".as_slice()
+        || text == b"$enddefinitions".as_slice()
+}

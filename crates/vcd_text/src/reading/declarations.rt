@@ -1,0 +1,244 @@
+//! The words of declarations, and those of commands that are passed over.
+
+ghost use Rattle.std.specs.Prelude.{◌≡◌, ◌∷◌, ◌++◌, ℕ, [], true, false, IsFalse, MatchOption, OnOk};
+ghost use Rattle.vcd_text.specs.Words.{word};
+ghost use Rattle.vcd_text.specs.Items.{end_word, is_end, is_one_of, is_command, dump_words, declaring_words, header_words, begins_declaration};
+ghost use Rattle.vcd_text.specs.Reading.{IsReading, Moves};
+ghost use Rattle.vcd_text.specs.Inside.{is_inside};
+ghost use Rattle.vcd_text.specs.Opening.{Opens, keeps_words};
+ghost use Rattle.vcd_text.specs.declared.reading.machine.OpenItem.TheVariants as items;
+
+use crate::fault::Fault;
+use crate::reading::copies::copy_word;
+use crate::reading::decimal::size_of;
+use crate::reading::machine::{Machine, OpenItem};
+use crate::reading::timescale::timescale_in;
+use std::alloc::Global;
+use std::mem::replace;
+use vcd_core::{Header, HeaderKind, NoMemory, ScopeName, Seq, Word};
+
+impl Machine {
+    /// Begins a declaration, or a command that is passed over.
+    ///
+    /// `UpscopeAtTop` for `$upscope` where no scope is open; `UnexpectedWord` for a word that begins no declaration.
+    pub fn begin_declaration(&mut self, text: &[u8]) -> Result<(), Fault>
+        requires between { self.old.item ≡ items.Nothing }
+        requires declaring { self.old.changing ≡ false }
+        ensures { (line : ℕ) → Moves self.old (word text.now line) result self.new }
+    {
+        let Some(item) = opened_by(text) else {
+            return Err(Fault::UnexpectedWord);
+        };
+        if item == OpenItem::Upscope && self.scopes.is_empty() {
+            return Err(Fault::UpscopeAtTop);
+        }
+        self.item = item;
+        self.words.clear();
+        Ok(())
+    }
+
+    /// Takes a word of the item that is open, other than `$end`.
+    ///
+    /// `UnexpectedWord` behind `$upscope` and `$enddefinitions`; `BadVar` for a size that is no decimal number.
+    pub fn go_on(&mut self, alloc: Global, text: &[u8]) -> Result<(), Fault>
+        requires inside { is_inside self.old.item ≡ true }
+        requires word { is_end text.now ≡ false }
+        ensures { (line : ℕ) → Moves self.old (word text.now line) result self.new }
+    {
+        match self.item {
+            OpenItem::Upscope | OpenItem::EndDefinitions => Err(Fault::UnexpectedWord),
+            OpenItem::Other => Ok(()),
+            OpenItem::Variable => self.go_on_variable(alloc, text),
+            _ => self.keep_word(alloc, text),
+        }
+    }
+
+    /// Keeps a word of a header entry, a timescale or a scope.
+    fn keep_word(&mut self, alloc: Global, text: &[u8]) -> Result<(), Fault>
+        requires keeps { keeps_words self.old.item ≡ true }
+        requires word { is_end text.now ≡ false }
+        ensures { (line : ℕ) → Moves self.old (word text.now line) result self.new }
+    {
+        push_copy(alloc, &mut self.words, text)?;
+        Ok(())
+    }
+
+    /// Keeps a word of a variable. The second is its size.
+    fn go_on_variable(&mut self, alloc: Global, text: &[u8]) -> Result<(), Fault>
+        requires item { self.old.item ≡ items.Variable }
+        requires word { is_end text.now ≡ false }
+        ensures { (line : ℕ) → Moves self.old (word text.now line) result self.new }
+    {
+        if self.words.len() == 1 && size_of(text).is_none() {
+            return Err(Fault::BadVar);
+        }
+        push_copy(alloc, &mut self.words, text)?;
+        Ok(())
+    }
+
+    /// Takes the `$end` of the item that is open. The words that it keeps are moved, and not copied.
+    ///
+    /// `BadTimescale` for words that spell no timescale, `BadScope` for a scope without a kind, and for a
+    /// variable what `Variables::declare` answers.
+    pub fn close(&mut self, alloc: Global) -> Result<(), Fault>
+        requires inside { is_inside self.old.item ≡ true }
+        requires reading { IsReading self.old }
+        ensures { (line : ℕ) → Moves self.old (word end_word line) result self.new }
+    {
+        match self.item {
+            OpenItem::Entry(kind) => self.close_entry(alloc, kind),
+            OpenItem::Timescale => self.close_timescale(alloc),
+            OpenItem::Scope => self.close_scope(alloc),
+            OpenItem::Upscope => self.close_upscope(),
+            OpenItem::Variable => self.close_variable(alloc),
+            OpenItem::EndDefinitions => self.close_definitions(),
+            _ => self.close_other(),
+        }
+    }
+
+    fn close_entry(&mut self, alloc: Global, kind: HeaderKind) -> Result<(), Fault>
+        requires { self.old.item ≡ items.Entry kind }
+        ensures { (line : ℕ) → Moves self.old (word end_word line) result self.new }
+    {
+        let words = take_words(alloc, &mut self.words);
+        self.header.push(Header { kind, words })?;
+        self.item = OpenItem::Nothing;
+        Ok(())
+    }
+
+    /// The last of several timescales counts.
+    fn close_timescale(&mut self, alloc: Global) -> Result<(), Fault>
+        requires { self.old.item ≡ items.Timescale }
+        ensures { (line : ℕ) → Moves self.old (word end_word line) result self.new }
+    {
+        match timescale_in(alloc, &self.words)? {
+            Some(timescale) => {
+                self.timescale = Some(timescale);
+                self.item = OpenItem::Nothing;
+                Ok(())
+            }
+            None => Err(Fault::BadTimescale),
+        }
+    }
+
+    fn close_scope(&mut self, alloc: Global) -> Result<(), Fault>
+        requires { self.old.item ≡ items.Scope }
+        ensures { (line : ℕ) → Moves self.old (word end_word line) result self.new }
+    {
+        if self.words.is_empty() {
+            return Err(Fault::BadScope);
+        }
+        let kind = self.words.remove(0);
+        let words = take_words(alloc, &mut self.words);
+        self.scopes.push(ScopeName { kind, words })?;
+        self.item = OpenItem::Nothing;
+        Ok(())
+    }
+
+    fn close_upscope(&mut self) -> Result<(), Fault>
+        requires { self.old.item ≡ items.Upscope }
+        ensures { (line : ℕ) → Moves self.old (word end_word line) result self.new }
+    {
+        self.scopes.pop();
+        self.item = OpenItem::Nothing;
+        Ok(())
+    }
+
+    fn close_variable(&mut self, alloc: Global) -> Result<(), Fault>
+        requires item { self.old.item ≡ items.Variable }
+        requires reading { IsReading self.old }
+        ensures { (line : ℕ) → Moves self.old (word end_word line) result self.new }
+    {
+        self.variables.declare(alloc, &self.scopes, &self.words)?;
+        self.item = OpenItem::Nothing;
+        Ok(())
+    }
+
+    fn close_definitions(&mut self) -> Result<(), Fault>
+        requires { self.old.item ≡ items.EndDefinitions }
+        ensures { (line : ℕ) → Moves self.old (word end_word line) result self.new }
+    {
+        self.changing = true;
+        self.item = OpenItem::Nothing;
+        Ok(())
+    }
+
+    fn close_other(&mut self) -> Result<(), Fault>
+        requires { self.old.item ≡ items.Other }
+        ensures { (line : ℕ) → Moves self.old (word end_word line) result self.new }
+    {
+        self.item = OpenItem::Nothing;
+        Ok(())
+    }
+}
+
+/// The item that a word opens among the declarations; none where it begins no declaration.
+fn opened_by(text: &[u8]) -> Option<OpenItem>
+    ensures { MatchOption result (IsFalse (begins_declaration text.now)) (λ item. Opens item text.now) }
+{
+    if let Some(item) = declared_by(text) {
+        return Some(item);
+    }
+    if is_dump_word(text) || !is_command(text) {
+        return None;
+    }
+    Some(OpenItem::Other)
+}
+
+/// The item of a keyword that is not passed over.
+fn declared_by(text: &[u8]) -> Option<OpenItem>
+    ensures { MatchOption result (IsFalse (is_one_of (declaring_words ++ header_words) text.now)) (λ item. Opens item text.now) }
+{
+    if text == b"$scope".as_slice() {
+        Some(OpenItem::Scope)
+    } else if text == b"$upscope".as_slice() {
+        Some(OpenItem::Upscope)
+    } else if text == b"$var".as_slice() {
+        Some(OpenItem::Variable)
+    } else if text == b"$timescale".as_slice() {
+        Some(OpenItem::Timescale)
+    } else if text == b"$enddefinitions".as_slice() {
+        Some(OpenItem::EndDefinitions)
+    } else if text == b"$date".as_slice() {
+        Some(OpenItem::Entry(HeaderKind::Date))
+    } else if text == b"$version".as_slice() {
+        Some(OpenItem::Entry(HeaderKind::Version))
+    } else if text == b"$comment".as_slice() {
+        Some(OpenItem::Entry(HeaderKind::Comment))
+    } else {
+        None
+    }
+}
+
+/// Whether a word is a bracket of a dump.
+fn is_dump_word(text: &[u8]) -> bool
+    ensures { result ≡ is_one_of dump_words text.now }
+{
+    text == b"$dumpall".as_slice()
+        || text == b"$dumpoff".as_slice()
+        || text == b"$dumpon".as_slice()
+        || text == b"$dumpvars".as_slice()
+        || text == b"$end".as_slice()
+}
+
+/// Whether a word begins with `$`.
+fn is_command(text: &[u8]) -> bool
+    ensures { result ≡ is_command text.now }
+{
+    matches!(text, [b'$', ..])
+}
+
+/// Adds a copy of a word at the end.
+fn push_copy(alloc: Global, words: &mut Vec<Word>, text: &[u8]) -> Result<(), NoMemory>
+    ensures { OnOk result (words.new.items ≡ words.old.items ++ text.now ∷ []) }
+{
+    words.push(copy_word(alloc, text)?)?;
+    Ok(())
+}
+
+/// The words, which are moved out.
+fn take_words(alloc: Global, words: &mut Vec<Word>) -> Seq<Word>
+    ensures { result ≡ words.old.items }
+{
+    Seq::from_vec(replace(words, Vec::new(alloc)))
+}

@@ -1,0 +1,104 @@
+//! The values that a file writes by letters (IEEE 1364-2005, 18.2).
+
+ghost use Rattle.std.specs.Prelude.{◌≡◌, ◌≤◌, length, unwrap_or, MatchResult};
+ghost use Rattle.std.specs.List.{list_all};
+ghost use Rattle.vcd_core.specs.declared.bit.Bit.TheVariants.{X};
+ghost use Rattle.vcd_text.specs.Letters.{letter_read, is_letter as letter_test, letters_read, pad_letter, ext};
+ghost use Rattle.vcd_text.specs.Grammar.{is_value as value_test};
+ghost use Rattle.vcd_text.specs.Digits.{Writes, Refuses};
+
+use vcd_core::{Bit, Value, WIDTH_LIMIT};
+
+/// Why digits write no value of a width.
+#[derive(Clone, Copy, Debug, PartialEq, Eq)]
+pub enum DigitsError {
+    /// There are none, or one is no value letter.
+    NoValue,
+    /// They are value letters, but more than the width.
+    TooLong,
+}
+
+/// What a value letter stands for; none for any other byte.
+pub fn bit_of(letter: u8) -> Option<Bit>
+    ensures { result ≡ letter_read letter }
+{
+    match letter {
+        b'0' | b'l' | b'L' => Some(Bit::Zero),
+        b'1' | b'h' | b'H' => Some(Bit::One),
+        b'x' | b'X' | b'u' | b'U' | b'w' | b'W' | b'-' => Some(Bit::X),
+        b'z' | b'Z' => Some(Bit::Z),
+        _ => None,
+    }
+}
+
+/// The value of `width` bits that the digits write, extended on the left. It takes a step a digit, and no
+/// memory.
+pub fn value_of(width: u64, digits: &[u8]) -> Result<Value, DigitsError>
+    requires least { 1 ≤ width }
+    requires most { width ≤ WIDTH_LIMIT }
+    ensures { MatchResult result (λ value. Writes width digits.now value) (λ error. Refuses width digits.now error) }
+{
+    if !is_value(digits) {
+        return Err(DigitsError::NoValue);
+    }
+    if digits.len() as u64 > width {
+        return Err(DigitsError::TooLong);
+    }
+    Ok(extended(width, digits))
+}
+
+/// Whether digits are one or more value letters.
+fn is_value(digits: &[u8]) -> bool
+    ensures { result ≡ value_test digits.now }
+{
+    !digits.is_empty() && are_letters(digits)
+}
+
+/// Whether all bytes are value letters.
+fn are_letters(bytes: &[u8]) -> bool
+    ensures { result ≡ list_all letter_test bytes.now }
+{
+    bytes.iter().all(|byte| is_letter(*byte))
+}
+
+/// Whether a byte is a value letter.
+pub fn is_letter(byte: u8) -> bool
+    ensures { result ≡ letter_test byte }
+{
+    bit_of(byte).is_some()
+}
+
+/// The digits as letters, with those that are wanting on the left.
+fn extended(width: u64, digits: &[u8]) -> Value
+    requires least { 1 ≤ width }
+    requires most { width ≤ WIDTH_LIMIT }
+    requires fits { length digits.now ≤ width }
+    ensures { result ≡ ext width (letters_read digits.now) }
+{
+    let mut value = Value::filled(width, pad_of(digits));
+    let mut left = digits.len() as u64;
+    for digit in digits {
+        left -= 1;
+        value = value.with_bit(left, letter_of(*digit));
+    }
+    value
+}
+
+/// The letter that is put on the left of digits.
+fn pad_of(digits: &[u8]) -> Bit
+    ensures { result ≡ pad_letter (letters_read digits.now) }
+{
+    match digits {
+        [first, ..] => match letter_of(*first) {
+            Bit::Zero | Bit::One => Bit::Zero,
+            letter => letter,
+        },
+        [] => Bit::X,
+    }
+}
+
+fn letter_of(digit: u8) -> Bit
+    ensures { result ≡ unwrap_or (letter_read digit) X }
+{
+    bit_of(digit).unwrap_or(Bit::X)
+}

@@ -1,0 +1,326 @@
+//! The variables that a file declares, with their waves so far.
+
+ghost use Rattle.std.specs.Prelude.{◌≡◌, ◌⊎◌, ◌<◌, ◌≤◌, ◌+◌, ◌++◌, ◌^◌, ◌==◌, ◌||◌, nat_lt, ℕ, List, [], ◌∷◌, map, length, slice_get, is_some, false, Some, IsTrue, IsFalse, IfOk, IfErr, OnOk, All, if◌then◌else◌, bytes_eq};
+ghost use Rattle.std.specs.Option.{option_map_or};
+ghost use Rattle.vcd_core.specs.Contents.{signal_contents};
+ghost use Rattle.vcd_core.specs.Wave.{IsWave};
+ghost use Rattle.vcd_core.specs.declared.value.TheConstants.{WIDTH_LIMIT};
+ghost use Rattle.vcd_text.specs.Grammar.{Context, Declaration, variable_of, has_good_size, signal_limit, skipped_kinds, is_skipped};
+ghost use Rattle.vcd_text.specs.Items.{is_one_of};
+ghost use Rattle.vcd_text.specs.Meaning.{meaning};
+ghost use Rattle.vcd_text.specs.Variables.{owner_of, declared_by, Knows, Declares, DeclaresAs, TakesChange, Sets, RefusesDigits, Finishes};
+ghost use Rattle.vcd_text.specs.declared.fault.Fault.TheVariants.{NoMemory as NoMemoryFault, TooManySignals};
+ghost use Rattle.vcd_text.specs.declared.reading.variables.Owner.TheVariants.{Kept as KeptAt};
+
+use crate::fault::Fault;
+use crate::reading::copies::{copy_scopes, copy_word, copy_words};
+use crate::reading::decimal::size_of;
+use crate::reading::letters::{DigitsError, value_of};
+use indexmap::IndexMap;
+use std::alloc::Global;
+use vcd_core::{
+    NoMemory, SIGNAL_LIMIT, ScopeName, ScopePath, Signal, WIDTH_LIMIT, Wave, Word, is_skipped_kind,
+};
+
+/// A variable that is kept: its code, and the signal that it becomes.
+///
+/// Of the variables with one code, the first has the wave so far; the others get copies of it at the end.
+#[derive(Drop)]
+pub struct Variable {
+    pub code: Word,
+    pub signal: Signal,
+    /// The position of the first variable with this code.
+    pub first: usize,
+}
+
+impl Variable {
+    /// Sets the value from `tick` on to that of these digits.
+    fn set(&mut self, tick: u64, digits: &[u8]) -> Result<(), Fault>
+        requires late { All (λ change. change.tick ≤ tick) self.old.signal.wave.changes }
+        ensures sets { OnOk result (Sets tick digits.now self.old self.new) }
+        ensures refuses { IfErr result (λ fault. (fault ≡ NoMemoryFault) ⊎ RefusesDigits self.old.signal.wave.width digits.now fault) }
+    {
+        let value = match value_of(self.signal.wave.width(), digits) {
+            Ok(value) => value,
+            Err(DigitsError::NoValue) => return Err(Fault::BadChange),
+            Err(DigitsError::TooLong) => return Err(Fault::ValueTooLong),
+        };
+        self.signal.wave.push(tick, value)?;
+        Ok(())
+    }
+}
+
+/// What a code stands for.
+#[derive(Clone, Copy, Debug, PartialEq, Eq)]
+pub enum Owner {
+    /// A variable that is skipped.
+    Skipped,
+    /// The variable at this position, the first with the code.
+    Kept(usize),
+}
+
+/// The variables that have been declared.
+#[derive(Drop)]
+pub struct Variables {
+    /// Those that are kept, in the order of the file.
+    pub kept: Vec<Variable>,
+    /// What each code stands for.
+    pub owners: IndexMap<Vec<u8>, Owner>,
+    /// How many are skipped.
+    pub skipped: u64,
+}
+
+impl Variables {
+    /// No variables. It takes no memory.
+    pub fn new(alloc: Global) -> Variables
+        ensures { (c : Context) → c.declared ≡ [] → c.records ≡ [] → Knows result c }
+    {
+        Variables {
+            kept: Vec::new(alloc),
+            owners: IndexMap::new(alloc),
+            skipped: 0,
+        }
+    }
+
+    /// Declares a variable in these scopes, by the words of a `$var` behind the keyword.
+    ///
+    /// It copies the words and the scopes, and looks the code up at most twice.
+    pub fn declare(
+        &mut self,
+        alloc: Global,
+        scopes: &[ScopeName],
+        words: &[Word],
+    ) -> Result<(), Fault>
+        requires size { IsTrue (has_good_size words.now) }
+        requires few { self.old.skipped + 1 < 2 ^ 64 }
+        ensures { (c : Context) → c.scopes ≡ scopes.now → c.records ≡ [] → Knows self.old c → Declares c words.now result self.new }
+    {
+        let [kind, size, code, name @ ..] = words else {
+            return Err(Fault::BadVar);
+        };
+        if name.is_empty() {
+            return Err(Fault::BadVar);
+        }
+        let Some(size) = size_of(size.as_slice()) else {
+            return Err(Fault::BadVar);
+        };
+        if is_left_out(kind.as_slice(), size) {
+            return self.skip(alloc, code.as_slice());
+        }
+        let signal = silent_signal(alloc, scopes, kind, size, name)?;
+        self.keep(alloc, code.as_slice(), signal)
+    }
+
+    /// Declares a variable that is skipped.
+    fn skip(&mut self, alloc: Global, code: &[u8]) -> Result<(), Fault>
+        requires few { self.old.skipped + 1 < 2 ^ 64 }
+        ensures { (c : Context) (d : Declaration) → Knows self.old c → d.code ≡ code.now → IsTrue (is_skipped d) → DeclaresAs c d result self.new }
+    {
+        match self.owner(code) {
+            None => self.own(alloc, code, Owner::Skipped)?,
+            Some(Owner::Skipped) => {}
+            Some(Owner::Kept(_)) => return Err(Fault::MixedCode),
+        }
+        self.skipped += 1;
+        Ok(())
+    }
+
+    /// Declares a variable that is kept.
+    fn keep(&mut self, alloc: Global, code: &[u8], signal: Signal) -> Result<(), Fault>
+        requires silent { signal.wave.changes ≡ [] }
+        ensures { (c : Context) → let d = declared_by code.now signal in Knows self.old c → c.records ≡ [] → IsFalse (is_skipped d) → DeclaresAs c d result self.new }
+    {
+        match self.owner(code) {
+            None => self.keep_first(alloc, code, signal),
+            Some(Owner::Kept(first)) => {
+                if !self.has_width(first, signal.wave.width()) {
+                    return Err(Fault::MixedCode);
+                }
+                self.push(alloc, code, signal, first)
+            }
+            Some(Owner::Skipped) => Err(Fault::MixedCode),
+        }
+    }
+
+    /// Declares the first variable of its code, which is kept.
+    fn keep_first(&mut self, alloc: Global, code: &[u8], signal: Signal) -> Result<(), Fault>
+        ensures few { OnOk result (length self.old.kept.items < signal_limit) }
+        ensures kept { OnOk result (self.new.kept.items ≡ self.old.kept.items ++ record { code = code.now; signal = signal; first = length self.old.kept.items } ∷ []) }
+        ensures owners { OnOk result ((key : List ℕ) → owner_of self.new key ≡ (if bytes_eq key code.now then Some (KeptAt (length self.old.kept.items)) else owner_of self.old key)) }
+        ensures skipped { self.new.skipped ≡ self.old.skipped }
+        ensures refuses { IfErr result (λ fault. (fault ≡ NoMemoryFault) ⊎ ((fault ≡ TooManySignals) × (signal_limit ≤ length self.old.kept.items))) }
+    {
+        let first = self.kept.len();
+        self.push(alloc, code, signal, first)?;
+        self.own(alloc, code, Owner::Kept(first))?;
+        Ok(())
+    }
+
+    /// Keeps a variable, the first of whose code stands at `first`.
+    fn push(
+        &mut self,
+        alloc: Global,
+        code: &[u8],
+        signal: Signal,
+        first: usize,
+    ) -> Result<(), Fault>
+        ensures few { OnOk result (length self.old.kept.items < signal_limit) }
+        ensures kept { OnOk result (self.new.kept.items ≡ self.old.kept.items ++ record { code = code.now; signal = signal; first = first } ∷ []) }
+        ensures owners { self.new.owners ≡ self.old.owners }
+        ensures skipped { self.new.skipped ≡ self.old.skipped }
+        ensures refuses { IfErr result (λ fault. (fault ≡ NoMemoryFault) ⊎ ((fault ≡ TooManySignals) × (signal_limit ≤ length self.old.kept.items))) }
+    {
+        if self.kept.len() >= SIGNAL_LIMIT {
+            return Err(Fault::TooManySignals);
+        }
+        let code = copy_word(alloc, code)?;
+        self.kept.push(Variable {
+            code,
+            signal,
+            first,
+        })?;
+        Ok(())
+    }
+
+    /// Lets a code stand for this.
+    fn own(&mut self, alloc: Global, code: &[u8], owner: Owner) -> Result<(), NoMemory>
+        ensures owners { OnOk result ((key : List ℕ) → owner_of self.new key ≡ (if bytes_eq key code.now then Some owner else owner_of self.old key)) }
+        ensures kept { self.new.kept ≡ self.old.kept }
+        ensures skipped { self.new.skipped ≡ self.old.skipped }
+    {
+        let key = copy_word(alloc, code)?.into_vec();
+        self.owners.insert(key, owner)?;
+        Ok(())
+    }
+
+    /// What a code stands for.
+    fn owner(&self, code: &[u8]) -> Option<Owner>
+        ensures { result ≡ owner_of self.now code.now }
+    {
+        self.owners.get(code).copied()
+    }
+
+    /// Whether a variable stands at this position, of this width.
+    fn has_width(&self, position: usize, width: u64) -> bool
+        ensures { result ≡ option_map_or (λ v. v.signal.wave.width == width) (slice_get self.now.kept.items position) false }
+    {
+        match self.kept.get(position) {
+            Some(variable) => variable.signal.wave.width() == width,
+            None => false,
+        }
+    }
+
+    /// Sets the value of a code from `tick` on to that of these digits, by one look-up and one push. A code
+    /// that is skipped takes any digits.
+    pub fn change(&mut self, code: &[u8], tick: u64, digits: &[u8]) -> Result<(), Fault>
+        requires known { (c : Context) × Knows self.old c × (c.tick ≤ tick) }
+        ensures { (c : Context) → c.tick ≡ tick → Knows self.old c → TakesChange c code.now digits.now result self.new }
+    {
+        match self.owner(code) {
+            None => Err(Fault::UnknownCode),
+            Some(Owner::Skipped) => Ok(()),
+            Some(Owner::Kept(first)) => self.kept[first].set(tick, digits),
+        }
+    }
+
+    /// Whether a code has been declared.
+    pub fn has_code(&self, code: &[u8]) -> bool
+        ensures { (c : Context) → Knows self.now c → result ≡ is_some (variable_of c code.now) }
+    {
+        self.owner(code).is_some()
+    }
+
+    /// The signals that the kept variables have become, in their order.
+    ///
+    /// A signal is moved, but a wave that several variables share is copied for the later ones.
+    pub fn into_signals(self, alloc: Global) -> Result<Vec<Signal>, NoMemory>
+        ensures { IfOk result (λ signals. (c : Context) → Knows self c → map signal_contents signals.items ≡ (meaning c).signals) }
+    {
+        let Variables { kept, .. } = self;
+        let mut signals = Vec::new(alloc);
+        signals.reserve(kept.len())?;
+        for variable in kept {
+            let signal = finished(alloc, variable, signals.as_slice())?;
+            signals.push(signal)?;
+        }
+        Ok(signals)
+    }
+}
+
+/// Whether a variable of this kind and size is skipped.
+fn is_left_out(kind: &[u8], size: u64) -> bool
+    ensures { result ≡ (is_one_of skipped_kinds kind.now || (size == 0 || nat_lt WIDTH_LIMIT size)) }
+{
+    is_skipped_kind(kind) || size == 0 || size > WIDTH_LIMIT
+}
+
+/// A signal of these words that is x throughout.
+fn silent_signal(
+    alloc: Global,
+    scopes: &[ScopeName],
+    kind: &Word,
+    width: u64,
+    name: &[Word],
+) -> Result<Signal, NoMemory>
+    requires least { 1 ≤ width }
+    requires most { width ≤ WIDTH_LIMIT }
+    ensures scopes { IfOk result (λ signal. signal.scopes ≡ scopes.now) }
+    ensures kind { IfOk result (λ signal. signal.kind ≡ kind.now) }
+    ensures words { IfOk result (λ signal. signal.words ≡ name.now) }
+    ensures width { IfOk result (λ signal. signal.wave.width ≡ width) }
+    ensures silent { IfOk result (λ signal. signal.wave.changes ≡ []) }
+{
+    Ok(Signal {
+        scopes: ScopePath::from_vec(copy_scopes(alloc, scopes)?),
+        kind: copy_word(alloc, kind.as_slice())?,
+        words: copy_words(alloc, name)?,
+        wave: Wave::new(alloc, width),
+    })
+}
+
+/// The signal of a variable, behind those of the variables before it.
+fn finished(alloc: Global, variable: Variable, before: &[Signal]) -> Result<Signal, NoMemory>
+    ensures { IfOk result (Finishes variable (slice_get before.now variable.first)) }
+{
+    let Variable { signal, first, .. } = variable;
+    let Some(shared) = before.get(first) else {
+        return Ok(with_form(signal));
+    };
+    let Signal {
+        scopes,
+        kind,
+        words,
+        ..
+    } = signal;
+    Ok(Signal {
+        scopes,
+        kind,
+        words,
+        wave: copy_wave(alloc, &shared.wave)?,
+    })
+}
+
+/// The signal itself, with what its type says of its wave.
+fn with_form(signal: Signal) -> Signal
+    ensures same { result ≡ signal }
+    ensures form { IsWave result.wave.width result.wave.changes }
+{
+    signal.wave.changes();
+    signal
+}
+
+/// A copy of a wave, made at one go.
+fn copy_wave(alloc: Global, wave: &Wave) -> Result<Wave, NoMemory>
+    ensures width { IfOk result (λ copy. copy.width ≡ wave.now.width) }
+    ensures changes { IfOk result (λ copy. copy.changes ≡ wave.now.changes) }
+{
+    let mut copy = Wave::new(alloc, wave.width());
+    let changes = wave.changes();
+    copy.reserve(changes.len())?;
+    for change in changes {
+        copy.push(change.tick, change.value)?;
+    }
+    // What the type says of the copy: two waves of the same values are the same.
+    copy.changes();
+    Ok(copy)
+}

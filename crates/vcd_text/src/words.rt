@@ -1,0 +1,138 @@
+//! The words of a text, one after another.
+
+ghost use Rattle.std.specs.Prelude.{◌≡◌, ◌+◌, ◌<◌, ◌≤◌, ◌^◌, ◌∷◌, [], Bool, true, false, not, length, take, drop, MatchOption, IfSome, IfNone};
+ghost use Rattle.std.specs.List.{list_all};
+ghost use Rattle.vcd_text.specs.Words.{is_space, ends_before as ends_word, word, words_from, words_of, closed_words};
+ghost use Rattle.vcd_text.specs.Spaces.{begins_with_space};
+
+use vcd_core::is_white_space;
+
+/// A word and the line that it stands on, counted from 1.
+#[derive(Clone, Copy)]
+pub struct Placed<'a> {
+    pub text: &'a [u8],
+    pub line: u64,
+}
+
+/// The words of a text that are still to come. Each takes a step a byte, and no memory.
+#[derive(Drop)]
+pub struct Words<'a> {
+    rest: &'a [u8],
+    // the line feeds so far
+    passed: u64,
+    // whether the end of the text ends a word
+    whole: bool,
+    ghost room: { passed + length rest.now < 2 ^ 64 },
+}
+
+impl<'a> Words<'a> {
+    ghost use Rattle.vcd_text.specs.WordsLeft.{words_left};
+
+    /// All words of a text.
+    #[tactic(auto, using(crate::proofs::WordLaws::words_are_few))]
+    pub fn new(text: &'a [u8]) -> Words<'a>
+        ensures words { words_left result ≡ words_of text.now }
+        ensures few { length (words_left result) < 2 ^ 63 }
+    {
+        Words {
+            rest: text,
+            passed: 0,
+            whole: true,
+        }
+    }
+
+    /// The words of a text that white space follows: of a text that may go on, those that are sure.
+    #[tactic(auto, using(crate::proofs::WordLaws::words_are_few))]
+    pub fn closed(text: &'a [u8]) -> Words<'a>
+        ensures words { words_left result ≡ closed_words text.now }
+        ensures few { length (words_left result) < 2 ^ 63 }
+    {
+        Words {
+            rest: text,
+            passed: 0,
+            whole: false,
+        }
+    }
+
+    /// The next word, if there is one.
+    pub fn next_word(&mut self) -> Option<Placed<'a>>
+        ensures words { MatchOption result (words_left self.old ≡ []) (λ w. words_left self.old ≡ word w.text.now w.line ∷ words_left self.new) }
+        ensures some { IfSome result (λ w. 0 < length w.text.now) }
+        ensures over { IfNone result (words_left self.new ≡ []) }
+    {
+        let (rest, passed) = behind_space(self.rest, self.passed);
+        let (text, behind) = rest.split_at(word_len(rest));
+        self.passed = passed;
+        self.rest = behind;
+        if text.is_empty() {
+            return None;
+        }
+        if !ends_before(self.whole, behind) {
+            return None;
+        }
+        Some(Placed {
+            text,
+            line: passed + 1,
+        })
+    }
+}
+
+impl<'a> Iterator for Words<'a> {
+    ghost use Rattle.std.specs.Iterator.{YieldsFirstBy, item_count};
+    ghost use Rattle.vcd_text.specs.WordsLeft.{word_at, words_left};
+
+    type Item = Placed<'a>;
+
+    ghost next_gives = { YieldsFirstBy word_at words_left };
+
+    ghost remaining = { item_count words_left };
+
+    fn next(&mut self) -> Option<Placed<'a>> {
+        self.next_word()
+    }
+}
+
+/// What follows the white space at the front of a text, and how many line feeds come before it.
+fn behind_space(text: &[u8], passed: u64) -> (&[u8], u64)
+    requires { passed + length text.now < 2 ^ 64 }
+    ensures words { (whole : Bool) → words_from whole (result.1 + 1) result.0.now ≡ words_from whole (passed + 1) text.now }
+    ensures room { result.1 + length result.0.now ≤ passed + length text.now }
+    ensures black { begins_with_space result.0.now ≡ false }
+{
+    let mut rest = text;
+    let mut lines = passed;
+    while let Some((byte, behind)) = rest.split_first() {
+        if !is_white_space(*byte) {
+            break;
+        }
+        if *byte == b'\n' {
+            lines += 1;
+        }
+        rest = behind;
+    }
+    (rest, lines)
+}
+
+/// How many bytes come before the first white space.
+fn word_len(text: &[u8]) -> usize
+    ensures within { result ≤ length text.now }
+    ensures black { list_all (λ b. not (is_space b)) (take result text.now) ≡ true }
+    ensures ends { ends_word true (drop result text.now) ≡ true }
+{
+    for (i, byte) in text.iter().enumerate() {
+        if is_white_space(*byte) {
+            return i;
+        }
+    }
+    text.len()
+}
+
+/// Whether a word ends before these bytes: white space follows, or nothing and the text is whole.
+fn ends_before(whole: bool, behind: &[u8]) -> bool
+    ensures { result ≡ ends_word whole behind.now }
+{
+    match behind {
+        [next, ..] => is_white_space(*next),
+        [] => whole,
+    }
+}
