@@ -25,6 +25,7 @@ pub mod Codes
 pub mod Values
 pub mod Scopes
 pub mod Walks
+pub mod Near
 pub mod Sorting
 pub mod Counts
 pub mod Listing

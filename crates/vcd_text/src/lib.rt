@@ -4,6 +4,8 @@
 
 pub mod fault;
 pub mod file_laws;
+#[cfg(test)]
+mod narrow_sink;
 pub mod output;
 pub mod reading;
 pub mod whole;

@@ -59,7 +59,7 @@ pub fn text_of(alloc: Global, capture: &Capture) -> Result<Vec<u8>, NoMemory>
     append_signals(&mut out, signals)?;
     out.extend_from_slice(b"$enddefinitions $end\n")?;
     append_first_values(&mut out, signals)?;
-    append_moves(&mut out, signals, moves.as_slice(), capture.end())?;
+    append_moves(alloc, &mut out, signals, moves.as_slice(), capture.end())?;
     Ok(out)
 }
 

@@ -1,10 +1,9 @@
 //! The values that a file writes by letters (IEEE 1364-2005, 18.2).
 
-ghost use Rattle.std.specs.Prelude.{◌≡◌, ◌≤◌, length, unwrap_or, MatchResult};
+ghost use Rattle.std.specs.Prelude.{◌≡◌, ◌≤◌, true, false, length, unwrap_or, MatchOption, MatchResult};
 ghost use Rattle.std.specs.List.{list_all};
 ghost use Rattle.vcd_core.specs.declared.bit.Bit.TheVariants.{X};
 ghost use Rattle.vcd_text.specs.Letters.{letter_read, is_letter as letter_test, letters_read, pad_letter, ext};
-ghost use Rattle.vcd_text.specs.Grammar.{is_value as value_test};
 ghost use Rattle.vcd_text.specs.Digits.{Writes, Refuses};
 
 use vcd_core::{Bit, Value, WIDTH_LIMIT};
@@ -38,20 +37,17 @@ pub fn value_of(width: u64, digits: &[u8]) -> Result<Value, DigitsError>
     requires most { width ≤ WIDTH_LIMIT }
     ensures { MatchResult result (λ value. Writes width digits.now value) (λ error. Refuses width digits.now error) }
 {
-    if !is_value(digits) {
+    if digits.is_empty() {
         return Err(DigitsError::NoValue);
     }
     if digits.len() as u64 > width {
-        return Err(DigitsError::TooLong);
+        return Err(if are_letters(digits) {
+            DigitsError::TooLong
+        } else {
+            DigitsError::NoValue
+        });
     }
-    Ok(extended(width, digits))
-}
-
-/// Whether digits are one or more value letters.
-fn is_value(digits: &[u8]) -> bool
-    ensures { result ≡ value_test digits.now }
-{
-    !digits.is_empty() && are_letters(digits)
+    extended(width, digits).ok_or(DigitsError::NoValue)
 }
 
 /// Whether all bytes are value letters.
@@ -68,20 +64,21 @@ pub fn is_letter(byte: u8) -> bool
     bit_of(byte).is_some()
 }
 
-/// The digits as letters, with those that are wanting on the left.
-fn extended(width: u64, digits: &[u8]) -> Value
+/// The digits as letters, with those that are wanting on the left; none where one is no value letter.
+fn extended(width: u64, digits: &[u8]) -> Option<Value>
     requires least { 1 ≤ width }
     requires most { width ≤ WIDTH_LIMIT }
     requires fits { length digits.now ≤ width }
-    ensures { result ≡ ext width (letters_read digits.now) }
+    ensures { MatchOption result (list_all letter_test digits.now ≡ false) (λ value. (list_all letter_test digits.now ≡ true) × (value ≡ ext width (letters_read digits.now))) }
 {
     let mut value = Value::filled(width, pad_of(digits));
     let mut left = digits.len() as u64;
     for digit in digits {
+        let letter = bit_of(*digit)?;
         left -= 1;
-        value = value.with_bit(left, letter_of(*digit));
+        value = value.with_bit(left, letter);
     }
-    value
+    Some(value)
 }
 
 /// The letter that is put on the left of digits.

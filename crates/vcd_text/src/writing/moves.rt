@@ -3,6 +3,7 @@
 ghost use Rattle.std.specs.Prelude.{◌≡◌, ◌==◌, ◌<◌, ◌≤◌, ◌^◌, ◌++◌, ◌∷◌, [], ℕ, if◌then◌else◌, nat_lt, length, map, All, IfOk, OnOk};
 ghost use Rattle.std.specs.List.{flat_map};
 ghost use Rattle.vcd_core.specs.Contents.{signal_contents};
+ghost use Rattle.vcd_core.specs.Wave.{value_at};
 ghost use Rattle.vcd_core.specs.Sound.{IsSoundSignal};
 ghost use Rattle.vcd_text.specs.Moves.{later_moves, listed_from, moves_from};
 ghost use Rattle.vcd_text.specs.Text.{all_values, end_items, first_items, line_of, stamp_of, tick_items};
@@ -10,7 +11,7 @@ ghost use Rattle.vcd_text.specs.Text.{all_values, end_items, first_items, line_o
 use super::values::append_value;
 use itoa::Buffer;
 use std::alloc::Global;
-use vcd_core::{Change, NoMemory, Signal};
+use vcd_core::{Change, NoMemory, Signal, Value, Wave};
 
 /// A signal changes at a tick. Moves are ordered by tick, then by the signal's position.
 #[derive(Clone, Copy, PartialEq, Eq, PartialOrd, Ord)]
@@ -42,8 +43,9 @@ fn append_all_values(out: &mut Vec<u8>, signals: &[Signal]) -> Result<(), NoMemo
 }
 
 /// Appends what changes after tick 0, in the order of `moves`, and the end. The ticks between are not looked
-/// at: a value is found by a search by halves in its wave.
+/// at. For each signal it keeps the place of its next change: 8 bytes a signal.
 pub fn append_moves(
+    alloc: Global,
     out: &mut Vec<u8>,
     signals: &[Signal],
     moves: &[Move],
@@ -55,18 +57,44 @@ pub fn append_moves(
     ensures { OnOk result (out.new.items ≡ out.old.items ++ flat_map line_of
         (tick_items (map signal_contents signals.now) 1 end ++ end_items (map signal_contents signals.now) end)) }
 {
+    let mut places = later_places(alloc, signals)?;
     let mut last = 0;
     for next in moves {
+        let place = places[next.position];
         append_new_stamp(out, last, next.tick)?;
         append_value(
             out,
             next.position,
-            signals[next.position].wave.at(next.tick),
+            value_near(&signals[next.position].wave, next.tick, place),
         )?;
+        places[next.position] = place.saturating_add(1);
         last = next.tick;
     }
     append_last_stamp(out, last, end)?;
     Ok(())
+}
+
+/// For each signal the place of its first change after tick 0.
+fn later_places(alloc: Global, signals: &[Signal]) -> Result<Vec<usize>, NoMemory>
+    ensures { IfOk result (λ places. length places.items ≡ length signals.now) }
+{
+    let mut places = Vec::with_capacity(alloc, signals.len())?;
+    for signal in signals {
+        places.push(signal.wave.count_until(1))?;
+    }
+    Ok(places)
+}
+
+/// The value at `tick`. Where the change at `place` has that tick, it is that of the change, with no search.
+fn value_near(wave: &Wave, tick: u64, place: usize) -> Value
+    ensures { result ≡ value_at wave.now.width wave.now.changes tick }
+{
+    if let Some(change) = wave.changes().get(place) {
+        if change.tick == tick {
+            return change.value;
+        }
+    }
+    wave.at(tick)
 }
 
 fn append_new_stamp(out: &mut Vec<u8>, last: u64, tick: u64) -> Result<(), NoMemory>
@@ -105,7 +133,7 @@ pub fn sorted_moves(alloc: Global, signals: &[Signal]) -> Result<Vec<Move>, NoMe
     ensures within { IfOk result (λ moves. All (λ m. m.position < length signals.now) moves.items) }
 {
     let mut moves = listed_moves(alloc, signals)?;
-    moves.sort_unstable();
+    moves.sort()?;
     Ok(moves)
 }
 

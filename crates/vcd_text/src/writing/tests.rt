@@ -1,12 +1,14 @@
 use super::codes::append_code;
-use super::text_of;
 use super::values::append_value;
+use super::{text_of, write};
+use crate::fault::WriteError;
+use crate::narrow_sink::{Narrow, sink_of};
 use std::alloc::Global;
 use std::process::Abort;
 use std::test::Fail;
 use vcd_core::{
     Bit, Capture, Header, HeaderKind, ScopeName, ScopePath, Seq, Signal, TimeUnit, Timescale,
-    Value, WIDTH_LIMIT, Wave, Word,
+    ToWrite, Value, WIDTH_LIMIT, Wave, Word,
 };
 
 fn value(rt: &impl Abort, letters: &str) -> Value {
@@ -103,10 +105,8 @@ fn one_scalar(rt: &impl Abort, alloc: Global, name: &str) -> Result<Capture, Fai
     Ok(Capture::new(Vec::new(alloc), Some(timescale), 9, signals))
 }
 
-#[test]
-fn one_scalar_renamed(rt: HostRuntime) -> Result<(), Fail> {
-    let capture = one_scalar(&rt, rt.alloc(), "b")?;
-    let expected = "$timescale 1 ns $end
+/// The text of the capture with one scalar named `b`.
+const RENAMED: &str = "$timescale 1 ns $end
 $scope module top $end
 $var wire 1 ! b $end
 $upscope $end
@@ -119,7 +119,11 @@ $end
 1!
 #9
 ";
-    check_text(&rt, rt.alloc(), &capture, expected)
+
+#[test]
+fn one_scalar_renamed(rt: HostRuntime) -> Result<(), Fail> {
+    let capture = one_scalar(&rt, rt.alloc(), "b")?;
+    check_text(&rt, rt.alloc(), &capture, RENAMED)
 }
 
 #[test]
@@ -292,6 +296,160 @@ fn short_forms(rt: HostRuntime) -> Result<(), Fail> {
         let mut out = Vec::new(rt.alloc());
         append_value(&mut out, 0, value(&rt, letters))?;
         assert_eq!(rt; out.as_slice(), line.as_bytes());
+    }
+    Ok(())
+}
+
+#[test]
+fn written_to_memory(rt: HostRuntime) -> Result<(), Fail> {
+    let capture = one_scalar(&rt, rt.alloc(), "b")?;
+    assert!(rt; capture.is_sound());
+    let mut writer = ToWrite::new(Vec::new(rt.alloc()));
+    assert_eq!(rt; write(rt.alloc(), &capture, &mut writer), Ok(()));
+    assert_eq!(rt; writer.into_inner().as_slice(), RENAMED.as_bytes());
+    Ok(())
+}
+
+/// How the writing of the capture with one scalar ends, and the writer that is left.
+fn write_narrow(
+    rt: &impl Abort,
+    alloc: Global,
+    piece: usize,
+    room: usize,
+    flush_fails: bool,
+) -> Result<(Result<(), WriteError>, Narrow), Fail> {
+    let capture = one_scalar(rt, alloc, "b")?;
+    assert!(rt; capture.is_sound());
+    let mut writer = sink_of(Vec::new(alloc), piece, room, flush_fails);
+    let ended = write(alloc, &capture, &mut writer);
+    Ok((ended, writer.into_inner()))
+}
+
+/// No clause speaks of the flush of a writer that takes all, so its calls are counted.
+#[test]
+fn flushed_once(rt: HostRuntime) -> Result<(), Fail> {
+    let (ended, writer) = write_narrow(&rt, rt.alloc(), 7, 1000, false)?;
+    assert_eq!(rt; ended, Ok(()));
+    assert_eq!(rt; writer.held.as_slice(), RENAMED.as_bytes());
+    assert_eq!(rt; writer.flushes, 1);
+    Ok(())
+}
+
+#[test]
+fn a_writer_that_fails_after_ten_bytes(rt: HostRuntime) -> Result<(), Fail> {
+    let (ended, writer) = write_narrow(&rt, rt.alloc(), 7, 10, false)?;
+    assert_eq!(rt; ended, Err(WriteError::WriteFault { written: 10 }));
+    assert_eq!(rt; writer.held.as_slice(), b"$timescale".as_slice());
+    assert_eq!(rt; writer.flushes, 0);
+    Ok(())
+}
+
+#[test]
+fn a_flush_that_fails(rt: HostRuntime) -> Result<(), Fail> {
+    let (ended, writer) = write_narrow(&rt, rt.alloc(), 1000, 1000, true)?;
+    assert_eq!(rt; ended, Err(WriteError::WriteFault { written: 130 }));
+    assert_eq!(rt; writer.held.as_slice(), RENAMED.as_bytes());
+    assert_eq!(rt; writer.flushes, 1);
+    Ok(())
+}
+
+#[test]
+fn a_writer_that_takes_no_byte(rt: HostRuntime) -> Result<(), Fail> {
+    let (ended, writer) = write_narrow(&rt, rt.alloc(), 0, 1000, false)?;
+    assert_eq!(rt; ended, Err(WriteError::WriteFault { written: 0 }));
+    assert_eq!(rt; writer.held.as_slice(), b"".as_slice());
+    assert_eq!(rt; writer.flushes, 0);
+    Ok(())
+}
+
+/// The scope is opened again, since the signals keep their order.
+#[test]
+fn a_path_left_and_entered_again(rt: HostRuntime) -> Result<(), Fail> {
+    let sub = ("module", "sub");
+    let mut signals = Vec::new(rt.alloc());
+    signals.push(wire(&rt, rt.alloc(), &[TOP, sub], "a", 1, &[])?)?;
+    signals.push(wire(&rt, rt.alloc(), &[TOP], "b", 1, &[])?)?;
+    signals.push(wire(&rt, rt.alloc(), &[TOP, sub], "c", 1, &[])?)?;
+    let capture = Capture::new(Vec::new(rt.alloc()), None, 0, signals);
+    let expected = "$scope module top $end
+$scope module sub $end
+$var wire 1 ! a $end
+$upscope $end
+$var wire 1 \" b $end
+$scope module sub $end
+$var wire 1 # c $end
+$upscope $end
+$upscope $end
+$enddefinitions $end
+#0
+$dumpvars
+x!
+x\"
+x#
+$end
+";
+    check_text(&rt, rt.alloc(), &capture, expected)
+}
+
+/// Two scopes of one kind, one without a word for its name and one with two.
+#[test]
+fn scopes_by_their_words(rt: HostRuntime) -> Result<(), Fail> {
+    let mut signals = Vec::new(rt.alloc());
+    for names in [[].as_slice(), &["gen", "0"]] {
+        let mut path = Vec::new(rt.alloc());
+        let kind = word(rt.alloc(), "begin")?;
+        let words = words(rt.alloc(), names)?;
+        path.push(ScopeName { kind, words })?;
+        let mut signal = wire(&rt, rt.alloc(), &[], "a", 1, &[(0, "1")])?;
+        signal.scopes = ScopePath::from_vec(path);
+        signals.push(signal)?;
+    }
+    let capture = Capture::new(Vec::new(rt.alloc()), None, 0, signals);
+    let expected = "$scope begin $end
+$var wire 1 ! a $end
+$upscope $end
+$scope begin gen 0 $end
+$var wire 1 \" a $end
+$upscope $end
+$enddefinitions $end
+#0
+$dumpvars
+1!
+1\"
+$end
+";
+    check_text(&rt, rt.alloc(), &capture, expected)
+}
+
+/// With 96 signals the last two have codes of two bytes, in the declarations and in the values.
+#[test]
+fn codes_of_two_bytes(rt: HostRuntime) -> Result<(), Fail> {
+    let mut signals = Vec::new(rt.alloc());
+    for _ in 0..96 {
+        signals.push(wire(&rt, rt.alloc(), &[], "s", 1, &[])?)?;
+    }
+    let capture = Capture::new(Vec::new(rt.alloc()), None, 0, signals);
+    assert!(rt; capture.is_sound());
+    let text = text_of(rt.alloc(), &capture)?;
+    let mut declared = Vec::new(rt.alloc());
+    let mut told = Vec::new(rt.alloc());
+    for line in text.split(|byte| *byte == b'\n') {
+        match line {
+            [b'$', b'v', b'a', b'r', ..] => declared.push(line)?,
+            [b'x', ..] => told.push(line)?,
+            _ => {}
+        }
+    }
+    let table = [
+        (0, "$var wire 1 ! s $end", "x!"),
+        (93, "$var wire 1 ~ s $end", "x~"),
+        (94, "$var wire 1 !! s $end", "x!!"),
+        (95, "$var wire 1 \"! s $end", "x\"!"),
+    ];
+    assert_eq!(rt; (declared.len(), told.len()), (96, 96));
+    for (position, declaration, value) in table {
+        assert_eq!(rt; declared[position], declaration.as_bytes());
+        assert_eq!(rt; told[position], value.as_bytes());
     }
     Ok(())
 }

@@ -1,5 +1,5 @@
--- What is written and the moves left are the whole.
-use Rattle.std.proofs.Common.{◌≡◌, ◌++◌, drop, map}
+-- What is written and the moves left are the whole; each signal has a place.
+use Rattle.std.proofs.Common.{◌≡◌, ◌++◌, drop, length, map}
 use Rattle.std.specs.List.{flat_map}
 use Rattle.vcd_core.specs.Contents.{signal_contents}
 use Rattle.vcd_text.specs.Text.{line_of}
@@ -8,5 +8,8 @@ use Rattle.vcd_text.proofs.writing.moves.append_moves.Given as goal
 
 abbrev pub invariant-loop-next : goal.invariant-loop-next
 invariant-loop-next l =
-    l.out.items ++ flat_map line_of (walk (map signal_contents l.signals) l.end l.last (drop l.next-index l.moves))
-    ≡ l.initial.out.items ++ flat_map line_of (walk (map signal_contents l.signals) l.end 0 l.moves)
+    record {
+      text : l.out.items ++ flat_map line_of (walk (map signal_contents l.signals) l.end l.last (drop l.next-index l.moves))
+          ≡ l.initial.out.items ++ flat_map line_of (walk (map signal_contents l.signals) l.end 0 l.moves);
+      places : length l.places.items ≡ length l.signals;
+    }

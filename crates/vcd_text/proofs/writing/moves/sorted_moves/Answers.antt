@@ -6,9 +6,9 @@ use Rattle.vcd_text.proofs.Counts.{sorted_are, sorted_within}
 use Rattle.vcd_text.proofs.writing.moves.sorted_moves.Goals as goal
 
 pub returns-clause-all : goal.returns-clause-all
-returns-clause-all c = λ end sound. sorted_are end (map signal_contents c.args.signals.now) _ _ c.in_ok-moves.ensures c.sort_unstable.ensures.permutation c.sort_unstable.ensures.sorted sound
+returns-clause-all c = λ end sound. sorted_are end (map signal_contents c.args.signals.now) _ _ c.in_ok-moves.ensures c.sort.ensures.permutation c.in_ok-sort.ensures.sorted sound
 
 pub returns-clause-within : goal.returns-clause-within
 returns-clause-within c =
-    sorted_within (length c.args.signals.now) (map signal_contents c.args.signals.now) _ _ c.in_ok-moves.ensures c.sort_unstable.ensures.permutation
+    sorted_within (length c.args.signals.now) (map signal_contents c.args.signals.now) _ _ c.in_ok-moves.ensures c.sort.ensures.permutation
     (omega (arith, length-map c.args.signals.now signal_contents))
