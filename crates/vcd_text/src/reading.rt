@@ -17,8 +17,11 @@ mod changes;
 mod copies;
 mod decimal;
 mod declarations;
+mod keywords;
 mod letters;
 mod machine;
+#[cfg(test)]
+mod tests;
 mod timescale;
 mod variables;
 

@@ -26,7 +26,7 @@ use vcd_core::{Capture, NoMemory, Sink};
 /// At `NoMemory` the writer took nothing and has not failed. At `WriteFault` it has failed and took exactly the
 /// first `written` bytes of the text, all of them where it failed in the flush.
 ///
-/// It takes the time of a sort of the changes, and memory for the text and, while that is made, 16 bytes for
+/// It takes the time of a sort of the changes, and memory for the text and, while that is made, 32 bytes for
 /// each change.
 pub fn write<W: Sink>(alloc: Global, capture: &Capture, writer: &mut W) -> Result<(), WriteError>
     requires sound { IsSound (contents capture.now) }
@@ -45,8 +45,9 @@ pub fn write<W: Sink>(alloc: Global, capture: &Capture, writer: &mut W) -> Resul
 /// The text of a capture, byte for byte: header, timescale, declarations, the values at tick 0, and what
 /// changes at each later tick.
 ///
-/// It takes the time of a sort of the changes, and never looks at ticks without one. Besides the text it
-/// holds 16 bytes for each change. The only error is that memory ran out.
+/// It takes the time of a sort of the changes, and never looks at ticks without one. It holds 32 bytes for each
+/// change while it sorts; then, besides the text, 16 for each change and 8 for each signal. The only error is
+/// that memory ran out.
 pub fn text_of(alloc: Global, capture: &Capture) -> Result<Vec<u8>, NoMemory>
     requires { IsSound (contents capture.now) }
     ensures { IfOk result (λ bytes. bytes.items ≡ text (contents capture.now)) }

@@ -6,12 +6,13 @@
 ghost use Rattle.std.specs.Prelude.{◌≡◌, ◌<◌, ◌∷◌, ℕ, List, true, false, length, Ok, codes};
 ghost use Rattle.vcd_text.specs.Words.{word};
 ghost use Rattle.vcd_text.specs.Letters.{is_among, is_letter as letter_test};
-ghost use Rattle.vcd_text.specs.Items.{is_command, is_one_of, dump_words, declaring_words, vector_letters, dropped_letters};
+ghost use Rattle.vcd_text.specs.Items.{is_command, vector_letters, dropped_letters};
 ghost use Rattle.vcd_text.specs.Reading.{IsReading, Moves};
 ghost use Rattle.vcd_text.specs.declared.reading.machine.OpenItem.TheVariants as items;
 
 use crate::fault::Fault;
 use crate::reading::decimal::tick_of;
+use crate::reading::keywords::{is_declaring, is_dump_word};
 use crate::reading::letters::is_letter;
 use crate::reading::machine::{Machine, OpenItem};
 
@@ -58,7 +59,7 @@ impl Machine {
         requires command { is_command text.now ≡ true }
         ensures { (line : ℕ) → Moves self.old (word text.now line) result self.new }
     {
-        if is_bracket(text) {
+        if is_dump_word(text) {
             return Ok(());
         }
         if is_declaring(text) {
@@ -164,26 +165,4 @@ fn is_dropped_letter(letter: u8) -> bool
     ensures { result ≡ is_among dropped_letters letter }
 {
     letter == b'r' || letter == b'R' || letter == b's' || letter == b'S'
-}
-
-/// Whether a word is one of a dump's brackets.
-fn is_bracket(text: &[u8]) -> bool
-    ensures { result ≡ is_one_of dump_words text.now }
-{
-    text == b"$dumpall".as_slice()
-        || text == b"$dumpoff".as_slice()
-        || text == b"$dumpon".as_slice()
-        || text == b"$dumpvars".as_slice()
-        || text == b"$end".as_slice()
-}
-
-/// Whether a word may stand among the declarations alone.
-fn is_declaring(text: &[u8]) -> bool
-    ensures { result ≡ is_one_of declaring_words text.now }
-{
-    text == b"$scope".as_slice()
-        || text == b"$upscope".as_slice()
-        || text == b"$var".as_slice()
-        || text == b"$timescale".as_slice()
-        || text == b"$enddefinitions".as_slice()
 }

@@ -2,7 +2,7 @@
 
 ghost use Rattle.std.specs.Prelude.{◌≡◌, ◌∷◌, ◌++◌, ℕ, [], true, false, IsFalse, MatchOption, OnOk};
 ghost use Rattle.vcd_text.specs.Words.{word};
-ghost use Rattle.vcd_text.specs.Items.{end_word, is_end, is_one_of, is_command, dump_words, declaring_words, header_words, begins_declaration};
+ghost use Rattle.vcd_text.specs.Items.{end_word, is_end, is_one_of, declaring_words, header_words, begins_declaration};
 ghost use Rattle.vcd_text.specs.Reading.{IsReading, Moves};
 ghost use Rattle.vcd_text.specs.Inside.{is_inside};
 ghost use Rattle.vcd_text.specs.Opening.{Opens, keeps_words};
@@ -11,6 +11,7 @@ ghost use Rattle.vcd_text.specs.declared.reading.machine.OpenItem.TheVariants as
 use crate::fault::Fault;
 use crate::reading::copies::copy_word;
 use crate::reading::decimal::size_of;
+use crate::reading::keywords::{is_command, is_dump_word};
 use crate::reading::machine::{Machine, OpenItem};
 use crate::reading::timescale::timescale_in;
 use std::alloc::Global;
@@ -208,24 +209,6 @@ fn declared_by(text: &[u8]) -> Option<OpenItem>
     } else {
         None
     }
-}
-
-/// Whether a word is a bracket of a dump.
-fn is_dump_word(text: &[u8]) -> bool
-    ensures { result ≡ is_one_of dump_words text.now }
-{
-    text == b"$dumpall".as_slice()
-        || text == b"$dumpoff".as_slice()
-        || text == b"$dumpon".as_slice()
-        || text == b"$dumpvars".as_slice()
-        || text == b"$end".as_slice()
-}
-
-/// Whether a word begins with `$`.
-fn is_command(text: &[u8]) -> bool
-    ensures { result ≡ is_command text.now }
-{
-    matches!(text, [b'$', ..])
 }
 
 /// Adds a copy of a word at the end.

@@ -126,7 +126,8 @@ fn append_stamp(out: &mut Vec<u8>, tick: u64) -> Result<(), NoMemory>
     Ok(())
 }
 
-/// All changes after tick 0, sorted by tick and position. It takes 16 bytes a change, and the time of a sort.
+/// All changes after tick 0, sorted by tick and position. It takes 16 bytes a change, as much again for the sort,
+/// and the time to merge the lists of the signals, each of which is in order.
 pub fn sorted_moves(alloc: Global, signals: &[Signal]) -> Result<Vec<Move>, NoMemory>
     ensures all { IfOk result (λ moves. (end : ℕ) → All (IsSoundSignal end) (map signal_contents signals.now)
         → moves.items ≡ moves_from (map signal_contents signals.now) 1 end) }

@@ -1,12 +1,12 @@
 //! Values as they are printed: one letter, or `b` and the short form.
 
-ghost use Rattle.std.specs.Prelude.{◌≡◌, ℕ, List, ◌<◌, ◌^◌, ◌++◌, ◌∷◌, [], length, drop, OnOk};
+ghost use Rattle.std.specs.Prelude.{◌≡◌, ℕ, List, ◌<◌, ◌≤◌, ◌^◌, ◌++◌, ◌∷◌, [], length, drop, slice_range, OnOk};
 ghost use Rattle.vcd_core.specs.Value.{same_letter};
 ghost use Rattle.vcd_text.specs.Letters.{pad_letter, printed, printed_letter, short};
 ghost use Rattle.vcd_text.specs.Text.{code_of, line_of, value_item};
 
 use super::codes::append_code;
-use vcd_core::{Bit, NoMemory, Value};
+use vcd_core::{Bit, NoMemory, Value, WIDTH_LIMIT};
 
 /// Appends the line that gives a value to the signal at `position`. It looks at each bit twice at most.
 pub fn append_value(out: &mut Vec<u8>, position: usize, value: Value) -> Result<(), NoMemory>
@@ -38,11 +38,23 @@ fn append_digits(out: &mut Vec<u8>, value: Value) -> Result<(), NoMemory>
 fn append_short(out: &mut Vec<u8>, value: Value) -> Result<(), NoMemory>
     ensures { OnOk result (out.new.items ≡ out.old.items ++ printed (short value)) }
 {
-    let width = value.width();
-    for k in spare_letters(value)..width {
-        out.push(printed(value.bit(width - 1 - k)))?;
-    }
+    let spare = spare_letters(value);
+    let letters = letters_from(value, spare);
+    out.extend_from_slice(&letters[spare as usize..value.width() as usize])?;
     Ok(())
+}
+
+/// The letters of a value as they are printed, from the one at `first` on, each at its place.
+fn letters_from(value: Value, first: u64) -> [u8; WIDTH_LIMIT as usize]
+    requires { first ≤ length value }
+    ensures { slice_range result first (length value) ≡ printed (drop first value) }
+{
+    let width = value.width();
+    let mut letters = [0; WIDTH_LIMIT as usize];
+    for k in first..width {
+        letters[k as usize] = printed(value.bit(width - 1 - k));
+    }
+    letters
 }
 
 /// How many letters at the front the short form leaves out: those that the extension puts there again.

@@ -3,8 +3,10 @@ ghost use Rattle.std.specs.Prelude.{◌≤◌};
 use super::*;
 use std::io;
 use std::io::{ErrorKind, Read, Write};
+use std::process::Abort;
 use std::test::Fail;
 use vcd_core::{FromRead, ToWrite};
+use vcd_text::{Fault, ReadError, WriteError};
 
 const ONE_SCALAR: &[u8] =
     b"$scope module top $end\n$var wire 1 ! a $end\n$upscope $end\n$enddefinitions $end\n#0\n0!\n#5\n1!\n#9\n";
@@ -211,4 +213,77 @@ fn replies_that_are_not_taken(rt: HostRuntime) {
     );
     assert_eq!(rt; ended, Err(RunError::ReplyFault { written: 0 }));
     assert_eq!(rt; out.into_inner().as_slice(), b"".as_slice());
+}
+
+/// A writer with room for so many bytes, and a flush that may fail.
+#[derive(Drop)]
+struct Small {
+    held: Vec<u8>,
+    room: usize,
+    flush_fails: bool,
+}
+
+impl Write for Small {
+    fn write(&mut self, buf: &[u8]) -> io::Result<usize> {
+        let count = buf.len().min(self.room.saturating_sub(self.held.len()));
+        match self.held.extend_from_slice(&buf[..count]) {
+            Ok(()) => Ok(count),
+            Err(_) => Err(io::Error::from(ErrorKind::OutOfMemory)),
+        }
+    }
+
+    fn flush(&mut self) -> io::Result<()> {
+        if self.flush_fails {
+            return Err(io::Error::from(ErrorKind::StorageFull));
+        }
+        Ok(())
+    }
+}
+
+/// Runs a rename and its undo on the worked file, with an output that fails: all replies are written, and the
+/// output has this front.
+fn check_failing_output(
+    rt: &impl Abort,
+    alloc: Global,
+    room: usize,
+    flush_fails: bool,
+    front: &[u8],
+) {
+    let mut replies = ToWrite::new(Vec::new(alloc));
+    let mut out = ToWrite::new(Small {
+        held: Vec::new(alloc),
+        room,
+        flush_fails,
+    });
+    let ended = run(
+        alloc,
+        &mut FromRead::new(WORKED),
+        &mut FromRead::new(b"rename top.a b\nundo\n".as_slice()),
+        &mut replies,
+        Some(&mut out),
+        100,
+    );
+    let fault = WriteError::WriteFault {
+        written: front.len() as u128,
+    };
+    assert_eq!(rt; ended, Err(RunError::Write(fault)));
+    assert_eq!(rt; replies.into_inner().as_slice(), b"ok\nok\n".as_slice());
+    assert_eq!(rt; out.into_inner().held.as_slice(), front);
+}
+
+#[test]
+fn an_output_that_fails_after_ten_bytes(rt: HostRuntime) {
+    check_failing_output(&rt, rt.alloc(), 10, false, b"$timescale");
+}
+
+#[test]
+fn an_output_that_takes_no_byte(rt: HostRuntime) {
+    check_failing_output(&rt, rt.alloc(), 0, false, b"");
+}
+
+#[test]
+fn an_output_whose_flush_fails(rt: HostRuntime) {
+    let text =
+        b"$timescale 1 ns $end\n$scope module top $end\n$var wire 1 ! a $end\n$upscope $end\n$enddefinitions $end\n#0\n$dumpvars\n0!\n$end\n#5\n1!\n#9\n";
+    check_failing_output(&rt, rt.alloc(), 1000, true, text);
 }

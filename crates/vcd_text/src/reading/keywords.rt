@@ -1,0 +1,33 @@
+//! The words with which items begin, by what they may begin.
+
+ghost use Rattle.std.specs.Prelude.{◌≡◌};
+ghost use Rattle.vcd_text.specs.Items.{is_command, is_one_of, declaring_words, dump_words};
+
+/// Whether a word is a bracket of a dump.
+pub fn is_dump_word(text: &[u8]) -> bool
+    ensures { result ≡ is_one_of dump_words text.now }
+{
+    text == b"$dumpall".as_slice()
+        || text == b"$dumpoff".as_slice()
+        || text == b"$dumpon".as_slice()
+        || text == b"$dumpvars".as_slice()
+        || text == b"$end".as_slice()
+}
+
+/// Whether a word begins with `$`.
+pub fn is_command(text: &[u8]) -> bool
+    ensures { result ≡ is_command text.now }
+{
+    matches!(text, [b'$', ..])
+}
+
+/// Whether a word may stand among the declarations alone.
+pub fn is_declaring(text: &[u8]) -> bool
+    ensures { result ≡ is_one_of declaring_words text.now }
+{
+    text == b"$scope".as_slice()
+        || text == b"$upscope".as_slice()
+        || text == b"$var".as_slice()
+        || text == b"$timescale".as_slice()
+        || text == b"$enddefinitions".as_slice()
+}
