@@ -3,19 +3,14 @@ use Rattle.std.proofs.Common.{◌≡◌, ◌<◌, ◌≤◌, ◌+◌, ℕ, zero,
 use Rattle.std.specs.List.{filter, flat_map, enumerate_from}
 use Rattle.std.proofs.lemmas.Bool.{lt-ltb, le-ltb, ne_eqb}
 use Rattle.std.proofs.lemmas.Grind.{flat_map-append}
-use Rattle.std.proofs.lemmas.List.{append-nil, drop_all, drop_more, get_or-drop, drop-drop, get_or_default, length-map}
-use Rattle.std.proofs.Math.ListN.{get_or-map}
-use Rattle.vcd_core.specs.declared.capture.Signal.{Signal}
-use Rattle.vcd_core.specs.Contents.{SignalContents, signal_contents}
-use Rattle.vcd_core.specs.Wave.{value_at}
+use Rattle.std.proofs.lemmas.List.{append-nil, drop_all, drop_more, get_or-drop, drop-drop}
+use Rattle.vcd_core.specs.declared.bit.Bit.{Bit}
+use Rattle.vcd_core.specs.Contents.{SignalContents}
 use Rattle.vcd_text.specs.declared.writing.moves.Move.{Move}
 use Rattle.vcd_text.specs.Items.{Item}
-use Rattle.vcd_text.specs.Moves.{move_of, moves_from}
+use Rattle.vcd_text.specs.Moves.{move_of, move_value, moves_from, no_signal, tick_after, valued_items}
 use Rattle.vcd_text.specs.Text.{code_of, differs_at, end_items, line_of, new_values, signal_value, stamp_of, stamped, tick_items, value_item, value_items}
 use Rattle.vcd_text.proofs.Appended.{carried, two_pieces}
-
-abbrev pub no_signal : SignalContents
-no_signal = record { scopes = []; kind = []; words = []; width = 0; changes = [] }
 
 -- what is written over moves, where the last stamp was that of a tick
 unfoldable pub walk : List SignalContents → ℕ → ℕ → List Move → List Item
@@ -109,34 +104,70 @@ unfolding walk moves_from tick_items
 walk_is signals zero = refl
 walk_is signals (suc n) = walk_ticks signals n (suc n) 0 1 (omega arith) (omega arith)
 
--- one move more is written
-pub one_walked : (signals : List Signal) (end last : ℕ) (moves : List Move) (k : ℕ) (m : Move) (s : Signal) (out one two whole : List ℕ) → k < length moves → m ≡ get_or moves k m
-    → m.position < length signals → s ≡ get_or signals m.position s → one ≡ out ++ flat_map line_of (if m.tick == last then [] else stamp_of m.tick ∷ [])
-    → two ≡ one ++ line_of (value_item (code_of m.position) (value_at s.wave.width s.wave.changes m.tick))
-    → out ++ flat_map line_of (walk (map signal_contents signals) end last (drop k moves)) ≡ whole
-    → two ++ flat_map line_of (walk (map signal_contents signals) end m.tick (drop (k + 1) moves)) ≡ whole
-unfolding walk
-one_walked signals end last moves k m s out one two whole within at inside is stamp value all =
-    let signal : get_or (map signal_contents signals) m.position no_signal ≡ signal_contents s =
-    get_or_default (map signal_contents signals) m.position no_signal (signal_contents s) (simp length-map inside)
-    ∙ get_or-map signal_contents signals m.position s ∙ ap signal_contents (sym is) in
-    carried out two (flat_map line_of (if m.tick == last then [] else stamp_of m.tick ∷ []) ++ line_of (value_item (code_of m.position) (value_at s.wave.width s.wave.changes m.tick))) _ _ whole
+-- a part of the moves, with their values, and the walk over the later ones
+pub walk_parts : (signals : List SignalContents) (end last : ℕ) (ms later : List Move)
+    → walk signals end last (ms ++ later) ≡ valued_items last ms (map (move_value signals) ms) ++ walk signals end (tick_after last ms) later
+unfolding walk valued_items tick_after
+walk_parts signals end last [] later = refl
+walk_parts signals end last (m ∷ ms) later =
+    ap (λ l. (if m.tick == last then [] else stamp_of m.tick ∷ []) ++ value_item (code_of m.position) (move_value signals m) ∷ l) (walk_parts signals end m.tick ms later)
+    ∙ sym (append_assoc (if m.tick == last then [] else stamp_of m.tick ∷ []) (value_item (code_of m.position) (move_value signals m) ∷ valued_items m.tick ms (map (move_value signals) ms)) (walk signals end (tick_after m.tick ms) later))
+
+-- a part is written
+pub part_walked : (signals : List SignalContents) (end last tick : ℕ) (rest part later : List Move) (values : List (List Bit)) (out new whole : List ℕ) → rest ≡ part ++ later
+    → values ≡ map (move_value signals) part → new ≡ out ++ flat_map line_of (valued_items last part values) → tick ≡ tick_after last part
+    → out ++ flat_map line_of (walk signals end last rest) ≡ whole → new ++ flat_map line_of (walk signals end tick later) ≡ whole
+part_walked signals end last tick rest part later values out new whole split valued grown at all =
+    ap (λ l. l ++ flat_map line_of (walk signals end tick later)) (grown ∙ ap (λ vs. out ++ flat_map line_of (valued_items last part vs)) valued)
+    ∙ ap (λ t. (out ++ flat_map line_of (valued_items last part (map (move_value signals) part))) ++ flat_map line_of (walk signals end t later)) at
+    ∙ append_assoc out (flat_map line_of (valued_items last part (map (move_value signals) part))) (flat_map line_of (walk signals end (tick_after last part) later))
+    ∙ ap (λ l. out ++ l) (sym (flat_map-append line_of (valued_items last part (map (move_value signals) part)) (walk signals end (tick_after last part) later)))
+    ∙ ap (λ l. out ++ flat_map line_of l) (sym (walk_parts signals end last part later))
+    ∙ ap (λ l. out ++ flat_map line_of (walk signals end last l)) (sym split)
+    ∙ all
+
+-- one value more is written
+pub one_valued : (last : ℕ) (moves : List Move) (values : List (List Bit)) (k : ℕ) (m : Move) (v : List Bit) (out one two whole : List ℕ) → k < length moves → k < length values
+    → m ≡ get_or moves k m → v ≡ get_or values k v → one ≡ out ++ flat_map line_of (if m.tick == last then [] else stamp_of m.tick ∷ [])
+    → two ≡ one ++ line_of (value_item (code_of m.position) v)
+    → out ++ flat_map line_of (valued_items last (drop k moves) (drop k values)) ≡ whole
+    → two ++ flat_map line_of (valued_items m.tick (drop (k + 1) moves) (drop (k + 1) values)) ≡ whole
+unfolding valued_items
+one_valued last moves values k m v out one two whole within inside at is stamp value all =
+    carried out two (flat_map line_of (if m.tick == last then [] else stamp_of m.tick ∷ []) ++ line_of (value_item (code_of m.position) v)) _ _ whole
     (two_pieces out one two _ _ _ stamp value refl)
-    (ap (λ l. flat_map line_of (walk (map signal_contents signals) end last l)) (drop_more moves k m within ∙ ap (λ x. x ∷ drop (k + 1) moves) (sym at))
+    (ap (λ l. flat_map line_of (valued_items last l (drop k values))) (drop_more moves k m within ∙ ap (λ x. x ∷ drop (k + 1) moves) (sym at))
+    ∙ ap (λ l. flat_map line_of (valued_items last (m ∷ drop (k + 1) moves) l)) (drop_more values k v inside ∙ ap (λ x. x ∷ drop (k + 1) values) (sym is))
     ∙ flat_map-append line_of (if m.tick == last then [] else stamp_of m.tick ∷ []) _
-    ∙ ap (λ v. flat_map line_of (if m.tick == last then [] else stamp_of m.tick ∷ []) ++ (line_of (value_item (code_of m.position) (signal_value v m.tick)) ++ flat_map line_of (walk (map signal_contents signals) end m.tick (drop (k + 1) moves)))) signal
-    ∙ sym (append_assoc (flat_map line_of (if m.tick == last then [] else stamp_of m.tick ∷ [])) (line_of (value_item (code_of m.position) (value_at s.wave.width s.wave.changes m.tick))) _))
+    ∙ sym (append_assoc (flat_map line_of (if m.tick == last then [] else stamp_of m.tick ∷ [])) (line_of (value_item (code_of m.position) v)) _))
     all
 
+-- the last tick stays, one move on
+pub one_later : (last : ℕ) (moves : List Move) (k : ℕ) (m : Move) (whole : ℕ) → k < length moves → m ≡ get_or moves k m → tick_after last (drop k moves) ≡ whole → tick_after m.tick (drop (k + 1) moves) ≡ whole
+unfolding tick_after
+one_later last moves k m whole within at all =
+    sym (ap (tick_after last) (drop_more moves k m within ∙ ap (λ x. x ∷ drop (k + 1) moves) (sym at))) ∙ all
+
 -- all moves are written, and the stamp of the end
-pub all_walked : (signals : List Signal) (end last : ℕ) (moves : List Move) (k : ℕ) (out new start : List ℕ) → length moves ≤ k
-    → moves ≡ moves_from (map signal_contents signals) 1 end → new ≡ out ++ flat_map line_of (if nat_lt last end then stamp_of end ∷ [] else [])
-    → out ++ flat_map line_of (walk (map signal_contents signals) end last (drop k moves)) ≡ start ++ flat_map line_of (walk (map signal_contents signals) end 0 moves)
-    → new ≡ start ++ flat_map line_of (tick_items (map signal_contents signals) 1 end ++ end_items (map signal_contents signals) end)
+pub all_walked : (signals : List SignalContents) (end last : ℕ) (moves rest : List Move) (out new start : List ℕ) → rest ≡ []
+    → moves ≡ moves_from signals 1 end → new ≡ out ++ flat_map line_of (if nat_lt last end then stamp_of end ∷ [] else [])
+    → out ++ flat_map line_of (walk signals end last rest) ≡ start ++ flat_map line_of (walk signals end 0 moves)
+    → new ≡ start ++ flat_map line_of (tick_items signals 1 end ++ end_items signals end)
 unfolding walk
-all_walked signals end last moves k out new start past is stamp all =
+all_walked signals end last moves rest out new start none is stamp all =
     stamp
-    ∙ ap (λ l. out ++ flat_map line_of (walk (map signal_contents signals) end last l)) (sym (drop_all k moves past))
+    ∙ ap (λ l. out ++ flat_map line_of (walk signals end last l)) (sym none)
     ∙ all
-    ∙ ap (λ l. start ++ flat_map line_of (walk (map signal_contents signals) end 0 l)) is
-    ∙ ap (λ l. start ++ flat_map line_of l) (walk_is (map signal_contents signals) end)
+    ∙ ap (λ l. start ++ flat_map line_of (walk signals end 0 l)) is
+    ∙ ap (λ l. start ++ flat_map line_of l) (walk_is signals end)
+
+-- all values of a part are written
+pub all_valued : (last : ℕ) (moves : List Move) (values : List (List Bit)) (k : ℕ) (out whole : List ℕ) → length moves ≤ k
+    → out ++ flat_map line_of (valued_items last (drop k moves) (drop k values)) ≡ whole → out ≡ whole
+unfolding valued_items
+all_valued last moves values k out whole past all =
+    sym (append-nil out) ∙ ap (λ l. out ++ flat_map line_of (valued_items last l (drop k values))) (sym (drop_all k moves past)) ∙ all
+
+pub all_later : (last : ℕ) (moves : List Move) (k whole : ℕ) → length moves ≤ k → tick_after last (drop k moves) ≡ whole → last ≡ whole
+unfolding tick_after
+all_later last moves k whole past all = sym (ap (tick_after last) (drop_all k moves past)) ∙ all

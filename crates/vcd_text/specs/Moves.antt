@@ -1,10 +1,12 @@
 -- The changes of signals past tick 0: by tick, as the text lists them, and signal by signal, as waves hold them.
-use Rattle.std.specs.Prelude.{ℕ, zero, suc, ◌+◌, List, [], ◌∷◌, ◌++◌, map, nat_lt}
+use Rattle.std.specs.Prelude.{ℕ, zero, suc, ◌+◌, ◌==◌, if◌then◌else◌, List, [], ◌∷◌, ◌++◌, map, nat_lt, slice_index_or}
 use Rattle.std.specs.List.{filter, enumerate_from}
+use Rattle.vcd_core.specs.declared.bit.Bit.{Bit}
 use Rattle.vcd_core.specs.declared.wave.Change.{Change}
 use Rattle.vcd_core.specs.Contents.{SignalContents}
 use Rattle.vcd_text.specs.declared.writing.moves.Move.{Move}
-use Rattle.vcd_text.specs.Text.{differs_at}
+use Rattle.vcd_text.specs.Items.{Item}
+use Rattle.vcd_text.specs.Text.{code_of, differs_at, signal_value, stamp_of, value_item}
 
 -- the signal at this position changes at this tick
 abbrev pub move_of : ℕ → ℕ → Move
@@ -27,3 +29,22 @@ later_moves position changes = map (λ c. move_of c.tick position) (filter (λ c
 unfoldable pub listed_from : ℕ → List SignalContents → List Move
 listed_from position [] = []
 listed_from position (s ∷ ss) = later_moves position s.changes ++ listed_from (position + 1) ss
+
+-- a signal that has nothing
+abbrev pub no_signal : SignalContents
+no_signal = record { scopes = []; kind = []; words = []; width = 0; changes = [] }
+
+-- the value that a signal changes to
+abbrev pub move_value : List SignalContents → Move → List Bit
+move_value signals m = signal_value (slice_index_or signals m.position no_signal) m.tick
+
+-- moves with their values, and a stamp where the tick is another than the one before
+unfoldable pub valued_items : ℕ → List Move → List (List Bit) → List Item
+valued_items last [] vs = []
+valued_items last (m ∷ ms) [] = []
+valued_items last (m ∷ ms) (v ∷ vs) = (if m.tick == last then [] else stamp_of m.tick ∷ []) ++ value_item (code_of m.position) v ∷ valued_items m.tick ms vs
+
+-- the tick of the last move
+unfoldable pub tick_after : ℕ → List Move → ℕ
+tick_after last [] = last
+tick_after last (m ∷ ms) = tick_after m.tick ms

@@ -5,7 +5,7 @@ ghost use Rattle.std.specs.List.{flat_map};
 ghost use Rattle.vcd_core.specs.Contents.{signal_contents};
 ghost use Rattle.vcd_core.specs.Wave.{value_at};
 ghost use Rattle.vcd_core.specs.Sound.{IsSoundSignal};
-ghost use Rattle.vcd_text.specs.Moves.{later_moves, listed_from, moves_from};
+ghost use Rattle.vcd_text.specs.Moves.{tick_after, later_moves, listed_from, move_value, moves_from, valued_items};
 ghost use Rattle.vcd_text.specs.Text.{all_values, end_items, first_items, line_of, stamp_of, tick_items};
 
 use super::values::append_value;
@@ -42,6 +42,9 @@ fn append_all_values(out: &mut Vec<u8>, signals: &[Signal]) -> Result<(), NoMemo
     Ok(())
 }
 
+/// How many values are taken before they are printed: enough that the waits for memory overlap.
+const PART: usize = 64;
+
 /// Appends what changes after tick 0, in the order of `moves`, and the end. The ticks between are not looked
 /// at. For each signal it keeps the place of its next change: 8 bytes a signal.
 pub fn append_moves(
@@ -59,19 +62,57 @@ pub fn append_moves(
 {
     let mut places = later_places(alloc, signals)?;
     let mut last = 0;
-    for next in moves {
-        let place = places[next.position];
-        append_new_stamp(out, last, next.tick)?;
-        append_value(
-            out,
-            next.position,
-            value_near(&signals[next.position].wave, next.tick, place),
-        )?;
-        places[next.position] = place.saturating_add(1);
-        last = next.tick;
+    let mut rest = moves;
+    while rest.len() > 0 {
+        let (part, later) = rest.split_at(rest.len().min(PART));
+        let values = values_of(alloc, signals, part, &mut places)?;
+        last = append_part(out, part, values.as_slice(), last)?;
+        rest = later;
     }
     append_last_stamp(out, last, end)?;
     Ok(())
+}
+
+/// The values of these moves, each taken where the next change of its signal stands.
+fn values_of(
+    alloc: Global,
+    signals: &[Signal],
+    moves: &[Move],
+    places: &mut Vec<usize>,
+) -> Result<Vec<Value>, NoMemory>
+    requires within { All (λ m. m.position < length signals.now) moves.now }
+    requires placed { length places.old.items ≡ length signals.now }
+    ensures values { IfOk result (λ values. values.items ≡ map (move_value (map signal_contents signals.now)) moves.now) }
+    ensures placed { length places.new.items ≡ length places.old.items }
+{
+    let mut values = Vec::with_capacity(alloc, moves.len())?;
+    for next in moves {
+        let place = places[next.position];
+        values.push(value_near(&signals[next.position].wave, next.tick, place))?;
+        places[next.position] = place.saturating_add(1);
+    }
+    Ok(values)
+}
+
+/// Appends moves with their values, behind what stands at tick `last`, and answers the last tick.
+fn append_part(
+    out: &mut Vec<u8>,
+    moves: &[Move],
+    values: &[Value],
+    last: u64,
+) -> Result<u64, NoMemory>
+    requires small { All (λ m. m.position < 2 ^ 32) moves.now }
+    requires valued { length values.now ≡ length moves.now }
+    ensures text { OnOk result (out.new.items ≡ out.old.items ++ flat_map line_of (valued_items last moves.now values.now)) }
+    ensures last { IfOk result (λ tick. tick ≡ tick_after last moves.now) }
+{
+    let mut last = last;
+    for (k, next) in moves.iter().enumerate() {
+        append_new_stamp(out, last, next.tick)?;
+        append_value(out, next.position, values[k])?;
+        last = next.tick;
+    }
+    Ok(last)
 }
 
 /// For each signal the place of its first change after tick 0.
