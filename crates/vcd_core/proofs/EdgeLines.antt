@@ -5,14 +5,14 @@ use Rattle.std.proofs.lemmas.Option.{same_Some}
 use Rattle.vcd_core.specs.declared.bit.Bit.{Bit}
 use Rattle.vcd_core.specs.declared.wave.Change.{Change}
 use Rattle.vcd_core.specs.Value.{same_letters}
-use Rattle.vcd_core.specs.ValueLaws.{same_letters-Decides}
+use Rattle.vcd_core.specs.inside.ValueLaws.{same_letters-Decides}
 use Rattle.vcd_core.specs.Wave.{value_from, ChangesFrom, AllUpTo, last_value}
-use Rattle.vcd_core.specs.Edges.{Line, value_on, value_before, same_value, changes_at}
-use Rattle.vcd_core.specs.EdgeWalk.{next_tick, advanced, Rises}
+use Rattle.vcd_core.specs.Edges.{Trace, value_on, value_before, same_value, changes_at}
+use Rattle.vcd_core.specs.inside.EdgeWalk.{next_tick, trace_past, Rises}
 use Rattle.vcd_core.proofs.Waves.{value_past, value_early, lower_floor}
 
 -- a wave of these parts
-abbrev pub line : Option (List Bit) → List Change → Line
+abbrev pub line : Option (List Bit) → List Change → Trace
 line before changes = record { before = before; changes = changes }
 
 -- ---- where no change stands
@@ -39,7 +39,7 @@ quiet_before before changes floor zero rises early = refl
 quiet_before before changes floor (suc t) rises early = quiet_value before changes floor t rises (omega arith)
 
 -- so it changes at none of these ticks
-pub quiet : (l : Line) (floor t : ℕ) → Rises floor l → t < floor → changes_at t l ≡ false
+pub quiet : (l : Trace) (floor t : ℕ) → Rises floor l → t < floor → changes_at t l ≡ false
 quiet l floor t rises early =
     let on = quiet_value l.before l.changes floor t rises early in
     let just_before = quiet_before l.before l.changes floor t rises (omega arith) in
@@ -48,7 +48,7 @@ quiet l floor t rises early =
 -- ---- past a change
 
 -- a wave past its change at a tick has the same values from there on
-pub after_agrees : (before : Option (List Bit)) (changes : List Change) (t u : ℕ) → Rises t (line before changes) → t ≤ u → value_on (line before changes) u ≡ value_on (advanced t before changes) u
+pub after_agrees : (before : Option (List Bit)) (changes : List Change) (t u : ℕ) → Rises t (line before changes) → t ≤ u → value_on (line before changes) u ≡ value_on (trace_past t before changes) u
 after_agrees before [] t u rises later = refl
 after_agrees None (c ∷ cs) t u rises later = absurd (cc)
 after_agrees (Some v) (c ∷ cs) t u rises later = choose (c.tick == t) refl
@@ -60,7 +60,7 @@ after_agrees (Some v) (c ∷ cs) t u rises later = choose (c.tick == t) refl
         ap (λ (w : List Bit). Some w) (value_past v c cs u (omega arith))
 
 -- and its changes rise from the next tick on
-pub after_rises : (before : Option (List Bit)) (changes : List Change) (t : ℕ) → Rises t (line before changes) → Rises (suc t) (advanced t before changes)
+pub after_rises : (before : Option (List Bit)) (changes : List Change) (t : ℕ) → Rises t (line before changes) → Rises (suc t) (trace_past t before changes)
 after_rises None [] t rises = refl
 after_rises (Some v) [] t rises = tt
 after_rises None (c ∷ cs) t rises = absurd (cc)

@@ -8,26 +8,26 @@ use Rattle.vcd_core.specs.declared.wave.Change.{Change}
 use Rattle.vcd_core.specs.declared.edges.Edge.{Edge}
 use Rattle.vcd_core.specs.Wave.{AllUpTo}
 use Rattle.vcd_core.specs.WaveView.{WaveView}
-use Rattle.vcd_core.specs.Edges.{Line, line_of, value_on, value_before, same_value, changes_at, edge_on, edges_on, EachUpTo}
-use Rattle.vcd_core.specs.declared.edges.Track.{Track}
+use Rattle.vcd_core.specs.Edges.{Trace, trace_of, value_on, value_before, same_value, changes_at, edge_on, edges_on, EachUpTo}
+use Rattle.vcd_core.specs.declared.edges.Trace.{Trace as LentTrace}
 use Rattle.vcd_core.specs.declared.edges.Edges.TheInside.{Inside}
-use Rattle.vcd_core.specs.EdgeWalk.{line_on, lines_on, edges_left, next_tick, earlier, next_of, line_after, advanced, EachRises, ticks_sum, reach}
+use Rattle.vcd_core.specs.inside.EdgeWalk.{trace_left, traces_left, edges_left, next_tick, earlier_tick, next_tick_of, trace_after, trace_past, EachRises, ticks_sum, reach}
 use Rattle.vcd_core.proofs.EdgeLines.{line, quiet, quiet_value, quiet_before, after_agrees, after_rises, changes_there, rises_next, lower_rises, ended}
 use Rattle.vcd_core.proofs.EdgeLists.{first_kept, none_from, none_past}
 
 -- ---- the tick of the next change
 
-earlier_left : (x y : Option ℕ) (t : ℕ) → ((u : ℕ) → earlier x y ≡ Some u → t ≤ u) → (u : ℕ) → x ≡ Some u → t ≤ u
+earlier_left : (x y : Option ℕ) (t : ℕ) → ((u : ℕ) → earlier_tick x y ≡ Some u → t ≤ u) → (u : ℕ) → x ≡ Some u → t ≤ u
 earlier_left None y t least u is = absurd (cc)
 earlier_left (Some w) None t least u is = least u is
 earlier_left (Some w) (Some v) t least u is = omega (arith, least (min w v) refl, same_Some w u is)
 
-earlier_right : (x y : Option ℕ) (t : ℕ) → ((u : ℕ) → earlier x y ≡ Some u → t ≤ u) → (u : ℕ) → y ≡ Some u → t ≤ u
+earlier_right : (x y : Option ℕ) (t : ℕ) → ((u : ℕ) → earlier_tick x y ≡ Some u → t ≤ u) → (u : ℕ) → y ≡ Some u → t ≤ u
 earlier_right None y t least u is = least u is
 earlier_right (Some w) None t least u is = absurd (cc)
 earlier_right (Some w) (Some v) t least u is = omega (arith, least (min w v) refl, same_Some v u is)
 
-earlier_one : (x y : Option ℕ) (t : ℕ) → earlier x y ≡ Some t → (x ≡ Some t) ⊎ (y ≡ Some t)
+earlier_one : (x y : Option ℕ) (t : ℕ) → earlier_tick x y ≡ Some t → (x ≡ Some t) ⊎ (y ≡ Some t)
 earlier_one None y t is = inr is
 earlier_one (Some w) None t is = inl is
 earlier_one (Some w) (Some v) t is =
@@ -38,21 +38,21 @@ earlier_one (Some w) (Some v) t is =
     ]
 
 -- no wave changes before the next tick
-pub rises_each : (ls : List Line) (t : ℕ) → EachRises 0 ls → ((u : ℕ) → next_of ls ≡ Some u → t ≤ u) → EachRises t ls
+pub rises_each : (ls : List Trace) (t : ℕ) → EachRises 0 ls → ((u : ℕ) → next_tick_of ls ≡ Some u → t ≤ u) → EachRises t ls
 rises_each [] t rise least = tt
 rises_each (l ∷ ls) t (rises, rise) least = (
-  rises_next l.before l.changes t rises (earlier_left (next_tick l.changes) (next_of ls) t least),
-  rises_each ls t rise (earlier_right (next_tick l.changes) (next_of ls) t least),
+  rises_next l.before l.changes t rises (earlier_left (next_tick l.changes) (next_tick_of ls) t least),
+  rises_each ls t rise (earlier_right (next_tick l.changes) (next_tick_of ls) t least),
 )
 
-pub rises_to_next : (ls : List Line) (t : ℕ) → EachRises 0 ls → next_of ls ≡ Some t → EachRises t ls
+pub rises_to_next : (ls : List Trace) (t : ℕ) → EachRises 0 ls → next_tick_of ls ≡ Some t → EachRises t ls
 rises_to_next ls t rise next = rises_each ls t rise (λ u is. let same : Some t ≡ Some u = sym next ∙ is in omega (arith, same_Some t u same))
 
 -- and one changes there
-pub change_each : (ls : List Line) (t : ℕ) → EachRises t ls → next_of ls ≡ Some t → list_any (changes_at t) ls ≡ true
+pub change_each : (ls : List Trace) (t : ℕ) → EachRises t ls → next_tick_of ls ≡ Some t → list_any (changes_at t) ls ≡ true
 change_each [] t rise next = absurd (cc)
 change_each (l ∷ ls) t (rises, rise) next =
-    elim (earlier_one (next_tick l.changes) (next_of ls) t next) [
+    elim (earlier_one (next_tick l.changes) (next_tick_of ls) t next) [
       | inl first ↦ rw (changes_there l.before l.changes t rises first) refl
       | inr later ↦ rw (change_each ls t rise later) (or_true (changes_at t l))
     ]
@@ -63,24 +63,24 @@ change_each (l ∷ ls) t (rises, rise) next =
 
 -- ---- all waves at once
 
-pub quiet_each : (ls : List Line) (floor t : ℕ) → EachRises floor ls → t < floor → list_any (changes_at t) ls ≡ false
+pub quiet_each : (ls : List Trace) (floor t : ℕ) → EachRises floor ls → t < floor → list_any (changes_at t) ls ≡ false
 quiet_each [] floor t rise early = refl
 quiet_each (l ∷ ls) floor t (rises, rise) early = rw (quiet l floor t rises early) (quiet_each ls floor t rise early)
 
-pub lower_each : (ls : List Line) (low high : ℕ) → low ≤ high → EachRises high ls → EachRises low ls
+pub lower_each : (ls : List Trace) (low high : ℕ) → low ≤ high → EachRises high ls → EachRises low ls
 lower_each [] low high le rise = tt
 lower_each (l ∷ ls) low high le (rises, rise) = (lower_rises l.before l.changes low high le rises, lower_each ls low high le rise)
 
-pub after_each : (ls : List Line) (t : ℕ) → EachRises t ls → EachRises (suc t) (map (line_after t) ls)
+pub after_each : (ls : List Trace) (t : ℕ) → EachRises t ls → EachRises (suc t) (map (trace_after t) ls)
 after_each [] t rise = tt
 after_each (l ∷ ls) t (rises, rise) = (after_rises l.before l.changes t rises, after_each ls t rise)
 
 -- past the tick the waves and those after it have the same values
-values_agree : (ls : List Line) (t u : ℕ) → EachRises t ls → t ≤ u → map (λ l. value_on l u) ls ≡ map (λ l. value_on l u) (map (line_after t) ls)
+values_agree : (ls : List Trace) (t u : ℕ) → EachRises t ls → t ≤ u → map (λ l. value_on l u) ls ≡ map (λ l. value_on l u) (map (trace_after t) ls)
 values_agree [] t u rise later = refl
 values_agree (l ∷ ls) t u (rises, rise) later = λ i. after_agrees l.before l.changes t u rises later i ∷ values_agree ls t u rise later i
 
-edges_agree : (ls : List Line) (t u : ℕ) → EachRises t ls → t < u → edge_on ls u ≡ edge_on (map (line_after t) ls) u
+edges_agree : (ls : List Trace) (t u : ℕ) → EachRises t ls → t < u → edge_on ls u ≡ edge_on (map (trace_after t) ls) u
 edges_agree ls t zero rise later = absurd (omega arith)
 edges_agree ls t (suc u) rise later =
     let before = values_agree ls t u rise (omega arith) in
@@ -88,7 +88,7 @@ edges_agree ls t (suc u) rise later =
     λ i. record { tick = suc u; before = before i; at = at i }
 
 -- and change at the same ticks
-tests_agree : (ls : List Line) (t u : ℕ) → EachRises t ls → t < u → list_any (changes_at u) ls ≡ list_any (changes_at u) (map (line_after t) ls)
+tests_agree : (ls : List Trace) (t u : ℕ) → EachRises t ls → t < u → list_any (changes_at u) ls ≡ list_any (changes_at u) (map (trace_after t) ls)
 tests_agree ls t zero rise later = absurd (omega arith)
 tests_agree [] t (suc u) rise later = refl
 tests_agree (l ∷ ls) t (suc u) (rises, rise) later =
@@ -98,14 +98,14 @@ tests_agree (l ∷ ls) t (suc u) (rises, rise) later =
     λ i. not (same_value (at i) (just_before i)) || rest i
 
 -- the values at the edge itself are those that the waves before and after it keep
-befores : (ls : List Line) (t : ℕ) → EachRises t ls → map (λ l. value_before l t) ls ≡ map (λ l. l.before) ls
+befores : (ls : List Trace) (t : ℕ) → EachRises t ls → map (λ l. value_before l t) ls ≡ map (λ l. l.before) ls
 befores [] t rise = refl
 befores (l ∷ ls) t (rises, rise) = λ i. quiet_before l.before l.changes t t rises (omega arith) i ∷ befores ls t rise i
 
-afters : (ls : List Line) (t : ℕ) → EachRises t ls → map (λ l. value_on l t) ls ≡ map (λ l. l.before) (map (line_after t) ls)
+afters : (ls : List Trace) (t : ℕ) → EachRises t ls → map (λ l. value_on l t) ls ≡ map (λ l. l.before) (map (trace_after t) ls)
 afters [] t rise = refl
 afters (l ∷ ls) t (rises, rise) =
-    let next = line_after t l in
+    let next = trace_after t l in
     let agree = after_agrees l.before l.changes t t rises (omega arith) in
     let kept = quiet_value next.before next.changes (suc t) t (after_rises l.before l.changes t rises) (omega arith) in
     λ i. (agree ∙ kept) i ∷ afters ls t rise i
@@ -113,28 +113,28 @@ afters (l ∷ ls) t (rises, rise) =
 -- ---- the list of edges
 
 -- the edge at the next tick
-abbrev pub next_edge : List Line → ℕ → Edge
-next_edge ls t = record { tick = t; before = map (λ l. l.before) ls; at = map (λ l. l.before) (map (line_after t) ls) }
+abbrev pub next_edge : List Trace → ℕ → Edge
+next_edge ls t = record { tick = t; before = map (λ l. l.before) ls; at = map (λ l. l.before) (map (trace_after t) ls) }
 
-next_edge_is : (ls : List Line) (t : ℕ) → EachRises t ls → edge_on ls t ≡ next_edge ls t
+next_edge_is : (ls : List Trace) (t : ℕ) → EachRises t ls → edge_on ls t ≡ next_edge ls t
 next_edge_is ls t rise =
     let before = befores ls t rise in
     let at = afters ls t rise in
     λ i. record { tick = t; before = before i; at = at i }
 
 -- it comes first, and then those of the waves past it
-pub edges_step : (ls : List Line) (end t : ℕ) → EachRises 0 ls → next_of ls ≡ Some t → t ≤ end → edges_on ls end ≡ next_edge ls t ∷ edges_on (map (line_after t) ls) end
+pub edges_step : (ls : List Trace) (end t : ℕ) → EachRises 0 ls → next_tick_of ls ≡ Some t → t ≤ end → edges_on ls end ≡ next_edge ls t ∷ edges_on (map (trace_after t) ls) end
 unfolding edges_on
 edges_step ls end t rise next within =
     let here = rises_to_next ls t rise next in
-    let past = map (line_after t) ls in
+    let past = map (trace_after t) ls in
     let split = first_kept (λ u. list_any (changes_at u) ls) (λ u. list_any (changes_at u) past) (edge_on ls) (edge_on past) t 0 (suc end) (omega arith) (omega arith)
     (λ u early. quiet_each ls t u here early) (change_each ls t here next) (λ u early. quiet_each past (suc t) u (after_each ls t here) early)
     (λ u later. tests_agree ls t u here later) (λ u later. edges_agree ls t u here later) in
     split ∙ ap (λ (e : Edge). e ∷ map (edge_on past) (filter (λ u. list_any (changes_at u) past) (range_with_len 0 (suc end)))) (next_edge_is ls t here)
 
 -- where no change is left there is no edge
-pub no_edges : (ls : List Line) (end : ℕ) → EachRises 0 ls → next_of ls ≡ None → edges_on ls end ≡ []
+pub no_edges : (ls : List Trace) (end : ℕ) → EachRises 0 ls → next_tick_of ls ≡ None → edges_on ls end ≡ []
 unfolding edges_on
 no_edges ls end rise next =
     let never = none_from (λ u. list_any (changes_at u) ls) 0 (suc end)
@@ -144,16 +144,16 @@ no_edges ls end rise next =
 -- ---- the end
 
 -- no wave changes past it
-abbrev pub EachEnds : ℕ → List Line → Type 0
+abbrev pub EachEnds : ℕ → List Trace → Type 0
 EachEnds end [] = Unit {0}
 EachEnds end (l ∷ ls) = AllUpTo end l.changes × EachEnds end ls
 
-ended_each : (ls : List Line) (end t : ℕ) → EachEnds end ls → end < t → list_any (changes_at t) ls ≡ false
+ended_each : (ls : List Trace) (end t : ℕ) → EachEnds end ls → end < t → list_any (changes_at t) ls ≡ false
 ended_each [] end t ends late = refl
 ended_each (l ∷ ls) end t (ends, rest) late = rw (ended l.before l.changes end t ends late) (ended_each ls end t rest late)
 
 -- two ends that no change is past give the same edges
-pub edges_same : (ls : List Line) (m n : ℕ) → EachEnds m ls → EachEnds n ls → edges_on ls m ≡ edges_on ls n
+pub edges_same : (ls : List Trace) (m n : ℕ) → EachEnds m ls → EachEnds n ls → edges_on ls m ≡ edges_on ls n
 unfolding edges_on
 edges_same ls m n ends_m ends_n =
     let test : ℕ → Bool = λ u. list_any (changes_at u) ls in
@@ -166,7 +166,7 @@ ticks_within : (cs : List Change) (n : ℕ) → ticks_sum cs ≤ n → AllUpTo n
 ticks_within [] n le = tt
 ticks_within (c ∷ cs) n le = (omega arith, ticks_within cs n (omega arith))
 
-reach_ends : (ls : List Line) (n : ℕ) → reach ls ≤ n → EachEnds n ls
+reach_ends : (ls : List Trace) (n : ℕ) → reach ls ≤ n → EachEnds n ls
 reach_ends [] n le = tt
 reach_ends (l ∷ ls) n le = (ticks_within l.changes n (omega arith), reach_ends ls n (omega arith))
 
@@ -174,15 +174,15 @@ next_within_line : (cs : List Change) (end t : ℕ) → AllUpTo end cs → next_
 next_within_line [] end t ends next = absurd (cc)
 next_within_line (c ∷ cs) end t ends next = omega (arith, same_Some c.tick t next, ends.0)
 
-next_within : (ls : List Line) (end t : ℕ) → EachEnds end ls → next_of ls ≡ Some t → t ≤ end
+next_within : (ls : List Trace) (end t : ℕ) → EachEnds end ls → next_tick_of ls ≡ Some t → t ≤ end
 next_within [] end t ends next = absurd (cc)
 next_within (l ∷ ls) end t (ends, rest) next =
-    elim (earlier_one (next_tick l.changes) (next_of ls) t next) [
+    elim (earlier_one (next_tick l.changes) (next_tick_of ls) t next) [
       | inl first ↦ next_within_line l.changes end t ends first
       | inr later ↦ next_within ls end t rest later
     ]
 
-after_ends_line : (before : Option (List Bit)) (cs : List Change) (end t : ℕ) → AllUpTo end cs → AllUpTo end (advanced t before cs).changes
+after_ends_line : (before : Option (List Bit)) (cs : List Change) (end t : ℕ) → AllUpTo end cs → AllUpTo end (trace_past t before cs).changes
 after_ends_line before [] end t ends = tt
 after_ends_line before (c ∷ cs) end t ends = choose (c.tick == t)
   where
@@ -190,69 +190,69 @@ after_ends_line before (c ∷ cs) end t ends = choose (c.tick == t)
     choose true = ends.1
     choose false = ends
 
-after_ends : (ls : List Line) (end t : ℕ) → EachEnds end ls → EachEnds end (map (line_after t) ls)
+after_ends : (ls : List Trace) (end t : ℕ) → EachEnds end ls → EachEnds end (map (trace_after t) ls)
 after_ends [] end t ends = tt
 after_ends (l ∷ ls) end t (ends, rest) = (after_ends_line l.before l.changes end t ends, after_ends ls end t rest)
 
 -- a step of the walk
-pub walk_step : (ls : List Line) (t : ℕ) → EachRises 0 ls → next_of ls ≡ Some t → edges_on ls (reach ls) ≡ next_edge ls t ∷ edges_on (map (line_after t) ls) (reach (map (line_after t) ls))
+pub walk_step : (ls : List Trace) (t : ℕ) → EachRises 0 ls → next_tick_of ls ≡ Some t → edges_on ls (reach ls) ≡ next_edge ls t ∷ edges_on (map (trace_after t) ls) (reach (map (trace_after t) ls))
 walk_step ls t rise next =
     let ends = reach_ends ls (reach ls) (omega arith) in
-    let past = map (line_after t) ls in
+    let past = map (trace_after t) ls in
     edges_step ls (reach ls) t rise next (next_within ls (reach ls) t ends next)
     ∙ ap (λ (es : List Edge). next_edge ls t ∷ es) (edges_same past (reach ls) (reach past) (after_ends ls (reach ls) t ends) (reach_ends past (reach past) (omega arith)))
 
 -- after which the waves still rise
-pub walk_rises : (ls : List Line) (t : ℕ) → EachRises 0 ls → next_of ls ≡ Some t → EachRises 0 (map (line_after t) ls)
-walk_rises ls t rise next = lower_each (map (line_after t) ls) 0 (suc t) (omega arith) (after_each ls t (rises_to_next ls t rise next))
+pub walk_rises : (ls : List Trace) (t : ℕ) → EachRises 0 ls → next_tick_of ls ≡ Some t → EachRises 0 (map (trace_after t) ls)
+walk_rises ls t rise next = lower_each (map (trace_after t) ls) 0 (suc t) (omega arith) (after_each ls t (rises_to_next ls t rise next))
 
 -- ---- the beginning
 
-waves_end : (waves : List (Option WaveView)) (end : ℕ) → EachUpTo end waves → EachEnds end (map line_of waves)
+waves_end : (waves : List (Option WaveView)) (end : ℕ) → EachUpTo end waves → EachEnds end (map trace_of waves)
 waves_end [] end upto = tt
 waves_end (None ∷ waves) end (upto, rest) = (tt, waves_end waves end rest)
 waves_end (Some w ∷ waves) end (upto, rest) = (upto, waves_end waves end rest)
 
 -- a walk from the start has all edges to come
-pub walk_begins : (waves : List (Option WaveView)) (end : ℕ) → EachUpTo end waves → edges_on (map line_of waves) (reach (map line_of waves)) ≡ edges_on (map line_of waves) end
+pub walk_begins : (waves : List (Option WaveView)) (end : ℕ) → EachUpTo end waves → edges_on (map trace_of waves) (reach (map trace_of waves)) ≡ edges_on (map trace_of waves) end
 walk_begins waves end upto =
-    let ls = map line_of waves in
+    let ls = map trace_of waves in
     edges_same ls (reach ls) end (reach_ends ls (reach ls) (omega arith)) (waves_end waves end upto)
 
 -- ---- the walk over four waves
 
 -- where no change is left, no edge is
-pub walk_over : (e : Inside) → EachRises 0 (lines_on e) → next_of (lines_on e) ≡ None → edges_left e ≡ []
+pub walk_over : (e : Inside) → EachRises 0 (traces_left e) → next_tick_of (traces_left e) ≡ None → edges_left e ≡ []
 unfolding edges_left
-walk_over e rise next = no_edges (lines_on e) (reach (lines_on e)) rise next
+walk_over e rise next = no_edges (traces_left e) (reach (traces_left e)) rise next
 
 -- the walk with these tracks
-abbrev pub walk_of : Track → Track → Track → Track → Inside
+abbrev pub walk_of : LentTrace → LentTrace → LentTrace → LentTrace → Inside
 walk_of a b c d = record { a = a; b = b; c = c; d = d }
 
 -- the waves past a tick are those of the tracks past it
-advanced_lines : (e : Inside) (a b c d : Track) (t : ℕ) → line_on a ≡ line_after t (line_on e.a) → line_on b ≡ line_after t (line_on e.b) → line_on c ≡ line_after t (line_on e.c) → line_on d ≡ line_after t (line_on e.d)
-    → lines_on (walk_of a b c d) ≡ map (line_after t) (lines_on e)
+advanced_lines : (e : Inside) (a b c d : LentTrace) (t : ℕ) → trace_left a ≡ trace_after t (trace_left e.a) → trace_left b ≡ trace_after t (trace_left e.b) → trace_left c ≡ trace_after t (trace_left e.c) → trace_left d ≡ trace_after t (trace_left e.d)
+    → traces_left (walk_of a b c d) ≡ map (trace_after t) (traces_left e)
 advanced_lines e a b c d t a_is b_is c_is d_is = λ i. a_is i ∷ b_is i ∷ c_is i ∷ d_is i ∷ []
 
-pub walk_next : (e : Inside) (a b c d : Track) (t : ℕ) → EachRises 0 (lines_on e) → next_of (lines_on e) ≡ Some t
-    → line_on a ≡ line_after t (line_on e.a) → line_on b ≡ line_after t (line_on e.b) → line_on c ≡ line_after t (line_on e.c) → line_on d ≡ line_after t (line_on e.d)
-    → edges_left e ≡ record { tick = t; before = map (λ l. l.before) (lines_on e); at = map (λ l. l.before) (lines_on (walk_of a b c d)) } ∷ edges_left (walk_of a b c d)
+pub walk_next : (e : Inside) (a b c d : LentTrace) (t : ℕ) → EachRises 0 (traces_left e) → next_tick_of (traces_left e) ≡ Some t
+    → trace_left a ≡ trace_after t (trace_left e.a) → trace_left b ≡ trace_after t (trace_left e.b) → trace_left c ≡ trace_after t (trace_left e.c) → trace_left d ≡ trace_after t (trace_left e.d)
+    → edges_left e ≡ record { tick = t; before = map (λ l. l.before) (traces_left e); at = map (λ l. l.before) (traces_left (walk_of a b c d)) } ∷ edges_left (walk_of a b c d)
 unfolding edges_left
 walk_next e a b c d t rise next a_is b_is c_is d_is =
-    let ls = lines_on e in
-    let P : List Line → Type 0 = λ ks. edges_on ls (reach ls) ≡ record { tick = t; before = map (λ l. l.before) ls; at = map (λ l. l.before) ks } ∷ edges_on ks (reach ks) in
+    let ls = traces_left e in
+    let P : List Trace → Type 0 = λ ks. edges_on ls (reach ls) ≡ record { tick = t; before = map (λ l. l.before) ls; at = map (λ l. l.before) ks } ∷ edges_on ks (reach ks) in
     subst P (sym (advanced_lines e a b c d t a_is b_is c_is d_is)) (walk_step ls t rise next)
 
-pub walk_kept : (e : Inside) (a b c d : Track) (t : ℕ) → EachRises 0 (lines_on e) → next_of (lines_on e) ≡ Some t
-    → line_on a ≡ line_after t (line_on e.a) → line_on b ≡ line_after t (line_on e.b) → line_on c ≡ line_after t (line_on e.c) → line_on d ≡ line_after t (line_on e.d)
-    → EachRises 0 (lines_on (walk_of a b c d))
+pub walk_kept : (e : Inside) (a b c d : LentTrace) (t : ℕ) → EachRises 0 (traces_left e) → next_tick_of (traces_left e) ≡ Some t
+    → trace_left a ≡ trace_after t (trace_left e.a) → trace_left b ≡ trace_after t (trace_left e.b) → trace_left c ≡ trace_after t (trace_left e.c) → trace_left d ≡ trace_after t (trace_left e.d)
+    → EachRises 0 (traces_left (walk_of a b c d))
 walk_kept e a b c d t rise next a_is b_is c_is d_is =
-    subst (EachRises 0) (sym (advanced_lines e a b c d t a_is b_is c_is d_is)) (walk_rises (lines_on e) t rise next)
+    subst (EachRises 0) (sym (advanced_lines e a b c d t a_is b_is c_is d_is)) (walk_rises (traces_left e) t rise next)
 
 -- a walk over whole waves has all their edges to come
-pub walk_from : (e : Inside) (waves : List (Option WaveView)) (end : ℕ) → lines_on e ≡ map line_of waves → EachUpTo end waves → edges_left e ≡ edges_on (map line_of waves) end
+pub walk_from : (e : Inside) (waves : List (Option WaveView)) (end : ℕ) → traces_left e ≡ map trace_of waves → EachUpTo end waves → edges_left e ≡ edges_on (map trace_of waves) end
 unfolding edges_left
 walk_from e waves end is upto =
-    let P : List Line → Type 0 = λ ks. edges_on ks (reach ks) ≡ edges_on (map line_of waves) end in
+    let P : List Trace → Type 0 = λ ks. edges_on ks (reach ks) ≡ edges_on (map trace_of waves) end in
     subst P (sym is) (walk_begins waves end upto)

@@ -11,7 +11,7 @@ use Rattle.std.proofs.lemmas.List.Concat.{concat_is}
 use Rattle.std.proofs.lemmas.Slice.Eq.{bytes_eq-Decides}
 use Rattle.vcd_core.specs.Contents.{SignalContents}
 use Rattle.vcd_core.specs.Names.{full_name, scope_text}
-use Rattle.vcd_core.specs.NameParts.{IsRestAfter, scopes_front}
+use Rattle.vcd_core.specs.inside.NameParts.{IsRestAfter, scopes_front}
 
 -- a text that goes on after some pieces, but not with the next one, does not begin with all of them
 pub not_all_pieces : {X : Type 0} (f : X → List ℕ) (xs : List X) (i : ℕ) (d : X) (rest : List ℕ) → i < length xs → ((more : List ℕ) → rest ≢ f (get_or xs i d) ++ more) → (more : List ℕ) → flat_map f (take i xs) ++ rest ≢ flat_map f xs ++ more

@@ -5,7 +5,7 @@ use Rattle.std.specs.Int.{bit_at}
 use Rattle.std.proofs.lemmas.Nat.Bits.{bit_at_ones, bit_at_ones_above, bit_at-zero}
 use Rattle.std.proofs.lemmas.List.{get_or-set_same, get_or-set_other, get_or-replicate, length-replicate}
 use Rattle.std.proofs.lemmas.Bool.{cases_lt, cases_eq}
-use Rattle.vcd_core.specs.Planes.{plane_bit, IsPlane}
+use Rattle.vcd_core.specs.inside.Planes.{plane_bit, IsPlane}
 
 -- the bits of the word that was written
 pub plane_bit-set_same : (words : List ℕ) (j x k : ℕ) → j < length words → k / 64 ≡ j → plane_bit (set words j x) k ≡ bit_at x (k % 64)

@@ -7,9 +7,9 @@ use Rattle.std.proofs.lemmas.List.Elements.{All-cons, All-head, All-tail}
 use Rattle.vcd_core.specs.declared.bit.Bit.{Bit}
 use Rattle.vcd_core.specs.declared.wave.Change.{Change}
 use Rattle.vcd_core.specs.Value.{all_x, same_letters}
-use Rattle.vcd_core.specs.ValueLaws.{same_letters-Decides}
+use Rattle.vcd_core.specs.inside.ValueLaws.{same_letters-Decides}
 use Rattle.vcd_core.specs.Wave.{change, value_from, value_at, ChangesFrom, IsWave, AllUpTo, last_value}
-use Rattle.vcd_core.specs.Pushed.{changes_before, pushed}
+use Rattle.vcd_core.specs.Push.{changes_before, changes_after_push}
 use Rattle.vcd_core.proofs.Waves.{value_from-append, value_past, value_skip, value_early}
 
 -- ---- ticks by position
@@ -154,8 +154,8 @@ upto_added tick value (c ∷ cs) (first, rest) = (first, upto_added tick value c
 pushed_cases : (P : List Change → Type 0) (width : ℕ) (cs : List Change) (tick : ℕ) (value : List Bit)
     → (value ≡ last_value (all_x width) (changes_before tick cs) → P (changes_before tick cs))
     → (value ≢ last_value (all_x width) (changes_before tick cs) → P (changes_before tick cs ++ change tick value ∷ []))
-    → P (pushed width cs tick value)
-unfolding pushed
+    → P (changes_after_push width cs tick value)
+unfolding changes_after_push
 pushed_cases P width cs tick value same other = choose (same_letters value (last_value (all_x width) (changes_before tick cs))) refl
   where
     choose : (b : Bool) → same_letters value (last_value (all_x width) (changes_before tick cs)) ≡ b
@@ -163,18 +163,18 @@ pushed_cases P width cs tick value same other = choose (same_letters value (last
     choose true e = same ((same_letters-Decides value _).0 e)
     choose false e = other (λ equal. let both : true ≡ false = sym ((same_letters-Decides value _).1 equal) ∙ e in absurd (cc))
 
-pub pushed_wave : (width : ℕ) (cs : List Change) (tick : ℕ) (value : List Bit) → IsWave width cs → length value ≡ length (all_x width) → IsWave width (pushed width cs tick value)
+pub pushed_wave : (width : ℕ) (cs : List Change) (tick : ℕ) (value : List Bit) → IsWave width cs → length value ≡ length (all_x width) → IsWave width (changes_after_push width cs tick value)
 pushed_wave width cs tick value is wide =
     pushed_cases (IsWave width) width cs tick value
     (λ _. record { rise = kept_rise 0 tick (all_x width) cs is.rise })
     (λ other. record { rise = added_rise 0 tick (all_x width) value cs is.rise (omega arith) wide other })
 
-pub pushed_upto : (width : ℕ) (cs : List Change) (tick : ℕ) (value : List Bit) → AllUpTo tick (pushed width cs tick value)
+pub pushed_upto : (width : ℕ) (cs : List Change) (tick : ℕ) (value : List Bit) → AllUpTo tick (changes_after_push width cs tick value)
 pushed_upto width cs tick value = pushed_cases (AllUpTo tick) width cs tick value (λ _. kept_upto tick cs) (λ _. upto_added tick value _ (kept_upto tick cs))
 
 -- the value at every tick after a push
 pub value_at-pushed : (width : ℕ) (cs : List Change) (tick : ℕ) (value : List Bit) (t : ℕ) → IsWave width cs
-    → value_at width (pushed width cs tick value) t ≡ (if nat_le tick t then value else value_at width cs t)
+    → value_at width (changes_after_push width cs tick value) t ≡ (if nat_le tick t then value else value_at width cs t)
 unfolding value_from
 value_at-pushed width cs tick value t is =
     elim (cases_lt t tick) [
@@ -261,14 +261,14 @@ none_before tick (c ∷ cs) none = absurd (omega arith)
 
 -- after the changes before the tick were kept
 pub pushed_same : (width : ℕ) (cs : List Change) (tick : ℕ) (value : List Bit) (kept : List Change) → kept ≡ changes_before tick cs
-    → same_letters value (last_value (all_x width) kept) ≡ true → kept ≡ pushed width cs tick value
-unfolding pushed
+    → same_letters value (last_value (all_x width) kept) ≡ true → kept ≡ changes_after_push width cs tick value
+unfolding changes_after_push
 pushed_same width cs tick value kept is same =
     is ∙ sym (ap (λ b. if b then changes_before tick cs else changes_before tick cs ++ change tick value ∷ []) (ap (λ l. same_letters value (last_value (all_x width) l)) (sym is) ∙ same))
 
 pub pushed_other : (width : ℕ) (cs : List Change) (tick : ℕ) (value : List Bit) (kept : List Change) → kept ≡ changes_before tick cs
-    → same_letters value (last_value (all_x width) kept) ≡ false → kept ++ change tick value ∷ [] ≡ pushed width cs tick value
-unfolding pushed
+    → same_letters value (last_value (all_x width) kept) ≡ false → kept ++ change tick value ∷ [] ≡ changes_after_push width cs tick value
+unfolding changes_after_push
 pushed_other width cs tick value kept is other =
     ap (λ l. l ++ change tick value ∷ []) is
     ∙ sym (ap (λ b. if b then changes_before tick cs else changes_before tick cs ++ change tick value ∷ []) (ap (λ l. same_letters value (last_value (all_x width) l)) (sym is) ∙ other))

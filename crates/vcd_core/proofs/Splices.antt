@@ -9,7 +9,7 @@ use Rattle.std.proofs.lemmas.List.Folds.{drop_split}
 use Rattle.std.proofs.lemmas.Slice.{drop-append-drop}
 use Rattle.std.proofs.lemmas.Int.{ints}
 use Rattle.vcd_core.specs.declared.wave.Change.{Change}
-use Rattle.vcd_core.specs.Splice.{moved, TickFits, TicksFit, spliced}
+use Rattle.vcd_core.specs.Splice.{moved_change, TickFits, TicksFit, spliced_changes}
 
 -- ---- a whole piece for the front of a part
 
@@ -68,15 +68,15 @@ element_here f xs ys i d within is =
 
 -- the change there is still the old one, whose tick fits
 pub fits_here : (by at : ℤ) (xs ys : List Change) (i : ℕ) (x c : Change) → at ≡ by → TicksFit by xs → i < length xs
-    → ys ≡ map (moved at) (take i xs) ++ drop i xs → x ≡ get_or ys i x → c ≡ x → TickFits at c
+    → ys ≡ map (moved_change at) (take i xs) ++ drop i xs → x ≡ get_or ys i x → c ≡ x → TickFits at c
 fits_here by at xs ys i x c same fits within is here read =
-    subst (λ z. TickFits z c) (sym same) (subst (TickFits by) (sym (read ∙ here ∙ element_here (moved at) xs ys i x within is)) (fits i x within))
+    subst (λ z. TickFits z c) (sym same) (subst (TickFits by) (sym (read ∙ here ∙ element_here (moved_change at) xs ys i x within is)) (fits i x within))
 
 pub moved_more : (at : ℤ) (xs ys : List Change) (i : ℕ) (x c next : Change) → i < length xs
-    → ys ≡ map (moved at) (take i xs) ++ drop i xs → x ≡ get_or ys i x → next ≡ moved at c → c ≡ x
-    → set ys i next ≡ map (moved at) (take (i + 1) xs) ++ drop (i + 1) xs
+    → ys ≡ map (moved_change at) (take i xs) ++ drop i xs → x ≡ get_or ys i x → next ≡ moved_change at c → c ≡ x
+    → set ys i next ≡ map (moved_change at) (take (i + 1) xs) ++ drop (i + 1) xs
 moved_more at xs ys i x c next within is here told read =
-    ap (set ys i) (told ∙ ap (moved at) read) ∙ map_over_more (moved at) xs ys i x within is here
+    ap (set ys i) (told ∙ ap (moved_change at) read) ∙ map_over_more (moved_change at) xs ys i x within is here
 
 -- ---- the later changes of a list, moved after the exchange
 
@@ -114,34 +114,34 @@ module _ (cs piece list : List Change) (from to seam : ℕ) (by at : ℤ) (same 
   pub tail_fits : TicksFit by (drop to cs) → TicksFit at (drop seam list)
   tail_fits fits = subst (TicksFit at) (sym after_seam) (subst (λ z. TicksFit z (drop to cs)) (sym same) fits)
 
-  pub spliced_is : (new : List Change) → new ≡ take seam list ++ map (moved at) (drop seam list) → new ≡ spliced cs from to piece by
-  unfolding spliced
-  spliced_is new moves = moves ∙ (λ i. before_seam i ++ map (moved (same i)) (after_seam i))
+  pub spliced_is : (new : List Change) → new ≡ take seam list ++ map (moved_change at) (drop seam list) → new ≡ spliced_changes cs from to piece by
+  unfolding spliced_changes
+  spliced_is new moves = moves ∙ (λ i. before_seam i ++ map (moved_change (same i)) (after_seam i))
 
 -- ---- a splice and the one that undoes it
 
 tick_back : (tick : ℕ) (by back : ℤ) → FitsUnsigned w64 (pos tick +ℤ by) → by +ℤ back ≡ pos 0 → unsigned_abs (pos (unsigned_abs (pos tick +ℤ by)) +ℤ back) ≡ tick
 tick_back tick by back fits opposite = omega (arith, ints, fits.0, opposite)
 
-pub moved_back : (by back : ℤ) (cs : List Change) → by +ℤ back ≡ pos 0 → TicksFit by cs → map (moved back) (map (moved by) cs) ≡ cs
-unfolding moved TickFits
+pub moved_back : (by back : ℤ) (cs : List Change) → by +ℤ back ≡ pos 0 → TicksFit by cs → map (moved_change back) (map (moved_change by) cs) ≡ cs
+unfolding moved_change TickFits
 moved_back by back [] opposite fit = refl
 moved_back by back (c ∷ cs) opposite fit =
     let tick = tick_back c.tick by back (All-head (TickFits by) c cs fit) opposite in
-    let head : moved back (moved by c) ≡ c = λ i. record { tick = tick i; value = c.value } in
+    let head : moved_change back (moved_change by c) ≡ c = λ i. record { tick = tick i; value = c.value } in
     let tail = moved_back by back cs opposite (All-tail (TickFits by) c cs fit) in
     λ i. head i ∷ tail i
 
 -- a tick that was moved may move back
-tick_fits_back : (by back : ℤ) (c : Change) → c.tick < 2 ^ 64 → by +ℤ back ≡ pos 0 → TickFits by c → TickFits back (moved by c)
-unfolding moved TickFits
+tick_fits_back : (by back : ℤ) (c : Change) → c.tick < 2 ^ 64 → by +ℤ back ≡ pos 0 → TickFits by c → TickFits back (moved_change by c)
+unfolding moved_change TickFits
 tick_fits_back by back c small opposite fits =
     let same : pos (unsigned_abs (pos c.tick +ℤ by)) +ℤ back ≡ pos c.tick = omega (arith, ints, fits.0, opposite) in
     subst (FitsUnsigned w64) (sym same) (omega (arith, ints), omega (arith, ints, small))
 
-moved_fit : (by back : ℤ) (cs : List Change) → All (λ c. c.tick < 2 ^ 64) cs → by +ℤ back ≡ pos 0 → TicksFit by cs → TicksFit back (map (moved by) cs)
+moved_fit : (by back : ℤ) (cs : List Change) → All (λ c. c.tick < 2 ^ 64) cs → by +ℤ back ≡ pos 0 → TicksFit by cs → TicksFit back (map (moved_change by) cs)
 moved_fit by back cs small opposite fit =
-    All-map (TickFits back) (moved by) cs (λ k d within. tick_fits_back by back _ (small k d within) opposite (fit k d within))
+    All-map (TickFits back) (moved_change by) cs (λ k d within. tick_fits_back by back _ (small k d within) opposite (fit k d within))
 
 module _ (cs piece : List Change) (from to : ℕ) (by back : ℤ) (ordered : from ≤ to) (within : to ≤ length cs) where
   front_is : length (take from cs) ≡ from
@@ -151,25 +151,25 @@ module _ (cs piece : List Change) (from to : ℕ) (by back : ℤ) (ordered : fro
   both_are = omega (arith, length-append (take from cs) piece, front_is)
 
   -- the later changes of a splice
-  pub later_of-spliced : drop (from + length piece) (spliced cs from to piece by) ≡ map (moved by) (drop to cs)
-  unfolding spliced
+  pub later_of-spliced : drop (from + length piece) (spliced_changes cs from to piece by) ≡ map (moved_change by) (drop to cs)
+  unfolding spliced_changes
   later_of-spliced =
-      drop-append-le (from + length piece) (take from cs ++ piece) (map (moved by) (drop to cs)) (omega (arith, both_are))
-      ∙ ap (λ l. l ++ map (moved by) (drop to cs)) (drop_all (from + length piece) (take from cs ++ piece) (omega (arith, both_are)))
+      drop-append-le (from + length piece) (take from cs ++ piece) (map (moved_change by) (drop to cs)) (omega (arith, both_are))
+      ∙ ap (λ l. l ++ map (moved_change by) (drop to cs)) (drop_all (from + length piece) (take from cs ++ piece) (omega (arith, both_are)))
 
   -- its first ones
-  first_of-spliced : take from (spliced cs from to piece by) ≡ take from cs
-  unfolding spliced
+  first_of-spliced : take from (spliced_changes cs from to piece by) ≡ take from cs
+  unfolding spliced_changes
   first_of-spliced =
-      take-append-le from (take from cs ++ piece) (map (moved by) (drop to cs)) (omega (arith, both_are))
+      take-append-le from (take from cs ++ piece) (map (moved_change by) (drop to cs)) (omega (arith, both_are))
       ∙ take-append-le from (take from cs) piece (omega (arith, front_is))
       ∙ take_all from (take from cs) (omega (arith, front_is))
 
   -- the piece stands in it
-  pub piece_of-spliced : slice_range (spliced cs from to piece by) from (from + length piece) ≡ piece
-  unfolding spliced
+  pub piece_of-spliced : slice_range (spliced_changes cs from to piece by) from (from + length piece) ≡ piece
+  unfolding spliced_changes
   piece_of-spliced =
-      let rest = map (moved by) (drop to cs) in
+      let rest = map (moved_change by) (drop to cs) in
       let tail : drop from (take from cs ++ piece ++ rest) ≡ piece ++ rest =
       ap (drop from) (append_assoc (take from cs) piece rest)
       ∙ drop-append-le from (take from cs) (piece ++ rest) (omega (arith, front_is))
@@ -180,24 +180,24 @@ module _ (cs piece : List Change) (from to : ℕ) (by back : ℤ) (ordered : fro
 
   -- the splice of what went out, with the opposite offset
   pub spliced_back : TicksFit by (drop to cs) → by +ℤ back ≡ pos 0
-      → spliced (spliced cs from to piece by) from (from + length piece) (slice_range cs from to) back ≡ cs
-  unfolding spliced
+      → spliced_changes (spliced_changes cs from to piece by) from (from + length piece) (slice_range cs from to) back ≡ cs
+  unfolding spliced_changes
   spliced_back fit opposite =
       let part = slice_range cs from to in
-      let later : map (moved back) (drop (from + length piece) (spliced cs from to piece by)) ≡ drop to cs =
-      ap (map (moved back)) later_of-spliced ∙ moved_back by back (drop to cs) opposite fit in
+      let later : map (moved_change back) (drop (from + length piece) (spliced_changes cs from to piece by)) ≡ drop to cs =
+      ap (map (moved_change back)) later_of-spliced ∙ moved_back by back (drop to cs) opposite fit in
       (λ i. first_of-spliced i ++ part ++ later i)
       ∙ append_assoc (take from cs) part (drop to cs)
       ∙ ap (λ l. take from cs ++ l) (sym (drop_split cs from to ordered))
       ∙ take-append-drop from cs
 
   -- the piece stands within the list
-  pub back_within : from + length piece ≤ length (spliced cs from to piece by)
-  unfolding spliced
-  back_within = omega (arith, both_are, length-append (take from cs ++ piece) (map (moved by) (drop to cs)))
+  pub back_within : from + length piece ≤ length (spliced_changes cs from to piece by)
+  unfolding spliced_changes
+  back_within = omega (arith, both_are, length-append (take from cs ++ piece) (map (moved_change by) (drop to cs)))
 
   -- the later ticks may move back
   pub back_fits : All (λ c. c.tick < 2 ^ 64) cs → TicksFit by (drop to cs) → by +ℤ back ≡ pos 0
-      → TicksFit back (drop (from + length piece) (spliced cs from to piece by))
+      → TicksFit back (drop (from + length piece) (spliced_changes cs from to piece by))
   back_fits small fit opposite =
       subst (TicksFit back) (sym later_of-spliced) (moved_fit by back (drop to cs) (All-drop (λ c. c.tick < 2 ^ 64) to cs small) opposite fit)

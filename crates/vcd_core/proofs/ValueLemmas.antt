@@ -7,8 +7,8 @@ use Rattle.vcd_core.specs.declared.bit.Bit.TheVariants.{Zero, One, X, Z}
 use Rattle.vcd_core.specs.Value.{letter_at}
 use Rattle.std.proofs.lemmas.Nat.Bits.{bit_at-lt}
 use Rattle.vcd_core.specs.declared.value.Value.TheInside.{Inside}
-use Rattle.vcd_core.specs.Planes.{plane_bit, letter_of, low_of, high_of, letters_of, view_value, IsValue}
-use Rattle.vcd_core.specs.PlaneLaws.{letter_at-letters_of, length-letters_of, low_of-letter_of, high_of-letter_of}
+use Rattle.vcd_core.specs.inside.Planes.{plane_bit, letter_of, low_of, high_of, letters_of, view_value, IsValue}
+use Rattle.vcd_core.specs.inside.PlaneLaws.{letter_at-letters_of, length-letters_of, low_of-letter_of, high_of-letter_of}
 
 letter_of-letter : (b : Bit) → letter_of (low_of b) (high_of b) ≡ b
 letter_of-letter Zero = refl

@@ -5,8 +5,8 @@ use Rattle.std.proofs.lemmas.Bool.{cases_eq, lt-leb, le-leb}
 use Rattle.vcd_core.specs.declared.bit.Bit.{Bit}
 use Rattle.vcd_core.specs.declared.wave.Change.{Change}
 use Rattle.vcd_core.specs.Value.{all_x, same_letters}
-use Rattle.vcd_core.specs.ValueLaws.{same_letters-Decides}
-use Rattle.vcd_core.specs.Wave.{change, value_from, value_at, put, changes_from, changes_of, ChangesFrom, IsWave, AllUpTo}
+use Rattle.vcd_core.specs.inside.ValueLaws.{same_letters-Decides}
+use Rattle.vcd_core.specs.Wave.{change, value_from, value_at, unless_same, changes_from, changes_of, ChangesFrom, IsWave, AllUpTo}
 
 -- ---- the value at a tick
 
@@ -36,10 +36,10 @@ value_early before kept (c ∷ cs) floor t (from, other, wide, rest) early =
 
 -- a change is put where the values differ
 pub put_cases : (P : List Change → Type 0) (v before : List Bit) (c : Change) (cs : List Change)
-    → (v ≡ before → P cs) → (v ≢ before → P (c ∷ cs)) → P (put (same_letters v before) c cs)
+    → (v ≡ before → P cs) → (v ≢ before → P (c ∷ cs)) → P (unless_same (same_letters v before) c cs)
 put_cases P v before c cs same other = choose (same_letters v before) refl
   where
-    choose : (b : Bool) → same_letters v before ≡ b → P (put b c cs)
+    choose : (b : Bool) → same_letters v before ≡ b → P (unless_same b c cs)
     choose true e = same ((same_letters-Decides v before).0 e)
     choose false e = other (λ equal. let both : true ≡ false = sym ((same_letters-Decides v before).1 equal) ∙ e in absurd (cc))
 
@@ -154,8 +154,8 @@ unfolding changes_from
 changes_same_from before t zero f g same = refl
 changes_same_from before t (suc n) f g same =
     let here : f t ≡ g t = same t (omega arith) (omega arith) in
-    ap (λ v. put (same_letters v before) (change t v) (changes_from v (suc t) n f)) here
-    ∙ ap (put (same_letters (g t) before) (change t (g t))) (changes_same_from (g t) (suc t) n f g (λ s from to. same s (omega arith) (omega arith)))
+    ap (λ v. unless_same (same_letters v before) (change t v) (changes_from v (suc t) n f)) here
+    ∙ ap (unless_same (same_letters (g t) before) (change t (g t))) (changes_same_from (g t) (suc t) n f g (λ s from to. same s (omega arith) (omega arith)))
 
 -- functions with the same values up to the end have the same changes
 pub changes_same : (width end : ℕ) (f g : ℕ → List Bit) → ((t : ℕ) → t ≤ end → f t ≡ g t) → changes_of width end f ≡ changes_of width end g

@@ -1,10 +1,13 @@
-use Rattle.std.specs.Prelude.{ℕ, List, map, Option}
+-- What a capture holds, and its signals by position: the project's own.
+use Rattle.std.specs.Prelude.{ℕ, List, [], map, slice_index_or, slice_set, Option}
 use Rattle.vcd_core.specs.declared.capture.Header.{Header}
 use Rattle.vcd_core.specs.declared.capture.Timescale.{Timescale}
 use Rattle.vcd_core.specs.declared.capture.ScopeName.{ScopeName}
 use Rattle.vcd_core.specs.declared.capture.Signal.{Signal}
 use Rattle.vcd_core.specs.declared.capture.Capture.{Capture}
 use Rattle.vcd_core.specs.declared.wave.Change.{Change}
+use Rattle.vcd_core.specs.declared.bit.Bit.{Bit}
+use Rattle.vcd_core.specs.Wave.{value_at}
 
 -- a signal by what it holds: the room of its wave is left out
 pub record SignalContents : Type 0 where
@@ -27,3 +30,19 @@ signal_contents s = record { scopes = s.scopes; kind = s.kind; words = s.words; 
 -- what a capture holds
 abbrev pub contents : Capture → Contents
 contents c = record { header = c.header; timescale = c.timescale; end = c.end; signals = map signal_contents c.signals }
+
+-- stands for a signal where there is none
+abbrev pub no_signal : SignalContents
+no_signal = record { scopes = []; kind = []; words = []; width = 1; changes = [] }
+
+-- the signal at a position
+abbrev pub signal_at : Contents → ℕ → SignalContents
+signal_at c k = slice_index_or c.signals k no_signal
+
+-- the capture with another signal at a position
+abbrev pub with_signal : Contents → ℕ → SignalContents → Contents
+with_signal c k s = record c { signals = slice_set c.signals k s }
+
+-- the value of a signal at a tick
+abbrev pub signal_value : SignalContents → ℕ → List Bit
+signal_value s t = value_at s.width s.changes t

@@ -11,21 +11,21 @@ use Rattle.vcd_core.specs.WaveView.{WaveView}
 -- Edges of several waves, an absent wave among them having no value: the project's own.
 
 -- a wave by its value before tick 0, none where it is absent, and its changes
-pub record Line : Type 0 where
+pub record Trace : Type 0 where
   pub before : Option (List Bit)
   pub changes : List Change
 
 -- a wave that may be absent: all x before tick 0
-abbrev pub line_of : Option WaveView → Line
-line_of None = record { before = None; changes = [] }
-line_of (Some w) = record { before = Some (all_x w.width); changes = w.changes }
+abbrev pub trace_of : Option WaveView → Trace
+trace_of None = record { before = None; changes = [] }
+trace_of (Some w) = record { before = Some (all_x w.width); changes = w.changes }
 
 -- its value at a tick
-abbrev pub value_on : Line → ℕ → Option (List Bit)
+abbrev pub value_on : Trace → ℕ → Option (List Bit)
 value_on l t = option_map (λ v. value_from v l.changes t) l.before
 
 -- and just before one
-abbrev pub value_before : Line → ℕ → Option (List Bit)
+abbrev pub value_before : Trace → ℕ → Option (List Bit)
 value_before l zero = l.before
 value_before l (suc t) = value_on l t
 
@@ -37,20 +37,20 @@ same_value (Some v) None = false
 same_value (Some v) (Some w) = same_letters v w
 
 -- whether it has another value at a tick than just before
-abbrev pub changes_at : ℕ → Line → Bool
+abbrev pub changes_at : ℕ → Trace → Bool
 changes_at t l = not (same_value (value_on l t) (value_before l t))
 
 -- the values just before a tick and at it
-abbrev pub edge_on : List Line → ℕ → Edge
+abbrev pub edge_on : List Trace → ℕ → Edge
 edge_on lines t = record { tick = t; before = map (λ l. value_before l t) lines; at = map (λ l. value_on l t) lines }
 
 -- the edges at the ticks 0 to `end`, rising: one at each tick at which some wave changes
-unfoldable pub edges_on : List Line → ℕ → List Edge
+unfoldable pub edges_on : List Trace → ℕ → List Edge
 edges_on lines end = map (edge_on lines) (filter (λ t. list_any (changes_at t) lines) (range_with_len 0 (suc end)))
 
 -- the edges of waves that may be absent
 abbrev pub edges_of : List (Option WaveView) → ℕ → List Edge
-edges_of waves end = edges_on (map line_of waves) end
+edges_of waves end = edges_on (map trace_of waves) end
 
 -- no wave changes past the tick `end`
 abbrev pub EachUpTo : ℕ → List (Option WaveView) → Type 0

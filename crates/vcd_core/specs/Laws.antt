@@ -2,7 +2,7 @@ use Rattle.std.specs.Prelude.{ℕ, ◌+◌, ◌^◌, ◌≡◌, ◌<◌, ◌≤�
 use Rattle.vcd_core.specs.declared.bit.Bit.{Bit}
 use Rattle.vcd_core.specs.declared.wave.Change.{Change}
 use Rattle.vcd_core.specs.Wave.{value_at, changes_of, IsWave, AllUpTo}
-use Rattle.vcd_core.specs.Splice.{TicksFit, spliced}
+use Rattle.vcd_core.specs.Splice.{TicksFit, spliced_changes}
 
 -- two waves of one width with the same value at each tick have the same changes
 abbrev pub SameValuesSameChanges : Type 0
@@ -31,14 +31,14 @@ abbrev pub SpliceAndBack : Type 0
 SpliceAndBack =
     (changes piece : List Change) (from to : ℕ) (by back : ℤ) → from ≤ to → to ≤ length changes
     → TicksFit by (drop to changes) → by +ℤ back ≡ pos 0
-    → (spliced (spliced changes from to piece by) from (from + length piece) (slice_range changes from to) back ≡ changes)
-    × (slice_range (spliced changes from to piece by) from (from + length piece) ≡ piece)
+    → (spliced_changes (spliced_changes changes from to piece by) from (from + length piece) (slice_range changes from to) back ≡ changes)
+    × (slice_range (spliced_changes changes from to piece by) from (from + length piece) ≡ piece)
 
 -- and the conditions of that second splice hold: the piece stands within the list, the ticks fit, and a wave is a wave again
 abbrev pub SpliceBackIsAllowed : Type 0
 SpliceBackIsAllowed =
     (width : ℕ) (changes piece : List Change) (from to : ℕ) (by back : ℤ) → from ≤ to → to ≤ length changes
     → IsWave width changes → All (λ c. c.tick < 2 ^ 64) changes → TicksFit by (drop to changes) → by +ℤ back ≡ pos 0
-    → (from + length piece ≤ length (spliced changes from to piece by))
-    × TicksFit back (drop (from + length piece) (spliced changes from to piece by))
-    × IsWave width (spliced (spliced changes from to piece by) from (from + length piece) (slice_range changes from to) back)
+    → (from + length piece ≤ length (spliced_changes changes from to piece by))
+    × TicksFit back (drop (from + length piece) (spliced_changes changes from to piece by))
+    × IsWave width (spliced_changes (spliced_changes changes from to piece by) from (from + length piece) (slice_range changes from to) back)

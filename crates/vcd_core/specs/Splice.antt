@@ -4,8 +4,8 @@ use Rattle.vcd_core.specs.declared.wave.Change.{Change}
 use Rattle.vcd_core.specs.Wave.{change}
 
 -- a change `by` ticks later, or earlier where `by` is negative
-unfoldable pub moved : ℤ → Change → Change
-moved by c = change (unsigned_abs (pos c.tick +ℤ by)) c.value
+unfoldable pub moved_change : ℤ → Change → Change
+moved_change by c = change (unsigned_abs (pos c.tick +ℤ by)) c.value
 
 -- its tick is then from 0 to 2^64 - 1
 unfoldable pub TickFits : ℤ → Change → Type 0
@@ -16,5 +16,5 @@ abbrev pub TicksFit : ℤ → List Change → Type 0
 TicksFit by changes = All (TickFits by) changes
 
 -- the changes at positions `from` up to before `to` give way to a piece, and the later ones move by `by` ticks
-unfoldable pub spliced : List Change → ℕ → ℕ → List Change → ℤ → List Change
-spliced changes from to piece by = take from changes ++ piece ++ map (moved by) (drop to changes)
+unfoldable pub spliced_changes : List Change → ℕ → ℕ → List Change → ℤ → List Change
+spliced_changes changes from to piece by = take from changes ++ piece ++ map (moved_change by) (drop to changes)

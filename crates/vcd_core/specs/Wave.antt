@@ -17,14 +17,14 @@ abbrev pub value_at : ℕ → List Change → ℕ → List Bit
 value_at width changes t = value_from (all_x width) changes t
 
 -- a change is listed where the value is another than the one before
-abbrev pub put : Bool → Change → List Change → List Change
-put true c cs = cs
-put false c cs = c ∷ cs
+abbrev pub unless_same : Bool → Change → List Change → List Change
+unless_same true c cs = cs
+unless_same false c cs = c ∷ cs
 
 -- the changes of f at n ticks from t on, where `before` is the value at the tick before
 unfoldable pub changes_from : List Bit → ℕ → ℕ → (ℕ → List Bit) → List Change
 changes_from before t zero f = []
-changes_from before t (suc n) f = put (same_letters (f t) before) (change t (f t)) (changes_from (f t) (suc t) n f)
+changes_from before t (suc n) f = unless_same (same_letters (f t) before) (change t (f t)) (changes_from (f t) (suc t) n f)
 
 -- the changes of f at the ticks 0 to `end`: those at which it differs from the tick before, all x before tick 0
 abbrev pub changes_of : ℕ → ℕ → (ℕ → List Bit) → List Change

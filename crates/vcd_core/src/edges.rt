@@ -1,6 +1,6 @@
 ghost use Rattle.std.specs.Prelude.{◌≡◌, ℕ, [], ◌∷◌, map};
 ghost use Rattle.std.specs.Option.{option_copied};
-ghost use Rattle.vcd_core.specs.EdgeWalk.{earlier, next_of, line_on};
+ghost use Rattle.vcd_core.specs.inside.EdgeWalk.{earlier_tick, next_tick_of, trace_left};
 
 use crate::bit::Bit;
 use crate::value::Value;
@@ -22,26 +22,26 @@ pub struct Edge {
 
 /// A wave from some tick on: its value just before, none where it is absent, and the changes from there on.
 #[derive(Clone, Copy)]
-struct Track<'a> {
+struct Trace<'a> {
     value: Option<Value>,
     rest: &'a [Change],
 }
 
-impl<'a> Track<'a> {
-    ghost use Rattle.vcd_core.specs.Edges.{line_of};
-    ghost use Rattle.vcd_core.specs.EdgeWalk.{line_on, line_after, next_tick, Rises};
+impl<'a> Trace<'a> {
+    ghost use Rattle.vcd_core.specs.Edges.{trace_of};
+    ghost use Rattle.vcd_core.specs.inside.EdgeWalk.{trace_left, trace_after, next_tick, Rises};
 
     /// A whole wave.
-    fn new(wave: Option<&'a Wave>) -> Track<'a>
-        ensures line { line_on result ≡ line_of (option_copied wave.entry) }
-        ensures rises { Rises 0 (line_on result) }
+    fn new(wave: Option<&'a Wave>) -> Trace<'a>
+        ensures line { trace_left result ≡ trace_of (option_copied wave.entry) }
+        ensures rises { Rises 0 (trace_left result) }
     {
         match wave {
-            Some(wave) => Track {
+            Some(wave) => Trace {
                 value: Some(Value::filled(wave.width(), Bit::X)),
                 rest: wave.changes(),
             },
-            None => Track {
+            None => Trace {
                 value: None,
                 rest: &[],
             },
@@ -59,15 +59,15 @@ impl<'a> Track<'a> {
     }
 
     /// The wave past `tick`, where no change is before that tick.
-    fn after(&self, tick: u64) -> Track<'a>
-        ensures { line_on result ≡ line_after tick (line_on self.now) }
+    fn after(&self, tick: u64) -> Trace<'a>
+        ensures { trace_left result ≡ trace_after tick (trace_left self.now) }
     {
         match self.rest {
-            [change, rest @ ..] if change.tick == tick => Track {
+            [change, rest @ ..] if change.tick == tick => Trace {
                 value: Some(change.value),
                 rest,
             },
-            rest => Track {
+            rest => Trace {
                 value: self.value,
                 rest,
             },
@@ -80,10 +80,10 @@ impl<'a> Track<'a> {
 /// Contracts see the list of the edges to come. Each takes a constant number of steps and no memory.
 #[derive(Drop)]
 pub struct Edges<'a> {
-    a: Track<'a>,
-    b: Track<'a>,
-    c: Track<'a>,
-    d: Track<'a>,
+    a: Trace<'a>,
+    b: Trace<'a>,
+    c: Trace<'a>,
+    d: Trace<'a>,
 }
 
 impl<'a> Model for Edges<'a> {
@@ -92,7 +92,7 @@ impl<'a> Model for Edges<'a> {
 
     ghost Value = { List Edge };
 
-    ghost use Rattle.vcd_core.specs.EdgeWalk.{edges_left, IsWalk};
+    ghost use Rattle.vcd_core.specs.inside.EdgeWalk.{edges_left, IsWalk};
 
     ghost view = { edges_left };
 
@@ -114,10 +114,10 @@ impl<'a> Edges<'a> {
             → result ≡ edges_of (option_copied a.entry ∷ option_copied b.entry ∷ option_copied c.entry ∷ option_copied d.entry ∷ []) end }
     {
         Edges {
-            a: Track::new(a),
-            b: Track::new(b),
-            c: Track::new(c),
-            d: Track::new(d),
+            a: Trace::new(a),
+            b: Trace::new(b),
+            c: Trace::new(c),
+            d: Trace::new(d),
         }
     }
 }
@@ -144,8 +144,8 @@ impl<'a> Iterator for Edges<'a> {
 }
 
 /// The tick of the next change of the waves.
-fn next_of(a: &Track, b: &Track, c: &Track, d: &Track) -> Option<u64>
-    ensures { result ≡ next_of (line_on a.now ∷ line_on b.now ∷ line_on c.now ∷ line_on d.now ∷ []) }
+fn next_of(a: &Trace, b: &Trace, c: &Trace, d: &Trace) -> Option<u64>
+    ensures { result ≡ next_tick_of (trace_left a.now ∷ trace_left b.now ∷ trace_left c.now ∷ trace_left d.now ∷ []) }
 {
     let last = earlier(d.next_tick(), None);
     let later = earlier(c.next_tick(), last);
@@ -154,7 +154,7 @@ fn next_of(a: &Track, b: &Track, c: &Track, d: &Track) -> Option<u64>
 
 /// The lesser of two ticks that may be absent.
 fn earlier(left: Option<u64>, right: Option<u64>) -> Option<u64>
-    ensures { result ≡ earlier left right }
+    ensures { result ≡ earlier_tick left right }
 {
     match (left, right) {
         (Some(left), Some(right)) => Some(left.min(right)),

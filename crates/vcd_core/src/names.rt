@@ -5,7 +5,7 @@ ghost use Rattle.std.specs.Str.{bytes_eq};
 ghost use Rattle.std.specs.Str.Parse.{digits_value};
 ghost use Rattle.vcd_core.specs.Contents.{contents, signal_contents};
 ghost use Rattle.vcd_core.specs.Names.{full_name, full_names, is_numbered, number_in, lookup};
-ghost use Rattle.vcd_core.specs.NameParts.{IsRestAfter, scope_front, scopes_front};
+ghost use Rattle.vcd_core.specs.inside.NameParts.{IsRestAfter, scope_front, scopes_front};
 
 use crate::capture::{Capture, ScopeName, Signal, Word};
 

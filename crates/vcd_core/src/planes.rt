@@ -1,7 +1,7 @@
 //! The two planes of bits that hold a value, in words of 64 bits.
 
 ghost use Rattle.std.specs.Prelude.{◌≡◌, ◌==◌, ℕ, ◌+◌, ◌-◌, ◌*◌, ◌/◌, ◌^◌, ◌<◌, ◌≤◌, ◌≢◌, ◌↔◌, min, length, All, IsTrue, if◌then◌else◌};
-ghost use Rattle.vcd_core.specs.Planes.{plane_bit as bit_of_plane, letter_of, low_of, high_of, IsPlane};
+ghost use Rattle.vcd_core.specs.inside.Planes.{plane_bit as bit_of_plane, letter_of, low_of, high_of, IsPlane};
 
 use crate::bit::Bit;
 use crate::value::WORDS;

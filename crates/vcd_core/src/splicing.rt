@@ -1,7 +1,7 @@
 //! How a piece and a part of a list of changes change places, in place.
 
 ghost use Rattle.std.specs.Prelude.{◌≡◌, ◌≤◌, ◌+◌, ◌-◌, ◌++◌, length, take, drop, map, slice_range, vec_len, vec_capacity};
-ghost use Rattle.vcd_core.specs.Splice.{moved, TickFits, TicksFit, spliced};
+ghost use Rattle.vcd_core.specs.Splice.{moved_change, TickFits, TicksFit, spliced_changes};
 
 use crate::wave::Change;
 
@@ -31,7 +31,7 @@ fn rotate_tail(list: &mut [Change], at: usize, count: usize)
 /// The change `by` ticks later.
 fn later(change: Change, by: i64) -> Change
     requires { TickFits by change }
-    ensures { result ≡ moved by change }
+    ensures { result ≡ moved_change by change }
 {
     let tick = change.tick.checked_add_signed(by).unwrap();
     Change {
@@ -43,7 +43,7 @@ fn later(change: Change, by: i64) -> Change
 /// Moves every change by `by` ticks.
 fn move_ticks(changes: &mut [Change], by: i64)
     requires { TicksFit by changes.old }
-    ensures { changes.new ≡ map (moved by) changes.old }
+    ensures { changes.new ≡ map (moved_change by) changes.old }
 {
     for change in changes.iter_mut() {
         let next = later(*change, by);
@@ -55,7 +55,7 @@ fn move_ticks(changes: &mut [Change], by: i64)
 fn move_tail(changes: &mut [Change], at: usize, by: i64)
     requires within { at ≤ length changes.old }
     requires fit { TicksFit by (drop at changes.old) }
-    ensures { changes.new ≡ take at changes.old ++ map (moved by) (drop at changes.old) }
+    ensures { changes.new ≡ take at changes.old ++ map (moved_change by) (drop at changes.old) }
 {
     let (_, tail) = changes.split_at_mut(at);
     move_ticks(tail, by);
@@ -145,7 +145,7 @@ pub(crate) fn splice_changes(
     requires room { vec_len changes.old + vec_len piece.old ≤ vec_capacity changes.old + (to - from) }
     requires piece_room { to - from ≤ vec_capacity piece.old }
     requires fit { TicksFit by (drop to changes.old.items) }
-    ensures changes { changes.new.items ≡ spliced changes.old.items from to piece.old.items by }
+    ensures changes { changes.new.items ≡ spliced_changes changes.old.items from to piece.old.items by }
     ensures piece { piece.new.items ≡ slice_range changes.old.items from to }
     ensures capacity { vec_capacity changes.old ≤ vec_capacity changes.new }
     ensures piece_capacity { vec_capacity piece.old ≤ vec_capacity piece.new }

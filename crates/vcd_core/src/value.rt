@@ -33,8 +33,8 @@ impl Model for Value {
 
     ghost Value = { List Bit };
 
-    ghost use Rattle.vcd_core.specs.Planes.{view_value, value_of, IsValue};
-    ghost use Rattle.vcd_core.specs.PlaneLaws.{value_of-view_value};
+    ghost use Rattle.vcd_core.specs.inside.Planes.{view_value, value_of, IsValue};
+    ghost use Rattle.vcd_core.specs.inside.PlaneLaws.{value_of-view_value};
 
     ghost view = { view_value };
 
@@ -91,7 +91,7 @@ impl Value {
 
 impl PartialEq for Value {
     ghost use Rattle.vcd_core.specs.Value.{same_letters};
-    ghost use Rattle.vcd_core.specs.ValueLaws.{same_letters-equiv};
+    ghost use Rattle.vcd_core.specs.inside.ValueLaws.{same_letters-equiv};
 
     ghost eq = { same_letters };
 

@@ -1,6 +1,6 @@
 ghost use Rattle.std.specs.Prelude.{◌≡◌, ℕ, ◌+◌, ◌-◌, ◌<◌, ◌≤◌, if◌then◌else◌, nat_lt, nat_le, [], length, drop, slice_range, count_by, take_while, IsOk, IfOk, OnOk, OnErr, All, Any, vec_len, vec_capacity};
 ghost use Rattle.vcd_core.specs.Wave.{value_at, IsWave};
-ghost use Rattle.vcd_core.specs.Splice.{TicksFit, spliced};
+ghost use Rattle.vcd_core.specs.Splice.{TicksFit, spliced_changes};
 
 use crate::change_list::{push_change, value_at_end};
 use crate::memory::NoMemory;
@@ -143,10 +143,10 @@ impl Wave {
         requires fits { vec_len piece.old ≤ self.old.room + (to - from) }
         requires piece_fits { to - from ≤ vec_capacity piece.old }
         requires ticks { TicksFit by (drop to self.old.changes) }
-        requires form { IsWave self.old.width (spliced self.old.changes from to piece.old.items by) }
+        requires form { IsWave self.old.width (spliced_changes self.old.changes from to piece.old.items by) }
 
         ensures width { self.new.width ≡ self.old.width }
-        ensures changes { self.new.changes ≡ spliced self.old.changes from to piece.old.items by }
+        ensures changes { self.new.changes ≡ spliced_changes self.old.changes from to piece.old.items by }
         ensures piece { piece.new.items ≡ slice_range self.old.changes from to }
 
         // No room is lost, on either side.

@@ -3,7 +3,7 @@ use Rattle.std.proofs.Common.{refl, arith}
 use Rattle.std.specs.Prelude.{ℕ, List, ◌++◌, [], ◌∷◌, take, drop, codes}
 use Rattle.std.specs.Fmt.{digits}
 use Rattle.vcd_text.specs.declared.fault.Fault.TheVariants.{Truncated, UnexpectedWord, BadChange, BadTimescale, BadScope, UpscopeAtTop, BadVar, MixedCode, BadTime, TimeBackwards, UnknownCode, ValueTooLong}
-use Rattle.vcd_text.specs.Words.{word, words_from, words_of, closed_words}
+use Rattle.vcd_text.specs.Words.{word_on, words_from, words_of, closed_words}
 use Rattle.vcd_text.specs.Grammar.{nothing_told, after}
 use Rattle.vcd_text.proofs.OneAnswer.{accepted-not_refused}
 use Rattle.vcd_text.specs.Items.{Item, scope, upscope, variable, end_definitions, stamp, vector, bracket}
@@ -23,7 +23,7 @@ time_goes_back = shown (record {
   items = variable (codes "wire" ∷ codes "1" ∷ codes "!" ∷ codes "a" ∷ []) ∷ end_definitions ∷ stamp (codes "10") ∷ [];
   whole = take 9 (words_of time_back);
   begun = [];
-  word = word (codes "#9") 4;
+  word = word_on (codes "#9") 4;
   more = [];
   parts = refl;
   spelled = refl;
@@ -38,7 +38,7 @@ time_goes_back_in_front = record {
   items = variable (codes "wire" ∷ codes "1" ∷ codes "!" ∷ codes "a" ∷ []) ∷ end_definitions ∷ stamp (codes "10") ∷ [];
   whole = take 9 (words_of time_back);
   begun = [];
-  word = word (codes "#9") 4;
+  word = word_on (codes "#9") 4;
   more = [];
   parts = refl;
   spelled = refl;
@@ -76,8 +76,8 @@ tick_too_great = shown (record {
   items = one_variable;
   whole = take 8 (words_of late_tick);
   begun = [];
-  word = word (codes "#9223372036854775808") 3;
-  more = word (codes "#9") 4 ∷ [];
+  word = word_on (codes "#9223372036854775808") 3;
+  more = word_on (codes "#9") 4 ∷ [];
   parts = refl;
   spelled = refl;
   allowed = search arith;
@@ -91,8 +91,8 @@ unfolding words_from digits
 two_nanoseconds = shown (record {
   items = [];
   whole = [];
-  begun = word (codes "$timescale") 1 ∷ word (codes "2") 1 ∷ word (codes "ns") 1 ∷ [];
-  word = word (codes "$end") 1;
+  begun = word_on (codes "$timescale") 1 ∷ word_on (codes "2") 1 ∷ word_on (codes "ns") 1 ∷ [];
+  word = word_on (codes "$end") 1;
   more = [];
   parts = refl;
   spelled = refl;
@@ -106,8 +106,8 @@ unfolding words_from
 scope_without_kind = shown (record {
   items = [];
   whole = [];
-  begun = word (codes "$scope") 1 ∷ [];
-  word = word (codes "$end") 1;
+  begun = word_on (codes "$scope") 1 ∷ [];
+  word = word_on (codes "$end") 1;
   more = [];
   parts = refl;
   spelled = refl;
@@ -121,8 +121,8 @@ unfolding words_from
 variable_without_name = shown (record {
   items = [];
   whole = [];
-  begun = word (codes "$var") 1 ∷ word (codes "wire") 1 ∷ word (codes "1") 1 ∷ word (codes "!") 1 ∷ [];
-  word = word (codes "$end") 1;
+  begun = word_on (codes "$var") 1 ∷ word_on (codes "wire") 1 ∷ word_on (codes "1") 1 ∷ word_on (codes "!") 1 ∷ [];
+  word = word_on (codes "$end") 1;
   more = [];
   parts = refl;
   spelled = refl;
@@ -137,8 +137,8 @@ unfolding words_from
 real_without_size = shown (record {
   items = [];
   whole = [];
-  begun = word (codes "$var") 1 ∷ word (codes "real") 1 ∷ [];
-  word = word (codes "x") 1;
+  begun = word_on (codes "$var") 1 ∷ word_on (codes "real") 1 ∷ [];
+  word = word_on (codes "x") 1;
   more = [];
   parts = refl;
   spelled = refl;
@@ -154,7 +154,7 @@ upscope_alone = shown (record {
   items = [];
   whole = [];
   begun = [];
-  word = word (codes "$upscope") 2;
+  word = word_on (codes "$upscope") 2;
   more = [];
   parts = refl;
   spelled = refl;
@@ -172,7 +172,7 @@ code_of_two_sizes = shown (record {
   items = variable (codes "wire" ∷ codes "1" ∷ codes "!" ∷ codes "a" ∷ []) ∷ [];
   whole = take 6 (words_of two_sizes);
   begun = take 5 (drop 6 (words_of two_sizes));
-  word = word (codes "$end") 1;
+  word = word_on (codes "$end") 1;
   more = [];
   parts = refl;
   spelled = refl;
@@ -185,9 +185,9 @@ unknown_code : FileFault (codes "$enddefinitions $end 1\"\n") 1 UnknownCode
 unfolding words_from
 unknown_code = shown (record {
   items = end_definitions ∷ [];
-  whole = word (codes "$enddefinitions") 1 ∷ word (codes "$end") 1 ∷ [];
+  whole = word_on (codes "$enddefinitions") 1 ∷ word_on (codes "$end") 1 ∷ [];
   begun = [];
-  word = word (codes "1\"") 1;
+  word = word_on (codes "1\"") 1;
   more = [];
   parts = refl;
   spelled = refl;
@@ -201,9 +201,9 @@ unknown_code_of_vector : FileFault (codes "$enddefinitions $end\nb1\n$end\n") 2 
 unfolding words_from
 unknown_code_of_vector = shown (record {
   items = end_definitions ∷ [];
-  whole = word (codes "$enddefinitions") 1 ∷ word (codes "$end") 1 ∷ [];
-  begun = word (codes "b1") 2 ∷ [];
-  word = word (codes "$end") 3;
+  whole = word_on (codes "$enddefinitions") 1 ∷ word_on (codes "$end") 1 ∷ [];
+  begun = word_on (codes "b1") 2 ∷ [];
+  word = word_on (codes "$end") 3;
   more = [];
   parts = refl;
   spelled = refl;
@@ -222,8 +222,8 @@ value_of_five_digits = shown (record {
   items = scope (codes "module") (codes "top" ∷ []) ∷ variable (codes "wire" ∷ codes "4" ∷ codes "!" ∷ codes "v" ∷ []) ∷ upscope ∷ end_definitions
       ∷ stamp (codes "0") ∷ bracket (codes "$dumpvars") ∷ vector 98 (codes "x") (codes "!") ∷ bracket (codes "$end") ∷ stamp (codes "1") ∷ [];
   whole = take 20 (words_of long_value);
-  begun = word (codes "b00001") 10 ∷ [];
-  word = word (codes "!") 10;
+  begun = word_on (codes "b00001") 10 ∷ [];
+  word = word_on (codes "!") 10;
   more = drop 22 (words_of long_value);
   parts = refl;
   spelled = refl;
@@ -239,7 +239,7 @@ dump_among_declarations = shown (record {
   items = [];
   whole = [];
   begun = [];
-  word = word (codes "$dumpvars") 1;
+  word = word_on (codes "$dumpvars") 1;
   more = [];
   parts = refl;
   spelled = refl;
@@ -254,8 +254,8 @@ unfolding words_from
 definitions_open = shown (record {
   items = [];
   whole = [];
-  begun = word (codes "$enddefinitions") 1 ∷ [];
-  word = word (codes "#0") 2;
+  begun = word_on (codes "$enddefinitions") 1 ∷ [];
+  word = word_on (codes "#0") 2;
   more = [];
   parts = refl;
   spelled = refl;
@@ -269,10 +269,10 @@ scope_among_changes : FileFault (codes "$enddefinitions $end\n$scope module top 
 unfolding words_from
 scope_among_changes = shown (record {
   items = end_definitions ∷ [];
-  whole = word (codes "$enddefinitions") 1 ∷ word (codes "$end") 1 ∷ [];
+  whole = word_on (codes "$enddefinitions") 1 ∷ word_on (codes "$end") 1 ∷ [];
   begun = [];
-  word = word (codes "$scope") 2;
-  more = word (codes "module") 2 ∷ word (codes "top") 2 ∷ word (codes "$end") 2 ∷ [];
+  word = word_on (codes "$scope") 2;
+  more = word_on (codes "module") 2 ∷ word_on (codes "top") 2 ∷ word_on (codes "$end") 2 ∷ [];
   parts = refl;
   spelled = refl;
   allowed = search arith;
@@ -290,8 +290,8 @@ lone_letter = shown (record {
   items = one_variable;
   whole = take 8 (words_of (bad_changes []));
   begun = [];
-  word = word (codes "1") 2;
-  more = word (codes "!") 2 ∷ [];
+  word = word_on (codes "1") 2;
+  more = word_on (codes "!") 2 ∷ [];
   parts = refl;
   spelled = refl;
   allowed = search arith;
@@ -304,8 +304,8 @@ unfolding words_from
 no_digit = shown (record {
   items = one_variable;
   whole = take 8 (words_of (bad_changes []));
-  begun = word (codes "b") 2 ∷ [];
-  word = word (codes "!") 2;
+  begun = word_on (codes "b") 2 ∷ [];
+  word = word_on (codes "!") 2;
   more = [];
   parts = refl;
   spelled = refl;
@@ -320,7 +320,7 @@ no_change_at_all = shown (record {
   items = one_variable;
   whole = take 8 (words_of (bad_changes []));
   begun = [];
-  word = word (codes "q!") 2;
+  word = word_on (codes "q!") 2;
   more = [];
   parts = refl;
   spelled = refl;

@@ -8,7 +8,7 @@ use Rattle.vcd_core.specs.declared.capture.ScopeName.{ScopeName}
 use Rattle.vcd_core.specs.declared.wave.Change.{Change}
 use Rattle.vcd_core.specs.Wave.{change, value_from}
 use Rattle.vcd_core.specs.Contents.{Contents, SignalContents}
-use Rattle.vcd_text.specs.Letters.{letters_read, short}
+use Rattle.vcd_text.specs.Letters.{letters_read, short_form}
 use Rattle.vcd_text.specs.Text.{code_of, code_digits, signal_items, tick_items, items_of, text}
 
 -- a scope with one word for a name
@@ -46,7 +46,7 @@ one_scalar_text name =
 
 -- the end has a stamp where nothing changes at it
 text_of_one_scalar : text (one_scalar (codes "a")) ≡ one_scalar_text (codes "a")
-unfolding text items_of signal_items code_digits tick_items value_from short digits
+unfolding text items_of signal_items code_digits tick_items value_from short_form digits
 text_of_one_scalar = refl
 
 -- two scopes, and a change of both signals at the end
@@ -58,13 +58,13 @@ two_scopes = capture 3 (
 
 text_of_two_scopes : text two_scopes
     ≡ codes "$scope module top $end\n$var wire 1 ! a $end\n$scope module sub $end\n$var wire 1 \" a $end\n$upscope $end\n$upscope $end\n$enddefinitions $end\n#0\n$dumpvars\n0!\n1\"\n$end\n#3\n1!\n0\"\n"
-unfolding text items_of signal_items code_digits tick_items value_from short digits
+unfolding text items_of signal_items code_digits tick_items value_from short_form digits
 text_of_two_scopes = refl
 
 -- a vector is written in its short form, at tick 0 also where it is x
 text_of_vector : text (capture 3 (wire (top ∷ []) (codes "v") 4 (from 1 (codes "0001") ∷ from 2 (codes "zzz1") ∷ from 3 (codes "0000") ∷ []) ∷ []))
     ≡ codes "$scope module top $end\n$var wire 4 ! v $end\n$upscope $end\n$enddefinitions $end\n#0\n$dumpvars\nbx !\n$end\n#1\nb1 !\n#2\nbz1 !\n#3\nb0 !\n"
-unfolding text items_of signal_items code_digits tick_items value_from short digits
+unfolding text items_of signal_items code_digits tick_items value_from short_form digits
 text_of_vector = refl
 
 -- at a tick only the signals that change have a line
@@ -73,12 +73,12 @@ text_of_single_changes : text (capture 7 (
     ∷ wire [] (codes "b") 1 (from 2 (codes "z") ∷ from 5 (codes "x") ∷ [])
     ∷ []))
     ≡ codes "$var wire 1 ! a $end\n$var wire 1 \" b $end\n$enddefinitions $end\n#0\n$dumpvars\n0!\nx\"\n$end\n#2\nz\"\n#5\n1!\nx\"\n#7\n"
-unfolding text items_of signal_items code_digits tick_items value_from short digits
+unfolding text items_of signal_items code_digits tick_items value_from short_form digits
 text_of_single_changes = refl
 
 -- no signals, and an end of 0, which has no further stamp
 text_of_no_signals : (text (capture 4 []) ≡ codes "$enddefinitions $end\n#0\n$dumpvars\n$end\n#4\n") × (text (capture 0 []) ≡ codes "$enddefinitions $end\n#0\n$dumpvars\n$end\n")
-unfolding text items_of signal_items code_digits tick_items value_from short digits
+unfolding text items_of signal_items code_digits tick_items value_from short_form digits
 text_of_no_signals = (refl, refl)
 
 -- header entries keep their order, and one without words has no further space
@@ -89,7 +89,7 @@ text_of_header : text (record {
   signals = [];
 })
     ≡ codes "$comment $end\n$date May 1 $end\n$version 2 $end\n$timescale 100 fs $end\n$enddefinitions $end\n#0\n$dumpvars\n$end\n"
-unfolding text items_of signal_items code_digits tick_items value_from short digits
+unfolding text items_of signal_items code_digits tick_items value_from short_form digits
 text_of_header = refl
 
 -- scopes that differ in their kind alone are two, and a path that was left is entered again
@@ -100,7 +100,7 @@ text_of_scopes : text (capture 0 (
     ∷ wire (top ∷ []) (codes "d") 1 []
     ∷ []))
     ≡ codes "$scope module top $end\n$scope task s $end\n$var wire 1 ! a $end\n$upscope $end\n$scope begin s $end\n$var wire 1 \" b $end\n$upscope $end\n$upscope $end\n$var wire 1 # c $end\n$scope module top $end\n$var wire 1 $ d $end\n$upscope $end\n$enddefinitions $end\n#0\n$dumpvars\nx!\nx\"\nx#\nx$\n$end\n"
-unfolding text items_of signal_items code_digits tick_items value_from short digits
+unfolding text items_of signal_items code_digits tick_items value_from short_form digits
 text_of_scopes = refl
 
 -- after `~` come the codes of two bytes, the lowest digit first

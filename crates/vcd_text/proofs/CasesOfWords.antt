@@ -1,7 +1,7 @@
 -- Worked cases: the words of small files, each with its line.
 use Rattle.std.proofs.Common.{◌≡◌, refl}
 use Rattle.std.specs.Prelude.{[], ◌∷◌, codes}
-use Rattle.vcd_text.specs.Words.{word, words_from, words_of, closed_words, end_line}
+use Rattle.vcd_text.specs.Words.{word_on, words_from, words_of, closed_words, end_line}
 
 -- no word in an empty file, and its end is on line 1
 empty_file : (words_of [] ≡ []) × (end_line [] ≡ 1)
@@ -9,22 +9,22 @@ unfolding words_from
 empty_file = (refl, refl)
 
 -- a word has the line that it begins on; white space of any kind parts words, and may stand at both ends
-lines_of_words : words_of (codes "\n$end\r\n\t#10 1!") ≡ word (codes "$end") 2 ∷ word (codes "#10") 3 ∷ word (codes "1!") 3 ∷ []
+lines_of_words : words_of (codes "\n$end\r\n\t#10 1!") ≡ word_on (codes "$end") 2 ∷ word_on (codes "#10") 3 ∷ word_on (codes "1!") 3 ∷ []
 unfolding words_from
 lines_of_words = refl
 
 -- the bytes 9 to 13 and 32 part words, 8 and 14 do not
 white_space : words_of (97 ∷ 9 ∷ 97 ∷ 10 ∷ 97 ∷ 11 ∷ 97 ∷ 12 ∷ 97 ∷ 13 ∷ 97 ∷ 32 ∷ 97 ∷ 8 ∷ 97 ∷ 14 ∷ 97 ∷ [])
-    ≡ word (codes "a") 1 ∷ word (codes "a") 1 ∷ word (codes "a") 2 ∷ word (codes "a") 2 ∷ word (codes "a") 2 ∷ word (codes "a") 2 ∷ word (97 ∷ 8 ∷ 97 ∷ 14 ∷ 97 ∷ []) 2 ∷ []
+    ≡ word_on (codes "a") 1 ∷ word_on (codes "a") 1 ∷ word_on (codes "a") 2 ∷ word_on (codes "a") 2 ∷ word_on (codes "a") 2 ∷ word_on (codes "a") 2 ∷ word_on (97 ∷ 8 ∷ 97 ∷ 14 ∷ 97 ∷ []) 2 ∷ []
 unfolding words_from
 white_space = refl
 
 -- the last word is closed only where white space follows it
-last_word_is_open : closed_words (codes "#10\n#9") ≡ word (codes "#10") 1 ∷ []
+last_word_is_open : closed_words (codes "#10\n#9") ≡ word_on (codes "#10") 1 ∷ []
 unfolding words_from
 last_word_is_open = refl
 
-last_word_is_closed : closed_words (codes "#10\n#9\n") ≡ word (codes "#10") 1 ∷ word (codes "#9") 2 ∷ []
+last_word_is_closed : closed_words (codes "#10\n#9\n") ≡ word_on (codes "#10") 1 ∷ word_on (codes "#9") 2 ∷ []
 unfolding words_from
 last_word_is_closed = refl
 

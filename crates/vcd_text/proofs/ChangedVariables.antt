@@ -4,15 +4,16 @@ use Rattle.std.specs.Prelude.{bytes_eq, slice_get, IsSomeAnd, IsTrue}
 use Rattle.std.specs.Global.{Vec}
 use Rattle.std.proofs.lemmas.Bool.{cases_Bool, cases_eq, le-leb}
 use Rattle.std.proofs.lemmas.Option.{same_Some, get_or_from_slice_get}
+use Rattle.vcd_core.specs.declared.capture.TheConstants.{SIGNAL_LIMIT}
 use Rattle.vcd_core.specs.declared.bit.Bit.{Bit}
 use Rattle.vcd_core.specs.Value.{all_x}
 use Rattle.vcd_core.specs.Wave.{value_at}
 use Rattle.vcd_text.specs.declared.fault.Fault.{Fault}
 use Rattle.vcd_text.specs.declared.fault.Fault.TheVariants as faults
-use Rattle.vcd_text.specs.Letters.{letters_read, ext}
-use Rattle.vcd_text.specs.Grammar.{Declaration, Recorded, Context, is_skipped, signal_limit, variable_of, takes_digits, recorded, with_record}
+use Rattle.vcd_text.specs.Letters.{letters_read, extension}
+use Rattle.vcd_text.specs.Grammar.{Declaration, ChangeRecord, Context, is_skipped, variable_of, takes_digits, change_records, with_record}
 use Rattle.vcd_text.specs.Meaning.{recorded_value}
-use Rattle.vcd_text.specs.Variables.{declaration, owner_of, HasWave, Stands, HasFirst, Knows, Sets, RefusesDigits, no_value, too_long, TakesChange}
+use Rattle.vcd_text.specs.inside.Variables.{declaration, owner_of, HasWave, Stands, HasFirst, Knows, Sets, RefusesDigits, no_value, too_long, TakesChange}
 use Rattle.vcd_text.specs.declared.reading.variables.Owner.{Owner}
 use Rattle.vcd_text.specs.declared.reading.variables.Owner.TheVariants.{Skipped, Kept}
 use Rattle.vcd_text.specs.declared.reading.variables.Variable.{Variable}
@@ -50,11 +51,11 @@ same_length (u ∷ vs) (suc i) w = ap suc (same_length vs i w)
 
 -- ---- a record more
 
-value_with : (width : ℕ) (code : List ℕ) (t : ℕ) (before : List Bit) (rs : List Recorded) (r : Recorded)
-    → recorded_value width code t before (rs ++ r ∷ []) ≡ (if bytes_eq r.code code && nat_le r.tick t then ext width r.letters else recorded_value width code t before rs)
+value_with : (width : ℕ) (code : List ℕ) (t : ℕ) (before : List Bit) (rs : List ChangeRecord) (r : ChangeRecord)
+    → recorded_value width code t before (rs ++ r ∷ []) ≡ (if bytes_eq r.code code && nat_le r.tick t then extension width r.letters else recorded_value width code t before rs)
 unfolding recorded_value
 value_with width code t before [] r = refl
-value_with width code t before (s ∷ rs) r = value_with width code t (if bytes_eq s.code code && nat_le s.tick t then ext width s.letters else before) rs r
+value_with width code t before (s ∷ rs) r = value_with width code t (if bytes_eq s.code code && nat_le s.tick t then extension width s.letters else before) rs r
 
 -- ---- the variables after a change
 
@@ -91,7 +92,7 @@ module _ (old : Variables) (list : Vec Variable) (c : Context) (code digits : Li
         ]
 
     -- the record of the change
-    change_record : Recorded
+    change_record : ChangeRecord
     change_record = record { tick = c.tick; code = code; letters = letters_read digits }
 
     -- the wave of the code takes the value
@@ -113,10 +114,10 @@ module _ (old : Variables) (list : Vec Variable) (c : Context) (code digits : Li
           values = λ t.
               ap (λ n. value_at n w.signal.wave.changes t) (sym new_size)
               ∙ sets.values t
-              ∙ ap (λ n. if nat_le c.tick t then ext n (letters_read digits) else value_at n v.signal.wave.changes t) old_size
-              ∙ ap (λ (u : Variable). if nat_le c.tick t then ext size (letters_read digits) else value_at size u.signal.wave.changes t) is
-              ∙ ap (λ x. if nat_le c.tick t then ext size (letters_read digits) else x) (wave.values t)
-              ∙ ap (λ b. if b && nat_le c.tick t then ext size (letters_read digits) else recorded_value size key t (all_x size) c.records)
+              ∙ ap (λ n. if nat_le c.tick t then extension n (letters_read digits) else value_at n v.signal.wave.changes t) old_size
+              ∙ ap (λ (u : Variable). if nat_le c.tick t then extension size (letters_read digits) else value_at size u.signal.wave.changes t) is
+              ∙ ap (λ x. if nat_le c.tick t then extension size (letters_read digits) else x) (wave.values t)
+              ∙ ap (λ b. if b && nat_le c.tick t then extension size (letters_read digits) else recorded_value size key t (all_x size) c.records)
               (sym (ap (bytes_eq code) (sym same) ∙ own_code code))
               ∙ sym (value_with size key t (all_x size) c.records (record { tick = c.tick; code = code; letters = letters_read digits }));
         }
@@ -139,7 +140,7 @@ module _ (old : Variables) (list : Vec Variable) (c : Context) (code digits : Li
           ticks = wave.ticks;
           values = λ t.
               wave.values t
-              ∙ ap (λ b. if b && nat_le c.tick t then ext size (letters_read digits) else recorded_value size key t (all_x size) c.records) (sym other)
+              ∙ ap (λ b. if b && nat_le c.tick t then extension size (letters_read digits) else recorded_value size key t (all_x size) c.records) (sym other)
               ∙ sym (value_with size key t (all_x size) c.records (record { tick = c.tick; code = code; letters = letters_read digits }));
         }
 
@@ -170,10 +171,10 @@ module _ (old : Variables) (list : Vec Variable) (c : Context) (code digits : Li
         ])
         (k.stand key)
 
-    records_are : recorded c code (letters_read digits) (variable_of c code) ≡ change_record ∷ []
+    records_are : change_records c code (letters_read digits) (variable_of c code) ≡ change_record ∷ []
     unfolding change_record
     records_are =
-        ap (recorded c code (letters_read digits)) own_wave.1
+        ap (change_records c code (letters_read digits)) own_wave.1
         ∙ ap (λ b. if b then [] else record { tick = c.tick; code = code; letters = letters_read digits } ∷ []) own_wave.2
 
     -- the variables hold the record of the change
@@ -184,7 +185,7 @@ module _ (old : Variables) (list : Vec Variable) (c : Context) (code digits : Li
       skipped = k.skipped;
       stand = λ key. subst (λ rs. Stands list.items (c.records ++ rs) c.tick key (owner_of old key) (variable_of c key)) (sym records_are) (changed_stands key);
       firsts = changed_firsts;
-      few = subst (λ n. n ≤ signal_limit) (sym (ap (length {A = Variable}) items ∙ same_length old.kept.items first w)) k.few;
+      few = subst (λ n. n ≤ SIGNAL_LIMIT) (sym (ap (length {A = Variable}) items ∙ same_length old.kept.items first w)) k.few;
     }
 
     -- the digits are ones that its variable takes

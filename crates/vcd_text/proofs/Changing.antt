@@ -5,18 +5,18 @@ use Rattle.std.proofs.lemmas.List.{nil_from_length}
 use Rattle.std.proofs.lemmas.Bool.{or_parts, or_cases, or_from, or_left, or_right, eqb-false}
 use Rattle.vcd_text.specs.declared.fault.Fault.{Fault}
 use Rattle.vcd_text.specs.declared.fault.Fault.TheVariants.{NoMemory, BadTime, TimeBackwards, BadChange, UnknownCode, UnexpectedWord}
-use Rattle.vcd_text.specs.Words.{Word, word}
+use Rattle.vcd_text.specs.Words.{PlacedWord, word_on}
 use Rattle.vcd_text.specs.Letters.{is_among, is_letter, number_of}
 use Rattle.vcd_text.specs.Items.{Item, stamp, scalar, vector, real_or_string, bracket, spelling, is_command, is_one_of, dump_words, declaring_words, header_words, vector_letters, dropped_letters}
-use Rattle.vcd_text.specs.Grammar.{Context, Declaration, Recorded, Allows, after_item, texts, is_skipped, is_tick, is_value, takes_digits, skipped_kinds, variable_of}
+use Rattle.vcd_text.specs.Grammar.{Context, Declaration, ChangeRecord, Allows, after_item, word_texts, is_skipped, is_tick, is_value, takes_digits, skipped_kinds, variable_of}
 use Rattle.vcd_core.specs.declared.value.TheConstants.{WIDTH_LIMIT}
-use Rattle.vcd_text.specs.Faults.{ChangeFault, no_tick, tick_goes_back, letter_alone, letter_of_none, pair_of_none, no_value, value_too_long, declaration_late, no_change, among_changes, Decided, pair_letters}
-use Rattle.vcd_text.specs.Variables.{Knows, DigitsFault, TakesChange}
-use Rattle.vcd_text.specs.Variables as variables
-use Rattle.vcd_text.specs.Reading.{Agrees, AwaitsCode, IsBegun, At, goes_on, ends_item, Moves}
-use Rattle.vcd_text.specs.declared.reading.machine.Machine.{Machine}
-use Rattle.vcd_text.specs.declared.reading.machine.OpenItem.{OpenItem}
-use Rattle.vcd_text.specs.declared.reading.machine.OpenItem.TheVariants as items
+use Rattle.vcd_text.specs.Faults.{ChangeFault, no_tick, tick_goes_back, letter_alone, letter_of_none, pair_of_none, no_value, value_too_long, declaration_late, no_change, among_changes, WordFault, pair_letters}
+use Rattle.vcd_text.specs.inside.Variables.{Knows, DigitsFault, TakesChange}
+use Rattle.vcd_text.specs.inside.Variables as variables
+use Rattle.vcd_text.specs.inside.Reading.{Agrees, AwaitsCode, IsBegun, At, goes_on, ends_item, TakesOrRefuses}
+use Rattle.vcd_text.specs.declared.reading.reader.Reader.{Reader}
+use Rattle.vcd_text.specs.declared.reading.reader.OpenItem.{OpenItem}
+use Rattle.vcd_text.specs.declared.reading.reader.OpenItem.TheVariants as items
 use Rattle.vcd_text.specs.declared.reading.variables.Variables.{Variables}
 use Rattle.vcd_text.proofs.Knows.{knows_further}
 
@@ -27,28 +27,28 @@ not_both : {A : Type 0} {b : Bool} → b ≡ true → b ≡ false → A
 not_both is isnt = let both : true ≡ false = sym is ∙ isnt in absurd (cc)
 
 -- no word has been taken of an item that is not open
-none_begun : (m : Machine) (begun : List Word) → m.item ≡ items.Nothing → IsBegun m begun m.item → begun ≡ []
+none_begun : (m : Reader) (begun : List PlacedWord) → m.item ≡ items.Nothing → IsBegun m begun m.item → begun ≡ []
 none_begun m begun between taken = subst (IsBegun m begun) between taken
 
 -- a word that is a whole item
-whole_item : (old new : Machine) (w : Word) (i : Item) → old.item ≡ items.Nothing → new.item ≡ items.Nothing → spelling i ≡ w.text ∷ []
-    → ((c : Context) → Agrees old c → Allows c i × Agrees new (after_item c i)) → Moves old w (Ok tt) new
+whole_item : (old new : Reader) (w : PlacedWord) (i : Item) → old.item ≡ items.Nothing → new.item ≡ items.Nothing → spelling i ≡ w.text ∷ []
+    → ((c : Context) → Agrees old c → Allows c i × Agrees new (after_item c i)) → TakesOrRefuses old w (Ok tt) new
 whole_item old new w i between closed spelled item c begun (agrees, taken) =
     let none = none_begun old begun between taken in
-    ends_item i (spelled ∙ ap (λ bs. texts (bs ++ w ∷ [])) (sym none)) (item c agrees).0 ((item c agrees).1, subst (IsBegun new []) (sym closed) refl)
+    ends_item i (spelled ∙ ap (λ bs. word_texts (bs ++ w ∷ [])) (sym none)) (item c agrees).0 ((item c agrees).1, subst (IsBegun new []) (sym closed) refl)
 
 -- a first word that shows a fault
-shown_at : (m : Machine) (c : Context) (begun : List Word) (w : Word) (fault : Fault) → m.item ≡ items.Nothing → m.changing ≡ true → At m c begun
-    → ChangeFault c [] w.text fault → (fault ≡ NoMemory) ⊎ Decided c (texts begun) w.text fault
+shown_at : (m : Reader) (c : Context) (begun : List PlacedWord) (w : PlacedWord) (fault : Fault) → m.item ≡ items.Nothing → m.changing ≡ true → At m c begun
+    → ChangeFault c [] w.text fault → (fault ≡ NoMemory) ⊎ WordFault c (word_texts begun) w.text fault
 shown_at m c begun w fault between changing (agrees, taken) row =
-    inr (among_changes (sym agrees.changing ∙ changing) (subst (λ bs. ChangeFault c (texts bs) w.text fault) (sym (none_begun m begun between taken)) row))
+    inr (among_changes (sym agrees.changing ∙ changing) (subst (λ bs. ChangeFault c (word_texts bs) w.text fault) (sym (none_begun m begun between taken)) row))
 
-shows : (old new : Machine) (w : Word) (fault : Fault) → old.item ≡ items.Nothing → old.changing ≡ true
-    → ((c : Context) → Agrees old c → ChangeFault c [] w.text fault) → Moves old w (Err fault) new
+shows : (old new : Reader) (w : PlacedWord) (fault : Fault) → old.item ≡ items.Nothing → old.changing ≡ true
+    → ((c : Context) → Agrees old c → ChangeFault c [] w.text fault) → TakesOrRefuses old w (Err fault) new
 shows old new w fault between changing row c begun at = shown_at old c begun w fault between changing at (row c at.0)
 
 -- what has been told does not depend on the item that is open
-agrees_still : (m : Machine) (c : Context) (item : OpenItem) (line : ℕ) → Agrees m c → Agrees (record m { item = item; line = line }) c
+agrees_still : (m : Reader) (c : Context) (item : OpenItem) (line : ℕ) → Agrees m c → Agrees (record m { item = item; line = line }) c
 agrees_still m c item line agrees = record {
   header = agrees.header;
   timescale = agrees.timescale;
@@ -60,7 +60,7 @@ agrees_still m c item line agrees = record {
 }
 
 -- one more record among the changes
-agrees_set : (m : Machine) (c : Context) (vs : Variables) (records : List Recorded) (item : OpenItem) → Agrees m c → m.changing ≡ true
+agrees_set : (m : Reader) (c : Context) (vs : Variables) (records : List ChangeRecord) (item : OpenItem) → Agrees m c → m.changing ≡ true
     → Knows vs (record c { records = records }) → Agrees (record m { variables = vs; item = item }) (record c { records = records })
 agrees_set m c vs records item agrees changing knows = record {
   header = agrees.header;
@@ -74,20 +74,20 @@ agrees_set m c vs records item agrees changing knows = record {
 
 -- ---- stamps
 
-pub no_stamp : (m new : Machine) (digits : List ℕ) (line : ℕ) → m.item ≡ items.Nothing → m.changing ≡ true → is_tick digits ≡ false
-    → Moves m (word (35 ∷ digits) line) (Err BadTime) new
+pub no_stamp : (m new : Reader) (digits : List ℕ) (line : ℕ) → m.item ≡ items.Nothing → m.changing ≡ true → is_tick digits ≡ false
+    → TakesOrRefuses m (word_on (35 ∷ digits) line) (Err BadTime) new
 no_stamp m new digits line between changing isnt =
-    shows m new (word (35 ∷ digits) line) BadTime between changing (λ c agrees. no_tick digits refl refl isnt refl)
+    shows m new (word_on (35 ∷ digits) line) BadTime between changing (λ c agrees. no_tick digits refl refl isnt refl)
 
-pub stamp_goes_back : (m new : Machine) (digits : List ℕ) (line tick : ℕ) → m.item ≡ items.Nothing → m.changing ≡ true
-    → is_tick digits ≡ true → tick ≡ number_of digits → tick < m.tick → Moves m (word (35 ∷ digits) line) (Err TimeBackwards) new
+pub stamp_goes_back : (m new : Reader) (digits : List ℕ) (line tick : ℕ) → m.item ≡ items.Nothing → m.changing ≡ true
+    → is_tick digits ≡ true → tick ≡ number_of digits → tick < m.tick → TakesOrRefuses m (word_on (35 ∷ digits) line) (Err TimeBackwards) new
 stamp_goes_back m new digits line tick between changing is number back =
-    shows m new (word (35 ∷ digits) line) TimeBackwards between changing (λ c agrees. tick_goes_back digits refl refl is (omega (arith, agrees.tick)) refl)
+    shows m new (word_on (35 ∷ digits) line) TimeBackwards between changing (λ c agrees. tick_goes_back digits refl refl is (omega (arith, agrees.tick)) refl)
 
-pub takes_stamp : (m : Machine) (digits : List ℕ) (line tick : ℕ) → m.item ≡ items.Nothing → m.changing ≡ true
-    → is_tick digits ≡ true → tick ≡ number_of digits → m.tick ≤ tick → Moves m (word (35 ∷ digits) line) (Ok tt) (record m { tick = tick })
+pub takes_stamp : (m : Reader) (digits : List ℕ) (line tick : ℕ) → m.item ≡ items.Nothing → m.changing ≡ true
+    → is_tick digits ≡ true → tick ≡ number_of digits → m.tick ≤ tick → TakesOrRefuses m (word_on (35 ∷ digits) line) (Ok tt) (record m { tick = tick })
 takes_stamp m digits line tick between changing is number later =
-    whole_item m (record m { tick = tick }) (word (35 ∷ digits) line) (stamp digits) between between refl (λ c agrees.
+    whole_item m (record m { tick = tick }) (word_on (35 ∷ digits) line) (stamp digits) between between refl (λ c agrees.
     let after : c.tick ≤ number_of digits = omega (arith, agrees.tick) in (
       (sym agrees.changing ∙ changing, is, after),
       record {
@@ -103,19 +103,19 @@ takes_stamp m digits line tick between changing is number later =
 
 -- ---- commands
 
-pub takes_bracket : (m : Machine) (text : List ℕ) (line : ℕ) → m.item ≡ items.Nothing → m.changing ≡ true
-    → is_one_of dump_words text ≡ true → Moves m (word text line) (Ok tt) m
+pub takes_bracket : (m : Reader) (text : List ℕ) (line : ℕ) → m.item ≡ items.Nothing → m.changing ≡ true
+    → is_one_of dump_words text ≡ true → TakesOrRefuses m (word_on text line) (Ok tt) m
 takes_bracket m text line between changing is =
-    whole_item m m (word text line) (bracket text) between between refl (λ c agrees. ((sym agrees.changing ∙ changing, is), agrees))
+    whole_item m m (word_on text line) (bracket text) between between refl (λ c agrees. ((sym agrees.changing ∙ changing, is), agrees))
 
-pub declares_late : (m new : Machine) (text : List ℕ) (line : ℕ) → m.item ≡ items.Nothing → m.changing ≡ true
-    → is_one_of declaring_words text ≡ true → Moves m (word text line) (Err UnexpectedWord) new
+pub declares_late : (m new : Reader) (text : List ℕ) (line : ℕ) → m.item ≡ items.Nothing → m.changing ≡ true
+    → is_one_of declaring_words text ≡ true → TakesOrRefuses m (word_on text line) (Err UnexpectedWord) new
 declares_late m new text line between changing is =
-    shows m new (word text line) UnexpectedWord between changing (λ c agrees. declaration_late refl is refl)
+    shows m new (word_on text line) UnexpectedWord between changing (λ c agrees. declaration_late refl is refl)
 
-pub passes_over : (m : Machine) (text : List ℕ) (line : ℕ) → m.item ≡ items.Nothing → m.changing ≡ true
+pub passes_over : (m : Reader) (text : List ℕ) (line : ℕ) → m.item ≡ items.Nothing → m.changing ≡ true
     → is_command text ≡ true → is_one_of dump_words text ≡ false → is_one_of declaring_words text ≡ false
-    → Moves m (word text line) (Ok tt) (record m { item = items.Other })
+    → TakesOrRefuses m (word_on text line) (Ok tt) (record m { item = items.Other })
 passes_over m text line between changing command dump declaring c begun (agrees, taken) =
     let none = none_begun m begun between taken in
     goes_on (
@@ -123,7 +123,7 @@ passes_over m text line between changing command dump declaring c begun (agrees,
       record {
         keyword = text;
         words = [];
-        spelled = ap (λ bs. texts (bs ++ word text line ∷ [])) none;
+        spelled = ap (λ bs. word_texts (bs ++ word_on text line ∷ [])) none;
         other = λ i. (command i && not (dump i)) && not (declaring i) && (changing i || not (is_one_of header_words text));
         no_end = refl;
       },
@@ -131,10 +131,10 @@ passes_over m text line between changing command dump declaring c begun (agrees,
 
 -- ---- changes of one word
 
-pub no_code : (m new : Machine) (letter : ℕ) (code : List ℕ) (line : ℕ) → m.item ≡ items.Nothing → m.changing ≡ true → is_letter letter ≡ true
-    → length code ≡ 0 → Moves m (word (letter ∷ code) line) (Err BadChange) new
+pub no_code : (m new : Reader) (letter : ℕ) (code : List ℕ) (line : ℕ) → m.item ≡ items.Nothing → m.changing ≡ true → is_letter letter ≡ true
+    → length code ≡ 0 → TakesOrRefuses m (word_on (letter ∷ code) line) (Err BadChange) new
 no_code m new letter code line between changing is none =
-    shows m new (word (letter ∷ code) line) BadChange between changing (λ c agrees. letter_alone letter refl (ap (λ cs. letter ∷ cs) (nil_from_length code none)) is refl)
+    shows m new (word_on (letter ∷ code) line) BadChange between changing (λ c agrees. letter_alone letter refl (ap (λ cs. letter ∷ cs) (nil_from_length code none)) is refl)
 
 among_neither : (xs ys : List ℕ) (b : ℕ) → is_among xs b ≡ false → is_among ys b ≡ false → is_among (xs ++ ys) b ≡ false
 among_neither [] ys b h k = k
@@ -142,12 +142,12 @@ among_neither (x ∷ xs) ys b h k =
     let p = or_parts (nat_eq b x) (is_among xs b) h in
     or_from (nat_eq b x) (is_among (xs ++ ys) b) p.0 (among_neither xs ys b p.1 k)
 
-pub begins_nothing : (m new : Machine) (first : ℕ) (text : List ℕ) (line : ℕ) → m.item ≡ items.Nothing → m.changing ≡ true
+pub begins_nothing : (m new : Reader) (first : ℕ) (text : List ℕ) (line : ℕ) → m.item ≡ items.Nothing → m.changing ≡ true
     → is_among (codes "#$") first ≡ false → is_letter first ≡ false → is_among vector_letters first ≡ false → is_among dropped_letters first ≡ false
-    → Moves m (word (first ∷ text) line) (Err BadChange) new
+    → TakesOrRefuses m (word_on (first ∷ text) line) (Err BadChange) new
 begins_nothing m new first text line between changing no_command no_letter no_vector no_dropped =
     let other = among_neither (codes "#$") pair_letters first no_command (among_neither vector_letters dropped_letters first no_vector no_dropped) in
-    shows m new (word (first ∷ text) line) BadChange between changing (λ c agrees. no_change first text refl refl no_letter other refl)
+    shows m new (word_on (first ∷ text) line) BadChange between changing (λ c agrees. no_change first text refl refl no_letter other refl)
 
 -- some variable takes the digits
 taken_by_some : (o : Option Declaration) (digits : List ℕ) → IsSomeAnd o (λ d. IsTrue (takes_digits d digits)) → IsSome o
@@ -171,12 +171,12 @@ bit_shows c letter code fault is some (variables.unknown none which) = letter_of
 bit_shows c letter code fault is some (variables.no_value d found keeps isnt which) = not_both (one_letter letter is) isnt
 bit_shows c letter code fault is some (variables.too_long d found keeps value long which) = absurd (fits_one d keeps long)
 
-pub sets_bit : (m : Machine) (vs : Variables) (letter : ℕ) (code : List ℕ) (line : ℕ) (r : Result (Unit {0}) Fault)
+pub sets_bit : (m : Reader) (vs : Variables) (letter : ℕ) (code : List ℕ) (line : ℕ) (r : Result (Unit {0}) Fault)
     → m.item ≡ items.Nothing → m.changing ≡ true → is_letter letter ≡ true → 0 < length code
     → ((c : Context) → c.tick ≡ m.tick → Knows m.variables c → TakesChange c code (letter ∷ []) r vs)
-    → Moves m (word (letter ∷ code) line) r (record m { variables = vs })
+    → TakesOrRefuses m (word_on (letter ∷ code) line) r (record m { variables = vs })
 sets_bit m vs letter code line (Ok x) between changing is some takes =
-    whole_item m (record m { variables = vs }) (word (letter ∷ code) line) (scalar letter code) between between refl (λ c agrees.
+    whole_item m (record m { variables = vs }) (word_on (letter ∷ code) line) (scalar letter code) between between refl (λ c agrees.
     let change = takes c (sym agrees.tick) agrees.variables in (
       (sym agrees.changing ∙ changing, is, some, taken_by_some (variable_of c code) (letter ∷ []) change.0),
       agrees_set m c vs (after_item c (scalar letter code)).records m.item agrees changing change.1,
@@ -184,13 +184,13 @@ sets_bit m vs letter code line (Ok x) between changing is some takes =
 sets_bit m vs letter code line (Err fault) between changing is some takes = λ c begun at.
     elim (takes c (sym at.0.tick) at.0.variables) [
       | inl memory ↦ inl memory
-      | inr row ↦ shown_at m c begun (word (letter ∷ code) line) fault between changing at (bit_shows c letter code fault is some row)
+      | inr row ↦ shown_at m c begun (word_on (letter ∷ code) line) fault between changing at (bit_shows c letter code fault is some row)
     ]
 
 -- ---- changes of two words
 
-pub begins_dropped : (m : Machine) (first : ℕ) (text : List ℕ) (line : ℕ) → m.item ≡ items.Nothing → m.changing ≡ true
-    → is_among dropped_letters first ≡ true → Moves m (word (first ∷ text) line) (Ok tt) (record m { item = items.Dropped; line = line })
+pub begins_dropped : (m : Reader) (first : ℕ) (text : List ℕ) (line : ℕ) → m.item ≡ items.Nothing → m.changing ≡ true
+    → is_among dropped_letters first ≡ true → TakesOrRefuses m (word_on (first ∷ text) line) (Ok tt) (record m { item = items.Dropped; line = line })
 begins_dropped m first text line between changing is c begun (agrees, taken) =
     let none = none_begun m begun between taken in
     goes_on (
@@ -199,9 +199,9 @@ begins_dropped m first text line between changing is c begun (agrees, taken) =
         text,
         record {
           changes = changing;
-          word = word (first ∷ text) line;
+          word = word_on (first ∷ text) line;
           letter = first;
-          is = ap (λ bs. bs ++ word (first ∷ text) line ∷ []) none;
+          is = ap (λ bs. bs ++ word_on (first ∷ text) line ∷ []) none;
           spelled = refl;
           among = is;
           line = refl;
@@ -210,12 +210,12 @@ begins_dropped m first text line between changing is c begun (agrees, taken) =
     )
 
 -- the words of a change of two words, of which the first has been taken
-texts_begun : (m : Machine) (begun : List Word) (letters text : List ℕ) (b : AwaitsCode m begun letters text) → texts begun ≡ (b.letter ∷ text) ∷ []
-texts_begun m begun letters text b = ap texts b.is ∙ ap (λ t. t ∷ []) b.spelled
+texts_begun : (m : Reader) (begun : List PlacedWord) (letters text : List ℕ) (b : AwaitsCode m begun letters text) → word_texts begun ≡ (b.letter ∷ text) ∷ []
+texts_begun m begun letters text b = ap word_texts b.is ∙ ap (λ t. t ∷ []) b.spelled
 
-texts_whole : (m : Machine) (begun : List Word) (letters text code : List ℕ) (line : ℕ) (b : AwaitsCode m begun letters text)
-    → (b.letter ∷ text) ∷ code ∷ [] ≡ texts (begun ++ word code line ∷ [])
-texts_whole m begun letters text code line b = sym (ap (λ bs. texts (bs ++ word code line ∷ [])) b.is ∙ ap (λ t. t ∷ code ∷ []) b.spelled)
+texts_whole : (m : Reader) (begun : List PlacedWord) (letters text code : List ℕ) (line : ℕ) (b : AwaitsCode m begun letters text)
+    → (b.letter ∷ text) ∷ code ∷ [] ≡ word_texts (begun ++ word_on code line ∷ [])
+texts_whole m begun letters text code line b = sym (ap (λ bs. word_texts (bs ++ word_on code line ∷ [])) b.is ∙ ap (λ t. t ∷ code ∷ []) b.spelled)
 
 among_first : (xs ys : List ℕ) (b : ℕ) → is_among xs b ≡ true → is_among (xs ++ ys) b ≡ true
 among_first [] ys b h = not_both h refl
@@ -232,9 +232,9 @@ vector_shows c first digits code fault is (variables.unknown none which) = pair_
 vector_shows c first digits code fault is (variables.no_value d found keeps isnt which) = no_value first digits d refl is found keeps isnt which
 vector_shows c first digits code fault is (variables.too_long d found keeps value long which) = value_too_long first digits d refl is found keeps value long which
 
-pub ends_vector : (m : Machine) (vs : Variables) (code : List ℕ) (line : ℕ) (r : Result (Unit {0}) Fault) → m.item ≡ items.Vector
+pub ends_vector : (m : Reader) (vs : Variables) (code : List ℕ) (line : ℕ) (r : Result (Unit {0}) Fault) → m.item ≡ items.Vector
     → ((c : Context) → c.tick ≡ m.tick → Knows m.variables c → TakesChange c code m.text.items r vs)
-    → Moves m (word code line) r (record m { variables = vs; item = items.Nothing })
+    → TakesOrRefuses m (word_on code line) r (record m { variables = vs; item = items.Nothing })
 ends_vector m vs code line (Ok x) item takes = λ c begun (agrees, taken).
     let b : AwaitsCode m begun vector_letters m.text.items = subst (IsBegun m begun) item taken in
     let change = takes c (sym agrees.tick) agrees.variables in
@@ -249,9 +249,9 @@ ends_vector m vs code line (Err fault) item takes = λ c begun (agrees, taken).
           (subst (λ ts. ChangeFault c ts code fault) (sym (texts_begun m begun vector_letters m.text.items b)) (vector_shows c b.letter m.text.items code fault b.among row)))
     ]
 
-pub ends_dropped : (m : Machine) (code : List ℕ) (line : ℕ) → m.item ≡ items.Dropped
+pub ends_dropped : (m : Reader) (code : List ℕ) (line : ℕ) → m.item ≡ items.Dropped
     → ((c : Context) → Knows m.variables c → is_some (variable_of c code) ≡ true)
-    → Moves m (word code line) (Ok tt) (record m { item = items.Nothing })
+    → TakesOrRefuses m (word_on code line) (Ok tt) (record m { item = items.Nothing })
 ends_dropped m code line item declared c begun (agrees, taken) =
     let at : (text : List ℕ) × AwaitsCode m begun dropped_letters text = subst (IsBegun m begun) item taken in
     let text = at.0 in
@@ -266,9 +266,9 @@ none_is : (o : Option Declaration) → is_some o ≡ false → o ≡ None
 none_is None h = refl
 none_is (Some d) h = not_both refl h
 
-pub drops_unknown : (m new : Machine) (code : List ℕ) (line : ℕ) → m.item ≡ items.Dropped
+pub drops_unknown : (m new : Reader) (code : List ℕ) (line : ℕ) → m.item ≡ items.Dropped
     → ((c : Context) → Knows m.variables c → is_some (variable_of c code) ≡ false)
-    → Moves m (word code line) (Err UnknownCode) new
+    → TakesOrRefuses m (word_on code line) (Err UnknownCode) new
 drops_unknown m new code line item unknown c begun (agrees, taken) =
     let at : (text : List ℕ) × AwaitsCode m begun dropped_letters text = subst (IsBegun m begun) item taken in
     let text = at.0 in

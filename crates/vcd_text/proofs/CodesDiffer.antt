@@ -3,7 +3,7 @@ use Rattle.std.proofs.Common.{◌≡◌, ◌<◌, ◌≤◌, ◌+◌, ◌/◌, �
 use Rattle.std.specs.List.{list_all}
 use Rattle.std.proofs.lemmas.Bool.{and_from, and_parts, and_right, or_from, not_from_false, false_from_ne_true, le-leb, lt-leb, leb-true, ne_eqb}
 use Rattle.std.proofs.lemmas.Slice.Eq.{bytes_eq-Decides}
-use Rattle.vcd_text.specs.Words.{is_space}
+use Rattle.vcd_core.specs.Word.{is_white_space}
 use Rattle.vcd_text.specs.Items.{end_word, is_end}
 use Rattle.vcd_text.specs.Text.{code_digits, code_of}
 use Rattle.vcd_text.proofs.Codes.{next_digit}
@@ -81,16 +81,16 @@ pub code_short : (k : ℕ) → k < 65536 → length (code_of k) ≤ 3
 code_short k few = digits_few 3 (k + 1) (omega arith)
 
 -- a printable byte is no white space
-printable_is_black : (b : ℕ) → is_code_byte b ≡ true → not (is_space b) ≡ true
+printable_is_black : (b : ℕ) → is_code_byte b ≡ true → not (is_white_space b) ≡ true
 printable_is_black b printable =
     let bounds : (nat_le 33 b ≡ true) × (nat_le b 126 ≡ true) = and_parts (nat_le 33 b) (nat_le b 126) printable in
     let above : 33 ≤ b = leb-true 33 b bounds.0 in
-    not_from_false (is_space b)
+    not_from_false (is_white_space b)
     (or_from (nat_le 9 b && nat_le b 13) (b == 32) (and_right (nat_le 9 b) (nat_le b 13) (lt-leb b 13 (omega arith))) (ne_eqb b 32 (λ e. omega arith)))
 
 -- a code has no white space
-pub code_black : (k : ℕ) → list_all (λ b. not (is_space b)) (code_of k) ≡ true
-code_black k = all_weaker is_code_byte (λ b. not (is_space b)) printable_is_black (code_of k) (code_printable k)
+pub code_black : (k : ℕ) → list_all (λ b. not (is_white_space b)) (code_of k) ≡ true
+code_black k = all_weaker is_code_byte (λ b. not (is_white_space b)) printable_is_black (code_of k) (code_printable k)
 
 -- a code is not `$end`
 pub code_no_end : (k : ℕ) → k < 65536 → is_end (code_of k) ≡ false

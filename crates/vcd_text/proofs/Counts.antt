@@ -8,15 +8,15 @@ use Rattle.std.proofs.lemmas.List.Sorted.{All-permutation}
 use Rattle.vcd_core.specs.declared.bit.Bit.{Bit}
 use Rattle.vcd_core.specs.declared.wave.Change.{Change}
 use Rattle.vcd_core.specs.Value.{all_x, same_letters}
-use Rattle.vcd_core.specs.ValueLaws.{same_letters-Decides}
+use Rattle.vcd_core.specs.inside.ValueLaws.{same_letters-Decides}
 use Rattle.vcd_core.specs.Wave.{value_from, ChangesFrom, AllUpTo}
-use Rattle.vcd_core.specs.Contents.{SignalContents}
+use Rattle.vcd_core.specs.Contents.{SignalContents, signal_value}
 use Rattle.vcd_core.specs.Sound.{IsSoundSignal}
 use Rattle.vcd_core.proofs.Waves.{value_past, value_skip, value_early}
-use Rattle.vcd_text.specs.declared.writing.moves.Move.{Move}
-use Rattle.vcd_text.specs.Moves.{move_of, moves_at, moves_from, later_moves, listed_from}
-use Rattle.vcd_text.specs.Text.{differs_at, signal_value}
-use Rattle.vcd_text.proofs.Sorting.{counted, once, times, times-append, times_permuted, RisesFrom, same_moves, by_place, sorted_rises}
+use Rattle.vcd_text.specs.declared.writing.transitions.Transition.{Transition}
+use Rattle.vcd_text.specs.inside.Transitions.{transition_of, transitions_at, transitions_from, later_transitions, listed_from}
+use Rattle.vcd_text.specs.Text.{differs_at}
+use Rattle.vcd_text.proofs.Sorting.{counted, once, times, times-append, times_permuted, RisesFrom, same_transitions, by_place, sorted_rises}
 
 -- a number where it holds, else 0
 abbrev if_so : Bool → ℕ → ℕ
@@ -34,52 +34,52 @@ marks t k j (s ∷ ss) = if_so (j == k) (counted (differs_at t s)) + marks t k (
 
 -- ---- by tick
 
-once_here : (t k j : ℕ) → once t k (move_of t j) ≡ if_so (j == k) 1
+once_here : (t k j : ℕ) → once t k (transition_of t j) ≡ if_so (j == k) 1
 once_here t k j = ap (λ b. counted (b && (j == k))) (eq-eqb t t refl) ∙ by (j == k)
   where
     by : (b : Bool) → counted (true && b) ≡ if_so b 1
     by true = refl
     by false = refl
 
-times_here : (t k j : ℕ) (ss : List SignalContents) → times t k (moves_at t (enumerate_from j ss)) ≡ marks t k j ss
+times_here : (t k j : ℕ) (ss : List SignalContents) → times t k (transitions_at t (enumerate_from j ss)) ≡ marks t k j ss
 times_here t k j [] = refl
 times_here t k j (s ∷ ss) = step (differs_at t s) (times_here t k (j + 1) ss)
   where
-    step : (b : Bool) → times t k (moves_at t (enumerate_from (j + 1) ss)) ≡ marks t k (j + 1) ss
-        → times t k (map (λ p. move_of t p.0) (cond b ((j, s) ∷ filter (λ p. differs_at t p.1) (enumerate_from (j + 1) ss)) (filter (λ p. differs_at t p.1) (enumerate_from (j + 1) ss))))
+    step : (b : Bool) → times t k (transitions_at t (enumerate_from (j + 1) ss)) ≡ marks t k (j + 1) ss
+        → times t k (map (λ p. transition_of t p.0) (cond b ((j, s) ∷ filter (λ p. differs_at t p.1) (enumerate_from (j + 1) ss)) (filter (λ p. differs_at t p.1) (enumerate_from (j + 1) ss))))
         ≡ if_so (j == k) (counted b) + marks t k (j + 1) ss
     step true rest = omega (arith, once_here t k j, rest)
     step false rest = omega (arith, if_zero (j == k), rest)
 
-elsewhere : (u t k : ℕ) (placed : List (ℕ × SignalContents)) → t ≢ u → times u k (map (λ p. move_of t p.0) placed) ≡ 0
+elsewhere : (u t k : ℕ) (placed : List (ℕ × SignalContents)) → t ≢ u → times u k (map (λ p. transition_of t p.0) placed) ≡ 0
 elsewhere u t k [] other = refl
 elsewhere u t k (p ∷ ps) other =
-    let here : once u k (move_of t p.0) ≡ 0 = ap (λ b. counted (b && (p.0 == k))) (ne_eqb t u other) in
+    let here : once u k (transition_of t p.0) ≡ 0 = ap (λ b. counted (b && (p.0 == k))) (ne_eqb t u other) in
     omega (arith, here, elsewhere u t k ps other)
 
-earlier : (signals : List SignalContents) (a n t k : ℕ) → t < a → times t k (moves_from signals a n) ≡ 0
-unfolding moves_from
+earlier : (signals : List SignalContents) (a n t k : ℕ) → t < a → times t k (transitions_from signals a n) ≡ 0
+unfolding transitions_from
 earlier signals a zero t k early = refl
 earlier signals a (suc n) t k early =
-    times-append t k (moves_at a (enumerate_from 0 signals)) (moves_from signals (suc a) n)
+    times-append t k (transitions_at a (enumerate_from 0 signals)) (transitions_from signals (suc a) n)
     ∙ omega (arith, elsewhere t a k (filter (λ p. differs_at a p.1) (enumerate_from 0 signals)) (omega arith), earlier signals (suc a) n t k (omega arith))
 
-later : (signals : List SignalContents) (a n t k : ℕ) → a + n ≤ t → times t k (moves_from signals a n) ≡ 0
-unfolding moves_from
+later : (signals : List SignalContents) (a n t k : ℕ) → a + n ≤ t → times t k (transitions_from signals a n) ≡ 0
+unfolding transitions_from
 later signals a zero t k late = refl
 later signals a (suc n) t k late =
-    times-append t k (moves_at a (enumerate_from 0 signals)) (moves_from signals (suc a) n)
+    times-append t k (transitions_at a (enumerate_from 0 signals)) (transitions_from signals (suc a) n)
     ∙ omega (arith, elsewhere t a k (filter (λ p. differs_at a p.1) (enumerate_from 0 signals)) (omega arith), later signals (suc a) n t k (omega arith))
 
-within : (signals : List SignalContents) (a n t k : ℕ) → a ≤ t → t < a + n → times t k (moves_from signals a n) ≡ marks t k 0 signals
-unfolding moves_from
+within : (signals : List SignalContents) (a n t k : ℕ) → a ≤ t → t < a + n → times t k (transitions_from signals a n) ≡ marks t k 0 signals
+unfolding transitions_from
 within signals a zero t k low high = absurd (omega arith)
 within signals a (suc n) t k low high =
-    times-append t k (moves_at a (enumerate_from 0 signals)) (moves_from signals (suc a) n)
+    times-append t k (transitions_at a (enumerate_from 0 signals)) (transitions_from signals (suc a) n)
     ∙ elim (cases_eq a t) [
       | inl same ↦
-          let here : times t k (moves_at a (enumerate_from 0 signals)) ≡ marks t k 0 signals =
-          subst (λ u. times u k (moves_at a (enumerate_from 0 signals)) ≡ marks u k 0 signals) same (times_here a k 0 signals) in
+          let here : times t k (transitions_at a (enumerate_from 0 signals)) ≡ marks t k 0 signals =
+          subst (λ u. times u k (transitions_at a (enumerate_from 0 signals)) ≡ marks u k 0 signals) same (times_here a k 0 signals) in
           omega (arith, here, earlier signals (suc a) n t k (omega arith))
       | inr apart ↦
           omega (arith, elsewhere t a k (filter (λ p. differs_at a p.1) (enumerate_from 0 signals)) apart, within signals (suc a) n t k (omega arith) (omega arith))
@@ -89,7 +89,7 @@ within signals a (suc n) t k low high =
 abbrev Reaches : ℕ → ℕ → ℕ → ℕ → Type 0
 Reaches f g t j = (f < t) ⊎ ((f ≡ t) × (g ≤ j))
 
-from_next : (f g t j : ℕ) (ys : List Move) → Reaches f g t j → RisesFrom (suc t) 0 ys → RisesFrom f g ys
+from_next : (f g t j : ℕ) (ys : List Transition) → Reaches f g t j → RisesFrom (suc t) 0 ys → RisesFrom f g ys
 from_next f g t j [] reach rise = tt
 from_next f g t j (m ∷ ms) (inl a) (inl b, rest) = (inl (omega arith), rest)
 from_next f g t j (m ∷ ms) (inl a) (inr (b, z), rest) = (inl (omega arith), rest)
@@ -100,20 +100,20 @@ further : (f g t j : ℕ) → Reaches f g t j → Reaches f g t (j + 1)
 further f g t j (inl a) = inl a
 further f g t j (inr (a, h)) = inr (a, omega arith)
 
-rises_at : (f g t j : ℕ) (ss : List SignalContents) (ys : List Move) → Reaches f g t j → RisesFrom (suc t) 0 ys → RisesFrom f g (moves_at t (enumerate_from j ss) ++ ys)
+rises_at : (f g t j : ℕ) (ss : List SignalContents) (ys : List Transition) → Reaches f g t j → RisesFrom (suc t) 0 ys → RisesFrom f g (transitions_at t (enumerate_from j ss) ++ ys)
 rises_at f g t j [] ys reach rise = from_next f g t j ys reach rise
 rises_at f g t j (s ∷ ss) ys reach rise =
     step (differs_at t s) (rises_at t j t (j + 1) ss ys (inr (refl, omega arith)) rise) (rises_at f g t (j + 1) ss ys (further f g t j reach) rise)
   where
-    step : (b : Bool) → RisesFrom t j (moves_at t (enumerate_from (j + 1) ss) ++ ys) → RisesFrom f g (moves_at t (enumerate_from (j + 1) ss) ++ ys)
-        → RisesFrom f g (map (λ p. move_of t p.0) (cond b ((j, s) ∷ filter (λ p. differs_at t p.1) (enumerate_from (j + 1) ss)) (filter (λ p. differs_at t p.1) (enumerate_from (j + 1) ss))) ++ ys)
+    step : (b : Bool) → RisesFrom t j (transitions_at t (enumerate_from (j + 1) ss) ++ ys) → RisesFrom f g (transitions_at t (enumerate_from (j + 1) ss) ++ ys)
+        → RisesFrom f g (map (λ p. transition_of t p.0) (cond b ((j, s) ∷ filter (λ p. differs_at t p.1) (enumerate_from (j + 1) ss)) (filter (λ p. differs_at t p.1) (enumerate_from (j + 1) ss))) ++ ys)
     step true put left = (reach, put)
     step false put left = left
 
-rises_from : (signals : List SignalContents) (t n : ℕ) → RisesFrom t 0 (moves_from signals t n)
-unfolding moves_from
+rises_from : (signals : List SignalContents) (t n : ℕ) → RisesFrom t 0 (transitions_from signals t n)
+unfolding transitions_from
 rises_from signals t zero = tt
-rises_from signals t (suc n) = rises_at t 0 t 0 signals (moves_from signals (suc t) n) (inr (refl, omega arith)) (rises_from signals (suc t) n)
+rises_from signals t (suc n) = rises_at t 0 t 0 signals (transitions_from signals (suc t) n) (inr (refl, omega arith)) (rises_from signals (suc t) n)
 
 -- ---- signal by signal
 
@@ -128,12 +128,12 @@ joint false true n = refl
 joint true false n = refl
 joint false false n = refl
 
-times_later : (t k j : ℕ) (cs : List Change) → times (suc t) k (later_moves j cs) ≡ if_so (j == k) (changes_at (suc t) cs)
+times_later : (t k j : ℕ) (cs : List Change) → times (suc t) k (later_transitions j cs) ≡ if_so (j == k) (changes_at (suc t) cs)
 times_later t k j [] = sym (if_zero (j == k))
 times_later t k j (c ∷ cs) = step (nat_lt 0 c.tick) refl (times_later t k j cs)
   where
-    step : (b : Bool) → nat_lt 0 c.tick ≡ b → times (suc t) k (later_moves j cs) ≡ if_so (j == k) (changes_at (suc t) cs)
-        → times (suc t) k (map (λ c. move_of c.tick j) (cond b (c ∷ filter (λ c. nat_lt 0 c.tick) cs) (filter (λ c. nat_lt 0 c.tick) cs)))
+    step : (b : Bool) → nat_lt 0 c.tick ≡ b → times (suc t) k (later_transitions j cs) ≡ if_so (j == k) (changes_at (suc t) cs)
+        → times (suc t) k (map (λ c. transition_of c.tick j) (cond b (c ∷ filter (λ c. nat_lt 0 c.tick) cs) (filter (λ c. nat_lt 0 c.tick) cs)))
         ≡ if_so (j == k) (counted (c.tick == suc t) + changes_at (suc t) cs)
     step true is rest = ap (λ n. counted ((c.tick == suc t) && (j == k)) + n) rest ∙ joint (c.tick == suc t) (j == k) (changes_at (suc t) cs)
     step false is rest =
@@ -141,15 +141,15 @@ times_later t k j (c ∷ cs) = step (nat_lt 0 c.tick) refl (times_later t k j cs
         let same : counted (c.tick == suc t) + changes_at (suc t) cs ≡ changes_at (suc t) cs = omega (arith, ap counted (ne_eqb c.tick (suc t) (omega arith))) in
         rest ∙ ap (if_so (j == k)) (sym same)
 
-times_later_zero : (k j : ℕ) (cs : List Change) → times 0 k (later_moves j cs) ≡ 0
+times_later_zero : (k j : ℕ) (cs : List Change) → times 0 k (later_transitions j cs) ≡ 0
 times_later_zero k j [] = refl
 times_later_zero k j (c ∷ cs) = step (nat_lt 0 c.tick) refl (times_later_zero k j cs)
   where
-    step : (b : Bool) → nat_lt 0 c.tick ≡ b → times 0 k (later_moves j cs) ≡ 0
-        → times 0 k (map (λ c. move_of c.tick j) (cond b (c ∷ filter (λ c. nat_lt 0 c.tick) cs) (filter (λ c. nat_lt 0 c.tick) cs))) ≡ 0
+    step : (b : Bool) → nat_lt 0 c.tick ≡ b → times 0 k (later_transitions j cs) ≡ 0
+        → times 0 k (map (λ c. transition_of c.tick j) (cond b (c ∷ filter (λ c. nat_lt 0 c.tick) cs) (filter (λ c. nat_lt 0 c.tick) cs))) ≡ 0
     step true is rest =
         let some : 0 < c.tick = ltb-true 0 c.tick is in
-        let here : once 0 k (move_of c.tick j) ≡ 0 = ap (λ b. counted (b && (j == k))) (ne_eqb c.tick 0 (omega arith)) in
+        let here : once 0 k (transition_of c.tick j) ≡ 0 = ap (λ b. counted (b && (j == k))) (ne_eqb c.tick 0 (omega arith)) in
         omega (arith, here, rest)
     step false is rest = rest
 
@@ -214,7 +214,7 @@ times_listed : (end t k j : ℕ) (ss : List SignalContents) → All (IsSoundSign
 unfolding listed_from
 times_listed end t k j [] sound = refl
 times_listed end t k j (s ∷ ss) sound =
-    times-append (suc t) k (later_moves j s.changes) (listed_from (j + 1) ss)
+    times-append (suc t) k (later_transitions j s.changes) (listed_from (j + 1) ss)
     ∙ ap (λ n. n + times (suc t) k (listed_from (j + 1) ss)) (times_later t k j s.changes ∙ ap (if_so (j == k)) (signal_differs end t s (All-head (IsSoundSignal end) s ss sound)))
     ∙ ap (λ n. if_so (j == k) (counted (differs_at (suc t) s)) + n) (times_listed end t k (j + 1) ss (All-tail (IsSoundSignal end) s ss sound))
 
@@ -223,16 +223,16 @@ unfolding listed_from
 none_listed_past end t k j [] late sound = refl
 none_listed_past end t k j (s ∷ ss) late sound =
     let one = All-head (IsSoundSignal end) s ss sound in
-    times-append (suc t) k (later_moves j s.changes) (listed_from (j + 1) ss)
+    times-append (suc t) k (later_transitions j s.changes) (listed_from (j + 1) ss)
     ∙ omega (arith, times_later t k j s.changes ∙ ap (if_so (j == k)) (none_past end (suc t) s.changes one.ticks late) ∙ if_zero (j == k), none_listed_past end t k (j + 1) ss late (All-tail (IsSoundSignal end) s ss sound))
 
 none_listed_first : (k j : ℕ) (ss : List SignalContents) → times 0 k (listed_from j ss) ≡ 0
 unfolding listed_from
 none_listed_first k j [] = refl
 none_listed_first k j (s ∷ ss) =
-    times-append 0 k (later_moves j s.changes) (listed_from (j + 1) ss) ∙ omega (arith, times_later_zero k j s.changes, none_listed_first k (j + 1) ss)
+    times-append 0 k (later_transitions j s.changes) (listed_from (j + 1) ss) ∙ omega (arith, times_later_zero k j s.changes, none_listed_first k (j + 1) ss)
 
-same_times : (end : ℕ) (ss : List SignalContents) → All (IsSoundSignal end) ss → (t k : ℕ) → times t k (listed_from 0 ss) ≡ times t k (moves_from ss 1 end)
+same_times : (end : ℕ) (ss : List SignalContents) → All (IsSoundSignal end) ss → (t k : ℕ) → times t k (listed_from 0 ss) ≡ times t k (transitions_from ss 1 end)
 same_times end ss sound zero k = none_listed_first k 0 ss ∙ sym (earlier ss 1 end 0 k (omega arith))
 same_times end ss sound (suc t) k =
     elim (cases_lt end (suc t)) [
@@ -241,40 +241,40 @@ same_times end ss sound (suc t) k =
     ]
 
 -- the sorted changes are those by tick
-pub sorted_are : (end : ℕ) (ss : List SignalContents) (listed sorted : List Move) → listed ≡ listed_from 0 ss → IsPermutation listed sorted → IsSorted by_place sorted
-    → All (IsSoundSignal end) ss → sorted ≡ moves_from ss 1 end
+pub sorted_are : (end : ℕ) (ss : List SignalContents) (listed sorted : List Transition) → listed ≡ listed_from 0 ss → IsPermutation listed sorted → IsSorted by_place sorted
+    → All (IsSoundSignal end) ss → sorted ≡ transitions_from ss 1 end
 sorted_are end ss listed sorted is moved up sound =
-    same_moves sorted (moves_from ss 1 end) 0 0 1 0 (sorted_rises sorted up) (rises_from ss 1 end)
+    same_transitions sorted (transitions_from ss 1 end) 0 0 1 0 (sorted_rises sorted up) (rises_from ss 1 end)
     (λ t k. times_permuted t k listed sorted moved ∙ ap (times t k) is ∙ same_times end ss sound t k)
 
 -- ---- positions
 
-abbrev AllBelow : ℕ → List Move → Type 0
+abbrev AllBelow : ℕ → List Transition → Type 0
 AllBelow n [] = Unit {0}
 AllBelow n (m ∷ ms) = (m.position < n) × AllBelow n ms
 
-below_both : (n : ℕ) (xs ys : List Move) → AllBelow n xs → AllBelow n ys → AllBelow n (xs ++ ys)
+below_both : (n : ℕ) (xs ys : List Transition) → AllBelow n xs → AllBelow n ys → AllBelow n (xs ++ ys)
 below_both n [] ys a b = b
 below_both n (x ∷ xs) ys (first, rest) b = (first, below_both n xs ys rest b)
 
-below_later : (n j : ℕ) (cs : List Change) → j < n → AllBelow n (later_moves j cs)
+below_later : (n j : ℕ) (cs : List Change) → j < n → AllBelow n (later_transitions j cs)
 below_later n j [] small = tt
 below_later n j (c ∷ cs) small = step (nat_lt 0 c.tick) (below_later n j cs small)
   where
-    step : (b : Bool) → AllBelow n (later_moves j cs) → AllBelow n (map (λ c. move_of c.tick j) (cond b (c ∷ filter (λ c. nat_lt 0 c.tick) cs) (filter (λ c. nat_lt 0 c.tick) cs)))
+    step : (b : Bool) → AllBelow n (later_transitions j cs) → AllBelow n (map (λ c. transition_of c.tick j) (cond b (c ∷ filter (λ c. nat_lt 0 c.tick) cs) (filter (λ c. nat_lt 0 c.tick) cs)))
     step true rest = (small, rest)
     step false rest = rest
 
 below_listed : (n j : ℕ) (ss : List SignalContents) → j + length ss ≤ n → AllBelow n (listed_from j ss)
 unfolding listed_from
 below_listed n j [] small = tt
-below_listed n j (s ∷ ss) small = below_both n (later_moves j s.changes) (listed_from (j + 1) ss) (below_later n j s.changes (omega arith)) (below_listed n (j + 1) ss (omega arith))
+below_listed n j (s ∷ ss) small = below_both n (later_transitions j s.changes) (listed_from (j + 1) ss) (below_later n j s.changes (omega arith)) (below_listed n (j + 1) ss (omega arith))
 
-each_below : (n : ℕ) (ms : List Move) → AllBelow n ms → All (λ m. m.position < n) ms
+each_below : (n : ℕ) (ms : List Transition) → AllBelow n ms → All (λ m. m.position < n) ms
 each_below n [] all = λ k d inside. absurd (omega arith)
 each_below n (m ∷ ms) (first, rest) = All-cons (λ m. m.position < n) m ms first (each_below n ms rest)
 
-pub sorted_within : (n : ℕ) (ss : List SignalContents) (listed sorted : List Move) → listed ≡ listed_from 0 ss → IsPermutation listed sorted → length ss ≤ n
+pub sorted_within : (n : ℕ) (ss : List SignalContents) (listed sorted : List Transition) → listed ≡ listed_from 0 ss → IsPermutation listed sorted → length ss ≤ n
     → All (λ m. m.position < n) sorted
 sorted_within n ss listed sorted is moved small =
-    All-permutation (λ m. m.position < n) listed sorted moved (subst (All (λ (m : Move). m.position < n)) (sym is) (each_below n (listed_from 0 ss) (below_listed n 0 ss (omega arith))))
+    All-permutation (λ m. m.position < n) listed sorted moved (subst (All (λ (m : Transition). m.position < n)) (sym is) (each_below n (listed_from 0 ss) (below_listed n 0 ss (omega arith))))

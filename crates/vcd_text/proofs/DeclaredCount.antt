@@ -3,11 +3,11 @@ use Rattle.std.proofs.Common.{◌+◌, ◌<◌, ◌≤◌, ◌^◌, List, [], �
 use Rattle.std.specs.Prelude.{option_to_list}
 use Rattle.std.proofs.lemmas.List.{length-append, length-map}
 use Rattle.std.proofs.lemmas.List.Sums.{count_by-le-length}
-use Rattle.vcd_text.specs.Words.{Word}
+use Rattle.vcd_text.specs.Words.{PlacedWord}
 use Rattle.vcd_text.specs.Items.{Item, entry, timescale, scope, upscope, variable, end_definitions, stamp, scalar, vector, real_or_string, bracket, other, spelling, spellings}
 use Rattle.vcd_text.specs.Grammar.{Context, after, after_item, nothing_told, is_skipped, declaration_of}
-use Rattle.vcd_text.specs.Reading.{IsReading}
-use Rattle.vcd_text.specs.declared.reading.machine.Machine.{Machine}
+use Rattle.vcd_text.specs.inside.Reading.{IsUnderway}
+use Rattle.vcd_text.specs.declared.reading.reader.Reader.{Reader}
 
 -- an item declares one variable at most
 declared_more : (c : Context) (i : Item) → length (after_item c i).declared ≤ length c.declared + 1
@@ -51,11 +51,11 @@ fewer_items [] = omega arith
 fewer_items (i ∷ is) = omega (arith, length-append (spelling i) (spellings is), has_words i, fewer_items is)
 
 -- one more skipped variable can be counted
-pub few_declared : (m : Machine) → IsReading m → m.variables.skipped + 1 < 2 ^ 64
+pub few_declared : (m : Reader) → IsUnderway m → m.variables.skipped + 1 < 2 ^ 64
 few_declared m r =
     let s = r.reads in
     let skipped : m.variables.skipped ≤ length s.told.declared = omega (arith, s.at.0.variables.skipped, count_by-le-length is_skipped s.told.declared) in
     let declared : length s.told.declared ≤ 0 + length s.items =
     subst (λ (c : Context). length c.declared ≤ 0 + length s.items) s.tells (declared_by nothing_told s.items) in
-    let spelled : length s.items ≤ length s.whole = omega (arith, fewer_items s.items, ap length s.spelled, length-map s.whole (λ (w : Word). w.text)) in
+    let spelled : length s.items ≤ length s.whole = omega (arith, fewer_items s.items, ap length s.spelled, length-map s.whole (λ (w : PlacedWord). w.text)) in
     omega (arith, ap length s.parts, length-append s.whole s.begun, r.few)

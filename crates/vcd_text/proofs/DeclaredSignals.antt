@@ -9,7 +9,7 @@ use Rattle.vcd_core.specs.declared.value.TheConstants.{WIDTH_LIMIT}
 use Rattle.vcd_core.specs.Contents.{Contents, SignalContents}
 use Rattle.vcd_core.specs.Sound.{IsSoundSignal}
 use Rattle.vcd_text.specs.Items.{is_one_of}
-use Rattle.vcd_text.specs.Grammar.{Context, Declaration, is_skipped, kept, skipped_kinds}
+use Rattle.vcd_text.specs.Grammar.{Context, Declaration, is_skipped, kept_variables, skipped_kinds}
 use Rattle.vcd_text.specs.Text.{code_of}
 use Rattle.vcd_text.proofs.CodesDiffer.{codes_differ}
 
@@ -54,11 +54,11 @@ sound_is_kept end k s sound =
     λ i. kind i || (some i || few i)
 
 -- all are kept, and none is skipped
-pub all_sound_kept : (end k : ℕ) (ss : List SignalContents) → All (IsSoundSignal end) ss → kept (declared_of k ss) ≡ declared_of k ss
+pub all_sound_kept : (end k : ℕ) (ss : List SignalContents) → All (IsSoundSignal end) ss → kept_variables (declared_of k ss) ≡ declared_of k ss
 unfolding declared_of
 all_sound_kept end k [] all = refl
 all_sound_kept end k (s ∷ ss) all =
-    ap (λ b. cond (not b) (declared_as k s ∷ kept (declared_of (suc k) ss)) (kept (declared_of (suc k) ss))) (sound_is_kept end k s (All-head (IsSoundSignal end) s ss all))
+    ap (λ b. cond (not b) (declared_as k s ∷ kept_variables (declared_of (suc k) ss)) (kept_variables (declared_of (suc k) ss))) (sound_is_kept end k s (All-head (IsSoundSignal end) s ss all))
     ∙ ap (λ ds. declared_as k s ∷ ds) (all_sound_kept end (suc k) ss (All-tail (IsSoundSignal end) s ss all))
 
 pub none_skipped : (end k : ℕ) (ss : List SignalContents) → All (IsSoundSignal end) ss → count_by is_skipped (declared_of k ss) ≡ 0

@@ -6,6 +6,7 @@ use Rattle.std.proofs.lemmas.List.{append-nil, map-append, length-map, length_pu
 use Rattle.std.proofs.lemmas.List.Elements.{filter-append, All-nil}
 use Rattle.std.proofs.lemmas.Bool.{lt-ltb, le-ltb, ltb-false, eqb-true, cases_lt}
 use Rattle.indexmap.specs.IndexMap.{get_by}
+use Rattle.vcd_core.specs.declared.capture.TheConstants.{SIGNAL_LIMIT}
 use Rattle.vcd_core.specs.declared.wave.Change.{Change}
 use Rattle.std.proofs.lemmas.List.Sums.{sum_by-append, sum_by-cons}
 use Rattle.std.proofs.lemmas.Option.{slice_get_within, same_Some}
@@ -17,9 +18,9 @@ use Rattle.vcd_text.specs.declared.fault.Fault.TheVariants as faults
 use Rattle.vcd_core.specs.declared.value.TheConstants.{WIDTH_LIMIT}
 use Rattle.vcd_text.specs.Letters.{number_of}
 use Rattle.vcd_text.specs.Items.{is_one_of}
-use Rattle.vcd_text.specs.Grammar.{Declaration, Recorded, Context, signal_limit, skipped_kinds, is_skipped, kept, variable_of, may_have_code, has_room}
+use Rattle.vcd_text.specs.Grammar.{Declaration, ChangeRecord, Context, skipped_kinds, is_skipped, kept_variables, variable_of, may_have_code, has_room}
 use Rattle.vcd_text.specs.Meaning.{recorded_value}
-use Rattle.vcd_text.specs.Variables.{declaration, declared_by, owner_of, HasWave, Stands, HasFirst, Knows, with_declared, mixed, many, DeclaresAs, code_mixed, no_room, Declares}
+use Rattle.vcd_text.specs.inside.Variables.{declaration, declaration_by, owner_of, HasWave, Stands, HasFirst, Knows, with_declared, mixed, many, DeclaresAs, code_mixed, no_room, Declares}
 use Rattle.vcd_text.specs.declared.reading.variables.Owner.{Owner}
 use Rattle.vcd_text.specs.declared.reading.variables.Owner.TheVariants.{Skipped, Kept}
 use Rattle.vcd_text.specs.declared.reading.variables.Variable.{Variable}
@@ -28,16 +29,16 @@ use Rattle.vcd_text.proofs.Owners.{own_code, by_code, stands_kept, stands_moved,
 
 -- ---- lists with one item more
 
-kept_skipped : (ds : List Declaration) (d : Declaration) → is_skipped d ≡ true → kept (ds ++ d ∷ []) ≡ kept ds
+kept_skipped : (ds : List Declaration) (d : Declaration) → is_skipped d ≡ true → kept_variables (ds ++ d ∷ []) ≡ kept_variables ds
 kept_skipped ds d skipped =
     filter-append (λ (e : Declaration). not (is_skipped e)) ds (d ∷ [])
-    ∙ ap (λ b. kept ds ++ cond (not b) (d ∷ []) []) skipped
-    ∙ append-nil (kept ds)
+    ∙ ap (λ b. kept_variables ds ++ cond (not b) (d ∷ []) []) skipped
+    ∙ append-nil (kept_variables ds)
 
-kept_kept : (ds : List Declaration) (d : Declaration) → is_skipped d ≡ false → kept (ds ++ d ∷ []) ≡ kept ds ++ d ∷ []
+kept_kept : (ds : List Declaration) (d : Declaration) → is_skipped d ≡ false → kept_variables (ds ++ d ∷ []) ≡ kept_variables ds ++ d ∷ []
 kept_kept ds d keeps =
     filter-append (λ (e : Declaration). not (is_skipped e)) ds (d ∷ [])
-    ∙ ap (λ b. kept ds ++ cond (not b) (d ∷ []) []) keeps
+    ∙ ap (λ b. kept_variables ds ++ cond (not b) (d ∷ []) []) keeps
 
 count_with : (ds : List Declaration) (d : Declaration) (b : Bool) → is_skipped d ≡ b → count_by is_skipped (ds ++ d ∷ []) ≡ count_by is_skipped ds + cond b 1 0
 count_with ds d b is =
@@ -70,12 +71,12 @@ same_number : (n : ℕ) → (n == n) ≡ true
 same_number n = grind arith
 
 -- as many variables are kept as were declared to be
-kept_long : (vs : Variables) (c : Context) → Knows vs c → length (kept c.declared) ≡ length vs.kept.items
+kept_long : (vs : Variables) (c : Context) → Knows vs c → length (kept_variables c.declared) ≡ length vs.kept.items
 kept_long vs c k = ap (length {A = Declaration}) k.kept ∙ length-map vs.kept.items declaration
 
 -- ---- what codes stand for, with one variable more
 
-module _ (records : List Recorded) (tick : ℕ) where
+module _ (records : List ChangeRecord) (tick : ℕ) where
   -- a variable behind the others takes nothing from a code
   stands_longer : (vs more : List Variable) (code : List ℕ) (owner : Option Owner) (declared : Option Declaration)
       → Stands vs records tick code owner declared → Stands (vs ++ more) records tick code owner declared
@@ -149,13 +150,13 @@ module _ (old new : Variables) (c : Context) (d : Declaration) (k : Knows old c)
   pub skip_declares : new.skipped ≡ old.skipped + 1 → (x : Unit {0}) → DeclaresAs c d (Ok x) new
   skip_declares more x = (
     skip_may (variable_of c d.code) (k.stand d.code),
-    (λ i. skipped i || nat_lt (length (kept c.declared)) signal_limit),
+    (λ i. skipped i || nat_lt (length (kept_variables c.declared)) SIGNAL_LIMIT),
     record {
       kept = kept_skipped c.declared d skipped ∙ k.kept ∙ ap (map declaration) (sym items);
       skipped = more ∙ ap (λ n. n + 1) k.skipped ∙ sym (count_with c.declared d true skipped);
       stand = skip_stands;
       firsts = skip_firsts;
-      few = subst (λ vs. length vs ≤ signal_limit) (sym items) k.few;
+      few = subst (λ vs. length vs ≤ SIGNAL_LIMIT) (sym items) k.few;
     },
   )
 
@@ -172,8 +173,8 @@ IsFree old code s first =
     ⊎ ((owner_of old code ≡ Some (Kept first)) × ((w : Variable) → slice_get old.kept.items first ≡ Some w → w.signal.wave.width ≡ s.wave.width))
 
 module _ (old : Variables) (c : Context) (code : List ℕ) (s : Signal) (first : ℕ) (k : Knows old c)
-    (keeps : is_skipped (declared_by code s) ≡ false) (free : IsFree old code s first) where
-  keep_may : (v : Option Declaration) → Stands old.kept.items c.records c.tick code (owner_of old code) v → may_have_code v (declared_by code s) ≡ true
+    (keeps : is_skipped (declaration_by code s) ≡ false) (free : IsFree old code s first) where
+  keep_may : (v : Option Declaration) → Stands old.kept.items c.records c.tick code (owner_of old code) v → may_have_code v (declaration_by code s) ≡ true
   keep_may None stands = refl
   keep_may (Some e) stands = elim free [
     | inl (none, end) ↦ absurd (subst (λ o. Stands old.kept.items c.records c.tick code o (Some e)) none stands)
@@ -184,15 +185,15 @@ module _ (old : Variables) (c : Context) (code : List ℕ) (s : Signal) (first :
         (λ i. (also i && keeps i) || (not (also i) && not (keeps i) && (size i == s.wave.width))) ∙ same_number s.wave.width
   ]
 
-  has_room_is : (b : Bool) → nat_lt (length old.kept.items) signal_limit ≡ b → has_room c.declared (declared_by code s) ≡ b
-  has_room_is b test = (λ i. keeps i || nat_lt (length (kept c.declared)) signal_limit) ∙ ap (λ n. nat_lt n signal_limit) (kept_long old c k) ∙ test
+  has_room_is : (b : Bool) → nat_lt (length old.kept.items) SIGNAL_LIMIT ≡ b → has_room c.declared (declaration_by code s) ≡ b
+  has_room_is b test = (λ i. keeps i || nat_lt (length (kept_variables c.declared)) SIGNAL_LIMIT) ∙ ap (λ n. nat_lt n SIGNAL_LIMIT) (kept_long old c k) ∙ test
 
   -- it may not stand here where there are too many
-  keep_full : (new : Variables) → signal_limit ≤ length old.kept.items → DeclaresAs c (declared_by code s) (Err faults.TooManySignals) new
-  keep_full new full = inr (many (keep_may (variable_of c code) (k.stand code)) (has_room_is false (le-ltb (length old.kept.items) signal_limit full)) refl)
+  keep_full : (new : Variables) → SIGNAL_LIMIT ≤ length old.kept.items → DeclaresAs c (declaration_by code s) (Err faults.TooManySignals) new
+  keep_full new full = inr (many (keep_may (variable_of c code) (k.stand code)) (has_room_is false (le-ltb (length old.kept.items) SIGNAL_LIMIT full)) refl)
 
 module _ (old new : Variables) (c : Context) (code : List ℕ) (s : Signal) (first : ℕ) (k : Knows old c) (records : c.records ≡ []) (silent : s.wave.changes ≡ [])
-    (keeps : is_skipped (declared_by code s) ≡ false) (items : new.kept.items ≡ old.kept.items ++ variable_at code s first ∷ [])
+    (keeps : is_skipped (declaration_by code s) ≡ false) (items : new.kept.items ≡ old.kept.items ++ variable_at code s first ∷ [])
     (free : IsFree old code s first)
     (puts : Puts old new code (Kept first)) where
   silent_wave : HasWave (old.kept.items ++ variable_at code s first ∷ []) (length old.kept.items) code s.wave.width c.records c.tick
@@ -209,7 +210,7 @@ module _ (old new : Variables) (c : Context) (code : List ℕ) (s : Signal) (fir
   }
 
   keep_here : (v : Option Declaration) → Stands old.kept.items c.records c.tick code (owner_of old code) v
-      → Stands (old.kept.items ++ variable_at code s first ∷ []) c.records c.tick code (Some (Kept first)) (option_or v (Some (declared_by code s)))
+      → Stands (old.kept.items ++ variable_at code s first ∷ []) c.records c.tick code (Some (Kept first)) (option_or v (Some (declaration_by code s)))
   keep_here None stands = elim free [
     | inl (none, end) ↦
         (keeps, subst (λ n. HasWave (old.kept.items ++ variable_at code s first ∷ []) n code s.wave.width c.records c.tick) (sym end) silent_wave)
@@ -222,10 +223,10 @@ module _ (old new : Variables) (c : Context) (code : List ℕ) (s : Signal) (fir
         (subst (λ o. Stands old.kept.items c.records c.tick code o (Some e)) had stands)
   ]
 
-  keep_stands : (key : List ℕ) → Stands new.kept.items c.records c.tick key (owner_of new key) (variable_of (with_declared c (declared_by code s)) key)
+  keep_stands : (key : List ℕ) → Stands new.kept.items c.records c.tick key (owner_of new key) (variable_of (with_declared c (declaration_by code s)) key)
   keep_stands key =
       let all = old.kept.items ++ variable_at code s first ∷ [] in
-      let d = declared_by code s in
+      let d = declaration_by code s in
       let both =
       by_code (λ b. Stands all c.records c.tick key (if b then Some (Kept first) else owner_of old key) (option_or (variable_of c key) (if b then Some d else None))) key code
       (λ is. subst (λ name. Stands all c.records c.tick name (Some (Kept first)) (option_or (variable_of c name) (Some d))) (sym is) (keep_here (variable_of c code) (k.stand code)))
@@ -284,33 +285,33 @@ module _ (old new : Variables) (c : Context) (code : List ℕ) (s : Signal) (fir
   ]
 
   -- it is declared
-  pub keep_declares : length old.kept.items < signal_limit → new.skipped ≡ old.skipped → (x : Unit {0}) → DeclaresAs c (declared_by code s) (Ok x) new
+  pub keep_declares : length old.kept.items < SIGNAL_LIMIT → new.skipped ≡ old.skipped → (x : Unit {0}) → DeclaresAs c (declaration_by code s) (Ok x) new
   keep_declares room same x =
-      let d = declared_by code s in (
+      let d = declaration_by code s in (
         keep_may old c code s first k keeps free (variable_of c code) (k.stand code),
-        has_room_is old c code s first k keeps free true (lt-ltb (length old.kept.items) signal_limit room),
+        has_room_is old c code s first k keeps free true (lt-ltb (length old.kept.items) SIGNAL_LIMIT room),
         record {
           kept = kept_kept c.declared d keeps ∙ ap (λ ds. ds ++ d ∷ []) k.kept
               ∙ sym (map-append declaration old.kept.items (variable_at code s first ∷ [])) ∙ ap (map declaration) (sym items);
           skipped = same ∙ k.skipped ∙ omega arith ∙ sym (count_with c.declared d false keeps);
           stand = keep_stands;
           firsts = keep_firsts;
-          few = subst (λ vs. length vs ≤ signal_limit) (sym items) (omega (arith, room, length_push old.kept.items (variable_at code s first)));
+          few = subst (λ vs. length vs ≤ SIGNAL_LIMIT) (sym items) (omega (arith, room, length_push old.kept.items (variable_at code s first)));
         },
       )
 
 -- what comes of a variable that is put behind the others
 pub push_declares : (old new : Variables) (c : Context) (code : List ℕ) (s : Signal) (first : ℕ) (result : Result (Unit {0}) Fault)
-    → Knows old c → c.records ≡ [] → s.wave.changes ≡ [] → is_skipped (declared_by code s) ≡ false → IsFree old code s first
-    → OnOk result (length old.kept.items < signal_limit) → OnOk result (new.kept.items ≡ old.kept.items ++ variable_at code s first ∷ [])
+    → Knows old c → c.records ≡ [] → s.wave.changes ≡ [] → is_skipped (declaration_by code s) ≡ false → IsFree old code s first
+    → OnOk result (length old.kept.items < SIGNAL_LIMIT) → OnOk result (new.kept.items ≡ old.kept.items ++ variable_at code s first ∷ [])
     → OnOk result (Puts old new code (Kept first)) → new.skipped ≡ old.skipped
-    → IfErr result (λ fault. (fault ≡ faults.NoMemory) ⊎ ((fault ≡ faults.TooManySignals) × (signal_limit ≤ length old.kept.items)))
-    → DeclaresAs c (declared_by code s) result new
+    → IfErr result (λ fault. (fault ≡ faults.NoMemory) ⊎ ((fault ≡ faults.TooManySignals) × (SIGNAL_LIMIT ≤ length old.kept.items)))
+    → DeclaresAs c (declaration_by code s) result new
 push_declares old new c code s first (Ok x) k records silent keeps free room items puts same refuses =
     keep_declares old new c code s first k records silent keeps items free puts room same x
 push_declares old new c code s first (Err fault) k records silent keeps free room items puts same refuses = elim refuses [
   | inl none ↦ inl none
-  | inr (why, full) ↦ subst (λ f. DeclaresAs c (declared_by code s) (Err f) new) (sym why) (keep_full old c code s first k keeps free new full)
+  | inr (why, full) ↦ subst (λ f. DeclaresAs c (declaration_by code s) (Err f) new) (sym why) (keep_full old c code s first k keeps free new full)
 ]
 
 pub when_ok : (result : Result (Unit {0}) Fault) (P : Type 0) → P → OnOk result P
@@ -328,22 +329,22 @@ same_width (Some v) width test w is = ap (λ (u : Variable). u.signal.wave.width
 -- ---- the words of a declaration
 
 -- what the words of a `$var` declare
-abbrev pub declaration_by : Context → (kind size code : List ℕ) → (names : List (List ℕ)) → Declaration
-declaration_by c kind size code names = record { scopes = c.scopes; kind = kind; size = number_of size; code = code; words = names }
+abbrev pub worded_declaration : Context → (kind size code : List ℕ) → (names : List (List ℕ)) → Declaration
+worded_declaration c kind size code names = record { scopes = c.scopes; kind = kind; size = number_of size; code = code; words = names }
 
 declares_names : (c : Context) (kind size code : List ℕ) (names : List (List ℕ)) (result : Result (Unit {0}) Fault) (new : Variables) → 0 < length names
-    → DeclaresAs c (declaration_by c kind size code names) result new → Declares c (kind ∷ size ∷ code ∷ names) result new
+    → DeclaresAs c (worded_declaration c kind size code names) result new → Declares c (kind ∷ size ∷ code ∷ names) result new
 declares_names c kind size code [] result new some as_one = absurd (omega (arith, some))
 declares_names c kind size code (name ∷ names) (Ok x) new some (may, room, knows) = ((may, room), knows)
 declares_names c kind size code (name ∷ names) (Err fault) new some as_one = elim as_one [
   | inl none ↦ inl none
-  | inr (mixed may is) ↦ inr (code_mixed (declaration_by c kind size code (name ∷ names)) refl may is)
-  | inr (many may room is) ↦ inr (no_room (declaration_by c kind size code (name ∷ names)) refl may room is)
+  | inr (mixed may is) ↦ inr (code_mixed (worded_declaration c kind size code (name ∷ names)) refl may is)
+  | inr (many may room is) ↦ inr (no_room (worded_declaration c kind size code (name ∷ names)) refl may room is)
 ]
 
 -- so what comes of the words is what comes of what they declare
 pub declares_words : (c : Context) (words : List (List ℕ)) (kind size code : List ℕ) (names : List (List ℕ)) (result : Result (Unit {0}) Fault) (new : Variables)
-    → words ≡ kind ∷ size ∷ code ∷ names → 0 < length names → DeclaresAs c (declaration_by c kind size code names) result new → Declares c words result new
+    → words ≡ kind ∷ size ∷ code ∷ names → 0 < length names → DeclaresAs c (worded_declaration c kind size code names) result new → Declares c words result new
 declares_words c words kind size code names result new are some as_one =
     subst (λ ws. Declares c ws result new) (sym are) (declares_names c kind size code names result new some as_one)
 
@@ -376,7 +377,7 @@ same_bounds n size is = elim (cases_lt WIDTH_LIMIT n) [
 
 -- a variable is skipped for its kind, or for the size that is read
 pub left_out : (c : Context) (kind word code : List ℕ) (names : List (List ℕ)) (size : ℕ) → size ≡ min (number_of word) (WIDTH_LIMIT + 1)
-    → is_skipped (declaration_by c kind word code names) ≡ (is_one_of skipped_kinds kind || (size == 0 || nat_lt WIDTH_LIMIT size))
+    → is_skipped (worded_declaration c kind word code names) ≡ (is_one_of skipped_kinds kind || (size == 0 || nat_lt WIDTH_LIMIT size))
 left_out c kind word code names size is = ap (λ b. is_one_of skipped_kinds kind || b) (sym (same_bounds (number_of word) size is))
 
 -- the size that is read is that of a variable that is kept

@@ -9,27 +9,27 @@ use Rattle.vcd_core.specs.declared.capture.Timescale.{Timescale}
 use Rattle.vcd_core.specs.declared.capture.ScopeName.{ScopeName}
 use Rattle.vcd_text.specs.declared.fault.Fault.{Fault}
 use Rattle.vcd_text.specs.declared.fault.Fault.TheVariants as faults
-use Rattle.vcd_text.specs.Words.{Word, word}
+use Rattle.vcd_text.specs.Words.{PlacedWord, word_on}
 use Rattle.vcd_text.specs.Letters.{is_number}
 use Rattle.vcd_text.specs.Items.{Item, entry, timescale, scope, upscope, variable, end_definitions, other, spelling, end_word, is_end, has_no_end, header_word, is_other, timescale_of}
-use Rattle.vcd_text.specs.Grammar.{Context, Allows, after_item, texts, has_good_size}
-use Rattle.vcd_text.specs.Faults.{Decided, DeclarationFault, no_timescale, no_size, among_declarations}
-use Rattle.vcd_text.specs.Variables.{Knows, Declares, VariableFault}
-use Rattle.vcd_text.specs.Reading.{Agrees, Collects, PassesOver, IsBegun, At, TakesWord, goes_on, ends_item, Moves}
-use Rattle.vcd_text.specs.declared.reading.machine.Machine.{Machine}
-use Rattle.vcd_text.specs.declared.reading.machine.OpenItem.TheVariants as items
+use Rattle.vcd_text.specs.Grammar.{Context, Allows, after_item, word_texts, has_good_size}
+use Rattle.vcd_text.specs.Faults.{WordFault, DeclarationFault, no_timescale, no_size, among_declarations}
+use Rattle.vcd_text.specs.inside.Variables.{Knows, Declares, VariableFault}
+use Rattle.vcd_text.specs.inside.Reading.{Agrees, Collects, PassesOver, IsBegun, At, TakesWord, goes_on, ends_item, TakesOrRefuses}
+use Rattle.vcd_text.specs.declared.reading.reader.Reader.{Reader}
+use Rattle.vcd_text.specs.declared.reading.reader.OpenItem.TheVariants as items
 use Rattle.vcd_text.specs.declared.reading.variables.Variables.{Variables}
 use Rattle.vcd_text.proofs.Knows.{knows_further}
 
 -- ---- words
 
 -- one word more
-texts_more : (begun : List Word) (w : Word) → texts (begun ++ w ∷ []) ≡ texts begun ++ w.text ∷ []
-texts_more begun w = map-append (λ (v : Word). v.text) begun (w ∷ [])
+texts_more : (begun : List PlacedWord) (w : PlacedWord) → word_texts (begun ++ w ∷ []) ≡ word_texts begun ++ w.text ∷ []
+texts_more begun w = map-append (λ (v : PlacedWord). v.text) begun (w ∷ [])
 
 -- the words of an item with its `$end`
-spelled_whole : (begun : List Word) (line : ℕ) (words : List (List ℕ)) → texts begun ≡ words → words ++ end_word ∷ [] ≡ texts (begun ++ word end_word line ∷ [])
-spelled_whole begun line words spelled = sym (texts_more begun (word end_word line) ∙ ap (λ ts. ts ++ end_word ∷ []) spelled)
+spelled_whole : (begun : List PlacedWord) (line : ℕ) (words : List (List ℕ)) → word_texts begun ≡ words → words ++ end_word ∷ [] ≡ word_texts (begun ++ word_on end_word line ∷ [])
+spelled_whole begun line words spelled = sym (texts_more begun (word_on end_word line) ∙ ap (λ ts. ts ++ end_word ∷ []) spelled)
 
 -- one word more, which is no `$end`
 no_end_more : (words : List (List ℕ)) (text : List ℕ) → IsTrue (has_no_end words) → IsFalse (is_end text) → IsTrue (has_no_end (words ++ text ∷ []))
@@ -45,23 +45,23 @@ same_known vs c d declared records tick known = knows_further vs c d declared re
 -- ---- the end of an item
 
 -- where the item that is open asks for no more, its `$end` ends it
-ends_here : (new : Machine) (c : Context) (begun : List Word) (line : ℕ) (i : Item) (words : List (List ℕ))
-    → texts begun ≡ words → spelling i ≡ words ++ end_word ∷ [] → Allows c i → Agrees new (after_item c i) → new.item ≡ items.Nothing
-    → TakesWord c (begun ++ word end_word line ∷ []) new
+ends_here : (new : Reader) (c : Context) (begun : List PlacedWord) (line : ℕ) (i : Item) (words : List (List ℕ))
+    → word_texts begun ≡ words → spelling i ≡ words ++ end_word ∷ [] → Allows c i → Agrees new (after_item c i) → new.item ≡ items.Nothing
+    → TakesWord c (begun ++ word_on end_word line ∷ []) new
 ends_here new c begun line i words spelled whole allows agrees closed =
     ends_item i (whole ∙ spelled_whole begun line words spelled) allows
     (agrees, subst (IsBegun new []) (sym closed) refl)
 
 -- a header entry is the last of the header
-pub closes_entry : (m new : Machine) (kind : HeaderKind) → m.item ≡ items.Entry kind
+pub closes_entry : (m new : Reader) (kind : HeaderKind) → m.item ≡ items.Entry kind
     → new.header.items ≡ m.header.items ++ record { kind = kind; words = m.words.items } ∷ []
     → new ≡ record m { header = new.header; words = new.words; item = items.Nothing }
-    → (line : ℕ) (c : Context) (begun : List Word) → At m c begun → TakesWord c (begun ++ word end_word line ∷ []) new
+    → (line : ℕ) (c : Context) (begun : List PlacedWord) → At m c begun → TakesWord c (begun ++ word_on end_word line ∷ []) new
 closes_entry m new kind is pushed others line c begun at =
     let a = at.0 in
     let b : Collects m begun (header_word kind) = subst (IsBegun m begun) is at.1 in
     let i : Item = entry kind m.words.items in
-    subst (TakesWord c (begun ++ word end_word line ∷ [])) (sym others)
+    subst (TakesWord c (begun ++ word_on end_word line ∷ [])) (sym others)
     (ends_here (record m { header = new.header; words = new.words; item = items.Nothing }) c begun line i (header_word kind ∷ m.words.items)
     b.spelled refl (sym a.changing ∙ b.declares, b.no_end)
     (record {
@@ -75,9 +75,9 @@ closes_entry m new kind is pushed others line c begun at =
     }) refl)
 
 -- a timescale takes the place of the one before
-pub closes_timescale : (m : Machine) (found : Timescale) → m.item ≡ items.Timescale → timescale_of m.words.items ≡ Some found
-    → (line : ℕ) (c : Context) (begun : List Word) → At m c begun
-    → TakesWord c (begun ++ word end_word line ∷ []) (record m { timescale = Some found; item = items.Nothing })
+pub closes_timescale : (m : Reader) (found : Timescale) → m.item ≡ items.Timescale → timescale_of m.words.items ≡ Some found
+    → (line : ℕ) (c : Context) (begun : List PlacedWord) → At m c begun
+    → TakesWord c (begun ++ word_on end_word line ∷ []) (record m { timescale = Some found; item = items.Nothing })
 closes_timescale m found is some line c begun at =
     let a = at.0 in
     let b : Collects m begun (codes "$timescale") = subst (IsBegun m begun) is at.1 in
@@ -95,21 +95,21 @@ closes_timescale m found is some line c begun at =
     }) refl
 
 -- the words spell no timescale
-pub shows_no_timescale : (m : Machine) → m.item ≡ items.Timescale → timescale_of m.words.items ≡ None
-    → (c : Context) (begun : List Word) → At m c begun → Decided c (texts begun) end_word faults.BadTimescale
+pub shows_no_timescale : (m : Reader) → m.item ≡ items.Timescale → timescale_of m.words.items ≡ None
+    → (c : Context) (begun : List PlacedWord) → At m c begun → WordFault c (word_texts begun) end_word faults.BadTimescale
 shows_no_timescale m is none c begun at =
     let b : Collects m begun (codes "$timescale") = subst (IsBegun m begun) is at.1 in
     among_declarations (sym at.0.changing ∙ b.declares) (no_timescale m.words.items b.spelled refl b.no_end none refl)
 
 -- a scope is the innermost
-pub closes_scope : (m new : Machine) (s : ScopeName) → m.item ≡ items.Scope → m.words.items ≡ s.kind ∷ s.words → new.scopes.items ≡ m.scopes.items ++ s ∷ []
+pub closes_scope : (m new : Reader) (s : ScopeName) → m.item ≡ items.Scope → m.words.items ≡ s.kind ∷ s.words → new.scopes.items ≡ m.scopes.items ++ s ∷ []
     → new ≡ record m { scopes = new.scopes; words = new.words; item = items.Nothing }
-    → (line : ℕ) (c : Context) (begun : List Word) → At m c begun → TakesWord c (begun ++ word end_word line ∷ []) new
+    → (line : ℕ) (c : Context) (begun : List PlacedWord) → At m c begun → TakesWord c (begun ++ word_on end_word line ∷ []) new
 closes_scope m new s is words pushed others line c begun at =
     let a = at.0 in
     let b : Collects m begun (codes "$scope") = subst (IsBegun m begun) is at.1 in
     let i : Item = scope s.kind s.words in
-    subst (TakesWord c (begun ++ word end_word line ∷ [])) (sym others)
+    subst (TakesWord c (begun ++ word_on end_word line ∷ [])) (sym others)
     (ends_here (record m { scopes = new.scopes; words = new.words; item = items.Nothing }) c begun line i (codes "$scope" ∷ s.kind ∷ s.words)
     (b.spelled ∙ ap (λ ws. codes "$scope" ∷ ws) words) refl (sym a.changing ∙ b.declares, ap has_no_end (sym words) ∙ b.no_end)
     (record {
@@ -128,13 +128,13 @@ front_removed [] ys x some front rest = absurd (omega arith)
 front_removed (x' ∷ xs) ys x some front rest = (λ i. sym front i ∷ sym rest i)
 
 -- the innermost scope is closed
-pub closes_upscope : (m new : Machine) → m.item ≡ items.Upscope → new.scopes.items ≡ take (length m.scopes.items - 1) m.scopes.items
+pub closes_upscope : (m new : Reader) → m.item ≡ items.Upscope → new.scopes.items ≡ take (length m.scopes.items - 1) m.scopes.items
     → new ≡ record m { scopes = new.scopes; item = items.Nothing }
-    → (line : ℕ) (c : Context) (begun : List Word) → At m c begun → TakesWord c (begun ++ word end_word line ∷ []) new
+    → (line : ℕ) (c : Context) (begun : List PlacedWord) → At m c begun → TakesWord c (begun ++ word_on end_word line ∷ []) new
 closes_upscope m new is popped others line c begun at =
     let a = at.0 in
-    let b : IsFalse m.changing × (texts begun ≡ codes "$upscope" ∷ []) × (0 < length m.scopes.items) = subst (IsBegun m begun) is at.1 in
-    subst (TakesWord c (begun ++ word end_word line ∷ [])) (sym others)
+    let b : IsFalse m.changing × (word_texts begun ≡ codes "$upscope" ∷ []) × (0 < length m.scopes.items) = subst (IsBegun m begun) is at.1 in
+    subst (TakesWord c (begun ++ word_on end_word line ∷ [])) (sym others)
     (ends_here (record m { scopes = new.scopes; item = items.Nothing }) c begun line upscope (codes "$upscope" ∷ [])
     b.1 refl (sym a.changing ∙ b.0, subst (λ (ss : List ScopeName). 0 < length ss) a.scopes b.2)
     (record {
@@ -148,12 +148,12 @@ closes_upscope m new is popped others line c begun at =
     }) refl)
 
 -- the changes begin
-pub closes_definitions : (m : Machine) → m.item ≡ items.EndDefinitions
-    → (line : ℕ) (c : Context) (begun : List Word) → At m c begun
-    → TakesWord c (begun ++ word end_word line ∷ []) (record m { changing = true; item = items.Nothing })
+pub closes_definitions : (m : Reader) → m.item ≡ items.EndDefinitions
+    → (line : ℕ) (c : Context) (begun : List PlacedWord) → At m c begun
+    → TakesWord c (begun ++ word_on end_word line ∷ []) (record m { changing = true; item = items.Nothing })
 closes_definitions m is line c begun at =
     let a = at.0 in
-    let b : IsFalse m.changing × (texts begun ≡ codes "$enddefinitions" ∷ []) = subst (IsBegun m begun) is at.1 in
+    let b : IsFalse m.changing × (word_texts begun ≡ codes "$enddefinitions" ∷ []) = subst (IsBegun m begun) is at.1 in
     ends_here (record m { changing = true; item = items.Nothing }) c begun line end_definitions (codes "$enddefinitions" ∷ [])
     b.1 refl (sym a.changing ∙ b.0)
     (record {
@@ -167,8 +167,8 @@ closes_definitions m is line c begun at =
     }) refl
 
 -- another command leaves nothing
-pub closes_other : (m : Machine) → m.item ≡ items.Other
-    → (line : ℕ) (c : Context) (begun : List Word) → At m c begun → TakesWord c (begun ++ word end_word line ∷ []) (record m { item = items.Nothing })
+pub closes_other : (m : Reader) → m.item ≡ items.Other
+    → (line : ℕ) (c : Context) (begun : List PlacedWord) → At m c begun → TakesWord c (begun ++ word_on end_word line ∷ []) (record m { item = items.Nothing })
 closes_other m is line c begun at =
     let a = at.0 in
     let b : PassesOver m begun = subst (IsBegun m begun) is at.1 in
@@ -187,10 +187,10 @@ closes_other m is line c begun at =
 -- ---- variables
 
 -- the variables have taken the declaration
-pub closes_variable : (m : Machine) (variables : Variables) (scopes : List ScopeName) (words : List (List ℕ)) → scopes ≡ m.scopes.items → words ≡ m.words.items
+pub closes_variable : (m : Reader) (variables : Variables) (scopes : List ScopeName) (words : List (List ℕ)) → scopes ≡ m.scopes.items → words ≡ m.words.items
     → ((c : Context) → c.scopes ≡ scopes → c.records ≡ [] → Knows m.variables c → Declares c words (Ok tt) variables) → m.item ≡ items.Variable
-    → (line : ℕ) (c : Context) (begun : List Word) → At m c begun
-    → TakesWord c (begun ++ word end_word line ∷ []) (record m { variables = variables; item = items.Nothing })
+    → (line : ℕ) (c : Context) (begun : List PlacedWord) → At m c begun
+    → TakesWord c (begun ++ word_on end_word line ∷ []) (record m { variables = variables; item = items.Nothing })
 closes_variable m variables scopes words inside spelled declare is line c begun at =
     let a = at.0 in
     let b : Collects m begun (codes "$var") × IsTrue (has_good_size m.words.items) = subst (IsBegun m begun) is at.1 in
@@ -209,8 +209,8 @@ closes_variable m variables scopes words inside spelled declare is line c begun 
     }) refl
 
 -- what the variables answer is what the grammar says
-variable_fault : (m : Machine) (c : Context) (begun : List Word) (fault : Fault) → IsFalse c.changing
-    → Collects m begun (codes "$var") → IsTrue (has_good_size m.words.items) → VariableFault c m.words.items fault → Decided c (texts begun) end_word fault
+variable_fault : (m : Reader) (c : Context) (begun : List PlacedWord) (fault : Fault) → IsFalse c.changing
+    → Collects m begun (codes "$var") → IsTrue (has_good_size m.words.items) → VariableFault c m.words.items fault → WordFault c (word_texts begun) end_word fault
 variable_fault m c begun fault declares b good (VariableFault.no_variable none is) =
     among_declarations declares (DeclarationFault.no_variable m.words.items b.spelled refl b.no_end good none is)
 variable_fault m c begun fault declares b good (VariableFault.code_mixed d some mixed is) =
@@ -219,17 +219,17 @@ variable_fault m c begun fault declares b good (VariableFault.no_room d some may
     among_declarations declares (DeclarationFault.no_room m.words.items d b.spelled refl b.no_end good some may none is)
 
 -- the same, or memory runs out
-fault_shown : (m : Machine) (c : Context) (begun : List Word) (fault : Fault) → IsFalse c.changing
+fault_shown : (m : Reader) (c : Context) (begun : List PlacedWord) (fault : Fault) → IsFalse c.changing
     → Collects m begun (codes "$var") → IsTrue (has_good_size m.words.items)
-    → (fault ≡ faults.NoMemory) ⊎ VariableFault c m.words.items fault → (fault ≡ faults.NoMemory) ⊎ Decided c (texts begun) end_word fault
+    → (fault ≡ faults.NoMemory) ⊎ VariableFault c m.words.items fault → (fault ≡ faults.NoMemory) ⊎ WordFault c (word_texts begun) end_word fault
 fault_shown m c begun fault declares b good (inl memory) = inl memory
 fault_shown m c begun fault declares b good (inr shown) = inr (variable_fault m c begun fault declares b good shown)
 
 -- the words declare no variable that may stand here
-pub shows_no_variable : (m new : Machine) (result : Result (Unit {0}) Fault) (fault : Fault) (variables : Variables) (scopes : List ScopeName) (words : List (List ℕ))
+pub shows_no_variable : (m new : Reader) (result : Result (Unit {0}) Fault) (fault : Fault) (variables : Variables) (scopes : List ScopeName) (words : List (List ℕ))
     → scopes ≡ m.scopes.items → words ≡ m.words.items
     → ((c : Context) → c.scopes ≡ scopes → c.records ≡ [] → Knows m.variables c → Declares c words (Err fault) variables) → m.item ≡ items.Variable
-    → IsErrAnd result (λ e. e ≡ fault) → (line : ℕ) → Moves m (word end_word line) result new
+    → IsErrAnd result (λ e. e ≡ fault) → (line : ℕ) → TakesOrRefuses m (word_on end_word line) result new
 shows_no_variable m new (Ok x) fault variables scopes words inside spelled declare is failed line = absurd failed
 shows_no_variable m new (Err e) fault variables scopes words inside spelled declare is failed line =
     λ c begun at.
@@ -237,7 +237,7 @@ shows_no_variable m new (Err e) fault variables scopes words inside spelled decl
     let b : Collects m begun (codes "$var") × IsTrue (has_good_size m.words.items) = subst (IsBegun m begun) is at.1 in
     let declares : IsFalse c.changing = sym a.changing ∙ b.0.declares in
     let d : Declares c m.words.items (Err fault) variables = subst (λ ws. Declares c ws (Err fault) variables) spelled (declare c (sym a.scopes ∙ sym inside) (a.silent declares) a.variables) in
-    subst (λ f. (f ≡ faults.NoMemory) ⊎ Decided c (texts begun) end_word f) (sym failed) (fault_shown m c begun fault declares b.0 b.1 d)
+    subst (λ f. (f ≡ faults.NoMemory) ⊎ WordFault c (word_texts begun) end_word f) (sym failed) (fault_shown m c begun fault declares b.0 b.1 d)
 
 -- the kind of a variable, where it is all that stands there
 one_word : (words : List (List ℕ)) → length words ≡ 1 → IsTrue (has_no_end words) → (kind : List ℕ) × (words ≡ kind ∷ []) × IsFalse (is_end kind)
@@ -255,8 +255,8 @@ no_number None text Q said none = said
 no_number (Some n) text Q said none = let some : true ≡ false = none in absurd (cc)
 
 -- a size that is no number
-pub shows_no_size : (m : Machine) (text : List ℕ) → m.item ≡ items.Variable → length m.words.items ≡ 1 → is_number text ≡ false
-    → (c : Context) (begun : List Word) → At m c begun → Decided c (texts begun) text faults.BadVar
+pub shows_no_size : (m : Reader) (text : List ℕ) → m.item ≡ items.Variable → length m.words.items ≡ 1 → is_number text ≡ false
+    → (c : Context) (begun : List PlacedWord) → At m c begun → WordFault c (word_texts begun) text faults.BadVar
 shows_no_size m text is one isnt c begun at =
     let b : Collects m begun (codes "$var") × IsTrue (has_good_size m.words.items) = subst (IsBegun m begun) is at.1 in
     let k = one_word m.words.items one b.0.no_end in
@@ -265,16 +265,16 @@ shows_no_size m text is one isnt c begun at =
 -- ---- a word that goes on
 
 -- a word of another command
-pub passes_over : (m : Machine) (text : List ℕ) → m.item ≡ items.Other → IsFalse (is_end text)
-    → (line : ℕ) (c : Context) (begun : List Word) → At m c begun → TakesWord c (begun ++ word text line ∷ []) m
+pub passes_over : (m : Reader) (text : List ℕ) → m.item ≡ items.Other → IsFalse (is_end text)
+    → (line : ℕ) (c : Context) (begun : List PlacedWord) → At m c begun → TakesWord c (begun ++ word_on text line ∷ []) m
 passes_over m text is isnt line c begun at =
     let b : PassesOver m begun = subst (IsBegun m begun) is at.1 in
     goes_on (
       at.0,
-      subst (IsBegun m (begun ++ word text line ∷ [])) (sym is) (record {
+      subst (IsBegun m (begun ++ word_on text line ∷ [])) (sym is) (record {
         keyword = b.keyword;
         words = b.words ++ text ∷ [];
-        spelled = texts_more begun (word text line) ∙ ap (λ ts. ts ++ text ∷ []) b.spelled;
+        spelled = texts_more begun (word_on text line) ∙ ap (λ ts. ts ++ text ∷ []) b.spelled;
         other = b.other;
         no_end = no_end_more b.words text b.no_end isnt;
       }),

@@ -7,16 +7,16 @@ use Rattle.vcd_core.specs.declared.capture.ScopeName.{ScopeName}
 use Rattle.vcd_core.specs.declared.capture.HeaderKind.{HeaderKind}
 use Rattle.vcd_core.specs.declared.capture.HeaderKind.TheVariants.{Date, Version, Comment}
 use Rattle.vcd_text.specs.declared.fault.Fault.{Fault}
-use Rattle.vcd_text.specs.Words.{Word}
+use Rattle.vcd_text.specs.Words.{PlacedWord}
 use Rattle.vcd_text.specs.Letters.{is_among}
 use Rattle.vcd_text.specs.Items.{spellings, header_word, header_words, is_one_of, is_other, vector_letters, dropped_letters}
-use Rattle.vcd_text.specs.Grammar.{Context, Accepts, after, nothing_told, texts}
-use Rattle.vcd_text.specs.Faults.{Refuses, Stops, IsUnfinished, declaration_due, words_due, upscope_due, variable_due, definitions_due, code_due, other_due, pair_letters}
-use Rattle.vcd_text.specs.Inside.{is_nothing}
-use Rattle.vcd_text.specs.Reading.{Reads, Agrees, IsBegun, Collects, AwaitsCode, is_complete}
-use Rattle.vcd_text.specs.declared.reading.machine.Machine.{Machine}
-use Rattle.vcd_text.specs.declared.reading.machine.OpenItem.{OpenItem}
-use Rattle.vcd_text.specs.declared.reading.machine.OpenItem.TheVariants as items
+use Rattle.vcd_text.specs.Grammar.{Context, Accepts, after, nothing_told, word_texts}
+use Rattle.vcd_text.specs.Faults.{ShowsFault, Stops, IsUnfinished, declaration_due, words_due, upscope_due, variable_due, definitions_due, code_due, other_due, pair_letters}
+use Rattle.vcd_text.specs.inside.OpenItems.{is_nothing}
+use Rattle.vcd_text.specs.inside.Reading.{Reads, Agrees, IsBegun, Collects, AwaitsCode, is_complete}
+use Rattle.vcd_text.specs.declared.reading.reader.Reader.{Reader}
+use Rattle.vcd_text.specs.declared.reading.reader.OpenItem.{OpenItem}
+use Rattle.vcd_text.specs.declared.reading.reader.OpenItem.TheVariants as items
 use Rattle.vcd_text.proofs.OneAnswer.{accepted-not_refused, stopped-not_refused}
 
 -- the kind of a header entry is one of three
@@ -25,8 +25,8 @@ is_header Date = refl
 is_header Version = refl
 is_header Comment = refl
 
-collecting : (m : Machine) (c : Context) (begun : List Word) (keyword : List ℕ) → Agrees m c → Collects m begun keyword
-    → IsTrue (is_one_of (codes "$timescale" ∷ codes "$scope" ∷ header_words) keyword) → IsUnfinished c (texts begun)
+collecting : (m : Reader) (c : Context) (begun : List PlacedWord) (keyword : List ℕ) → Agrees m c → Collects m begun keyword
+    → IsTrue (is_one_of (codes "$timescale" ∷ codes "$scope" ∷ header_words) keyword) → IsUnfinished c (word_texts begun)
 collecting m c begun keyword agrees is among = words_due keyword m.words.items (sym agrees.changing ∙ is.declares) is.spelled among is.no_end
 
 among_more : (letters more : List ℕ) (b : ℕ) → is_among letters b ≡ true → is_among (letters ++ more) b ≡ true
@@ -45,14 +45,14 @@ not_nothing : (b : Bool) → (b && true) ≡ false → b ≡ false
 not_nothing false h = refl
 not_nothing true h = absurd (false≢true (sym h))
 
-awaiting : (m : Machine) (c : Context) (begun : List Word) (letters text : List ℕ) → Agrees m c → AwaitsCode m begun letters text
-    → ((b : ℕ) → IsTrue (is_among letters b) → IsTrue (is_among pair_letters b)) → IsUnfinished c (texts begun)
+awaiting : (m : Reader) (c : Context) (begun : List PlacedWord) (letters text : List ℕ) → Agrees m c → AwaitsCode m begun letters text
+    → ((b : ℕ) → IsTrue (is_among letters b) → IsTrue (is_among pair_letters b)) → IsUnfinished c (word_texts begun)
 awaiting m c begun letters text agrees is more =
-    code_due is.letter text (sym agrees.changing ∙ is.changes) (ap texts is.is ∙ ap (λ t. t ∷ []) is.spelled) (more is.letter is.among)
+    code_due is.letter text (sym agrees.changing ∙ is.changes) (ap word_texts is.is ∙ ap (λ t. t ∷ []) is.spelled) (more is.letter is.among)
 
 -- something is due behind words that are no whole file
-unfinished : (m : Machine) (c : Context) (begun : List Word) (item : OpenItem) → Agrees m c → IsBegun m begun item → IsFalse (m.changing && is_nothing item) → IsUnfinished c (texts begun)
-unfinished m c begun items.Nothing agrees none no_end = declaration_due (sym agrees.changing ∙ not_nothing m.changing no_end) (ap texts none)
+unfinished : (m : Reader) (c : Context) (begun : List PlacedWord) (item : OpenItem) → Agrees m c → IsBegun m begun item → IsFalse (m.changing && is_nothing item) → IsUnfinished c (word_texts begun)
+unfinished m c begun items.Nothing agrees none no_end = declaration_due (sym agrees.changing ∙ not_nothing m.changing no_end) (ap word_texts none)
 unfinished m c begun (items.Entry kind) agrees is no_end = collecting m c begun (header_word kind) agrees is (is_header kind)
 unfinished m c begun items.Timescale agrees is no_end = collecting m c begun (codes "$timescale") agrees is refl
 unfinished m c begun items.Scope agrees is no_end = collecting m c begun (codes "$scope") agrees is refl
@@ -63,20 +63,20 @@ unfinished m c begun items.Other agrees is no_end = other_due is.keyword is.word
 unfinished m c begun items.Vector agrees is no_end = awaiting m c begun vector_letters m.text.items agrees is (among_more vector_letters dropped_letters)
 unfinished m c begun items.Dropped agrees (text, is) no_end = awaiting m c begun dropped_letters text agrees is (among_behind dropped_letters vector_letters)
 
-texts_are : (m : Machine) (words : List Word) (r : Reads m words) → texts words ≡ spellings r.items ++ texts r.begun
-texts_are m words r = ap texts r.parts ∙ map-append (λ (w : Word). w.text) r.whole r.begun ∙ ap (λ ws. ws ++ texts r.begun) r.spelled
+texts_are : (m : Reader) (words : List PlacedWord) (r : Reads m words) → word_texts words ≡ spellings r.items ++ word_texts r.begun
+texts_are m words r = ap word_texts r.parts ∙ map-append (λ (w : PlacedWord). w.text) r.whole r.begun ∙ ap (λ ws. ws ++ word_texts r.begun) r.spelled
 
 -- words that are no whole file end too early
-pub stops : (m : Machine) (words : List Word) → Reads m words → is_complete m ≡ false → Stops words
+pub stops : (m : Reader) (words : List PlacedWord) → Reads m words → is_complete m ≡ false → Stops words
 stops m words r incomplete = record {
   items = r.items;
-  begun = texts r.begun;
+  begun = word_texts r.begun;
   spelled = texts_are m words r;
   allowed = r.allowed;
-  unfinished = subst (λ c. IsUnfinished c (texts r.begun)) (sym r.tells) (unfinished m r.told r.begun m.item r.at.0 r.at.1 incomplete);
+  unfinished = subst (λ c. IsUnfinished c (word_texts r.begun)) (sym r.tells) (unfinished m r.told r.begun m.item r.at.0 r.at.1 incomplete);
 }
 
-nothing_begun : (m : Machine) (begun : List Word) (item : OpenItem) → IsBegun m begun item → is_nothing item ≡ true → begun ≡ []
+nothing_begun : (m : Reader) (begun : List PlacedWord) (item : OpenItem) → IsBegun m begun item → is_nothing item ≡ true → begun ≡ []
 nothing_begun m begun items.Nothing is none = is
 nothing_begun m begun (items.Entry kind) is none = absurd (false≢true none)
 nothing_begun m begun items.Timescale is none = absurd (false≢true none)
@@ -89,19 +89,19 @@ nothing_begun m begun items.Vector is none = absurd (false≢true none)
 nothing_begun m begun items.Dropped is none = absurd (false≢true none)
 
 -- words that are a whole file are accepted
-pub accepts : (m : Machine) (words : List Word) (r : Reads m words) → is_complete m ≡ true → Accepts words r.told
+pub accepts : (m : Reader) (words : List PlacedWord) (r : Reads m words) → is_complete m ≡ true → Accepts words r.told
 accepts m words r complete =
     let parts = and_parts m.changing (is_nothing m.item) complete in
     record {
       items = r.items;
-      spelled = texts_are m words r ∙ ap (λ ws. spellings r.items ++ texts ws) (nothing_begun m r.begun m.item r.at.1 parts.1) ∙ append-nil (spellings r.items);
+      spelled = texts_are m words r ∙ ap (λ ws. spellings r.items ++ word_texts ws) (nothing_begun m r.begun m.item r.at.1 parts.1) ∙ append-nil (spellings r.items);
       allowed = r.allowed;
       tells = r.tells;
       declared = sym r.at.0.changing ∙ parts.0;
     }
 
 -- words that have been taken show no fault
-pub no_fault : (m : Machine) (words : List Word) → Reads m words → (line : ℕ) (fault : Fault) → Refuses words line fault → ⊥
+pub no_fault : (m : Reader) (words : List PlacedWord) → Reads m words → (line : ℕ) (fault : Fault) → ShowsFault words line fault → ⊥
 no_fault m words r line fault refuses = by_test (is_complete m) refl
   where
     by_test : (b : Bool) → is_complete m ≡ b → ⊥

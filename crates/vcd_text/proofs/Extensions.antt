@@ -6,7 +6,7 @@ use Rattle.std.proofs.Math.Seq.{set-append_seam}
 use Rattle.std.proofs.lemmas.List.{length-append, length-replicate, length-take-le, length-map, take_all, append_assoc, append-nil, map-append, take_more, replicate-append-replicate}
 use Rattle.vcd_core.specs.declared.bit.Bit.{Bit}
 use Rattle.vcd_core.specs.declared.bit.Bit.TheVariants.{X}
-use Rattle.vcd_text.specs.Letters.{letter_read, letters_read, pad_letter, ext}
+use Rattle.vcd_text.specs.Letters.{letter_read, letters_read, pad_letter, extension}
 
 -- a value of `width` letters with some of the digits in it, and pads in the places of those that are left
 abbrev pub part_written : ℕ → List ℕ → ℕ → ℕ → List Bit
@@ -63,7 +63,7 @@ next_written width digits done left after value fits is one written =
     ∙ next_at width digits done after (length value - 1 - after) fits (omega arith) (omega arith)
 
 -- behind the last digit it is the extension
-pub all_written : (width : ℕ) (digits : List ℕ) → part_written width digits (length digits) 0 ≡ ext width (letters_read digits)
+pub all_written : (width : ℕ) (digits : List ℕ) → part_written width digits (length digits) 0 ≡ extension width (letters_read digits)
 all_written width digits =
     let pad = pad_letter (letters_read digits) in
     append-nil (replicate (width - length digits) pad ++ letters_read (take (length digits) digits))

@@ -11,7 +11,7 @@ use Rattle.vcd_core.specs.Contents.{SignalContents, signal_contents}
 use Rattle.vcd_core.proofs.Waves.{wave_is}
 use Rattle.vcd_text.specs.Grammar.{Declaration, Context, is_skipped, variable_of}
 use Rattle.vcd_text.specs.Meaning.{recorded_value, declared_signal}
-use Rattle.vcd_text.specs.Variables.{declaration, HasWave, Stands, Knows, Finishes}
+use Rattle.vcd_text.specs.inside.Variables.{declaration, HasWave, Stands, Knows, Finishes}
 use Rattle.vcd_text.specs.declared.reading.variables.Variable.{Variable}
 use Rattle.vcd_text.specs.declared.reading.variables.Variables.{Variables}
 use Rattle.vcd_text.proofs.CopiedWaves.{Ended, ended_upto}

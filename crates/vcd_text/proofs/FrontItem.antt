@@ -12,7 +12,7 @@ use Rattle.vcd_text.specs.declared.fault.Fault.TheVariants.{UnexpectedWord, BadT
 use Rattle.vcd_text.specs.Letters.{is_among, is_letter, is_number, number_of}
 use Rattle.vcd_text.specs.Items.{Item, entry, timescale, scope, upscope, variable, end_definitions, stamp, scalar, vector, real_or_string, bracket, other, spelling, end_word, is_end, has_no_end, is_one_of, dump_words, declaring_words, header_words, begins_declaration, is_other, timescale_of, vector_letters, dropped_letters}
 use Rattle.vcd_text.specs.Grammar.{Context, Declaration, Allows, is_skipped, has_good_size, declaration_of, variable_of, may_have_code, has_room, is_tick, is_value, takes_digits}
-use Rattle.vcd_text.specs.Faults.{DeclarationFault, ChangeFault, Decided, IsUnfinished, pair_letters, no_declaration, no_timescale, no_kind, upscope_at_top, upscope_goes_on, no_size, no_variable, code_mixed, no_room, definitions_go_on, no_tick, tick_goes_back, letter_alone, letter_of_none, pair_of_none, no_value, value_too_long, declaration_late, no_change, among_declarations, among_changes, declaration_due, words_due, upscope_due, variable_due, definitions_due, code_due, other_due}
+use Rattle.vcd_text.specs.Faults.{DeclarationFault, ChangeFault, WordFault, IsUnfinished, pair_letters, no_declaration, no_timescale, no_kind, upscope_at_top, upscope_goes_on, no_size, no_variable, code_mixed, no_room, definitions_go_on, no_tick, tick_goes_back, letter_alone, letter_of_none, pair_of_none, no_value, value_too_long, declaration_late, no_change, among_declarations, among_changes, declaration_due, words_due, upscope_due, variable_due, definitions_due, code_due, other_due}
 
 -- a fault stands at a place, counted from the front
 pub data Front : Type 0 where
@@ -325,7 +325,7 @@ change_faulty c begun word fault more (declaration_late b w f) =
     rw (b, f) (by_one_of (λ x. change_front c x more ≡ faulty 0 UnexpectedWord) declaring_words word w (refl, (refl, (refl, (refl, (refl, tt))))))
 change_faulty c begun word fault more (no_change first text b w l n f) = rw (b, w, f) (change_none c first text more l n)
 
-pub fault_front : (c : Context) (begun : List (List ℕ)) (word : List ℕ) (fault : Fault) (more : List (List ℕ)) → Decided c begun word fault
+pub fault_front : (c : Context) (begun : List (List ℕ)) (word : List ℕ) (fault : Fault) (more : List (List ℕ)) → WordFault c begun word fault
     → front_of c (begun ++ word ∷ more) ≡ faulty (place_of c.changing begun) fault
 fault_front c begun word fault more (among_declarations h d) = front_at false c _ _ h (declaration_faulty c begun word fault more d) ∙ ap (λ b. faulty (place_of b begun) fault) (sym h)
 fault_front c begun word fault more (among_changes h d) = front_at true c _ _ h (change_faulty c begun word fault more d) ∙ ap (λ b. faulty (place_of b begun) fault) (sym h)

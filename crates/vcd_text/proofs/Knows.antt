@@ -1,13 +1,13 @@
 -- What the reader's variables hold of what a file has told.
 use Rattle.std.proofs.Common.{◌≡◌, ℕ, ◌≤◌, List, subst, arith, find, map}
 use Rattle.std.specs.Prelude.{count_by, bytes_eq}
-use Rattle.vcd_text.specs.Grammar.{Declaration, Recorded, Context, is_skipped, kept}
-use Rattle.vcd_text.specs.Variables.{declaration, owner_of, HasWave, Stands, Knows}
+use Rattle.vcd_text.specs.Grammar.{Declaration, ChangeRecord, Context, is_skipped, kept_variables}
+use Rattle.vcd_text.specs.inside.Variables.{declaration, owner_of, HasWave, Stands, Knows}
 use Rattle.vcd_text.specs.declared.reading.variables.Variable.{Variable}
 use Rattle.vcd_text.specs.declared.reading.variables.Variables.{Variables}
 use Rattle.vcd_text.proofs.Owners.{stands_moved}
 
-wave_further : (vs : List Variable) (records : List Recorded) (early late position : ℕ) (code : List ℕ) (size : ℕ)
+wave_further : (vs : List Variable) (records : List ChangeRecord) (early late position : ℕ) (code : List ℕ) (size : ℕ)
     → early ≤ late → HasWave vs position code size records early → HasWave vs position code size records late
 wave_further vs records early late position code size later w =
     record { first = w.first; stands = w.stands; coded = w.coded; sized = w.sized; ticks = λ k d within. omega (arith, later, w.ticks k d within); values = w.values }
@@ -15,7 +15,7 @@ wave_further vs records early late position code size later w =
 -- variables that hold what has been told hold it at a later tick too
 pub knows_further : (vs : Variables) (c d : Context) → c.declared ≡ d.declared → c.records ≡ d.records → c.tick ≤ d.tick → Knows vs c → Knows vs d
 knows_further vs c d declared records later k = record {
-  kept = subst (λ ds. kept ds ≡ map declaration vs.kept.items) declared k.kept;
+  kept = subst (λ ds. kept_variables ds ≡ map declaration vs.kept.items) declared k.kept;
   skipped = subst (λ ds. vs.skipped ≡ count_by is_skipped ds) declared k.skipped;
   stand = λ code.
       stands_moved vs.kept.items vs.kept.items d.records d.records c.tick d.tick code (owner_of vs code) (find (λ e. bytes_eq code e.code) d.declared)

@@ -4,10 +4,10 @@ use Rattle.std.proofs.lemmas.List.{append-nil, drop_at, length-append, length-ma
 use Rattle.std.proofs.lemmas.Bool.{true≢false}
 use Rattle.vcd_core.specs.Contents.{Contents}
 use Rattle.vcd_text.specs.declared.fault.Fault.{Fault}
-use Rattle.vcd_text.specs.Words.{Word, words_of}
+use Rattle.vcd_text.specs.Words.{PlacedWord, words_of}
 use Rattle.vcd_text.specs.Items.{Item, spelling, spellings}
-use Rattle.vcd_text.specs.Grammar.{Context, AllowsAll, Accepts, after, after_item, nothing_told, texts}
-use Rattle.vcd_text.specs.Faults.{Refuses, Stops, FileFault, shown, too_early, line_of}
+use Rattle.vcd_text.specs.Grammar.{Context, AllowsAll, Accepts, after, after_item, nothing_told, word_texts}
+use Rattle.vcd_text.specs.Faults.{ShowsFault, Stops, FileFault, shown, too_early, fault_line}
 use Rattle.vcd_text.specs.Meaning.{FileMeans, meaning, skipped_variables}
 use Rattle.vcd_text.proofs.FrontItem.{Front, whole, faulty, unfinished, ended, front_of, front_at, whole_front, fault_front, unfinished_front, place_of}
 
@@ -62,7 +62,7 @@ one_end words c d r s f g a b =
     let told : c ≡ d = sym a.tells ∙ ap (after nothing_told) p.0 ∙ b.tells in
     (told, p.1, sym a.shows ∙ ap (λ x. front_of x r) told ∙ ap (front_of d) p.1 ∙ b.shows)
 
-accepts_ends : (words : List Word) (told : Context) → Accepts words told → Ends (texts words) told [] ended
+accepts_ends : (words : List PlacedWord) (told : Context) → Accepts words told → Ends (word_texts words) told [] ended
 accepts_ends words told a = record {
   items = a.items;
   spelled = a.spelled ∙ sym (append-nil (spellings a.items));
@@ -72,7 +72,7 @@ accepts_ends words told a = record {
   is_last = tt;
 }
 
-stops_ends : (words : List Word) (s : Stops words) → Ends (texts words) (after nothing_told s.items) s.begun unfinished
+stops_ends : (words : List PlacedWord) (s : Stops words) → Ends (word_texts words) (after nothing_told s.items) s.begun unfinished
 stops_ends words s = record {
   items = s.items;
   spelled = s.spelled;
@@ -82,36 +82,36 @@ stops_ends words s = record {
   is_last = tt;
 }
 
-refuses_ends : (words : List Word) (line : ℕ) (fault : Fault) (r : Refuses words line fault)
-    → Ends (texts words) (after nothing_told r.items) (texts (r.begun ++ r.word ∷ r.more)) (faulty (place_of (after nothing_told r.items).changing (texts r.begun)) fault)
+refuses_ends : (words : List PlacedWord) (line : ℕ) (fault : Fault) (r : ShowsFault words line fault)
+    → Ends (word_texts words) (after nothing_told r.items) (word_texts (r.begun ++ r.word ∷ r.more)) (faulty (place_of (after nothing_told r.items).changing (word_texts r.begun)) fault)
 refuses_ends words line fault r = record {
   items = r.items;
-  spelled = ap texts r.parts ∙ map-append _ r.whole (r.begun ++ r.word ∷ r.more) ∙ ap (λ x. x ++ texts (r.begun ++ r.word ∷ r.more)) r.spelled;
+  spelled = ap word_texts r.parts ∙ map-append _ r.whole (r.begun ++ r.word ∷ r.more) ∙ ap (λ x. x ++ word_texts (r.begun ++ r.word ∷ r.more)) r.spelled;
   allowed = r.allowed;
   tells = refl;
-  shows = ap (front_of (after nothing_told r.items)) (map-append _ r.begun (r.word ∷ r.more)) ∙ fault_front (after nothing_told r.items) (texts r.begun) r.word.text fault (texts r.more) r.decided;
+  shows = ap (front_of (after nothing_told r.items)) (map-append _ r.begun (r.word ∷ r.more)) ∙ fault_front (after nothing_told r.items) (word_texts r.begun) r.word.text fault (word_texts r.more) r.decided;
   is_last = tt;
 }
 
 -- ---- lines
 
 -- the line of the word at a place
-abbrev line_at : List Word → ℕ → ℕ
+abbrev line_at : List PlacedWord → ℕ → ℕ
 line_at [] place = 0
 line_at (w ∷ ws) zero = w.line
 line_at (w ∷ ws) (suc place) = line_at ws place
 
-line_behind_begun : (begun : List Word) (word : Word) (more : List Word) → line_at (begun ++ word ∷ more) (length (texts begun)) ≡ word.line
+line_behind_begun : (begun : List PlacedWord) (word : PlacedWord) (more : List PlacedWord) → line_at (begun ++ word ∷ more) (length (word_texts begun)) ≡ word.line
 line_behind_begun [] word more = refl
 line_behind_begun (w ∷ begun) word more = line_behind_begun begun word more
 
-line_told : (changing : Bool) (begun : List Word) (word : Word) (more : List Word) → line_at (begun ++ word ∷ more) (place_of changing (texts begun)) ≡ line_of changing begun word
+line_told : (changing : Bool) (begun : List PlacedWord) (word : PlacedWord) (more : List PlacedWord) → line_at (begun ++ word ∷ more) (place_of changing (word_texts begun)) ≡ fault_line changing begun word
 line_told false begun word more = line_behind_begun begun word more
 line_told true [] word more = refl
 line_told true (w ∷ begun) word more = refl
 
 -- two rests of one list that are equally long are the same
-same_rest : (words a b r s : List Word) → words ≡ a ++ r → words ≡ b ++ s → length r ≡ length s → r ≡ s
+same_rest : (words a b r s : List PlacedWord) → words ≡ a ++ r → words ≡ b ++ s → length r ≡ length s → r ≡ s
 same_rest words a b r s p q e =
     let n : length a ≡ length b = omega (arith, length-append a r, length-append b s, ap length (sym p ∙ q), e) in
     sym (drop_at a r (length a) refl) ∙ ap (drop (length a)) (sym p ∙ q) ∙ drop_at b s (length a) (sym n)
@@ -130,17 +130,17 @@ fault_in d ended = d
 
 -- ---- one answer for the words
 
-pub one_telling : (words : List Word) (a b : Context) → Accepts words a → Accepts words b → a ≡ b
-one_telling words a b p q = (one_end (texts words) a b [] [] ended ended (accepts_ends words a p) (accepts_ends words b q)).0
+pub one_telling : (words : List PlacedWord) (a b : Context) → Accepts words a → Accepts words b → a ≡ b
+one_telling words a b p q = (one_end (word_texts words) a b [] [] ended ended (accepts_ends words a p) (accepts_ends words b q)).0
 
-pub one_fault : (words : List Word) (line other_line : ℕ) (fault other_fault : Fault) → Refuses words line fault → Refuses words other_line other_fault
+pub one_fault : (words : List PlacedWord) (line other_line : ℕ) (fault other_fault : Fault) → ShowsFault words line fault → ShowsFault words other_line other_fault
     → (line ≡ other_line) × (fault ≡ other_fault)
 one_fault words line other_line fault other_fault p q =
-    let e = one_end (texts words) _ _ _ _ _ _ (refuses_ends words line fault p) (refuses_ends words other_line other_fault q) in
+    let e = one_end (word_texts words) _ _ _ _ _ _ (refuses_ends words line fault p) (refuses_ends words other_line other_fault q) in
     let long : length (p.begun ++ p.word ∷ p.more) ≡ length (q.begun ++ q.word ∷ q.more) =
-    sym (length-map (p.begun ++ p.word ∷ p.more) (λ (w : Word). w.text)) ∙ ap length e.1 ∙ length-map (q.begun ++ q.word ∷ q.more) (λ (w : Word). w.text) in
+    sym (length-map (p.begun ++ p.word ∷ p.more) (λ (w : PlacedWord). w.text)) ∙ ap length e.1 ∙ length-map (q.begun ++ q.word ∷ q.more) (λ (w : PlacedWord). w.text) in
     let rests : p.begun ++ p.word ∷ p.more ≡ q.begun ++ q.word ∷ q.more = same_rest words p.whole q.whole _ _ p.parts q.parts long in (
-      p.at ∙ sym (line_told _ p.begun p.word p.more) ∙ ap (λ x. line_at x (place_of (after nothing_told p.items).changing (texts p.begun))) rests
+      p.at ∙ sym (line_told _ p.begun p.word p.more) ∙ ap (λ x. line_at x (place_of (after nothing_told p.items).changing (word_texts p.begun))) rests
           ∙ ap (λ f. line_at (q.begun ++ q.word ∷ q.more) (place_in f)) e.2 ∙ line_told _ q.begun q.word q.more ∙ sym q.at,
       ap (fault_in fault) e.2,
     )
@@ -157,16 +157,16 @@ is_unfinished (faulty place fault) = false
 is_unfinished unfinished = true
 is_unfinished ended = false
 
-pub accepted-not_refused : (words : List Word) (told : Context) (line : ℕ) (fault : Fault) → Accepts words told → Refuses words line fault → ⊥
+pub accepted-not_refused : (words : List PlacedWord) (told : Context) (line : ℕ) (fault : Fault) → Accepts words told → ShowsFault words line fault → ⊥
 accepted-not_refused words told line fault p q =
-    true≢false (ap is_ended (one_end (texts words) _ _ _ _ _ _ (accepts_ends words told p) (refuses_ends words line fault q)).2)
+    true≢false (ap is_ended (one_end (word_texts words) _ _ _ _ _ _ (accepts_ends words told p) (refuses_ends words line fault q)).2)
 
-pub accepted-not_stopped : (words : List Word) (told : Context) → Accepts words told → Stops words → ⊥
-accepted-not_stopped words told p q = true≢false (ap is_ended (one_end (texts words) _ _ _ _ _ _ (accepts_ends words told p) (stops_ends words q)).2)
+pub accepted-not_stopped : (words : List PlacedWord) (told : Context) → Accepts words told → Stops words → ⊥
+accepted-not_stopped words told p q = true≢false (ap is_ended (one_end (word_texts words) _ _ _ _ _ _ (accepts_ends words told p) (stops_ends words q)).2)
 
-pub stopped-not_refused : (words : List Word) (line : ℕ) (fault : Fault) → Stops words → Refuses words line fault → ⊥
+pub stopped-not_refused : (words : List PlacedWord) (line : ℕ) (fault : Fault) → Stops words → ShowsFault words line fault → ⊥
 stopped-not_refused words line fault p q =
-    true≢false (ap is_unfinished (one_end (texts words) _ _ _ _ _ _ (stops_ends words p) (refuses_ends words line fault q)).2)
+    true≢false (ap is_unfinished (one_end (word_texts words) _ _ _ _ _ _ (stops_ends words p) (refuses_ends words line fault q)).2)
 
 -- ---- one answer for a file
 

@@ -8,8 +8,8 @@ use Rattle.std.proofs.lemmas.Cmp.{nat_list_eq_equiv}
 use Rattle.std.proofs.lemmas.Slice.Eq.{bytes_eq-Decides}
 use Rattle.std.proofs.lemmas.List.Folds.{find-append}
 use Rattle.indexmap.specs.IndexMap.{IndexMap, Updates, get_by}
-use Rattle.vcd_text.specs.Grammar.{Declaration, Recorded, is_skipped}
-use Rattle.vcd_text.specs.Variables.{HasWave, Stands}
+use Rattle.vcd_text.specs.Grammar.{Declaration, ChangeRecord, is_skipped}
+use Rattle.vcd_text.specs.inside.Variables.{HasWave, Stands}
 use Rattle.vcd_text.specs.declared.reading.variables.Owner.{Owner}
 use Rattle.vcd_text.specs.declared.reading.variables.Owner.TheVariants.{Skipped, Kept}
 use Rattle.vcd_text.specs.declared.reading.variables.Variable.{Variable}
@@ -48,7 +48,7 @@ module _ {S : Type 0} (old new : IndexMap (Vec ℕ) Owner S) (k : Vec ℕ) (w : 
 
 -- ---- a code against the variables that were declared
 
-module _ (vs : List Variable) (records : List Recorded) (tick : ℕ) (code : List ℕ) where
+module _ (vs : List Variable) (records : List ChangeRecord) (tick : ℕ) (code : List ℕ) where
   -- that of a variable that is kept has its wave
   pub stands_kept : (declared : Option Declaration) (position : ℕ) → Stands vs records tick code (Some (Kept position)) declared
       → (d : Declaration) × (declared ≡ Some d) × (is_skipped d ≡ false) × HasWave vs position code d.size records tick
@@ -56,15 +56,15 @@ module _ (vs : List Variable) (records : List Recorded) (tick : ℕ) (code : Lis
   stands_kept (Some d) position s = (d, refl, s.0, s.1)
 
 -- what holds of the waves in one list holds in another
-pub stands_moved : (vs ws : List Variable) (rs ss : List Recorded) (early late : ℕ) (code : List ℕ) (owner : Option Owner) (declared : Option Declaration)
+pub stands_moved : (vs ws : List Variable) (rs ss : List ChangeRecord) (early late : ℕ) (code : List ℕ) (owner : Option Owner) (declared : Option Declaration)
     → ((position size : ℕ) → owner ≡ Some (Kept position) → HasWave vs position code size rs early → HasWave ws position code size ss late)
     → Stands vs rs early code owner declared → Stands ws ss late code owner declared
-stands_moved vs ws rs ss early late code None None moves s = s
-stands_moved vs ws rs ss early late code None (Some d) moves s = s
-stands_moved vs ws rs ss early late code (Some Skipped) None moves s = s
-stands_moved vs ws rs ss early late code (Some Skipped) (Some d) moves s = s
-stands_moved vs ws rs ss early late code (Some (Kept position)) None moves s = s
-stands_moved vs ws rs ss early late code (Some (Kept position)) (Some d) moves s = (s.0, moves position d.size refl s.1)
+stands_moved vs ws rs ss early late code None None transitions s = s
+stands_moved vs ws rs ss early late code None (Some d) transitions s = s
+stands_moved vs ws rs ss early late code (Some Skipped) None transitions s = s
+stands_moved vs ws rs ss early late code (Some Skipped) (Some d) transitions s = s
+stands_moved vs ws rs ss early late code (Some (Kept position)) None transitions s = s
+stands_moved vs ws rs ss early late code (Some (Kept position)) (Some d) transitions s = (s.0, transitions position d.size refl s.1)
 
 -- the first variable of a code, with one more declared
 pub found_with : (code : List ℕ) (ds : List Declaration) (d : Declaration)

@@ -10,8 +10,8 @@ use Rattle.vcd_core.specs.declared.bit.Bit.TheVariants.{Zero, One, X, Z}
 use Rattle.vcd_core.specs.declared.wave.Change.{Change}
 use Rattle.vcd_core.specs.Value.{all_x, same_letters}
 use Rattle.vcd_core.specs.Wave.{value_from, value_at, ChangesFrom, IsWave}
-use Rattle.vcd_core.specs.ValueLaws.{same_letters-Decides}
-use Rattle.vcd_text.specs.Letters.{is_letter, letter_read, letters_read, printed, printed_letter, pad_letter, ext, suffixes, short}
+use Rattle.vcd_core.specs.inside.ValueLaws.{same_letters-Decides}
+use Rattle.vcd_text.specs.Letters.{is_letter, letter_read, letters_read, printed_letters, printed_letter, pad_letter, extension, suffixes, short_form}
 use Rattle.vcd_text.specs.Grammar.{is_value}
 
 -- ---- letters
@@ -22,16 +22,16 @@ letter_back One = refl
 letter_back X = refl
 letter_back Z = refl
 
-pub letters_back : (s : List Bit) → letters_read (printed s) ≡ s
+pub letters_back : (s : List Bit) → letters_read (printed_letters s) ≡ s
 letters_back [] = refl
 letters_back (b ∷ s) = λ i. unwrap_or (letter_back b i) X ∷ letters_back s i
 
-all_letters : (s : List Bit) → list_all is_letter (printed s) ≡ true
+all_letters : (s : List Bit) → list_all is_letter (printed_letters s) ≡ true
 all_letters [] = refl
 all_letters (b ∷ s) = λ i. is_some (letter_back b i) && all_letters s i
 
-pub printed_is_value : (s : List Bit) → 0 < length s → is_value (printed s) ≡ true
-printed_is_value s some = λ i. not (ne_eqb (length (printed s)) 0 (omega (arith, length-map s printed_letter)) i) && all_letters s i
+pub printed_is_value : (s : List Bit) → 0 < length s → is_value (printed_letters s) ≡ true
+printed_is_value s some = λ i. not (ne_eqb (length (printed_letters s)) 0 (omega (arith, length-map s printed_letter)) i) && all_letters s i
 
 -- ---- the short form
 
@@ -62,25 +62,25 @@ suffixes_within width [] le = All-nil (IsWithin width)
 suffixes_within width (b ∷ s) le = All-push (IsWithin width) (suffixes s) (b ∷ s) (suffixes_within width s (omega arith)) (omega arith, le)
 
 -- a value is its own extension
-ext_itself : (v : List Bit) → ext (length v) v ≡ v
+ext_itself : (v : List Bit) → extension (length v) v ≡ v
 ext_itself v = let none : length v - length v ≡ 0 = omega arith in ap (λ k. replicate k (pad_letter v) ++ v) none
 
 -- the extension of the short form is the value
-pub ext-short : (v : List Bit) → ext (length v) (short v) ≡ v
-unfolding short
+pub ext-short : (v : List Bit) → extension (length v) (short_form v) ≡ v
+unfolding short_form
 ext-short v =
-    (same_letters-Decides (ext (length v) (short v)) v).0
-    (found_passes (λ s. same_letters (ext (length v) s) v) (suffixes v) v ((same_letters-Decides (ext (length v) v) v).1 (ext_itself v)))
+    (same_letters-Decides (extension (length v) (short_form v)) v).0
+    (found_passes (λ s. same_letters (extension (length v) s) v) (suffixes v) v ((same_letters-Decides (extension (length v) v) v).1 (ext_itself v)))
 
 -- the short form of a value has a letter, and no more than the value
-pub short_within : (v : List Bit) → 0 < length v → (0 < length (short v)) × (length (short v) ≤ length v)
-unfolding short
-short_within v some = found_has (IsWithin (length v)) (λ s. same_letters (ext (length v) s) v) (suffixes v) v (suffixes_within (length v) v (omega arith)) (some, omega arith)
+pub short_within : (v : List Bit) → 0 < length v → (0 < length (short_form v)) × (length (short_form v) ≤ length v)
+unfolding short_form
+short_within v some = found_has (IsWithin (length v)) (λ s. same_letters (extension (length v) s) v) (suffixes v) v (suffixes_within (length v) v (omega arith)) (some, omega arith)
 
 -- that of one letter is itself
-pub short_one : (b : Bit) → short (b ∷ []) ≡ b ∷ []
-unfolding short
-short_one b = one (same_letters (ext 1 (b ∷ [])) (b ∷ []))
+pub short_one : (b : Bit) → short_form (b ∷ []) ≡ b ∷ []
+unfolding short_form
+short_one b = one (same_letters (extension 1 (b ∷ [])) (b ∷ []))
   where
     one : (r : Bool) → unwrap_or (cond r (Some (b ∷ [])) None) (b ∷ []) ≡ b ∷ []
     one true = refl

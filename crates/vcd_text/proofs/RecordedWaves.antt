@@ -5,26 +5,26 @@ use Rattle.std.specs.List.{filter, enumerate_from}
 use Rattle.std.proofs.lemmas.Bool.{and_right, cases_lt, le-leb, lt-leb}
 use Rattle.vcd_core.specs.declared.bit.Bit.{Bit}
 use Rattle.vcd_core.specs.Value.{all_x, same_letters}
-use Rattle.vcd_core.specs.ValueLaws.{same_letters-Decides}
-use Rattle.vcd_core.specs.Contents.{SignalContents}
-use Rattle.vcd_text.specs.Letters.{ext, short}
-use Rattle.vcd_text.specs.Grammar.{Recorded}
+use Rattle.vcd_core.specs.inside.ValueLaws.{same_letters-Decides}
+use Rattle.vcd_core.specs.Contents.{SignalContents, signal_value}
+use Rattle.vcd_text.specs.Letters.{extension, short_form}
+use Rattle.vcd_text.specs.Grammar.{ChangeRecord}
 use Rattle.vcd_text.specs.Meaning.{recorded_value}
-use Rattle.vcd_text.specs.Text.{code_of, differs_at, signal_value}
+use Rattle.vcd_text.specs.Text.{code_of, differs_at}
 use Rattle.vcd_text.proofs.DeclaredSignals.{same_code, other_code}
 use Rattle.vcd_text.proofs.ReadValues.{ext-short}
 use Rattle.vcd_text.proofs.TextChanges.{differing, record_of, tick_records}
 
-recorded_value-append : (width : ℕ) (code : List ℕ) (t : ℕ) (before : List Bit) (rs qs : List Recorded)
+recorded_value-append : (width : ℕ) (code : List ℕ) (t : ℕ) (before : List Bit) (rs qs : List ChangeRecord)
     → recorded_value width code t before (rs ++ qs) ≡ recorded_value width code t (recorded_value width code t before rs) qs
 unfolding recorded_value
 recorded_value-append width code t before [] qs = refl
-recorded_value-append width code t before (r ∷ rs) qs = recorded_value-append width code t (if bytes_eq r.code code && nat_le r.tick t then ext width r.letters else before) rs qs
+recorded_value-append width code t before (r ∷ rs) qs = recorded_value-append width code t (if bytes_eq r.code code && nat_le r.tick t then extension width r.letters else before) rs qs
 
 -- of one signal, at the position k, at the tick t
 module _ (width k t : ℕ) where
   -- what the records say after a value
-  abbrev after_records : List Bit → List Recorded → List Bit
+  abbrev after_records : List Bit → List ChangeRecord → List Bit
   after_records before rs = recorded_value width (code_of k) t before rs
 
   -- records past the tick say nothing
@@ -33,7 +33,7 @@ module _ (width k t : ℕ) where
   past_records u before [] past = refl
   past_records u before (p ∷ ps) past =
       let not_yet : (bytes_eq (code_of p.0) (code_of k) && nat_le u t) ≡ false = and_right (bytes_eq (code_of p.0) (code_of k)) (nat_le u t) (lt-leb u t past) in
-      ap (λ b. after_records (if b then ext width (short (signal_value p.1 u)) else before) (map (record_of u) ps)) not_yet
+      ap (λ b. after_records (if b then extension width (short_form (signal_value p.1 u)) else before) (map (record_of u) ps)) not_yet
       ∙ past_records u before ps past
 
   past_ticks : (signals : List SignalContents) (u n : ℕ) (before : List Bit) → t < u → after_records before (tick_records signals u n) ≡ before
@@ -47,7 +47,7 @@ module _ (width k t : ℕ) where
   -- at a tick that has come, for signals that pass a test
   module _ (u : ℕ) (test : ℕ × SignalContents → Bool) where
     -- the records of signals from position j on
-    abbrev records_from : ℕ → List SignalContents → List Recorded
+    abbrev records_from : ℕ → List SignalContents → List ChangeRecord
     records_from j ss = map (record_of u) (filter test (enumerate_from j ss))
 
     -- a signal at another position says nothing
@@ -57,7 +57,7 @@ module _ (width k t : ℕ) where
     other_signal j s ss before other = choose (test (j, s))
       where
         choose : (b : Bool) → after_records before (map (record_of u) (cond b ((j, s) ∷ filter test (enumerate_from (j + 1) ss)) (filter test (enumerate_from (j + 1) ss)))) ≡ after_records before (records_from (j + 1) ss)
-        choose true = ap (λ b. after_records (if b && nat_le u t then ext width (short (signal_value s u)) else before) (records_from (j + 1) ss)) (other_code j k other)
+        choose true = ap (λ b. after_records (if b && nat_le u t then extension width (short_form (signal_value s u)) else before) (records_from (j + 1) ss)) (other_code j k other)
         choose false = refl
 
     later_signals : (j : ℕ) (ss : List SignalContents) (before : List Bit) → k < j → after_records before (records_from j ss) ≡ before
@@ -67,18 +67,18 @@ module _ (width k t : ℕ) where
 
     -- the signal itself, where it passes
     own_record : (ss : List SignalContents) (i j : ℕ) (d : SignalContents) (before : List Bit) → j + i ≡ k → i < length ss → u ≤ t
-        → after_records before (records_from j ss) ≡ (if test (k, get_or ss i d) then ext width (short (signal_value (get_or ss i d) u)) else before)
+        → after_records before (records_from j ss) ≡ (if test (k, get_or ss i d) then extension width (short_form (signal_value (get_or ss i d) u)) else before)
     unfolding recorded_value
     own_record [] i j d before at within come = absurd (omega arith)
     own_record (s ∷ ss) zero j d before at within come =
         let here : j ≡ k = omega arith in
-        subst (λ n. after_records before (records_from n (s ∷ ss)) ≡ (if test (k, s) then ext width (short (signal_value s u)) else before)) (sym here)
+        subst (λ n. after_records before (records_from n (s ∷ ss)) ≡ (if test (k, s) then extension width (short_form (signal_value s u)) else before)) (sym here)
         (choose (test (k, s)))
       where
-        choose : (b : Bool) → after_records before (map (record_of u) (cond b ((k, s) ∷ filter test (enumerate_from (k + 1) ss)) (filter test (enumerate_from (k + 1) ss)))) ≡ (if b then ext width (short (signal_value s u)) else before)
+        choose : (b : Bool) → after_records before (map (record_of u) (cond b ((k, s) ∷ filter test (enumerate_from (k + 1) ss)) (filter test (enumerate_from (k + 1) ss)))) ≡ (if b then extension width (short_form (signal_value s u)) else before)
         choose true =
-            (λ i. after_records (if same_code k i && le-leb u t come i then ext width (short (signal_value s u)) else before) (records_from (k + 1) ss))
-            ∙ later_signals (k + 1) ss (ext width (short (signal_value s u))) (omega arith)
+            (λ i. after_records (if same_code k i && le-leb u t come i then extension width (short_form (signal_value s u)) else before) (records_from (k + 1) ss))
+            ∙ later_signals (k + 1) ss (extension width (short_form (signal_value s u))) (omega arith)
         choose false = later_signals (k + 1) ss before (omega arith)
     own_record (s ∷ ss) (suc i) j d before at within come =
         other_signal j s ss before (λ e. omega arith) ∙ own_record ss i (j + 1) d before (omega arith) (omega arith) come
@@ -93,8 +93,8 @@ module _ (signals : List SignalContents) (k t : ℕ) (d : SignalContents) (insid
   abbrev signal : SignalContents
   signal = get_or signals k d
 
-  whole : (u : ℕ) → ext signal.width (short (signal_value signal u)) ≡ signal_value signal u
-  whole u = ap (λ w. ext w (short (signal_value signal u))) (sym (wide u)) ∙ ext-short (signal_value signal u)
+  whole : (u : ℕ) → extension signal.width (short_form (signal_value signal u)) ≡ signal_value signal u
+  whole u = ap (λ w. extension w (short_form (signal_value signal u))) (sym (wide u)) ∙ ext-short (signal_value signal u)
 
   -- a value that differs is recorded, and one that does not stays
   at_tick : (u : ℕ) → u ≤ t
@@ -104,7 +104,7 @@ module _ (signals : List SignalContents) (k t : ℕ) (d : SignalContents) (insid
       ∙ choose (same_letters (signal_value signal u) (signal_value signal (u - 1))) refl
     where
       choose : (b : Bool) → same_letters (signal_value signal u) (signal_value signal (u - 1)) ≡ b
-          → (if not b then ext signal.width (short (signal_value signal u)) else signal_value signal (u - 1)) ≡ signal_value signal u
+          → (if not b then extension signal.width (short_form (signal_value signal u)) else signal_value signal (u - 1)) ≡ signal_value signal u
       choose true same = sym ((same_letters-Decides (signal_value signal u) (signal_value signal (u - 1))).0 same)
       choose false other = whole u
 

@@ -7,8 +7,8 @@ use Rattle.std.proofs.lemmas.List.Folds.{find-append}
 use Rattle.vcd_core.specs.declared.bit.Bit.{Bit}
 use Rattle.vcd_core.specs.declared.bit.Bit.TheVariants.{Zero, One, X, Z}
 use Rattle.vcd_core.specs.Value.{same_letter, same_letters}
-use Rattle.vcd_core.specs.ValueLaws.{same_letters-Decides}
-use Rattle.vcd_text.specs.Letters.{pad_letter, ext, suffixes, short}
+use Rattle.vcd_core.specs.inside.ValueLaws.{same_letters-Decides}
+use Rattle.vcd_text.specs.Letters.{pad_letter, extension, suffixes, short_form}
 
 -- the front letters left out one after another
 unfoldable pub shortened : List Bit → List Bit
@@ -18,7 +18,7 @@ shortened (a ∷ b ∷ s) = cond (same_letter (pad_letter (b ∷ [])) a) (shorte
 
 -- whether the extension of a text is this value
 abbrev fits : List Bit → List Bit → Bool
-fits w t = same_letters (ext (length w) t) w
+fits w t = same_letters (extension (length w) t) w
 
 pad_of_front : (b : Bit) (s : List Bit) → pad_letter (b ∷ s) ≡ pad_letter (b ∷ [])
 pad_of_front Zero s = refl
@@ -36,7 +36,7 @@ pad_of_pad (Z ∷ s) = refl
 
 -- a text whose extension is a value pads as the value's first letter does
 same_pad : (b : Bit) (s t : List Bit) → fits (b ∷ s) t ≡ true → pad_letter t ≡ pad_letter (b ∷ [])
-same_pad b s t is = by (length (b ∷ s) - length t) ((same_letters-Decides (ext (length (b ∷ s)) t) (b ∷ s)).0 is)
+same_pad b s t is = by (length (b ∷ s) - length t) ((same_letters-Decides (extension (length (b ∷ s)) t) (b ∷ s)).0 is)
   where
     by : (k : ℕ) → replicate k (pad_letter t) ++ t ≡ b ∷ s → pad_letter t ≡ pad_letter (b ∷ [])
     by zero e = ap pad_letter e ∙ pad_of_front b s
@@ -109,8 +109,8 @@ found a (b ∷ s) =
     by false = refl
 
 -- the short form leaves out the spare letters at the front, and no more
-pub short_is : (v : List Bit) → short v ≡ shortened v
-unfolding short shortened
+pub short_is : (v : List Bit) → short_form v ≡ shortened v
+unfolding short_form shortened
 short_is [] = refl
 short_is (b ∷ s) = ap (λ o. unwrap_or o (b ∷ s)) (found b s)
 

@@ -1,4 +1,4 @@
--- Two lists of moves that rise, with each move equally often, are the same.
+-- Two lists of transitions that rise, with each move equally often, are the same.
 use Rattle.std.proofs.Common.{◌≡◌, ◌≢◌, ◌⊎◌, inl, inr, ◌<◌, ◌≤◌, ◌+◌, ℕ, suc, Bool, true, false, cond, ◌&&◌, ◌==◌, List, [], ◌∷◌, ◌++◌, length, get_or, refl, sym, ap, subst, ◌∙◌, arith, eq-eqb}
 use Rattle.std.specs.List.{sum_by}
 use Rattle.std.specs.List.Sorted.{IsPermutation, IsSorted}
@@ -8,7 +8,7 @@ use Rattle.std.specs.Ordering.{nat_cmp, ordering_then, is_lt}
 use Rattle.std.proofs.lemmas.Bool.{cases_lt, lt-ltb, le-ltb, ne_eqb}
 use Rattle.std.proofs.lemmas.List.Sums.{sum_by-cons}
 use Rattle.std.proofs.lemmas.List.Sorted.{sum_by-IsPermutation}
-use Rattle.vcd_text.specs.declared.writing.moves.Move.{Move}
+use Rattle.vcd_text.specs.declared.writing.transitions.Transition.{Transition}
 
 -- 1 where it holds
 abbrev pub counted : Bool → ℕ
@@ -16,41 +16,41 @@ counted true = 1
 counted false = 0
 
 -- how often a move stands in a list
-abbrev pub once : ℕ → ℕ → Move → ℕ
+abbrev pub once : ℕ → ℕ → Transition → ℕ
 once t k m = counted ((m.tick == t) && (m.position == k))
 
-abbrev pub times : ℕ → ℕ → List Move → ℕ
+abbrev pub times : ℕ → ℕ → List Transition → ℕ
 times t k [] = 0
 times t k (m ∷ ms) = once t k m + times t k ms
 
-pub times-append : (t k : ℕ) (xs ys : List Move) → times t k (xs ++ ys) ≡ times t k xs + times t k ys
+pub times-append : (t k : ℕ) (xs ys : List Transition) → times t k (xs ++ ys) ≡ times t k xs + times t k ys
 times-append t k [] ys = omega arith
 times-append t k (m ∷ xs) ys = omega (arith, times-append t k xs ys)
 
-times_is_sum : (t k : ℕ) (ms : List Move) → times t k ms ≡ sum_by (once t k) ms
+times_is_sum : (t k : ℕ) (ms : List Transition) → times t k ms ≡ sum_by (once t k) ms
 times_is_sum t k [] = refl
 times_is_sum t k (m ∷ ms) = ap (λ n. once t k m + n) (times_is_sum t k ms) ∙ sym (sum_by-cons (once t k) m ms)
 
 -- a permutation keeps it
-pub times_permuted : (t k : ℕ) (xs ys : List Move) → IsPermutation xs ys → times t k ys ≡ times t k xs
+pub times_permuted : (t k : ℕ) (xs ys : List Transition) → IsPermutation xs ys → times t k ys ≡ times t k xs
 times_permuted t k xs ys moved = times_is_sum t k ys ∙ sum_by-IsPermutation (once t k) xs ys moved ∙ sym (times_is_sum t k xs)
 
-once_itself : (m : Move) → once m.tick m.position m ≡ 1
+once_itself : (m : Transition) → once m.tick m.position m ≡ 1
 once_itself m = ap (λ b. counted (b && (m.position == m.position))) (eq-eqb m.tick m.tick refl) ∙ ap (λ b. counted (true && b)) (eq-eqb m.position m.position refl)
 
 -- a move is at a place or behind it, and a place before a place
-abbrev AtLeast : ℕ → ℕ → Move → Type 0
+abbrev AtLeast : ℕ → ℕ → Transition → Type 0
 AtLeast t k m = (t < m.tick) ⊎ ((t ≡ m.tick) × (k ≤ m.position))
 
 abbrev Before : ℕ → ℕ → ℕ → ℕ → Type 0
 Before u j t k = (u < t) ⊎ ((u ≡ t) × (j < k))
 
--- moves rise from a place on
-abbrev pub RisesFrom : ℕ → ℕ → List Move → Type 0
+-- transitions rise from a place on
+abbrev pub RisesFrom : ℕ → ℕ → List Transition → Type 0
 RisesFrom t k [] = Unit {0}
 RisesFrom t k (m ∷ ms) = AtLeast t k m × RisesFrom m.tick m.position ms
 
-before_move : (u j t k : ℕ) (m : Move) → Before u j t k → AtLeast t k m → Before u j m.tick m.position
+before_move : (u j t k : ℕ) (m : Transition) → Before u j t k → AtLeast t k m → Before u j m.tick m.position
 before_move u j t k m (inl a) (inl b) = inl (omega arith)
 before_move u j t k m (inl a) (inr (b, c)) = inl (omega arith)
 before_move u j t k m (inr (a, d)) (inl b) = inl (omega arith)
@@ -60,23 +60,23 @@ not_both : (x : Bool) → counted (x && false) ≡ 0
 not_both true = refl
 not_both false = refl
 
-not_before : (u j : ℕ) (m : Move) → Before u j m.tick m.position → once u j m ≡ 0
+not_before : (u j : ℕ) (m : Transition) → Before u j m.tick m.position → once u j m ≡ 0
 not_before u j m (inl a) = ap (λ b. counted (b && (m.position == j))) (ne_eqb m.tick u (omega arith))
 not_before u j m (inr (a, d)) = ap (λ b. counted ((m.tick == u) && b)) (ne_eqb m.position j (omega arith)) ∙ not_both (m.tick == u)
 
 -- what stands before the first is not in the list
-none_before : (u j t k : ℕ) (ms : List Move) → RisesFrom t k ms → Before u j t k → times u j ms ≡ 0
+none_before : (u j t k : ℕ) (ms : List Transition) → RisesFrom t k ms → Before u j t k → times u j ms ≡ 0
 none_before u j t k [] rise before = refl
 none_before u j t k (m ∷ ms) (first, rest) before =
     let further = before_move u j t k m before first in
     omega (arith, not_before u j m further, none_before u j m.tick m.position ms rest further)
 
-first_differs : (x y : Move) (xs ys : List Move) → RisesFrom y.tick y.position ys → Before x.tick x.position y.tick y.position
+first_differs : (x y : Transition) (xs ys : List Transition) → RisesFrom y.tick y.position ys → Before x.tick x.position y.tick y.position
     → times x.tick x.position (x ∷ xs) ≢ times x.tick x.position (y ∷ ys)
 first_differs x y xs ys rise before same =
     omega (arith, once_itself x, same, not_before x.tick x.position y before, none_before x.tick x.position y.tick y.position ys rise before)
 
-compared : (x y : Move) → (Before x.tick x.position y.tick y.position ⊎ Before y.tick y.position x.tick x.position) ⊎ (x ≡ y)
+compared : (x y : Transition) → (Before x.tick x.position y.tick y.position ⊎ Before y.tick y.position x.tick x.position) ⊎ (x ≡ y)
 compared x y = ticks (cases_lt x.tick y.tick) (cases_lt y.tick x.tick) (cases_lt x.position y.position) (cases_lt y.position x.position)
   where
     ticks : (x.tick < y.tick) ⊎ (y.tick ≤ x.tick) → (y.tick < x.tick) ⊎ (x.tick ≤ y.tick) → (x.position < y.position) ⊎ (y.position ≤ x.position) → (y.position < x.position) ⊎ (x.position ≤ y.position)
@@ -90,29 +90,29 @@ compared x y = ticks (cases_lt x.tick y.tick) (cases_lt y.tick x.tick) (cases_lt
         let same_position : x.position ≡ y.position = omega arith in
         inr (λ i. record { tick = same_tick i; position = same_position i })
 
-pub same_moves : (xs ys : List Move) (a b t k : ℕ) → RisesFrom a b xs → RisesFrom t k ys → ((u j : ℕ) → times u j xs ≡ times u j ys) → xs ≡ ys
-same_moves [] [] a b t k rise_x rise_y same = refl
-same_moves [] (y ∷ ys) a b t k rise_x rise_y same = absurd (omega (arith, once_itself y, same y.tick y.position))
-same_moves (x ∷ xs) [] a b t k rise_x rise_y same = absurd (omega (arith, once_itself x, same x.tick x.position))
-same_moves (x ∷ xs) (y ∷ ys) a b t k (first_x, rest_x) (first_y, rest_y) same =
+pub same_transitions : (xs ys : List Transition) (a b t k : ℕ) → RisesFrom a b xs → RisesFrom t k ys → ((u j : ℕ) → times u j xs ≡ times u j ys) → xs ≡ ys
+same_transitions [] [] a b t k rise_x rise_y same = refl
+same_transitions [] (y ∷ ys) a b t k rise_x rise_y same = absurd (omega (arith, once_itself y, same y.tick y.position))
+same_transitions (x ∷ xs) [] a b t k rise_x rise_y same = absurd (omega (arith, once_itself x, same x.tick x.position))
+same_transitions (x ∷ xs) (y ∷ ys) a b t k (first_x, rest_x) (first_y, rest_y) same =
     elim (compared x y) [
       | inl apart ↦ elim apart [
         | inl before ↦ absurd (first_differs x y xs ys rest_y before (same x.tick x.position))
         | inr behind ↦ absurd (first_differs y x ys xs rest_x behind (sym (same y.tick y.position)))
       ]
       | inr equal ↦
-          let rest : xs ≡ ys = same_moves xs ys x.tick x.position y.tick y.position rest_x rest_y
+          let rest : xs ≡ ys = same_transitions xs ys x.tick x.position y.tick y.position rest_x rest_y
           (λ u j. omega (arith, same u j, ap (once u j) equal)) in
           (λ i. equal i ∷ rest i)
     ]
 
 -- ---- what a sort gives
 
-abbrev pub by_place : Move → Move → Ordering
+abbrev pub by_place : Transition → Transition → Ordering
 by_place x y = ordering_then (nat_cmp x.tick y.tick) (nat_cmp x.position y.position)
 
 -- a move that is not before another is at its place or behind it
-not_less : (x y : Move) → is_lt (by_place y x) ≡ false → AtLeast x.tick x.position y
+not_less : (x y : Transition) → is_lt (by_place y x) ≡ false → AtLeast x.tick x.position y
 not_less x y is =
     elim (cases_lt x.tick y.tick) [
       | inl later ↦ inl later
@@ -134,7 +134,7 @@ not_less x y is =
       ]
     ]
 
-rises_behind : (m : Move) (ms : List Move) → ((k : ℕ) (d : Move) → k + 1 < length (m ∷ ms) → is_lt (by_place (get_or (m ∷ ms) (k + 1) d) (get_or (m ∷ ms) k d)) ≡ false)
+rises_behind : (m : Transition) (ms : List Transition) → ((k : ℕ) (d : Transition) → k + 1 < length (m ∷ ms) → is_lt (by_place (get_or (m ∷ ms) (k + 1) d) (get_or (m ∷ ms) k d)) ≡ false)
     → RisesFrom m.tick m.position ms
 rises_behind m [] up = tt
 rises_behind m (n ∷ ms) up = (
@@ -142,7 +142,7 @@ rises_behind m (n ∷ ms) up = (
   rises_behind n ms (λ k d within. subst (λ i. is_lt (by_place (get_or (m ∷ n ∷ ms) i d) (get_or (n ∷ ms) k d)) ≡ false) (let e : suc k + 1 ≡ suc (k + 1) = omega arith in e) (up (suc k) d (omega arith))),
 )
 
-pub sorted_rises : (ms : List Move) → IsSorted by_place ms → RisesFrom 0 0 ms
+pub sorted_rises : (ms : List Transition) → IsSorted by_place ms → RisesFrom 0 0 ms
 sorted_rises [] up = tt
 sorted_rises (m ∷ ms) up = (from_zero (cases_lt 0 m.tick), rises_behind m ms (λ k d within. up k d (omega arith) within))
   where

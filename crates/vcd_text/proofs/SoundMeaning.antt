@@ -17,10 +17,10 @@ use Rattle.vcd_core.specs.Value.{all_x}
 use Rattle.vcd_core.specs.Contents.{SignalContents}
 use Rattle.vcd_core.specs.Sound.{IsSound, IsSoundSignal, is_sound_header, is_sound_scope, is_sound_timescale}
 use Rattle.vcd_core.proofs.Waves.{changes_rise, changes_end}
-use Rattle.vcd_text.specs.Words.{Word, is_space, words_from, words_of, word, with_byte, lengthened, ends_before, line_behind}
-use Rattle.vcd_text.specs.Letters.{ext, pad_letter, letters_read, is_number, number_of}
+use Rattle.vcd_text.specs.Words.{PlacedWord, words_from, words_of, word_on, with_byte, with_longer_first, ends_before, line_behind}
+use Rattle.vcd_text.specs.Letters.{extension, pad_letter, letters_read, is_number, number_of}
 use Rattle.vcd_text.specs.Items.{Item, entry, timescale, scope, upscope, variable, end_definitions, stamp, scalar, vector, real_or_string, bracket, other, spelling, spellings, header_word, end_word, is_end, has_no_end, is_one_of, timescales, unit_text}
-use Rattle.vcd_text.specs.Grammar.{Context, Declaration, Recorded, Accepts, Allows, AllowsAll, after, after_item, nothing_told, texts, is_skipped, kept, skipped_kinds, declaration_of, variable_of, may_have_code, has_room, signal_limit, tick_limit, recorded, with_record, takes_digits, is_value}
+use Rattle.vcd_text.specs.Grammar.{Context, Declaration, ChangeRecord, Accepts, Allows, AllowsAll, after, after_item, nothing_told, word_texts, is_skipped, kept_variables, skipped_kinds, declaration_of, variable_of, may_have_code, has_room, change_records, with_record, takes_digits, is_value}
 use Rattle.vcd_text.proofs.WordLaws.{is_run_text, texts_are_runs, run_is_word}
 use Rattle.vcd_text.specs.Meaning.{meaning, declared_signal, recorded_value}
 
@@ -79,7 +79,7 @@ abbrev Agrees : Context → Declaration → Type 0
 Agrees c d = is_skipped d ≡ false → IsSomeAnd (variable_of c d.code) (λ e. (e.size ≡ d.size) × (is_skipped e ≡ false))
 
 -- the variable of the record's code takes its letters
-abbrev Fits : Context → Recorded → Type 0
+abbrev Fits : Context → ChangeRecord → Type 0
 Fits c r = IsSomeAnd (variable_of c r.code) (λ e. length r.letters ≤ e.size)
 
 record IsClean (c : Context) : Type 0 where
@@ -88,7 +88,7 @@ record IsClean (c : Context) : Type 0 where
   scopes : list_all is_sound_scope c.scopes ≡ true
   declared : All IsCleanDeclaration c.declared
   agree : All (Agrees c) c.declared
-  few : length (kept c.declared) ≤ SIGNAL_LIMIT
+  few : length (kept_variables c.declared) ≤ SIGNAL_LIMIT
   fit : All (Fits c) c.records
   silent : c.changing ≡ false → c.records ≡ []
   tick : c.tick ≤ END_LIMIT
@@ -136,10 +136,10 @@ clean_record c code letters clean changing fits = record {
   tick = clean.tick;
 }
   where
-    more : (o : Option Declaration) → variable_of c code ≡ o → IsSomeAnd o (λ e. is_skipped e ≡ false → length letters ≤ e.size) → All (Fits c) (c.records ++ recorded c code letters o)
+    more : (o : Option Declaration) → variable_of c code ≡ o → IsSomeAnd o (λ e. is_skipped e ≡ false → length letters ≤ e.size) → All (Fits c) (c.records ++ change_records c code letters o)
     more None is some = absurd some
     more (Some e) is some =
-        let r : Recorded = record { tick = c.tick; code = code; letters = letters } in
+        let r : ChangeRecord = record { tick = c.tick; code = code; letters = letters } in
         by_test (λ b. All (Fits c) (c.records ++ cond b [] (r ∷ []))) (is_skipped e) (λ _. subst (All (Fits c)) (sym (append-nil c.records)) clean.fit)
         (λ keeps. All-push (Fits c) c.records r clean.fit (subst (λ o. IsSomeAnd o (λ e. length letters ≤ e.size)) (sym is) (some keeps)))
 
@@ -175,10 +175,10 @@ clean_declared c d clean declaring is shares room =
         let same = both_kept (is_skipped x) (x.size == d.size) here in
         found_further _ (λ y. bytes_eq d.code y.code) c.declared d (subst (λ o. IsSomeAnd o (λ e. (e.size ≡ d.size) × (is_skipped e ≡ false))) (sym some) (eqb-true x.size d.size same.0, same.1))
 
-    counted : length (kept (c.declared ++ d ∷ [])) ≤ SIGNAL_LIMIT
-    counted = subst (λ n. n ≤ SIGNAL_LIMIT) (sym (ap length (filter-append (λ x. not (is_skipped x)) c.declared (d ∷ [])) ∙ length-append (kept c.declared) _))
-        (by_test (λ b. (b || nat_lt (length (kept c.declared)) signal_limit) ≡ true → length (kept c.declared) + length (cond (not b) (d ∷ []) []) ≤ SIGNAL_LIMIT) (is_skipped d)
-        (λ _ _. omega (arith, clean.few)) (λ _ room. let less = ltb-true (length (kept c.declared)) signal_limit room in omega arith) room)
+    counted : length (kept_variables (c.declared ++ d ∷ [])) ≤ SIGNAL_LIMIT
+    counted = subst (λ n. n ≤ SIGNAL_LIMIT) (sym (ap length (filter-append (λ x. not (is_skipped x)) c.declared (d ∷ [])) ∙ length-append (kept_variables c.declared) _))
+        (by_test (λ b. (b || nat_lt (length (kept_variables c.declared)) SIGNAL_LIMIT) ≡ true → length (kept_variables c.declared) + length (cond (not b) (d ∷ []) []) ≤ SIGNAL_LIMIT) (is_skipped d)
+        (λ _ _. omega (arith, clean.few)) (λ _ room. let less = ltb-true (length (kept_variables c.declared)) SIGNAL_LIMIT room in omega arith) room)
 
 clean_variable : (c : Context) (words : List (List ℕ)) → IsClean c → list_all is_run_text (spelling (variable words)) ≡ true → Allows c (variable words) → IsClean (after_item c (variable words))
 clean_variable c [] clean all allows = absurd allows.3
@@ -265,15 +265,15 @@ clean_item c (stamp digits) clean all allows = record {
   few = clean.few;
   fit = clean.fit;
   silent = clean.silent;
-  tick = leb-true (number_of digits) tick_limit (and_parts (is_number digits) (nat_le (number_of digits) tick_limit) allows.1).1;
+  tick = leb-true (number_of digits) END_LIMIT (and_parts (is_number digits) (nat_le (number_of digits) END_LIMIT) allows.1).1;
 }
 clean_item c (scalar letter code) clean all allows =
     clean_record c code (letters_read (letter ∷ [])) clean allows.0 (some_kept (variable_of c code) allows.3)
 clean_item c (vector first digits code) clean all allows =
     clean_record c code (letters_read digits) clean allows.0 (some_taken digits (variable_of c code) allows.2)
 clean_item c (real_or_string first text code) clean all allows = clean
-clean_item c (bracket word) clean all allows = clean
-clean_item c (other word words) clean all allows = clean
+clean_item c (bracket word_on) clean all allows = clean
+clean_item c (other word_on words) clean all allows = clean
 
 clean_items : (c : Context) (is : List Item) → IsClean c → list_all is_run_text (spellings is) ≡ true → AllowsAll c is → IsClean (after c is)
 clean_items c [] clean all allows = clean
@@ -283,21 +283,21 @@ clean_items c (i ∷ is) clean all allows =
 
 -- ---- waves
 
-length-ext : (width : ℕ) (s : List Bit) → length s ≤ width → length (ext width s) ≡ width
+length-ext : (width : ℕ) (s : List Bit) → length s ≤ width → length (extension width s) ≡ width
 length-ext width s fits =
     length-append (replicate (width - length s) (pad_letter s)) s ∙ ap (λ n. n + length s) (length-replicate (width - length s) (pad_letter s)) ∙ omega arith
 
 -- a record of this code has letters for so many bits
-abbrev FitsWidth : ℕ → List ℕ → Recorded → Type 0
+abbrev FitsWidth : ℕ → List ℕ → ChangeRecord → Type 0
 FitsWidth width code r = bytes_eq r.code code ≡ true → length r.letters ≤ width
 
-recorded_length : (width : ℕ) (code : List ℕ) (t : ℕ) (before : List Bit) (rs : List Recorded) → length before ≡ width
+recorded_length : (width : ℕ) (code : List ℕ) (t : ℕ) (before : List Bit) (rs : List ChangeRecord) → length before ≡ width
     → All (FitsWidth width code) rs → length (recorded_value width code t before rs) ≡ width
 unfolding recorded_value
 recorded_length width code t before [] long all = long
 recorded_length width code t before (r ∷ rs) long all =
-    recorded_length width code t (cond (bytes_eq r.code code && nat_le r.tick t) (ext width r.letters) before) rs
-    (by_test (λ b. length (cond b (ext width r.letters) before) ≡ width) (bytes_eq r.code code && nat_le r.tick t)
+    recorded_length width code t (cond (bytes_eq r.code code && nat_le r.tick t) (extension width r.letters) before) rs
+    (by_test (λ b. length (cond b (extension width r.letters) before) ≡ width) (bytes_eq r.code code && nat_le r.tick t)
     (λ here. length-ext width r.letters (All-head (FitsWidth width code) r rs all (and_parts (bytes_eq r.code code) (nat_le r.tick t) here).0)) (λ _. long)) (All-tail (FitsWidth width code) r rs all)
 
 -- the records of a code that is kept fit its width
@@ -306,7 +306,7 @@ records_fit c d agrees keeps fit = All-weaker (Fits c) (FitsWidth d.size d.code)
     (λ r fits same. let code : r.code ≡ d.code = (bytes_eq-Decides r.code d.code).0 same in
     joined r (variable_of c d.code) (subst (λ k. IsSomeAnd (variable_of c k) (λ e. length r.letters ≤ e.size)) code fits) (agrees keeps)) c.records fit
   where
-    joined : (r : Recorded) (o : Option Declaration) → IsSomeAnd o (λ e. length r.letters ≤ e.size) → IsSomeAnd o (λ e. (e.size ≡ d.size) × (is_skipped e ≡ false)) → length r.letters ≤ d.size
+    joined : (r : ChangeRecord) (o : Option Declaration) → IsSomeAnd o (λ e. length r.letters ≤ e.size) → IsSomeAnd o (λ e. (e.size ≡ d.size) × (is_skipped e ≡ false)) → length r.letters ≤ d.size
     joined r None some same = absurd some
     joined r (Some e) fits same = subst (λ n. length r.letters ≤ n) same.0 fits
 
@@ -361,7 +361,7 @@ meaning_is_sound bytes told accepted =
       header = clean.header;
       timescale = clean.timescale;
       end = clean.tick;
-      few = subst (λ n. n ≤ SIGNAL_LIMIT) (sym (length-map (kept told.declared) (declared_signal told.records told.tick))) clean.few;
-      signals = All-map (IsSoundSignal told.tick) (declared_signal told.records told.tick) (kept told.declared)
+      few = subst (λ n. n ≤ SIGNAL_LIMIT) (sym (length-map (kept_variables told.declared) (declared_signal told.records told.tick))) clean.few;
+      signals = All-map (IsSoundSignal told.tick) (declared_signal told.records told.tick) (kept_variables told.declared)
           (λ k d within. sound_signal told _ clean (declared k d within) (agree k d within) (not-true _ (keeps k d within)));
     }

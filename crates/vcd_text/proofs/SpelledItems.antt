@@ -15,14 +15,14 @@ use Rattle.vcd_core.specs.declared.capture.Timescale.{Timescale}
 use Rattle.vcd_core.specs.declared.capture.ScopeName.{ScopeName}
 use Rattle.vcd_core.specs.declared.value.TheConstants.{WIDTH_LIMIT}
 use Rattle.vcd_core.specs.declared.capture.TheConstants.{END_LIMIT}
-use Rattle.vcd_core.specs.Word.{is_word}
-use Rattle.vcd_core.specs.Contents.{Contents, SignalContents}
+use Rattle.vcd_core.specs.Word.{is_word, is_white_space}
+use Rattle.vcd_core.specs.Contents.{Contents, SignalContents, signal_value}
 use Rattle.vcd_core.specs.Sound.{is_sound_header, is_sound_scope, is_sound_timescale, IsSoundSignal, IsSound}
-use Rattle.vcd_text.specs.Words.{is_space, words_of}
-use Rattle.vcd_text.specs.Letters.{is_digit, printed_letter, printed, short}
+use Rattle.vcd_text.specs.Words.{words_of}
+use Rattle.vcd_text.specs.Letters.{is_digit, printed_letter, printed_letters, short_form}
 use Rattle.vcd_text.specs.Items.{Item, entry, timescale, scope, upscope, vector, bracket, end_definitions, header_word, unit_text, end_word, spellings}
-use Rattle.vcd_text.specs.Grammar.{texts}
-use Rattle.vcd_text.specs.Text.{header_items, timescale_items, same_scope, scope_items, code_of, variable_item, signal_items, value_item, signal_value, differs_at, value_items, all_values, new_values, stamp_of, stamped, first_items, tick_items, end_items, items_of, text}
+use Rattle.vcd_text.specs.Grammar.{word_texts}
+use Rattle.vcd_text.specs.Text.{header_items, timescale_items, same_scope, scope_items, code_of, variable_item, signal_items, value_item, differs_at, value_items, all_values, new_values, stamp_of, with_stamp, first_items, tick_items, end_items, items_of, text}
 use Rattle.vcd_text.proofs.CodesDiffer.{code_black, code_not_empty}
 use Rattle.vcd_text.proofs.Decimals.{decimal_digits, decimal_not_empty}
 use Rattle.vcd_text.proofs.SoundTimescales.{sound_count, count_small}
@@ -33,7 +33,7 @@ use Rattle.vcd_text.proofs.TextWords.{is_unbroken, is_spelled, words_of_lines}
 
 -- whether a byte is no white space
 abbrev is_black : ℕ → Bool
-is_black b = not (is_space b)
+is_black b = not (is_white_space b)
 
 pub word_is_unbroken : (w : List ℕ) → is_word w ≡ true → is_unbroken w ≡ true
 word_is_unbroken [] word = word
@@ -49,7 +49,7 @@ black_is_unbroken (b ∷ bs) some black = black
 digit_is_black : (b : ℕ) → is_digit b ≡ true → is_black b ≡ true
 digit_is_black b digit =
     let above : 48 ≤ b = leb-true 48 b (and_parts (nat_le 48 b) (nat_le b 57) digit).0 in
-    not_from_false (is_space b)
+    not_from_false (is_white_space b)
     (or_from (nat_le 9 b && nat_le b 13) (b == 32) (and_right (nat_le 9 b) (nat_le b 13) (lt-leb b 13 (omega arith))) (ne_eqb b 32 (λ e. omega arith)))
 
 decimal_black : (n : ℕ) → n < 2 ^ 64 → list_all is_black (decimal n) ≡ true
@@ -67,9 +67,9 @@ printed_letter_black One = refl
 printed_letter_black X = refl
 printed_letter_black Z = refl
 
-printed_black : (v : List Bit) → list_all is_black (printed v) ≡ true
+printed_black : (v : List Bit) → list_all is_black (printed_letters v) ≡ true
 printed_black [] = refl
-printed_black (b ∷ v) = and_from (is_black (printed_letter b)) (list_all is_black (printed v)) (printed_letter_black b) (printed_black v)
+printed_black (b ∷ v) = and_from (is_black (printed_letter b)) (list_all is_black (printed_letters v)) (printed_letter_black b) (printed_black v)
 
 -- a word with another byte in front
 longer_unbroken : (b : ℕ) (w : List ℕ) → is_black b ≡ true → list_all is_black w ≡ true → is_unbroken (b ∷ w) ≡ true
@@ -101,9 +101,9 @@ both_spelled xs ys front back = list_all-append is_spelled xs ys ∙ and_from (l
 one_word : (w : List ℕ) → is_unbroken w ≡ true → list_all is_unbroken (w ∷ []) ≡ true
 one_word w unbroken = and_from (is_unbroken w) true unbroken refl
 
-vector_spelled : (k : ℕ) (v : List Bit) → is_spelled (vector 98 (printed (short v)) (code_of k)) ≡ true
+vector_spelled : (k : ℕ) (v : List Bit) → is_spelled (vector 98 (printed_letters (short_form v)) (code_of k)) ≡ true
 vector_spelled k v =
-    and_from (is_unbroken (98 ∷ printed (short v))) (list_all is_unbroken (code_of k ∷ [])) (longer_unbroken 98 (printed (short v)) refl (printed_black (short v))) (one_word (code_of k) (code_unbroken k))
+    and_from (is_unbroken (98 ∷ printed_letters (short_form v))) (list_all is_unbroken (code_of k ∷ [])) (longer_unbroken 98 (printed_letters (short_form v)) refl (printed_black (short_form v))) (one_word (code_of k) (code_unbroken k))
 
 value_spelled : (k : ℕ) (v : List Bit) → is_spelled (value_item (code_of k) v) ≡ true
 value_spelled k [] = vector_spelled k []
@@ -119,7 +119,7 @@ values_spelled t (p ∷ ps) =
 stamp_spelled : (t : ℕ) → t < 2 ^ 64 → is_spelled (stamp_of t) ≡ true
 stamp_spelled t small = one_word (35 ∷ decimal t) (longer_unbroken 35 (decimal t) refl (decimal_black t small))
 
-stamped_spelled : (t : ℕ) (items : List Item) → t < 2 ^ 64 → list_all is_spelled items ≡ true → list_all is_spelled (stamped t items) ≡ true
+stamped_spelled : (t : ℕ) (items : List Item) → t < 2 ^ 64 → list_all is_spelled items ≡ true → list_all is_spelled (with_stamp t items) ≡ true
 stamped_spelled t [] small spelled = refl
 stamped_spelled t (v ∷ vs) small spelled = and_from (is_spelled (stamp_of t)) (list_all is_spelled (v ∷ vs)) (stamp_spelled t small) spelled
 
@@ -133,7 +133,7 @@ ticks_spelled : (signals : List SignalContents) (t n : ℕ) → t + n ≤ 2 ^ 64
 unfolding tick_items
 ticks_spelled signals t zero small = refl
 ticks_spelled signals t (suc n) small =
-    both_spelled (stamped t (new_values signals t)) (tick_items signals (suc t) n)
+    both_spelled (with_stamp t (new_values signals t)) (tick_items signals (suc t) n)
     (stamped_spelled t (new_values signals t) (omega arith) (values_spelled t (filter (λ p. differs_at t p.1) (enumerate_from 0 signals))))
     (ticks_spelled signals (suc t) n (omega arith))
 
@@ -212,6 +212,6 @@ items_spelled c sound =
     (end_spelled c.signals c.end (omega arith))
 
 -- the words of a sound capture's text
-pub words_of_text : (c : Contents) → IsSound c → texts (words_of (text c)) ≡ spellings (items_of c)
+pub words_of_text : (c : Contents) → IsSound c → word_texts (words_of (text c)) ≡ spellings (items_of c)
 unfolding text
 words_of_text c sound = words_of_lines 1 (items_of c) (items_spelled c sound)

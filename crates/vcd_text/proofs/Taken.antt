@@ -5,18 +5,18 @@ use Rattle.std.proofs.lemmas.List.{append-nil, map-append}
 use Rattle.std.proofs.lemmas.Bool.{and_parts, eqb-true, false≢true}
 use Rattle.std.specs.Prelude.{ℕ}
 use Rattle.vcd_text.specs.declared.fault.Fault.{Fault}
-use Rattle.vcd_text.specs.Words.{Word}
+use Rattle.vcd_text.specs.Words.{PlacedWord}
 use Rattle.vcd_text.specs.Letters.{is_among}
 use Rattle.vcd_text.specs.Items.{Item, spelling, spellings, is_other, begins_declaration, is_one_of, declaring_words, dump_words, vector_letters}
-use Rattle.vcd_text.specs.Grammar.{Context, Allows, AllowsAll, after, after_item, nothing_told, texts}
-use Rattle.vcd_text.specs.Faults.{Decided, among_declarations, among_changes, ChangeFault, no_tick, tick_goes_back, letter_alone, letter_of_none, pair_of_none, no_value, value_too_long, declaration_late, no_change, pair_letters, Refuses, line_of}
-use Rattle.vcd_text.specs.Inside.{shown_line}
-use Rattle.vcd_text.specs.Reading.{Reads, TakesWord, goes_on, ends_item, Agrees, IsBegun, lacks_memory, error_at}
-use Rattle.vcd_text.specs.Refusals.{out_of_memory}
+use Rattle.vcd_text.specs.Grammar.{Context, Allows, AllowsAll, after, after_item, nothing_told, word_texts}
+use Rattle.vcd_text.specs.Faults.{WordFault, among_declarations, among_changes, ChangeFault, no_tick, tick_goes_back, letter_alone, letter_of_none, pair_of_none, no_value, value_too_long, declaration_late, no_change, pair_letters, ShowsFault, fault_line}
+use Rattle.vcd_text.specs.inside.OpenItems.{shown_line}
+use Rattle.vcd_text.specs.inside.Reading.{Reads, TakesWord, goes_on, ends_item, Agrees, IsBegun, is_want_of_memory, error_at}
+use Rattle.vcd_text.specs.Refusals.{memory_error}
 use Rattle.vcd_text.specs.declared.fault.Fault.TheVariants.{NoMemory}
-use Rattle.vcd_text.specs.declared.reading.machine.OpenItem.{OpenItem}
-use Rattle.vcd_text.specs.declared.reading.machine.OpenItem.TheVariants as items
-use Rattle.vcd_text.specs.declared.reading.machine.Machine.{Machine}
+use Rattle.vcd_text.specs.declared.reading.reader.OpenItem.{OpenItem}
+use Rattle.vcd_text.specs.declared.reading.reader.OpenItem.TheVariants as items
+use Rattle.vcd_text.specs.declared.reading.reader.Reader.{Reader}
 
 allowed_more : (c : Context) (is : List Item) (i : Item) → AllowsAll c is → Allows (after c is) i → AllowsAll c (is ++ i ∷ [])
 allowed_more c [] i all here = (here, tt)
@@ -31,7 +31,7 @@ spelled_more [] i = append-nil (spelling i)
 spelled_more (j ∷ is) i = ap (λ ws. spelling j ++ ws) (spelled_more is i) ∙ sym (append_assoc (spelling j) (spellings is) (spelling i))
 
 -- the word goes on with the open item, or ends it
-pub one_taken : (old new : Machine) (words : List Word) (w : Word) (r : Reads old words) → TakesWord r.told (r.begun ++ w ∷ []) new → Reads new (words ++ w ∷ [])
+pub one_taken : (old new : Reader) (words : List PlacedWord) (w : PlacedWord) (r : Reads old words) → TakesWord r.told (r.begun ++ w ∷ []) new → Reads new (words ++ w ∷ [])
 one_taken old new words w r (goes_on at) = record {
   items = r.items;
   whole = r.whole;
@@ -50,9 +50,9 @@ one_taken old new words w r (ends_item i spelled allows at) = record {
   told = after_item r.told i;
   parts = sym (append-nil (words ++ w ∷ []));
   spelled =
-      ap texts (ap (λ ws. ws ++ w ∷ []) r.parts ∙ append_assoc r.whole r.begun (w ∷ []))
-      ∙ map-append (λ (v : Word). v.text) r.whole (r.begun ++ w ∷ [])
-      ∙ ap (λ ws. ws ++ texts (r.begun ++ w ∷ [])) r.spelled
+      ap word_texts (ap (λ ws. ws ++ w ∷ []) r.parts ∙ append_assoc r.whole r.begun (w ∷ []))
+      ∙ map-append (λ (v : PlacedWord). v.text) r.whole (r.begun ++ w ∷ [])
+      ∙ ap (λ ws. ws ++ word_texts (r.begun ++ w ∷ [])) r.spelled
       ∙ ap (λ ws. spellings r.items ++ ws) (sym spelled)
       ∙ sym (spelled_more r.items i);
   allowed = allowed_more nothing_told r.items i r.allowed (subst (λ c. Allows c i) (sym r.tells) allows);
@@ -61,8 +61,8 @@ one_taken old new words w r (ends_item i spelled allows at) = record {
 }
 
 -- the word shows a fault, whatever follows it
-pub one_refused : (old : Machine) (words more : List Word) (w : Word) (r : Reads old words) (line : ℕ) (fault : Fault) → Decided r.told (texts r.begun) w.text fault
-    → line ≡ line_of r.told.changing r.begun w → Refuses (words ++ w ∷ more) line fault
+pub one_refused : (old : Reader) (words more : List PlacedWord) (w : PlacedWord) (r : Reads old words) (line : ℕ) (fault : Fault) → WordFault r.told (word_texts r.begun) w.text fault
+    → line ≡ fault_line r.told.changing r.begun w → ShowsFault (words ++ w ∷ more) line fault
 one_refused old words more w r line fault decided at = record {
   items = r.items;
   whole = r.whole;
@@ -72,8 +72,8 @@ one_refused old words more w r line fault decided at = record {
   parts = ap (λ ws. ws ++ w ∷ more) r.parts ∙ append_assoc r.whole r.begun (w ∷ more);
   spelled = r.spelled;
   allowed = r.allowed;
-  decided = subst (λ c. Decided c (texts r.begun) w.text fault) (sym r.tells) decided;
-  at = at ∙ ap (λ c. line_of c.changing r.begun w) (sym r.tells);
+  decided = subst (λ c. WordFault c (word_texts r.begun) w.text fault) (sym r.tells) decided;
+  at = at ∙ ap (λ c. fault_line c.changing r.begun w) (sym r.tells);
 }
 
 -- ---- lines
@@ -101,38 +101,38 @@ passed_over c keyword words word fault is (value_too_long first digits d begun a
 passed_over c keyword words word fault is (declaration_late begun p q) = absurd (cc)
 passed_over c keyword words word fault is (no_change first text begun p q r s) = absurd (cc)
 
-line_of_first : (changing : Bool) (w : Word) → w.line ≡ line_of changing [] w
+line_of_first : (changing : Bool) (w : PlacedWord) → w.line ≡ fault_line changing [] w
 line_of_first false w = refl
 line_of_first true w = refl
 
-declaring : (m : Machine) (c : Context) (begun : List Word) (w : Word) → Agrees m c → IsFalse m.changing → w.line ≡ line_of c.changing begun w
-declaring m c begun w agrees none = sym (ap (λ b. line_of b begun w) (sym agrees.changing ∙ none))
+declaring : (m : Reader) (c : Context) (begun : List PlacedWord) (w : PlacedWord) → Agrees m c → IsFalse m.changing → w.line ≡ fault_line c.changing begun w
+declaring m c begun w agrees none = sym (ap (λ b. fault_line b begun w) (sym agrees.changing ∙ none))
 
 -- the line that is shown is that of the definition
-pub line_shown : (m : Machine) (c : Context) (begun : List Word) (w : Word) (fault : Fault) (item : OpenItem) → Agrees m c → IsBegun m begun item → Decided c (texts begun) w.text fault
-    → shown_line item m.line w.line ≡ line_of c.changing begun w
-line_shown m c begun w fault items.Nothing agrees none decided = line_of_first c.changing w ∙ ap (λ ws. line_of c.changing ws w) (sym none)
+pub line_shown : (m : Reader) (c : Context) (begun : List PlacedWord) (w : PlacedWord) (fault : Fault) (item : OpenItem) → Agrees m c → IsBegun m begun item → WordFault c (word_texts begun) w.text fault
+    → shown_line item m.line w.line ≡ fault_line c.changing begun w
+line_shown m c begun w fault items.Nothing agrees none decided = line_of_first c.changing w ∙ ap (λ ws. fault_line c.changing ws w) (sym none)
 line_shown m c begun w fault (items.Entry kind) agrees is decided = declaring m c begun w agrees is.declares
 line_shown m c begun w fault items.Timescale agrees is decided = declaring m c begun w agrees is.declares
 line_shown m c begun w fault items.Scope agrees is decided = declaring m c begun w agrees is.declares
 line_shown m c begun w fault items.Upscope agrees is decided = declaring m c begun w agrees is.0
 line_shown m c begun w fault items.Variable agrees is decided = declaring m c begun w agrees is.0.declares
 line_shown m c begun w fault items.EndDefinitions agrees is decided = declaring m c begun w agrees is.0
-line_shown m c begun w fault items.Other agrees is (among_declarations none shows) = sym (ap (λ b. line_of b begun w) none)
+line_shown m c begun w fault items.Other agrees is (among_declarations none shows) = sym (ap (λ b. fault_line b begun w) none)
 line_shown m c begun w fault items.Other agrees is (among_changes all shows) =
     absurd (passed_over c is.keyword is.words w.text fault (subst (λ b. IsTrue (is_other b is.keyword)) agrees.changing is.other) (subst (λ ws. ChangeFault c ws w.text fault) is.spelled shows))
-line_shown m c begun w fault items.Vector agrees is decided = is.line ∙ sym ((λ i. line_of (sym agrees.changing i) (is.is i) w) ∙ ap (λ b. line_of b (is.word ∷ []) w) is.changes)
-line_shown m c begun w fault items.Dropped agrees (text, is) decided = is.line ∙ sym ((λ i. line_of (sym agrees.changing i) (is.is i) w) ∙ ap (λ b. line_of b (is.word ∷ []) w) is.changes)
+line_shown m c begun w fault items.Vector agrees is decided = is.line ∙ sym ((λ i. fault_line (sym agrees.changing i) (is.is i) w) ∙ ap (λ b. fault_line b (is.word ∷ []) w) is.changes)
+line_shown m c begun w fault items.Dropped agrees (text, is) decided = is.line ∙ sym ((λ i. fault_line (sym agrees.changing i) (is.is i) w) ∙ ap (λ b. fault_line b (is.word ∷ []) w) is.changes)
 
 -- the fault of a word is that of the definition, with its line, whatever follows
-pub one_shown : (old : Machine) (words more : List Word) (w : Word) (r : Reads old words) (fault : Fault) → (fault ≡ NoMemory) ⊎ Decided r.told (texts r.begun) w.text fault
-    → (error_at (shown_line old.item old.line w.line) fault ≡ out_of_memory) ⊎ Refuses (words ++ w ∷ more) (error_at (shown_line old.item old.line w.line) fault).line (error_at (shown_line old.item old.line w.line) fault).fault
+pub one_shown : (old : Reader) (words more : List PlacedWord) (w : PlacedWord) (r : Reads old words) (fault : Fault) → (fault ≡ NoMemory) ⊎ WordFault r.told (word_texts r.begun) w.text fault
+    → (error_at (shown_line old.item old.line w.line) fault ≡ memory_error) ⊎ ShowsFault (words ++ w ∷ more) (error_at (shown_line old.item old.line w.line) fault).line (error_at (shown_line old.item old.line w.line) fault).fault
 one_shown old words more w r fault (inl none) = inl (ap (error_at (shown_line old.item old.line w.line)) none)
 one_shown old words more w r fault (inr decided) =
     let line : ℕ = shown_line old.item old.line w.line in
-    by_test (λ b. (cond b out_of_memory (record { line = line; fault = fault }) ≡ out_of_memory)
-    ⊎ Refuses (words ++ w ∷ more) (cond b out_of_memory (record { line = line; fault = fault })).line (cond b out_of_memory (record { line = line; fault = fault })).fault)
-    (lacks_memory fault) (inl refl) (inr (one_refused old words more w r line fault decided (line_shown old r.told r.begun w fault old.item r.at.0 r.at.1 decided)))
+    by_test (λ b. (cond b memory_error (record { line = line; fault = fault }) ≡ memory_error)
+    ⊎ ShowsFault (words ++ w ∷ more) (cond b memory_error (record { line = line; fault = fault })).line (cond b memory_error (record { line = line; fault = fault })).fault)
+    (is_want_of_memory fault) (inl refl) (inr (one_refused old words more w r line fault decided (line_shown old r.told r.begun w fault old.item r.at.0 r.at.1 decided)))
   where
     by_test : (P : Bool → Type 0) (b : Bool) → P true → P false → P b
     by_test P true t f = t

@@ -21,7 +21,7 @@ use Rattle.vcd_core.specs.Word.{is_word}
 use Rattle.vcd_core.specs.Sound.{is_sound_header, is_sound_timescale, IsSoundSignal, IsSound}
 use Rattle.vcd_text.specs.Letters.{is_digit, number_of}
 use Rattle.vcd_text.specs.Items.{Item, entry, timescale, variable, end_definitions, unit_text, end_word, is_end, has_no_end, timescale_of}
-use Rattle.vcd_text.specs.Grammar.{Context, Declaration, AllowsAll, after, nothing_told, declaration_of, variable_of, may_have_code, has_room, is_skipped, kept, signal_limit}
+use Rattle.vcd_text.specs.Grammar.{Context, Declaration, AllowsAll, after, nothing_told, declaration_of, variable_of, may_have_code, has_room, is_skipped, kept_variables}
 use Rattle.vcd_text.specs.Text.{header_items, timescale_items, scope_items, code_of, variable_item, signal_items, first_items, tick_items, end_items, items_of}
 use Rattle.vcd_text.proofs.CodesDiffer.{codes_differ, code_no_end}
 use Rattle.vcd_text.proofs.Decimals.{decimal_digits, decimal_is_number, number_of-decimal}
@@ -102,8 +102,8 @@ variable_no_end end k s sound few =
 -- there is room behind fewer variables than there may be signals
 room_left : (ds : List Declaration) (d : Declaration) → length ds < SIGNAL_LIMIT → has_room ds d ≡ true
 room_left ds d few =
-    let kept_few : length (kept ds) ≤ length ds = subst (λ n. n ≤ length ds) (sym (length-filter (λ d. not (is_skipped d)) ds)) (count_by-le-length (λ d. not (is_skipped d)) ds) in
-    or_right (is_skipped d) (nat_lt (length (kept ds)) signal_limit) (lt-ltb (length (kept ds)) signal_limit (lt_of_le_of_lt kept_few few))
+    let kept_few : length (kept_variables ds) ≤ length ds = subst (λ n. n ≤ length ds) (sym (length-filter (λ d. not (is_skipped d)) ds)) (count_by-le-length (λ d. not (is_skipped d)) ds) in
+    or_right (is_skipped d) (nat_lt (length (kept_variables ds)) SIGNAL_LIMIT) (lt-ltb (length (kept_variables ds)) SIGNAL_LIMIT (lt_of_le_of_lt kept_few few))
 
 -- the variable of the signal at a position
 variable_leads : (h : List Header) (t : Option Timescale) (ds : List Declaration) (end k : ℕ) (s : SignalContents) → IsSoundSignal end s → k < SIGNAL_LIMIT → length ds ≡ k → HasCodesBelow k ds

@@ -4,7 +4,7 @@ use Rattle.vcd_core.specs.Value.{all_x}
 use Rattle.vcd_core.specs.Contents.{Contents, SignalContents}
 use Rattle.vcd_core.specs.Sound.{IsSound, IsSoundSignal}
 use Rattle.vcd_core.proofs.Waves.{wave_is}
-use Rattle.vcd_text.specs.Grammar.{Declaration, kept}
+use Rattle.vcd_text.specs.Grammar.{Declaration, kept_variables}
 use Rattle.vcd_text.specs.Meaning.{declared_signal, meaning, recorded_value, skipped_variables}
 use Rattle.vcd_text.specs.Text.{code_of}
 use Rattle.vcd_text.proofs.DeclaredSignals.{all_sound_kept, declared_as, declared_of, none_skipped}
@@ -33,7 +33,7 @@ signals_back f j (s ∷ ss) each =
     let rest = signals_back f (suc j) ss (λ i k d at within. each (suc i) k d (omega arith) (omega arith)) in
     λ i. first i ∷ rest i
 
-signals_mean : (c : Contents) → IsSound c → map (declared_signal (records_of c) c.end) (kept (declared_of 0 c.signals)) ≡ c.signals
+signals_mean : (c : Contents) → IsSound c → map (declared_signal (records_of c) c.end) (kept_variables (declared_of 0 c.signals)) ≡ c.signals
 signals_mean c sound =
     ap (map (declared_signal (records_of c) c.end)) (all_sound_kept c.end 0 c.signals sound.signals)
     ∙ signals_back (declared_signal (records_of c) c.end) 0 c.signals

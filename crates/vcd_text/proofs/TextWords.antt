@@ -2,47 +2,48 @@
 use Rattle.std.proofs.Common.{◌≡◌, ◌+◌, ◌∙◌, ℕ, Bool, true, false, not, List, [], ◌∷◌, ◌++◌, refl, ap, arith, append_assoc}
 use Rattle.std.specs.List.{list_all, flat_map, join_with_byte}
 use Rattle.std.proofs.lemmas.Bool.{and_parts}
-use Rattle.vcd_text.specs.Words.{is_space, word, words_from}
+use Rattle.vcd_core.specs.Word.{is_white_space}
+use Rattle.vcd_text.specs.Words.{word_on, words_from}
 use Rattle.vcd_text.specs.Items.{Item, spelling, spellings}
-use Rattle.vcd_text.specs.Grammar.{texts}
-use Rattle.vcd_text.specs.Text.{line_of}
+use Rattle.vcd_text.specs.Grammar.{word_texts}
+use Rattle.vcd_text.specs.Text.{item_line}
 use Rattle.vcd_text.proofs.WordLaws.{word_whole, space_passed}
 
 -- at least one byte, and no white space
 abbrev pub is_unbroken : List ℕ → Bool
 is_unbroken [] = false
-is_unbroken (b ∷ bs) = list_all (λ b. not (is_space b)) (b ∷ bs)
+is_unbroken (b ∷ bs) = list_all (λ b. not (is_white_space b)) (b ∷ bs)
 
 -- whether an item is spelled by words
 abbrev pub is_spelled : Item → Bool
 is_spelled i = list_all is_unbroken (spelling i)
 
 -- a word, and the words behind the white space after it
-word_first : (line b : ℕ) (w rest : List ℕ) → is_unbroken w ≡ true → is_space b ≡ true
-    → words_from true line (w ++ (b ∷ rest)) ≡ word w line ∷ words_from true line (b ∷ rest)
+word_first : (line b : ℕ) (w rest : List ℕ) → is_unbroken w ≡ true → is_white_space b ≡ true
+    → words_from true line (w ++ (b ∷ rest)) ≡ word_on w line ∷ words_from true line (b ∷ rest)
 word_first line b [] rest unbroken space = let no : false ≡ true = unbroken in absurd (cc)
 word_first line b (c ∷ w) rest unbroken space = word_whole true line (c ∷ w) (b ∷ rest) (omega arith) unbroken space
 
 -- the words of a line, and those of the lines behind it
 line_words : (line : ℕ) (ws : List (List ℕ)) (rest : List ℕ) → list_all is_unbroken ws ≡ true
-    → texts (words_from true line (join_with_byte 32 ws ++ (10 ∷ rest))) ≡ ws ++ texts (words_from true (line + 1) rest)
-line_words line [] rest unbroken = ap texts (space_passed true line 10 rest refl)
+    → word_texts (words_from true line (join_with_byte 32 ws ++ (10 ∷ rest))) ≡ ws ++ word_texts (words_from true (line + 1) rest)
+line_words line [] rest unbroken = ap word_texts (space_passed true line 10 rest refl)
 line_words line (w ∷ []) rest unbroken =
-    ap texts (word_first line 10 w rest (and_parts (is_unbroken w) true unbroken).0 refl)
-    ∙ ap (λ words. w ∷ texts words) (space_passed true line 10 rest refl)
+    ap word_texts (word_first line 10 w rest (and_parts (is_unbroken w) true unbroken).0 refl)
+    ∙ ap (λ words. w ∷ word_texts words) (space_passed true line 10 rest refl)
 line_words line (w ∷ v ∷ ws) rest unbroken =
     let parts : (is_unbroken w ≡ true) × (list_all is_unbroken (v ∷ ws) ≡ true) = and_parts (is_unbroken w) (list_all is_unbroken (v ∷ ws)) unbroken in
-    ap (λ l. texts (words_from true line l)) (append_assoc w (32 ∷ join_with_byte 32 (v ∷ ws)) (10 ∷ rest))
-    ∙ ap texts (word_first line 32 w (join_with_byte 32 (v ∷ ws) ++ (10 ∷ rest)) parts.0 refl)
-    ∙ ap (λ words. w ∷ texts words) (space_passed true line 32 (join_with_byte 32 (v ∷ ws) ++ (10 ∷ rest)) refl)
+    ap (λ l. word_texts (words_from true line l)) (append_assoc w (32 ∷ join_with_byte 32 (v ∷ ws)) (10 ∷ rest))
+    ∙ ap word_texts (word_first line 32 w (join_with_byte 32 (v ∷ ws) ++ (10 ∷ rest)) parts.0 refl)
+    ∙ ap (λ words. w ∷ word_texts words) (space_passed true line 32 (join_with_byte 32 (v ∷ ws) ++ (10 ∷ rest)) refl)
     ∙ ap (λ l. w ∷ l) (line_words line (v ∷ ws) rest parts.1)
 
 -- the words of the lines of items
-pub words_of_lines : (line : ℕ) (items : List Item) → list_all is_spelled items ≡ true → texts (words_from true line (flat_map line_of items)) ≡ spellings items
+pub words_of_lines : (line : ℕ) (items : List Item) → list_all is_spelled items ≡ true → word_texts (words_from true line (flat_map item_line items)) ≡ spellings items
 unfolding words_from
 words_of_lines line [] spelled = refl
 words_of_lines line (i ∷ is) spelled =
     let parts : (is_spelled i ≡ true) × (list_all is_spelled is ≡ true) = and_parts (is_spelled i) (list_all is_spelled is) spelled in
-    ap (λ l. texts (words_from true line l)) (append_assoc (join_with_byte 32 (spelling i)) (10 ∷ []) (flat_map line_of is))
-    ∙ line_words line (spelling i) (flat_map line_of is) parts.0
+    ap (λ l. word_texts (words_from true line l)) (append_assoc (join_with_byte 32 (spelling i)) (10 ∷ []) (flat_map item_line is))
+    ∙ line_words line (spelling i) (flat_map item_line is) parts.0
     ∙ ap (λ l. spelling i ++ l) (words_of_lines (line + 1) is parts.1)

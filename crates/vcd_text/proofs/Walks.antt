@@ -5,15 +5,15 @@ use Rattle.std.proofs.lemmas.Bool.{lt-ltb, le-ltb, ne_eqb}
 use Rattle.std.proofs.lemmas.Grind.{flat_map-append}
 use Rattle.std.proofs.lemmas.List.{append-nil, drop_all, drop_more, get_or-drop, drop-drop}
 use Rattle.vcd_core.specs.declared.bit.Bit.{Bit}
-use Rattle.vcd_core.specs.Contents.{SignalContents}
-use Rattle.vcd_text.specs.declared.writing.moves.Move.{Move}
+use Rattle.vcd_core.specs.Contents.{SignalContents, no_signal, signal_value}
+use Rattle.vcd_text.specs.declared.writing.transitions.Transition.{Transition}
 use Rattle.vcd_text.specs.Items.{Item}
-use Rattle.vcd_text.specs.Moves.{move_of, move_value, moves_from, no_signal, tick_after, valued_items}
-use Rattle.vcd_text.specs.Text.{code_of, differs_at, end_items, line_of, new_values, signal_value, stamp_of, stamped, tick_items, value_item, value_items}
+use Rattle.vcd_text.specs.inside.Transitions.{transition_of, transition_value, transitions_from, tick_after, valued_items}
+use Rattle.vcd_text.specs.Text.{code_of, differs_at, end_items, item_line, new_values, stamp_of, with_stamp, tick_items, value_item, value_items}
 use Rattle.vcd_text.proofs.Appended.{carried, two_pieces}
 
--- what is written over moves, where the last stamp was that of a tick
-unfoldable pub walk : List SignalContents → ℕ → ℕ → List Move → List Item
+-- what is written over transitions, where the last stamp was that of a tick
+unfoldable pub walk : List SignalContents → ℕ → ℕ → List Transition → List Item
 walk signals end last [] = if nat_lt last end then stamp_of end ∷ [] else []
 walk signals end last (m ∷ ms) =
     (if m.tick == last then [] else stamp_of m.tick ∷ [])
@@ -24,12 +24,12 @@ abbrev AllPlaced : List SignalContents → List (ℕ × SignalContents) → Type
 AllPlaced signals [] = Unit {0}
 AllPlaced signals (p ∷ ps) = (get_or signals p.0 no_signal ≡ p.1) × AllPlaced signals ps
 
--- the moves of a list of signals at a tick
-abbrev at_tick : ℕ → List (ℕ × SignalContents) → List Move
-at_tick t placed = map (λ p. move_of t p.0) placed
+-- the transitions of a list of signals at a tick
+abbrev at_tick : ℕ → List (ℕ × SignalContents) → List Transition
+at_tick t placed = map (λ p. transition_of t p.0) placed
 
--- moves at the tick of the last stamp
-same_tick : (signals : List SignalContents) (end t : ℕ) (placed : List (ℕ × SignalContents)) (ms : List Move) → AllPlaced signals placed
+-- transitions at the tick of the last stamp
+same_tick : (signals : List SignalContents) (end t : ℕ) (placed : List (ℕ × SignalContents)) (ms : List Transition) → AllPlaced signals placed
     → walk signals end t (at_tick t placed ++ ms) ≡ value_items t placed ++ walk signals end t ms
 unfolding walk
 same_tick signals end t [] ms all = refl
@@ -38,9 +38,9 @@ same_tick signals end t (p ∷ ps) ms (at, rest) =
     ∙ ap (λ s. value_item (code_of p.0) (signal_value s t) ∷ walk signals end t (at_tick t ps ++ ms)) at
     ∙ ap (λ l. value_item (code_of p.0) (signal_value p.1 t) ∷ l) (same_tick signals end t ps ms rest)
 
--- moves at a later tick, one at least
-later_tick : (signals : List SignalContents) (end last t : ℕ) (p : ℕ × SignalContents) (ps : List (ℕ × SignalContents)) (ms : List Move) → last < t → AllPlaced signals (p ∷ ps)
-    → walk signals end last (at_tick t (p ∷ ps) ++ ms) ≡ stamped t (value_items t (p ∷ ps)) ++ walk signals end t ms
+-- transitions at a later tick, one at least
+later_tick : (signals : List SignalContents) (end last t : ℕ) (p : ℕ × SignalContents) (ps : List (ℕ × SignalContents)) (ms : List Transition) → last < t → AllPlaced signals (p ∷ ps)
+    → walk signals end last (at_tick t (p ∷ ps) ++ ms) ≡ with_stamp t (value_items t (p ∷ ps)) ++ walk signals end t ms
 unfolding walk
 later_tick signals end last t p ps ms later (at, rest) =
     ap (λ b. (if b then [] else stamp_of t ∷ []) ++ value_item (code_of p.0) (signal_value (get_or signals p.0 no_signal) t) ∷ walk signals end t (at_tick t ps ++ ms)) (ne_eqb t last (omega arith))
@@ -48,25 +48,25 @@ later_tick signals end last t p ps ms later (at, rest) =
     ∙ ap (λ l. stamp_of t ∷ value_item (code_of p.0) (signal_value p.1 t) ∷ l) (same_tick signals end t ps ms rest)
 
 -- a tick before the end
-one_tick : (signals : List SignalContents) (end last t : ℕ) (placed : List (ℕ × SignalContents)) (ms : List Move) (rest : List Item) → last < t → AllPlaced signals placed
-    → walk signals end last ms ≡ rest → walk signals end t ms ≡ rest → walk signals end last (at_tick t placed ++ ms) ≡ stamped t (value_items t placed) ++ rest
+one_tick : (signals : List SignalContents) (end last t : ℕ) (placed : List (ℕ × SignalContents)) (ms : List Transition) (rest : List Item) → last < t → AllPlaced signals placed
+    → walk signals end last ms ≡ rest → walk signals end t ms ≡ rest → walk signals end last (at_tick t placed ++ ms) ≡ with_stamp t (value_items t placed) ++ rest
 one_tick signals end last t [] ms rest later all still now = still
-one_tick signals end last t (p ∷ ps) ms rest later all still now = later_tick signals end last t p ps ms later all ∙ ap (λ l. stamped t (value_items t (p ∷ ps)) ++ l) now
+one_tick signals end last t (p ∷ ps) ms rest later all still now = later_tick signals end last t p ps ms later all ∙ ap (λ l. with_stamp t (value_items t (p ∷ ps)) ++ l) now
 
 -- the last tick, and the stamp of the end where nothing changes at it
 last_tick : (signals : List SignalContents) (last t : ℕ) (placed : List (ℕ × SignalContents)) → last < t → AllPlaced signals placed
-    → walk signals t last (at_tick t placed ++ []) ≡ (stamped t (value_items t placed) ++ []) ++ (if nat_lt 0 t && (length (value_items t placed) == 0) then stamp_of t ∷ [] else [])
+    → walk signals t last (at_tick t placed ++ []) ≡ (with_stamp t (value_items t placed) ++ []) ++ (if nat_lt 0 t && (length (value_items t placed) == 0) then stamp_of t ∷ [] else [])
 unfolding walk
 last_tick signals last t [] later all =
     ap (λ b. if b then stamp_of t ∷ [] else []) (lt-ltb last t later) ∙ sym (ap (λ b. if b && true then stamp_of t ∷ [] else []) (lt-ltb 0 t (omega arith)))
 last_tick signals last t (p ∷ ps) later all =
     let more : (suc (length (value_items t ps)) == 0) ≡ false = ne_eqb (suc (length (value_items t ps))) 0 (omega arith) in
     later_tick signals t last t p ps [] later all
-    ∙ ap (λ b. stamped t (value_items t (p ∷ ps)) ++ (if b then stamp_of t ∷ [] else [])) (le-ltb t t (omega arith))
-    ∙ append-nil (stamped t (value_items t (p ∷ ps)))
-    ∙ sym (ap (λ b. (stamped t (value_items t (p ∷ ps)) ++ []) ++ (if nat_lt 0 t && b then stamp_of t ∷ [] else [])) more
-    ∙ ap (λ b. (stamped t (value_items t (p ∷ ps)) ++ []) ++ (if b && false then stamp_of t ∷ [] else [])) (lt-ltb 0 t (omega arith))
-    ∙ append-nil _ ∙ append-nil (stamped t (value_items t (p ∷ ps))))
+    ∙ ap (λ b. with_stamp t (value_items t (p ∷ ps)) ++ (if b then stamp_of t ∷ [] else [])) (le-ltb t t (omega arith))
+    ∙ append-nil (with_stamp t (value_items t (p ∷ ps)))
+    ∙ sym (ap (λ b. (with_stamp t (value_items t (p ∷ ps)) ++ []) ++ (if nat_lt 0 t && b then stamp_of t ∷ [] else [])) more
+    ∙ ap (λ b. (with_stamp t (value_items t (p ∷ ps)) ++ []) ++ (if b && false then stamp_of t ∷ [] else [])) (lt-ltb 0 t (omega arith))
+    ∙ append-nil _ ∙ append-nil (with_stamp t (value_items t (p ∷ ps))))
 
 placed_filter : (signals : List SignalContents) (t : ℕ) (placed : List (ℕ × SignalContents)) → AllPlaced signals placed → AllPlaced signals (filter (λ p. differs_at t p.1) placed)
 placed_filter signals t [] all = tt
@@ -87,87 +87,87 @@ all_placed : (signals : List SignalContents) (t : ℕ) → AllPlaced signals (fi
 all_placed signals t = placed_filter signals t (enumerate_from 0 signals) (placed_enumerated signals 0 signals refl)
 
 walk_ticks : (signals : List SignalContents) (n end last t : ℕ) → last < t → t + n ≡ end
-    → walk signals end last (moves_from signals t (suc n)) ≡ tick_items signals t (suc n) ++ end_items signals end
-unfolding moves_from tick_items
+    → walk signals end last (transitions_from signals t (suc n)) ≡ tick_items signals t (suc n) ++ end_items signals end
+unfolding transitions_from tick_items
 walk_ticks signals zero end last t later all =
     let at : t ≡ end = omega arith in
-    subst (λ e. walk signals e last (moves_from signals t 1) ≡ tick_items signals t 1 ++ end_items signals e) at
+    subst (λ e. walk signals e last (transitions_from signals t 1) ≡ tick_items signals t 1 ++ end_items signals e) at
     (last_tick signals last t (filter (λ p. differs_at t p.1) (enumerate_from 0 signals)) later (all_placed signals t))
 walk_ticks signals (suc n) end last t later all =
-    one_tick signals end last t (filter (λ p. differs_at t p.1) (enumerate_from 0 signals)) (moves_from signals (suc t) (suc n)) (tick_items signals (suc t) (suc n) ++ end_items signals end)
+    one_tick signals end last t (filter (λ p. differs_at t p.1) (enumerate_from 0 signals)) (transitions_from signals (suc t) (suc n)) (tick_items signals (suc t) (suc n) ++ end_items signals end)
     later (all_placed signals t) (walk_ticks signals n end last (suc t) (omega arith) (omega arith)) (walk_ticks signals n end t (suc t) (omega arith) (omega arith))
-    ∙ sym (append_assoc (stamped t (new_values signals t)) (tick_items signals (suc t) (suc n)) (end_items signals end))
+    ∙ sym (append_assoc (with_stamp t (new_values signals t)) (tick_items signals (suc t) (suc n)) (end_items signals end))
 
--- the walk over the moves of all ticks
-pub walk_is : (signals : List SignalContents) (end : ℕ) → walk signals end 0 (moves_from signals 1 end) ≡ tick_items signals 1 end ++ end_items signals end
-unfolding walk moves_from tick_items
+-- the walk over the transitions of all ticks
+pub walk_is : (signals : List SignalContents) (end : ℕ) → walk signals end 0 (transitions_from signals 1 end) ≡ tick_items signals 1 end ++ end_items signals end
+unfolding walk transitions_from tick_items
 walk_is signals zero = refl
 walk_is signals (suc n) = walk_ticks signals n (suc n) 0 1 (omega arith) (omega arith)
 
--- a part of the moves, with their values, and the walk over the later ones
-pub walk_parts : (signals : List SignalContents) (end last : ℕ) (ms later : List Move)
-    → walk signals end last (ms ++ later) ≡ valued_items last ms (map (move_value signals) ms) ++ walk signals end (tick_after last ms) later
+-- a part of the transitions, with their values, and the walk over the later ones
+pub walk_parts : (signals : List SignalContents) (end last : ℕ) (ms later : List Transition)
+    → walk signals end last (ms ++ later) ≡ valued_items last ms (map (transition_value signals) ms) ++ walk signals end (tick_after last ms) later
 unfolding walk valued_items tick_after
 walk_parts signals end last [] later = refl
 walk_parts signals end last (m ∷ ms) later =
-    ap (λ l. (if m.tick == last then [] else stamp_of m.tick ∷ []) ++ value_item (code_of m.position) (move_value signals m) ∷ l) (walk_parts signals end m.tick ms later)
-    ∙ sym (append_assoc (if m.tick == last then [] else stamp_of m.tick ∷ []) (value_item (code_of m.position) (move_value signals m) ∷ valued_items m.tick ms (map (move_value signals) ms)) (walk signals end (tick_after m.tick ms) later))
+    ap (λ l. (if m.tick == last then [] else stamp_of m.tick ∷ []) ++ value_item (code_of m.position) (transition_value signals m) ∷ l) (walk_parts signals end m.tick ms later)
+    ∙ sym (append_assoc (if m.tick == last then [] else stamp_of m.tick ∷ []) (value_item (code_of m.position) (transition_value signals m) ∷ valued_items m.tick ms (map (transition_value signals) ms)) (walk signals end (tick_after m.tick ms) later))
 
 -- a part is written
-pub part_walked : (signals : List SignalContents) (end last tick : ℕ) (rest part later : List Move) (values : List (List Bit)) (out new whole : List ℕ) → rest ≡ part ++ later
-    → values ≡ map (move_value signals) part → new ≡ out ++ flat_map line_of (valued_items last part values) → tick ≡ tick_after last part
-    → out ++ flat_map line_of (walk signals end last rest) ≡ whole → new ++ flat_map line_of (walk signals end tick later) ≡ whole
+pub part_walked : (signals : List SignalContents) (end last tick : ℕ) (rest part later : List Transition) (values : List (List Bit)) (out new whole : List ℕ) → rest ≡ part ++ later
+    → values ≡ map (transition_value signals) part → new ≡ out ++ flat_map item_line (valued_items last part values) → tick ≡ tick_after last part
+    → out ++ flat_map item_line (walk signals end last rest) ≡ whole → new ++ flat_map item_line (walk signals end tick later) ≡ whole
 part_walked signals end last tick rest part later values out new whole split valued grown at all =
-    ap (λ l. l ++ flat_map line_of (walk signals end tick later)) (grown ∙ ap (λ vs. out ++ flat_map line_of (valued_items last part vs)) valued)
-    ∙ ap (λ t. (out ++ flat_map line_of (valued_items last part (map (move_value signals) part))) ++ flat_map line_of (walk signals end t later)) at
-    ∙ append_assoc out (flat_map line_of (valued_items last part (map (move_value signals) part))) (flat_map line_of (walk signals end (tick_after last part) later))
-    ∙ ap (λ l. out ++ l) (sym (flat_map-append line_of (valued_items last part (map (move_value signals) part)) (walk signals end (tick_after last part) later)))
-    ∙ ap (λ l. out ++ flat_map line_of l) (sym (walk_parts signals end last part later))
-    ∙ ap (λ l. out ++ flat_map line_of (walk signals end last l)) (sym split)
+    ap (λ l. l ++ flat_map item_line (walk signals end tick later)) (grown ∙ ap (λ vs. out ++ flat_map item_line (valued_items last part vs)) valued)
+    ∙ ap (λ t. (out ++ flat_map item_line (valued_items last part (map (transition_value signals) part))) ++ flat_map item_line (walk signals end t later)) at
+    ∙ append_assoc out (flat_map item_line (valued_items last part (map (transition_value signals) part))) (flat_map item_line (walk signals end (tick_after last part) later))
+    ∙ ap (λ l. out ++ l) (sym (flat_map-append item_line (valued_items last part (map (transition_value signals) part)) (walk signals end (tick_after last part) later)))
+    ∙ ap (λ l. out ++ flat_map item_line l) (sym (walk_parts signals end last part later))
+    ∙ ap (λ l. out ++ flat_map item_line (walk signals end last l)) (sym split)
     ∙ all
 
 -- one value more is written
-pub one_valued : (last : ℕ) (moves : List Move) (values : List (List Bit)) (k : ℕ) (m : Move) (v : List Bit) (out one two whole : List ℕ) → k < length moves → k < length values
-    → m ≡ get_or moves k m → v ≡ get_or values k v → one ≡ out ++ flat_map line_of (if m.tick == last then [] else stamp_of m.tick ∷ [])
-    → two ≡ one ++ line_of (value_item (code_of m.position) v)
-    → out ++ flat_map line_of (valued_items last (drop k moves) (drop k values)) ≡ whole
-    → two ++ flat_map line_of (valued_items m.tick (drop (k + 1) moves) (drop (k + 1) values)) ≡ whole
+pub one_valued : (last : ℕ) (transitions : List Transition) (values : List (List Bit)) (k : ℕ) (m : Transition) (v : List Bit) (out one two whole : List ℕ) → k < length transitions → k < length values
+    → m ≡ get_or transitions k m → v ≡ get_or values k v → one ≡ out ++ flat_map item_line (if m.tick == last then [] else stamp_of m.tick ∷ [])
+    → two ≡ one ++ item_line (value_item (code_of m.position) v)
+    → out ++ flat_map item_line (valued_items last (drop k transitions) (drop k values)) ≡ whole
+    → two ++ flat_map item_line (valued_items m.tick (drop (k + 1) transitions) (drop (k + 1) values)) ≡ whole
 unfolding valued_items
-one_valued last moves values k m v out one two whole within inside at is stamp value all =
-    carried out two (flat_map line_of (if m.tick == last then [] else stamp_of m.tick ∷ []) ++ line_of (value_item (code_of m.position) v)) _ _ whole
+one_valued last transitions values k m v out one two whole within inside at is stamp value all =
+    carried out two (flat_map item_line (if m.tick == last then [] else stamp_of m.tick ∷ []) ++ item_line (value_item (code_of m.position) v)) _ _ whole
     (two_pieces out one two _ _ _ stamp value refl)
-    (ap (λ l. flat_map line_of (valued_items last l (drop k values))) (drop_more moves k m within ∙ ap (λ x. x ∷ drop (k + 1) moves) (sym at))
-    ∙ ap (λ l. flat_map line_of (valued_items last (m ∷ drop (k + 1) moves) l)) (drop_more values k v inside ∙ ap (λ x. x ∷ drop (k + 1) values) (sym is))
-    ∙ flat_map-append line_of (if m.tick == last then [] else stamp_of m.tick ∷ []) _
-    ∙ sym (append_assoc (flat_map line_of (if m.tick == last then [] else stamp_of m.tick ∷ [])) (line_of (value_item (code_of m.position) v)) _))
+    (ap (λ l. flat_map item_line (valued_items last l (drop k values))) (drop_more transitions k m within ∙ ap (λ x. x ∷ drop (k + 1) transitions) (sym at))
+    ∙ ap (λ l. flat_map item_line (valued_items last (m ∷ drop (k + 1) transitions) l)) (drop_more values k v inside ∙ ap (λ x. x ∷ drop (k + 1) values) (sym is))
+    ∙ flat_map-append item_line (if m.tick == last then [] else stamp_of m.tick ∷ []) _
+    ∙ sym (append_assoc (flat_map item_line (if m.tick == last then [] else stamp_of m.tick ∷ [])) (item_line (value_item (code_of m.position) v)) _))
     all
 
 -- the last tick stays, one move on
-pub one_later : (last : ℕ) (moves : List Move) (k : ℕ) (m : Move) (whole : ℕ) → k < length moves → m ≡ get_or moves k m → tick_after last (drop k moves) ≡ whole → tick_after m.tick (drop (k + 1) moves) ≡ whole
+pub one_later : (last : ℕ) (transitions : List Transition) (k : ℕ) (m : Transition) (whole : ℕ) → k < length transitions → m ≡ get_or transitions k m → tick_after last (drop k transitions) ≡ whole → tick_after m.tick (drop (k + 1) transitions) ≡ whole
 unfolding tick_after
-one_later last moves k m whole within at all =
-    sym (ap (tick_after last) (drop_more moves k m within ∙ ap (λ x. x ∷ drop (k + 1) moves) (sym at))) ∙ all
+one_later last transitions k m whole within at all =
+    sym (ap (tick_after last) (drop_more transitions k m within ∙ ap (λ x. x ∷ drop (k + 1) transitions) (sym at))) ∙ all
 
--- all moves are written, and the stamp of the end
-pub all_walked : (signals : List SignalContents) (end last : ℕ) (moves rest : List Move) (out new start : List ℕ) → rest ≡ []
-    → moves ≡ moves_from signals 1 end → new ≡ out ++ flat_map line_of (if nat_lt last end then stamp_of end ∷ [] else [])
-    → out ++ flat_map line_of (walk signals end last rest) ≡ start ++ flat_map line_of (walk signals end 0 moves)
-    → new ≡ start ++ flat_map line_of (tick_items signals 1 end ++ end_items signals end)
+-- all transitions are written, and the stamp of the end
+pub all_walked : (signals : List SignalContents) (end last : ℕ) (transitions rest : List Transition) (out new start : List ℕ) → rest ≡ []
+    → transitions ≡ transitions_from signals 1 end → new ≡ out ++ flat_map item_line (if nat_lt last end then stamp_of end ∷ [] else [])
+    → out ++ flat_map item_line (walk signals end last rest) ≡ start ++ flat_map item_line (walk signals end 0 transitions)
+    → new ≡ start ++ flat_map item_line (tick_items signals 1 end ++ end_items signals end)
 unfolding walk
-all_walked signals end last moves rest out new start none is stamp all =
+all_walked signals end last transitions rest out new start none is stamp all =
     stamp
-    ∙ ap (λ l. out ++ flat_map line_of (walk signals end last l)) (sym none)
+    ∙ ap (λ l. out ++ flat_map item_line (walk signals end last l)) (sym none)
     ∙ all
-    ∙ ap (λ l. start ++ flat_map line_of (walk signals end 0 l)) is
-    ∙ ap (λ l. start ++ flat_map line_of l) (walk_is signals end)
+    ∙ ap (λ l. start ++ flat_map item_line (walk signals end 0 l)) is
+    ∙ ap (λ l. start ++ flat_map item_line l) (walk_is signals end)
 
 -- all values of a part are written
-pub all_valued : (last : ℕ) (moves : List Move) (values : List (List Bit)) (k : ℕ) (out whole : List ℕ) → length moves ≤ k
-    → out ++ flat_map line_of (valued_items last (drop k moves) (drop k values)) ≡ whole → out ≡ whole
+pub all_valued : (last : ℕ) (transitions : List Transition) (values : List (List Bit)) (k : ℕ) (out whole : List ℕ) → length transitions ≤ k
+    → out ++ flat_map item_line (valued_items last (drop k transitions) (drop k values)) ≡ whole → out ≡ whole
 unfolding valued_items
-all_valued last moves values k out whole past all =
-    sym (append-nil out) ∙ ap (λ l. out ++ flat_map line_of (valued_items last l (drop k values))) (sym (drop_all k moves past)) ∙ all
+all_valued last transitions values k out whole past all =
+    sym (append-nil out) ∙ ap (λ l. out ++ flat_map item_line (valued_items last l (drop k values))) (sym (drop_all k transitions past)) ∙ all
 
-pub all_later : (last : ℕ) (moves : List Move) (k whole : ℕ) → length moves ≤ k → tick_after last (drop k moves) ≡ whole → last ≡ whole
+pub all_later : (last : ℕ) (transitions : List Transition) (k whole : ℕ) → length transitions ≤ k → tick_after last (drop k transitions) ≡ whole → last ≡ whole
 unfolding tick_after
-all_later last moves k whole past all = sym (ap (tick_after last) (drop_all k moves past)) ∙ all
+all_later last transitions k whole past all = sym (ap (tick_after last) (drop_all k transitions past)) ∙ all

@@ -5,10 +5,10 @@ use Rattle.std.proofs.lemmas.List.{take-append-drop, append-nil}
 use Rattle.std.proofs.lemmas.List.Elements.{All-nil, All-cons, All-head, All-tail}
 use Rattle.std.proofs.lemmas.Bool.Decides.{Decides-eqb}
 use Rattle.std.proofs.lemmas.Bool.{ne_eqb}
-use Rattle.vcd_core.specs.Word.{is_word}
+use Rattle.vcd_core.specs.Word.{is_word, is_white_space}
 use Rattle.vcd_text.specs.Items.{is_end}
-use Rattle.vcd_text.specs.Spaces.{begins_with_space}
-use Rattle.vcd_text.specs.Words.{is_space, line_behind, ends_before, lengthened, with_byte, Word, word, words_from}
+use Rattle.vcd_text.specs.inside.Spaces.{begins_with_space}
+use Rattle.vcd_text.specs.Words.{line_behind, ends_before, with_longer_first, with_byte, PlacedWord, word_on, words_from}
 
 -- the parts of a conjunction
 pub both : (a b : Bool) → (a && b) ≡ true → (a ≡ true) × (b ≡ true)
@@ -20,45 +20,45 @@ not_true true e = sym e
 not_true false e = refl
 
 -- a byte that is no white space is no line feed
-black_is_no_feed : (b : ℕ) → is_space b ≡ false → (b == 10) ≡ false
+black_is_no_feed : (b : ℕ) → is_white_space b ≡ false → (b == 10) ≡ false
 black_is_no_feed b black = choose (b == 10) refl
   where
     choose : (t : Bool) → (b == 10) ≡ t → t ≡ false
     choose false e = refl
     choose true e =
         let ten : b ≡ 10 = (Decides-eqb b 10).0 e in
-        let no : true ≡ false = sym (ap is_space ten) ∙ black in
+        let no : true ≡ false = sym (ap is_white_space ten) ∙ black in
         absurd (cc)
 
-same_line : (b line : ℕ) → is_space b ≡ false → line_behind b line ≡ line
+same_line : (b line : ℕ) → is_white_space b ≡ false → line_behind b line ≡ line
 same_line b line black = ap (λ t. cond t (line + 1) line) (black_is_no_feed b black)
 
 -- the words of a text that begins with a word
-pub word_whole : (whole : Bool) (line : ℕ) (w rest : List ℕ) → 0 < length w → list_all (λ b. not (is_space b)) w ≡ true → ends_before whole rest ≡ true
-    → words_from whole line (w ++ rest) ≡ word w line ∷ words_from whole line rest
+pub word_whole : (whole : Bool) (line : ℕ) (w rest : List ℕ) → 0 < length w → list_all (λ b. not (is_white_space b)) w ≡ true → ends_before whole rest ≡ true
+    → words_from whole line (w ++ rest) ≡ word_on w line ∷ words_from whole line rest
 unfolding words_from
 word_whole whole line [] rest some black ends = absurd (omega arith)
 word_whole whole line (b ∷ []) rest some black ends =
-    let here : is_space b ≡ false = not_true _ (both _ _ black).0 in
+    let here : is_white_space b ≡ false = not_true _ (both _ _ black).0 in
     ap (λ s. with_byte s (ends_before whole rest) b line (words_from whole (line_behind b line) rest)) here
     ∙ ap (λ e. with_byte false e b line (words_from whole (line_behind b line) rest)) ends
-    ∙ ap (λ n. word (b ∷ []) line ∷ words_from whole n rest) (same_line b line here)
+    ∙ ap (λ n. word_on (b ∷ []) line ∷ words_from whole n rest) (same_line b line here)
 word_whole whole line (b ∷ c ∷ w) rest some black ends =
-    let here : is_space b ≡ false = not_true _ (both _ _ black).0 in
-    let behind : is_space c ≡ false = not_true (is_space c) (both (not (is_space c)) (list_all (λ b. not (is_space b)) w) (both (not (is_space b)) (list_all (λ b. not (is_space b)) (c ∷ w)) black).1).0 in
-    ap (λ s. with_byte s (is_space c) b line (words_from whole (line_behind b line) (c ∷ w ++ rest))) here
+    let here : is_white_space b ≡ false = not_true _ (both _ _ black).0 in
+    let behind : is_white_space c ≡ false = not_true (is_white_space c) (both (not (is_white_space c)) (list_all (λ b. not (is_white_space b)) w) (both (not (is_white_space b)) (list_all (λ b. not (is_white_space b)) (c ∷ w)) black).1).0 in
+    ap (λ s. with_byte s (is_white_space c) b line (words_from whole (line_behind b line) (c ∷ w ++ rest))) here
     ∙ ap (λ e. with_byte false e b line (words_from whole (line_behind b line) (c ∷ w ++ rest))) behind
-    ∙ ap (λ n. lengthened b line (words_from whole n (c ∷ w ++ rest))) (same_line b line here)
-    ∙ ap (lengthened b line) (word_whole whole line (c ∷ w) rest (omega arith) (both _ _ black).1 ends)
+    ∙ ap (λ n. with_longer_first b line (words_from whole n (c ∷ w ++ rest))) (same_line b line here)
+    ∙ ap (with_longer_first b line) (word_whole whole line (c ∷ w) rest (omega arith) (both _ _ black).1 ends)
 
 -- the same at a place in the text
-pub word_split : (whole : Bool) (line n : ℕ) (text : List ℕ) → 0 < length (take n text) → list_all (λ b. not (is_space b)) (take n text) ≡ true
-    → ends_before whole (drop n text) ≡ true → words_from whole line text ≡ word (take n text) line ∷ words_from whole line (drop n text)
+pub word_split : (whole : Bool) (line n : ℕ) (text : List ℕ) → 0 < length (take n text) → list_all (λ b. not (is_white_space b)) (take n text) ≡ true
+    → ends_before whole (drop n text) ≡ true → words_from whole line text ≡ word_on (take n text) line ∷ words_from whole line (drop n text)
 word_split whole line n text some black ends =
     ap (words_from whole line) (sym (take-append-drop n text)) ∙ word_whole whole line (take n text) (drop n text) some black ends
 
 -- white space at the front
-pub space_passed : (whole : Bool) (line b : ℕ) (bs : List ℕ) → is_space b ≡ true → words_from whole line (b ∷ bs) ≡ words_from whole (line_behind b line) bs
+pub space_passed : (whole : Bool) (line b : ℕ) (bs : List ℕ) → is_white_space b ≡ true → words_from whole line (b ∷ bs) ≡ words_from whole (line_behind b line) bs
 unfolding words_from
 space_passed whole line b bs space =
     ap (λ s. with_byte s (ends_before whole bs) b line (words_from whole (line_behind b line) bs)) space
@@ -73,18 +73,18 @@ no_word whole line zero (b ∷ bs) none black ends = let no : false ≡ true = s
 no_word whole line (suc n) (b ∷ bs) none black ends = absurd (omega arith)
 
 -- a word that is not closed is none
-word_part : (line : ℕ) (w : List ℕ) → list_all (λ b. not (is_space b)) w ≡ true → words_from false line w ≡ []
+word_part : (line : ℕ) (w : List ℕ) → list_all (λ b. not (is_white_space b)) w ≡ true → words_from false line w ≡ []
 unfolding words_from
 word_part line [] black = refl
 word_part line (b ∷ []) black =
-    let here : is_space b ≡ false = not_true _ (both _ _ black).0 in
+    let here : is_white_space b ≡ false = not_true _ (both _ _ black).0 in
     ap (λ s. with_byte s false b line []) here
 word_part line (b ∷ c ∷ w) black =
-    let here : is_space b ≡ false = not_true _ (both _ _ black).0 in
-    let behind : is_space c ≡ false = not_true (is_space c) (both (not (is_space c)) (list_all (λ b. not (is_space b)) w) (both (not (is_space b)) (list_all (λ b. not (is_space b)) (c ∷ w)) black).1).0 in
-    ap (λ s. with_byte s (is_space c) b line (words_from false (line_behind b line) (c ∷ w))) here
+    let here : is_white_space b ≡ false = not_true _ (both _ _ black).0 in
+    let behind : is_white_space c ≡ false = not_true (is_white_space c) (both (not (is_white_space c)) (list_all (λ b. not (is_white_space b)) w) (both (not (is_white_space b)) (list_all (λ b. not (is_white_space b)) (c ∷ w)) black).1).0 in
+    ap (λ s. with_byte s (is_white_space c) b line (words_from false (line_behind b line) (c ∷ w))) here
     ∙ ap (λ e. with_byte false e b line (words_from false (line_behind b line) (c ∷ w))) behind
-    ∙ ap (lengthened b line) (word_part (line_behind b line) (c ∷ w) (both _ _ black).1)
+    ∙ ap (with_longer_first b line) (word_part (line_behind b line) (c ∷ w) (both _ _ black).1)
 
 -- a word ends at the end of the text alone, where it does not end in a text that is whole
 only_at_end : (whole : Bool) (rest : List ℕ) → ends_before true rest ≡ true → ends_before whole rest ≡ false → (whole ≡ false) × (rest ≡ [])
@@ -92,7 +92,7 @@ only_at_end whole [] ends open_end = (open_end, refl)
 only_at_end whole (b ∷ bs) ends open_end = let no : true ≡ false = sym ends ∙ open_end in absurd (cc)
 
 -- so the last word of a text that may go on is not there, and nothing follows it
-pub open_word : (whole : Bool) (line n : ℕ) (text : List ℕ) → list_all (λ b. not (is_space b)) (take n text) ≡ true
+pub open_word : (whole : Bool) (line n : ℕ) (text : List ℕ) → list_all (λ b. not (is_white_space b)) (take n text) ≡ true
     → ends_before true (drop n text) ≡ true → ends_before whole (drop n text) ≡ false
     → (words_from whole line text ≡ []) × (drop n text ≡ [])
 open_word whole line n text black ends open_end =
@@ -104,37 +104,37 @@ open_word whole line n text black ends open_end =
 
 -- at least one byte, none of them white space
 abbrev pub is_run : List ℕ → Type 0
-is_run text = (0 < length text) × (list_all (λ b. not (is_space b)) text ≡ true)
+is_run text = (0 < length text) × (list_all (λ b. not (is_white_space b)) text ≡ true)
 
-runs_with_byte : (space last : Bool) (b line : ℕ) (ws : List Word) → is_space b ≡ space → All (λ (w : Word). is_run w.text) ws → All (λ (w : Word). is_run w.text) (with_byte space last b line ws)
+runs_with_byte : (space last : Bool) (b line : ℕ) (ws : List PlacedWord) → is_white_space b ≡ space → All (λ (w : PlacedWord). is_run w.text) ws → All (λ (w : PlacedWord). is_run w.text) (with_byte space last b line ws)
 runs_with_byte true last b line ws is runs = runs
-runs_with_byte false true b line ws is runs = All-cons (λ (w : Word). is_run w.text) (word (b ∷ []) line) ws (omega arith, rw is refl) runs
+runs_with_byte false true b line ws is runs = All-cons (λ (w : PlacedWord). is_run w.text) (word_on (b ∷ []) line) ws (omega arith, rw is refl) runs
 runs_with_byte false false b line [] is runs = runs
 runs_with_byte false false b line (w ∷ ws) is runs =
-    let head = All-head (λ (w : Word). is_run w.text) w ws runs in
-    All-cons (λ (w : Word). is_run w.text) (word (b ∷ w.text) line) ws (omega arith, rw is head.1) (All-tail (λ (w : Word). is_run w.text) w ws runs)
+    let head = All-head (λ (w : PlacedWord). is_run w.text) w ws runs in
+    All-cons (λ (w : PlacedWord). is_run w.text) (word_on (b ∷ w.text) line) ws (omega arith, rw is head.1) (All-tail (λ (w : PlacedWord). is_run w.text) w ws runs)
 
 -- each word is such a run
-pub words_are_words : (whole : Bool) (line : ℕ) (bytes : List ℕ) → All (λ (w : Word). is_run w.text) (words_from whole line bytes)
+pub words_are_words : (whole : Bool) (line : ℕ) (bytes : List ℕ) → All (λ (w : PlacedWord). is_run w.text) (words_from whole line bytes)
 unfolding words_from
-words_are_words whole line [] = All-nil (λ (w : Word). is_run w.text)
+words_are_words whole line [] = All-nil (λ (w : PlacedWord). is_run w.text)
 words_are_words whole line (b ∷ bs) =
-    runs_with_byte (is_space b) (ends_before whole bs) b line (words_from whole (line_behind b line) bs) refl (words_are_words whole (line_behind b line) bs)
+    runs_with_byte (is_white_space b) (ends_before whole bs) b line (words_from whole (line_behind b line) bs) refl (words_are_words whole (line_behind b line) bs)
 
 -- as tests: a run of bytes other than white space
 abbrev pub is_run_text : List ℕ → Bool
-is_run_text text = not (length text == 0) && list_all (λ b. not (is_space b)) text
+is_run_text text = not (length text == 0) && list_all (λ b. not (is_white_space b)) text
 
 run_passes : (text : List ℕ) → is_run text → is_run_text text ≡ true
 run_passes text (some, black) = rw (ne_eqb (length text) 0 (λ none. absurd (omega arith)), black) refl
 
-texts_pass : (ws : List Word) → All (λ (w : Word). is_run w.text) ws → list_all is_run_text (map (λ (w : Word). w.text) ws) ≡ true
+texts_pass : (ws : List PlacedWord) → All (λ (w : PlacedWord). is_run w.text) ws → list_all is_run_text (map (λ (w : PlacedWord). w.text) ws) ≡ true
 texts_pass [] runs = refl
 texts_pass (w ∷ ws) runs =
-    ap (λ t. t && list_all is_run_text (map (λ (w : Word). w.text) ws)) (run_passes w.text (All-head (λ (w : Word). is_run w.text) w ws runs))
-    ∙ texts_pass ws (All-tail (λ (w : Word). is_run w.text) w ws runs)
+    ap (λ t. t && list_all is_run_text (map (λ (w : PlacedWord). w.text) ws)) (run_passes w.text (All-head (λ (w : PlacedWord). is_run w.text) w ws runs))
+    ∙ texts_pass ws (All-tail (λ (w : PlacedWord). is_run w.text) w ws runs)
 
-pub texts_are_runs : (whole : Bool) (line : ℕ) (bytes : List ℕ) → list_all is_run_text (map (λ (w : Word). w.text) (words_from whole line bytes)) ≡ true
+pub texts_are_runs : (whole : Bool) (line : ℕ) (bytes : List ℕ) → list_all is_run_text (map (λ (w : PlacedWord). w.text) (words_from whole line bytes)) ≡ true
 texts_are_runs whole line bytes = texts_pass (words_from whole line bytes) (words_are_words whole line bytes)
 
 -- a run that is not `$end` is a word that a header entry, a name or a kind may have
@@ -142,7 +142,7 @@ pub run_is_word : (text : List ℕ) → is_run_text text ≡ true → is_end tex
 run_is_word text run other = ap (λ t. t && not (is_end text)) run ∙ ap not other
 
 -- they are no more than the bytes
-more_with_byte : (space last : Bool) (b line : ℕ) (ws : List Word) → length (with_byte space last b line ws) ≤ suc (length ws)
+more_with_byte : (space last : Bool) (b line : ℕ) (ws : List PlacedWord) → length (with_byte space last b line ws) ≤ suc (length ws)
 more_with_byte true last b line ws = omega arith
 more_with_byte false true b line ws = omega arith
 more_with_byte false false b line [] = omega arith
@@ -152,9 +152,9 @@ pub words_are_few : (whole : Bool) (line : ℕ) (bytes : List ℕ) → length (w
 unfolding words_from
 words_are_few whole line [] = omega arith
 words_are_few whole line (b ∷ bs) =
-    omega (arith, words_are_few whole (line_behind b line) bs, more_with_byte (is_space b) (ends_before whole bs) b line (words_from whole (line_behind b line) bs))
+    omega (arith, words_are_few whole (line_behind b line) bs, more_with_byte (is_white_space b) (ends_before whole bs) b line (words_from whole (line_behind b line) bs))
 
 -- the first word to come is a run
-pub first_is_run : (whole : Bool) (line : ℕ) (bytes : List ℕ) (w : Word) (ws : List Word) → words_from whole line bytes ≡ w ∷ ws → is_run w.text
+pub first_is_run : (whole : Bool) (line : ℕ) (bytes : List ℕ) (w : PlacedWord) (ws : List PlacedWord) → words_from whole line bytes ≡ w ∷ ws → is_run w.text
 first_is_run whole line bytes w ws is =
-    All-head (λ (w : Word). is_run w.text) w ws (subst (λ ws. All (λ (w : Word). is_run w.text) ws) is (words_are_words whole line bytes))
+    All-head (λ (w : PlacedWord). is_run w.text) w ws (subst (λ ws. All (λ (w : PlacedWord). is_run w.text) ws) is (words_are_words whole line bytes))

@@ -2,10 +2,10 @@
 use Rattle.std.specs.Prelude.{◌≡◌, ℕ, ◌<◌, Bool, true, false, List, [], ◌∷◌, ◌++◌, length, Some, None, IsTrue, IsFalse, codes}
 use Rattle.vcd_text.specs.declared.fault.Fault.{Fault}
 use Rattle.vcd_text.specs.declared.fault.Fault.TheVariants.{Truncated, UnexpectedWord, BadTimescale, BadScope, UpscopeAtTop, BadVar, MixedCode, BadTime, TimeBackwards, BadChange, UnknownCode, ValueTooLong, TooManySignals}
-use Rattle.vcd_text.specs.Words.{Word, words_of, closed_words, end_line}
+use Rattle.vcd_text.specs.Words.{PlacedWord, words_of, closed_words, end_line}
 use Rattle.vcd_text.specs.Letters.{is_among, is_letter, is_number, number_of}
 use Rattle.vcd_text.specs.Items.{Item, spellings, end_word, is_end, has_no_end, is_one_of, declaring_words, header_words, begins_declaration, is_other, timescale_of, vector_letters, dropped_letters}
-use Rattle.vcd_text.specs.Grammar.{Context, Declaration, is_skipped, has_good_size, declaration_of, variable_of, may_have_code, has_room, is_tick, is_value, nothing_told, texts, AllowsAll, after}
+use Rattle.vcd_text.specs.Grammar.{Context, Declaration, is_skipped, has_good_size, declaration_of, variable_of, may_have_code, has_room, is_tick, is_value, nothing_told, word_texts, AllowsAll, after}
 
 -- ---- the rows: the words `begun` of an item that is not whole show no fault, and the word behind them shows this one
 
@@ -87,9 +87,9 @@ pub data ChangeFault (c : Context) (begun : List (List ℕ)) (word : List ℕ) (
       → IsFalse (is_letter first) → IsFalse (is_among (codes "#$" ++ pair_letters) first)
       → fault ≡ BadChange → ChangeFault c begun word fault
 
-pub data Decided (c : Context) (begun : List (List ℕ)) (word : List ℕ) (fault : Fault) : Type 0 where
-  among_declarations : IsFalse c.changing → DeclarationFault c begun word fault → Decided c begun word fault
-  among_changes : IsTrue c.changing → ChangeFault c begun word fault → Decided c begun word fault
+pub data WordFault (c : Context) (begun : List (List ℕ)) (word : List ℕ) (fault : Fault) : Type 0 where
+  among_declarations : IsFalse c.changing → DeclarationFault c begun word fault → WordFault c begun word fault
+  among_changes : IsTrue c.changing → ChangeFault c begun word fault → WordFault c begun word fault
 
 -- the words `begun` of an item that is not whole show no fault, and something is due behind them
 pub data IsUnfinished (c : Context) (begun : List (List ℕ)) : Type 0 where
@@ -114,40 +114,40 @@ pub data IsUnfinished (c : Context) (begun : List (List ℕ)) : Type 0 where
 -- ---- files
 
 -- the line of a fault that a word shows: its own, or among the changes that of the first word of its change
-abbrev pub line_of : (changing : Bool) → (begun : List Word) → Word → ℕ
-line_of false begun word = word.line
-line_of true [] word = word.line
-line_of true (first ∷ begun) word = first.line
+abbrev pub fault_line : (changing : Bool) → (begun : List PlacedWord) → PlacedWord → ℕ
+fault_line false begun word = word.line
+fault_line true [] word = word.line
+fault_line true (first ∷ begun) word = first.line
 
 -- a word shows this fault, with this line; `whole` are the words of the items before it
-pub record Refuses (words : List Word) (line : ℕ) (fault : Fault) : Type 0 where
+pub record ShowsFault (words : List PlacedWord) (line : ℕ) (fault : Fault) : Type 0 where
   pub items : List Item
-  pub whole : List Word
-  pub begun : List Word
-  pub word : Word
-  pub more : List Word
+  pub whole : List PlacedWord
+  pub begun : List PlacedWord
+  pub word : PlacedWord
+  pub more : List PlacedWord
   pub parts : words ≡ whole ++ (begun ++ word ∷ more)
-  pub spelled : texts whole ≡ spellings items
+  pub spelled : word_texts whole ≡ spellings items
   pub allowed : AllowsAll nothing_told items
-  pub decided : Decided (after nothing_told items) (texts begun) word.text fault
-  pub at : line ≡ line_of (after nothing_told items).changing begun word
+  pub decided : WordFault (after nothing_told items) (word_texts begun) word.text fault
+  pub at : line ≡ fault_line (after nothing_told items).changing begun word
 
 -- the words end too early, and no word shows a fault
-pub record Stops (words : List Word) : Type 0 where
+pub record Stops (words : List PlacedWord) : Type 0 where
   pub items : List Item
   pub begun : List (List ℕ)
-  pub spelled : texts words ≡ spellings items ++ begun
+  pub spelled : word_texts words ≡ spellings items ++ begun
   pub allowed : AllowsAll nothing_told items
   pub unfinished : IsUnfinished (after nothing_told items) begun
 
 -- the file has this fault, with this line: a word shows it, or the end comes too early
 pub data FileFault (bytes : List ℕ) (line : ℕ) (fault : Fault) : Type 0 where
-  shown : Refuses (words_of bytes) line fault → FileFault bytes line fault
+  shown : ShowsFault (words_of bytes) line fault → FileFault bytes line fault
   too_early : Stops (words_of bytes) → line ≡ end_line bytes → fault ≡ Truncated → FileFault bytes line fault
 
 -- a closed word of this front of a file shows this fault, with this line, whatever follows the front
 abbrev pub FrontFault : List ℕ → ℕ → Fault → Type 0
-FrontFault bytes line fault = Refuses (closed_words bytes) line fault
+FrontFault bytes line fault = ShowsFault (closed_words bytes) line fault
 
 -- none of them shows a fault
 abbrev pub HasNoFrontFault : List ℕ → Type 0

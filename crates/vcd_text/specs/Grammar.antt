@@ -7,19 +7,11 @@ use Rattle.vcd_core.specs.declared.capture.Timescale.{Timescale}
 use Rattle.vcd_core.specs.declared.capture.ScopeName.{ScopeName}
 use Rattle.vcd_core.specs.declared.value.TheConstants.{WIDTH_LIMIT}
 use Rattle.vcd_core.specs.declared.capture.TheConstants.{END_LIMIT, SIGNAL_LIMIT}
-use Rattle.vcd_text.specs.Words.{Word}
+use Rattle.vcd_text.specs.Words.{PlacedWord}
 use Rattle.vcd_text.specs.Letters.{is_among, is_letter, letters_read, is_number, number_of}
 use Rattle.vcd_text.specs.Items.{Item, entry, timescale, scope, upscope, variable, end_definitions, stamp, scalar, vector, real_or_string, bracket, other, spellings, has_no_end, is_one_of, dump_words, is_other, timescale_of, vector_letters, dropped_letters}
 
 -- ---- limits, the project's own
-
--- the greatest tick
-abbrev pub tick_limit : ℕ
-tick_limit = END_LIMIT
-
--- the most signals
-abbrev pub signal_limit : ℕ
-signal_limit = SIGNAL_LIMIT
 
 -- ---- what a file tells
 
@@ -32,7 +24,7 @@ pub record Declaration : Type 0 where
   pub words : List (List ℕ)
 
 -- a record: from this tick on, the variables of this code have the value that these letters give
-pub record Recorded : Type 0 where
+pub record ChangeRecord : Type 0 where
   pub tick : ℕ
   pub code : List ℕ
   pub letters : List Bit
@@ -44,7 +36,7 @@ pub record Context : Type 0 where
   pub scopes : List ScopeName
   pub declared : List Declaration
   pub changing : Bool
-  pub records : List Recorded
+  pub records : List ChangeRecord
   pub tick : ℕ
 
 -- before the first item
@@ -62,8 +54,8 @@ abbrev pub is_skipped : Declaration → Bool
 is_skipped d = is_one_of skipped_kinds d.kind || (d.size == 0 || nat_lt WIDTH_LIMIT d.size)
 
 -- the variables that are not skipped
-abbrev pub kept : List Declaration → List Declaration
-kept declared = filter (λ d. not (is_skipped d)) declared
+abbrev pub kept_variables : List Declaration → List Declaration
+kept_variables declared = filter (λ d. not (is_skipped d)) declared
 
 -- whether the size in the words of a `$var`, if it has come, is a decimal number
 abbrev pub has_good_size : List (List ℕ) → Bool
@@ -94,13 +86,13 @@ may_have_code (Some before) d = may_share before d
 
 -- whether there is room for a variable among the signals
 abbrev pub has_room : List Declaration → Declaration → Bool
-has_room declared d = is_skipped d || nat_lt (length (kept declared)) signal_limit
+has_room declared d = is_skipped d || nat_lt (length (kept_variables declared)) SIGNAL_LIMIT
 
 -- ---- changes
 
 -- whether a text is a tick
 abbrev pub is_tick : List ℕ → Bool
-is_tick digits = is_number digits && nat_le (number_of digits) tick_limit
+is_tick digits = is_number digits && nat_le (number_of digits) END_LIMIT
 
 -- whether a text is one or more value letters
 abbrev pub is_value : List ℕ → Bool
@@ -132,13 +124,13 @@ Allows c (other word words) = IsTrue (is_other c.changing word) × IsTrue (has_n
 -- ---- what an item adds
 
 -- a record of these letters at the tick, for a variable that is kept
-abbrev pub recorded : Context → List ℕ → List Bit → Option Declaration → List Recorded
-recorded c code letters None = []
-recorded c code letters (Some d) = if is_skipped d then [] else record { tick = c.tick; code = code; letters = letters } ∷ []
+abbrev pub change_records : Context → List ℕ → List Bit → Option Declaration → List ChangeRecord
+change_records c code letters None = []
+change_records c code letters (Some d) = if is_skipped d then [] else record { tick = c.tick; code = code; letters = letters } ∷ []
 
 -- what has been told, with this record behind the others
 abbrev pub with_record : Context → List ℕ → List Bit → Context
-with_record c code letters = record c { records = c.records ++ recorded c code letters (variable_of c code) }
+with_record c code letters = record c { records = c.records ++ change_records c code letters (variable_of c code) }
 
 -- what has been told behind an item
 abbrev pub after_item : Context → Item → Context
@@ -166,13 +158,13 @@ AllowsAll c (i ∷ is) = Allows c i × AllowsAll (after_item c i) is
 
 -- ---- files
 
-abbrev pub texts : List Word → List (List ℕ)
-texts words = map (λ word. word.text) words
+abbrev pub word_texts : List PlacedWord → List (List ℕ)
+word_texts words = map (λ word. word.text) words
 
 -- the words are accepted, and tell this: they spell items, `$enddefinitions $end` among them, each of which gets what it asks for
-pub record Accepts (words : List Word) (told : Context) : Type 0 where
+pub record Accepts (words : List PlacedWord) (told : Context) : Type 0 where
   pub items : List Item
-  pub spelled : texts words ≡ spellings items
+  pub spelled : word_texts words ≡ spellings items
   pub allowed : AllowsAll nothing_told items
   pub tells : after nothing_told items ≡ told
   pub declared : IsTrue told.changing

@@ -33,8 +33,8 @@ printed_letter X = 120
 printed_letter Z = 122
 
 -- letters as they are printed
-abbrev pub printed : List Bit → List ℕ
-printed letters = map printed_letter letters
+abbrev pub printed_letters : List Bit → List ℕ
+printed_letters letters = map printed_letter letters
 
 -- what is put on the left of a text: 0 where its leftmost letter is 0 or 1, else that letter (18.2); no text that is read is empty
 abbrev pub pad_letter : List Bit → Bit
@@ -45,8 +45,8 @@ pad_letter (X ∷ s) = X
 pad_letter (Z ∷ s) = Z
 
 -- a text extended on the left to a width (18.2)
-abbrev pub ext : ℕ → List Bit → List Bit
-ext width s = replicate (width - length s) (pad_letter s) ++ s
+abbrev pub extension : ℕ → List Bit → List Bit
+extension width s = replicate (width - length s) (pad_letter s) ++ s
 
 -- the non-empty suffixes of a list, the shortest first
 abbrev pub suffixes : List Bit → List (List Bit)
@@ -54,8 +54,8 @@ suffixes [] = []
 suffixes (b ∷ s) = suffixes s ++ (b ∷ s) ∷ []
 
 -- the short form of a value: its shortest non-empty suffix whose extension is the value (18.2)
-unfoldable pub short : List Bit → List Bit
-short v = unwrap_or (find (λ s. same_letters (ext (length v) s) v) (suffixes v)) v
+unfoldable pub short_form : List Bit → List Bit
+short_form v = unwrap_or (find (λ s. same_letters (extension (length v) s) v) (suffixes v)) v
 
 abbrev pub is_digit : ℕ → Bool
 is_digit b = nat_le 48 b && nat_le b 57

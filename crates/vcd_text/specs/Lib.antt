@@ -7,15 +7,7 @@ pub mod Grammar
 pub mod Faults
 pub mod Meaning
 pub mod Text
-pub mod FileLaws
-pub mod Spaces
+pub mod Laws
 pub mod WordsLeft
-pub mod TimescaleText
-pub mod Variables
 pub mod Refusals
-pub mod Inside
-pub mod Opening
-pub mod Reading
-pub mod Spaced
-pub mod Moves
-pub mod Digits
+pub mod inside

@@ -5,17 +5,17 @@ use Rattle.vcd_core.specs.Value.{all_x}
 use Rattle.vcd_core.specs.Wave.{changes_of}
 use Rattle.vcd_core.specs.Contents.{Contents, SignalContents}
 use Rattle.vcd_text.specs.Words.{words_of}
-use Rattle.vcd_text.specs.Letters.{ext}
-use Rattle.vcd_text.specs.Grammar.{Declaration, Recorded, Context, Accepts, is_skipped, kept}
+use Rattle.vcd_text.specs.Letters.{extension}
+use Rattle.vcd_text.specs.Grammar.{Declaration, ChangeRecord, Context, Accepts, is_skipped, kept_variables}
 
 -- the value that a code of this width has at a tick: the extension of the last record, in the order of the file, with that code and a tick at most t; else `before`
-unfoldable pub recorded_value : ℕ → List ℕ → ℕ → List Bit → List Recorded → List Bit
+unfoldable pub recorded_value : ℕ → List ℕ → ℕ → List Bit → List ChangeRecord → List Bit
 recorded_value width code t before [] = before
 recorded_value width code t before (r ∷ rs) =
-    recorded_value width code t (if bytes_eq r.code code && nat_le r.tick t then ext width r.letters else before) rs
+    recorded_value width code t (if bytes_eq r.code code && nat_le r.tick t then extension width r.letters else before) rs
 
 -- the signal that a variable is, up to the tick `end`: all x before its first record
-abbrev pub declared_signal : List Recorded → ℕ → Declaration → SignalContents
+abbrev pub declared_signal : List ChangeRecord → ℕ → Declaration → SignalContents
 declared_signal records end d = record {
   scopes = d.scopes;
   kind = d.kind;
@@ -26,7 +26,7 @@ declared_signal records end d = record {
 
 -- what a file means that has told this: each variable that is kept is a signal, in the order of the file; the end is the last stamp, or 0
 abbrev pub meaning : Context → Contents
-meaning c = record { header = c.header; timescale = c.timescale; end = c.tick; signals = map (declared_signal c.records c.tick) (kept c.declared) }
+meaning c = record { header = c.header; timescale = c.timescale; end = c.tick; signals = map (declared_signal c.records c.tick) (kept_variables c.declared) }
 
 -- how many variables are skipped
 abbrev pub skipped_variables : Context → ℕ

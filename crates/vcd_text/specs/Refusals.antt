@@ -7,13 +7,9 @@ use Rattle.vcd_text.specs.declared.fault.ReadError.{ReadError}
 use Rattle.vcd_text.specs.Words.{end_line}
 use Rattle.vcd_text.specs.Faults.{FileFault, FrontFault, HasNoFrontFault}
 
--- the most bytes that a file may have: 4 GiB
-abbrev pub file_limit : ℕ
-file_limit = FILE_LIMIT
-
 -- the answer where memory runs out: no line
-abbrev pub out_of_memory : ReadError
-out_of_memory = record { line = 0; fault = faults.NoMemory }
+abbrev pub memory_error : ReadError
+memory_error = record { line = 0; fault = faults.NoMemory }
 
 -- only this front of a file is known, for this reason: a fault of its closed words, or the reason itself, at the line that the front ends on
 pub data IsFrontAnswer (front : List ℕ) (reason : Fault) (e : ReadError) : Type 0 where
@@ -23,11 +19,11 @@ pub data IsFrontAnswer (front : List ℕ) (reason : Fault) (e : ReadError) : Typ
 -- the answer to a file, of a reader that has failed or not, with these bytes left where it tells them
 pub data IsRefusal (file : List ℕ) (failed : Bool) (left : Option (List ℕ)) (e : ReadError) : Type 0 where
   -- all of it was read, and has this fault
-  has_fault : IsFalse failed → length file ≤ file_limit → FileFault file e.line e.fault → IsRefusal file failed left e
+  has_fault : IsFalse failed → length file ≤ FILE_LIMIT → FileFault file e.line e.fault → IsRefusal file failed left e
   -- there is more than the limit
-  too_large : file_limit < length file → IsFrontAnswer (take file_limit file) faults.TooLarge e → IsRefusal file failed left e
+  too_large : FILE_LIMIT < length file → IsFrontAnswer (take FILE_LIMIT file) faults.TooLarge e → IsRefusal file failed left e
   -- the reader failed behind this front
-  reader_failed : (front rest : List ℕ) → IsTrue failed → left ≡ Some rest → file ≡ front ++ rest → length front ≤ file_limit
+  reader_failed : (front rest : List ℕ) → IsTrue failed → left ≡ Some rest → file ≡ front ++ rest → length front ≤ FILE_LIMIT
       → IsFrontAnswer front faults.ReadFault e → IsRefusal file failed left e
   -- memory ran out
-  no_memory : e ≡ out_of_memory → IsRefusal file failed left e
+  no_memory : e ≡ memory_error → IsRefusal file failed left e

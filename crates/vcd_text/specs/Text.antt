@@ -10,13 +10,13 @@ use Rattle.vcd_core.specs.declared.capture.Timescale.{Timescale}
 use Rattle.vcd_core.specs.declared.capture.ScopeName.{ScopeName}
 use Rattle.vcd_core.specs.Value.{same_letters}
 use Rattle.vcd_core.specs.Wave.{value_at}
-use Rattle.vcd_core.specs.Contents.{Contents, SignalContents}
-use Rattle.vcd_text.specs.Letters.{printed_letter, printed, short}
+use Rattle.vcd_core.specs.Contents.{Contents, SignalContents, signal_value}
+use Rattle.vcd_text.specs.Letters.{printed_letter, printed_letters, short_form}
 use Rattle.vcd_text.specs.Items.{Item, entry, timescale, scope, upscope, variable, end_definitions, stamp, scalar, vector, bracket, spelling, end_word, unit_text}
 
 -- the line of an item: its words with one space (32) between them, and a line feed (10)
-abbrev pub line_of : Item → List ℕ
-line_of item = join_with_byte 32 (spelling item) ++ 10 ∷ []
+abbrev pub item_line : Item → List ℕ
+item_line item = join_with_byte 32 (spelling item) ++ 10 ∷ []
 
 -- ---- declarations
 
@@ -63,11 +63,7 @@ signal_items opened position (s ∷ ss) = scope_items opened s.scopes ++ variabl
 -- a value for a code: of one bit as its letter, of more behind `b` (98) in the short form (18.2)
 abbrev pub value_item : List ℕ → List Bit → Item
 value_item code (b ∷ []) = scalar (printed_letter b) code
-value_item code value = vector 98 (printed (short value)) code
-
--- the value of a signal at a tick
-abbrev pub signal_value : SignalContents → ℕ → List Bit
-signal_value s t = value_at s.width s.changes t
+value_item code value = vector 98 (printed_letters (short_form value)) code
 
 -- whether a signal differs at a tick from the tick before
 abbrev pub differs_at : ℕ → SignalContents → Bool
@@ -90,9 +86,9 @@ abbrev pub stamp_of : ℕ → Item
 stamp_of t = stamp (decimal t)
 
 -- the stamp of a tick before its values, where there are any
-abbrev pub stamped : ℕ → List Item → List Item
-stamped t [] = []
-stamped t (v ∷ vs) = stamp_of t ∷ v ∷ vs
+abbrev pub with_stamp : ℕ → List Item → List Item
+with_stamp t [] = []
+with_stamp t (v ∷ vs) = stamp_of t ∷ v ∷ vs
 
 -- the values at tick 0, between `$dumpvars` and `$end` (18.2)
 abbrev pub first_items : List SignalContents → List Item
@@ -101,7 +97,7 @@ first_items signals = stamp_of 0 ∷ bracket (codes "$dumpvars") ∷ (all_values
 -- what differs at each of n ticks, from t on
 unfoldable pub tick_items : List SignalContents → ℕ → ℕ → List Item
 tick_items signals t zero = []
-tick_items signals t (suc n) = stamped t (new_values signals t) ++ tick_items signals (suc t) n
+tick_items signals t (suc n) = with_stamp t (new_values signals t) ++ tick_items signals (suc t) n
 
 -- the stamp of the end, where it is above 0 and nothing differs at it
 abbrev pub end_items : List SignalContents → ℕ → List Item
@@ -122,4 +118,4 @@ items_of c =
 
 -- the text of a capture, byte for byte
 unfoldable pub text : Contents → List ℕ
-text c = flat_map line_of (items_of c)
+text c = flat_map item_line (items_of c)

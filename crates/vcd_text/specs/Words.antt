@@ -2,17 +2,13 @@
 use Rattle.vcd_core.specs.Word.{is_white_space}
 use Rattle.std.specs.Prelude.{ℕ, ◌+◌, Bool, true, false, if◌then◌else◌, List, [], ◌∷◌, ◌==◌, count_by}
 
--- white space: tab, line feed, vertical tab, form feed, carriage return and space
-abbrev pub is_space : ℕ → Bool
-is_space b = is_white_space b
-
 -- a word, and the line that it stands on
-pub record Word : Type 0 where
+pub record PlacedWord : Type 0 where
   pub text : List ℕ
   pub line : ℕ
 
-abbrev pub word : List ℕ → ℕ → Word
-word text line = record { text = text; line = line }
+abbrev pub word_on : List ℕ → ℕ → PlacedWord
+word_on text line = record { text = text; line = line }
 
 -- the line behind a byte: a line feed begins another
 abbrev pub line_behind : ℕ → ℕ → ℕ
@@ -21,30 +17,30 @@ line_behind b line = if b == 10 then line + 1 else line
 -- whether a word ends before these bytes: white space follows, or nothing and the end of the text counts as an end
 abbrev pub ends_before : Bool → List ℕ → Bool
 ends_before whole [] = whole
-ends_before whole (b ∷ bs) = is_space b
+ends_before whole (b ∷ bs) = is_white_space b
 
 -- the words with one more byte in front of the first
-abbrev pub lengthened : ℕ → ℕ → List Word → List Word
-lengthened b line [] = []
-lengthened b line (w ∷ ws) = word (b ∷ w.text) line ∷ ws
+abbrev pub with_longer_first : ℕ → ℕ → List PlacedWord → List PlacedWord
+with_longer_first b line [] = []
+with_longer_first b line (w ∷ ws) = word_on (b ∷ w.text) line ∷ ws
 
 -- the words with the byte b before them: white space adds nothing, the last byte of a word is a word, another lengthens the word behind it
-abbrev pub with_byte : (space last : Bool) → ℕ → ℕ → List Word → List Word
+abbrev pub with_byte : (space last : Bool) → ℕ → ℕ → List PlacedWord → List PlacedWord
 with_byte true last b line ws = ws
-with_byte false true b line ws = word (b ∷ []) line ∷ ws
-with_byte false false b line ws = lengthened b line ws
+with_byte false true b line ws = word_on (b ∷ []) line ∷ ws
+with_byte false false b line ws = with_longer_first b line ws
 
 -- the maximal runs of bytes other than white space, the first byte being on this line; only those that white space follows unless the text is whole
-unfoldable pub words_from : Bool → ℕ → List ℕ → List Word
+unfoldable pub words_from : Bool → ℕ → List ℕ → List PlacedWord
 words_from whole line [] = []
-words_from whole line (b ∷ bs) = with_byte (is_space b) (ends_before whole bs) b line (words_from whole (line_behind b line) bs)
+words_from whole line (b ∷ bs) = with_byte (is_white_space b) (ends_before whole bs) b line (words_from whole (line_behind b line) bs)
 
 -- the words of a file, each with its line: 1 plus the line feeds before it
-abbrev pub words_of : List ℕ → List Word
+abbrev pub words_of : List ℕ → List PlacedWord
 words_of bytes = words_from true 1 bytes
 
 -- the words that white space follows: what is sure of a file of which only this front is known
-abbrev pub closed_words : List ℕ → List Word
+abbrev pub closed_words : List ℕ → List PlacedWord
 closed_words bytes = words_from false 1 bytes
 
 -- the line of the end of a file: 1 plus all its line feeds

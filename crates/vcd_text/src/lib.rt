@@ -3,7 +3,7 @@
 #![tactic(auto)]
 
 pub mod fault;
-pub mod file_laws;
+pub mod laws;
 #[cfg(test)]
 mod narrow_sink;
 pub mod output;
@@ -14,5 +14,5 @@ pub mod writing;
 
 pub use fault::{Fault, ReadError, WriteError};
 pub use reading::{Loaded, read};
-pub use words::{Placed, Words};
+pub use words::{PlacedWord, Words};
 pub use writing::write;

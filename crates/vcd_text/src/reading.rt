@@ -1,6 +1,6 @@
 //! Reads a capture file (IEEE 1364-2005, 18.2, in the project's profile).
 //!
-//! The whole file stands in memory. Its words go one after another through a machine, whose every step keeps
+//! The whole file stands in memory. Its words go one after another through a reader, whose every step keeps
 //! to the grammar: the words so far spell items, and what these tell is what the machine holds.
 
 ghost use Rattle.std.specs.Prelude.{◌≡◌, ◌⊎◌, ◌<◌, ◌≤◌, ◌^◌, [], false, length, IfOk, IfErr, IfSome, OnOk};
@@ -10,8 +10,8 @@ ghost use Rattle.vcd_text.specs.Words.{end_line};
 ghost use Rattle.vcd_text.specs.WordsLeft.{words_left};
 ghost use Rattle.vcd_text.specs.Meaning.{FileMeans};
 ghost use Rattle.vcd_text.specs.Faults.{FileFault};
-ghost use Rattle.vcd_text.specs.Refusals.{out_of_memory, IsFrontAnswer, IsRefusal};
-ghost use Rattle.vcd_text.specs.Reading.{Reads, ReadsAll};
+ghost use Rattle.vcd_text.specs.Refusals.{memory_error, IsFrontAnswer, IsRefusal};
+ghost use Rattle.vcd_text.specs.inside.Reading.{Reads, ReadsAll};
 
 mod changes;
 mod copies;
@@ -19,14 +19,14 @@ mod decimal;
 mod declarations;
 mod keywords;
 mod letters;
-mod machine;
+mod reader;
 #[cfg(test)]
 mod tests;
 mod timescale;
 mod variables;
 
 use crate::fault::{Fault, ReadError};
-use crate::reading::machine::Machine;
+use crate::reading::reader::Reader;
 use crate::whole::{Incomplete, read_whole};
 use crate::words::Words;
 use std::alloc::Global;
@@ -74,14 +74,14 @@ fn read_file(alloc: Global, bytes: &[u8]) -> Result<Loaded, ReadError>
     requires within { length bytes.now ≤ FILE_LIMIT }
     ensures means { IfOk result (λ loaded. FileMeans bytes.now (contents loaded.capture) loaded.skipped) }
     ensures sound { IfOk result (λ loaded. IsSound (contents loaded.capture)) }
-    ensures fault { IfErr result (λ e. (e ≡ out_of_memory) ⊎ FileFault bytes.now e.line e.fault) }
+    ensures fault { IfErr result (λ e. (e ≡ memory_error) ⊎ FileFault bytes.now e.line e.fault) }
 {
-    let mut machine = Machine::new(alloc);
-    read_words(&mut machine, alloc, Words::new(bytes))?;
-    if !machine.is_complete() {
+    let mut reader = Reader::new(alloc);
+    read_words(&mut reader, alloc, Words::new(bytes))?;
+    if !reader.is_complete() {
         return Err(error_at_end(bytes, Fault::Truncated));
     }
-    match machine.finish(alloc) {
+    match reader.finish(alloc) {
         Ok(loaded) => Ok(loaded),
         Err(_) => Err(ReadError {
             line: 0,
@@ -93,24 +93,24 @@ fn read_file(alloc: Global, bytes: &[u8]) -> Result<Loaded, ReadError>
 /// What is answered to a file of which only this front is known, for this reason: a fault in it, or the reason.
 fn read_front(alloc: Global, front: &[u8], reason: Fault) -> ReadError
     requires within { length front.now ≤ FILE_LIMIT }
-    ensures { (result ≡ out_of_memory) ⊎ IsFrontAnswer front.now reason result }
+    ensures { (result ≡ memory_error) ⊎ IsFrontAnswer front.now reason result }
 {
-    let mut machine = Machine::new(alloc);
-    match read_words(&mut machine, alloc, Words::closed(front)) {
+    let mut reader = Reader::new(alloc);
+    match read_words(&mut reader, alloc, Words::closed(front)) {
         Ok(()) => error_at_end(front, reason),
         Err(error) => error,
     }
 }
 
 /// Takes words one after another, up to the first that shows a fault.
-fn read_words(machine: &mut Machine, alloc: Global, all: Words) -> Result<(), ReadError>
-    requires first { Reads machine.old [] }
+fn read_words(reader: &mut Reader, alloc: Global, all: Words) -> Result<(), ReadError>
+    requires first { Reads reader.old [] }
     requires few { length (words_left all) < 2 ^ 63 }
-    ensures { ReadsAll (words_left all.entry) result machine.new }
+    ensures { ReadsAll (words_left all.entry) result reader.new }
 {
     let mut words = all;
     while let Some(word) = words.next_word() {
-        machine.step(alloc, word.text, word.line)?;
+        reader.step(alloc, word.text, word.line)?;
     }
     Ok(())
 }

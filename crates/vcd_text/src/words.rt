@@ -2,14 +2,15 @@
 
 ghost use Rattle.std.specs.Prelude.{◌≡◌, ◌+◌, ◌<◌, ◌≤◌, ◌^◌, ◌∷◌, [], Bool, true, false, not, length, take, drop, MatchOption, IfSome, IfNone};
 ghost use Rattle.std.specs.List.{list_all};
-ghost use Rattle.vcd_text.specs.Words.{is_space, ends_before as ends_word, word, words_from, words_of, closed_words};
-ghost use Rattle.vcd_text.specs.Spaces.{begins_with_space};
+ghost use Rattle.vcd_core.specs.Word.{is_white_space as white};
+ghost use Rattle.vcd_text.specs.Words.{ends_before as ends_word, word_on, words_from, words_of, closed_words};
+ghost use Rattle.vcd_text.specs.inside.Spaces.{begins_with_space};
 
 use vcd_core::is_white_space;
 
 /// A word and the line that it stands on, counted from 1.
 #[derive(Clone, Copy)]
-pub struct Placed<'a> {
+pub struct PlacedWord<'a> {
     pub text: &'a [u8],
     pub line: u64,
 }
@@ -55,8 +56,8 @@ impl<'a> Words<'a> {
     }
 
     /// The next word, if there is one.
-    pub fn next_word(&mut self) -> Option<Placed<'a>>
-        ensures words { MatchOption result (words_left self.old ≡ []) (λ w. words_left self.old ≡ word w.text.now w.line ∷ words_left self.new) }
+    pub fn next_word(&mut self) -> Option<PlacedWord<'a>>
+        ensures words { MatchOption result (words_left self.old ≡ []) (λ w. words_left self.old ≡ word_on w.text.now w.line ∷ words_left self.new) }
         ensures some { IfSome result (λ w. 0 < length w.text.now) }
         ensures over { IfNone result (words_left self.new ≡ []) }
     {
@@ -70,7 +71,7 @@ impl<'a> Words<'a> {
         if !ends_before(self.whole, behind) {
             return None;
         }
-        Some(Placed {
+        Some(PlacedWord {
             text,
             line: passed + 1,
         })
@@ -81,13 +82,13 @@ impl<'a> Iterator for Words<'a> {
     ghost use Rattle.std.specs.Iterator.{YieldsFirstBy, item_count};
     ghost use Rattle.vcd_text.specs.WordsLeft.{word_at, words_left};
 
-    type Item = Placed<'a>;
+    type Item = PlacedWord<'a>;
 
     ghost next_gives = { YieldsFirstBy word_at words_left };
 
     ghost remaining = { item_count words_left };
 
-    fn next(&mut self) -> Option<Placed<'a>> {
+    fn next(&mut self) -> Option<PlacedWord<'a>> {
         self.next_word()
     }
 }
@@ -116,7 +117,7 @@ fn behind_space(text: &[u8], passed: u64) -> (&[u8], u64)
 /// How many bytes come before the first white space.
 fn word_len(text: &[u8]) -> usize
     ensures within { result ≤ length text.now }
-    ensures black { list_all (λ b. not (is_space b)) (take result text.now) ≡ true }
+    ensures black { list_all (λ b. not (white b)) (take result text.now) ≡ true }
     ensures ends { ends_word true (drop result text.now) ≡ true }
 {
     for (i, byte) in text.iter().enumerate() {

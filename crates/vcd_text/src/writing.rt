@@ -10,14 +10,14 @@ ghost use Rattle.vcd_text.specs.WriteEnds.{TookBefore};
 mod codes;
 mod declarations;
 mod lines;
-pub mod moves;
+pub mod transitions;
 mod values;
 
 use crate::fault::WriteError;
 use crate::output::write_and_flush;
 use declarations::{append_header, append_signals, append_timescale};
-use moves::{append_first_values, append_moves, sorted_moves};
 use std::alloc::Global;
+use transitions::{append_first_values, append_transitions, sorted_transitions};
 use vcd_core::{Capture, NoMemory, Sink};
 
 /// Writes the text of a capture, and flushes the writer once behind its last byte. The text is made whole
@@ -53,14 +53,20 @@ pub fn text_of(alloc: Global, capture: &Capture) -> Result<Vec<u8>, NoMemory>
     ensures { IfOk result (λ bytes. bytes.items ≡ text (contents capture.now)) }
 {
     let signals = capture.signals();
-    let moves = sorted_moves(alloc, signals)?;
+    let transitions = sorted_transitions(alloc, signals)?;
     let mut out = Vec::new(alloc);
     append_header(&mut out, capture.header())?;
     append_timescale(&mut out, capture.timescale())?;
     append_signals(&mut out, signals)?;
     out.extend_from_slice(b"$enddefinitions $end\n")?;
     append_first_values(&mut out, signals)?;
-    append_moves(alloc, &mut out, signals, moves.as_slice(), capture.end())?;
+    append_transitions(
+        alloc,
+        &mut out,
+        signals,
+        transitions.as_slice(),
+        capture.end(),
+    )?;
     Ok(out)
 }
 

@@ -20,16 +20,16 @@ use Rattle.vcdedit.specs.declared.line_error.LineError.TheVariants.{NoSuchName}
 use Rattle.vcdedit.specs.RefusalNames.{edit_error_name, step_error_name, line_error_name}
 use Rattle.vcdedit.specs.Allowed.{fault, MayRefuse}
 use Rattle.vcdedit.specs.Machine.{Outcome}
-use Rattle.vcdedit.specs.History.{History, with_future, rewritten}
-use Rattle.vcdedit.specs.Lent.{lent, unplaced_step}
-use Rattle.vcdedit.specs.Script.{command_of, command_of_words, rename_command, undo_command, is_comment, line_words, asks, ◌>>=◌}
-use Rattle.vcdedit.specs.Reply.{Said, accepted, said, said_to_step, said_to_edit, said_to_command}
+use Rattle.vcdedit.specs.inside.History.{History, with_future, history_after_edit}
+use Rattle.vcdedit.specs.Lent.{lent_bytes, step_without_address}
+use Rattle.vcdedit.specs.Script.{command_of, command_of_words, rename_command, undo_command, is_comment, line_words, step_command, ◌>>=◌}
+use Rattle.vcdedit.specs.Reply.{LineReply, ok_reply, line_reply, step_reply, edit_reply, command_reply}
 use Rattle.vcdedit.specs.Run.{after_line, after_command}
-use Rattle.vcdedit.specs.Answering.{IsNoRedo, AnswersStep, AnswersLine}
+use Rattle.vcdedit.specs.inside.Answering.{IsNoRedo, AnswersStep, AnswersLine}
 use Rattle.vcdedit.proofs.Steps.{step_unplaced, fault_unplaced}
 
 -- an accepted edit
-pub edit_accepted : (e : Edit) (old new : History) → fault e old.now ≡ None → new ≡ rewritten e old → AnswersStep (steps.Edit e) old new accepted
+pub edit_accepted : (e : Edit) (old new : History) → fault e old.now ≡ None → new ≡ history_after_edit e old → AnswersStep (steps.Edit e) old new ok_reply
 edit_accepted e old new none is = λ future. ([], rw (none, is) refl, rw none refl)
 
 -- a refused edit
@@ -38,7 +38,7 @@ edit_refused e found old new (inl here) memory is = λ future. (future, rw (here
 edit_refused e found old new (inr starved) memory is = absurd (memory starved.1)
 
 -- an accepted undo
-pub undo_accepted : (old new : History) → old.past ≡ new.now ∷ new.past → new.depth ≡ old.depth → AnswersStep steps.Undo old new accepted
+pub undo_accepted : (old new : History) → old.past ≡ new.now ∷ new.past → new.depth ≡ old.depth → AnswersStep steps.Undo old new ok_reply
 undo_accepted old new back depth = λ future. (
   old.now ∷ future,
   rw back (ap (λ (d : ℕ). record { past = new.past; now = new.now; future = old.now ∷ future; depth = d }) (sym depth)),
@@ -50,29 +50,29 @@ pub undo_refused : (old new : History) → old.past ≡ [] → new ≡ old → A
 undo_refused old new none is = λ future. (future, rw (is, none) refl, rw none refl)
 
 -- the address of a word counts not for what is said
-pub said_unplaced : (s : Step) (c : Contents) (undoable redoable : ℕ) → said_to_step (unplaced_step s) c undoable redoable ≡ said_to_step s c undoable redoable
-said_unplaced (steps.Edit e) c undoable redoable = ap said_to_edit (fault_unplaced e c)
+pub said_unplaced : (s : Step) (c : Contents) (undoable redoable : ℕ) → step_reply (step_without_address s) c undoable redoable ≡ step_reply s c undoable redoable
+said_unplaced (steps.Edit e) c undoable redoable = ap edit_reply (fault_unplaced e c)
 said_unplaced steps.Undo c undoable redoable = refl
 said_unplaced steps.Redo c undoable redoable = refl
 
 -- a line that asks for a step
-pub line_steps : (line : List ℕ) (s : Step) (old new : History) (reply : Said) → command_of old.now line ≡ Ok (commands.Step (unplaced_step s)) → AnswersStep s old new reply → AnswersLine line old new reply
-unfolding after_line said
+pub line_steps : (line : List ℕ) (s : Step) (old new : History) (reply : LineReply) → command_of old.now line ≡ Ok (commands.Step (step_without_address s)) → AnswersStep s old new reply → AnswersLine line old new reply
+unfolding after_line line_reply
 line_steps line s old new reply read answers = λ skipped future.
     let there = answers future in (
       there.0,
       ap (after_command (with_future future old)) read ∙ ap (λ (o : Outcome). o.after) (step_unplaced (with_future future old) s) ∙ there.1,
-      ap (λ (r : Result Command LineError). said_to_command r old.now skipped (length old.past) (length future)) read ∙ said_unplaced s old.now (length old.past) (length future) ∙ there.2,
+      ap (λ (r : Result Command LineError). command_reply r old.now skipped (length old.past) (length future)) read ∙ said_unplaced s old.now (length old.past) (length future) ∙ there.2,
     )
 
 -- a line that asks for nothing
 pub line_nothing : (line : List ℕ) (old new : History) → command_of old.now line ≡ Ok commands.Nothing → new ≡ old → AnswersLine line old new (Ok [])
-unfolding after_line said
+unfolding after_line line_reply
 line_nothing line old new read is = λ skipped future. (future, rw (read, is) refl, rw read refl)
 
 -- a line that is no command
 pub line_refused : (line : List ℕ) (found : LineError) (old new : History) → command_of old.now line ≡ Err found → new ≡ old → AnswersLine line old new (Err (line_error_name found))
-unfolding after_line said
+unfolding after_line line_reply
 line_refused line found old new read is = λ skipped future. (future, rw (read, is) refl, rw read refl)
 
 -- whether a redo is asked for
@@ -83,7 +83,7 @@ asks_redo (Ok (commands.Step (steps.Edit e))) = false
 asks_redo (Ok commands.Nothing) = false
 asks_redo (Err found) = false
 
-found_asks_no_redo : (found : Option ℕ) (word : List ℕ) → asks_redo (ok_or found NoSuchName >>= (λ k. asks (steps.Edit (Rename k (lent word))))) ≡ false
+found_asks_no_redo : (found : Option ℕ) (word : List ℕ) → asks_redo (ok_or found NoSuchName >>= (λ k. step_command (steps.Edit (Rename k (lent_bytes word))))) ≡ false
 found_asks_no_redo None word = refl
 found_asks_no_redo (Some k) word = refl
 
@@ -110,7 +110,7 @@ words_ask_no_redo c (first ∷ arguments) =
     (either_asks_no_redo (bytes_eq first (codes "rename")) _ _ (rename_asks_no_redo c arguments)
     (either_asks_no_redo (bytes_eq first (codes "undo")) _ _ (undo_asks_no_redo arguments) refl))
 
-pub no_redo : (c : Contents) (line : List ℕ) (s : Step) → command_of c line ≡ Ok (commands.Step (unplaced_step s)) → IsNoRedo s
+pub no_redo : (c : Contents) (line : List ℕ) (s : Step) → command_of c line ≡ Ok (commands.Step (step_without_address s)) → IsNoRedo s
 unfolding command_of
 no_redo c line (steps.Edit e) read = tt
 no_redo c line steps.Undo read = tt

@@ -13,14 +13,14 @@ use Rattle.vcdedit.specs.declared.step.Answer.{Answer}
 use Rattle.vcdedit.specs.declared.step.Answer.TheVariants.{Done, Refused}
 use Rattle.vcdedit.specs.Effect.{effect}
 use Rattle.vcdedit.specs.Allowed.{fault}
-use Rattle.vcdedit.specs.Machine.{Machine, fresh, step_of, done, refused}
-use Rattle.vcdedit.specs.InForce.{in_force_after, counted_all, replay}
-use Rattle.vcdedit.specs.Lent.{lent}
+use Rattle.vcdedit.specs.Machine.{Machine, first_machine, step_of, accepted_outcome, refused_outcome}
+use Rattle.vcdedit.specs.InForce.{in_force_after, tally_after_all, replay}
+use Rattle.vcdedit.specs.Lent.{lent_bytes}
 use Rattle.vcd_text.proofs.CasesOfText.{one_scalar, capture, wire, top, from}
 
 -- the first signal gets another name
 abbrev pub rename : List ℕ → Edit
-rename word = Rename 0 (lent word)
+rename word = Rename 0 (lent_bytes word)
 
 rename_to_b : effect (rename (codes "b")) (one_scalar (codes "a")) ≡ one_scalar (codes "b")
 unfolding effect
@@ -31,7 +31,7 @@ abbrev pub two_signals : Contents
 two_signals = capture 9 (wire (top ∷ []) (codes "a") 1 (from 0 (codes "0") ∷ []) ∷ wire (top ∷ []) (codes "v") 4 (from 0 (codes "0000") ∷ []) ∷ [])
 
 -- a position that is none, words that are none, the name of another signal; the own name is free
-faults_of_rename : (fault (Rename 2 (lent (codes ""))) two_signals ≡ Some errors.NoSuchSignal)
+faults_of_rename : (fault (Rename 2 (lent_bytes (codes ""))) two_signals ≡ Some errors.NoSuchSignal)
     × (fault (rename (codes "")) two_signals ≡ Some errors.BadWord)
     × (fault (rename (codes "a b")) two_signals ≡ Some errors.BadWord)
     × (fault (rename (codes "$end")) two_signals ≡ Some errors.BadWord)
@@ -67,21 +67,21 @@ machine past now future = record { past = past; now = now; future = future; dept
 
 -- the third edit drops the oldest capture, so that only two can be undone
 history_of_two :
-    (step_of (fresh a 2) (steps.Edit (rename (codes "b"))) ≡ done (machine (a ∷ []) b []))
-    × (step_of (machine (a ∷ []) b []) (steps.Edit (rename (codes "c"))) ≡ done (machine (b ∷ a ∷ []) c []))
-    × (step_of (machine (b ∷ a ∷ []) c []) (steps.Edit (rename (codes "d"))) ≡ done (machine (c ∷ b ∷ []) d []))
-    × (step_of (machine (c ∷ b ∷ []) d []) steps.Undo ≡ done (machine (b ∷ []) c (d ∷ [])))
-    × (step_of (machine (b ∷ []) c (d ∷ [])) steps.Undo ≡ done (machine [] b (c ∷ d ∷ [])))
-    × (step_of (machine [] b (c ∷ d ∷ [])) steps.Undo ≡ refused refusals.NothingToUndo (machine [] b (c ∷ d ∷ [])))
+    (step_of (first_machine a 2) (steps.Edit (rename (codes "b"))) ≡ accepted_outcome (machine (a ∷ []) b []))
+    × (step_of (machine (a ∷ []) b []) (steps.Edit (rename (codes "c"))) ≡ accepted_outcome (machine (b ∷ a ∷ []) c []))
+    × (step_of (machine (b ∷ a ∷ []) c []) (steps.Edit (rename (codes "d"))) ≡ accepted_outcome (machine (c ∷ b ∷ []) d []))
+    × (step_of (machine (c ∷ b ∷ []) d []) steps.Undo ≡ accepted_outcome (machine (b ∷ []) c (d ∷ [])))
+    × (step_of (machine (b ∷ []) c (d ∷ [])) steps.Undo ≡ accepted_outcome (machine [] b (c ∷ d ∷ [])))
+    × (step_of (machine [] b (c ∷ d ∷ [])) steps.Undo ≡ refused_outcome refusals.NothingToUndo (machine [] b (c ∷ d ∷ [])))
 unfolding effect fault full_name
 history_of_two = (refl, refl, refl, refl, refl, refl)
 
 -- redo goes the other way; an accepted edit leaves none to redo, a refused one changes nothing
 redo_and_edit :
-    (step_of (machine [] b (c ∷ d ∷ [])) steps.Redo ≡ done (machine (b ∷ []) c (d ∷ [])))
-    × (step_of (machine (b ∷ []) c (d ∷ [])) (steps.Edit (rename (codes ""))) ≡ refused (refusals.Edit errors.BadWord) (machine (b ∷ []) c (d ∷ [])))
-    × (step_of (machine (b ∷ []) c (d ∷ [])) (steps.Edit (rename (codes "a"))) ≡ done (machine (c ∷ b ∷ []) a []))
-    × (step_of (machine (c ∷ b ∷ []) a []) steps.Redo ≡ refused refusals.NothingToRedo (machine (c ∷ b ∷ []) a []))
+    (step_of (machine [] b (c ∷ d ∷ [])) steps.Redo ≡ accepted_outcome (machine (b ∷ []) c (d ∷ [])))
+    × (step_of (machine (b ∷ []) c (d ∷ [])) (steps.Edit (rename (codes ""))) ≡ refused_outcome (refusals.Edit errors.BadWord) (machine (b ∷ []) c (d ∷ [])))
+    × (step_of (machine (b ∷ []) c (d ∷ [])) (steps.Edit (rename (codes "a"))) ≡ accepted_outcome (machine (c ∷ b ∷ []) a []))
+    × (step_of (machine (c ∷ b ∷ []) a []) steps.Redo ≡ refused_outcome refusals.NothingToRedo (machine (c ∷ b ∷ []) a []))
 unfolding effect fault full_name
 redo_and_edit = (refl, refl, refl, refl)
 
@@ -94,5 +94,5 @@ their_answers = Done ∷ Done ∷ Done ∷ Done ∷ Done ∷ Refused refusals.No
 
 -- the rename whose capture the history has dropped stays in force
 still_in_force : (in_force_after three_renames their_answers ≡ rename (codes "b") ∷ []) × (replay a (in_force_after three_renames their_answers) ≡ b)
-unfolding counted_all replay effect
+unfolding tally_after_all replay effect
 still_in_force = (refl, refl)

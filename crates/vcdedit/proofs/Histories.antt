@@ -1,24 +1,24 @@
 -- The records of a session and the captures that they lead back to.
 use Rattle.std.proofs.Common.{◌≡◌, ◌<◌, IsTrue, ℕ, zero, suc, List, [], ◌∷◌, length, take, drop, refl, sym, ◌∙◌, ap, Some}
 use Rattle.std.specs.Prelude.{slice_get}
-use Rattle.vcd_core.specs.Contents.{Contents}
+use Rattle.vcd_core.specs.Contents.{Contents, signal_at, with_signal}
 use Rattle.vcd_core.specs.Word.{is_word}
 use Rattle.vcdedit.specs.declared.record.Record.{Record}
-use Rattle.vcdedit.specs.History.{put_back, unwound, AllFit, rewritten}
-use Rattle.vcdedit.specs.Effect.{signal_at, with_signal, renamed, effect}
+use Rattle.vcdedit.specs.inside.History.{capture_before, captures_behind, AllFit, history_after_edit}
+use Rattle.vcdedit.specs.Effect.{renamed_signal, effect}
 use Rattle.vcdedit.specs.declared.edit.Edit.TheVariants.{Rename}
 use Rattle.std.specs.Borrow.{Bor}
 
 -- a capture for each record
-pub length_unwound : (c : Contents) (rs : List Record) → length (unwound c rs) ≡ length rs
+pub length_unwound : (c : Contents) (rs : List Record) → length (captures_behind c rs) ≡ length rs
 length_unwound c [] = refl
-length_unwound c (r ∷ rs) = ap suc (length_unwound (put_back r c) rs)
+length_unwound c (r ∷ rs) = ap suc (length_unwound (capture_before r c) rs)
 
 -- the newest records lead back to the nearest captures
-pub unwound_take : (c : Contents) (n : ℕ) (rs : List Record) → unwound c (take n rs) ≡ take n (unwound c rs)
+pub unwound_take : (c : Contents) (n : ℕ) (rs : List Record) → captures_behind c (take n rs) ≡ take n (captures_behind c rs)
 unwound_take c zero rs = refl
 unwound_take c (suc n) [] = refl
-unwound_take c (suc n) (r ∷ rs) = ap (λ (cs : List Contents). put_back r c ∷ cs) (unwound_take (put_back r c) n rs)
+unwound_take c (suc n) (r ∷ rs) = ap (λ (cs : List Contents). capture_before r c ∷ cs) (unwound_take (capture_before r c) n rs)
 
 -- the newest of records that fit do so too
 pub AllFit_take : (count n : ℕ) (rs : List Record) → AllFit count rs → AllFit count (take n rs)
@@ -27,8 +27,8 @@ AllFit_take count (suc n) [] fit = tt
 AllFit_take count (suc n) (r ∷ rs) fit = (fit.0, fit.1, AllFit_take count n rs fit.2)
 
 -- a rename adds the capture before it to the past
-pub past_after_rename : (before after : Contents) (r : Record) (rs : List Record) (n : ℕ) → before ≡ put_back r after → unwound after (take n (r ∷ rs)) ≡ take n (before ∷ unwound before rs)
-past_after_rename before after r rs n back = unwound_take after n (r ∷ rs) ∙ ap (λ (c : Contents). take n (c ∷ unwound c rs)) (sym back)
+pub past_after_rename : (before after : Contents) (r : Record) (rs : List Record) (n : ℕ) → before ≡ capture_before r after → captures_behind after (take n (r ∷ rs)) ≡ take n (before ∷ captures_behind before rs)
+past_after_rename before after r rs n back = unwound_take after n (r ∷ rs) ∙ ap (λ (c : Contents). take n (c ∷ captures_behind c rs)) (sym back)
 
 -- and its record fits
 pub fit_after_rename : (count n k : ℕ) (word : List ℕ) (rs : List Record) → k < count → IsTrue (is_word word) → AllFit count rs → AllFit count (take n (record { signal = k; word = word } ∷ rs))
@@ -36,12 +36,12 @@ fit_after_rename count n k word rs within is fit = AllFit_take count n (record {
 
 -- the history after a rename
 pub history_after_rename : (before after : Contents) (k : ℕ) (word : Bor (List ℕ)) (replaced : List ℕ) (rs : List Record) (n : ℕ) →
-    after ≡ with_signal before k (renamed word.now (signal_at before k)) → before ≡ put_back (record { signal = k; word = replaced }) after →
-    record { past = unwound after (take n (record { signal = k; word = replaced } ∷ rs)); now = after; depth = n } ≡ rewritten (Rename k word) (record { past = unwound before rs; now = before; depth = n })
+    after ≡ with_signal before k (renamed_signal word.now (signal_at before k)) → before ≡ capture_before (record { signal = k; word = replaced }) after →
+    record { past = captures_behind after (take n (record { signal = k; word = replaced } ∷ rs)); now = after; depth = n } ≡ history_after_edit (Rename k word) (record { past = captures_behind before rs; now = before; depth = n })
 unfolding effect
 history_after_rename before after k word replaced rs n forth back =
     ap (λ (cs : List Contents). record { past = cs; now = after; depth = n }) (past_after_rename before after (record { signal = k; word = replaced }) rs n back)
-    ∙ ap (λ (c : Contents). record { past = take n (before ∷ unwound before rs); now = c; depth = n }) forth
+    ∙ ap (λ (c : Contents). record { past = take n (before ∷ captures_behind before rs); now = c; depth = n }) forth
 
 -- the first of the records
 pub first_record : (rs : List Record) (r : Record) → Some r ≡ slice_get rs 0 → rs ≡ r ∷ drop 1 rs

@@ -6,12 +6,12 @@ use Rattle.std.specs.Io.KnownBytes.{Appends, Keeps}
 use Rattle.std.proofs.KnownBytes.{Appends-trans}
 use Rattle.vcd_core.specs.Contents.{Contents}
 use Rattle.vcdedit.specs.Machine.{Machine}
-use Rattle.vcdedit.specs.History.{History, with_future}
-use Rattle.vcdedit.specs.Reply.{Said, said, reply_text}
-use Rattle.vcdedit.specs.Answering.{AnswersLine}
+use Rattle.vcdedit.specs.inside.History.{History, with_future}
+use Rattle.vcdedit.specs.Reply.{LineReply, line_reply, reply_text}
+use Rattle.vcdedit.specs.inside.Answering.{AnswersLine}
 use Rattle.vcdedit.specs.Run.{after_lines, replies, refusals}
 use Rattle.vcdedit.specs.Script.{script_lines}
-use Rattle.vcdedit.specs.RunLines.{TellsLine, RunsLines}
+use Rattle.vcdedit.specs.inside.RunLines.{TellsLine, RunsLines}
 
 -- of all lines, after so many, these are left on this history; the replies so far are told, and so many lines refused
 pub record AreLeft (skipped : ℕ) (lines : List (List ℕ)) (old : History) (number : ℕ) (left : List (List ℕ)) (now : History) (told : List ℕ) (count : ℕ) : Type 0 where
@@ -30,7 +30,7 @@ pub all_left : (skipped : ℕ) (lines : List (List ℕ)) (old : History) → Are
 all_left skipped lines old = record { future = []; after = refl; replies = refl; refused = omega arith }
 
 -- a line more
-pub line_more : (skipped : ℕ) (lines : List (List ℕ)) (old : History) (number : ℕ) (line : List ℕ) (left : List (List ℕ)) (now new : History) (told : List ℕ) (refused : ℕ) (reply : Said) →
+pub line_more : (skipped : ℕ) (lines : List (List ℕ)) (old : History) (number : ℕ) (line : List ℕ) (left : List (List ℕ)) (now new : History) (told : List ℕ) (refused : ℕ) (reply : LineReply) →
     AreLeft skipped lines old number (line ∷ left) now told refused → AnswersLine line now new reply →
     AreLeft skipped lines old (number + 1) left new (told ++ reply_text (number + 1) reply) (refused + cond (is_err reply) 1 0)
 unfolding after_lines replies refusals
@@ -40,12 +40,12 @@ line_more skipped lines old number line left now new told refused reply so answe
       future = there.0;
       after = so.after ∙ ap (λ (m : Machine). after_lines m left) there.1;
       replies = so.replies
-          ∙ ap (λ (m : Machine). told ++ (reply_text (number + 1) (said line now.now skipped (length now.past) (length so.future)) ++ replies skipped (number + 1 + 1) m left)) there.1
-          ∙ ap (λ (s : Said). told ++ (reply_text (number + 1) s ++ replies skipped (number + 1 + 1) (with_future there.0 new) left)) there.2
+          ∙ ap (λ (m : Machine). told ++ (reply_text (number + 1) (line_reply line now.now skipped (length now.past) (length so.future)) ++ replies skipped (number + 1 + 1) m left)) there.1
+          ∙ ap (λ (s : LineReply). told ++ (reply_text (number + 1) s ++ replies skipped (number + 1 + 1) (with_future there.0 new) left)) there.2
           ∙ sym (append_assoc told (reply_text (number + 1) reply) (replies skipped (number + 1 + 1) (with_future there.0 new) left));
       refused = so.refused
-          ∙ ap (λ (m : Machine). refused + (cond (is_err (said line now.now skipped (length now.past) (length so.future))) 1 0 + refusals skipped m left)) there.1
-          ∙ ap (λ (s : Said). refused + (cond (is_err s) 1 0 + refusals skipped (with_future there.0 new) left)) there.2
+          ∙ ap (λ (m : Machine). refused + (cond (is_err (line_reply line now.now skipped (length now.past) (length so.future))) 1 0 + refusals skipped m left)) there.1
+          ∙ ap (λ (s : LineReply). refused + (cond (is_err s) 1 0 + refusals skipped (with_future there.0 new) left)) there.2
           ∙ sym (add_assoc refused (cond (is_err reply) 1 0) (refusals skipped (with_future there.0 new) left));
     }
 

@@ -9,13 +9,13 @@ use Rattle.std.proofs.lemmas.List.Elements.{All-set, All-get_or}
 use Rattle.vcd_core.specs.declared.capture.ScopeName.{ScopeName}
 use Rattle.vcd_core.specs.declared.capture.Signal.{Signal}
 use Rattle.vcd_core.specs.declared.capture.Capture.{Capture}
-use Rattle.vcd_core.specs.Contents.{Contents, SignalContents, contents, signal_contents}
+use Rattle.vcd_core.specs.Contents.{Contents, SignalContents, contents, signal_contents, no_signal, signal_at, with_signal}
 use Rattle.vcd_core.specs.Names.{full_name, full_names}
-use Rattle.vcd_core.specs.NameParts.{scopes_front}
+use Rattle.vcd_core.specs.inside.NameParts.{scopes_front}
 use Rattle.vcd_core.specs.Word.{is_word}
 use Rattle.vcd_core.specs.Sound.{IsSound, IsSoundSignal}
 use Rattle.vcd_core.proofs.NameWalks.{full_name_parts}
-use Rattle.vcdedit.specs.Effect.{no_signal, signal_at, with_signal, renamed}
+use Rattle.vcdedit.specs.Effect.{renamed_signal}
 
 -- the names of the scopes, each with a `.` behind it, and the words are the full name
 pub name_parts : (s : SignalContents) (scopes : List ScopeName) (first : List ℕ) (words : List (List ℕ)) (bytes : List ℕ) →
@@ -24,8 +24,8 @@ name_parts s scopes first words bytes e f g h = h ∙ rw (e, f, g) (sym (full_na
 
 -- the same with another first word
 pub renamed_parts : (s : SignalContents) (word : List ℕ) (scopes : List ScopeName) (others : List (List ℕ)) (bytes : List ℕ) →
-    scopes ≡ s.scopes → others ≡ drop 1 s.words → bytes ≡ scopes_front scopes ++ (word ++ concat others) → bytes ≡ full_name (renamed word s)
-renamed_parts s word scopes others bytes e f h = h ∙ rw (e, f) (sym (full_name_parts (renamed word s)))
+    scopes ≡ s.scopes → others ≡ drop 1 s.words → bytes ≡ scopes_front scopes ++ (word ++ concat others) → bytes ≡ full_name (renamed_signal word s)
+renamed_parts s word scopes others bytes e f h = h ∙ rw (e, f) (sym (full_name_parts (renamed_signal word s)))
 
 -- a test of what signals hold
 pub list_any_map : {X Y : Type 0} (f : X → Y) (p : Y → Bool) (xs : List X) → list_any p (map f xs) ≡ list_any (λ x. p (f x)) xs
@@ -46,8 +46,8 @@ pub contents_at : (signals : List Signal) (k : ℕ) (s : Signal) → k < length 
 contents_at signals k s within is = get_or-map signal_contents signals k s no_signal within ∙ ap signal_contents (sym is)
 
 -- whether the name that a rename gives stands before the signal or behind it
-pub name_taken : (signals : List Signal) (k : ℕ) (s : Signal) (word name : List ℕ) → k < length signals → s ≡ get_or signals k s → name ≡ full_name (renamed word (signal_contents s)) →
-    list_any (bytes_eq (full_name (renamed word (slice_index_or (map signal_contents signals) k no_signal)))) (full_names (remove (map signal_contents signals) k))
+pub name_taken : (signals : List Signal) (k : ℕ) (s : Signal) (word name : List ℕ) → k < length signals → s ≡ get_or signals k s → name ≡ full_name (renamed_signal word (signal_contents s)) →
+    list_any (bytes_eq (full_name (renamed_signal word (slice_index_or (map signal_contents signals) k no_signal)))) (full_names (remove (map signal_contents signals) k))
     ≡ (list_any (λ t. bytes_eq name (full_name (signal_contents t))) (take k signals) || list_any (λ t. bytes_eq name (full_name (signal_contents t))) (drop (suc k) signals))
 name_taken signals k s word name within is given = rw (contents_at signals k s within is, ← given) (has_other name signals k)
 
@@ -67,25 +67,25 @@ behind k signals = rw add-one (take_all (length signals - suc k) (drop (suc k) s
 -- a word written into a signal in its place
 pub word_written : (signals : List Signal) (k : ℕ) (s : Signal) (word : List ℕ) (words : List (List ℕ)) → k < length signals → s ≡ get_or signals k s → words ≡ word ∷ drop 1 s.words →
     map signal_contents (slice_set signals k (record { scopes = s.scopes; kind = s.kind; words = words; wave = s.wave }))
-    ≡ slice_set (map signal_contents signals) k (renamed word (slice_index_or (map signal_contents signals) k no_signal))
+    ≡ slice_set (map signal_contents signals) k (renamed_signal word (slice_index_or (map signal_contents signals) k no_signal))
 word_written signals k s word words within is written =
     map-set signal_contents signals k (record { scopes = s.scopes; kind = s.kind; words = words; wave = s.wave })
     ∙ rw (contents_at signals k s within is, written) refl
 
 -- the first word put back
-pub first_put_back : (s : SignalContents) (word first : List ℕ) → s.words ≡ first ∷ drop 1 s.words → renamed first (renamed word s) ≡ s
+pub first_put_back : (s : SignalContents) (word first : List ℕ) → s.words ≡ first ∷ drop 1 s.words → renamed_signal first (renamed_signal word s) ≡ s
 first_put_back s word first begins = ap (λ (ws : List (List ℕ)). record { scopes = s.scopes; kind = s.kind; words = ws; width = s.width; changes = s.changes }) (sym begins)
 
 -- a word put in the place of the first, and the first one put back
 pub put_in_turn : (c : Contents) (k : ℕ) (word first : List ℕ) → k < length c.signals → (signal_at c k).words ≡ first ∷ drop 1 (signal_at c k).words →
-    c ≡ with_signal (with_signal c k (renamed word (signal_at c k))) k (renamed first (signal_at (with_signal c k (renamed word (signal_at c k))) k))
+    c ≡ with_signal (with_signal c k (renamed_signal word (signal_at c k))) k (renamed_signal first (signal_at (with_signal c k (renamed_signal word (signal_at c k))) k))
 put_in_turn c k word first within begins =
     let old : SignalContents = signal_at c k in
-    let new : SignalContents = renamed word old in
+    let new : SignalContents = renamed_signal word old in
     let at : get_or (slice_set c.signals k new) k no_signal ≡ new = get_or-set_same c.signals k new no_signal within in
-    let signals : slice_set (slice_set c.signals k new) k (renamed first (get_or (slice_set c.signals k new) k no_signal)) ≡ c.signals =
-    ap (λ (s : SignalContents). slice_set (slice_set c.signals k new) k (renamed first s)) at
-    ∙ set-set c.signals k new (renamed first new)
+    let signals : slice_set (slice_set c.signals k new) k (renamed_signal first (get_or (slice_set c.signals k new) k no_signal)) ≡ c.signals =
+    ap (λ (s : SignalContents). slice_set (slice_set c.signals k new) k (renamed_signal first s)) at
+    ∙ set-set c.signals k new (renamed_signal first new)
     ∙ ap (slice_set c.signals k) (first_put_back old word first begins)
     ∙ set-get_or c.signals k no_signal in
     sym (ap (λ (ss : List SignalContents). record { header = c.header; timescale = c.timescale; end = c.end; signals = ss }) signals)
@@ -115,7 +115,7 @@ others_are_words [] all = refl
 others_are_words (w ∷ ws) all = others_words w ws all
 
 -- a signal with another word is sound
-pub renamed_sound : (end : ℕ) (s : SignalContents) (word : List ℕ) → IsSoundSignal end s → IsTrue (is_word word) → IsSoundSignal end (renamed word s)
+pub renamed_sound : (end : ℕ) (s : SignalContents) (word : List ℕ) → IsSoundSignal end s → IsTrue (is_word word) → IsSoundSignal end (renamed_signal word s)
 renamed_sound end s word sound is = record {
   scopes = sound.scopes;
   kind = sound.kind;
@@ -129,13 +129,13 @@ renamed_sound end s word sound is = record {
 }
 
 -- a capture with another word is sound
-pub rename_sound : (c : Contents) (k : ℕ) (word : List ℕ) → k < length c.signals → IsSound c → IsTrue (is_word word) → IsSound (with_signal c k (renamed word (signal_at c k)))
+pub rename_sound : (c : Contents) (k : ℕ) (word : List ℕ) → k < length c.signals → IsSound c → IsTrue (is_word word) → IsSound (with_signal c k (renamed_signal word (signal_at c k)))
 rename_sound c k word within sound is = record {
   header = sound.header;
   timescale = sound.timescale;
   end = sound.end;
-  few = rw (length-set c.signals k (renamed word (signal_at c k))) (sound.few);
-  signals = All-set (IsSoundSignal c.end) c.signals k (renamed word (signal_at c k))
+  few = rw (length-set c.signals k (renamed_signal word (signal_at c k))) (sound.few);
+  signals = All-set (IsSoundSignal c.end) c.signals k (renamed_signal word (signal_at c k))
       (renamed_sound c.end (signal_at c k) word (All-get_or (IsSoundSignal c.end) c.signals k no_signal within sound.signals) is) sound.signals;
 }
 

@@ -8,8 +8,8 @@ use Rattle.vcdedit.specs.declared.step.StepError.TheVariants as refusals
 use Rattle.vcdedit.specs.declared.step.Answer.{Answer}
 use Rattle.vcdedit.specs.declared.step.Answer.TheVariants.{Done, Refused}
 use Rattle.vcdedit.specs.Effect.{effect}
-use Rattle.vcdedit.specs.Machine.{Machine, fresh, edited, IsStep, IsRun}
-use Rattle.vcdedit.specs.InForce.{Tally, counted, counted_all, replay, IsReplay, SessionIsReplay}
+use Rattle.vcdedit.specs.Machine.{Machine, first_machine, machine_after_edit, IsStep, IsRun}
+use Rattle.vcdedit.specs.InForce.{Tally, tally_after, tally_after_all, replay, IsReplay, SessionIsReplay}
 
 -- each capture of the past is the replay of the edits before one in force, the last first
 abbrev pub PastFollows : Contents → List Edit → List Contents → Type 0
@@ -37,7 +37,7 @@ past_taken c (suc n) [] (held ∷ older) h = absurd h
 past_taken c (suc n) (e ∷ es) (held ∷ older) h = (h.0, past_taken c n es older h.1)
 
 -- an accepted edit
-pub edit_follows : (c : Contents) (t : Tally) (m : Machine) (e : Edit) → Follows c t m → Follows c (counted t (steps.Edit e) Done) (edited e m)
+pub edit_follows : (c : Contents) (t : Tally) (m : Machine) (e : Edit) → Follows c t m → Follows c (tally_after t (steps.Edit e) Done) (machine_after_edit e m)
 unfolding replay
 edit_follows c t m e f = record {
   now = ap (effect e) f.now;
@@ -48,7 +48,7 @@ edit_follows c t m e f = record {
 -- an accepted undo
 pub back_follows : (c : Contents) (es undone : List Edit) (now : Contents) (past future : List Contents) (n : Machine) →
     now ≡ replay c es → PastFollows c es past → FutureFollows c es undone future → past ≡ n.now ∷ n.past → n.future ≡ now ∷ future →
-    Follows c (counted (record { in_force = es; undone = undone }) steps.Undo Done) n
+    Follows c (tally_after (record { in_force = es; undone = undone }) steps.Undo Done) n
 back_follows c es undone now [] future n here p f before after = absurd (cc)
 back_follows c [] undone now (held ∷ older) future n here p f before after = absurd p
 back_follows c (e ∷ es) undone now (held ∷ older) future n here p f before after = record {
@@ -60,7 +60,7 @@ back_follows c (e ∷ es) undone now (held ∷ older) future n here p f before a
 -- an accepted redo
 pub forth_follows : (c : Contents) (es undone : List Edit) (now : Contents) (past future : List Contents) (n : Machine) →
     now ≡ replay c es → PastFollows c es past → FutureFollows c es undone future → future ≡ n.now ∷ n.future → n.past ≡ now ∷ past →
-    Follows c (counted (record { in_force = es; undone = undone }) steps.Redo Done) n
+    Follows c (tally_after (record { in_force = es; undone = undone }) steps.Redo Done) n
 forth_follows c es undone now past [] n here p f after before = absurd (cc)
 forth_follows c es [] now past (next ∷ later) n here p f after before = absurd f
 forth_follows c es (u ∷ undone) now past (next ∷ later) n here p f after before = record {
@@ -70,8 +70,8 @@ forth_follows c es (u ∷ undone) now past (next ∷ later) n here p f after bef
 }
 
 -- any step, with any answer that it may have
-pub step_follows : (c : Contents) (t : Tally) (m : Machine) (s : Step) (a : Answer) (n : Machine) → Follows c t m → IsStep m s a n → Follows c (counted t s a) n
-step_follows c t m (steps.Edit e) Done n f h = subst (Follows c (counted t (steps.Edit e) Done)) (sym h.1) (edit_follows c t m e f)
+pub step_follows : (c : Contents) (t : Tally) (m : Machine) (s : Step) (a : Answer) (n : Machine) → Follows c t m → IsStep m s a n → Follows c (tally_after t s a) n
+step_follows c t m (steps.Edit e) Done n f h = subst (Follows c (tally_after t (steps.Edit e) Done)) (sym h.1) (edit_follows c t m e f)
 step_follows c t m (steps.Edit e) (Refused (refusals.Edit refusal)) n f h = subst (Follows c t) (sym h.1) f
 step_follows c t m (steps.Edit e) (Refused refusals.NothingToUndo) n f h = absurd h
 step_follows c t m (steps.Edit e) (Refused refusals.NothingToRedo) n f h = absurd h
@@ -89,12 +89,12 @@ step_follows c t m steps.Redo (Refused refusals.NoMemory) n f h = subst (Follows
 
 -- any steps
 pub run_follows : (c : Contents) (t : Tally) (m : Machine) (asked : List Step) (answers : List Answer) (n : Machine) →
-    Follows c t m → IsRun m asked answers n → Follows c (counted_all t asked answers) n
-unfolding IsRun counted_all
+    Follows c t m → IsRun m asked answers n → Follows c (tally_after_all t asked answers) n
+unfolding IsRun tally_after_all
 run_follows c t m [] [] n f r = subst (Follows c t) (sym r) f
 run_follows c t m [] (a ∷ answers) n f r = absurd r
 run_follows c t m (s ∷ asked) [] n f r = absurd r
-run_follows c t m (s ∷ asked) (a ∷ answers) n f r = run_follows c (counted t s a) r.0 asked answers n (step_follows c t m s a r.0 f r.1) r.2
+run_follows c t m (s ∷ asked) (a ∷ answers) n f r = run_follows c (tally_after t s a) r.0 asked answers n (step_follows c t m s a r.0 f r.1) r.2
 
 -- the capture that undo goes back to is the replay of the edits before the last
 pub back_is : (c : Contents) (es : List Edit) (past : List Contents) → PastFollows c es past → (held : Contents) (older : List Contents) → past ≡ held ∷ older →
@@ -110,5 +110,5 @@ is_replay c t m f = record { now = f.now; back = back_is c t.in_force m.past f.p
 pub session_is_replay : SessionIsReplay
 unfolding replay
 session_is_replay c depth asked answers m r =
-    is_replay c (counted_all (record { in_force = []; undone = [] }) asked answers) m
-    (run_follows c (record { in_force = []; undone = [] }) (fresh c depth) asked answers m (record { now = refl; past = tt; future = tt }) r)
+    is_replay c (tally_after_all (record { in_force = []; undone = [] }) asked answers) m
+    (run_follows c (record { in_force = []; undone = [] }) (first_machine c depth) asked answers m (record { now = refl; past = tt; future = tt }) r)

@@ -7,9 +7,9 @@ use Rattle.vcd_text.specs.Meaning.{FileMeans}
 use Rattle.vcd_text.specs.Text.{text}
 use Rattle.vcdedit.specs.Machine.{Machine}
 use Rattle.vcdedit.specs.Script.{script_lines}
-use Rattle.vcdedit.specs.Run.{run_of, Written}
-use Rattle.vcdedit.specs.History.{History, unwritten}
-use Rattle.vcdedit.specs.RunLines.{RunsLines}
+use Rattle.vcdedit.specs.Run.{run_of, RunOutcome}
+use Rattle.vcdedit.specs.inside.History.{History, first_history}
+use Rattle.vcdedit.specs.inside.RunLines.{RunsLines}
 use Rattle.vcd_text.specs.declared.fault.WriteError.{WriteError}
 use Rattle.vcdedit.specs.declared.run_error.RunError.{RunError}
 use Rattle.vcdedit.specs.declared.run_error.RunError.TheVariants as run_errors
@@ -18,7 +18,7 @@ use Rattle.vcdedit.specs.RunEnds.{ScriptRan, IfRan, RanToEnd, RanToOutput}
 
 -- the lines of the script, run from the capture that the file means
 pub script_ran : (file script : List ℕ) (depth skipped : ℕ) (c : Contents) (new : History) (count : ℕ) (before after : Option (List ℕ)) →
-    FileMeans file c skipped → RunsLines (script_lines script) (unwritten c depth) new count before after → ScriptRan file script depth count (Appends before after) new.now
+    FileMeans file c skipped → RunsLines (script_lines script) (first_history c depth) new count before after → ScriptRan file script depth count (Appends before after) new.now
 script_ran file script depth skipped c new count before after means ran =
     let here = ran.2 skipped in
     record {
@@ -32,7 +32,7 @@ script_ran file script depth skipped c new count before after means ran =
 
 -- the same where a device may not tell its bytes
 pub ran_where_told : (coming script_coming : Option (List ℕ)) (limit : ℕ) (script : List ℕ) (depth skipped : ℕ) (c : Contents) (new : History) (count : ℕ) (before after : Option (List ℕ)) →
-    IfSome coming (λ f. (length f ≤ limit) × FileMeans f c skipped) → IfSome script_coming (λ s. script ≡ s) → RunsLines (script_lines script) (unwritten c depth) new count before after →
+    IfSome coming (λ f. (length f ≤ limit) × FileMeans f c skipped) → IfSome script_coming (λ s. script ≡ s) → RunsLines (script_lines script) (first_history c depth) new count before after →
     IfSome coming (λ f. IfSome script_coming (λ s. ScriptRan f s depth count (Appends before after) new.now))
 ran_where_told None script_coming limit script depth skipped c new count before after means is ran = tt
 ran_where_told (Some f) None limit script depth skipped c new count before after means is ran = tt
@@ -40,9 +40,9 @@ ran_where_told (Some f) (Some s) limit script depth skipped c new count before a
     script_ran f s depth skipped c new count before after (means.1) (rw is at ran)
 
 -- what follows from the replies, the output and the count of refused lines is said of what the run writes
-if_ran : (file script : Option (List ℕ)) (depth count : ℕ) (took_replies : List ℕ → Type 0) (now : Contents) (said : Written → Type 0) →
+if_ran : (file script : Option (List ℕ)) (depth count : ℕ) (took_replies : List ℕ → Type 0) (now : Contents) (said : RunOutcome → Type 0) →
     IfSome file (λ f. IfSome script (λ s. ScriptRan f s depth count took_replies now)) →
-    ((written : Written) → took_replies written.replies → written.output ≡ text now → count ≡ written.refused → said written) → IfRan file script depth said
+    ((written : RunOutcome) → took_replies written.replies → written.output ≡ text now → count ≡ written.refused → said written) → IfRan file script depth said
 if_ran None script depth count took_replies now said ran follows = tt
 if_ran (Some f) None depth count took_replies now said ran follows = tt
 if_ran (Some f) (Some s) depth count took_replies now said ran follows =

@@ -3,7 +3,7 @@ use Rattle.std.proofs.Common.{◌≡◌, ◌<◌, ◌==◌, ℕ, true, false, Li
 use Rattle.std.proofs.lemmas.List.{take-append-drop, length-append, append-nil}
 use Rattle.std.proofs.lemmas.Bool.{eqb-true, eqb-false}
 use Rattle.vcdedit.specs.Script.{script_lines}
-use Rattle.vcdedit.specs.ScriptParts.{is_behind_line}
+use Rattle.vcdedit.specs.inside.ScriptParts.{is_behind_line}
 use Rattle.vcdedit.proofs.Lines.{is_one_line, line_whole, line_last}
 
 -- a line feed follows the first line

@@ -14,29 +14,29 @@ use Rattle.vcdedit.specs.declared.command.Command.TheVariants as commands
 use Rattle.vcdedit.specs.declared.line_error.LineError.{LineError}
 use Rattle.vcdedit.specs.Effect.{effect}
 use Rattle.vcdedit.specs.Allowed.{fault}
-use Rattle.vcdedit.specs.Machine.{Machine, Outcome, refused, fresh, step_of, edit_outcome, undo_outcome, redo_outcome, IsStep, IsRun}
-use Rattle.vcdedit.specs.Lent.{unplaced_edit, unplaced_step}
+use Rattle.vcdedit.specs.Machine.{Machine, Outcome, refused_outcome, first_machine, step_of, edit_outcome, undo_outcome, redo_outcome, IsStep, IsRun}
+use Rattle.vcdedit.specs.Lent.{edit_without_address, step_without_address}
 use Rattle.vcdedit.specs.Script.{command_of}
-use Rattle.vcdedit.specs.Reply.{said_to_step, said_to_edit}
+use Rattle.vcdedit.specs.Reply.{step_reply, edit_reply}
 use Rattle.vcdedit.specs.Run.{after_line, after_lines, after_command}
-use Rattle.vcdedit.specs.Laws.{lacks_memory, step_in, asked_by, answers_to, RunIsReplay, ReplyIsAnswer, said_to_answer, IsStarved, StepIsOutcome}
+use Rattle.vcdedit.specs.Laws.{memory_refusal, step_in, asked_by, answers_to, RunIsReplay, ReplyIsAnswer, answer_reply, IsStarved, StepIsOutcome}
 use Rattle.vcdedit.proofs.Replay.{session_is_replay}
 
 -- the address of a word counts neither for the effect of an edit nor for its fault
-pub effect_unplaced : (e : Edit) (c : Contents) → effect (unplaced_edit e) c ≡ effect e c
+pub effect_unplaced : (e : Edit) (c : Contents) → effect (edit_without_address e) c ≡ effect e c
 unfolding effect
 effect_unplaced (Rename k word) c = refl
 
-pub fault_unplaced : (e : Edit) (c : Contents) → fault (unplaced_edit e) c ≡ fault e c
+pub fault_unplaced : (e : Edit) (c : Contents) → fault (edit_without_address e) c ≡ fault e c
 unfolding fault
 fault_unplaced (Rename k word) c = refl
 
-pub edit_unplaced : (found : Option EditError) (e : Edit) (m : Machine) → edit_outcome found (unplaced_edit e) m ≡ edit_outcome found e m
+pub edit_unplaced : (found : Option EditError) (e : Edit) (m : Machine) → edit_outcome found (edit_without_address e) m ≡ edit_outcome found e m
 unfolding effect
 edit_unplaced None (Rename k word) m = refl
 edit_unplaced (Some found) (Rename k word) m = refl
 
-pub step_unplaced : (m : Machine) (s : Step) → step_of m (unplaced_step s) ≡ step_of m s
+pub step_unplaced : (m : Machine) (s : Step) → step_of m (step_without_address s) ≡ step_of m s
 unfolding fault
 step_unplaced m (steps.Edit (Rename k word)) = edit_unplaced (fault (Rename k word) m.now) (Rename k word) m
 step_unplaced m steps.Undo = refl
@@ -83,14 +83,14 @@ outcome_of m (steps.Edit e) (Refused refusals.NoMemory) n h = absurd h
 outcome_of m steps.Undo Done n h =
     inl (rw (h.past) (λ i. record { answer = Done; after = record { past = n.past; now = n.now; future = h.future i; depth = h.depth i } }))
 outcome_of m steps.Undo (Refused (refusals.Edit refusal)) n h = absurd h
-outcome_of m steps.Undo (Refused refusals.NothingToUndo) n h = inl (ap (refused refusals.NothingToUndo) h.1 ∙ sym (ap (λ past. undo_outcome past m) h.0))
+outcome_of m steps.Undo (Refused refusals.NothingToUndo) n h = inl (ap (refused_outcome refusals.NothingToUndo) h.1 ∙ sym (ap (λ past. undo_outcome past m) h.0))
 outcome_of m steps.Undo (Refused refusals.NothingToRedo) n h = absurd h
 outcome_of m steps.Undo (Refused refusals.NoMemory) n h = inr (undo_done m.past m h.0, refl, h.1)
 outcome_of m steps.Redo Done n h =
     inl (rw (h.future) (λ i. record { answer = Done; after = record { past = h.past i; now = n.now; future = n.future; depth = h.depth i } }))
 outcome_of m steps.Redo (Refused (refusals.Edit refusal)) n h = absurd h
 outcome_of m steps.Redo (Refused refusals.NothingToUndo) n h = absurd h
-outcome_of m steps.Redo (Refused refusals.NothingToRedo) n h = inl (ap (refused refusals.NothingToRedo) h.1 ∙ sym (ap (λ future. redo_outcome future m) h.0))
+outcome_of m steps.Redo (Refused refusals.NothingToRedo) n h = inl (ap (refused_outcome refusals.NothingToRedo) h.1 ∙ sym (ap (λ future. redo_outcome future m) h.0))
 outcome_of m steps.Redo (Refused refusals.NoMemory) n h = inr (redo_done m.future m h.0, refl, h.1)
 
 -- a step that would be accepted may be refused for want of memory
@@ -106,7 +106,7 @@ pub redo_accepted : (future : List Contents) (m : Machine) → (redo_outcome fut
 redo_accepted [] m h = absurd (cc)
 redo_accepted (next ∷ later) m h = λ none. cc
 
-pub starved_step : (m : Machine) (s : Step) → (step_of m s).answer ≡ Done → IsStep m s (lacks_memory s) m
+pub starved_step : (m : Machine) (s : Step) → (step_of m s).answer ≡ Done → IsStep m s (memory_refusal s) m
 starved_step m (steps.Edit e) h = (inr (edit_accepted (fault e m.now) e m h, refl), refl)
 starved_step m steps.Undo h = (undo_accepted m.past m h, refl)
 starved_step m steps.Redo h = (redo_accepted m.future m h, refl)
@@ -119,15 +119,15 @@ pub step_is_outcome : StepIsOutcome
 step_is_outcome m s a n = (outcome_of m s a n, is_step m s a n)
 
 -- the reply to a step is the machine's answer
-pub said_to_edit_is : (found : Option EditError) (e : Edit) (m : Machine) → said_to_edit found ≡ said_to_answer (edit_outcome found e m).answer
+pub said_to_edit_is : (found : Option EditError) (e : Edit) (m : Machine) → edit_reply found ≡ answer_reply (edit_outcome found e m).answer
 said_to_edit_is None e m = refl
 said_to_edit_is (Some refusal) e m = refl
 
-pub said_to_undo_is : (past : List Contents) (now : Contents) (redoable : ℕ) (m : Machine) → said_to_step steps.Undo now (length past) redoable ≡ said_to_answer (undo_outcome past m).answer
+pub said_to_undo_is : (past : List Contents) (now : Contents) (redoable : ℕ) (m : Machine) → step_reply steps.Undo now (length past) redoable ≡ answer_reply (undo_outcome past m).answer
 said_to_undo_is [] now redoable m = refl
 said_to_undo_is (back ∷ older) now redoable m = refl
 
-pub said_to_redo_is : (future : List Contents) (now : Contents) (undoable : ℕ) (m : Machine) → said_to_step steps.Redo now undoable (length future) ≡ said_to_answer (redo_outcome future m).answer
+pub said_to_redo_is : (future : List Contents) (now : Contents) (undoable : ℕ) (m : Machine) → step_reply steps.Redo now undoable (length future) ≡ answer_reply (redo_outcome future m).answer
 said_to_redo_is [] now undoable m = refl
 said_to_redo_is (next ∷ later) now undoable m = refl
 
@@ -153,4 +153,4 @@ lines_are_run m (line ∷ lines) =
 
 pub run_is_replay : RunIsReplay
 run_is_replay c depth lines =
-    session_is_replay c depth (asked_by (fresh c depth) lines) (answers_to (fresh c depth) lines) (after_lines (fresh c depth) lines) (lines_are_run (fresh c depth) lines)
+    session_is_replay c depth (asked_by (first_machine c depth) lines) (answers_to (first_machine c depth) lines) (after_lines (first_machine c depth) lines) (lines_are_run (first_machine c depth) lines)

@@ -2,14 +2,14 @@
 use Rattle.std.specs.Prelude.{◌≡◌, ◌⊎◌, Bool, not, if◌then◌else◌, nat_le, List, [], ◌∷◌, length, Option, Some, None}
 use Rattle.std.specs.List.{list_any, remove}
 use Rattle.std.specs.Str.{bytes_eq}
-use Rattle.vcd_core.specs.Contents.{Contents}
+use Rattle.vcd_core.specs.Contents.{Contents, signal_at}
 use Rattle.vcd_core.specs.Word.{is_word}
 use Rattle.vcd_core.specs.Names.{full_name, full_names}
 use Rattle.vcdedit.specs.declared.edit.Edit.{Edit}
 use Rattle.vcdedit.specs.declared.edit.Edit.TheVariants.{Rename}
 use Rattle.vcdedit.specs.declared.edit_error.EditError.{EditError}
 use Rattle.vcdedit.specs.declared.edit_error.EditError.TheVariants as errors
-use Rattle.vcdedit.specs.Effect.{signal_at, renamed}
+use Rattle.vcdedit.specs.Effect.{renamed_signal}
 
 -- whether a position of the edit is not below the number of signals
 abbrev pub lacks_signal : Edit → Contents → Bool
@@ -21,7 +21,7 @@ gives_no_word (Rename k word) = not (is_word word.now)
 
 -- whether another signal already has the full name that would arise
 abbrev pub takes_name : Edit → Contents → Bool
-takes_name (Rename k word) c = list_any (bytes_eq (full_name (renamed word.now (signal_at c k)))) (full_names (remove c.signals k))
+takes_name (Rename k word) c = list_any (bytes_eq (full_name (renamed_signal word.now (signal_at c k)))) (full_names (remove c.signals k))
 
 -- the fault of the first test that holds
 abbrev pub first_fault : List (Bool × EditError) → Option EditError

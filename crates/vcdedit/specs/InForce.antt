@@ -7,7 +7,7 @@ use Rattle.vcdedit.specs.declared.step.Step.TheVariants as steps
 use Rattle.vcdedit.specs.declared.step.Answer.{Answer}
 use Rattle.vcdedit.specs.declared.step.Answer.TheVariants.{Done, Refused}
 use Rattle.vcdedit.specs.Effect.{effect}
-use Rattle.vcdedit.specs.Machine.{Machine, fresh, IsRun}
+use Rattle.vcdedit.specs.Machine.{Machine, first_machine, IsRun}
 
 -- the edits in force, the last first, and those undone, the one undone last first
 pub record Tally : Type 0 where
@@ -15,30 +15,30 @@ pub record Tally : Type 0 where
   pub undone : List Edit
 
 -- an accepted undo: the last edit in force is undone
-abbrev pub taken_back : List Edit → List Edit → Tally
-taken_back [] undone = record { in_force = []; undone = undone }
-taken_back (e ∷ es) undone = record { in_force = es; undone = e ∷ undone }
+abbrev pub tally_after_undo : List Edit → List Edit → Tally
+tally_after_undo [] undone = record { in_force = []; undone = undone }
+tally_after_undo (e ∷ es) undone = record { in_force = es; undone = e ∷ undone }
 
 -- an accepted redo: the edit that was undone last is in force again
-abbrev pub made_again : List Edit → List Edit → Tally
-made_again in_force [] = record { in_force = in_force; undone = [] }
-made_again in_force (e ∷ es) = record { in_force = e ∷ in_force; undone = es }
+abbrev pub tally_after_redo : List Edit → List Edit → Tally
+tally_after_redo in_force [] = record { in_force = in_force; undone = [] }
+tally_after_redo in_force (e ∷ es) = record { in_force = e ∷ in_force; undone = es }
 
 -- an accepted edit is in force and leaves none undone; a refused step counts for nothing
-abbrev pub counted : Tally → Step → Answer → Tally
-counted t (steps.Edit e) Done = record { in_force = e ∷ t.in_force; undone = [] }
-counted t steps.Undo Done = taken_back t.in_force t.undone
-counted t steps.Redo Done = made_again t.in_force t.undone
-counted t s (Refused refusal) = t
+abbrev pub tally_after : Tally → Step → Answer → Tally
+tally_after t (steps.Edit e) Done = record { in_force = e ∷ t.in_force; undone = [] }
+tally_after t steps.Undo Done = tally_after_undo t.in_force t.undone
+tally_after t steps.Redo Done = tally_after_redo t.in_force t.undone
+tally_after t s (Refused refusal) = t
 
 -- the tally after steps with their answers
-unfoldable pub counted_all : Tally → List Step → List Answer → Tally
-counted_all t (s ∷ asked) (a ∷ answers) = counted_all (counted t s a) asked answers
-counted_all t asked answers = t
+unfoldable pub tally_after_all : Tally → List Step → List Answer → Tally
+tally_after_all t (s ∷ asked) (a ∷ answers) = tally_after_all (tally_after t s a) asked answers
+tally_after_all t asked answers = t
 
 -- the edits in force after steps with their answers, the last first
 abbrev pub in_force_after : List Step → List Answer → List Edit
-in_force_after asked answers = (counted_all (record { in_force = []; undone = [] }) asked answers).in_force
+in_force_after asked answers = (tally_after_all (record { in_force = []; undone = [] }) asked answers).in_force
 
 -- edits made one after another, the last of them being the first of the list
 unfoldable pub replay : Contents → List Edit → Contents
@@ -52,4 +52,4 @@ pub record IsReplay (c : Contents) (in_force : List Edit) (m : Machine) : Type 0
 
 -- whatever steps are asked and however they are answered, the capture is the replay of the edits in force
 abbrev pub SessionIsReplay : Type 0
-SessionIsReplay = (c : Contents) (depth : ℕ) (asked : List Step) (answers : List Answer) (m : Machine) → IsRun (fresh c depth) asked answers m → IsReplay c (in_force_after asked answers) m
+SessionIsReplay = (c : Contents) (depth : ℕ) (asked : List Step) (answers : List Answer) (m : Machine) → IsRun (first_machine c depth) asked answers m → IsReplay c (in_force_after asked answers) m

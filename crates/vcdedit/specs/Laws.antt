@@ -11,23 +11,23 @@ use Rattle.vcdedit.specs.declared.step.StepError.TheVariants as refusals
 use Rattle.vcdedit.specs.declared.step.Answer.{Answer}
 use Rattle.vcdedit.specs.declared.step.Answer.TheVariants.{Done, Refused}
 use Rattle.vcdedit.specs.RefusalNames.{step_error_name}
-use Rattle.vcdedit.specs.Machine.{Machine, fresh, step_of, IsStep}
+use Rattle.vcdedit.specs.Machine.{Machine, first_machine, step_of, IsStep}
 use Rattle.vcdedit.specs.InForce.{IsReplay, in_force_after}
 use Rattle.vcdedit.specs.Script.{command_of}
-use Rattle.vcdedit.specs.Reply.{Said, accepted, said_to_step}
+use Rattle.vcdedit.specs.Reply.{LineReply, ok_reply, step_reply}
 use Rattle.vcdedit.specs.Run.{after_line, after_lines}
 
 -- ---- steps
 
 -- the answer where memory is refused
-abbrev pub lacks_memory : Step → Answer
-lacks_memory (steps.Edit e) = Refused (refusals.Edit NoMemory)
-lacks_memory steps.Undo = Refused refusals.NoMemory
-lacks_memory steps.Redo = Refused refusals.NoMemory
+abbrev pub memory_refusal : Step → Answer
+memory_refusal (steps.Edit e) = Refused (refusals.Edit NoMemory)
+memory_refusal steps.Undo = Refused refusals.NoMemory
+memory_refusal steps.Redo = Refused refusals.NoMemory
 
 -- a step that would be accepted is refused for want of memory, and changes nothing
 abbrev pub IsStarved : Machine → Step → Answer → Machine → Type 0
-IsStarved m s a n = ((step_of m s).answer ≡ Done) × (a ≡ lacks_memory s) × (n ≡ m)
+IsStarved m s a n = ((step_of m s).answer ≡ Done) × (a ≡ memory_refusal s) × (n ≡ m)
 
 -- what may come of a step is what comes of it where there is memory, or a refusal for want of memory
 abbrev pub StepIsOutcome : Type 0
@@ -36,13 +36,13 @@ StepIsOutcome = (m : Machine) (s : Step) (a : Answer) (n : Machine) → IsStep m
 -- ---- replies
 
 -- what is said to an answer of the machine
-abbrev pub said_to_answer : Answer → Said
-said_to_answer Done = accepted
-said_to_answer (Refused refusal) = Err (step_error_name refusal)
+abbrev pub answer_reply : Answer → LineReply
+answer_reply Done = ok_reply
+answer_reply (Refused refusal) = Err (step_error_name refusal)
 
 -- what is said to a step, which looks at the capture and the two counts alone, is what the machine answers
 abbrev pub ReplyIsAnswer : Type 0
-ReplyIsAnswer = (m : Machine) (step : Step) → said_to_step step m.now (length m.past) (length m.future) ≡ said_to_answer (step_of m step).answer
+ReplyIsAnswer = (m : Machine) (step : Step) → step_reply step m.now (length m.past) (length m.future) ≡ answer_reply (step_of m step).answer
 
 -- ---- runs
 
@@ -65,4 +65,4 @@ answers_to m (line ∷ lines) = map (λ step. (step_of m step).answer) (step_in 
 -- after any lines the capture is the replay of the edits that they leave in force
 abbrev pub RunIsReplay : Type 0
 RunIsReplay = (c : Contents) (depth : ℕ) (lines : List (List ℕ)) →
-    IsReplay c (in_force_after (asked_by (fresh c depth) lines) (answers_to (fresh c depth) lines)) (after_lines (fresh c depth) lines)
+    IsReplay c (in_force_after (asked_by (first_machine c depth) lines) (answers_to (first_machine c depth) lines)) (after_lines (first_machine c depth) lines)

@@ -9,20 +9,20 @@ use Rattle.vcdedit.specs.declared.command.Command.{Command}
 use Rattle.vcdedit.specs.declared.command.Command.TheVariants as commands
 
 -- bytes as a borrow of them, at an address that no definition looks at
-abbrev pub lent : List ℕ → Bor (List ℕ)
-lent bytes = record { ref_ptr = (0, 0); now = bytes }
+abbrev pub lent_bytes : List ℕ → Bor (List ℕ)
+lent_bytes bytes = record { ref_ptr = (0, 0); now = bytes }
 
 -- an edit with its word at that address: two edits that say the same are then equal
-abbrev pub unplaced_edit : Edit → Edit
-unplaced_edit (Rename k word) = Rename k (lent word.now)
+abbrev pub edit_without_address : Edit → Edit
+edit_without_address (Rename k word) = Rename k (lent_bytes word.now)
 
 -- the same of a step
-abbrev pub unplaced_step : Step → Step
-unplaced_step (steps.Edit e) = steps.Edit (unplaced_edit e)
-unplaced_step steps.Undo = steps.Undo
-unplaced_step steps.Redo = steps.Redo
+abbrev pub step_without_address : Step → Step
+step_without_address (steps.Edit e) = steps.Edit (edit_without_address e)
+step_without_address steps.Undo = steps.Undo
+step_without_address steps.Redo = steps.Redo
 
 -- the same of a command
-abbrev pub unplaced : Command → Command
-unplaced commands.Nothing = commands.Nothing
-unplaced (commands.Step step) = commands.Step (unplaced_step step)
+abbrev pub command_without_address : Command → Command
+command_without_address commands.Nothing = commands.Nothing
+command_without_address (commands.Step step) = commands.Step (step_without_address step)

@@ -10,11 +10,5 @@ pub mod Run
 pub mod Laws
 pub mod Report
 pub mod RunFaults
-pub mod NameCursor
-pub mod History
-pub mod Replies
-pub mod ScriptParts
-pub mod Commands
-pub mod Answering
-pub mod RunLines
 pub mod RunEnds
+pub mod inside

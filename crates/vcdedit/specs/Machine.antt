@@ -20,20 +20,20 @@ pub record Machine : Type 0 where
   pub depth : ℕ
 
 -- a capture without a history
-abbrev pub fresh : Contents → ℕ → Machine
-fresh c depth = record { past = []; now = c; future = []; depth = depth }
+abbrev pub first_machine : Contents → ℕ → Machine
+first_machine c depth = record { past = []; now = c; future = []; depth = depth }
 
 -- an accepted edit: the capture joins the past, of which the newest `depth` are kept; nothing is left to redo
-abbrev pub edited : Edit → Machine → Machine
-edited e m = record { past = take m.depth (m.now ∷ m.past); now = effect e m.now; future = []; depth = m.depth }
+abbrev pub machine_after_edit : Edit → Machine → Machine
+machine_after_edit e m = record { past = take m.depth (m.now ∷ m.past); now = effect e m.now; future = []; depth = m.depth }
 
 -- an accepted undo, where `back` is the newest of the past and `older` the others
-abbrev pub undone : Contents → List Contents → Machine → Machine
-undone back older m = record { past = older; now = back; future = m.now ∷ m.future; depth = m.depth }
+abbrev pub machine_after_undo : Contents → List Contents → Machine → Machine
+machine_after_undo back older m = record { past = older; now = back; future = m.now ∷ m.future; depth = m.depth }
 
 -- an accepted redo, where `next` is the first of the future and `later` the others
-abbrev pub redone : Contents → List Contents → Machine → Machine
-redone next later m = record { past = m.now ∷ m.past; now = next; future = later; depth = m.depth }
+abbrev pub machine_after_redo : Contents → List Contents → Machine → Machine
+machine_after_redo next later m = record { past = m.now ∷ m.past; now = next; future = later; depth = m.depth }
 
 -- what comes of a step: the answer, and the machine after it
 pub record Outcome : Type 0 where
@@ -41,27 +41,27 @@ pub record Outcome : Type 0 where
   pub after : Machine
 
 -- an accepted step
-abbrev pub done : Machine → Outcome
-done after = record { answer = Done; after = after }
+abbrev pub accepted_outcome : Machine → Outcome
+accepted_outcome after = record { answer = Done; after = after }
 
 -- a refused step changes nothing
-abbrev pub refused : StepError → Machine → Outcome
-refused refusal m = record { answer = Refused refusal; after = m }
+abbrev pub refused_outcome : StepError → Machine → Outcome
+refused_outcome refusal m = record { answer = Refused refusal; after = m }
 
 -- an edit is refused by its fault, and else accepted
 abbrev pub edit_outcome : Option EditError → Edit → Machine → Outcome
-edit_outcome None e m = done (edited e m)
-edit_outcome (Some found) e m = refused (refusals.Edit found) m
+edit_outcome None e m = accepted_outcome (machine_after_edit e m)
+edit_outcome (Some found) e m = refused_outcome (refusals.Edit found) m
 
 -- an undo is refused where the past is empty
 abbrev pub undo_outcome : List Contents → Machine → Outcome
-undo_outcome [] m = refused refusals.NothingToUndo m
-undo_outcome (back ∷ older) m = done (undone back older m)
+undo_outcome [] m = refused_outcome refusals.NothingToUndo m
+undo_outcome (back ∷ older) m = accepted_outcome (machine_after_undo back older m)
 
 -- a redo is refused where the future is empty
 abbrev pub redo_outcome : List Contents → Machine → Outcome
-redo_outcome [] m = refused refusals.NothingToRedo m
-redo_outcome (next ∷ later) m = done (redone next later m)
+redo_outcome [] m = refused_outcome refusals.NothingToRedo m
+redo_outcome (next ∷ later) m = accepted_outcome (machine_after_redo next later m)
 
 -- what comes of a step where there is memory
 abbrev pub step_of : Machine → Step → Outcome
@@ -83,7 +83,7 @@ pub record StepsForth (m n : Machine) : Type 0 where
 
 -- the answers that a step may have on the machine m, and the machine n after each: where there is no fault it is accepted, or refused for want of memory
 abbrev pub IsStep : Machine → Step → Answer → Machine → Type 0
-IsStep m (steps.Edit e) Done n = (fault e m.now ≡ None) × (n ≡ edited e m)
+IsStep m (steps.Edit e) Done n = (fault e m.now ≡ None) × (n ≡ machine_after_edit e m)
 IsStep m (steps.Edit e) (Refused (refusals.Edit refusal)) n = MayRefuse (fault e m.now) refusal × (n ≡ m)
 IsStep m (steps.Edit e) (Refused refusals.NothingToUndo) n = ⊥
 IsStep m (steps.Edit e) (Refused refusals.NothingToRedo) n = ⊥

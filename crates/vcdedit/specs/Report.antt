@@ -38,8 +38,8 @@ status_of (run_errors.ReplyFault written) = 4
 status_of (run_errors.Write e) = write_status e
 
 -- the line for want of memory, wherever it arose
-abbrev pub out_of_memory : List ℕ
-out_of_memory = codes "vcdedit: out of memory\n"
+abbrev pub out_of_memory_line : List ℕ
+out_of_memory_line = codes "vcdedit: out of memory\n"
 
 -- the line for a fault that was decided at a line of the capture
 abbrev pub numbered_line : Fault → ℕ → List ℕ
@@ -48,22 +48,22 @@ numbered_line fault line = codes "vcdedit: capture line " ++ decimal line ++ cod
 -- the line for a fault of the capture
 abbrev pub capture_line : Fault → ℕ → List ℕ
 capture_line faults.ReadFault line = codes "vcdedit: capture: read fault\n"
-capture_line faults.NoMemory line = out_of_memory
+capture_line faults.NoMemory line = out_of_memory_line
 capture_line fault line = numbered_line fault line
 
 -- the line for a fault of the output
-abbrev pub write_line : WriteError → List ℕ
-write_line write_errors.NoMemory = out_of_memory
-write_line (write_errors.WriteFault written) = codes "vcdedit: output: write fault\n"
+abbrev pub write_error_line : WriteError → List ℕ
+write_error_line write_errors.NoMemory = out_of_memory_line
+write_error_line (write_errors.WriteFault written) = codes "vcdedit: output: write fault\n"
 
 -- the line on standard error of a run that failed
-abbrev pub line_of : RunError → List ℕ
-line_of (run_errors.Capture e) = capture_line e.fault e.line
-line_of run_errors.ScriptTooLarge = codes "vcdedit: script: too large\n"
-line_of run_errors.ScriptReadFault = codes "vcdedit: script: read fault\n"
-line_of (run_errors.NoMemory line) = out_of_memory
-line_of (run_errors.ReplyFault written) = codes "vcdedit: replies: write fault\n"
-line_of (run_errors.Write e) = write_line e
+abbrev pub error_line : RunError → List ℕ
+error_line (run_errors.Capture e) = capture_line e.fault e.line
+error_line run_errors.ScriptTooLarge = codes "vcdedit: script: too large\n"
+error_line run_errors.ScriptReadFault = codes "vcdedit: script: read fault\n"
+error_line (run_errors.NoMemory line) = out_of_memory_line
+error_line (run_errors.ReplyFault written) = codes "vcdedit: replies: write fault\n"
+error_line (run_errors.Write e) = write_error_line e
 
 -- the line for words that are refused
 abbrev pub usage_line : List ℕ

@@ -6,7 +6,7 @@ use Rattle.vcdedit.specs.declared.command.Command.TheVariants as commands
 use Rattle.vcdedit.specs.declared.line_error.LineError.{LineError}
 use Rattle.vcd_text.specs.Meaning.{FileMeans}
 use Rattle.vcd_text.specs.Text.{text}
-use Rattle.vcdedit.specs.Machine.{Machine, fresh, step_of}
+use Rattle.vcdedit.specs.Machine.{Machine, first_machine, step_of}
 use Rattle.vcdedit.specs.Script.{script_lines, command_of}
 use Rattle.vcdedit.specs.Reply.{reply, is_refused}
 
@@ -38,21 +38,21 @@ refusals skipped m (line ∷ lines) =
     (if is_refused line m.now skipped (length m.past) (length m.future) then 1 else 0) + refusals skipped (after_line m line) lines
 
 -- what a run writes to its two writers, and how many lines of the script it refuses
-pub record Written : Type 0 where
+pub record RunOutcome : Type 0 where
   pub replies : List ℕ
   pub output : List ℕ
   pub refused : ℕ
 
 -- the run of a script on what a capture file means, with a history of at most `depth`, where there is memory
-abbrev pub run_of : Contents → (skipped : ℕ) → (script : List ℕ) → (depth : ℕ) → Written
+abbrev pub run_of : Contents → (skipped : ℕ) → (script : List ℕ) → (depth : ℕ) → RunOutcome
 run_of c skipped script depth = record {
-  replies = replies skipped 1 (fresh c depth) (script_lines script);
-  output = text (after_lines (fresh c depth) (script_lines script)).now;
-  refused = refusals skipped (fresh c depth) (script_lines script);
+  replies = replies skipped 1 (first_machine c depth) (script_lines script);
+  output = text (after_lines (first_machine c depth) (script_lines script)).now;
+  refused = refusals skipped (first_machine c depth) (script_lines script);
 }
 
 -- the capture file is accepted, and the run of the script on what it means writes this
-pub record RunWrites (file script : List ℕ) (depth : ℕ) (written : Written) : Type 0 where
+pub record RunWrites (file script : List ℕ) (depth : ℕ) (written : RunOutcome) : Type 0 where
   pub contents : Contents
   pub skipped : ℕ
   pub means : FileMeans file contents skipped

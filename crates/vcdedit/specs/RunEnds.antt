@@ -7,22 +7,22 @@ use Rattle.vcd_core.specs.Contents.{Contents}
 use Rattle.vcd_text.specs.Meaning.{FileMeans}
 use Rattle.vcd_text.specs.WriteEnds.{TookBefore}
 use Rattle.vcd_text.specs.declared.fault.WriteError.{WriteError}
-use Rattle.vcdedit.specs.Machine.{fresh}
+use Rattle.vcdedit.specs.Machine.{first_machine}
 use Rattle.vcdedit.specs.Script.{script_lines}
-use Rattle.vcdedit.specs.Run.{after_lines, replies, refusals, Written, RunWrites}
+use Rattle.vcdedit.specs.Run.{after_lines, replies, refusals, RunOutcome, RunWrites}
 
 -- the script was run on what the capture file means: `took` holds of the replies, so many lines are refused, and this capture stands then
 pub record ScriptRan (file script : List ℕ) (depth count : ℕ) (took : List ℕ → Type 0) (now : Contents) : Type 0 where
   pub contents : Contents
   pub skipped : ℕ
   pub means : FileMeans file contents skipped
-  pub replies : took (replies skipped 1 (fresh contents depth) (script_lines script))
-  pub refused : refusals skipped (fresh contents depth) (script_lines script) ≡ count
-  pub after : (after_lines (fresh contents depth) (script_lines script)).now ≡ now
+  pub replies : took (replies skipped 1 (first_machine contents depth) (script_lines script))
+  pub refused : refusals skipped (first_machine contents depth) (script_lines script) ≡ count
+  pub after : (after_lines (first_machine contents depth) (script_lines script)).now ≡ now
 
 -- where the readers tell their bytes: this is said of what the run of the script on the capture file writes
-abbrev pub IfRan : (file script : Option (List ℕ)) → (depth : ℕ) → (Written → Type 0) → Type 0
-IfRan file script depth said = IfSome file (λ f. IfSome script (λ s. (written : Written) × RunWrites f s depth written × said written))
+abbrev pub IfRan : (file script : Option (List ℕ)) → (depth : ℕ) → (RunOutcome → Type 0) → Type 0
+IfRan file script depth said = IfSome file (λ f. IfSome script (λ s. (written : RunOutcome) × RunWrites f s depth written × said written))
 
 -- a run that came to its end: one writer took its replies, the other its output, and so many lines are refused
 abbrev pub RanToEnd : (file script : Option (List ℕ)) → (depth count : ℕ) → (took_replies took_output : List ℕ → Type 0) → Type 0

@@ -12,8 +12,8 @@ use Rattle.vcdedit.specs.declared.command.Command.{Command}
 use Rattle.vcdedit.specs.declared.command.Command.TheVariants as commands
 use Rattle.vcdedit.specs.declared.line_error.LineError.{LineError}
 use Rattle.vcdedit.specs.declared.line_error.LineError.TheVariants.{UnknownCommand, WrongCount, NoSuchName}
-use Rattle.vcd_text.specs.Words.{Word, words_of}
-use Rattle.vcdedit.specs.Lent.{lent}
+use Rattle.vcd_text.specs.Words.{PlacedWord, words_of}
+use Rattle.vcdedit.specs.Lent.{lent_bytes}
 
 -- the lines of a script: each ends at a line feed (10), and what stands behind the last line feed is a line where it is not empty
 unfoldable pub script_lines : List ℕ → List (List ℕ)
@@ -22,7 +22,7 @@ script_lines (b ∷ bs) = if b == 10 then [] ∷ script_lines bs else onto_first
 
 -- the words of a line
 abbrev pub line_words : List ℕ → List (List ℕ)
-line_words line = map (λ (w : Word). w.text) (words_of line)
+line_words line = map (λ (w : PlacedWord). w.text) (words_of line)
 
 -- whether a word begins with `#` (35)
 abbrev pub is_comment : List ℕ → Bool
@@ -36,23 +36,23 @@ abbrev pub ◌>>=◌ : {A B : Type 0} → Result A LineError → (A → Result B
 (Err fault) >>= f = Err fault
 
 -- the position of the signal that a word names
-abbrev pub named : Contents → List ℕ → Result ℕ LineError
-named c name = ok_or (lookup c.signals name) NoSuchName
+abbrev pub signal_named : Contents → List ℕ → Result ℕ LineError
+signal_named c name = ok_or (lookup c.signals name) NoSuchName
 
 -- a line asks for this step
-abbrev pub asks : Step → Result Command LineError
-asks step = Ok (commands.Step step)
+abbrev pub step_command : Step → Result Command LineError
+step_command step = Ok (commands.Step step)
 
 -- `rename NAME WORD`
 abbrev pub rename_command : Contents → List (List ℕ) → Result Command LineError
 rename_command c (name ∷ word ∷ []) = do
-  k ← named c name
-  asks (steps.Edit (Rename k (lent word)))
+  k ← signal_named c name
+  step_command (steps.Edit (Rename k (lent_bytes word)))
 rename_command c arguments = Err WrongCount
 
 -- `undo`
 abbrev pub undo_command : List (List ℕ) → Result Command LineError
-undo_command [] = asks steps.Undo
+undo_command [] = step_command steps.Undo
 undo_command (argument ∷ arguments) = Err WrongCount
 
 -- what the words of a line ask for on a capture, or why they are no command

@@ -1,8 +1,8 @@
 //! What a line of the script does to a session, and what is said to it.
 
 ghost use Rattle.std.specs.Prelude.{IfOk};
-ghost use Rattle.vcdedit.specs.Answering.{IsNoRedo, AnswersStep, AnswersLine};
-ghost use Rattle.vcdedit.specs.Replies.{said_by};
+ghost use Rattle.vcdedit.specs.inside.Answering.{IsNoRedo, AnswersStep, AnswersLine};
+ghost use Rattle.vcdedit.specs.inside.Replies.{reply_meaning};
 ghost use Rattle.vcdedit.specs.declared.edit.Edit.TheVariants as edits;
 ghost use Rattle.vcdedit.specs.declared.step.Step.TheVariants as steps;
 
@@ -19,7 +19,7 @@ use std::alloc::AllocError;
 ///
 /// The only error is that memory is refused.
 pub fn answer_line(session: &mut Session, line: &[u8]) -> Result<Reply, AllocError>
-    ensures { IfOk result (λ reply. AnswersLine line.now session.old session.new (said_by reply)) }
+    ensures { IfOk result (λ reply. AnswersLine line.now session.old session.new (reply_meaning reply)) }
 {
     match parse_line(line, session.capture()) {
         Ok(Command::Nothing) => Ok(Reply::Nothing),
@@ -30,7 +30,7 @@ pub fn answer_line(session: &mut Session, line: &[u8]) -> Result<Reply, AllocErr
 
 fn answer_step(session: &mut Session, step: Step) -> Result<Reply, AllocError>
     requires { IsNoRedo step }
-    ensures { IfOk result (λ reply. AnswersStep step.entry session.old session.new (said_by reply)) }
+    ensures { IfOk result (λ reply. AnswersStep step.entry session.old session.new (reply_meaning reply)) }
 {
     match step {
         Step::Edit(edit) => answer_edit(session, edit),
@@ -40,7 +40,7 @@ fn answer_step(session: &mut Session, step: Step) -> Result<Reply, AllocError>
 }
 
 fn answer_edit(session: &mut Session, edit: Edit) -> Result<Reply, AllocError>
-    ensures { IfOk result (λ reply. AnswersStep (steps.Edit edit.entry) session.old session.new (said_by reply)) }
+    ensures { IfOk result (λ reply. AnswersStep (steps.Edit edit.entry) session.old session.new (reply_meaning reply)) }
 {
     match edit {
         Edit::Rename { signal, word } => answer_rename(session, signal, word),
@@ -48,7 +48,7 @@ fn answer_edit(session: &mut Session, edit: Edit) -> Result<Reply, AllocError>
 }
 
 fn answer_rename(session: &mut Session, signal: usize, word: &[u8]) -> Result<Reply, AllocError>
-    ensures { IfOk result (λ reply. AnswersStep (steps.Edit (edits.Rename signal word.entry)) session.old session.new (said_by reply)) }
+    ensures { IfOk result (λ reply. AnswersStep (steps.Edit (edits.Rename signal word.entry)) session.old session.new (reply_meaning reply)) }
 {
     match session.rename(signal, word) {
         Ok(()) => Ok(Reply::Accepted),
@@ -60,7 +60,7 @@ fn answer_rename(session: &mut Session, signal: usize, word: &[u8]) -> Result<Re
 }
 
 fn answer_undo(session: &mut Session) -> Reply
-    ensures { AnswersStep steps.Undo session.old session.new (said_by result) }
+    ensures { AnswersStep steps.Undo session.old session.new (reply_meaning result) }
 {
     match session.undo() {
         Ok(()) => Reply::Accepted,

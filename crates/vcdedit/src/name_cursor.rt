@@ -3,7 +3,7 @@
 ghost use Rattle.std.specs.Prelude.{◌≡◌, ◌++◌, ◌∷◌, [], MatchOption};
 ghost use Rattle.std.specs.List.{concat};
 ghost use Rattle.std.specs.Str.{bytes_eq};
-ghost use Rattle.vcd_core.specs.NameParts.{scopes_front};
+ghost use Rattle.vcd_core.specs.inside.NameParts.{scopes_front};
 
 use vcd_core::{ScopeName, Word};
 
@@ -24,7 +24,7 @@ pub struct NameCursor<'a> {
 }
 
 impl<'a> NameCursor<'a> {
-    ghost use Rattle.vcdedit.specs.NameCursor.{bytes_left, IsDrained};
+    ghost use Rattle.vcdedit.specs.inside.NameCursor.{bytes_left, IsDrained};
 
     /// The full name of a variable in these scopes, whose own name has these words.
     pub fn new(scopes: &'a [ScopeName], first: &'a [u8], others: &'a [Word]) -> NameCursor<'a>

@@ -3,12 +3,12 @@
 ghost use Rattle.std.specs.Prelude.{◌≡◌, ◌<◌, ◌∷◌, Some, None, length, map, drop, slice_index_or, IsTrue, OnOk, MatchResult};
 ghost use Rattle.std.specs.List.{list_any, remove};
 ghost use Rattle.std.specs.Str.{bytes_eq};
-ghost use Rattle.vcd_core.specs.Contents.{contents, signal_contents};
+ghost use Rattle.vcd_core.specs.Contents.{contents, signal_contents, no_signal, signal_at, with_signal};
 ghost use Rattle.vcd_core.specs.Names.{full_name, full_names};
 ghost use Rattle.vcd_core.specs.Word.{is_word as word_test};
 ghost use Rattle.vcdedit.specs.Allowed.{fault};
-ghost use Rattle.vcdedit.specs.Effect.{no_signal, signal_at, with_signal, renamed};
-ghost use Rattle.vcdedit.specs.NameCursor.{bytes_left};
+ghost use Rattle.vcdedit.specs.Effect.{renamed_signal};
+ghost use Rattle.vcdedit.specs.inside.NameCursor.{bytes_left};
 ghost use Rattle.vcdedit.specs.declared.edit.Edit.TheVariants as edits;
 
 use crate::edit_error::EditError;
@@ -42,7 +42,7 @@ pub fn check_rename(capture: &Capture, signal: usize, word: &[u8]) -> Result<(),
 fn is_name_taken(signals: &[Signal], signal: usize, word: &[u8]) -> bool
     requires { signal < length signals.now }
     ensures { result ≡ list_any
-        (bytes_eq (full_name (renamed word.now (slice_index_or (map signal_contents signals.now) signal no_signal))))
+        (bytes_eq (full_name (renamed_signal word.now (slice_index_or (map signal_contents signals.now) signal no_signal))))
         (full_names (remove (map signal_contents signals.now) signal)) }
 {
     let name = name_with(&signals[signal], word);
@@ -51,7 +51,7 @@ fn is_name_taken(signals: &[Signal], signal: usize, word: &[u8]) -> bool
 
 /// The full name of a signal with another first word.
 fn name_with<'a>(signal: &'a Signal, word: &'a [u8]) -> NameCursor<'a>
-    ensures { bytes_left result ≡ full_name (renamed word.now (signal_contents signal.now)) }
+    ensures { bytes_left result ≡ full_name (renamed_signal word.now (signal_contents signal.now)) }
 {
     NameCursor::new(
         signal.scopes.as_slice(),
@@ -93,9 +93,9 @@ fn has_name(signals: &[Signal], name: &NameCursor) -> bool
 pub fn replace_word(capture: &mut Capture, signal: usize, word: Word) -> Word
     requires within { signal < length capture.old.signals }
     requires named { 0 < length (signal_at (contents capture.old) signal).words }
-    ensures renamed { contents capture.new ≡ with_signal (contents capture.old) signal (renamed word (signal_at (contents capture.old) signal)) }
+    ensures renamed { contents capture.new ≡ with_signal (contents capture.old) signal (renamed_signal word (signal_at (contents capture.old) signal)) }
     ensures first { (signal_at (contents capture.old) signal).words ≡ result ∷ drop 1 (signal_at (contents capture.old) signal).words }
-    ensures back { contents capture.old ≡ with_signal (contents capture.new) signal (renamed result (signal_at (contents capture.new) signal)) }
+    ensures back { contents capture.old ≡ with_signal (contents capture.new) signal (renamed_signal result (signal_at (contents capture.new) signal)) }
 {
     replace_first(&mut capture.signals.item_mut(signal).words, word)
 }

@@ -2,7 +2,7 @@
 
 ghost use Rattle.std.specs.Prelude.{◌≡◌, ◌++◌, Err, OnOk, IfOk, is_err};
 ghost use Rattle.vcdedit.specs.Reply.{reply_text};
-ghost use Rattle.vcdedit.specs.Replies.{said_by};
+ghost use Rattle.vcdedit.specs.inside.Replies.{reply_meaning};
 
 use itoa::Buffer;
 use std::alloc::{AllocError, Global};
@@ -20,14 +20,14 @@ pub enum Reply {
 
 impl Reply {
     pub fn is_refused(&self) -> bool
-        ensures { result ≡ is_err (said_by self.now) }
+        ensures { result ≡ is_err (reply_meaning self.now) }
     {
         matches!(self, Reply::Refused(_))
     }
 
     /// The bytes of the reply to the line of this number, counted from 1.
     pub fn text(self, alloc: Global, number: u64) -> Result<Vec<u8>, AllocError>
-        ensures { IfOk result (λ text. text.items ≡ reply_text number (said_by self)) }
+        ensures { IfOk result (λ text. text.items ≡ reply_text number (reply_meaning self)) }
     {
         let mut text = Vec::new(alloc);
         match self {

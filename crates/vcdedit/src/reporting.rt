@@ -3,7 +3,7 @@
 ghost use Rattle.std.specs.Prelude.{◌≡◌, ◌==◌, if◌then◌else◌, false, OnOk};
 ghost use Rattle.std.specs.Io.KnownBytes.{Appends};
 ghost use Rattle.vcd_core.specs.Device.{Reports};
-ghost use Rattle.vcdedit.specs.Report.{capture_line, capture_status, line_of, numbered_line, status_of, usage_line};
+ghost use Rattle.vcdedit.specs.Report.{capture_line, capture_status, error_line, numbered_line, status_of, usage_line};
 
 use crate::run_error::{RunError, Summary};
 use itoa::Buffer;
@@ -17,7 +17,7 @@ pub fn report<W: Sink>(error: &RunError, writer: &mut W) -> u8
     requires { W.has_failed writer.old ≡ false }
     ensures status { result ≡ status_of error.now }
     ensures line { W.has_failed writer.new ≡ false →
-        Appends (W.taken writer.old) (W.taken writer.new) (line_of error.now) }
+        Appends (W.taken writer.old) (W.taken writer.new) (error_line error.now) }
 {
     let _ = write_line(error, writer);
     status(error)
@@ -68,7 +68,7 @@ const OUT_OF_MEMORY: &[u8] = b"vcdedit: out of memory\n";
 
 fn write_line<W: Sink>(error: &RunError, writer: &mut W) -> Result<(), DeviceFault>
     requires { W.has_failed writer.old ≡ false }
-    ensures line { OnOk result (Appends (W.taken writer.old) (W.taken writer.new) (line_of error.now)) }
+    ensures line { OnOk result (Appends (W.taken writer.old) (W.taken writer.new) (error_line error.now)) }
     ensures state { Reports (W.has_failed writer.old) (W.has_failed writer.new) result }
 {
     match error {

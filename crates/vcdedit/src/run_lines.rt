@@ -4,8 +4,8 @@ ghost use Rattle.std.specs.Prelude.{◌≡◌, ◌≤◌, ◌<◌, ◌^◌, fals
 ghost use Rattle.std.specs.Io.KnownBytes.{Appends};
 ghost use Rattle.vcdedit.specs.Script.{script_lines};
 ghost use Rattle.vcdedit.specs.Reply.{reply_text};
-ghost use Rattle.vcdedit.specs.Replies.{said_by};
-ghost use Rattle.vcdedit.specs.RunLines.{TellsLine, RunsLines, IsLineFault};
+ghost use Rattle.vcdedit.specs.inside.Replies.{reply_meaning};
+ghost use Rattle.vcdedit.specs.inside.RunLines.{TellsLine, RunsLines, IsLineFault};
 
 use crate::answering::answer_line;
 use crate::reply::Reply;
@@ -96,7 +96,7 @@ fn tell<P: Sink>(
 ) -> Result<usize, RunError>
     requires ready { P.has_failed replies.old ≡ false }
     requires room { written < 2 ^ 127 }
-    ensures told { OnOk result (Appends (P.taken replies.old) (P.taken replies.new) (reply_text number (said_by reply))) }
+    ensures told { OnOk result (Appends (P.taken replies.old) (P.taken replies.new) (reply_text number (reply_meaning reply))) }
     ensures sound { OnOk result (P.has_failed replies.new ≡ false) }
     ensures fault { IfErr result IsLineFault }
 {
@@ -113,7 +113,7 @@ fn tell<P: Sink>(
 
 /// How many lines are refused where this is said to one.
 fn refusals_in(reply: Reply) -> u64
-    ensures { result ≡ (if is_err (said_by reply) then 1 else 0) }
+    ensures { result ≡ (if is_err (reply_meaning reply) then 1 else 0) }
 {
     if reply.is_refused() { 1 } else { 0 }
 }

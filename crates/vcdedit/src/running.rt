@@ -6,7 +6,7 @@ ghost use Rattle.std.specs.Io.KnownBytes.{Appends};
 ghost use Rattle.vcd_core.specs.Contents.{contents};
 ghost use Rattle.vcd_core.specs.Sound.{IsSound};
 ghost use Rattle.vcd_text.specs.Refusals.{IsRefusal};
-ghost use Rattle.vcdedit.specs.History.{unwritten};
+ghost use Rattle.vcdedit.specs.inside.History.{first_history};
 ghost use Rattle.vcdedit.specs.RunFaults.{IfCapture, IfWrite, IsBeforeReplies, IsBeforeOutput};
 ghost use Rattle.vcdedit.specs.RunEnds.{ScriptRan, RanToEnd, RanToOutput, IfOut, OutTakes, OutKeeps, OutStops};
 
@@ -121,7 +121,7 @@ fn begin(alloc: Global, capture: Capture, depth: u64) -> Result<Session, RunErro
     requires least { 1 ≤ depth }
     requires most { depth ≤ 1000 }
     requires sound { IsSound (contents capture) }
-    ensures new { IfOk result (λ session. session ≡ unwritten (contents capture) depth) }
+    ensures new { IfOk result (λ session. session ≡ first_history (contents capture) depth) }
     ensures fault { IfErr result (λ e. e ≡ RunError.NoMemory 0) }
 {
     match Session::new(alloc, capture, depth) {

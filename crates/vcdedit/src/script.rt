@@ -3,7 +3,7 @@
 ghost use Rattle.std.specs.Prelude.{◌≡◌, ◌≤◌, ◌<◌, ◌==◌, ◌∷◌, [], true, not, length, take, drop, MatchOption};
 ghost use Rattle.std.specs.List.{list_all};
 ghost use Rattle.vcdedit.specs.Script.{script_lines};
-ghost use Rattle.vcdedit.specs.ScriptParts.{is_behind_line};
+ghost use Rattle.vcdedit.specs.inside.ScriptParts.{is_behind_line};
 
 /// The first line of a script, without its line feed, and what follows it. There is none where the script is
 /// empty.

@@ -31,24 +31,24 @@ impl Model for Session {
     ghost use Rattle.std.specs.Prelude.{◌<◌, ◌≤◌, length};
     ghost use Rattle.vcd_core.specs.Contents.{contents};
     ghost use Rattle.vcd_core.specs.Sound.{IsSound};
-    ghost use Rattle.vcdedit.specs.History.{History, unwound, AllFit};
+    ghost use Rattle.vcdedit.specs.inside.History.{History, captures_behind, AllFit};
 
     ghost Value = { History };
 
-    ghost view = { λ s. record { past = unwound (contents s.capture) s.past.items; now = contents s.capture; depth = s.past.capacity } };
+    ghost view = { λ s. record { past = captures_behind (contents s.capture) s.past.items; now = contents s.capture; depth = s.past.capacity } };
 
     ghost invariant = { λ s. IsSound (contents s.capture) × AllFit (length s.capture.signals) s.past.items };
 }
 
 impl Session {
-    ghost use Rattle.vcdedit.specs.History.{unwritten, rewritten};
+    ghost use Rattle.vcdedit.specs.inside.History.{first_history, history_after_edit};
 
     /// A session on a capture, with nothing to take back and at most `depth` records at any time.
     pub fn new(alloc: Global, capture: Capture, depth: u64) -> Result<Session, AllocError>
         requires least { 1 ≤ depth }
         requires most { depth ≤ 1000 }
         requires sound { IsSound (contents capture) }
-        ensures { IfOk result (λ s. s ≡ unwritten (contents capture) depth) }
+        ensures { IfOk result (λ s. s ≡ first_history (contents capture) depth) }
     {
         let past = HeapCircularBuffer::with_capacity(alloc, depth as usize)?;
         Ok(Session {
@@ -63,7 +63,7 @@ impl Session {
     /// The faults, in the order in which they count: there is no such signal, the word is none, another signal
     /// has the name that would arise, memory is refused. After any of them the session is as before.
     pub fn rename(&mut self, signal: usize, word: &[u8]) -> Result<(), EditError>
-        ensures done { OnOk result (self.new ≡ rewritten (edits.Rename signal word.entry) self.old) }
+        ensures done { OnOk result (self.new ≡ history_after_edit (edits.Rename signal word.entry) self.old) }
         ensures no_fault { OnOk result (fault (edits.Rename signal word.entry) self.old.now ≡ None) }
         ensures refused { IfErr result (MayRefuse (fault (edits.Rename signal word.entry) self.old.now)) }
         ensures unchanged { OnErr result (self.new ≡ self.old) }

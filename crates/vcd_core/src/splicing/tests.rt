@@ -1,5 +1,5 @@
 ghost use Rattle.std.specs.Prelude.{◌≡◌, ◌≤◌, IsTrue, IfOk, length, drop};
-ghost use Rattle.vcd_core.specs.Splice.{TickFits, TicksFit, spliced};
+ghost use Rattle.vcd_core.specs.Splice.{TickFits, TicksFit, spliced_changes};
 ghost use Rattle.vcd_core.specs.Wave.{IsWave};
 
 use super::*;
@@ -59,7 +59,7 @@ fn changes_after(
     requires ordered { from ≤ to }
     requires within { to ≤ length changes.now }
     requires ticks { TicksFit by (drop to changes.now) }
-    ensures { IfOk result (λ list. list.items ≡ spliced changes.now from to piece.now by) }
+    ensures { IfOk result (λ list. list.items ≡ spliced_changes changes.now from to piece.now by) }
 {
     let mut list = changes.to_vec(alloc)?;
     let mut other = piece.to_vec(alloc)?;

@@ -4,27 +4,27 @@
 //! kept till its code comes, in room that stays.
 
 ghost use Rattle.std.specs.Prelude.{◌≡◌, ◌<◌, ◌∷◌, ℕ, List, true, false, length, Ok, codes};
-ghost use Rattle.vcd_text.specs.Words.{word};
+ghost use Rattle.vcd_text.specs.Words.{word_on};
 ghost use Rattle.vcd_text.specs.Letters.{is_among, is_letter as letter_test};
 ghost use Rattle.vcd_text.specs.Items.{is_command, vector_letters, dropped_letters};
-ghost use Rattle.vcd_text.specs.Reading.{IsReading, Moves};
-ghost use Rattle.vcd_text.specs.declared.reading.machine.OpenItem.TheVariants as items;
+ghost use Rattle.vcd_text.specs.inside.Reading.{IsUnderway, TakesOrRefuses};
+ghost use Rattle.vcd_text.specs.declared.reading.reader.OpenItem.TheVariants as items;
 
 use crate::fault::Fault;
 use crate::reading::decimal::tick_of;
 use crate::reading::keywords::{is_declaring, is_dump_word};
 use crate::reading::letters::is_letter;
-use crate::reading::machine::{Machine, OpenItem};
+use crate::reading::reader::{OpenItem, Reader};
 
-impl Machine {
+impl Reader {
     /// Takes a word between two changes, which stands on this line. By its first letter it is a stamp, a
     /// command, or the first word of a change of a value; any other word is `BadChange`.
     pub fn begin_change(&mut self, text: &[u8], line: u64) -> Result<(), Fault>
         requires between { self.old.item ≡ items.Nothing }
         requires changing { self.old.changing ≡ true }
-        requires reading { IsReading self.old }
+        requires reading { IsUnderway self.old }
         requires word { 0 < length text.now }
-        ensures { Moves self.old (word text.now line) result self.new }
+        ensures { TakesOrRefuses self.old (word_on text.now line) result self.new }
     {
         match text {
             [b'#', digits @ ..] => self.stamp(digits),
@@ -39,7 +39,7 @@ impl Machine {
     fn stamp(&mut self, digits: &[u8]) -> Result<(), Fault>
         requires between { self.old.item ≡ items.Nothing }
         requires changing { self.old.changing ≡ true }
-        ensures { (line : ℕ) → Moves self.old (word (35 ∷ digits.now) line) result self.new }
+        ensures { (line : ℕ) → TakesOrRefuses self.old (word_on (35 ∷ digits.now) line) result self.new }
     {
         let Some(tick) = tick_of(digits) else {
             return Err(Fault::BadTime);
@@ -57,7 +57,7 @@ impl Machine {
         requires between { self.old.item ≡ items.Nothing }
         requires changing { self.old.changing ≡ true }
         requires command { is_command text.now ≡ true }
-        ensures { (line : ℕ) → Moves self.old (word text.now line) result self.new }
+        ensures { (line : ℕ) → TakesOrRefuses self.old (word_on text.now line) result self.new }
     {
         if is_dump_word(text) {
             return Ok(());
@@ -73,9 +73,9 @@ impl Machine {
     fn begin_value(&mut self, first: u8, rest: &[u8], line: u64) -> Result<(), Fault>
         requires between { self.old.item ≡ items.Nothing }
         requires changing { self.old.changing ≡ true }
-        requires reading { IsReading self.old }
+        requires reading { IsUnderway self.old }
         requires value { is_among (codes "#$") first ≡ false }
-        ensures { Moves self.old (word (first ∷ rest.now) line) result self.new }
+        ensures { TakesOrRefuses self.old (word_on (first ∷ rest.now) line) result self.new }
     {
         if is_letter(first) {
             self.set_bit(first, rest)
@@ -94,9 +94,9 @@ impl Machine {
     fn set_bit(&mut self, letter: u8, code: &[u8]) -> Result<(), Fault>
         requires between { self.old.item ≡ items.Nothing }
         requires changing { self.old.changing ≡ true }
-        requires reading { IsReading self.old }
+        requires reading { IsUnderway self.old }
         requires letter { letter_test letter ≡ true }
-        ensures { (line : ℕ) → Moves self.old (word (letter ∷ code.now) line) result self.new }
+        ensures { (line : ℕ) → TakesOrRefuses self.old (word_on (letter ∷ code.now) line) result self.new }
     {
         if code.is_empty() {
             return Err(Fault::BadChange);
@@ -109,7 +109,7 @@ impl Machine {
     fn begin_vector(&mut self, digits: &[u8], line: u64) -> Result<(), Fault>
         requires between { self.old.item ≡ items.Nothing }
         requires changing { self.old.changing ≡ true }
-        ensures { (first : ℕ) → is_among vector_letters first ≡ true → Moves self.old (word (first ∷ digits.now) line) result self.new }
+        ensures { (first : ℕ) → is_among vector_letters first ≡ true → TakesOrRefuses self.old (word_on (first ∷ digits.now) line) result self.new }
     {
         self.text.clear();
         self.text.extend_from_slice(digits)?;
@@ -122,7 +122,7 @@ impl Machine {
     fn begin_dropped(&mut self, line: u64)
         requires between { self.old.item ≡ items.Nothing }
         requires changing { self.old.changing ≡ true }
-        ensures { (first : ℕ) (text : List ℕ) → is_among dropped_letters first ≡ true → Moves self.old (word (first ∷ text) line) (Ok result) self.new }
+        ensures { (first : ℕ) (text : List ℕ) → is_among dropped_letters first ≡ true → TakesOrRefuses self.old (word_on (first ∷ text) line) (Ok result) self.new }
     {
         self.item = OpenItem::Dropped;
         self.line = line;
@@ -132,8 +132,8 @@ impl Machine {
     /// declared, `BadChange` where they are no value, `ValueTooLong` where they are too many.
     pub fn end_vector(&mut self, code: &[u8]) -> Result<(), Fault>
         requires item { self.old.item ≡ items.Vector }
-        requires reading { IsReading self.old }
-        ensures { (line : ℕ) → Moves self.old (word code.now line) result self.new }
+        requires reading { IsUnderway self.old }
+        ensures { (line : ℕ) → TakesOrRefuses self.old (word_on code.now line) result self.new }
     {
         self.item = OpenItem::Nothing;
         self.variables.change(code, self.tick, self.text.as_slice())
@@ -143,7 +143,7 @@ impl Machine {
     /// was not declared.
     pub fn end_dropped(&mut self, code: &[u8]) -> Result<(), Fault>
         requires item { self.old.item ≡ items.Dropped }
-        ensures { (line : ℕ) → Moves self.old (word code.now line) result self.new }
+        ensures { (line : ℕ) → TakesOrRefuses self.old (word_on code.now line) result self.new }
     {
         if !self.variables.has_code(code) {
             return Err(Fault::UnknownCode);

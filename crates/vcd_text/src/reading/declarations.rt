@@ -1,33 +1,33 @@
 //! The words of declarations, and those of commands that are passed over.
 
 ghost use Rattle.std.specs.Prelude.{◌≡◌, ◌∷◌, ◌++◌, ℕ, [], true, false, IsFalse, MatchOption, OnOk};
-ghost use Rattle.vcd_text.specs.Words.{word};
+ghost use Rattle.vcd_text.specs.Words.{word_on};
 ghost use Rattle.vcd_text.specs.Items.{end_word, is_end, is_one_of, declaring_words, header_words, begins_declaration};
-ghost use Rattle.vcd_text.specs.Reading.{IsReading, Moves};
-ghost use Rattle.vcd_text.specs.Inside.{is_inside};
-ghost use Rattle.vcd_text.specs.Opening.{Opens, keeps_words};
-ghost use Rattle.vcd_text.specs.declared.reading.machine.OpenItem.TheVariants as items;
+ghost use Rattle.vcd_text.specs.inside.Reading.{IsUnderway, TakesOrRefuses};
+ghost use Rattle.vcd_text.specs.inside.OpenItems.{is_inside};
+ghost use Rattle.vcd_text.specs.inside.Opening.{Opens, keeps_words};
+ghost use Rattle.vcd_text.specs.declared.reading.reader.OpenItem.TheVariants as items;
 
 use crate::fault::Fault;
 use crate::reading::copies::copy_word;
 use crate::reading::decimal::size_of;
 use crate::reading::keywords::{is_command, is_dump_word};
-use crate::reading::machine::{Machine, OpenItem};
+use crate::reading::reader::{OpenItem, Reader};
 use crate::reading::timescale::timescale_in;
 use std::alloc::Global;
 use std::mem::replace;
 use vcd_core::{Header, HeaderKind, NoMemory, ScopeName, Seq, Word};
 
-impl Machine {
+impl Reader {
     /// Begins a declaration, or a command that is passed over.
     ///
     /// `UpscopeAtTop` for `$upscope` where no scope is open; `UnexpectedWord` for a word that begins no declaration.
     pub fn begin_declaration(&mut self, text: &[u8]) -> Result<(), Fault>
         requires between { self.old.item ≡ items.Nothing }
         requires declaring { self.old.changing ≡ false }
-        ensures { (line : ℕ) → Moves self.old (word text.now line) result self.new }
+        ensures { (line : ℕ) → TakesOrRefuses self.old (word_on text.now line) result self.new }
     {
-        let Some(item) = opened_by(text) else {
+        let Some(item) = opened_item(text) else {
             return Err(Fault::UnexpectedWord);
         };
         if item == OpenItem::Upscope && self.scopes.is_empty() {
@@ -44,7 +44,7 @@ impl Machine {
     pub fn go_on(&mut self, alloc: Global, text: &[u8]) -> Result<(), Fault>
         requires inside { is_inside self.old.item ≡ true }
         requires word { is_end text.now ≡ false }
-        ensures { (line : ℕ) → Moves self.old (word text.now line) result self.new }
+        ensures { (line : ℕ) → TakesOrRefuses self.old (word_on text.now line) result self.new }
     {
         match self.item {
             OpenItem::Upscope | OpenItem::EndDefinitions => Err(Fault::UnexpectedWord),
@@ -58,7 +58,7 @@ impl Machine {
     fn keep_word(&mut self, alloc: Global, text: &[u8]) -> Result<(), Fault>
         requires keeps { keeps_words self.old.item ≡ true }
         requires word { is_end text.now ≡ false }
-        ensures { (line : ℕ) → Moves self.old (word text.now line) result self.new }
+        ensures { (line : ℕ) → TakesOrRefuses self.old (word_on text.now line) result self.new }
     {
         push_copy(alloc, &mut self.words, text)?;
         Ok(())
@@ -68,7 +68,7 @@ impl Machine {
     fn go_on_variable(&mut self, alloc: Global, text: &[u8]) -> Result<(), Fault>
         requires item { self.old.item ≡ items.Variable }
         requires word { is_end text.now ≡ false }
-        ensures { (line : ℕ) → Moves self.old (word text.now line) result self.new }
+        ensures { (line : ℕ) → TakesOrRefuses self.old (word_on text.now line) result self.new }
     {
         if self.words.len() == 1 && size_of(text).is_none() {
             return Err(Fault::BadVar);
@@ -83,8 +83,8 @@ impl Machine {
     /// variable what `Variables::declare` answers.
     pub fn close(&mut self, alloc: Global) -> Result<(), Fault>
         requires inside { is_inside self.old.item ≡ true }
-        requires reading { IsReading self.old }
-        ensures { (line : ℕ) → Moves self.old (word end_word line) result self.new }
+        requires reading { IsUnderway self.old }
+        ensures { (line : ℕ) → TakesOrRefuses self.old (word_on end_word line) result self.new }
     {
         match self.item {
             OpenItem::Entry(kind) => self.close_entry(alloc, kind),
@@ -99,7 +99,7 @@ impl Machine {
 
     fn close_entry(&mut self, alloc: Global, kind: HeaderKind) -> Result<(), Fault>
         requires { self.old.item ≡ items.Entry kind }
-        ensures { (line : ℕ) → Moves self.old (word end_word line) result self.new }
+        ensures { (line : ℕ) → TakesOrRefuses self.old (word_on end_word line) result self.new }
     {
         let words = take_words(alloc, &mut self.words);
         self.header.push(Header { kind, words })?;
@@ -110,7 +110,7 @@ impl Machine {
     /// The last of several timescales counts.
     fn close_timescale(&mut self, alloc: Global) -> Result<(), Fault>
         requires { self.old.item ≡ items.Timescale }
-        ensures { (line : ℕ) → Moves self.old (word end_word line) result self.new }
+        ensures { (line : ℕ) → TakesOrRefuses self.old (word_on end_word line) result self.new }
     {
         match timescale_in(alloc, &self.words)? {
             Some(timescale) => {
@@ -124,7 +124,7 @@ impl Machine {
 
     fn close_scope(&mut self, alloc: Global) -> Result<(), Fault>
         requires { self.old.item ≡ items.Scope }
-        ensures { (line : ℕ) → Moves self.old (word end_word line) result self.new }
+        ensures { (line : ℕ) → TakesOrRefuses self.old (word_on end_word line) result self.new }
     {
         if self.words.is_empty() {
             return Err(Fault::BadScope);
@@ -138,7 +138,7 @@ impl Machine {
 
     fn close_upscope(&mut self) -> Result<(), Fault>
         requires { self.old.item ≡ items.Upscope }
-        ensures { (line : ℕ) → Moves self.old (word end_word line) result self.new }
+        ensures { (line : ℕ) → TakesOrRefuses self.old (word_on end_word line) result self.new }
     {
         self.scopes.pop();
         self.item = OpenItem::Nothing;
@@ -147,8 +147,8 @@ impl Machine {
 
     fn close_variable(&mut self, alloc: Global) -> Result<(), Fault>
         requires item { self.old.item ≡ items.Variable }
-        requires reading { IsReading self.old }
-        ensures { (line : ℕ) → Moves self.old (word end_word line) result self.new }
+        requires reading { IsUnderway self.old }
+        ensures { (line : ℕ) → TakesOrRefuses self.old (word_on end_word line) result self.new }
     {
         self.variables.declare(alloc, &self.scopes, &self.words)?;
         self.item = OpenItem::Nothing;
@@ -157,7 +157,7 @@ impl Machine {
 
     fn close_definitions(&mut self) -> Result<(), Fault>
         requires { self.old.item ≡ items.EndDefinitions }
-        ensures { (line : ℕ) → Moves self.old (word end_word line) result self.new }
+        ensures { (line : ℕ) → TakesOrRefuses self.old (word_on end_word line) result self.new }
     {
         self.changing = true;
         self.item = OpenItem::Nothing;
@@ -166,7 +166,7 @@ impl Machine {
 
     fn close_other(&mut self) -> Result<(), Fault>
         requires { self.old.item ≡ items.Other }
-        ensures { (line : ℕ) → Moves self.old (word end_word line) result self.new }
+        ensures { (line : ℕ) → TakesOrRefuses self.old (word_on end_word line) result self.new }
     {
         self.item = OpenItem::Nothing;
         Ok(())
@@ -174,10 +174,10 @@ impl Machine {
 }
 
 /// The item that a word opens among the declarations; none where it begins no declaration.
-fn opened_by(text: &[u8]) -> Option<OpenItem>
+fn opened_item(text: &[u8]) -> Option<OpenItem>
     ensures { MatchOption result (IsFalse (begins_declaration text.now)) (λ item. Opens item text.now) }
 {
-    if let Some(item) = declared_by(text) {
+    if let Some(item) = keyword_item(text) {
         return Some(item);
     }
     if is_dump_word(text) || !is_command(text) {
@@ -187,7 +187,7 @@ fn opened_by(text: &[u8]) -> Option<OpenItem>
 }
 
 /// The item of a keyword that is not passed over.
-fn declared_by(text: &[u8]) -> Option<OpenItem>
+fn keyword_item(text: &[u8]) -> Option<OpenItem>
     ensures { MatchOption result (IsFalse (is_one_of (declaring_words ++ header_words) text.now)) (λ item. Opens item text.now) }
 {
     if text == b"$scope".as_slice() {

@@ -3,8 +3,8 @@
 ghost use Rattle.std.specs.Prelude.{◌≡◌, ◌≤◌, true, false, length, unwrap_or, MatchOption, MatchResult};
 ghost use Rattle.std.specs.List.{list_all};
 ghost use Rattle.vcd_core.specs.declared.bit.Bit.TheVariants.{X};
-ghost use Rattle.vcd_text.specs.Letters.{letter_read, is_letter as letter_test, letters_read, pad_letter, ext};
-ghost use Rattle.vcd_text.specs.Digits.{Writes, Refuses};
+ghost use Rattle.vcd_text.specs.Letters.{letter_read, is_letter as letter_test, letters_read, pad_letter, extension};
+ghost use Rattle.vcd_text.specs.inside.ValueDigits.{WritesValue, WritesNoValue};
 
 use vcd_core::{Bit, Value, WIDTH_LIMIT};
 
@@ -32,10 +32,10 @@ pub fn bit_of(letter: u8) -> Option<Bit>
 
 /// The value of `width` bits that the digits write, extended on the left. It takes a step a digit, and no
 /// memory.
-pub fn value_of(width: u64, digits: &[u8]) -> Result<Value, DigitsError>
+pub fn read_value(width: u64, digits: &[u8]) -> Result<Value, DigitsError>
     requires least { 1 ≤ width }
     requires most { width ≤ WIDTH_LIMIT }
-    ensures { MatchResult result (λ value. Writes width digits.now value) (λ error. Refuses width digits.now error) }
+    ensures { MatchResult result (λ value. WritesValue width digits.now value) (λ error. WritesNoValue width digits.now error) }
 {
     if digits.is_empty() {
         return Err(DigitsError::NoValue);
@@ -69,7 +69,7 @@ fn extended(width: u64, digits: &[u8]) -> Option<Value>
     requires least { 1 ≤ width }
     requires most { width ≤ WIDTH_LIMIT }
     requires fits { length digits.now ≤ width }
-    ensures { MatchOption result (list_all letter_test digits.now ≡ false) (λ value. (list_all letter_test digits.now ≡ true) × (value ≡ ext width (letters_read digits.now))) }
+    ensures { MatchOption result (list_all letter_test digits.now ≡ false) (λ value. (list_all letter_test digits.now ≡ true) × (value ≡ extension width (letters_read digits.now))) }
 {
     let mut value = Value::filled(width, pad_of(digits));
     let mut left = digits.len() as u64;

@@ -3,7 +3,7 @@
 ghost use Rattle.std.specs.Prelude.{◌≡◌, IfOk};
 ghost use Rattle.std.specs.List.{concat};
 ghost use Rattle.vcd_text.specs.Items.{timescale_of};
-ghost use Rattle.vcd_text.specs.TimescaleText.{spelled_by, counted, unit_named};
+ghost use Rattle.vcd_text.specs.inside.TimescaleText.{timescale_spelled, timescale_of_unit, unit_named};
 
 use std::alloc::Global;
 use vcd_core::{NoMemory, TimeUnit, Timescale, Word};
@@ -29,7 +29,7 @@ fn joined(alloc: Global, words: &[Word]) -> Result<Vec<u8>, NoMemory>
 
 /// The timescale that a text spells, if it is one.
 fn timescale_of_text(text: &[u8]) -> Option<Timescale>
-    ensures { result ≡ spelled_by text.now }
+    ensures { result ≡ timescale_spelled text.now }
 {
     if let Some(unit) = text.strip_prefix(b"100") {
         return timescale_with(100, unit);
@@ -45,7 +45,7 @@ fn timescale_of_text(text: &[u8]) -> Option<Timescale>
 
 /// So many of the unit that a text names, if it names one.
 fn timescale_with(count: u64, unit: &[u8]) -> Option<Timescale>
-    ensures { result ≡ counted count (unit_named unit.now) }
+    ensures { result ≡ timescale_of_unit count (unit_named unit.now) }
 {
     let unit = unit_of(unit)?;
     Some(Timescale { count, unit })

@@ -5,17 +5,17 @@ ghost use Rattle.std.specs.Option.{option_map_or};
 ghost use Rattle.vcd_core.specs.Contents.{signal_contents};
 ghost use Rattle.vcd_core.specs.Wave.{IsWave};
 ghost use Rattle.vcd_core.specs.declared.value.TheConstants.{WIDTH_LIMIT};
-ghost use Rattle.vcd_text.specs.Grammar.{Context, Declaration, variable_of, has_good_size, signal_limit, skipped_kinds, is_skipped};
+ghost use Rattle.vcd_text.specs.Grammar.{Context, Declaration, variable_of, has_good_size, skipped_kinds, is_skipped};
 ghost use Rattle.vcd_text.specs.Items.{is_one_of};
 ghost use Rattle.vcd_text.specs.Meaning.{meaning};
-ghost use Rattle.vcd_text.specs.Variables.{owner_of, declared_by, Knows, Declares, DeclaresAs, TakesChange, Sets, RefusesDigits, Finishes};
+ghost use Rattle.vcd_text.specs.inside.Variables.{owner_of, declaration_by, Knows, Declares, DeclaresAs, TakesChange, Sets, RefusesDigits, Finishes};
 ghost use Rattle.vcd_text.specs.declared.fault.Fault.TheVariants.{NoMemory as NoMemoryFault, TooManySignals};
 ghost use Rattle.vcd_text.specs.declared.reading.variables.Owner.TheVariants.{Kept as KeptAt};
 
 use crate::fault::Fault;
 use crate::reading::copies::{copy_scopes, copy_word, copy_words};
 use crate::reading::decimal::size_of;
-use crate::reading::letters::{DigitsError, value_of};
+use crate::reading::letters::{DigitsError, read_value};
 use indexmap::IndexMap;
 use std::alloc::Global;
 use vcd_core::{
@@ -40,7 +40,7 @@ impl Variable {
         ensures sets { OnOk result (Sets tick digits.now self.old self.new) }
         ensures refuses { IfErr result (λ fault. (fault ≡ NoMemoryFault) ⊎ RefusesDigits self.old.signal.wave.width digits.now fault) }
     {
-        let value = match value_of(self.signal.wave.width(), digits) {
+        let value = match read_value(self.signal.wave.width(), digits) {
             Ok(value) => value,
             Err(DigitsError::NoValue) => return Err(Fault::BadChange),
             Err(DigitsError::TooLong) => return Err(Fault::ValueTooLong),
@@ -128,7 +128,7 @@ impl Variables {
     /// Declares a variable that is kept.
     fn keep(&mut self, alloc: Global, code: &[u8], signal: Signal) -> Result<(), Fault>
         requires silent { signal.wave.changes ≡ [] }
-        ensures { (c : Context) → let d = declared_by code.now signal in Knows self.old c → c.records ≡ [] → IsFalse (is_skipped d) → DeclaresAs c d result self.new }
+        ensures { (c : Context) → let d = declaration_by code.now signal in Knows self.old c → c.records ≡ [] → IsFalse (is_skipped d) → DeclaresAs c d result self.new }
     {
         match self.owner(code) {
             None => self.keep_first(alloc, code, signal),
@@ -144,11 +144,11 @@ impl Variables {
 
     /// Declares the first variable of its code, which is kept.
     fn keep_first(&mut self, alloc: Global, code: &[u8], signal: Signal) -> Result<(), Fault>
-        ensures few { OnOk result (length self.old.kept.items < signal_limit) }
+        ensures few { OnOk result (length self.old.kept.items < SIGNAL_LIMIT) }
         ensures kept { OnOk result (self.new.kept.items ≡ self.old.kept.items ++ record { code = code.now; signal = signal; first = length self.old.kept.items } ∷ []) }
         ensures owners { OnOk result ((key : List ℕ) → owner_of self.new key ≡ (if bytes_eq key code.now then Some (KeptAt (length self.old.kept.items)) else owner_of self.old key)) }
         ensures skipped { self.new.skipped ≡ self.old.skipped }
-        ensures refuses { IfErr result (λ fault. (fault ≡ NoMemoryFault) ⊎ ((fault ≡ TooManySignals) × (signal_limit ≤ length self.old.kept.items))) }
+        ensures refuses { IfErr result (λ fault. (fault ≡ NoMemoryFault) ⊎ ((fault ≡ TooManySignals) × (SIGNAL_LIMIT ≤ length self.old.kept.items))) }
     {
         let first = self.kept.len();
         self.push(alloc, code, signal, first)?;
@@ -164,11 +164,11 @@ impl Variables {
         signal: Signal,
         first: usize,
     ) -> Result<(), Fault>
-        ensures few { OnOk result (length self.old.kept.items < signal_limit) }
+        ensures few { OnOk result (length self.old.kept.items < SIGNAL_LIMIT) }
         ensures kept { OnOk result (self.new.kept.items ≡ self.old.kept.items ++ record { code = code.now; signal = signal; first = first } ∷ []) }
         ensures owners { self.new.owners ≡ self.old.owners }
         ensures skipped { self.new.skipped ≡ self.old.skipped }
-        ensures refuses { IfErr result (λ fault. (fault ≡ NoMemoryFault) ⊎ ((fault ≡ TooManySignals) × (signal_limit ≤ length self.old.kept.items))) }
+        ensures refuses { IfErr result (λ fault. (fault ≡ NoMemoryFault) ⊎ ((fault ≡ TooManySignals) × (SIGNAL_LIMIT ≤ length self.old.kept.items))) }
     {
         if self.kept.len() >= SIGNAL_LIMIT {
             return Err(Fault::TooManySignals);

@@ -2,8 +2,8 @@
 
 ghost use Rattle.std.specs.Prelude.{◌≡◌, ℕ, List, ◌<◌, ◌≤◌, ◌^◌, ◌++◌, ◌∷◌, [], length, drop, slice_range, OnOk};
 ghost use Rattle.vcd_core.specs.Value.{same_letter};
-ghost use Rattle.vcd_text.specs.Letters.{pad_letter, printed, printed_letter, short};
-ghost use Rattle.vcd_text.specs.Text.{code_of, line_of, value_item};
+ghost use Rattle.vcd_text.specs.Letters.{pad_letter, printed_letters, printed_letter, short_form};
+ghost use Rattle.vcd_text.specs.Text.{code_of, item_line, value_item};
 
 use super::codes::append_code;
 use vcd_core::{Bit, NoMemory, Value, WIDTH_LIMIT};
@@ -11,7 +11,7 @@ use vcd_core::{Bit, NoMemory, Value, WIDTH_LIMIT};
 /// Appends the line that gives a value to the signal at `position`. It looks at each bit twice at most.
 pub fn append_value(out: &mut Vec<u8>, position: usize, value: Value) -> Result<(), NoMemory>
     requires { position < 2 ^ 32 }
-    ensures { OnOk result (out.new.items ≡ out.old.items ++ line_of (value_item (code_of position) value)) }
+    ensures { OnOk result (out.new.items ≡ out.old.items ++ item_line (value_item (code_of position) value)) }
 {
     append_digits(out, value)?;
     append_code(out, position)?;
@@ -22,7 +22,7 @@ pub fn append_value(out: &mut Vec<u8>, position: usize, value: Value) -> Result<
 /// Appends what stands before the code: one letter, or `b`, the short form and a space.
 fn append_digits(out: &mut Vec<u8>, value: Value) -> Result<(), NoMemory>
     ensures { OnOk result ((code : List ℕ) →
-        out.new.items ++ (code ++ 10 ∷ []) ≡ out.old.items ++ line_of (value_item code value)) }
+        out.new.items ++ (code ++ 10 ∷ []) ≡ out.old.items ++ item_line (value_item code value)) }
 {
     if value.width() == 1 {
         out.push(printed(value.bit(0)))?;
@@ -36,7 +36,7 @@ fn append_digits(out: &mut Vec<u8>, value: Value) -> Result<(), NoMemory>
 
 /// Appends the letters of the shortest text whose extension is the value (IEEE 1364-2005, 18.2).
 fn append_short(out: &mut Vec<u8>, value: Value) -> Result<(), NoMemory>
-    ensures { OnOk result (out.new.items ≡ out.old.items ++ printed (short value)) }
+    ensures { OnOk result (out.new.items ≡ out.old.items ++ printed_letters (short_form value)) }
 {
     let spare = spare_letters(value);
     let letters = letters_from(value, spare);
@@ -47,7 +47,7 @@ fn append_short(out: &mut Vec<u8>, value: Value) -> Result<(), NoMemory>
 /// The letters of a value as they are printed, from the one at `first` on, each at its place.
 fn letters_from(value: Value, first: u64) -> [u8; WIDTH_LIMIT as usize]
     requires { first ≤ length value }
-    ensures { slice_range result first (length value) ≡ printed (drop first value) }
+    ensures { slice_range result first (length value) ≡ printed_letters (drop first value) }
 {
     let width = value.width();
     let mut letters = [0; WIDTH_LIMIT as usize];
@@ -60,7 +60,7 @@ fn letters_from(value: Value, first: u64) -> [u8; WIDTH_LIMIT as usize]
 /// How many letters at the front the short form leaves out: those that the extension puts there again.
 fn spare_letters(value: Value) -> u64
     ensures within { result < length value }
-    ensures rest { drop result value ≡ short value }
+    ensures rest { drop result value ≡ short_form value }
 {
     let last = value.width() - 1;
     for k in 0..last {

@@ -1,7 +1,7 @@
 use Rattle.std.proofs.Common.{◌∙◌, ◌≡◌, sym, ap, Bool, true, false, not, List, refl}
 use Rattle.vcd_core.specs.declared.bit.Bit.{Bit}
 use Rattle.vcd_core.specs.declared.wave.Change.{Change}
-use Rattle.vcd_core.specs.ValueLaws.{same_letters-Decides}
+use Rattle.vcd_core.specs.inside.ValueLaws.{same_letters-Decides}
 use Rattle.vcd_core.specs.Value.{all_x, same_letters}
 use Rattle.vcd_core.specs.Wave.{last_value}
 use Rattle.vcd_core.proofs.Pushes.{pushed_same, pushed_other}

@@ -1,6 +1,6 @@
 use Rattle.std.specs.List.{concat}
 use Rattle.vcd_core.specs.Contents.{signal_contents}
-use Rattle.vcd_core.specs.NameParts.{scopes_front}
+use Rattle.vcd_core.specs.inside.NameParts.{scopes_front}
 use Rattle.vcd_core.proofs.NameWalks.{rest_after_both, first_part_missing, full_name_parts}
 use Rattle.vcd_core.proofs.names.after_full_name.Goals as goal
 

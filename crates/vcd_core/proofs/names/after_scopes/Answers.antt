@@ -1,6 +1,6 @@
 use Rattle.std.proofs.Common.{◌++◌, sym, ◌∙◌, ap}
 use Rattle.vcd_core.specs.declared.capture.ScopeName.{ScopeName}
-use Rattle.vcd_core.specs.NameParts.{scope_front}
+use Rattle.vcd_core.specs.inside.NameParts.{scope_front}
 use Rattle.vcd_core.proofs.NameWalks.{piece_missing, piece_more}
 use Rattle.vcd_core.proofs.names.after_scopes.Goals as goal
 

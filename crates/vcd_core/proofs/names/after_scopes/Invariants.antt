@@ -1,5 +1,5 @@
 use Rattle.std.proofs.Common.{◌≡◌, ◌++◌, take}
-use Rattle.vcd_core.specs.NameParts.{scopes_front}
+use Rattle.vcd_core.specs.inside.NameParts.{scopes_front}
 use Rattle.vcd_core.proofs.names.after_scopes.Given as goal
 
 abbrev pub invariant-loop-scope : goal.invariant-loop-scope

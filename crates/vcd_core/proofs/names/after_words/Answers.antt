@@ -1,7 +1,7 @@
 use Rattle.std.proofs.Common.{None, Some}
 use Rattle.std.proofs.lemmas.Slice.Eq.{strip_prefix_is}
 use Rattle.std.proofs.lemmas.Bool.Decides.{Decides-eqb}
-use Rattle.vcd_core.specs.NameParts.{IsRestAfter}
+use Rattle.vcd_core.specs.inside.NameParts.{IsRestAfter}
 use Rattle.vcd_core.proofs.NameWalks.{word_missing, word_more}
 use Rattle.vcd_core.proofs.names.after_words.Goals as goal
 

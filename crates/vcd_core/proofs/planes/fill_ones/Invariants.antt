@@ -1,5 +1,5 @@
 use Rattle.std.proofs.Common.{◌≡◌, ℕ, ◌-◌, ◌*◌, ◌<◌, ◌≤◌}
-use Rattle.vcd_core.specs.Planes.{plane_bit}
+use Rattle.vcd_core.specs.inside.Planes.{plane_bit}
 use Rattle.vcd_core.proofs.planes.fill_ones.Given as goal
 
 abbrev pub invariant-loop-word : goal.invariant-loop-word

@@ -1,7 +1,7 @@
 use Rattle.std.proofs.Common.{Err, List, ℕ, sym, subst, refl}
 use Rattle.vcd_core.specs.Contents.{contents}
-use Rattle.vcdedit.specs.Answering.{AnswersStep, AnswersLine}
-use Rattle.vcdedit.specs.Replies.{said_by}
+use Rattle.vcdedit.specs.inside.Answering.{AnswersStep, AnswersLine}
+use Rattle.vcdedit.specs.inside.Replies.{reply_meaning}
 use Rattle.vcdedit.proofs.Answered.{no_redo, line_nothing, line_steps, line_refused, at_each_ok}
 use Rattle.vcdedit.proofs.answering.answer_line.Goals as goal
 
@@ -18,8 +18,8 @@ returns-in-Ok-Step c =
     let old = c.args.session.now in
     let new = c.answer_step.new.session in
     let read = rw (c.capture.ensures.now, c.in-Ok-Step.field-0-is) at c.in-Ok-Step.ensures in
-    at_each_ok c.answer_step.result (λ reply. AnswersStep c.in-Ok-Step.step old new (said_by reply)) (λ reply. AnswersLine c.args.line.now old new (said_by reply))
-    (λ reply. line_steps c.args.line.now c.in-Ok-Step.step old new (said_by reply) read) c.answer_step.ensures
+    at_each_ok c.answer_step.result (λ reply. AnswersStep c.in-Ok-Step.step old new (reply_meaning reply)) (λ reply. AnswersLine c.args.line.now old new (reply_meaning reply))
+    (λ reply. line_steps c.args.line.now c.in-Ok-Step.step old new (reply_meaning reply) read) c.answer_step.ensures
 
 pub returns-in-Err : goal.returns-in-Err
 returns-in-Err c =

@@ -1,7 +1,7 @@
 use Rattle.std.proofs.Common.{Err, List, ℕ, sym, subst}
 use Rattle.vcdedit.specs.declared.edit.Edit.TheVariants as edits
 use Rattle.vcdedit.specs.declared.step.Step.TheVariants as steps
-use Rattle.vcdedit.specs.Answering.{AnswersStep}
+use Rattle.vcdedit.specs.inside.Answering.{AnswersStep}
 use Rattle.vcdedit.proofs.Answered.{edit_refused}
 use Rattle.vcdedit.proofs.answering.answer_rename.Goals as goal
 

@@ -1,7 +1,7 @@
 use Rattle.vcdedit.proofs.Answered.{undo_accepted, undo_refused}
 use Rattle.std.proofs.Common.{Err, List, ℕ, sym, subst}
 use Rattle.vcdedit.specs.declared.step.Step.TheVariants as steps
-use Rattle.vcdedit.specs.Answering.{AnswersStep}
+use Rattle.vcdedit.specs.inside.Answering.{AnswersStep}
 use Rattle.vcdedit.proofs.answering.answer_undo.Goals as goal
 
 pub returns-in-Ok : goal.returns-in-Ok

@@ -1,7 +1,7 @@
 use Rattle.std.proofs.Common.{◌≡◌, sym, ◌∙◌, ap, subst, List, drop, ◌∷◌, ◌<◌, length, map}
 use Rattle.std.proofs.lemmas.List.{length-map}
-use Rattle.vcd_core.specs.Contents.{Contents, SignalContents, contents, signal_contents}
-use Rattle.vcdedit.specs.Effect.{signal_at, with_signal, renamed}
+use Rattle.vcd_core.specs.Contents.{Contents, SignalContents, contents, signal_contents, signal_at, with_signal}
+use Rattle.vcdedit.specs.Effect.{renamed_signal}
 use Rattle.vcdedit.proofs.Renames.{word_written, put_in_turn, contents_at}
 use Rattle.vcdedit.proofs.renaming.replace_word.Goals as goal
 
@@ -20,5 +20,5 @@ returns-clause-first c =
 pub returns-clause-back : goal.returns-clause-back
 returns-clause-back c =
     let within : c.args.signal < length (map signal_contents c.args.capture.now.signals) = rw (length-map c.args.capture.now.signals signal_contents) c.requires.within in
-    subst (λ (n : Contents). contents c.args.capture.now ≡ with_signal n c.args.signal (renamed c.replace_first.result (signal_at n c.args.signal)))
+    subst (λ (n : Contents). contents c.args.capture.now ≡ with_signal n c.args.signal (renamed_signal c.replace_first.result (signal_at n c.args.signal)))
     (sym (returns-clause-renamed c)) (put_in_turn (contents c.args.capture.now) c.args.signal c.args.word c.replace_first.result within (returns-clause-first c))

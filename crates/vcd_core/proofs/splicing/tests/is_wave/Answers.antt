@@ -3,7 +3,7 @@ use Rattle.std.proofs.lemmas.List.{drop_more}
 use Rattle.vcd_core.specs.declared.bit.Bit.{Bit}
 use Rattle.vcd_core.specs.declared.wave.Change.{Change}
 use Rattle.vcd_core.specs.Value.{same_letters}
-use Rattle.vcd_core.specs.ValueLaws.{same_letters-Decides}
+use Rattle.vcd_core.specs.inside.ValueLaws.{same_letters-Decides}
 use Rattle.vcd_core.specs.Wave.{ChangesFrom}
 use Rattle.vcd_core.proofs.splicing.tests.is_wave.Goals as goal
 

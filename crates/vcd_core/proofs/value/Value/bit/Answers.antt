@@ -1,5 +1,5 @@
 use Rattle.std.proofs.Common.{sym, ◌∙◌}
-use Rattle.vcd_core.specs.Planes.{letter_of}
+use Rattle.vcd_core.specs.inside.Planes.{letter_of}
 use Rattle.vcd_core.proofs.ValueLemmas.{letter_at-shown, in_low, in_high}
 use Rattle.vcd_core.proofs.value.Value.bit.Goals as goal
 

@@ -1,6 +1,6 @@
 use Rattle.std.proofs.Common.{sym, ◌∙◌, ap, replicate}
 use Rattle.std.proofs.lemmas.List.{length-replicate}
-use Rattle.vcd_core.specs.Planes.{view_value, low_of, high_of}
+use Rattle.vcd_core.specs.inside.Planes.{view_value, low_of, high_of}
 use Rattle.vcd_core.proofs.ValueLemmas.{letters_of-shown, letter_at-replicate}
 use Rattle.vcd_core.proofs.value.Value.filled.Goals as goal
 

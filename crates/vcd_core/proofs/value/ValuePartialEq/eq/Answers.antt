@@ -3,9 +3,9 @@ use Rattle.std.proofs.lemmas.Bool.Decides.{same_from_decides, Decides-like, Deci
 use Rattle.std.proofs.lemmas.Slice.Eq.{slice_eq-Decides}
 use Rattle.vcd_core.specs.declared.bit.Bit.{Bit}
 use Rattle.vcd_core.specs.declared.value.Value.TheInside.{Inside}
-use Rattle.vcd_core.specs.Planes.{view_value, value_of, IsValue}
-use Rattle.vcd_core.specs.PlaneLaws.{value_of-view_value}
-use Rattle.vcd_core.specs.ValueLaws.{same_letters-Decides}
+use Rattle.vcd_core.specs.inside.Planes.{view_value, value_of, IsValue}
+use Rattle.vcd_core.specs.inside.PlaneLaws.{value_of-view_value}
+use Rattle.vcd_core.specs.inside.ValueLaws.{same_letters-Decides}
 use Rattle.vcd_core.proofs.value.ValuePartialEq.eq.Goals as goal
 
 -- values with the same letters have the same planes

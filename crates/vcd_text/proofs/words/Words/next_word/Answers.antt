@@ -1,6 +1,6 @@
 use Rattle.std.proofs.Common.{◌≡◌, ℕ, ◌+◌, ◌<◌, true, false, ◌∷◌, length, take, drop, sym, ap, ◌∙◌, arith}
 use Rattle.std.proofs.lemmas.Bool.{eqb-true, eqb-false}
-use Rattle.vcd_text.specs.Words.{ends_before, words_from, word}
+use Rattle.vcd_text.specs.Words.{ends_before, words_from, word_on}
 use Rattle.vcd_text.proofs.WordLaws.{word_split, no_word, open_word}
 use Rattle.vcd_text.proofs.words.Words.next_word.Goals as goal
 
@@ -46,4 +46,4 @@ returns-clause-words c =
     ap (ends_before whole) (sym c.split_at.ensures.back) ∙ sym c.ends_before.ensures ∙ c.if-not-ends_before.false in
     sym (c.behind_space-passed.ensures.words whole)
     ∙ word_split whole line _ _ some c.word_len.ensures.black closed
-    ∙ (λ i. word (sym c.split_at.ensures.front i) line ∷ words_from whole line (sym c.split_at.ensures.back i))
+    ∙ (λ i. word_on (sym c.split_at.ensures.front i) line ∷ words_from whole line (sym c.split_at.ensures.back i))

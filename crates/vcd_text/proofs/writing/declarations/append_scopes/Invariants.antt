@@ -2,8 +2,8 @@
 use Rattle.std.proofs.Common.{◌≡◌, ◌++◌, drop, map}
 use Rattle.std.specs.List.{flat_map}
 use Rattle.vcd_text.specs.Items.{scope}
-use Rattle.vcd_text.specs.Text.{line_of}
+use Rattle.vcd_text.specs.Text.{item_line}
 use Rattle.vcd_text.proofs.writing.declarations.append_scopes.Given as goal
 
 abbrev pub invariant-loop-name : goal.invariant-loop-name
-invariant-loop-name l = l.out.items ++ flat_map line_of (map (λ s. scope s.kind s.words) (drop l.name-index l.scopes)) ≡ l.initial.out.items ++ flat_map line_of (map (λ s. scope s.kind s.words) l.scopes)
+invariant-loop-name l = l.out.items ++ flat_map item_line (map (λ s. scope s.kind s.words) (drop l.name-index l.scopes)) ≡ l.initial.out.items ++ flat_map item_line (map (λ s. scope s.kind s.words) l.scopes)

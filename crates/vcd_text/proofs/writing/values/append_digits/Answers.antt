@@ -1,7 +1,7 @@
 -- What stands before the code, with the code behind it, is the line.
 use Rattle.std.proofs.Common.{◌≡◌, ◌≢◌, ◌-◌, [], ◌∷◌, ◌++◌, length, get_or, ap, refl, ◌∙◌, arith}
 use Rattle.vcd_core.specs.declared.bit.Bit.TheVariants.{X}
-use Rattle.vcd_text.specs.Letters.{printed, printed_letter, short}
+use Rattle.vcd_text.specs.Letters.{printed_letters, printed_letter, short_form}
 use Rattle.vcd_text.proofs.Appended.{carried}
 use Rattle.vcd_text.proofs.Values.{line_in_pieces, line_of_bit, line_of_bits}
 use Rattle.vcd_text.proofs.writing.values.append_digits.Goals as goal
@@ -17,5 +17,5 @@ returns-then-width-eq1 c = λ code.
 pub returns : goal.returns
 returns c = λ code.
     let more : length c.args.value ≢ 1 = omega arith in
-    line_in_pieces c.args.out.now.items _ _ _ (printed (short c.args.value)) code _ c.in_ok-push-2.ensures.items c.in_ok-append_short.ensures c.in_ok-push-3.ensures.items
+    line_in_pieces c.args.out.now.items _ _ _ (printed_letters (short_form c.args.value)) code _ c.in_ok-push-2.ensures.items c.in_ok-append_short.ensures c.in_ok-push-3.ensures.items
     (line_of_bits c.args.value code more)

@@ -1,5 +1,5 @@
 use Rattle.std.proofs.Common.{◌≡◌, length}
-use Rattle.vcdedit.specs.NameCursor.{bytes_left}
+use Rattle.vcdedit.specs.inside.NameCursor.{bytes_left}
 use Rattle.vcdedit.proofs.name_cursor.NameCursor.go_to_text.Given as goal
 
 abbrev pub invariant-loop-word : goal.invariant-loop-word

@@ -1,6 +1,6 @@
 use Rattle.std.proofs.Common.{◌≡◌, length}
 use Rattle.std.specs.Str.{bytes_eq}
-use Rattle.vcdedit.specs.NameCursor.{bytes_left}
+use Rattle.vcdedit.specs.inside.NameCursor.{bytes_left}
 use Rattle.vcdedit.proofs.name_cursor.NameCursor.has_same_bytes.Given as goal
 
 abbrev pub invariant-loop-byte : goal.invariant-loop-byte

@@ -1,8 +1,8 @@
 use Rattle.std.proofs.Common.{◌<◌, IsTrue, List, ℕ, length, map, ap, ◌∙◌}
 use Rattle.std.proofs.lemmas.List.{length-map}
-use Rattle.vcd_core.specs.Contents.{Contents, contents, signal_contents}
+use Rattle.vcd_core.specs.Contents.{Contents, contents, signal_contents, signal_at, with_signal}
 use Rattle.vcd_core.specs.Word.{is_word}
-use Rattle.vcdedit.specs.Effect.{signal_at, with_signal, renamed}
+use Rattle.vcdedit.specs.Effect.{renamed_signal}
 use Rattle.vcdedit.proofs.Renames.{rename_sound, same_count, first_is_word}
 use Rattle.vcdedit.proofs.Histories.{history_after_rename, fit_after_rename}
 use Rattle.vcdedit.proofs.session.Session.rename.Goals as goal
@@ -26,4 +26,4 @@ returns-clause-done c =
     let k : ℕ = c.args.signal in
     rw (c.push_front-oldest.ensures.items, ← c.self.view_is)
     (history_after_rename old (contents c.replace_word-replaced.new.capture) k c.args.word c.replace_word-replaced.result c.self.inside.past.items c.self.inside.past.capacity
-    (c.replace_word-replaced.ensures.renamed ∙ ap (λ (w : List ℕ). with_signal old k (renamed w (signal_at old k))) c.in_ok-word.ensures) c.replace_word-replaced.ensures.back)
+    (c.replace_word-replaced.ensures.renamed ∙ ap (λ (w : List ℕ). with_signal old k (renamed_signal w (signal_at old k))) c.in_ok-word.ensures) c.replace_word-replaced.ensures.back)

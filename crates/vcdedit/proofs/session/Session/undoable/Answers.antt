@@ -1,6 +1,6 @@
 use Rattle.std.proofs.Common.{◌∙◌, sym, ap, length}
 use Rattle.vcd_core.specs.Contents.{contents}
-use Rattle.vcdedit.specs.History.{History}
+use Rattle.vcdedit.specs.inside.History.{History}
 use Rattle.vcdedit.proofs.Histories.{length_unwound}
 use Rattle.vcdedit.proofs.session.Session.undoable.Goals as goal
 

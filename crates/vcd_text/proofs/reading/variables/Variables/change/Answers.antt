@@ -1,6 +1,6 @@
 use Rattle.std.proofs.Common.{◌∙◌, sym, subst, refl, ap, Some, OnOk}
 use Rattle.std.specs.Vec.{with_item}
-use Rattle.vcd_text.specs.Variables.{Sets}
+use Rattle.vcd_text.specs.inside.Variables.{Sets}
 use Rattle.vcd_text.proofs.ChangedVariables.{changes}
 use Rattle.vcd_text.proofs.reading.variables.Variables.change.Goals as goal
 

@@ -5,8 +5,8 @@ use Rattle.vcd_core.specs.declared.value.TheConstants.{WIDTH_LIMIT}
 use Rattle.vcd_text.specs.Letters.{number_of}
 use Rattle.vcd_text.specs.Items.{is_one_of}
 use Rattle.vcd_text.specs.Grammar.{Declaration, is_skipped, skipped_kinds}
-use Rattle.vcd_text.specs.Variables.{declared_by, DeclaresAs}
-use Rattle.vcd_text.proofs.DeclaredVariables.{declaration_by, declares_words, words_in_front, left_out, kept_size}
+use Rattle.vcd_text.specs.inside.Variables.{declaration_by, DeclaresAs}
+use Rattle.vcd_text.proofs.DeclaredVariables.{worded_declaration, declares_words, words_in_front, left_out, kept_size}
 use Rattle.vcd_text.proofs.reading.variables.Variables.declare.Goals as goal
 
 pub returns-then-is_left_out : goal.returns-then-is_left_out
@@ -19,7 +19,7 @@ returns-then-is_left_out c = λ told scopes records k.
     let behind = take_rest words 3 in
     let other = eqb-false _ 0 (sym c.is_empty.ensures ∙ c.if-is_empty.false) in
     let some : 0 < length (drop 3 words) = omega (arith, other, ap (length {A = List ℕ}) behind) in
-    let d = declaration_by told kind size code (drop 3 words) in
+    let d = worded_declaration told kind size code (drop 3 words) in
     let read = c.in-Some.ensures.1 ∙ ap (λ word. min (number_of word) 129) c.as_slice.ensures in
     let skipped : is_skipped d ≡ true =
     left_out told kind size code (drop 3 words) c.in-Some.size read
@@ -38,14 +38,14 @@ returns c = λ told scopes records k.
     let behind = take_rest words 3 in
     let other = eqb-false _ 0 (sym c.is_empty.ensures ∙ c.if-is_empty.false) in
     let some : 0 < length (drop 3 words) = omega (arith, other, ap (length {A = List ℕ}) behind) in
-    let d = declaration_by told kind size code (drop 3 words) in
+    let d = worded_declaration told kind size code (drop 3 words) in
     let read = c.in-Some.ensures.1 ∙ ap (λ word. min (number_of word) 129) c.as_slice.ensures in
     let tested =
     ap (λ name. is_one_of skipped_kinds name || (c.in-Some.size == 0 || nat_lt WIDTH_LIMIT c.in-Some.size)) (sym c.as_slice-2.ensures)
     ∙ sym c.is_left_out.ensures ∙ c.if-is_left_out.false in
     let keeps : is_skipped d ≡ false = left_out told kind size code (drop 3 words) c.in-Some.size read ∙ tested in
     let signal = c.in_ok-signal.ensures in
-    let same : declared_by c.as_slice-3.result.now c.in_ok-signal.signal ≡ d = λ i. record {
+    let same : declaration_by c.as_slice-3.result.now c.in_ok-signal.signal ≡ d = λ i. record {
       scopes = (signal.scopes ∙ sym scopes) i;
       kind = signal.kind i;
       size = (signal.width ∙ kept_size (is_one_of skipped_kinds kind) (number_of size) c.in-Some.size read tested) i;

@@ -3,7 +3,7 @@ use Rattle.std.specs.Prelude.{slice_get}
 use Rattle.std.proofs.lemmas.List.{map-append, append_assoc}
 use Rattle.vcd_core.specs.Contents.{signal_contents}
 use Rattle.vcd_text.specs.Meaning.{declared_signal}
-use Rattle.vcd_text.specs.Variables.{declaration, Finishes}
+use Rattle.vcd_text.specs.inside.Variables.{declaration, Finishes}
 use Rattle.vcd_text.proofs.FinishedVariables.{finishes_as_declared}
 use Rattle.vcd_text.proofs.reading.variables.Variables.into_signals.Goals as goal
 

@@ -2,7 +2,7 @@ use Rattle.std.proofs.Common.{◌≡◌, ◌++◌, map}
 use Rattle.vcd_core.specs.Contents.{signal_contents}
 use Rattle.vcd_text.specs.Grammar.{Context}
 use Rattle.vcd_text.specs.Meaning.{declared_signal}
-use Rattle.vcd_text.specs.Variables.{declaration, Knows}
+use Rattle.vcd_text.specs.inside.Variables.{declaration, Knows}
 use Rattle.vcd_text.proofs.reading.variables.Variables.into_signals.Given as goal
 
 abbrev pub invariant-loop-variable : goal.invariant-loop-variable

@@ -1,6 +1,6 @@
 use Rattle.std.proofs.Common.{◌∙◌, ap, if◌then◌else◌, Some, ℕ, List}
 use Rattle.std.specs.Prelude.{bytes_eq}
-use Rattle.vcd_text.specs.Variables.{owner_of}
+use Rattle.vcd_text.specs.inside.Variables.{owner_of}
 use Rattle.vcd_text.proofs.Owners.{owner_put}
 use Rattle.vcd_text.proofs.reading.variables.Variables.own.Goals as goal
 

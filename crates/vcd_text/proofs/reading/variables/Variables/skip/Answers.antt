@@ -1,6 +1,6 @@
 use Rattle.std.proofs.Common.{◌∙◌, ap, sym, inl, inr, ◌+◌, if◌then◌else◌, Some, List, ℕ}
 use Rattle.std.specs.Prelude.{bytes_eq}
-use Rattle.vcd_text.specs.Variables.{owner_of}
+use Rattle.vcd_text.specs.inside.Variables.{owner_of}
 use Rattle.vcd_text.specs.declared.reading.variables.Owner.TheVariants.{Skipped}
 use Rattle.vcd_text.specs.declared.reading.variables.Variables.{Variables}
 use Rattle.vcd_text.proofs.DeclaredVariables.{puts_same, skip_declares}

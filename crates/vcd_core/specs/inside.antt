@@ -1,0 +1,6 @@
+-- Stepping stones: definitions that only contracts of private functions and proofs cite. A reader need not believe them.
+pub mod Planes
+pub mod PlaneLaws
+pub mod ValueLaws
+pub mod NameParts
+pub mod EdgeWalk

@@ -1,0 +1,63 @@
+use Rattle.std.specs.Prelude.{ℕ, ◌+◌, ◌≡◌, ◌==◌, Option, Some, None, MatchOption, if◌then◌else◌, min, List, [], ◌∷◌}
+use Rattle.vcd_core.specs.declared.bit.Bit.{Bit}
+use Rattle.vcd_core.specs.declared.wave.Change.{Change}
+use Rattle.vcd_core.specs.declared.edges.Edge.{Edge}
+use Rattle.vcd_core.specs.declared.edges.Trace.{Trace as LentTrace}
+use Rattle.vcd_core.specs.declared.edges.Edges.TheInside.{Inside}
+use Rattle.vcd_core.specs.Wave.{ChangesFrom}
+use Rattle.vcd_core.specs.Edges.{Trace, edges_on}
+
+-- a track as a wave
+abbrev pub trace_left : LentTrace → Trace
+trace_left track = record { before = track.value; changes = track.rest.now }
+
+abbrev pub traces_left : Inside → List Trace
+traces_left e = trace_left e.a ∷ trace_left e.b ∷ trace_left e.c ∷ trace_left e.d ∷ []
+
+-- the tick of the next change
+abbrev pub next_tick : List Change → Option ℕ
+next_tick [] = None
+next_tick (c ∷ cs) = Some c.tick
+
+-- the lesser of two ticks that may be absent
+abbrev pub earlier_tick : Option ℕ → Option ℕ → Option ℕ
+earlier_tick None u = u
+earlier_tick (Some t) None = Some t
+earlier_tick (Some t) (Some u) = Some (min t u)
+
+-- the tick of the next change of several waves
+abbrev pub next_tick_of : List Trace → Option ℕ
+next_tick_of [] = None
+next_tick_of (l ∷ ls) = earlier_tick (next_tick l.changes) (next_tick_of ls)
+
+-- a wave past its next change, where that stands at the tick
+abbrev pub trace_past : ℕ → Option (List Bit) → List Change → Trace
+trace_past t before [] = record { before = before; changes = [] }
+trace_past t before (c ∷ cs) = if c.tick == t then record { before = Some c.value; changes = cs } else record { before = before; changes = c ∷ cs }
+
+abbrev pub trace_after : ℕ → Trace → Trace
+trace_after t l = trace_past t l.before l.changes
+
+-- the changes of a wave rise from a tick on; an absent wave has none
+abbrev pub Rises : ℕ → Trace → Type 0
+Rises floor l = MatchOption l.before (l.changes ≡ []) (λ v. ChangesFrom floor v l.changes)
+
+abbrev pub EachRises : ℕ → List Trace → Type 0
+EachRises floor [] = Unit {0}
+EachRises floor (l ∷ ls) = Rises floor l × EachRises floor ls
+
+-- a tick that no change is past
+abbrev pub ticks_sum : List Change → ℕ
+ticks_sum [] = 0
+ticks_sum (c ∷ cs) = c.tick + ticks_sum cs
+
+abbrev pub reach : List Trace → ℕ
+reach [] = 0
+reach (l ∷ ls) = ticks_sum l.changes + reach ls
+
+-- the edges that are left, and that the walk keeps
+unfoldable pub edges_left : Inside → List Edge
+edges_left e = edges_on (traces_left e) (reach (traces_left e))
+
+abbrev pub IsWalk : Inside → Type 0
+IsWalk e = EachRises 0 (traces_left e)

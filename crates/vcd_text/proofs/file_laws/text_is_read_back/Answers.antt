@@ -1,5 +1,0 @@
-use Rattle.vcd_text.proofs.TextReadBack.{read_back}
-use Rattle.vcd_text.proofs.file_laws.text_is_read_back.Goals as goal
-
-pub returns : goal.returns
-returns c = read_back

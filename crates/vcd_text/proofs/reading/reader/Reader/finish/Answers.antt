@@ -1,0 +1,31 @@
+use Rattle.std.proofs.Common.{◌≡◌, ℕ, List, map, sym, ap, subst, ◌∙◌}
+use Rattle.vcd_core.specs.Contents.{contents, signal_contents}
+use Rattle.vcd_core.specs.Sound.{IsSound}
+use Rattle.vcd_text.specs.Words.{words_of}
+use Rattle.vcd_text.specs.Meaning.{meaning}
+use Rattle.vcd_text.specs.inside.Reading.{Reads}
+use Rattle.vcd_text.proofs.Ended.{accepts}
+use Rattle.vcd_text.proofs.SoundMeaning.{meaning_is_sound}
+use Rattle.vcd_text.proofs.reading.reader.Reader.finish.Goals as goal
+
+pub returns : goal.returns
+returns c =
+    let capture = c.new-capture.result in
+    let parts = c.new-capture.ensures in
+    let same : (bytes : List ℕ) (r : Reads c.args.self (words_of bytes)) → contents capture ≡ meaning r.told = λ bytes r.
+    let at = r.at.0 in
+    λ i. record {
+      header = (parts.header ∙ at.header) i;
+      timescale = (parts.timescale ∙ at.timescale) i;
+      end = (parts.end ∙ at.tick) i;
+      signals = (ap (map signal_contents) parts.signals ∙ c.in_ok-signals.ensures r.told at.variables) i;
+    } in
+    record {
+      sound = λ bytes r. subst IsSound (sym (same bytes r)) (meaning_is_sound bytes r.told (accepts c.args.self (words_of bytes) r c.requires));
+      means = λ bytes r. record {
+        told = r.told;
+        accepted = accepts c.args.self (words_of bytes) r c.requires;
+        means = same bytes r;
+        left_out = r.at.0.variables.skipped;
+      };
+    }

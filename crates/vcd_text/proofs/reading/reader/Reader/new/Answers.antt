@@ -1,0 +1,27 @@
+use Rattle.std.proofs.Common.{[], refl}
+use Rattle.vcd_text.specs.Grammar.{nothing_told}
+use Rattle.vcd_text.proofs.reading.reader.Reader.new.Goals as goal
+
+pub returns : goal.returns
+returns c = record {
+  items = [];
+  whole = [];
+  begun = [];
+  told = nothing_told;
+  parts = refl;
+  spelled = refl;
+  allowed = tt;
+  tells = refl;
+  at = (
+    record {
+      header = c.new.ensures.items;
+      timescale = refl;
+      scopes = c.new-2.ensures.items;
+      changing = refl;
+      tick = refl;
+      variables = c.new-3.ensures nothing_told refl refl;
+      silent = λ _. refl;
+    },
+    refl,
+  );
+}

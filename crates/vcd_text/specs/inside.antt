@@ -1,0 +1,10 @@
+-- Stepping stones: definitions that only contracts of private functions and proofs cite. A reader need not believe them.
+pub mod Spaces
+pub mod TimescaleText
+pub mod Variables
+pub mod OpenItems
+pub mod Opening
+pub mod Reading
+pub mod SpacedWords
+pub mod Transitions
+pub mod ValueDigits

@@ -1,0 +1,23 @@
+-- Which item a word opens among the declarations.
+use Rattle.std.specs.Prelude.{◌≡◌, ℕ, Bool, true, false, List, IsTrue, codes}
+use Rattle.vcd_text.specs.Items.{header_word, is_other}
+use Rattle.vcd_text.specs.declared.reading.reader.OpenItem.{OpenItem}
+use Rattle.vcd_text.specs.declared.reading.reader.OpenItem.TheVariants as items
+
+-- the word opens this item among the declarations
+abbrev pub Opens : OpenItem → List ℕ → Type 0
+Opens (items.Entry kind) word = word ≡ header_word kind
+Opens items.Timescale word = word ≡ codes "$timescale"
+Opens items.Scope word = word ≡ codes "$scope"
+Opens items.Upscope word = word ≡ codes "$upscope"
+Opens items.Variable word = word ≡ codes "$var"
+Opens items.EndDefinitions word = word ≡ codes "$enddefinitions"
+Opens items.Other word = IsTrue (is_other false word)
+Opens item word = ⊥
+
+-- whether all words of the item up to `$end` are kept, whatever they are
+abbrev pub keeps_words : OpenItem → Bool
+keeps_words (items.Entry kind) = true
+keeps_words items.Timescale = true
+keeps_words items.Scope = true
+keeps_words item = false

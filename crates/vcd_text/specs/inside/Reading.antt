@@ -1,0 +1,132 @@
+-- What the reader holds while it takes one word after another: what the whole items so far have told, and the words of the item that is open.
+use Rattle.std.specs.Prelude.{◌≡◌, ◌⊎◌, ℕ, ◌<◌, ◌^◌, Bool, true, false, ◌&&◌, List, [], ◌∷◌, ◌++◌, length, if◌then◌else◌, IsTrue, IsFalse, Result, Ok, Err, codes}
+use Rattle.vcd_text.specs.declared.fault.Fault.{Fault}
+use Rattle.vcd_text.specs.declared.fault.Fault.TheVariants.{NoMemory}
+use Rattle.vcd_text.specs.declared.fault.ReadError.{ReadError}
+use Rattle.vcd_core.specs.Contents.{Contents}
+use Rattle.vcd_core.specs.Sound.{IsSound}
+use Rattle.vcd_text.specs.Words.{PlacedWord, words_of}
+use Rattle.vcd_text.specs.Meaning.{FileMeans}
+use Rattle.vcd_text.specs.inside.OpenItems.{is_nothing}
+use Rattle.vcd_text.specs.Letters.{is_among}
+use Rattle.vcd_text.specs.Items.{Item, spelling, spellings, has_no_end, header_word, is_other, vector_letters, dropped_letters}
+use Rattle.vcd_text.specs.Grammar.{Context, Allows, AllowsAll, after, after_item, nothing_told, word_texts, has_good_size}
+use Rattle.vcd_text.specs.Faults.{WordFault, ShowsFault}
+use Rattle.vcd_text.specs.Refusals.{memory_error}
+use Rattle.vcd_text.specs.inside.Variables.{Knows}
+use Rattle.vcd_text.specs.declared.reading.reader.Reader.{Reader}
+use Rattle.vcd_text.specs.declared.reading.reader.OpenItem.{OpenItem}
+use Rattle.vcd_text.specs.declared.reading.reader.OpenItem.TheVariants as items
+
+-- ---- the state
+
+-- the machine holds what has been told
+pub record Agrees (m : Reader) (c : Context) : Type 0 where
+  pub header : m.header.items ≡ c.header
+  pub timescale : m.timescale ≡ c.timescale
+  pub scopes : m.scopes.items ≡ c.scopes
+  pub changing : m.changing ≡ c.changing
+  pub tick : m.tick ≡ c.tick
+  pub variables : Knows m.variables c
+  pub silent : IsFalse c.changing → c.records ≡ []
+
+-- a declaration is open whose words behind the keyword the machine keeps
+pub record Collects (m : Reader) (begun : List PlacedWord) (keyword : List ℕ) : Type 0 where
+  pub declares : IsFalse m.changing
+  pub spelled : word_texts begun ≡ keyword ∷ m.words.items
+  pub no_end : IsTrue (has_no_end m.words.items)
+
+-- another command is open
+pub record PassesOver (m : Reader) (begun : List PlacedWord) : Type 0 where
+  pub keyword : List ℕ
+  pub words : List (List ℕ)
+  pub spelled : word_texts begun ≡ keyword ∷ words
+  pub other : IsTrue (is_other m.changing keyword)
+  pub no_end : IsTrue (has_no_end words)
+
+-- a change of two words is open, the first of which has one of these letters and then this text
+pub record AwaitsCode (m : Reader) (begun : List PlacedWord) (letters text : List ℕ) : Type 0 where
+  pub changes : IsTrue m.changing
+  pub word : PlacedWord
+  pub letter : ℕ
+  pub is : begun ≡ word ∷ []
+  pub spelled : word.text ≡ letter ∷ text
+  pub among : IsTrue (is_among letters letter)
+  pub line : m.line ≡ word.line
+
+-- these words of the item that is open have been taken
+abbrev pub IsBegun : Reader → List PlacedWord → OpenItem → Type 0
+IsBegun m begun items.Nothing = begun ≡ []
+IsBegun m begun (items.Entry kind) = Collects m begun (header_word kind)
+IsBegun m begun items.Timescale = Collects m begun (codes "$timescale")
+IsBegun m begun items.Scope = Collects m begun (codes "$scope")
+IsBegun m begun items.Upscope = IsFalse m.changing × (word_texts begun ≡ codes "$upscope" ∷ []) × (0 < length m.scopes.items)
+IsBegun m begun items.Variable = Collects m begun (codes "$var") × IsTrue (has_good_size m.words.items)
+IsBegun m begun items.EndDefinitions = IsFalse m.changing × (word_texts begun ≡ codes "$enddefinitions" ∷ [])
+IsBegun m begun items.Other = PassesOver m begun
+IsBegun m begun items.Vector = AwaitsCode m begun vector_letters m.text.items
+IsBegun m begun items.Dropped = (text : List ℕ) × AwaitsCode m begun dropped_letters text
+
+-- behind whole items that have told this, these words of an open item have been taken
+abbrev pub At : Reader → Context → List PlacedWord → Type 0
+At m c begun = Agrees m c × IsBegun m begun m.item
+
+-- ---- one word
+
+-- a word goes on with the open item, or ends it, which then gets what it asks for
+pub data TakesWord (c : Context) (begun : List PlacedWord) (new : Reader) : Type 0 where
+  goes_on : At new c begun → TakesWord c begun new
+  ends_item : (i : Item) → spelling i ≡ word_texts begun → Allows c i → At new (after_item c i) [] → TakesWord c begun new
+
+-- what comes of a word: it is taken, or shows a fault, or memory runs out
+abbrev pub TakesOrRefuses : Reader → PlacedWord → Result (Unit {0}) Fault → Reader → Type 0
+TakesOrRefuses old w (Ok x) new = (c : Context) (begun : List PlacedWord) → At old c begun → TakesWord c (begun ++ w ∷ []) new
+TakesOrRefuses old w (Err fault) new = (c : Context) (begun : List PlacedWord) → At old c begun → (fault ≡ NoMemory) ⊎ WordFault c (word_texts begun) w.text fault
+
+-- ---- the words from the first
+
+-- all these words have been taken
+pub record Reads (m : Reader) (words : List PlacedWord) : Type 0 where
+  pub items : List Item
+  pub whole : List PlacedWord
+  pub begun : List PlacedWord
+  pub told : Context
+  pub parts : words ≡ whole ++ begun
+  pub spelled : word_texts whole ≡ spellings items
+  pub allowed : AllowsAll nothing_told items
+  pub tells : after nothing_told items ≡ told
+  pub at : At m told begun
+
+-- some words have been taken, fewer than a number of 64 bits can count
+pub record IsUnderway (m : Reader) : Type 0 where
+  pub words : List PlacedWord
+  pub reads : Reads m words
+  pub few : length words < 2 ^ 63
+
+-- whether a fault is want of memory
+abbrev pub is_want_of_memory : Fault → Bool
+is_want_of_memory NoMemory = true
+is_want_of_memory fault = false
+
+-- a fault with its line; want of memory has none
+abbrev pub error_at : ℕ → Fault → ReadError
+error_at line fault = if is_want_of_memory fault then memory_error else record { line = line; fault = fault }
+
+-- a word more has been taken, or it shows a fault whatever follows, or memory has run out
+abbrev pub Steps : Reader → PlacedWord → Result (Unit {0}) ReadError → Reader → Type 0
+Steps old w (Ok x) new = (words : List PlacedWord) → Reads old words → Reads new (words ++ w ∷ [])
+Steps old w (Err e) new = (words more : List PlacedWord) → Reads old words → (e ≡ memory_error) ⊎ ShowsFault (words ++ w ∷ more) e.line e.fault
+
+-- all words of a list have been taken, or one shows a fault, or memory has run out
+abbrev pub ReadsAll : List PlacedWord → Result (Unit {0}) ReadError → Reader → Type 0
+ReadsAll words (Ok x) new = Reads new words
+ReadsAll words (Err e) new = (e ≡ memory_error) ⊎ ShowsFault words e.line e.fault
+
+-- nothing is open, and `$enddefinitions $end` has come
+abbrev pub is_complete : Reader → Bool
+is_complete m = m.changing && is_nothing m.item
+
+-- the file whose words have been taken means these contents, with so many variables skipped
+pub record Means (m : Reader) (contents : Contents) (skipped : ℕ) : Type 0 where
+  pub sound : (bytes : List ℕ) → Reads m (words_of bytes) → IsSound contents
+  pub means : (bytes : List ℕ) → Reads m (words_of bytes) → FileMeans bytes contents skipped

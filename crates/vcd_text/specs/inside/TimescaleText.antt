@@ -1,0 +1,18 @@
+use Rattle.std.specs.Prelude.{ℕ, ◌++◌, List, [], ◌∷◌, Option, find, bytes_eq, decimal}
+use Rattle.std.specs.Option.{option_map}
+use Rattle.vcd_core.specs.declared.capture.Timescale.{Timescale}
+use Rattle.vcd_core.specs.declared.capture.TimeUnit.{TimeUnit}
+use Rattle.vcd_core.specs.declared.capture.TimeUnit.TheVariants.{Second, Millisecond, Microsecond, Nanosecond, Picosecond, Femtosecond}
+use Rattle.vcd_text.specs.Items.{unit_text, timescales}
+
+-- the timescale that a text spells, if it is one
+abbrev pub timescale_spelled : List ℕ → Option Timescale
+timescale_spelled text = find (λ t. bytes_eq text (decimal t.count ++ unit_text t.unit)) timescales
+
+-- the unit that a text names, if it names one
+abbrev pub unit_named : List ℕ → Option TimeUnit
+unit_named text = find (λ unit. bytes_eq text (unit_text unit)) (Second ∷ Millisecond ∷ Microsecond ∷ Nanosecond ∷ Picosecond ∷ Femtosecond ∷ [])
+
+-- so many of a unit
+abbrev pub timescale_of_unit : ℕ → Option TimeUnit → Option Timescale
+timescale_of_unit count unit = option_map (λ u. record { count = count; unit = u }) unit

@@ -1,0 +1,135 @@
+-- The variables of the reader, and what they hold of what a file has told.
+use Rattle.std.specs.Prelude.{◌≡◌, ◌⊎◌, ℕ, ◌<◌, ◌≤◌, if◌then◌else◌, nat_le, List, [], ◌∷◌, ◌++◌, map, length, slice_get, count_by, All, Option, Some, None, IsTrue, IsFalse, IsSomeAnd, Result, Ok, Err, bytes_eq}
+use Rattle.indexmap.specs.IndexMap.{get_by}
+use Rattle.vcd_core.specs.declared.capture.TheConstants.{SIGNAL_LIMIT}
+use Rattle.vcd_core.specs.declared.wave.Change.{Change}
+use Rattle.vcd_core.specs.Value.{all_x}
+use Rattle.vcd_core.specs.Wave.{value_at, IsWave}
+use Rattle.vcd_core.specs.Contents.{signal_contents}
+use Rattle.vcd_core.specs.declared.capture.Signal.{Signal}
+use Rattle.vcd_text.specs.declared.fault.Fault.{Fault}
+use Rattle.vcd_text.specs.declared.fault.Fault.TheVariants as faults
+use Rattle.vcd_text.specs.Letters.{letters_read, extension}
+use Rattle.vcd_text.specs.Items.{variable}
+use Rattle.vcd_text.specs.Grammar.{Declaration, ChangeRecord, Context, is_skipped, kept_variables, declaration_of, variable_of, may_have_code, has_room, is_value, takes_digits, after_item, with_record}
+use Rattle.vcd_text.specs.Meaning.{recorded_value}
+use Rattle.vcd_text.specs.declared.reading.variables.Owner.{Owner}
+use Rattle.vcd_text.specs.declared.reading.variables.Owner.TheVariants.{Skipped, Kept}
+use Rattle.vcd_text.specs.declared.reading.variables.Variable.{Variable}
+use Rattle.vcd_text.specs.declared.reading.variables.Variables.{Variables}
+
+-- ---- what the variables hold
+
+-- what a code and a signal declare
+abbrev pub declaration_by : (code : List ℕ) → Signal → Declaration
+declaration_by code s = record { scopes = s.scopes; kind = s.kind; size = s.wave.width; code = code; words = s.words }
+
+-- what a kept variable of the reader declares
+abbrev pub declaration : Variable → Declaration
+declaration v = declaration_by v.code v.signal
+
+-- what a code stands for
+abbrev pub owner_of : Variables → List ℕ → Option Owner
+owner_of vs code = get_by (λ key. bytes_eq code key.items) vs.owners
+
+-- the variable of this code and size stands at this position, and its wave follows the records, the last of which is at the tick or before
+pub record HasWave (vs : List Variable) (position : ℕ) (code : List ℕ) (size : ℕ) (records : List ChangeRecord) (tick : ℕ) : Type 0 where
+  pub first : Variable
+  pub stands : slice_get vs position ≡ Some first
+  pub coded : first.code ≡ code
+  pub sized : first.signal.wave.width ≡ size
+  pub ticks : All (λ (change : Change). change.tick ≤ tick) first.signal.wave.changes
+  pub values : (t : ℕ) → value_at size first.signal.wave.changes t ≡ recorded_value size code t (all_x size) records
+
+-- what a code stands for agrees with the first variable that was declared with it
+abbrev pub Stands : List Variable → List ChangeRecord → ℕ → List ℕ → Option Owner → Option Declaration → Type 0
+Stands vs records tick code None None = Unit {0}
+Stands vs records tick code (Some Skipped) (Some d) = IsTrue (is_skipped d)
+Stands vs records tick code (Some (Kept position)) (Some d) = IsFalse (is_skipped d) × HasWave vs position code d.size records tick
+Stands vs records tick code owner declared = ⊥
+
+-- a kept variable knows the first one with its code, which stands no later and has the same size
+pub record HasFirst (vs : Variables) (position : ℕ) (v : Variable) : Type 0 where
+  pub owned : owner_of vs v.code ≡ Some (Kept v.first)
+  pub no_later : v.first ≤ position
+  pub same_size : (w : Variable) → slice_get vs.kept.items v.first ≡ Some w → w.signal.wave.width ≡ v.signal.wave.width
+
+-- the variables hold what has been told of them: declarations, and records up to the tick
+pub record Knows (vs : Variables) (c : Context) : Type 0 where
+  pub kept : kept_variables c.declared ≡ map declaration vs.kept.items
+  pub skipped : vs.skipped ≡ count_by is_skipped c.declared
+  pub stand : (code : List ℕ) → Stands vs.kept.items c.records c.tick code (owner_of vs code) (variable_of c code)
+  pub firsts : (position : ℕ) (v : Variable) → slice_get vs.kept.items position ≡ Some v → HasFirst vs position v
+  pub few : length vs.kept.items ≤ SIGNAL_LIMIT
+
+-- ---- what comes of a declaration
+
+-- what has been told, with this declaration behind the others
+abbrev pub with_declared : Context → Declaration → Context
+with_declared c d = record c { declared = c.declared ++ d ∷ [] }
+
+-- the declaration may not stand here
+pub data CannotDeclare (c : Context) (d : Declaration) (fault : Fault) : Type 0 where
+  mixed : IsFalse (may_have_code (variable_of c d.code) d) → fault ≡ faults.MixedCode → CannotDeclare c d fault
+  many : IsTrue (may_have_code (variable_of c d.code) d) → IsFalse (has_room c.declared d) → fault ≡ faults.TooManySignals → CannotDeclare c d fault
+
+abbrev pub DeclaresAs : Context → Declaration → Result (Unit {0}) Fault → Variables → Type 0
+DeclaresAs c d (Ok x) new = IsTrue (may_have_code (variable_of c d.code) d) × IsTrue (has_room c.declared d) × Knows new (with_declared c d)
+DeclaresAs c d (Err fault) new = (fault ≡ faults.NoMemory) ⊎ CannotDeclare c d fault
+
+-- ---- what comes of a `$var`, at its `$end`
+
+-- the words declare no variable that may stand here
+pub data VariableFault (c : Context) (words : List (List ℕ)) (fault : Fault) : Type 0 where
+  no_variable : declaration_of c words ≡ None → fault ≡ faults.BadVar → VariableFault c words fault
+  code_mixed : (d : Declaration) → declaration_of c words ≡ Some d → IsFalse (may_have_code (variable_of c d.code) d)
+      → fault ≡ faults.MixedCode → VariableFault c words fault
+  no_room : (d : Declaration) → declaration_of c words ≡ Some d → IsTrue (may_have_code (variable_of c d.code) d) → IsFalse (has_room c.declared d)
+      → fault ≡ faults.TooManySignals → VariableFault c words fault
+
+abbrev pub Declares : Context → List (List ℕ) → Result (Unit {0}) Fault → Variables → Type 0
+Declares c words (Ok x) new =
+    IsSomeAnd (declaration_of c words) (λ d. IsTrue (may_have_code (variable_of c d.code) d) × IsTrue (has_room c.declared d))
+    × Knows new (after_item c (variable words))
+Declares c words (Err fault) new = (fault ≡ faults.NoMemory) ⊎ VariableFault c words fault
+
+-- ---- what comes of digits
+
+-- from the tick on a variable has the value of the digits
+pub record Sets (tick : ℕ) (digits : List ℕ) (old new : Variable) : Type 0 where
+  pub value : IsTrue (is_value digits)
+  pub fits : length digits ≤ old.signal.wave.width
+  pub same : declaration new ≡ declaration old
+  pub same_first : new.first ≡ old.first
+  pub ticks : All (λ (change : Change). change.tick ≤ tick) new.signal.wave.changes
+  pub values : (t : ℕ) → value_at new.signal.wave.width new.signal.wave.changes t
+      ≡ (if nat_le tick t then extension old.signal.wave.width (letters_read digits) else value_at old.signal.wave.width old.signal.wave.changes t)
+
+-- a variable of this width does not take the digits
+abbrev pub RefusesDigits : (width : ℕ) → List ℕ → Fault → Type 0
+RefusesDigits width digits fault =
+    (IsFalse (is_value digits) × (fault ≡ faults.BadChange)) ⊎ (IsTrue (is_value digits) × (width < length digits) × (fault ≡ faults.ValueTooLong))
+
+-- ---- what comes of a change with these digits
+
+-- the code is none, or its variable does not take the digits
+pub data DigitsFault (c : Context) (code digits : List ℕ) (fault : Fault) : Type 0 where
+  unknown : variable_of c code ≡ None → fault ≡ faults.UnknownCode → DigitsFault c code digits fault
+  no_value : (d : Declaration) → variable_of c code ≡ Some d → IsFalse (is_skipped d) → IsFalse (is_value digits)
+      → fault ≡ faults.BadChange → DigitsFault c code digits fault
+  too_long : (d : Declaration) → variable_of c code ≡ Some d → IsFalse (is_skipped d) → IsTrue (is_value digits) → d.size < length digits
+      → fault ≡ faults.ValueTooLong → DigitsFault c code digits fault
+
+abbrev pub TakesChange : Context → (code digits : List ℕ) → Result (Unit {0}) Fault → Variables → Type 0
+TakesChange c code digits (Ok x) new =
+    IsSomeAnd (variable_of c code) (λ d. IsTrue (takes_digits d digits)) × Knows new (with_record c code (letters_read digits))
+TakesChange c code digits (Err fault) new = (fault ≡ faults.NoMemory) ⊎ DigitsFault c code digits fault
+
+-- ---- what comes of the variables at the end
+
+-- the signal of a variable has a wave of its own, or that of the signal that stands at the position of the first variable with its code
+abbrev pub Finishes : Variable → Option Signal → Signal → Type 0
+Finishes v None signal = (signal ≡ v.signal) × IsWave signal.wave.width signal.wave.changes
+Finishes v (Some shared) signal =
+    signal_contents signal
+    ≡ record { scopes = v.signal.scopes; kind = v.signal.kind; words = v.signal.words; width = shared.wave.width; changes = shared.wave.changes }

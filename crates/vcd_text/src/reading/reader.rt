@@ -1,0 +1,147 @@
+//! The reader as a machine that takes one word after another.
+
+ghost use Rattle.std.specs.Prelude.{◌≡◌, ◌<◌, [], true, length, IfOk};
+ghost use Rattle.vcd_core.specs.Contents.{contents};
+ghost use Rattle.vcd_text.specs.Words.{word_on};
+ghost use Rattle.vcd_text.specs.inside.OpenItems.{shown_line};
+ghost use Rattle.vcd_text.specs.inside.Reading.{Reads, IsUnderway, TakesOrRefuses, Steps, error_at, is_complete, Means};
+
+use crate::fault::{Fault, ReadError};
+use crate::reading::Loaded;
+use crate::reading::variables::Variables;
+use std::alloc::Global;
+use vcd_core::{Capture, Header, HeaderKind, NoMemory, ScopeName, Timescale, Word};
+
+/// The item whose words are not all there yet.
+#[derive(Clone, Copy, Debug, PartialEq, Eq)]
+pub enum OpenItem {
+    /// None: the next word begins one.
+    Nothing,
+    /// `$date`, `$version` or `$comment` among the declarations.
+    Entry(HeaderKind),
+    Timescale,
+    Scope,
+    Upscope,
+    Variable,
+    EndDefinitions,
+    /// A command that is passed over.
+    Other,
+    /// A change of several bits, whose code is due.
+    Vector,
+    /// A change of a real number or a string, whose code is due.
+    Dropped,
+}
+
+/// What has been read so far.
+#[derive(Drop)]
+pub struct Reader {
+    pub header: Vec<Header>,
+    pub timescale: Option<Timescale>,
+    /// The scopes that are open, outermost first.
+    pub scopes: Vec<ScopeName>,
+    pub variables: Variables,
+    /// Whether `$enddefinitions $end` has come.
+    pub changing: bool,
+    /// The last time stamp, or 0.
+    pub tick: u64,
+    pub item: OpenItem,
+    /// The words of the declaration that is open, behind its keyword.
+    pub words: Vec<Word>,
+    /// The digits of the change of several bits that is open.
+    pub text: Vec<u8>,
+    /// The line of the change that is open.
+    pub line: u64,
+}
+
+impl Reader {
+    pub fn new(alloc: Global) -> Reader
+        ensures { Reads result [] }
+    {
+        Reader {
+            header: Vec::new(alloc),
+            timescale: None,
+            scopes: Vec::new(alloc),
+            variables: Variables::new(alloc),
+            changing: false,
+            tick: 0,
+            item: OpenItem::Nothing,
+            words: Vec::new(alloc),
+            text: Vec::new(alloc),
+            line: 0,
+        }
+    }
+
+    /// Takes the next word of the file, which stands on this line.
+    pub fn step(&mut self, alloc: Global, text: &[u8], line: u64) -> Result<(), ReadError>
+        requires reading { IsUnderway self.old }
+        requires word { 0 < length text.now }
+        ensures { Steps self.old (word_on text.now line) result self.new }
+    {
+        let shown = self.shown_line(line);
+        match self.take(alloc, text, line) {
+            Ok(()) => Ok(()),
+            Err(fault) => Err(error_at(shown, fault)),
+        }
+    }
+
+    /// The line that a fault of the next word bears, which stands on this line.
+    fn shown_line(&self, line: u64) -> u64
+        ensures { result ≡ shown_line self.now.item self.now.line line }
+    {
+        match self.item {
+            OpenItem::Vector | OpenItem::Dropped => self.line,
+            _ => line,
+        }
+    }
+
+    /// Takes the next word.
+    fn take(&mut self, alloc: Global, text: &[u8], line: u64) -> Result<(), Fault>
+        requires reading { IsUnderway self.old }
+        requires word { 0 < length text.now }
+        ensures { TakesOrRefuses self.old (word_on text.now line) result self.new }
+    {
+        match self.item {
+            OpenItem::Nothing if self.changing => self.begin_change(text, line),
+            OpenItem::Nothing => self.begin_declaration(text),
+            OpenItem::Vector => self.end_vector(text),
+            OpenItem::Dropped => self.end_dropped(text),
+            _ if text == b"$end".as_slice() => self.close(alloc),
+            _ => self.go_on(alloc, text),
+        }
+    }
+
+    /// Whether the words so far are a whole file.
+    pub fn is_complete(&self) -> bool
+        ensures { result ≡ is_complete self.now }
+    {
+        self.changing && self.item == OpenItem::Nothing
+    }
+
+    /// The capture that the file means, once its last word has been taken.
+    pub fn finish(self, alloc: Global) -> Result<Loaded, NoMemory>
+        requires { is_complete self ≡ true }
+        ensures { IfOk result (λ loaded. Means self (contents loaded.capture) loaded.skipped) }
+    {
+        let Reader {
+            header,
+            timescale,
+            variables,
+            tick,
+            ..
+        } = self;
+        let skipped = variables.skipped;
+        let signals = variables.into_signals(alloc)?;
+        let capture = Capture::new(header, timescale, tick, signals);
+        Ok(Loaded { capture, skipped })
+    }
+}
+
+/// A fault with its line; want of memory has none.
+fn error_at(line: u64, fault: Fault) -> ReadError
+    ensures { result ≡ error_at line fault }
+{
+    match fault {
+        Fault::NoMemory => ReadError { line: 0, fault },
+        _ => ReadError { line, fault },
+    }
+}

@@ -1,0 +1,36 @@
+-- What a run of lines does to a history and to the writer of the replies: the project's own.
+use Rattle.std.specs.Prelude.{◌≡◌, ℕ, if◌then◌else◌, List, [], Option, is_err}
+use Rattle.std.specs.Io.KnownBytes.{Appends}
+use Rattle.vcd_core.specs.Contents.{Contents}
+use Rattle.vcdedit.specs.declared.run_error.RunError.{RunError}
+use Rattle.vcdedit.specs.declared.run_error.RunError.TheVariants as run_errors
+use Rattle.vcdedit.specs.inside.History.{History, with_future}
+use Rattle.vcdedit.specs.Reply.{LineReply, reply_text}
+use Rattle.vcdedit.specs.inside.Answering.{AnswersLine}
+use Rattle.vcdedit.specs.Run.{after_lines, replies, refusals}
+
+-- the line of this number leads from one history to the other, its reply is told, and so many lines are refused
+abbrev pub TellsLine : ℕ → List ℕ → History → History → (refused : ℕ) → (before after : Option (List ℕ)) → Type 0
+TellsLine number line old new refused before after =
+    (reply : LineReply) × AnswersLine line old new reply × (refused ≡ (if is_err reply then 1 else 0)) × Appends before after (reply_text number reply)
+
+-- the lines lead from one history, without a future, to the other; their replies are these, and so many are refused
+pub record LinesGive (skipped : ℕ) (lines : List (List ℕ)) (old new : History) (told : List ℕ) (count : ℕ) : Type 0 where
+  pub later : List Contents
+  pub after : after_lines (with_future [] old) lines ≡ with_future later new
+  pub replies : replies skipped 1 (with_future [] old) lines ≡ told
+  pub refused : refusals skipped (with_future [] old) lines ≡ count
+
+-- all lines are run, and their replies told
+abbrev pub RunsLines : List (List ℕ) → History → History → (refused : ℕ) → (before after : Option (List ℕ)) → Type 0
+RunsLines lines old new refused before after =
+    (told : List ℕ) × Appends before after told × ((skipped : ℕ) → LinesGive skipped lines old new told refused)
+
+-- the fault is one of a line
+abbrev pub IsLineFault : RunError → Type 0
+IsLineFault (run_errors.NoMemory line) = Unit {0}
+IsLineFault (run_errors.ReplyFault written) = Unit {0}
+IsLineFault (run_errors.Capture e) = ⊥
+IsLineFault run_errors.ScriptTooLarge = ⊥
+IsLineFault run_errors.ScriptReadFault = ⊥
+IsLineFault (run_errors.Write e) = ⊥
