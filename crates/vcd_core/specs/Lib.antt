@@ -1,8 +1,8 @@
+-- The definitions that contracts cite. Those that a reader need not believe stand in `inside`.
 pub mod Lending
 pub mod WaveView
 pub mod Value
 pub mod Wave
-pub mod Push
 pub mod Splice
 pub mod Contents
 pub mod Word

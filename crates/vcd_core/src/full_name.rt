@@ -8,11 +8,11 @@ ghost use Rattle.vcd_core.specs.Names.{name_in, full_name, full_names};
 
 use crate::capture::{ScopeName, Signal, Word};
 
-/// A full name: the names of scopes, outermost first, and a name, joined by `.`; a name of several words
-/// is these run together.
+/// A full name: the names of scopes, outermost first, and a name, joined by `.`; a name of several
+/// words is these run together.
 ///
-/// It borrows its parts and is never built. Contracts see its bytes. A comparison takes no memory, and ends at the
-/// first byte that differs.
+/// It borrows its parts and is never built. Contracts see its bytes. A comparison takes no memory,
+/// and ends at the first byte that differs.
 #[derive(Clone, Copy)]
 pub struct FullName<'a> {
     /// What is left of the word at hand.
@@ -32,7 +32,8 @@ impl<'a> FullName<'a> {
     ghost use Rattle.vcd_core.specs.FullName.{name_bytes};
     ghost use Rattle.vcd_core.specs.inside.NameParts.{IsDrained};
 
-    /// The full name in these scopes, outermost first, of a name whose words are `first` and the others.
+    /// The full name in these scopes, outermost first, of a name whose words are `first` and the
+    /// others.
     pub fn new(scopes: &'a [ScopeName], first: &'a [u8], others: &'a [Word]) -> FullName<'a>
         ensures { name_bytes result ≡ name_in scopes.now (first.now ∷ others.now) }
     {
@@ -70,7 +71,8 @@ impl<'a> FullName<'a> {
 
     /// Whether one of the signals has this full name.
     pub fn is_taken(&self, signals: &[Signal]) -> bool
-        ensures { result ≡ list_any (bytes_eq (name_bytes self.now)) (full_names (map signal_contents signals.now)) }
+        ensures { result ≡ list_any (bytes_eq (name_bytes self.now))
+            (full_names (map signal_contents signals.now)) }
     {
         signals
             .iter()
@@ -108,7 +110,8 @@ impl<'a> FullName<'a> {
 
     /// Takes the next byte.
     fn next_byte(&mut self) -> Option<u8>
-        ensures { MatchOption result (name_bytes self.old ≡ []) (λ byte. name_bytes self.old ≡ byte ∷ name_bytes self.new) }
+        ensures { MatchOption result (name_bytes self.old ≡ [])
+            (λ byte. name_bytes self.old ≡ byte ∷ name_bytes self.new) }
     {
         self.go_to_text();
         match self.text {
@@ -139,7 +142,8 @@ impl<'a> FullName<'a> {
     /// Takes the `.` behind a scope of which no byte is left.
     fn leave_scope(&mut self) -> Option<u8>
         requires { IsDrained self.old }
-        ensures { MatchOption result (name_bytes self.old ≡ []) (λ byte. name_bytes self.old ≡ byte ∷ name_bytes self.new) }
+        ensures { MatchOption result (name_bytes self.old ≡ [])
+            (λ byte. name_bytes self.old ≡ byte ∷ name_bytes self.new) }
     {
         if !self.in_scope {
             return None;

@@ -15,16 +15,18 @@ use crate::full_name::FullName;
 mod tests;
 
 impl Capture {
-    /// Whether the signal at position `k` has this full name: the names of its scopes and its own, joined by `.`.
+    /// Whether the signal at position `k` has this full name: the names of its scopes and its own,
+    /// joined by `.`.
     pub fn name_is(&self, k: usize, name: &[u8]) -> bool
         requires { k < length self.now.signals }
-        ensures { IsTrue result ↔ (slice_get (full_names (contents self.now).signals) k ≡ Some name.now) }
+        ensures { IsTrue result ↔
+            (slice_get (full_names (contents self.now).signals) k ≡ Some name.now) }
     {
         has_full_name(&self.signals.as_slice()[k], name)
     }
 
-    /// The position of the signal that `name` stands for. `@` and a position alone are that signal, where
-    /// there is one; any other name is the first signal with that full name.
+    /// The position of the signal that `name` stands for. `@` and a position alone are that signal,
+    /// where there is one; any other name is the first signal with that full name.
     pub fn find(&self, name: &[u8]) -> Option<usize>
         ensures { result ≡ lookup (contents self.now).signals name.now }
     {
@@ -38,7 +40,8 @@ impl Capture {
 
 /// The position of the first signal with this full name.
 fn first_named(signals: &[Signal], name: &[u8]) -> Option<usize>
-    ensures { result ≡ position (λ s. bytes_eq name.now (full_name (signal_contents s))) signals.now }
+    ensures { result ≡
+        position (λ s. bytes_eq name.now (full_name (signal_contents s))) signals.now }
 {
     signals
         .iter()

@@ -17,9 +17,9 @@ pub const WIDTH_LIMIT: u64 = 128;
 
 /// A four-state value of 1 to [`WIDTH_LIMIT`] bits (IEEE 1364-2005, 18.2).
 ///
-/// Contracts see the list of its letters, most significant first. Bit `k` counts from 0 at the least
-/// significant end. Two planes of bits tell the letters apart: 0 is 00, 1 is 01, z is 10 and x is 11,
-/// the high plane's bit first.
+/// Contracts see the list of its letters, most significant first. Bit `k` counts from 0 at the
+/// least significant end. Two planes of bits tell the letters apart: 0 is 00, 1 is 01, z is 10 and
+/// x is 11, the high plane's bit first.
 #[derive(Clone, Copy)]
 pub struct Value {
     width: u64,

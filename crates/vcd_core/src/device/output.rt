@@ -5,7 +5,8 @@ ghost use Rattle.std.specs.Io.KnownBytes.{Appends};
 
 use crate::device::Sink;
 
-/// A sink failed before it had taken all bytes and passed them on: it took the first `written` of them, and no other.
+/// A sink failed before it had taken all bytes and passed them on: it took the first `written` of
+/// them, and no other.
 #[derive(Clone, Copy, Debug, PartialEq, Eq)]
 pub struct ShortWrite {
     pub written: u128,
@@ -13,8 +14,8 @@ pub struct ShortWrite {
 
 /// Writes all of `bytes`, in order. It takes no memory.
 ///
-/// An error means that the sink has failed, and says how many of the bytes it took before that: exactly so many
-/// from the front, which is not all of them.
+/// An error means that the sink has failed, and says how many of the bytes it took before that:
+/// exactly so many from the front, which is not all of them.
 pub fn write_all<W: Sink>(sink: &mut W, bytes: &[u8]) -> Result<(), ShortWrite>
     requires ready { W.has_failed sink.old ≡ false }
     ensures all { OnOk result (Appends (W.taken sink.old) (W.taken sink.new) bytes.now) }
@@ -40,8 +41,8 @@ pub fn write_all<W: Sink>(sink: &mut W, bytes: &[u8]) -> Result<(), ShortWrite>
 
 /// Writes all of `bytes`, in order, and flushes the sink once behind the last. It takes no memory.
 ///
-/// An error means that the sink has failed, and says how many of the bytes it took before that: exactly so many
-/// from the front, all of them where it failed in the flush.
+/// An error means that the sink has failed, and says how many of the bytes it took before that:
+/// exactly so many from the front, all of them where it failed in the flush.
 pub fn write_and_flush<W: Sink>(sink: &mut W, bytes: &[u8]) -> Result<(), ShortWrite>
     requires ready { W.has_failed sink.old ≡ false }
     ensures all { OnOk result (Appends (W.taken sink.old) (W.taken sink.new) bytes.now) }
