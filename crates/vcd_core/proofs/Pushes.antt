@@ -8,8 +8,7 @@ use Rattle.vcd_core.specs.declared.bit.Bit.{Bit}
 use Rattle.vcd_core.specs.declared.wave.Change.{Change}
 use Rattle.vcd_core.specs.Value.{all_x, same_letters}
 use Rattle.vcd_core.specs.inside.ValueLaws.{same_letters-Decides}
-use Rattle.vcd_core.specs.Wave.{change, value_from, value_at, ChangesFrom, IsWave, AllUpTo, last_value}
-use Rattle.vcd_core.specs.Push.{changes_before, changes_after_push}
+use Rattle.vcd_core.specs.Wave.{change, value_from, value_at, ChangesFrom, IsWave, AllUpTo, last_value, changes_before, changes_after_push}
 use Rattle.vcd_core.proofs.Waves.{value_from-append, value_past, value_skip, value_early}
 
 -- ---- ticks by position

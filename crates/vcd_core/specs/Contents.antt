@@ -24,6 +24,7 @@ pub record Contents : Type 0 where
   pub end : ℕ
   pub signals : List SignalContents
 
+-- what a signal holds
 abbrev pub signal_contents : Signal → SignalContents
 signal_contents s = record { scopes = s.scopes; kind = s.kind; words = s.words; width = s.wave.width; changes = s.wave.changes }
 

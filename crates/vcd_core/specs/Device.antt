@@ -1,3 +1,4 @@
+-- What the answer of a device says of its state: the project's own.
 use Rattle.std.specs.Prelude.{Bool, true, false, ◌≡◌, Result, OnOk, OnErr, IsErr}
 
 -- how the answer of a call tells whether the device has failed: the project's own

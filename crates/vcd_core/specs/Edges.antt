@@ -1,3 +1,4 @@
+-- Edges of several waves, an absent wave among them having no value: the project's own.
 use Rattle.std.specs.Prelude.{ℕ, zero, suc, Bool, Option, Some, None, true, false, not, List, [], ◌∷◌, map, filter, IfSome}
 use Rattle.std.specs.List.{list_any, range_with_len}
 use Rattle.std.specs.Option.{option_map}
@@ -7,8 +8,6 @@ use Rattle.vcd_core.specs.declared.edges.Edge.{Edge}
 use Rattle.vcd_core.specs.Value.{all_x, same_letters}
 use Rattle.vcd_core.specs.Wave.{value_from, AllUpTo}
 use Rattle.vcd_core.specs.WaveView.{WaveView}
-
--- Edges of several waves, an absent wave among them having no value: the project's own.
 
 -- a wave by its value before tick 0, none where it is absent, and its changes
 pub record Trace : Type 0 where

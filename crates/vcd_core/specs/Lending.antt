@@ -1,3 +1,4 @@
+-- What a list holds once an item of it has been lent out to be written.
 use Rattle.std.specs.Prelude.{ℕ, List, slice_set}
 use Rattle.std.specs.Borrow.{Lends, MutBor, Fml, RattleType}
 use Rattle.vcd_core.specs.contracts.seq.Seq.{the_row}

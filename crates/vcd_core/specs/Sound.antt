@@ -1,3 +1,4 @@
+-- The captures that a file can say: the project's own, after the format (IEEE 1364-2005, 18.2).
 use Rattle.std.specs.Prelude.{ℕ, Bool, not, ◌&&◌, ◌||◌, ◌==◌, ◌<◌, ◌≤◌, length, All, IfSome, IsTrue}
 use Rattle.std.specs.List.{list_all}
 use Rattle.vcd_core.specs.declared.capture.Header.{Header}
@@ -9,9 +10,11 @@ use Rattle.vcd_core.specs.Word.{is_word, is_skipped_kind}
 use Rattle.vcd_core.specs.Wave.{IsWave, AllUpTo}
 use Rattle.vcd_core.specs.Contents.{Contents, SignalContents}
 
+-- a header entry that a file can say: words alone
 abbrev pub is_sound_header : Header → Bool
 is_sound_header h = list_all is_word h.words
 
+-- a scope that a file can say: its kind is a word, and so is each word of its name
 abbrev pub is_sound_scope : ScopeName → Bool
 is_sound_scope s = is_word s.kind && list_all is_word s.words
 

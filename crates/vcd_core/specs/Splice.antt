@@ -1,3 +1,4 @@
+-- A splice of a list of changes: the project's own.
 use Rattle.std.specs.Prelude.{ℕ, ℤ, pos, ◌+ℤ◌, unsigned_abs, List, ◌++◌, take, drop, map, All}
 use Rattle.std.specs.Int.{w64, FitsUnsigned}
 use Rattle.vcd_core.specs.declared.wave.Change.{Change}

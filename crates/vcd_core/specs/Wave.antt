@@ -1,4 +1,5 @@
-use Rattle.std.specs.Prelude.{ℕ, zero, suc, Bool, ◌+◌, ◌≡◌, ◌≢◌, ◌≤◌, true, false, if◌then◌else◌, nat_le, List, [], ◌∷◌, length}
+-- A wave as the list of its changes: its value at a tick, the one form that it has, and a push at its end.
+use Rattle.std.specs.Prelude.{ℕ, zero, suc, Bool, ◌+◌, ◌≡◌, ◌≢◌, ◌≤◌, true, false, if◌then◌else◌, nat_le, nat_lt, List, [], ◌∷◌, ◌++◌, length, take_while}
 use Rattle.vcd_core.specs.declared.bit.Bit.{Bit}
 use Rattle.vcd_core.specs.declared.wave.Change.{Change}
 use Rattle.vcd_core.specs.Value.{all_x, same_letters}
@@ -48,3 +49,13 @@ AllUpTo end (c ∷ cs) = (c.tick ≤ end) × AllUpTo end cs
 unfoldable pub last_value : List Bit → List Change → List Bit
 last_value before [] = before
 last_value before (c ∷ cs) = last_value c.value cs
+
+-- the changes before a tick
+abbrev pub changes_before : ℕ → List Change → List Change
+changes_before tick changes = take_while (λ c. nat_lt c.tick tick) changes
+
+-- the list after a push at its end: the value is added where it differs from the one before it
+unfoldable pub changes_after_push : ℕ → List Change → ℕ → List Bit → List Change
+changes_after_push width changes tick value =
+    let kept = changes_before tick changes in
+    if same_letters value (last_value (all_x width) kept) then kept else kept ++ change tick value ∷ []

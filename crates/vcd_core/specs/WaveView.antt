@@ -1,3 +1,4 @@
+-- What contracts see of a wave.
 use Rattle.std.specs.Prelude.{ℕ, List}
 use Rattle.vcd_core.specs.declared.wave.Change.{Change}
 

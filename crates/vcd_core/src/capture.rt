@@ -85,6 +85,14 @@ impl ScopePath {
         ScopePath { scopes }
     }
 
+    /// Gives the scopes back, outermost first, with the memory that they stand in.
+    pub fn into_vec(self) -> Vec<ScopeName>
+        ensures { result.items ≡ self }
+    {
+        let ScopePath { scopes } = self;
+        scopes
+    }
+
     /// The scopes, outermost first.
     pub fn as_slice(&self) -> &[ScopeName]
         ensures { result.now ≡ self.now }

@@ -2,8 +2,7 @@
 
 ghost use Rattle.std.specs.Prelude.{◌≡◌, ◌≢◌, ℕ, ◌<◌, ◌≤◌, All, IsOk, OnOk, OnErr, vec_len, vec_capacity};
 ghost use Rattle.vcd_core.specs.Value.{all_x};
-ghost use Rattle.vcd_core.specs.Wave.{last_value, IsWave};
-ghost use Rattle.vcd_core.specs.Push.{changes_before, changes_after_push};
+ghost use Rattle.vcd_core.specs.Wave.{last_value, IsWave, changes_before, changes_after_push};
 
 use crate::bit::Bit;
 use crate::memory::NoMemory;
@@ -46,11 +45,13 @@ pub(crate) fn push_change(
     requires most { width ≤ WIDTH_LIMIT }
     requires form { IsWave width changes.old.items }
     requires late { All (λ c. c.tick ≤ tick) changes.old.items }
-    ensures pushed { OnOk result (changes.new.items ≡ changes_after_push width changes.old.items tick value) }
+    ensures pushed { OnOk result
+        (changes.new.items ≡ changes_after_push width changes.old.items tick value) }
     ensures refused { OnErr result (changes.new.items ≡ changes.old.items) }
     ensures in_place { vec_len changes.old < vec_capacity changes.old → IsOk result }
     ensures replaces { changes_before tick changes.old.items ≢ changes.old.items → IsOk result }
-    ensures adds_none { last_value (all_x width) (changes_before tick changes.old.items) ≡ value → IsOk result }
+    ensures adds_none { last_value (all_x width) (changes_before tick changes.old.items) ≡ value →
+        IsOk result }
     ensures capacity { vec_capacity changes.old ≤ vec_capacity changes.new }
 {
     pop_at(changes, tick);

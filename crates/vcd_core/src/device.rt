@@ -3,10 +3,14 @@ ghost use Rattle.std.specs.Io.{ReadsAtMost, WritesAtMost};
 ghost use Rattle.std.specs.Io.KnownBytes.{ReadConsumes, WriteAppends, Keeps};
 ghost use Rattle.vcd_core.specs.Device.{Reports};
 
-use std::io::{Read, Write};
-
+mod output;
 #[cfg(test)]
 mod tests;
+mod whole;
+
+pub use output::{ShortWrite, write_all, write_and_flush};
+use std::io::{Read, Write};
+pub use whole::{Incomplete, read_whole};
 
 /// A device has failed.
 #[derive(Clone, Copy, Debug, PartialEq, Eq)]
@@ -25,8 +29,8 @@ impl DeviceFault {
 
 /// Where bytes come from.
 ///
-/// After an `Ok` the device has not failed. An `Err` means that it has failed: it gave no byte, and every later
-/// call is an `Err`.
+/// After an `Ok` the device has not failed. An `Err` means that it has failed: it gave no byte, and
+/// every later call is an `Err`.
 pub trait Source {
     ghost use Rattle.std.specs.Prelude.{ℕ, Bool, List, Option, None};
 
@@ -36,8 +40,8 @@ pub trait Source {
     // whether it has failed
     ghost has_failed: { Self → Bool };
 
-    /// Reads bytes into the front of `buffer` and answers how many, at most its length. None into a buffer that
-    /// is not empty means that no byte is to come.
+    /// Reads bytes into the front of `buffer` and answers how many, at most its length. None into a
+    /// buffer that is not empty means that no byte is to come.
     fn read(&mut self, buffer: &mut [u8]) -> Result<usize, DeviceFault>
         ensures count { ReadsAtMost result buffer.new }
         ensures bytes { ReadConsumes (coming self.old) (coming self.new) result buffer.new }
@@ -50,8 +54,8 @@ pub trait Source {
 
 /// Where bytes go to.
 ///
-/// After an `Ok` the device has not failed. An `Err` means that it has failed: it took no byte, and every later
-/// call is an `Err`.
+/// After an `Ok` the device has not failed. An `Err` means that it has failed: it took no byte, and
+/// every later call is an `Err`.
 pub trait Sink {
     ghost use Rattle.std.specs.Prelude.{ℕ, Bool, List, Option, None};
 
@@ -61,7 +65,8 @@ pub trait Sink {
     // whether it has failed
     ghost has_failed: { Self → Bool };
 
-    /// Takes bytes from the front of `bytes` and answers how many: at least one, where there is one.
+    /// Takes bytes from the front of `bytes` and answers how many: at least one, where there is
+    /// one.
     fn write(&mut self, bytes: &[u8]) -> Result<usize, DeviceFault>
         ensures count { WritesAtMost result bytes.now }
         ensures some { 0 < length bytes.now → IfOk result (λ count. 0 < count) }
@@ -129,8 +134,8 @@ impl<R: Read> Source for FromRead<R> {
     }
 }
 
-/// A sink over a writer. Every error is a failure, an interrupted write too: none is tried again. So is a write
-/// that takes no byte where there is one.
+/// A sink over a writer. Every error is a failure, an interrupted write too: none is tried again.
+/// So is a write that takes no byte where there is one.
 #[derive(Drop)]
 pub struct ToWrite<W> {
     writer: W,

@@ -20,7 +20,8 @@ pub struct Edge {
     pub at: [Option<Value>; 4],
 }
 
-/// A wave from some tick on: its value just before, none where it is absent, and the changes from there on.
+/// A wave from some tick on: its value just before, none where it is absent, and the changes from
+/// there on.
 #[derive(Clone, Copy)]
 struct Trace<'a> {
     value: Option<Value>,
@@ -67,6 +68,7 @@ impl<'a> Trace<'a> {
                 value: Some(change.value),
                 rest,
             },
+            // Built anew, since a copy of `*self` is not covered either.
             rest => Trace {
                 value: self.value,
                 rest,
@@ -75,11 +77,14 @@ impl<'a> Trace<'a> {
     }
 }
 
-/// The ticks at which one of up to four waves changes, rising, each with the values just before it and at it.
+/// The ticks at which one of up to four waves changes, rising, each with the values just before it
+/// and at it.
 ///
-/// Contracts see the list of the edges to come. Each takes a constant number of steps and no memory.
+/// Contracts see the list of the edges to come. Each takes a constant number of steps and no
+/// memory.
 #[derive(Drop)]
 pub struct Edges<'a> {
+    // Four fields and no array, which the borrow checker's part of the proof does not cover.
     a: Trace<'a>,
     b: Trace<'a>,
     c: Trace<'a>,
@@ -109,9 +114,9 @@ impl<'a> Edges<'a> {
         c: Option<&'a Wave>,
         d: Option<&'a Wave>,
     ) -> Edges<'a>
-        ensures edges { (end : ℕ)
-            → EachUpTo end (option_copied a.entry ∷ option_copied b.entry ∷ option_copied c.entry ∷ option_copied d.entry ∷ [])
-            → result ≡ edges_of (option_copied a.entry ∷ option_copied b.entry ∷ option_copied c.entry ∷ option_copied d.entry ∷ []) end }
+        ensures edges { let waves = option_copied a.entry ∷ option_copied b.entry ∷ option_copied c.entry
+            ∷ option_copied d.entry ∷ [] in
+            (end : ℕ) → EachUpTo end waves → result ≡ edges_of waves end }
     {
         Edges {
             a: Trace::new(a),
@@ -145,8 +150,10 @@ impl<'a> Iterator for Edges<'a> {
 
 /// The tick of the next change of the waves.
 fn next_of(a: &Trace, b: &Trace, c: &Trace, d: &Trace) -> Option<u64>
-    ensures { result ≡ next_tick_of (trace_left a.now ∷ trace_left b.now ∷ trace_left c.now ∷ trace_left d.now ∷ []) }
+    ensures { result ≡ next_tick_of
+        (trace_left a.now ∷ trace_left b.now ∷ trace_left c.now ∷ trace_left d.now ∷ []) }
 {
+    // From the last wave to the first, as `next_tick_of` goes over the list, down to its end.
     let last = earlier(d.next_tick(), None);
     let later = earlier(c.next_tick(), last);
     earlier(a.next_tick(), earlier(b.next_tick(), later))

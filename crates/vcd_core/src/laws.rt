@@ -2,8 +2,8 @@
 
 ghost use Rattle.vcd_core.specs.Laws.{SameValuesSameChanges, ChangesOfOwnValues, ValuesOfChanges, ChangesAreWave, SpliceAndBack, SpliceBackIsAllowed};
 
-/// Two waves of one width whose changes have ticks at most `end`, with the same value at each tick 0 to
-/// `end`, have equal lists of changes. So equality tick by tick is equality of every change.
+/// Two waves of one width whose changes have ticks at most `end`, with the same value at each tick
+/// 0 to `end`, have equal lists of changes. So equality tick by tick is equality of every change.
 pub fn same_values_same_changes()
     ensures { SameValuesSameChanges }
 {}
@@ -23,14 +23,15 @@ pub fn changes_are_wave()
     ensures { ChangesAreWave }
 {}
 
-/// A splice, and then the splice of what it gave out, with the opposite offset, leave the list and the
-/// piece as they were.
+/// A splice, and then the splice of what it gave out, with the opposite offset, leave the list and
+/// the piece as they were.
 pub fn splice_and_back()
     ensures { SpliceAndBack }
 {}
 
-/// Where a splice of a wave was allowed, the splice of what it gave out, with the opposite offset, is allowed
-/// too, as far as the lists go: the piece stands within the list, the later ticks fit, and the result is a wave.
+/// Where a splice of a wave was allowed, the splice of what it gave out, with the opposite offset,
+/// is allowed too, as far as the lists go: the piece stands within the list, the later ticks fit,
+/// and the result is a wave.
 pub fn splice_back_is_allowed()
     ensures { SpliceBackIsAllowed }
 {}

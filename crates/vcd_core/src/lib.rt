@@ -1,33 +1,44 @@
-//! Four-state waves in memory: values, change lists, signals and captures, and the devices that bytes
-//! come from and go to.
+//! Four-state waves in memory: values, lists of changes, signals and captures, and the devices that
+//! bytes come from and go to.
 //!
-//! A [`Wave`] is the list of the ticks at which a signal changes, with the new values. Contracts see a
-//! [`Value`] as its letters, a wave as its changes, and compare captures by their contents.
+//! A [`Wave`] is the list of the ticks at which a signal changes, with the new values. Contracts
+//! see a [`Value`] as its letters, a wave as its changes, and compare captures by their contents.
 #![tactic(auto)]
 
-pub mod bit;
-pub mod capture;
+mod bit;
+mod capture;
 mod change_list;
-pub mod device;
-pub mod edges;
-pub mod laws;
-pub mod memory;
+mod decimal;
+mod device;
+mod edges;
+mod full_name;
+mod laws;
+mod memory;
 mod names;
 mod planes;
-pub mod seq;
+mod seq;
 mod soundness;
 mod splicing;
-pub mod value;
-pub mod wave;
-pub mod word;
+mod value;
+mod wave;
+mod word;
 
 pub use bit::Bit;
 pub use capture::{
     Capture, END_LIMIT, Header, HeaderKind, SIGNAL_LIMIT, ScopeName, ScopePath, Signal, TimeUnit,
     Timescale, Word,
 };
-pub use device::{DeviceFault, FromRead, Sink, Source, ToWrite};
+pub use decimal::number_up_to;
+pub use device::{
+    DeviceFault, FromRead, Incomplete, ShortWrite, Sink, Source, ToWrite, read_whole, write_all,
+    write_and_flush,
+};
 pub use edges::{Edge, Edges};
+pub use full_name::FullName;
+pub use laws::{
+    changes_are_wave, changes_of_own_values, same_values_same_changes, splice_and_back,
+    splice_back_is_allowed, values_of_changes,
+};
 pub use memory::NoMemory;
 pub use seq::Seq;
 pub use value::{Value, WIDTH_LIMIT};

@@ -75,6 +75,7 @@ fn fill_ones(words: &mut [u64], width: u64)
         *word = ones(left);
         left = left.saturating_sub(64);
     }
+    // Its clause is what is known of a word after the loop.
     words_fit(words);
 }
 
@@ -111,10 +112,12 @@ pub(crate) fn with_plane_bit(words: [u64; WORDS], k: u64, set: bool) -> [u64; WO
     requires { k < 64 * WORDS }
     ensures at { bit_of_plane result k ≡ (if set then 1 else 0) }
     ensures others { (i : ℕ) → i ≢ k → bit_of_plane result i ≡ bit_of_plane words i }
-    ensures plane { (width : ℕ) → k < width → IsPlane WORDS width words → IsPlane WORDS width result }
+    ensures plane { (width : ℕ) → k < width →
+        IsPlane WORDS width words → IsPlane WORDS width result }
 {
     let mut changed = words;
     write_plane_bit(&mut changed, k, set);
+    // Its clause is what is known of a word after the call.
     words_fit(&changed);
     changed
 }

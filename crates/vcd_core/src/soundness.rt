@@ -72,6 +72,7 @@ fn is_wave_sound(wave: &Wave, end: u64) -> bool
     ensures most { wave.now.width ≤ WIDTH_LIMIT }
     ensures form { IsWave wave.now.width wave.now.changes }
 {
+    // Its clauses bound the width.
     let _width = wave.width();
     ends_by(wave.changes(), end)
 }
@@ -83,10 +84,11 @@ fn are_signals_sound(signals: &[Signal], end: u64) -> bool
 }
 
 impl Capture {
-    /// Whether a file can say this capture. Every word, the kinds of scopes and signals among them, is
-    /// non-empty, has no white space and is not `$end`; each signal has a name word and a kind that is not
-    /// skipped; widths are within the limit; the timescale's count is 1, 10 or 100; every tick is at most
-    /// the end, and the end at most [`END_LIMIT`]; there are at most [`SIGNAL_LIMIT`] signals.
+    /// Whether a file can say this capture. Every word, the kinds of scopes and signals among them,
+    /// is non-empty, has no white space and is not `$end`; each signal has a name word and a kind
+    /// that is not skipped; widths are within the limit; the timescale's count is 1, 10 or 100;
+    /// every tick is at most the end, and the end at most [`END_LIMIT`]; there are at most
+    /// [`SIGNAL_LIMIT`] signals.
     ///
     /// It takes no memory; its time grows with the words and the signals, not with their changes.
     pub fn is_sound(&self) -> bool

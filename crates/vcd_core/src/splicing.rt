@@ -46,6 +46,7 @@ fn move_ticks(changes: &mut [Change], by: i64)
     ensures { changes.new ≡ map (moved_change by) changes.old }
 {
     for change in changes.iter_mut() {
+        // A function of the item, so that the loop is a `map` to the prover.
         let next = later(*change, by);
         *change = next;
     }
@@ -65,7 +66,8 @@ fn move_tail(changes: &mut [Change], at: usize, by: i64)
 fn swap_fronts(changes: &mut Vec<Change>, at: usize, piece: &mut Vec<Change>, count: usize)
     requires within { at + count ≤ vec_len changes.old }
     requires front { count ≤ vec_len piece.old }
-    ensures changes { changes.new.items ≡ take at changes.old.items ++ take count piece.old.items ++ drop (at + count) changes.old.items }
+    ensures changes { changes.new.items ≡ take at changes.old.items ++ take count piece.old.items
+        ++ drop (at + count) changes.old.items }
     ensures piece { piece.new.items ≡ take count (drop at changes.old.items) ++ drop count piece.old.items }
     ensures len { vec_len changes.new ≡ vec_len changes.old }
     ensures capacity { vec_capacity changes.new ≡ vec_capacity changes.old }
@@ -81,7 +83,8 @@ fn take_in(changes: &mut Vec<Change>, at: usize, piece: &mut Vec<Change>, kept: 
     requires within { at ≤ vec_len changes.old }
     requires front { kept ≤ vec_len piece.old }
     requires room { vec_len changes.old + (vec_len piece.old - kept) ≤ vec_capacity changes.old }
-    ensures changes { changes.new.items ≡ take at changes.old.items ++ drop kept piece.old.items ++ drop at changes.old.items }
+    ensures changes { changes.new.items ≡ take at changes.old.items ++ drop kept piece.old.items
+        ++ drop at changes.old.items }
     ensures piece { piece.new.items ≡ take kept piece.old.items }
     ensures capacity { vec_capacity changes.old ≤ vec_capacity changes.new }
     ensures piece_capacity { vec_capacity piece.new ≡ vec_capacity piece.old }
@@ -92,7 +95,8 @@ fn take_in(changes: &mut Vec<Change>, at: usize, piece: &mut Vec<Change>, kept: 
     rotate_tail(changes.as_mut_slice(), at, len - at);
 }
 
-/// The changes at positions `at` up to before `to` go to the end of the piece, where there is room for them.
+/// The changes at positions `at` up to before `to` go to the end of the piece, where there is room
+/// for them.
 fn hand_out(changes: &mut Vec<Change>, at: usize, to: usize, piece: &mut Vec<Change>)
     requires ordered { at ≤ to }
     requires within { to ≤ vec_len changes.old }
@@ -116,7 +120,8 @@ fn exchange(changes: &mut Vec<Change>, from: usize, to: usize, piece: &mut Vec<C
     requires within { to ≤ vec_len changes.old }
     requires room { vec_len changes.old + vec_len piece.old ≤ vec_capacity changes.old + (to - from) }
     requires piece_room { to - from ≤ vec_capacity piece.old }
-    ensures changes { changes.new.items ≡ take from changes.old.items ++ piece.old.items ++ drop to changes.old.items }
+    ensures changes { changes.new.items ≡ take from changes.old.items ++ piece.old.items
+        ++ drop to changes.old.items }
     ensures piece { piece.new.items ≡ slice_range changes.old.items from to }
     ensures capacity { vec_capacity changes.old ≤ vec_capacity changes.new }
     ensures piece_capacity { vec_capacity piece.old ≤ vec_capacity piece.new }

@@ -17,9 +17,9 @@ pub const WIDTH_LIMIT: u64 = 128;
 
 /// A four-state value of 1 to [`WIDTH_LIMIT`] bits (IEEE 1364-2005, 18.2).
 ///
-/// Contracts see the list of its letters, most significant first. Bit `k` counts from 0 at the least
-/// significant end. Two planes of bits tell the letters apart: 0 is 00, 1 is 01, z is 10 and x is 11,
-/// the high plane's bit first.
+/// Contracts see the list of its letters, most significant first. Bit `k` counts from 0 at the
+/// least significant end. Two planes of bits tell the letters apart: 0 is 00, 1 is 01, z is 10 and
+/// x is 11, the high plane's bit first.
 #[derive(Clone, Copy)]
 pub struct Value {
     width: u64,
@@ -109,7 +109,7 @@ impl PartialEq for Value {
 impl fmt::Debug for Value {
     fn fmt<W: fmt::Write>(&self, f: &mut fmt::Formatter<W>) -> fmt::Result {
         for k in (0..self.width()).rev() {
-            f.write_str(self.bit(k).letter())?;
+            f.write_char(char::from(self.bit(k).letter()))?;
         }
         Ok(())
     }

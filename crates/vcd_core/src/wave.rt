@@ -1,5 +1,5 @@
 ghost use Rattle.std.specs.Prelude.{◌≡◌, ℕ, ◌+◌, ◌-◌, ◌<◌, ◌≤◌, if◌then◌else◌, nat_lt, nat_le, [], length, drop, slice_range, count_by, take_while, IsOk, IfOk, OnOk, OnErr, All, Any, vec_len, vec_capacity};
-ghost use Rattle.vcd_core.specs.Wave.{value_at, IsWave};
+ghost use Rattle.vcd_core.specs.Wave.{value_at, IsWave, changes_after_push};
 ghost use Rattle.vcd_core.specs.Splice.{TicksFit, spliced_changes};
 
 use crate::change_list::{push_change, value_at_end};
@@ -22,8 +22,8 @@ pub struct Change {
 /// The values of a signal at every tick, kept as the list of its changes.
 ///
 /// Ticks rise strictly, each value differs from the one before it and the first from all x, and all
-/// values have one width. A wave that is x throughout has no change. Contracts see the width in bits,
-/// the changes, and the room: how many more changes the wave holds without new memory.
+/// values have one width. A wave that is x throughout has no change. Contracts see the width in
+/// bits, the changes, and the room: how many more changes the wave holds without new memory.
 #[derive(Drop)]
 pub struct Wave {
     width: u64,
@@ -44,7 +44,8 @@ impl Model for Wave {
       room = vec_capacity w.changes - vec_len w.changes;
     } };
 
-    ghost invariant = { λ w. (1 ≤ w.width) × (w.width ≤ WIDTH_LIMIT) × IsWave w.width w.changes.items };
+    ghost invariant = { λ w.
+        (1 ≤ w.width) × (w.width ≤ WIDTH_LIMIT) × IsWave w.width w.changes.items };
 }
 
 impl Wave {
@@ -78,8 +79,8 @@ impl Wave {
         self.changes.as_slice()
     }
 
-    /// The value at `tick`: that of the last change at or before it, else all x. A tick past the last
-    /// change has the last value.
+    /// The value at `tick`: that of the last change at or before it, else all x. A tick past the
+    /// last change has the last value.
     ///
     /// A search by halves: the logarithm of the number of changes.
     pub fn at(&self, tick: u64) -> Value
@@ -97,14 +98,18 @@ impl Wave {
     }
 
     /// Sets the value from `tick` on, at the end of the list: a value equal to the one before adds
-    /// nothing; an equal tick replaces, and the change vanishes where it then equals the one before it.
+    /// nothing; an equal tick replaces, and the change vanishes where it then equals the one before
+    /// it.
     ///
     /// Looks at the end of the list alone.
     pub fn push(&mut self, tick: u64, value: Value) -> Result<(), NoMemory>
         requires width { length value ≡ self.old.width }
         requires late { All (λ c. c.tick ≤ tick) self.old.changes }
 
-        ensures values { OnOk result ((t : ℕ) → value_at self.new.width self.new.changes t ≡ (if nat_le tick t then value else value_at self.old.width self.old.changes t)) }
+        ensures changes { OnOk result
+            (self.new.changes ≡ changes_after_push self.old.width self.old.changes tick value) }
+        ensures values { OnOk result ((t : ℕ) → value_at self.new.width self.new.changes t
+            ≡ (if nat_le tick t then value else value_at self.old.width self.old.changes t)) }
         ensures last { OnOk result (All (λ c. c.tick ≤ tick) self.new.changes) }
         ensures width { self.new.width ≡ self.old.width }
         ensures refused { OnErr result (self.new.changes ≡ self.old.changes) }
@@ -132,11 +137,12 @@ impl Wave {
         self.changes.reserve(more)?;
         Ok(())
     }
-    /// The changes at positions `from` up to before `to` and the contents of `piece` change places, and
-    /// the later changes move by `by` ticks.
+
+    /// The changes at positions `from` up to before `to` and the contents of `piece` change places,
+    /// and the later changes move by `by` ticks.
     ///
-    /// It takes no memory, so each list has the room for what the other gives. Each change is moved a
-    /// bounded number of times: the cost is the piece and the changes from `from` on.
+    /// It takes no memory, so each list has the room for what the other gives. Each change is moved
+    /// a bounded number of times: the cost is the piece and the changes from `from` on.
     pub fn splice(&mut self, from: usize, to: usize, piece: &mut Vec<Change>, by: i64)
         requires ordered { from ≤ to }
         requires within { to ≤ length self.old.changes }

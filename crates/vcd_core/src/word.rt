@@ -6,16 +6,16 @@ ghost use Rattle.vcd_core.specs.Word.{is_white_space as white, is_word as word_t
 
 use crate::capture::Word;
 
-/// Whether a byte is white space: a tab, a line feed, a vertical tab, a form feed, a carriage return or a
-/// space.
+/// Whether a byte is white space: a tab, a line feed, a vertical tab, a form feed, a carriage
+/// return or a space.
 pub fn is_white_space(byte: u8) -> bool
     ensures { result ≡ white byte }
 {
     matches!(byte, 9..=13 | 32)
 }
 
-/// Whether the bytes are a word that a header entry, a name or a kind may have: at least one byte, none of
-/// them white space, and not `$end`, which closes a list of words.
+/// Whether the bytes are a word that a header entry, a name or a kind may have: at least one byte,
+/// none of them white space, and not `$end`, which closes a list of words.
 pub fn is_word(bytes: &[u8]) -> bool
     ensures { result ≡ word_test bytes.now }
 {
@@ -36,8 +36,8 @@ pub(crate) fn are_words(words: &[Word]) -> bool
     words.iter().all(|word| is_word(word.as_slice()))
 }
 
-/// Whether variables of this kind are skipped: their values are no four-state values, or they have none
-/// (IEEE 1364-2005, 18.2).
+/// Whether variables of this kind are skipped: their values are no four-state values, or they have
+/// none (IEEE 1364-2005, 18.2).
 pub fn is_skipped_kind(kind: &[u8]) -> bool
     ensures { result ≡ skipped kind.now }
 {

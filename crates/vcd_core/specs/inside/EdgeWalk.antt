@@ -1,3 +1,4 @@
+-- How the edges of waves are walked: the waves from some tick on, and the edges that are left.
 use Rattle.std.specs.Prelude.{ℕ, ◌+◌, ◌≡◌, ◌==◌, Option, Some, None, MatchOption, if◌then◌else◌, min, List, [], ◌∷◌}
 use Rattle.vcd_core.specs.declared.bit.Bit.{Bit}
 use Rattle.vcd_core.specs.declared.wave.Change.{Change}
@@ -7,10 +8,11 @@ use Rattle.vcd_core.specs.declared.edges.Edges.TheInside.{Inside}
 use Rattle.vcd_core.specs.Wave.{ChangesFrom}
 use Rattle.vcd_core.specs.Edges.{Trace, edges_on}
 
--- a track as a wave
+-- a wave from the tick on that the walk has come to
 abbrev pub trace_left : LentTrace → Trace
 trace_left track = record { before = track.value; changes = track.rest.now }
 
+-- the four waves from there on
 abbrev pub traces_left : Inside → List Trace
 traces_left e = trace_left e.a ∷ trace_left e.b ∷ trace_left e.c ∷ trace_left e.d ∷ []
 
@@ -35,6 +37,7 @@ abbrev pub trace_past : ℕ → Option (List Bit) → List Change → Trace
 trace_past t before [] = record { before = before; changes = [] }
 trace_past t before (c ∷ cs) = if c.tick == t then record { before = Some c.value; changes = cs } else record { before = before; changes = c ∷ cs }
 
+-- the same, of a wave
 abbrev pub trace_after : ℕ → Trace → Trace
 trace_after t l = trace_past t l.before l.changes
 
@@ -42,6 +45,7 @@ trace_after t l = trace_past t l.before l.changes
 abbrev pub Rises : ℕ → Trace → Type 0
 Rises floor l = MatchOption l.before (l.changes ≡ []) (λ v. ChangesFrom floor v l.changes)
 
+-- the same of each wave
 abbrev pub EachRises : ℕ → List Trace → Type 0
 EachRises floor [] = Unit {0}
 EachRises floor (l ∷ ls) = Rises floor l × EachRises floor ls
@@ -51,13 +55,15 @@ abbrev pub ticks_sum : List Change → ℕ
 ticks_sum [] = 0
 ticks_sum (c ∷ cs) = c.tick + ticks_sum cs
 
+-- a tick that no change of any wave is past
 abbrev pub reach : List Trace → ℕ
 reach [] = 0
 reach (l ∷ ls) = ticks_sum l.changes + reach ls
 
--- the edges that are left, and that the walk keeps
+-- the edges that are left
 unfoldable pub edges_left : Inside → List Edge
 edges_left e = edges_on (traces_left e) (reach (traces_left e))
 
+-- what the walk keeps: the changes of each wave rise
 abbrev pub IsWalk : Inside → Type 0
 IsWalk e = EachRises 0 (traces_left e)

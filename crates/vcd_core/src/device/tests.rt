@@ -4,7 +4,8 @@ use super::*;
 use std::io;
 use std::io::ErrorKind;
 
-/// Gives `rest` in pieces of at most `piece` bytes. The call numbered `fault_at`, from 0, is interrupted.
+/// Gives `rest` in pieces of at most `piece` bytes. The call numbered `fault_at`, from 0, is
+/// interrupted.
 #[derive(Drop)]
 struct Stutter<'a> {
     rest: &'a [u8],
@@ -28,7 +29,8 @@ impl<'a> Read for Stutter<'a> {
     }
 }
 
-/// Takes at most `piece` bytes a call, and counts them. The call numbered `fault_at`, from 0, is interrupted.
+/// Takes at most `piece` bytes a call, and counts them. The call numbered `fault_at`, from 0, is
+/// interrupted.
 #[derive(Drop)]
 struct Trickle {
     piece: usize,

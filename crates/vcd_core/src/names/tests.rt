@@ -33,7 +33,8 @@ fn signal(alloc: Global, path: &[&[&str]], name: &[&str]) -> Result<Signal, Allo
     })
 }
 
-/// Equal names, names of several words and scopes, scopes without a name, and names that look like positions.
+/// Equal names, names of several words and scopes, scopes without a name, and names that look like
+/// positions.
 fn captured(alloc: Global) -> Result<Capture, AllocError> {
     let mut signals = Vec::new(alloc);
     signals.push(signal(alloc, &[&["top"]], &["q", "[1:0]"])?)?;
