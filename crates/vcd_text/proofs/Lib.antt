@@ -50,3 +50,4 @@ pub mod SpelledItems
 pub mod ItemsInTurn
 pub mod SharedScopes
 pub mod TextDeclarations
+pub mod FrontFaults
