@@ -51,3 +51,6 @@ pub mod ItemsInTurn
 pub mod SharedScopes
 pub mod TextDeclarations
 pub mod FrontFaults
+pub mod OneOf
+pub mod WordOutcomes
+pub mod FileAnswers

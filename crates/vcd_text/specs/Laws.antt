@@ -1,5 +1,5 @@
 -- What holds of the definitions of a file: it has one answer, a front's fault is the file's, and the text of a capture means the capture.
-use Rattle.std.specs.Prelude.{◌≡◌, ℕ, List, ◌++◌}
+use Rattle.std.specs.Prelude.{◌≡◌, ℕ, ◌⊎◌, List, ◌++◌}
 use Rattle.vcd_core.specs.Contents.{Contents}
 use Rattle.vcd_core.specs.Sound.{IsSound}
 use Rattle.vcd_text.specs.declared.fault.Fault.{Fault}
@@ -22,6 +22,11 @@ EveryFileHasAtMostOneFault =
 -- no file has both a meaning and a fault
 abbrev pub NoFileHasMeaningAndFault : Type 0
 NoFileHasMeaningAndFault = (bytes : List ℕ) (c : Contents) (n line : ℕ) (fault : Fault) → FileMeans bytes c n → FileFault bytes line fault → ⊥
+
+-- every file has a meaning or a fault
+abbrev pub EveryFileHasMeaningOrFault : Type 0
+EveryFileHasMeaningOrFault =
+    (bytes : List ℕ) → ((c : Contents) × (n : ℕ) × FileMeans bytes c n) ⊎ ((line : ℕ) × (fault : Fault) × FileFault bytes line fault)
 
 -- ---- fronts
 
