@@ -50,3 +50,7 @@ pub mod SpelledItems
 pub mod ItemsInTurn
 pub mod SharedScopes
 pub mod TextDeclarations
+pub mod FrontFaults
+pub mod OneOf
+pub mod WordOutcomes
+pub mod FileAnswers

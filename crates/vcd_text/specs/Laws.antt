@@ -1,24 +1,55 @@
--- What holds of the definitions of a file: it has at most one answer, and the text of a capture means the capture.
-use Rattle.std.specs.Prelude.{◌≡◌, ℕ, List}
+-- What holds of the definitions of a file: it has one answer, a front's fault is the file's, and the text of a capture means the capture.
+use Rattle.std.specs.Prelude.{◌≡◌, ℕ, ◌⊎◌, List, ◌++◌}
 use Rattle.vcd_core.specs.Contents.{Contents}
 use Rattle.vcd_core.specs.Sound.{IsSound}
 use Rattle.vcd_text.specs.declared.fault.Fault.{Fault}
-use Rattle.vcd_text.specs.Faults.{FileFault}
+use Rattle.vcd_text.specs.Faults.{FileFault, FrontFault}
 use Rattle.vcd_text.specs.Meaning.{FileMeans}
 use Rattle.vcd_text.specs.Text.{text}
 
--- a file means one thing
-abbrev pub HasOneMeaning : List ℕ → Type 0
-HasOneMeaning bytes = (c d : Contents) (m n : ℕ) → FileMeans bytes c m → FileMeans bytes d n → (c ≡ d) × (m ≡ n)
+-- ---- one answer
 
--- a file has one fault, with one line
-abbrev pub HasOneFault : List ℕ → Type 0
-HasOneFault bytes = (line other_line : ℕ) (fault other_fault : Fault) → FileFault bytes line fault → FileFault bytes other_line other_fault → (line ≡ other_line) × (fault ≡ other_fault)
+-- no file means two things
+abbrev pub EveryFileHasAtMostOneMeaning : Type 0
+EveryFileHasAtMostOneMeaning = (bytes : List ℕ) (c d : Contents) (m n : ℕ) → FileMeans bytes c m → FileMeans bytes d n → (c ≡ d) × (m ≡ n)
 
--- a file that means something has no fault
-abbrev pub NeverHasBoth : List ℕ → Type 0
-NeverHasBoth bytes = (c : Contents) (n line : ℕ) (fault : Fault) → FileMeans bytes c n → FileFault bytes line fault → ⊥
+-- no file has two faults, nor one fault at two lines
+abbrev pub EveryFileHasAtMostOneFault : Type 0
+EveryFileHasAtMostOneFault =
+    (bytes : List ℕ) (line other_line : ℕ) (fault other_fault : Fault) → FileFault bytes line fault → FileFault bytes other_line other_fault
+    → (line ≡ other_line) × (fault ≡ other_fault)
+
+-- no file has both a meaning and a fault
+abbrev pub NoFileHasMeaningAndFault : Type 0
+NoFileHasMeaningAndFault = (bytes : List ℕ) (c : Contents) (n line : ℕ) (fault : Fault) → FileMeans bytes c n → FileFault bytes line fault → ⊥
+
+-- every file has a meaning or a fault
+abbrev pub EveryFileHasMeaningOrFault : Type 0
+EveryFileHasMeaningOrFault =
+    (bytes : List ℕ) → ((c : Contents) × (n : ℕ) × FileMeans bytes c n) ⊎ ((line : ℕ) × (fault : Fault) × FileFault bytes line fault)
+
+-- ---- fronts
+
+-- no front of a file shows two faults, nor one fault at two lines
+abbrev pub EveryFrontHasAtMostOneFault : Type 0
+EveryFrontHasAtMostOneFault =
+    (front : List ℕ) (line other_line : ℕ) (fault other_fault : Fault) → FrontFault front line fault → FrontFault front other_line other_fault
+    → (line ≡ other_line) × (fault ≡ other_fault)
+
+-- the fault that a front shows is the fault of every file with this front
+abbrev pub FrontFaultIsFileFault : Type 0
+FrontFaultIsFileFault = (front rest : List ℕ) (line : ℕ) (fault : Fault) → FrontFault front line fault → FileFault (front ++ rest) line fault
+
+-- ---- written texts
 
 -- the text of a sound capture means the capture, and no variable of it is skipped
 abbrev pub TextIsReadBack : Type 0
 TextIsReadBack = (c : Contents) → IsSound c → FileMeans (text c) c 0
+
+-- the text of a sound capture means nothing but the capture
+abbrev pub NothingElseIsReadBack : Type 0
+NothingElseIsReadBack = (c d : Contents) (n : ℕ) → IsSound c → FileMeans (text c) d n → (d ≡ c) × (n ≡ 0)
+
+-- the text of a sound capture has no fault
+abbrev pub TextHasNoFault : Type 0
+TextHasNoFault = (c : Contents) (line : ℕ) (fault : Fault) → IsSound c → FileFault (text c) line fault → ⊥

@@ -1,0 +1,147 @@
+-- Every file has an answer: its words are accepted, or one shows a fault, or they end too early.
+use Rattle.std.proofs.Common.{◌≡◌, ◌⊎◌, inl, inr, ℕ, true, List, [], ◌∷◌, ◌++◌, refl, sym, ap, subst, ◌∙◌, append_assoc, IsTrue}
+use Rattle.std.specs.List.{All}
+use Rattle.std.proofs.lemmas.List.{append-nil, map-append}
+use Rattle.std.proofs.lemmas.List.Elements.{All-head, All-tail}
+use Rattle.std.proofs.lemmas.Bool.{cases_Bool}
+use Rattle.vcd_core.specs.Contents.{Contents}
+use Rattle.vcd_text.specs.declared.fault.Fault.{Fault}
+use Rattle.vcd_text.specs.declared.fault.Fault.TheVariants.{Truncated}
+use Rattle.vcd_text.specs.Words.{PlacedWord, words_of, end_line}
+use Rattle.vcd_text.specs.Items.{Item, spelling, spellings}
+use Rattle.vcd_text.specs.Grammar.{Context, Allows, Accepts, after_item, nothing_told, word_texts}
+use Rattle.vcd_text.specs.Faults.{WordFault, IsUnfinished, declaration_due, fault_line, ShowsFault, Stops, FileFault, shown, too_early}
+use Rattle.vcd_text.specs.Meaning.{FileMeans, meaning, skipped_variables}
+use Rattle.vcd_text.proofs.ItemsInTurn.{Leads, leads_none, leads_one, leads_both}
+use Rattle.vcd_text.proofs.WordLaws.{is_run, words_are_words}
+use Rattle.vcd_text.proofs.WordOutcomes.{IsOpen, between, inside, shows_fault, ends_item, goes_on, word_outcome}
+
+-- what comes of all words of a file
+data AnswerTo (words : List PlacedWord) : Type 0 where
+  is_accepted : (told : Context) → Accepts words told → AnswerTo words
+  stops_early : Stops words → AnswerTo words
+  is_refused : (line : ℕ) (fault : Fault) → ShowsFault words line fault → AnswerTo words
+
+-- whole items stand at the front of the words, then the words of the item that is open, then the words to come
+record WordsSoFar (words rest : List PlacedWord) : Type 0 where
+  items : List Item
+  whole : List PlacedWord
+  begun : List PlacedWord
+  told : Context
+  parts : words ≡ whole ++ (begun ++ rest)
+  spelled : word_texts whole ≡ spellings items
+  leads : Leads nothing_told items told
+  open_item : IsOpen told (word_texts begun)
+
+-- ---- one word
+
+-- the first of the words to come is the last of the open ones
+word_behind : (begun rest : List PlacedWord) (w : PlacedWord) → begun ++ w ∷ rest ≡ (begun ++ w ∷ []) ++ rest
+word_behind begun rest w = sym (append_assoc begun (w ∷ []) rest)
+
+texts_more : (begun : List PlacedWord) (w : PlacedWord) → word_texts (begun ++ w ∷ []) ≡ word_texts begun ++ w.text ∷ []
+texts_more begun w = map-append (λ (v : PlacedWord). v.text) begun (w ∷ [])
+
+spelled_more : (items : List Item) (i : Item) → spellings (items ++ i ∷ []) ≡ spellings items ++ spelling i
+spelled_more [] i = append-nil (spelling i)
+spelled_more (j ∷ items) i = ap (λ ws. spelling j ++ ws) (spelled_more items i) ∙ sym (append_assoc (spelling j) (spellings items) (spelling i))
+
+-- the word goes on with the item that is open
+with_word : (words rest : List PlacedWord) (w : PlacedWord) (u : WordsSoFar words (w ∷ rest)) → IsUnfinished u.told (word_texts u.begun ++ w.text ∷ []) → WordsSoFar words rest
+with_word words rest w u due = record {
+  items = u.items;
+  whole = u.whole;
+  begun = u.begun ++ w ∷ [];
+  told = u.told;
+  parts = u.parts ∙ ap (λ ws. u.whole ++ ws) (word_behind u.begun rest w);
+  spelled = u.spelled;
+  leads = u.leads;
+  open_item = inside (subst (IsUnfinished u.told) (sym (texts_more u.begun w)) due);
+}
+
+-- the word ends the item
+with_item : (words rest : List PlacedWord) (w : PlacedWord) (u : WordsSoFar words (w ∷ rest)) (i : Item) → spelling i ≡ word_texts u.begun ++ w.text ∷ [] → Allows u.told i → WordsSoFar words rest
+with_item words rest w u i spelled allows = record {
+  items = u.items ++ i ∷ [];
+  whole = u.whole ++ (u.begun ++ w ∷ []);
+  begun = [];
+  told = after_item u.told i;
+  parts = u.parts ∙ ap (λ ws. u.whole ++ ws) (word_behind u.begun rest w) ∙ sym (append_assoc u.whole (u.begun ++ w ∷ []) rest);
+  spelled =
+      map-append (λ (v : PlacedWord). v.text) u.whole (u.begun ++ w ∷ []) ∙ ap (λ ws. ws ++ word_texts (u.begun ++ w ∷ [])) u.spelled
+      ∙ ap (λ ws. spellings u.items ++ ws) (texts_more u.begun w ∙ sym spelled) ∙ sym (spelled_more u.items i);
+  leads = leads_both nothing_told u.told (after_item u.told i) u.items (i ∷ []) u.leads (leads_one u.told (after_item u.told i) i allows refl);
+  open_item = between refl;
+}
+
+-- the word shows a fault
+shows_here : (words rest : List PlacedWord) (w : PlacedWord) (u : WordsSoFar words (w ∷ rest)) (fault : Fault) → WordFault u.told (word_texts u.begun) w.text fault
+    → ShowsFault words (fault_line u.told.changing u.begun w) fault
+shows_here words rest w u fault decided = record {
+  items = u.items;
+  whole = u.whole;
+  begun = u.begun;
+  word = w;
+  more = rest;
+  parts = u.parts;
+  spelled = u.spelled;
+  allowed = u.leads.allowed;
+  decided = subst (λ c. WordFault c (word_texts u.begun) w.text fault) (sym u.leads.tells) decided;
+  at = ap (λ c. fault_line c.changing u.begun w) (sym u.leads.tells);
+}
+
+-- ---- the end
+
+-- the texts of all words, where none is to come
+texts_are : (words : List PlacedWord) (u : WordsSoFar words []) → word_texts words ≡ spellings u.items ++ word_texts u.begun
+texts_are words u =
+    ap word_texts (u.parts ∙ ap (λ ws. u.whole ++ ws) (append-nil u.begun)) ∙ map-append (λ (v : PlacedWord). v.text) u.whole u.begun
+    ∙ ap (λ ws. ws ++ word_texts u.begun) u.spelled
+
+-- something is due behind the last word
+stops_here : (words : List PlacedWord) (u : WordsSoFar words []) → IsUnfinished u.told (word_texts u.begun) → AnswerTo words
+stops_here words u due = stops_early (record {
+  items = u.items;
+  begun = word_texts u.begun;
+  spelled = texts_are words u;
+  allowed = u.leads.allowed;
+  unfinished = subst (λ c. IsUnfinished c (word_texts u.begun)) (sym u.leads.tells) due;
+})
+
+-- nothing is open behind the last word, and `$enddefinitions $end` has come
+accepts_here : (words : List PlacedWord) (u : WordsSoFar words []) → word_texts u.begun ≡ [] → IsTrue u.told.changing → AnswerTo words
+accepts_here words u none changing = is_accepted u.told (record {
+  items = u.items;
+  spelled = texts_are words u ∙ ap (λ ws. spellings u.items ++ ws) none ∙ append-nil (spellings u.items);
+  allowed = u.leads.allowed;
+  tells = u.leads.tells;
+  declared = changing;
+})
+
+at_end : (words : List PlacedWord) (u : WordsSoFar words []) → IsOpen u.told (word_texts u.begun) → AnswerTo words
+at_end words u (inside due) = stops_here words u due
+at_end words u (between none) =
+    elim (cases_Bool u.told.changing) [ inl changing ↦ accepts_here words u none changing | inr declares ↦ stops_here words u (declaration_due declares none) ]
+
+-- ---- all words
+
+answer_behind : (words rest : List PlacedWord) → All (λ (w : PlacedWord). is_run w.text) rest → WordsSoFar words rest → AnswerTo words
+answer_behind words [] runs u = at_end words u u.open_item
+answer_behind words (w ∷ rest) runs u =
+    elim (word_outcome u.told (word_texts u.begun) w.text (All-head (λ (v : PlacedWord). is_run v.text) w rest runs).0 u.open_item) [
+      | shows_fault fault decided ↦ is_refused (fault_line u.told.changing u.begun w) fault (shows_here words rest w u fault decided)
+      | ends_item i spelled allows ↦ answer_behind words rest (All-tail (λ (v : PlacedWord). is_run v.text) w rest runs) (with_item words rest w u i spelled allows)
+      | goes_on due ↦ answer_behind words rest (All-tail (λ (v : PlacedWord). is_run v.text) w rest runs) (with_word words rest w u due)
+    ]
+
+-- before the first word
+nothing_taken : (words : List PlacedWord) → WordsSoFar words words
+nothing_taken words = record { items = []; whole = []; begun = []; told = nothing_told; parts = refl; spelled = refl; leads = leads_none nothing_told; open_item = between refl }
+
+pub an_answer : (bytes : List ℕ) → ((c : Contents) × (n : ℕ) × FileMeans bytes c n) ⊎ ((line : ℕ) × (fault : Fault) × FileFault bytes line fault)
+an_answer bytes =
+    elim (answer_behind (words_of bytes) (words_of bytes) (words_are_words true 1 bytes) (nothing_taken (words_of bytes))) [
+      | is_accepted told accepts ↦ inl (meaning told, skipped_variables told, record { told = told; accepted = accepts; means = refl; left_out = refl })
+      | stops_early stops ↦ inr (end_line bytes, Truncated, too_early stops refl refl)
+      | is_refused line fault s ↦ inr (line, fault, shown s)
+    ]

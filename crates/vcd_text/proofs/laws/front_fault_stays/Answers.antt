@@ -1,0 +1,5 @@
+use Rattle.vcd_text.proofs.FrontFaults.{front_fault_stays}
+use Rattle.vcd_text.proofs.laws.front_fault_stays.Goals as goal
+
+pub returns : goal.returns
+returns c = front_fault_stays

@@ -1,0 +1,10 @@
+use Rattle.vcd_text.specs.Text.{text}
+use Rattle.vcd_text.proofs.OneAnswer.{one_meaning, meaning-no_fault}
+use Rattle.vcd_text.proofs.TextReadBack.{read_back}
+use Rattle.vcd_text.proofs.laws.nothing_else_is_read_back.Goals as goal
+
+pub returns-clause-same_capture : goal.returns-clause-same_capture
+returns-clause-same_capture g c d n sound means = one_meaning (text c) d c n 0 means (read_back c sound)
+
+pub returns-clause-no_fault : goal.returns-clause-no_fault
+returns-clause-no_fault g c line fault sound has = meaning-no_fault (text c) c 0 line fault (read_back c sound) has
