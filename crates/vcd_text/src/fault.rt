@@ -2,6 +2,7 @@
 
 ghost use Rattle.std.specs.Prelude.{◌≡◌};
 ghost use Rattle.vcd_text.specs.FaultNames.{fault_name, write_error_name};
+ghost use Rattle.vcd_text.specs.Refusals.{memory_error};
 ghost use Rattle.vcd_text.specs.declared.fault.Fault.TheVariants.{NoMemory};
 ghost use Rattle.vcd_text.specs.declared.fault.WriteError.TheVariants as write_errors;
 
@@ -109,6 +110,20 @@ pub struct ReadError {
 }
 
 impl ReadError {
+    /// A fault, decided at this line.
+    pub fn at(line: u64, fault: Fault) -> ReadError
+        ensures { result ≡ record { line = line; fault = fault } }
+    {
+        ReadError { line, fault }
+    }
+
+    /// Want of memory, which is decided at no line.
+    pub fn no_memory() -> ReadError
+        ensures { result ≡ memory_error }
+    {
+        ReadError::at(0, Fault::NoMemory)
+    }
+
     /// The name of the fault. It takes no memory.
     pub fn name(&self) -> &'static str
         ensures { result.now ≡ fault_name self.now.fault }

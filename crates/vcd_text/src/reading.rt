@@ -3,11 +3,10 @@
 //! The whole file stands in memory. Its words go one after another through a reader, whose every step keeps
 //! to the grammar: the words so far spell items, and what these tell is what the machine holds.
 
-ghost use Rattle.std.specs.Prelude.{◌≡◌, ◌⊎◌, ◌<◌, ◌≤◌, ◌^◌, [], false, length, IfOk, IfErr, IfSome, OnOk};
+ghost use Rattle.std.specs.Prelude.{◌≡◌, ◌⊎◌, ◌<◌, ◌≤◌, ◌^◌, [], true, false, length, IfOk, IfErr, IfSome, OnOk};
 ghost use Rattle.vcd_core.specs.Contents.{contents};
 ghost use Rattle.vcd_core.specs.Sound.{IsSound};
 ghost use Rattle.vcd_text.specs.Words.{end_line};
-ghost use Rattle.vcd_text.specs.WordsLeft.{words_left};
 ghost use Rattle.vcd_text.specs.Meaning.{FileMeans};
 ghost use Rattle.vcd_text.specs.Faults.{FileFault};
 ghost use Rattle.vcd_text.specs.Refusals.{memory_error, IsFrontAnswer, IsRefusal};
@@ -56,16 +55,14 @@ pub fn read<R: Source>(alloc: Global, reader: &mut R) -> Result<Loaded, ReadErro
     ensures ended { OnOk result (R.has_failed reader.new ≡ false) }
     ensures refused { IfErr result (λ e. IfSome (R.coming reader.old) (λ file.
         IsRefusal file (R.has_failed reader.new) (R.coming reader.new) e)) }
+    ensures failed { IfErr result (λ e. e.fault ≡ Fault.ReadFault → R.has_failed reader.new ≡ true) }
 {
     let mut bytes = Vec::new(alloc);
     match read_whole(reader, FILE_LIMIT, &mut bytes) {
         Ok(()) => read_file(alloc, bytes.as_slice()),
         Err(Incomplete::TooLarge) => Err(read_front(alloc, bytes.as_slice(), Fault::TooLarge)),
         Err(Incomplete::ReadFault) => Err(read_front(alloc, bytes.as_slice(), Fault::ReadFault)),
-        Err(Incomplete::NoMemory) => Err(ReadError {
-            line: 0,
-            fault: Fault::NoMemory,
-        }),
+        Err(Incomplete::NoMemory) => Err(ReadError::no_memory()),
     }
 }
 
@@ -83,10 +80,7 @@ fn read_file(alloc: Global, bytes: &[u8]) -> Result<Loaded, ReadError>
     }
     match reader.finish(alloc) {
         Ok(loaded) => Ok(loaded),
-        Err(_) => Err(ReadError {
-            line: 0,
-            fault: Fault::NoMemory,
-        }),
+        Err(_) => Err(ReadError::no_memory()),
     }
 }
 
@@ -105,8 +99,8 @@ fn read_front(alloc: Global, front: &[u8], reason: Fault) -> ReadError
 /// Takes words one after another, up to the first that shows a fault.
 fn read_words(reader: &mut Reader, alloc: Global, all: Words) -> Result<(), ReadError>
     requires first { Reads reader.old [] }
-    requires few { length (words_left all) < 2 ^ 63 }
-    ensures { ReadsAll (words_left all.entry) result reader.new }
+    requires few { length all < 2 ^ 63 }
+    ensures { ReadsAll all.entry result reader.new }
 {
     let mut words = all;
     while let Some(word) = words.next_word() {
@@ -121,8 +115,5 @@ fn error_at_end(bytes: &[u8], fault: Fault) -> ReadError
     ensures fault { result.fault ≡ fault }
 {
     let feeds = bytes.iter().filter(|byte| **byte == b'\n').count();
-    ReadError {
-        line: 1 + feeds as u64,
-        fault,
-    }
+    ReadError::at(1 + feeds as u64, fault)
 }
