@@ -1,7 +1,7 @@
 //! Reads a capture file (IEEE 1364-2005, 18.2, in the project's profile).
 //!
-//! The whole file stands in memory. Its words go one after another through a reader, whose every step keeps
-//! to the grammar: the words so far spell items, and what these tell is what the machine holds.
+//! The whole file stands in memory. Its words go one after another through a `Reader`, whose every step keeps
+//! to the grammar: the words so far spell items, and what these tell is what the reader holds.
 
 ghost use Rattle.std.specs.Prelude.{◌≡◌, ◌⊎◌, ◌<◌, ◌≤◌, ◌^◌, [], true, false, length, IfOk, IfErr, IfSome, OnOk};
 ghost use Rattle.vcd_core.specs.Contents.{contents};
@@ -43,10 +43,15 @@ pub struct Loaded {
 
 /// Reads a capture file to its end: the capture that it means, or its first fault with the line.
 ///
-/// Where the reader fails, or has more than 4 GiB, the words that are sure to be words of the file, since white
-/// space follows them, are looked at first: a fault in them is answered.
+/// Where the source fails, or has more than 4 GiB, the words that are sure to be words of the file, since white
+/// space follows them, are looked at first: a fault in them is answered. `ReadFault` is answered only where the
+/// source has failed.
 ///
-/// The time is that of the bytes, with one look-up and one push for each change. The whole file is held meanwhile.
+/// One step for each byte; for each change besides it one look-up of its code and one push; for each variable one
+/// look-up or two, and a copy of its code, its name and the scopes that are open; for each later variable of a
+/// code a copy of the changes. Memory: the bytes of the whole file, and the capture as it grows, of which each
+/// change takes a tick and a value of `WIDTH_LIMIT` bits; beside each signal its own copy of the code, and each
+/// code once more in the table.
 pub fn read<R: Source>(alloc: Global, reader: &mut R) -> Result<Loaded, ReadError>
     requires ready { R.has_failed reader.old ≡ false }
     ensures means { IfOk result (λ loaded. IfSome (R.coming reader.old) (λ file.
@@ -55,7 +60,8 @@ pub fn read<R: Source>(alloc: Global, reader: &mut R) -> Result<Loaded, ReadErro
     ensures ended { OnOk result (R.has_failed reader.new ≡ false) }
     ensures refused { IfErr result (λ e. IfSome (R.coming reader.old) (λ file.
         IsRefusal file (R.has_failed reader.new) (R.coming reader.new) e)) }
-    ensures failed { IfErr result (λ e. e.fault ≡ Fault.ReadFault → R.has_failed reader.new ≡ true) }
+    ensures failed { IfErr result (λ e. e.fault ≡ Fault.ReadFault →
+        R.has_failed reader.new ≡ true) }
 {
     let mut bytes = Vec::new(alloc);
     match read_whole(reader, FILE_LIMIT, &mut bytes) {
@@ -69,7 +75,8 @@ pub fn read<R: Source>(alloc: Global, reader: &mut R) -> Result<Loaded, ReadErro
 /// Reads a file of which all bytes are there.
 fn read_file(alloc: Global, bytes: &[u8]) -> Result<Loaded, ReadError>
     requires within { length bytes.now ≤ FILE_LIMIT }
-    ensures means { IfOk result (λ loaded. FileMeans bytes.now (contents loaded.capture) loaded.skipped) }
+    ensures means { IfOk result (λ loaded.
+        FileMeans bytes.now (contents loaded.capture) loaded.skipped) }
     ensures sound { IfOk result (λ loaded. IsSound (contents loaded.capture)) }
     ensures fault { IfErr result (λ e. (e ≡ memory_error) ⊎ FileFault bytes.now e.line e.fault) }
 {

@@ -70,7 +70,8 @@ impl<'a> Words<'a> {
 
     /// The next word, if there is one.
     pub fn next_word(&mut self) -> Option<PlacedWord<'a>>
-        ensures words { MatchOption result (self.old ≡ []) (λ word. self.old ≡ word_at word ∷ self.new) }
+        ensures words { MatchOption result (self.old ≡ []) (λ word.
+            self.old ≡ word_at word ∷ self.new) }
         ensures some { IfSome result (λ word. 0 < length word.text.now) }
         ensures over { IfNone result (self.new ≡ []) }
     {
@@ -108,7 +109,8 @@ impl<'a> Iterator for Words<'a> {
 /// What follows the white space at the front of a text, and how many line feeds come before it.
 fn behind_space(text: &[u8], passed: u64) -> (&[u8], u64)
     requires { passed + length text.now < 2 ^ 64 }
-    ensures words { (whole : Bool) → words_from whole (result.1 + 1) result.0.now ≡ words_from whole (passed + 1) text.now }
+    ensures words { (whole : Bool) →
+        words_from whole (result.1 + 1) result.0.now ≡ words_from whole (passed + 1) text.now }
     ensures room { result.1 + length result.0.now ≤ passed + length text.now }
     ensures black { begins_with_space result.0.now ≡ false }
 {

@@ -15,7 +15,7 @@ use crate::run_lines::run_lines;
 use crate::session::Session;
 use std::alloc::Global;
 use vcd_core::{Capture, Sink, Source};
-use vcd_text::reading::FILE_LIMIT;
+use vcd_text::FILE_LIMIT;
 use vcd_text::whole::{Incomplete, read_whole};
 use vcd_text::{read, write};
 

@@ -10,7 +10,8 @@ use vcd_core::{END_LIMIT, WIDTH_LIMIT};
 /// The tick that the digits of a time stamp write; none where they are no decimal number, or one past the
 /// greatest tick. There may be any number of leading zeros.
 pub fn tick_of(digits: &[u8]) -> Option<u64>
-    ensures { MatchOption result (is_tick digits.now ≡ false) (λ tick. (is_tick digits.now ≡ true) × (tick ≡ number_of digits.now)) }
+    ensures { MatchOption result (is_tick digits.now ≡ false) (λ tick. (is_tick digits.now ≡ true) ×
+        (tick ≡ number_of digits.now)) }
 {
     if digits.is_empty() {
         return None;
@@ -34,7 +35,8 @@ pub fn tick_of(digits: &[u8]) -> Option<u64>
 /// The size that digits write; none where they are no decimal number. Every size past the greatest width
 /// is given as one more than that. There may be any number of digits.
 pub fn size_of(digits: &[u8]) -> Option<u64>
-    ensures { MatchOption result (is_number digits.now ≡ false) (λ size. (is_number digits.now ≡ true) × (size ≡ min (number_of digits.now) (WIDTH_LIMIT + 1))) }
+    ensures { MatchOption result (is_number digits.now ≡ false) (λ size.
+        (is_number digits.now ≡ true) × (size ≡ min (number_of digits.now) (WIDTH_LIMIT + 1))) }
 {
     if digits.is_empty() {
         return None;

@@ -175,7 +175,8 @@ impl Reader {
 
 /// The item that a word opens among the declarations; none where it begins no declaration.
 fn opened_item(text: &[u8]) -> Option<OpenItem>
-    ensures { MatchOption result (IsFalse (begins_declaration text.now)) (λ item. Opens item text.now) }
+    ensures { MatchOption result (IsFalse (begins_declaration text.now)) (λ item.
+        Opens item text.now) }
 {
     if let Some(item) = keyword_item(text) {
         return Some(item);
@@ -188,7 +189,8 @@ fn opened_item(text: &[u8]) -> Option<OpenItem>
 
 /// The item of a keyword that is not passed over.
 fn keyword_item(text: &[u8]) -> Option<OpenItem>
-    ensures { MatchOption result (IsFalse (is_one_of (declaring_words ++ header_words) text.now)) (λ item. Opens item text.now) }
+    ensures { MatchOption result (IsFalse (is_one_of (declaring_words ++ header_words) text.now))
+        (λ item. Opens item text.now) }
 {
     if text == b"$scope".as_slice() {
         Some(OpenItem::Scope)

@@ -11,7 +11,8 @@ use vcd_core::{Bit, NoMemory, Value, WIDTH_LIMIT};
 /// Appends the line that gives a value to the signal at `position`. It looks at each bit twice at most.
 pub fn append_value(out: &mut Vec<u8>, position: usize, value: Value) -> Result<(), NoMemory>
     requires { position < 2 ^ 32 }
-    ensures { OnOk result (out.new.items ≡ out.old.items ++ item_line (value_item (code_of position) value)) }
+    ensures { OnOk result (out.new.items ≡
+        out.old.items ++ item_line (value_item (code_of position) value)) }
 {
     append_digits(out, value)?;
     append_code(out, position)?;
