@@ -253,11 +253,9 @@ impl Variables {
             map signal_contents signals.items ≡ (meaning c).signals) }
     {
         let Variables { kept, .. } = self;
-        let mut signals = Vec::new(alloc);
-        signals.reserve(kept.len())?;
+        let mut signals = Vec::with_capacity(alloc, kept.len())?;
         for variable in kept {
-            let signal = finished(alloc, variable, signals.as_slice())?;
-            signals.push(signal)?;
+            push_finished(alloc, &mut signals, variable)?;
         }
         Ok(signals)
     }
@@ -294,33 +292,51 @@ fn silent_signal(
     })
 }
 
+/// Adds the signal of a variable behind those of the variables before it.
+fn push_finished(
+    alloc: Global,
+    signals: &mut Vec<Signal>,
+    variable: Variable,
+) -> Result<(), NoMemory>
+    ensures { OnOk result ((signal : Signal) × Finishes variable
+        (slice_get signals.old.items variable.first) signal ×
+        (signals.new.items ≡ signals.old.items ++ signal ∷ [])) }
+{
+    let signal = finished(alloc, variable, signals.as_slice())?;
+    signals.push(signal)?;
+    Ok(())
+}
+
 /// The signal of a variable, behind those of the variables before it.
 fn finished(alloc: Global, variable: Variable, before: &[Signal]) -> Result<Signal, NoMemory>
     ensures { IfOk result (Finishes variable (slice_get before.now variable.first)) }
 {
     let Variable { signal, first, .. } = variable;
-    let Some(shared) = before.get(first) else {
-        return Ok(with_form(signal));
-    };
-    let Signal {
-        scopes,
-        kind,
-        words,
-        ..
-    } = signal;
-    Ok(Signal {
-        scopes,
-        kind,
-        words,
-        wave: copy_wave(alloc, &shared.wave)?,
-    })
+    match before.get(first) {
+        Some(shared) => with_wave_of(alloc, signal, shared),
+        None => Ok(with_form(signal)),
+    }
 }
 
-/// The signal itself, with what its type says of its wave.
+/// A signal with a copy of the wave of another in place of its own.
+fn with_wave_of(alloc: Global, signal: Signal, shared: &Signal) -> Result<Signal, NoMemory>
+    ensures scopes { IfOk result (λ copy. copy.scopes ≡ signal.scopes) }
+    ensures kind { IfOk result (λ copy. copy.kind ≡ signal.kind) }
+    ensures words { IfOk result (λ copy. copy.words ≡ signal.words) }
+    ensures width { IfOk result (λ copy. copy.wave.width ≡ shared.now.wave.width) }
+    ensures changes { IfOk result (λ copy. copy.wave.changes ≡ shared.now.wave.changes) }
+{
+    let mut copy = signal;
+    copy.wave = copy_wave(alloc, &shared.wave)?;
+    Ok(copy)
+}
+
+/// The signal itself, with what its type says of its wave: that wave is the one of its values.
 fn with_form(signal: Signal) -> Signal
     ensures same { result ≡ signal }
     ensures form { IsWave result.wave.width result.wave.changes }
 {
+    // Called for its clause alone, by which the wave is in the one form.
     signal.wave.changes();
     signal
 }
@@ -336,7 +352,8 @@ fn copy_wave(alloc: Global, wave: &Wave) -> Result<Wave, NoMemory>
     for change in changes {
         copy.push(change.tick, change.value)?;
     }
-    // What the type says of the copy: two waves of the same values are the same.
+    // Called for its clause alone, by which the copy is in the one form: two waves of the same values are
+    // the same.
     copy.changes();
     Ok(copy)
 }

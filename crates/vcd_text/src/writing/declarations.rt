@@ -1,10 +1,11 @@
 //! The declarations of a capture: header, timescale, scopes and variables (IEEE 1364-2005, 18.2).
 
-ghost use Rattle.std.specs.Prelude.{◌≡◌, ◌<◌, ◌≤◌, ◌^◌, ◌++◌, ◌∷◌, [], length, map, replicate, codes, OnOk};
+ghost use Rattle.std.specs.Prelude.{◌≡◌, ◌<◌, ◌≤◌, ◌++◌, ◌∷◌, [], length, map, replicate, codes, OnOk};
 ghost use Rattle.std.specs.List.{common_prefix_len, flat_map};
 ghost use Rattle.std.specs.Cmp.Lexicographic.{pointwise};
 ghost use Rattle.std.specs.Str.{bytes_eq};
 ghost use Rattle.vcd_core.specs.Contents.{signal_contents};
+ghost use Rattle.vcd_core.specs.declared.capture.TheConstants.{SIGNAL_LIMIT};
 ghost use Rattle.vcd_text.specs.Items.{entry, header_word, scope, unit_text, upscope};
 ghost use Rattle.vcd_text.specs.inside.SpacedWords.{spaced_words};
 ghost use Rattle.vcd_text.specs.Text.{code_of, header_items, item_line, same_scope, scope_items, signal_items, timescale_items, variable_item};
@@ -74,7 +75,7 @@ fn unit_name(unit: TimeUnit) -> &'static str
 
 /// Appends the declarations of all signals, with the scopes that are opened and closed between them.
 pub fn append_signals(out: &mut Vec<u8>, signals: &[Signal]) -> Result<(), NoMemory>
-    requires { length signals.now < 2 ^ 32 }
+    requires { length signals.now ≤ SIGNAL_LIMIT }
     ensures { OnOk result (out.new.items ≡
         out.old.items ++ flat_map item_line (signal_items [] 0 (map signal_contents signals.now))) }
 {
@@ -90,7 +91,7 @@ pub fn append_signals(out: &mut Vec<u8>, signals: &[Signal]) -> Result<(), NoMem
 }
 
 fn append_variable(out: &mut Vec<u8>, position: usize, signal: &Signal) -> Result<(), NoMemory>
-    requires { position < 2 ^ 32 }
+    requires { position < SIGNAL_LIMIT }
     ensures { OnOk result (out.new.items ≡
         out.old.items ++ item_line (variable_item position (signal_contents signal.now))) }
 {
@@ -104,7 +105,7 @@ fn append_variable(out: &mut Vec<u8>, position: usize, signal: &Signal) -> Resul
 }
 
 fn append_code_word(out: &mut Vec<u8>, position: usize) -> Result<(), NoMemory>
-    requires { position < 2 ^ 32 }
+    requires { position < SIGNAL_LIMIT }
     ensures { OnOk result (out.new.items ≡ out.old.items ++ spaced_words (code_of position ∷ [])) }
 {
     out.push(b' ')?;

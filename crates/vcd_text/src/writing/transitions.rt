@@ -1,10 +1,11 @@
 //! The values of a capture: those at tick 0, and after it the changes by tick (IEEE 1364-2005, 18.2).
 
-ghost use Rattle.std.specs.Prelude.{◌≡◌, ◌==◌, ◌<◌, ◌≤◌, ◌^◌, ◌++◌, ◌∷◌, [], ℕ, if◌then◌else◌, nat_lt, length, map, All, IfOk, OnOk};
+ghost use Rattle.std.specs.Prelude.{◌≡◌, ◌==◌, ◌<◌, ◌≤◌, ◌++◌, ◌∷◌, [], ℕ, if◌then◌else◌, nat_lt, length, map, All, IfOk, OnOk};
 ghost use Rattle.std.specs.List.{flat_map};
 ghost use Rattle.vcd_core.specs.Contents.{signal_contents};
 ghost use Rattle.vcd_core.specs.Wave.{value_at};
 ghost use Rattle.vcd_core.specs.Sound.{IsSoundSignal};
+ghost use Rattle.vcd_core.specs.declared.capture.TheConstants.{SIGNAL_LIMIT};
 ghost use Rattle.vcd_text.specs.inside.Transitions.{tick_after, later_transitions, listed_from, transition_value, transitions_from, valued_items};
 ghost use Rattle.vcd_text.specs.Text.{all_values, end_items, first_items, item_line, stamp_of, tick_items};
 
@@ -22,7 +23,7 @@ pub struct Transition {
 
 /// Appends the values at tick 0.
 pub fn append_first_values(out: &mut Vec<u8>, signals: &[Signal]) -> Result<(), NoMemory>
-    requires { length signals.now < 2 ^ 32 }
+    requires { length signals.now ≤ SIGNAL_LIMIT }
     ensures { OnOk result (out.new.items ≡
         out.old.items ++ flat_map item_line (first_items (map signal_contents signals.now))) }
 {
@@ -34,7 +35,7 @@ pub fn append_first_values(out: &mut Vec<u8>, signals: &[Signal]) -> Result<(), 
 }
 
 fn append_all_values(out: &mut Vec<u8>, signals: &[Signal]) -> Result<(), NoMemory>
-    requires { length signals.now < 2 ^ 32 }
+    requires { length signals.now ≤ SIGNAL_LIMIT }
     ensures { OnOk result (out.new.items ≡
         out.old.items ++ flat_map item_line (all_values (map signal_contents signals.now) 0)) }
 {
@@ -56,7 +57,7 @@ pub fn append_transitions(
     transitions: &[Transition],
     end: u64,
 ) -> Result<(), NoMemory>
-    requires few { length signals.now < 2 ^ 32 }
+    requires few { length signals.now ≤ SIGNAL_LIMIT }
     requires within { All (λ m. m.position < length signals.now) transitions.now }
     requires all { transitions.now ≡ transitions_from (map signal_contents signals.now) 1 end }
     ensures { OnOk result (out.new.items ≡ out.old.items ++ flat_map item_line
@@ -104,7 +105,7 @@ fn append_part(
     values: &[Value],
     last: u64,
 ) -> Result<u64, NoMemory>
-    requires small { All (λ m. m.position < 2 ^ 32) transitions.now }
+    requires small { All (λ m. m.position < SIGNAL_LIMIT) transitions.now }
     requires valued { length values.now ≡ length transitions.now }
     ensures text { OnOk result (out.new.items ≡
         out.old.items ++ flat_map item_line (valued_items last transitions.now values.now)) }

@@ -1,7 +1,8 @@
 //! Values as they are printed: one letter, or `b` and the short form.
 
-ghost use Rattle.std.specs.Prelude.{◌≡◌, ℕ, List, ◌<◌, ◌≤◌, ◌^◌, ◌++◌, ◌∷◌, [], length, drop, slice_range, OnOk};
+ghost use Rattle.std.specs.Prelude.{◌≡◌, ℕ, List, ◌<◌, ◌≤◌, ◌++◌, ◌∷◌, [], length, drop, slice_range, OnOk};
 ghost use Rattle.vcd_core.specs.Value.{same_letter};
+ghost use Rattle.vcd_core.specs.declared.capture.TheConstants.{SIGNAL_LIMIT};
 ghost use Rattle.vcd_text.specs.Letters.{pad_letter, printed_letters, printed_letter, short_form};
 ghost use Rattle.vcd_text.specs.Text.{code_of, item_line, value_item};
 
@@ -10,7 +11,7 @@ use vcd_core::{Bit, NoMemory, Value, WIDTH_LIMIT};
 
 /// Appends the line that gives a value to the signal at `position`. It looks at each bit twice at most.
 pub fn append_value(out: &mut Vec<u8>, position: usize, value: Value) -> Result<(), NoMemory>
-    requires { position < 2 ^ 32 }
+    requires { position < SIGNAL_LIMIT }
     ensures { OnOk result (out.new.items ≡
         out.old.items ++ item_line (value_item (code_of position) value)) }
 {
