@@ -10,9 +10,9 @@ mod fault;
 mod laws;
 #[cfg(test)]
 mod narrow_sink;
-pub mod output;
+#[cfg(test)]
+mod output;
 mod reading;
-pub mod whole;
 mod words;
 mod writing;
 

@@ -4,6 +4,7 @@
 //! to the grammar: the words so far spell items, and what these tell is what the reader holds.
 
 ghost use Rattle.std.specs.Prelude.{◌≡◌, ◌⊎◌, ◌<◌, ◌≤◌, ◌^◌, [], true, false, length, IfOk, IfErr, IfSome, OnOk};
+ghost use Rattle.std.specs.Io.KnownBytes.{IsAtEnd};
 ghost use Rattle.vcd_core.specs.Contents.{contents};
 ghost use Rattle.vcd_core.specs.Sound.{IsSound};
 ghost use Rattle.vcd_text.specs.Words.{end_line};
@@ -26,10 +27,9 @@ mod variables;
 
 use crate::fault::{Fault, ReadError};
 use crate::reading::reader::Reader;
-use crate::whole::{Incomplete, read_whole};
 use crate::words::Words;
 use std::alloc::Global;
-use vcd_core::{Capture, Source};
+use vcd_core::{Capture, Incomplete, Source, read_whole};
 
 /// The most bytes that a capture file may have: 4 GiB.
 pub const FILE_LIMIT: usize = 4_294_967_296;
@@ -57,11 +57,14 @@ pub fn read<R: Source>(alloc: Global, reader: &mut R) -> Result<Loaded, ReadErro
     ensures means { IfOk result (λ loaded. IfSome (R.coming reader.old) (λ file.
         (length file ≤ FILE_LIMIT) × FileMeans file (contents loaded.capture) loaded.skipped)) }
     ensures sound { IfOk result (λ loaded. IsSound (contents loaded.capture)) }
-    ensures ended { OnOk result (R.has_failed reader.new ≡ false) }
+    ensures not_failed { OnOk result (R.has_failed reader.new ≡ false) }
+    ensures ended { OnOk result (IsAtEnd (R.coming reader.new)) }
     ensures refused { IfErr result (λ e. IfSome (R.coming reader.old) (λ file.
         IsRefusal file (R.has_failed reader.new) (R.coming reader.new) e)) }
     ensures failed { IfErr result (λ e. e.fault ≡ Fault.ReadFault →
         R.has_failed reader.new ≡ true) }
+    ensures too_large { IfErr result (λ e. e.fault ≡ Fault.TooLarge →
+        R.has_failed reader.new ≡ false) }
 {
     let mut bytes = Vec::new(alloc);
     match read_whole(reader, FILE_LIMIT, &mut bytes) {

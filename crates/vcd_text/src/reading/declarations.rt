@@ -2,7 +2,8 @@
 
 ghost use Rattle.std.specs.Prelude.{◌≡◌, ◌∷◌, ◌++◌, ℕ, [], true, false, IsFalse, MatchOption, OnOk};
 ghost use Rattle.vcd_text.specs.Words.{word_on};
-ghost use Rattle.vcd_text.specs.Items.{end_word, is_end, is_one_of, declaring_words, header_words, begins_declaration};
+ghost use Rattle.vcd_core.specs.Word.{is_one_of};
+ghost use Rattle.vcd_text.specs.Items.{end_word, is_end, declaring_words, header_words, begins_declaration};
 ghost use Rattle.vcd_text.specs.inside.Reading.{IsUnderway, TakesOrRefuses};
 ghost use Rattle.vcd_text.specs.inside.OpenItems.{is_inside};
 ghost use Rattle.vcd_text.specs.inside.Opening.{Opens, keeps_words};

@@ -5,8 +5,8 @@ ghost use Rattle.std.specs.Option.{option_map_or};
 ghost use Rattle.vcd_core.specs.Contents.{signal_contents};
 ghost use Rattle.vcd_core.specs.Wave.{IsWave};
 ghost use Rattle.vcd_core.specs.declared.value.TheConstants.{WIDTH_LIMIT};
-ghost use Rattle.vcd_text.specs.Grammar.{Context, Declaration, variable_of, has_good_size, skipped_kinds, is_skipped};
-ghost use Rattle.vcd_text.specs.Items.{is_one_of};
+ghost use Rattle.vcd_core.specs.Word.{is_skipped_kind as skips_kind};
+ghost use Rattle.vcd_text.specs.Grammar.{Context, Declaration, variable_of, has_good_size, is_skipped};
 ghost use Rattle.vcd_text.specs.Meaning.{meaning};
 ghost use Rattle.vcd_text.specs.inside.Variables.{owner_of, declaration_by, Knows, Declares, DeclaresAs, TakesChange, Sets, RefusesDigits, Finishes};
 ghost use Rattle.vcd_text.specs.declared.fault.Fault.TheVariants.{NoMemory as NoMemoryFault, TooManySignals};
@@ -263,7 +263,7 @@ impl Variables {
 
 /// Whether a variable of this kind and size is skipped.
 fn is_left_out(kind: &[u8], size: u64) -> bool
-    ensures { result ≡ (is_one_of skipped_kinds kind.now || (size == 0 || nat_lt WIDTH_LIMIT size)) }
+    ensures { result ≡ (skips_kind kind.now || (size == 0 || nat_lt WIDTH_LIMIT size)) }
 {
     is_skipped_kind(kind) || size == 0 || size > WIDTH_LIMIT
 }
