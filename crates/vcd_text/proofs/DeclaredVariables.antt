@@ -16,9 +16,9 @@ use Rattle.vcd_core.specs.declared.capture.Signal.{Signal}
 use Rattle.vcd_text.specs.declared.fault.Fault.{Fault}
 use Rattle.vcd_text.specs.declared.fault.Fault.TheVariants as faults
 use Rattle.vcd_core.specs.declared.value.TheConstants.{WIDTH_LIMIT}
-use Rattle.vcd_text.specs.Letters.{number_of}
-use Rattle.vcd_text.specs.Items.{is_one_of}
-use Rattle.vcd_text.specs.Grammar.{Declaration, ChangeRecord, Context, skipped_kinds, is_skipped, kept_variables, variable_of, may_have_code, has_room}
+use Rattle.vcd_core.specs.Decimal.{number_of}
+use Rattle.vcd_core.specs.Word.{is_one_of, is_skipped_kind}
+use Rattle.vcd_text.specs.Grammar.{Declaration, ChangeRecord, Context, is_skipped, kept_variables, variable_of, may_have_code, has_room}
 use Rattle.vcd_text.specs.Meaning.{recorded_value}
 use Rattle.vcd_text.specs.inside.Variables.{declaration, declaration_by, owner_of, HasWave, Stands, HasFirst, Knows, with_declared, mixed, many, DeclaresAs, code_mixed, no_room, Declares}
 use Rattle.vcd_text.specs.declared.reading.variables.Owner.{Owner}
@@ -377,8 +377,8 @@ same_bounds n size is = elim (cases_lt WIDTH_LIMIT n) [
 
 -- a variable is skipped for its kind, or for the size that is read
 pub left_out : (c : Context) (kind word code : List ℕ) (names : List (List ℕ)) (size : ℕ) → size ≡ min (number_of word) (WIDTH_LIMIT + 1)
-    → is_skipped (worded_declaration c kind word code names) ≡ (is_one_of skipped_kinds kind || (size == 0 || nat_lt WIDTH_LIMIT size))
-left_out c kind word code names size is = ap (λ b. is_one_of skipped_kinds kind || b) (sym (same_bounds (number_of word) size is))
+    → is_skipped (worded_declaration c kind word code names) ≡ (is_skipped_kind kind || (size == 0 || nat_lt WIDTH_LIMIT size))
+left_out c kind word code names size is = ap (λ b. is_skipped_kind kind || b) (sym (same_bounds (number_of word) size is))
 
 -- the size that is read is that of a variable that is kept
 pub kept_size : (by_kind : Bool) (n size : ℕ) → size ≡ min n (WIDTH_LIMIT + 1) → (by_kind || (size == 0 || nat_lt WIDTH_LIMIT size)) ≡ false → size ≡ n

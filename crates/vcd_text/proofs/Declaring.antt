@@ -10,7 +10,7 @@ use Rattle.vcd_core.specs.declared.capture.ScopeName.{ScopeName}
 use Rattle.vcd_text.specs.declared.fault.Fault.{Fault}
 use Rattle.vcd_text.specs.declared.fault.Fault.TheVariants as faults
 use Rattle.vcd_text.specs.Words.{PlacedWord, word_on}
-use Rattle.vcd_text.specs.Letters.{is_number}
+use Rattle.vcd_core.specs.Decimal.{is_number}
 use Rattle.vcd_text.specs.Items.{Item, entry, timescale, scope, upscope, variable, end_definitions, other, spelling, end_word, is_end, has_no_end, header_word, is_other, timescale_of}
 use Rattle.vcd_text.specs.Grammar.{Context, Allows, after_item, word_texts, has_good_size}
 use Rattle.vcd_text.specs.Faults.{WordFault, DeclarationFault, no_timescale, no_size, among_declarations}

@@ -9,7 +9,8 @@ use Rattle.vcd_core.specs.declared.capture.HeaderKind.TheVariants.{Date, Version
 use Rattle.vcd_text.specs.declared.fault.Fault.{Fault}
 use Rattle.vcd_text.specs.Words.{PlacedWord}
 use Rattle.vcd_text.specs.Letters.{is_among}
-use Rattle.vcd_text.specs.Items.{spellings, header_word, header_words, is_one_of, is_other, vector_letters, dropped_letters}
+use Rattle.vcd_core.specs.Word.{is_one_of}
+use Rattle.vcd_text.specs.Items.{spellings, header_word, header_words, is_other, vector_letters, dropped_letters}
 use Rattle.vcd_text.specs.Grammar.{Context, Accepts, after, nothing_told, word_texts}
 use Rattle.vcd_text.specs.Faults.{ShowsFault, Stops, IsUnfinished, declaration_due, words_due, upscope_due, variable_due, definitions_due, code_due, other_due, pair_letters}
 use Rattle.vcd_text.specs.inside.OpenItems.{is_nothing}

@@ -19,7 +19,8 @@ use Rattle.vcd_core.specs.declared.capture.TheConstants.{SIGNAL_LIMIT}
 use Rattle.vcd_core.specs.Contents.{Contents, SignalContents}
 use Rattle.vcd_core.specs.Word.{is_word}
 use Rattle.vcd_core.specs.Sound.{is_sound_header, is_sound_timescale, IsSoundSignal, IsSound}
-use Rattle.vcd_text.specs.Letters.{is_digit, number_of}
+use Rattle.std.specs.Char.{is_ascii_digit}
+use Rattle.vcd_core.specs.Decimal.{number_of}
 use Rattle.vcd_text.specs.Items.{Item, entry, timescale, variable, end_definitions, unit_text, end_word, is_end, has_no_end, timescale_of}
 use Rattle.vcd_text.specs.Grammar.{Context, Declaration, AllowsAll, after, nothing_told, declaration_of, variable_of, may_have_code, has_room, is_skipped, kept_variables}
 use Rattle.vcd_text.specs.Text.{header_items, timescale_items, scope_items, code_of, variable_item, signal_items, first_items, tick_items, end_items, items_of}
@@ -41,10 +42,10 @@ header_leads front (h ∷ hs) sound =
     (ap (λ l. declaring l None [] []) (append_assoc front (h ∷ []) hs)))
 
 -- digits are not `$end`
-digits_no_end : (w : List ℕ) → list_all is_digit w ≡ true → is_end w ≡ false
+digits_no_end : (w : List ℕ) → list_all is_ascii_digit w ≡ true → is_end w ≡ false
 digits_no_end w digits = false_from_ne_true (is_end w) (λ same.
     let spelled : w ≡ end_word = (bytes_eq-Decides w end_word).0 same in
-    let no : true ≡ false = sym digits ∙ ap (list_all is_digit) spelled in
+    let no : true ≡ false = sym digits ∙ ap (list_all is_ascii_digit) spelled in
     absurd (cc))
 
 decimal_no_end : (n : ℕ) → n < 2 ^ 64 → not (is_end (decimal n)) ≡ true

@@ -8,6 +8,6 @@ pub mod Faults
 pub mod Meaning
 pub mod Text
 pub mod Laws
-pub mod WordsLeft
+pub mod LentWords
 pub mod Refusals
 pub mod inside

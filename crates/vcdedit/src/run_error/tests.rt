@@ -1,6 +1,6 @@
 use super::*;
 use std::test::Fail;
-use vcd_text::fault::Fault;
+use vcd_text::Fault;
 
 /// A message is the name, and a wrapper's message is that of what it wraps.
 #[test]
