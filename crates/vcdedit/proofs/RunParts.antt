@@ -11,8 +11,8 @@ use Rattle.vcdedit.specs.Run.{run_of, RunOutcome}
 use Rattle.vcdedit.specs.inside.History.{History, first_history}
 use Rattle.vcdedit.specs.inside.RunLines.{RunsLines}
 use Rattle.vcd_text.specs.declared.fault.WriteError.{WriteError}
-use Rattle.vcdedit.specs.declared.run_error.RunError.{RunError}
-use Rattle.vcdedit.specs.declared.run_error.RunError.TheVariants as run_errors
+use Rattle.vcdedit.specs.declared.running.run_error.RunError.{RunError}
+use Rattle.vcdedit.specs.declared.running.run_error.RunError.TheVariants as run_errors
 use Rattle.vcdedit.specs.RunFaults.{IfWrite}
 use Rattle.vcdedit.specs.RunEnds.{ScriptRan, IfRan, RanToEnd, RanToOutput}
 

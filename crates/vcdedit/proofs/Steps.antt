@@ -9,9 +9,9 @@ use Rattle.vcdedit.specs.declared.step.Step.TheVariants as steps
 use Rattle.vcdedit.specs.declared.step.StepError.TheVariants as refusals
 use Rattle.vcdedit.specs.declared.step.Answer.{Answer}
 use Rattle.vcdedit.specs.declared.step.Answer.TheVariants.{Done, Refused}
-use Rattle.vcdedit.specs.declared.command.Command.{Command}
-use Rattle.vcdedit.specs.declared.command.Command.TheVariants as commands
-use Rattle.vcdedit.specs.declared.line_error.LineError.{LineError}
+use Rattle.vcdedit.specs.declared.script.command.Command.{Command}
+use Rattle.vcdedit.specs.declared.script.command.Command.TheVariants as commands
+use Rattle.vcdedit.specs.declared.script.line_error.LineError.{LineError}
 use Rattle.vcdedit.specs.Effect.{effect}
 use Rattle.vcdedit.specs.Allowed.{fault}
 use Rattle.vcdedit.specs.Machine.{Machine, Outcome, refused_outcome, first_machine, step_of, edit_outcome, undo_outcome, redo_outcome, IsStep, IsRun}

@@ -2,9 +2,9 @@
 use Rattle.std.specs.Prelude.{◌≡◌, ◌⊎◌, ◌↔◌, map, ℕ, List, [], ◌∷◌, ◌++◌, length, Result, Ok, Err}
 use Rattle.vcd_core.specs.Contents.{Contents}
 use Rattle.vcdedit.specs.declared.edit_error.EditError.TheVariants.{NoMemory}
-use Rattle.vcdedit.specs.declared.command.Command.{Command}
-use Rattle.vcdedit.specs.declared.command.Command.TheVariants as commands
-use Rattle.vcdedit.specs.declared.line_error.LineError.{LineError}
+use Rattle.vcdedit.specs.declared.script.command.Command.{Command}
+use Rattle.vcdedit.specs.declared.script.command.Command.TheVariants as commands
+use Rattle.vcdedit.specs.declared.script.line_error.LineError.{LineError}
 use Rattle.vcdedit.specs.declared.step.Step.{Step}
 use Rattle.vcdedit.specs.declared.step.Step.TheVariants as steps
 use Rattle.vcdedit.specs.declared.step.StepError.TheVariants as refusals

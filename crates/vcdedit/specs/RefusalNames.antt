@@ -3,8 +3,8 @@ use Rattle.vcdedit.specs.declared.edit_error.EditError.{EditError}
 use Rattle.vcdedit.specs.declared.edit_error.EditError.TheVariants as edits
 use Rattle.vcdedit.specs.declared.step.StepError.{StepError}
 use Rattle.vcdedit.specs.declared.step.StepError.TheVariants as steps
-use Rattle.vcdedit.specs.declared.line_error.LineError.{LineError}
-use Rattle.vcdedit.specs.declared.line_error.LineError.TheVariants as lines
+use Rattle.vcdedit.specs.declared.script.line_error.LineError.{LineError}
+use Rattle.vcdedit.specs.declared.script.line_error.LineError.TheVariants as lines
 
 -- the name that is printed for a refused edit: the project's own
 abbrev pub edit_error_name : EditError → List ℕ

@@ -8,9 +8,9 @@ use Rattle.vcdedit.specs.declared.step.Step.{Step}
 use Rattle.vcdedit.specs.declared.step.Step.TheVariants as steps
 use Rattle.vcdedit.specs.declared.step.StepError.{StepError}
 use Rattle.vcdedit.specs.declared.step.StepError.TheVariants as refusals
-use Rattle.vcdedit.specs.declared.command.Command.{Command}
-use Rattle.vcdedit.specs.declared.command.Command.TheVariants as commands
-use Rattle.vcdedit.specs.declared.line_error.LineError.{LineError}
+use Rattle.vcdedit.specs.declared.script.command.Command.{Command}
+use Rattle.vcdedit.specs.declared.script.command.Command.TheVariants as commands
+use Rattle.vcdedit.specs.declared.script.line_error.LineError.{LineError}
 use Rattle.vcdedit.specs.RefusalNames.{edit_error_name, step_error_name, line_error_name}
 use Rattle.vcdedit.specs.Allowed.{fault}
 use Rattle.vcdedit.specs.Script.{command_of}

@@ -1,8 +1,8 @@
 -- What is said of the fault that ended a run: the project's own.
 use Rattle.vcd_text.specs.declared.fault.ReadError.{ReadError}
 use Rattle.vcd_text.specs.declared.fault.WriteError.{WriteError}
-use Rattle.vcdedit.specs.declared.run_error.RunError.{RunError}
-use Rattle.vcdedit.specs.declared.run_error.RunError.TheVariants as run_errors
+use Rattle.vcdedit.specs.declared.running.run_error.RunError.{RunError}
+use Rattle.vcdedit.specs.declared.running.run_error.RunError.TheVariants as run_errors
 
 -- this is said of the capture's fault, where that ended the run
 abbrev pub IfCapture : RunError → (ReadError → Type 0) → Type 0

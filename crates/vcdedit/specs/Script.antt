@@ -8,10 +8,10 @@ use Rattle.vcd_core.specs.Names.{lookup}
 use Rattle.vcdedit.specs.declared.edit.Edit.TheVariants.{Rename}
 use Rattle.vcdedit.specs.declared.step.Step.{Step}
 use Rattle.vcdedit.specs.declared.step.Step.TheVariants as steps
-use Rattle.vcdedit.specs.declared.command.Command.{Command}
-use Rattle.vcdedit.specs.declared.command.Command.TheVariants as commands
-use Rattle.vcdedit.specs.declared.line_error.LineError.{LineError}
-use Rattle.vcdedit.specs.declared.line_error.LineError.TheVariants.{UnknownCommand, WrongCount, NoSuchName}
+use Rattle.vcdedit.specs.declared.script.command.Command.{Command}
+use Rattle.vcdedit.specs.declared.script.command.Command.TheVariants as commands
+use Rattle.vcdedit.specs.declared.script.line_error.LineError.{LineError}
+use Rattle.vcdedit.specs.declared.script.line_error.LineError.TheVariants.{UnknownCommand, WrongCount, NoSuchName}
 use Rattle.vcd_text.specs.Words.{PlacedWord, words_of}
 use Rattle.vcdedit.specs.Lent.{lent_bytes}
 

@@ -1,12 +1,14 @@
+//! The faults of an edit, and the name of each.
+
 ghost use Rattle.std.specs.Prelude.{◌≡◌};
 ghost use Rattle.vcdedit.specs.RefusalNames.{edit_error_name};
 
 use std::alloc::AllocError;
+use std::fmt;
 use thiserror::Error;
 
 /// Why an edit is refused.
 #[derive(Clone, Copy, Debug, PartialEq, Eq, Error)]
-#[error("{}", self.name())]
 pub enum EditError {
     /// A position is not below the number of signals.
     NoSuchSignal,
@@ -57,5 +59,11 @@ impl EditError {
             EditError::TooManySignals => "TooManySignals",
             EditError::NoMemory => "NoMemory",
         }
+    }
+}
+
+impl fmt::Display for EditError {
+    fn fmt<W: fmt::Write>(&self, f: &mut fmt::Formatter<W>) -> fmt::Result {
+        f.write_str(self.name())
     }
 }

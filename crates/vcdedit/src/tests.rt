@@ -1,5 +1,5 @@
 use crate::edit_error::EditError;
-use crate::line_error::LineError;
+use crate::script::LineError;
 use crate::step::StepError;
 use std::test::*;
 use vcd_text::{Fault, ReadError, WriteError};

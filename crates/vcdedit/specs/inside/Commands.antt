@@ -1,7 +1,7 @@
 -- What is read of a line: the project's own.
 use Rattle.std.specs.Prelude.{◌≡◌, ℕ, List, map, Result, Ok, Err}
-use Rattle.vcdedit.specs.declared.command.Command.{Command}
-use Rattle.vcdedit.specs.declared.line_error.LineError.{LineError}
+use Rattle.vcdedit.specs.declared.script.command.Command.{Command}
+use Rattle.vcdedit.specs.declared.script.line_error.LineError.{LineError}
 use Rattle.vcd_text.specs.declared.words.Words.{Words}
 use Rattle.vcd_text.specs.Words.{PlacedWord}
 use Rattle.vcd_text.specs.WordsLeft.{words_left}

@@ -2,8 +2,8 @@
 use Rattle.std.specs.Prelude.{◌≡◌, ℕ, if◌then◌else◌, List, [], Option, is_err}
 use Rattle.std.specs.Io.KnownBytes.{Appends}
 use Rattle.vcd_core.specs.Contents.{Contents}
-use Rattle.vcdedit.specs.declared.run_error.RunError.{RunError}
-use Rattle.vcdedit.specs.declared.run_error.RunError.TheVariants as run_errors
+use Rattle.vcdedit.specs.declared.running.run_error.RunError.{RunError}
+use Rattle.vcdedit.specs.declared.running.run_error.RunError.TheVariants as run_errors
 use Rattle.vcdedit.specs.inside.History.{History, with_future}
 use Rattle.vcdedit.specs.Reply.{LineReply, reply_text}
 use Rattle.vcdedit.specs.inside.Answering.{AnswersLine}
