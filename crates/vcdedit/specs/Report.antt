@@ -29,13 +29,13 @@ write_status write_errors.NoMemory = 5
 write_status (write_errors.WriteFault written) = 4
 
 -- the exit status of a run that failed
-abbrev pub status_of : RunError → ℕ
-status_of (run_errors.Capture e) = capture_status e.fault
-status_of run_errors.ScriptTooLarge = 3
-status_of run_errors.ScriptReadFault = 4
-status_of (run_errors.NoMemory line) = 5
-status_of (run_errors.ReplyFault written) = 4
-status_of (run_errors.Write e) = write_status e
+abbrev pub error_status : RunError → ℕ
+error_status (run_errors.Capture e) = capture_status e.fault
+error_status run_errors.ScriptTooLarge = 3
+error_status run_errors.ScriptReadFault = 4
+error_status (run_errors.NoMemory line) = 5
+error_status (run_errors.ReplyFault written) = 4
+error_status (run_errors.Write e) = write_status e
 
 -- the line for want of memory, wherever it arose
 abbrev pub out_of_memory_line : List ℕ

@@ -6,3 +6,4 @@ pub mod ScriptParts
 pub mod Commands
 pub mod Answering
 pub mod RunLines
+pub mod ScriptRuns

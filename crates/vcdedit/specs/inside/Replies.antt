@@ -1,3 +1,4 @@
+-- What a value of `Reply` says: the project's own.
 use Rattle.std.specs.Prelude.{[], Ok, Err}
 use Rattle.vcdedit.specs.declared.replies.reply.Reply.{Reply}
 use Rattle.vcdedit.specs.declared.replies.reply.Reply.TheVariants as replies

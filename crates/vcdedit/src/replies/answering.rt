@@ -18,7 +18,8 @@ use std::alloc::AllocError;
 ///
 /// The only error is that memory is refused.
 pub fn answer_line(session: &mut Session, line: &[u8]) -> Result<Reply, AllocError>
-    ensures { IfOk result (λ reply. AnswersLine line.now session.old session.new (reply_meaning reply)) }
+    ensures { IfOk result (λ reply.
+        AnswersLine line.now session.old session.new (reply_meaning reply)) }
 {
     match parse_line(line, session.capture()) {
         Ok(Command::Nothing) => Ok(Reply::Nothing),
@@ -29,7 +30,8 @@ pub fn answer_line(session: &mut Session, line: &[u8]) -> Result<Reply, AllocErr
 
 fn answer_step(session: &mut Session, step: Step) -> Result<Reply, AllocError>
     requires { IsNoRedo step }
-    ensures { IfOk result (λ reply. AnswersStep step.entry session.old session.new (reply_meaning reply)) }
+    ensures { IfOk result (λ reply.
+        AnswersStep step.entry session.old session.new (reply_meaning reply)) }
 {
     match step {
         Step::Edit(edit) => answer_edit(session, edit),
@@ -39,7 +41,8 @@ fn answer_step(session: &mut Session, step: Step) -> Result<Reply, AllocError>
 }
 
 fn answer_edit(session: &mut Session, edit: Edit) -> Result<Reply, AllocError>
-    ensures { IfOk result (λ reply. AnswersStep (steps.Edit edit.entry) session.old session.new (reply_meaning reply)) }
+    ensures { IfOk result (λ reply.
+        AnswersStep (steps.Edit edit.entry) session.old session.new (reply_meaning reply)) }
 {
     match edit {
         Edit::Rename { signal, word } => answer_rename(session, signal, word),
@@ -47,10 +50,13 @@ fn answer_edit(session: &mut Session, edit: Edit) -> Result<Reply, AllocError>
 }
 
 fn answer_rename(session: &mut Session, signal: usize, word: &[u8]) -> Result<Reply, AllocError>
-    ensures { IfOk result (λ reply. AnswersStep (steps.Edit (edits.Rename signal word.entry)) session.old session.new (reply_meaning reply)) }
+    ensures { IfOk result (λ reply.
+        AnswersStep (steps.Edit (edits.Rename signal word.entry))
+        session.old session.new (reply_meaning reply)) }
 {
     match session.rename(signal, word) {
         Ok(()) => Ok(Reply::Accepted),
+        // nested, since only so the last arm knows that the fault is not `NoMemory`
         Err(fault) => match fault {
             EditError::NoMemory => Err(AllocError),
             _ => Ok(Reply::Refused(fault.name())),

@@ -26,7 +26,7 @@ impl Reply {
     }
 
     /// The bytes of the reply to the line of this number, counted from 1.
-    pub fn text(self, alloc: Global, number: u64) -> Result<Vec<u8>, AllocError>
+    pub fn to_bytes(self, alloc: Global, number: u64) -> Result<Vec<u8>, AllocError>
         ensures { IfOk result (λ text. text.items ≡ reply_text number (reply_meaning self)) }
     {
         let mut text = Vec::new(alloc);

@@ -71,6 +71,3 @@ impl From<WriteError> for RunError {
         RunError::Write(error)
     }
 }
-
-#[cfg(test)]
-mod tests;

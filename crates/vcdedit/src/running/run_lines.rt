@@ -15,9 +15,9 @@ use std::alloc::Global;
 use vcd_core::Sink;
 use vcd_text::output::write_all;
 
-/// What is told of a line.
+/// What came of a line.
 #[derive(Clone, Copy)]
-struct Told {
+struct LineOutcome {
     /// How many lines are refused: this one, or none.
     refused: u64,
     /// How many bytes its reply has.
@@ -37,7 +37,9 @@ pub fn run_lines<P: Sink>(
 ) -> Result<u64, RunError>
     requires ready { P.has_failed replies.old ≡ false }
     requires short { length script.now < 2 ^ 60 }
-    ensures told { IfOk result (λ refused. RunsLines (script_lines script.now) session.old session.new refused (P.taken replies.old) (P.taken replies.new)) }
+    ensures told { IfOk result (λ refused.
+        RunsLines (script_lines script.now) session.old session.new refused
+        (P.taken replies.old) (P.taken replies.new)) }
     ensures sound { OnOk result (P.has_failed replies.new ≡ false) }
     ensures fault { IfErr result IsLineFault }
 {
@@ -47,9 +49,9 @@ pub fn run_lines<P: Sink>(
     let mut written = 0u128;
     while let Some((line, behind)) = split_line(rest) {
         number += 1;
-        let told = run_line(alloc, session, number, line, replies, written)?;
-        refused += told.refused;
-        written += told.written as u128;
+        let outcome = run_line(alloc, session, number, line, replies, written)?;
+        refused += outcome.refused;
+        written += outcome.written as u128;
         rest = behind;
     }
     match replies.flush() {
@@ -66,27 +68,29 @@ fn run_line<P: Sink>(
     line: &[u8],
     replies: &mut P,
     written: u128,
-) -> Result<Told, RunError>
+) -> Result<LineOutcome, RunError>
     requires ready { P.has_failed replies.old ≡ false }
     requires room { written < 2 ^ 127 }
-    ensures told { IfOk result (λ told. TellsLine number line.now session.old session.new told.refused (P.taken replies.old) (P.taken replies.new)) }
-    ensures few { IfOk result (λ told. told.refused ≤ 1) }
-    ensures short { IfOk result (λ told. told.written < 2 ^ 64) }
+    ensures told { IfOk result (λ outcome.
+        TellsLine number line.now session.old session.new outcome.refused
+        (P.taken replies.old) (P.taken replies.new)) }
+    ensures few { IfOk result (λ outcome. outcome.refused ≤ 1) }
+    ensures short { IfOk result (λ outcome. outcome.written < 2 ^ 64) }
     ensures sound { OnOk result (P.has_failed replies.new ≡ false) }
     ensures fault { IfErr result IsLineFault }
 {
     match answer_line(session, line) {
         Ok(reply) => {
-            let written = tell(alloc, number, reply, replies, written)?;
+            let written = write_reply(alloc, number, reply, replies, written)?;
             let refused = refusals_in(reply);
-            Ok(Told { refused, written })
+            Ok(LineOutcome { refused, written })
         }
         Err(_) => Err(RunError::NoMemory { line: number }),
     }
 }
 
 /// Writes a reply, which is made whole before the first of its bytes is written. Gives how many bytes it has.
-fn tell<P: Sink>(
+fn write_reply<P: Sink>(
     alloc: Global,
     number: u64,
     reply: Reply,
@@ -95,11 +99,12 @@ fn tell<P: Sink>(
 ) -> Result<usize, RunError>
     requires ready { P.has_failed replies.old ≡ false }
     requires room { written < 2 ^ 127 }
-    ensures told { OnOk result (Appends (P.taken replies.old) (P.taken replies.new) (reply_text number (reply_meaning reply))) }
+    ensures told { OnOk result
+        (Appends (P.taken replies.old) (P.taken replies.new) (reply_text number (reply_meaning reply))) }
     ensures sound { OnOk result (P.has_failed replies.new ≡ false) }
     ensures fault { IfErr result IsLineFault }
 {
-    match reply.text(alloc, number) {
+    match reply.to_bytes(alloc, number) {
         Ok(text) => match write_all(replies, text.as_slice()) {
             Ok(()) => Ok(text.len()),
             Err(count) => Err(RunError::ReplyFault {

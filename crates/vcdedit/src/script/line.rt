@@ -2,7 +2,7 @@
 
 ghost use Rattle.std.specs.Prelude.{◌≡◌, ◌∷◌, [], MatchOption};
 ghost use Rattle.vcd_core.specs.Contents.{contents};
-ghost use Rattle.vcdedit.specs.Script.{command_of, command_of_words, rename_command, undo_command, is_comment as comment_test};
+ghost use Rattle.vcdedit.specs.Script.{command_of_line, command_of_words, rename_command, undo_command, is_comment as comment_test};
 ghost use Rattle.vcdedit.specs.inside.Commands.{word_texts_left, ReadsAs};
 
 use crate::edit::Edit;
@@ -15,9 +15,9 @@ use vcd_text::Words;
 ///
 /// The faults in the order in which they count: the first word names no command, the command takes another
 /// number of words, no signal has a name.
-#[tactic(auto, unfolding(crate::specs::Script::command_of))]
+#[tactic(auto, unfolding(crate::specs::Script::command_of_line))]
 pub fn parse_line<'a>(line: &'a [u8], capture: &Capture) -> Result<Command<'a>, LineError>
-    ensures { ReadsAs (command_of (contents capture.now) line.now) result }
+    ensures { ReadsAs (command_of_line (contents capture.now) line.now) result }
 {
     let mut words = Words::new(line);
     match next_text(&mut words) {
@@ -32,7 +32,8 @@ fn parse_command<'a>(
     words: &mut Words<'a>,
     capture: &Capture,
 ) -> Result<Command<'a>, LineError>
-    ensures { ReadsAs (command_of_words (contents capture.now) (first.now ∷ word_texts_left words.old)) result }
+    ensures { ReadsAs
+        (command_of_words (contents capture.now) (first.now ∷ word_texts_left words.old)) result }
 {
     if is_comment(first) {
         return Ok(Command::Nothing);

@@ -9,7 +9,8 @@ ghost use Rattle.vcdedit.specs.inside.ScriptParts.{is_behind_line};
 /// empty.
 pub fn split_line(script: &[u8]) -> Option<(&[u8], &[u8])>
     ensures { MatchOption result (script.now ≡ []) (λ parts.
-        (script_lines script.now ≡ parts.0.now ∷ script_lines parts.1.now) × (length parts.1.now < length script.now)) }
+        (script_lines script.now ≡ parts.0.now ∷ script_lines parts.1.now) ×
+        (length parts.1.now < length script.now)) }
 {
     if script.is_empty() {
         return None;

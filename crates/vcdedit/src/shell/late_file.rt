@@ -24,7 +24,7 @@ impl<'a, R: Files> LateFile<'a, R> {
         }
     }
 
-    fn opened(&mut self) -> io::Result<&mut R::File> {
+    fn open_file(&mut self) -> io::Result<&mut R::File> {
         if self.file.is_none() {
             self.file = Some(fs::create(self.files, self.path)?);
         }
@@ -34,7 +34,7 @@ impl<'a, R: Files> LateFile<'a, R> {
 
 impl<R: Files> Write for LateFile<'_, R> {
     fn write(&mut self, buf: &[u8]) -> io::Result<usize> {
-        self.opened()?.write(buf)
+        self.open_file()?.write(buf)
     }
 
     fn flush(&mut self) -> io::Result<()> {
@@ -44,6 +44,3 @@ impl<R: Files> Write for LateFile<'_, R> {
         }
     }
 }
-
-#[cfg(test)]
-mod tests;

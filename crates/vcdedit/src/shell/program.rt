@@ -53,7 +53,7 @@ pub fn status_of_program<R: Runtime + AllocGlobal, E: Sink>(rt: &R, errors: &mut
 }
 
 fn run_words<R: Runtime + AllocGlobal>(rt: &R) -> Result<Summary, Stop> {
-    let words = words(rt)?;
+    let words = command_line_words(rt)?;
     let Ok(options) = parse_words(words.as_slice()) else {
         return Err(Stop::Usage);
     };
@@ -61,7 +61,7 @@ fn run_words<R: Runtime + AllocGlobal>(rt: &R) -> Result<Summary, Stop> {
 }
 
 /// The words after the program's name. One that is no text is a fault of usage.
-fn words<R: Runtime + AllocGlobal>(rt: &R) -> Result<Vec<String>, Stop> {
+fn command_line_words<R: Runtime + AllocGlobal>(rt: &R) -> Result<Vec<String>, Stop> {
     match env::args(rt) {
         Ok(words) => words
             .skip(1)
@@ -97,9 +97,9 @@ fn run_inputs<R: Runtime + AllocGlobal, C: Source, S: Source>(
     requires capture_ready { C.has_failed capture.old ≡ false }
     requires script_ready { S.has_failed script.old ≡ false }
 {
-    let mut replies = ToWrite::new(buffered(rt, io::writer(rt))?);
+    let mut replies = ToWrite::new(new_buffer(rt, io::writer(rt))?);
     let result = run_devices(rt, capture, script, &mut replies, output);
-    close(replies);
+    close_device(replies);
     result
 }
 
@@ -116,22 +116,25 @@ fn run_devices<R: Runtime + AllocGlobal, C: Source, S: Source, P: Sink>(
     requires replies_ready { P.has_failed replies.old ≡ false }
 {
     let mut out = match output {
-        Some(path) => Some(ToWrite::new(buffered(rt, LateFile::new(rt, path))?)),
+        Some(path) => Some(ToWrite::new(new_buffer(rt, LateFile::new(rt, path))?)),
         None => None,
     };
     let result = run(rt.alloc(), capture, script, replies, out.as_mut(), DEPTH);
     if let Some(out) = out {
-        close(out);
+        close_device(out);
     }
     result
 }
 
-fn buffered<R: AllocGlobal, W: Write + Drop>(rt: &R, writer: W) -> Result<BufWriter<W>, RunError> {
+fn new_buffer<R: AllocGlobal, W: Write + Drop>(
+    rt: &R,
+    writer: W,
+) -> Result<BufWriter<W>, RunError> {
     BufWriter::with_capacity(rt.alloc(), BUFFER, writer).map_err(|_| NO_MEMORY)
 }
 
 /// Lets a device go. What it gathered still goes out, but nothing more after a failure.
-fn close<W: Write + Drop>(device: ToWrite<BufWriter<W>>) {
+fn close_device<W: Write + Drop>(device: ToWrite<BufWriter<W>>) {
     if device.failed() {
         let _ = device.into_inner().into_parts();
     }

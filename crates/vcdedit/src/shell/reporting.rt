@@ -3,7 +3,7 @@
 ghost use Rattle.std.specs.Prelude.{◌≡◌, ◌==◌, if◌then◌else◌, false, OnOk};
 ghost use Rattle.std.specs.Io.KnownBytes.{Appends};
 ghost use Rattle.vcd_core.specs.Device.{Reports};
-ghost use Rattle.vcdedit.specs.Report.{capture_line, capture_status, error_line, numbered_line, status_of, usage_line};
+ghost use Rattle.vcdedit.specs.Report.{capture_line, capture_status, error_line, numbered_line, error_status, usage_line};
 
 use crate::running::{RunError, Summary};
 use itoa::Buffer;
@@ -15,12 +15,12 @@ use vcd_text::{Fault, ReadError, WriteError};
 /// over. It takes no memory.
 pub fn report<W: Sink>(error: &RunError, writer: &mut W) -> u8
     requires { W.has_failed writer.old ≡ false }
-    ensures status { result ≡ status_of error.now }
+    ensures status { result ≡ error_status error.now }
     ensures line { W.has_failed writer.new ≡ false →
         Appends (W.taken writer.old) (W.taken writer.new) (error_line error.now) }
 {
     let _ = write_line(error, writer);
-    status(error)
+    error_status(error)
 }
 
 /// Writes the line that says that the words of the command line are refused, and gives the exit status. A
@@ -42,8 +42,8 @@ pub fn status_when_done(summary: &Summary) -> u8
     if summary.refused == 0 { 0 } else { 1 }
 }
 
-fn status(error: &RunError) -> u8
-    ensures { result ≡ status_of error.now }
+fn error_status(error: &RunError) -> u8
+    ensures { result ≡ error_status error.now }
 {
     match error {
         RunError::Capture(error) => capture_status(error.fault),
@@ -68,7 +68,8 @@ const OUT_OF_MEMORY: &[u8] = b"vcdedit: out of memory\n";
 
 fn write_line<W: Sink>(error: &RunError, writer: &mut W) -> Result<(), DeviceFault>
     requires { W.has_failed writer.old ≡ false }
-    ensures line { OnOk result (Appends (W.taken writer.old) (W.taken writer.new) (error_line error.now)) }
+    ensures line { OnOk result
+        (Appends (W.taken writer.old) (W.taken writer.new) (error_line error.now)) }
     ensures state { Reports (W.has_failed writer.old) (W.has_failed writer.new) result }
 {
     match error {
@@ -90,7 +91,8 @@ fn write_line<W: Sink>(error: &RunError, writer: &mut W) -> Result<(), DeviceFau
 fn write_capture_line<W: Sink>(error: &ReadError, writer: &mut W) -> Result<(), DeviceFault>
     requires { W.has_failed writer.old ≡ false }
     ensures line { OnOk result
-        (Appends (W.taken writer.old) (W.taken writer.new) (capture_line error.now.fault error.now.line)) }
+        (Appends (W.taken writer.old) (W.taken writer.new)
+        (capture_line error.now.fault error.now.line)) }
     ensures state { Reports (W.has_failed writer.old) (W.has_failed writer.new) result }
 {
     match error.fault {
@@ -103,7 +105,8 @@ fn write_capture_line<W: Sink>(error: &ReadError, writer: &mut W) -> Result<(), 
 fn write_numbered_line<W: Sink>(error: &ReadError, writer: &mut W) -> Result<(), DeviceFault>
     requires { W.has_failed writer.old ≡ false }
     ensures line { OnOk result
-        (Appends (W.taken writer.old) (W.taken writer.new) (numbered_line error.now.fault error.now.line)) }
+        (Appends (W.taken writer.old) (W.taken writer.new)
+        (numbered_line error.now.fault error.now.line)) }
     ensures state { Reports (W.has_failed writer.old) (W.has_failed writer.new) result }
 {
     put(writer, b"vcdedit: capture line ")?;
@@ -125,6 +128,3 @@ fn put<W: Sink>(writer: &mut W, bytes: &[u8]) -> Result<(), DeviceFault>
         Err(_) => Err(DeviceFault),
     }
 }
-
-#[cfg(test)]
-mod tests;
