@@ -26,7 +26,7 @@ pub enum EditError {
     BadWord,
     /// Another signal already has the full name that would arise.
     NameTaken,
-    /// There are 65,536 signals already.
+    /// There are `SIGNAL_LIMIT` signals already.
     TooManySignals,
     /// Memory was refused.
     NoMemory,

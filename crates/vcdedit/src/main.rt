@@ -8,7 +8,6 @@
 mod edit;
 mod edit_error;
 mod laws;
-mod name_cursor;
 mod record;
 mod renaming;
 mod replies;

@@ -9,9 +9,8 @@ ghost use Rattle.vcdedit.specs.RunEnds.{LeavesCaptureReader, LeavesScriptReader}
 
 use crate::running::RunError;
 use std::alloc::Global;
-use vcd_core::{Capture, Source};
+use vcd_core::{Capture, Incomplete, Source, read_whole};
 use vcd_text::read;
-use vcd_text::whole::{Incomplete, read_whole};
 
 /// The most bytes that a script may have: 1 MiB.
 pub const SCRIPT_LIMIT: usize = 1_048_576;

@@ -22,7 +22,7 @@ pub struct Summary {
 pub enum RunError {
     /// The capture could not be read.
     Capture(ReadError),
-    /// The script has more than 1 MiB.
+    /// The script has more than `SCRIPT_LIMIT` bytes.
     ScriptTooLarge,
     /// The script's reader failed.
     ScriptReadFault,

@@ -12,8 +12,7 @@ use crate::running::RunError;
 use crate::script::split_line;
 use crate::session::Session;
 use std::alloc::Global;
-use vcd_core::Sink;
-use vcd_text::output::write_all;
+use vcd_core::{Sink, write_all};
 
 /// What came of a line.
 #[derive(Clone, Copy)]
@@ -107,8 +106,8 @@ fn write_reply<P: Sink>(
     match reply.to_bytes(alloc, number) {
         Ok(text) => match write_all(replies, text.as_slice()) {
             Ok(()) => Ok(text.len()),
-            Err(count) => Err(RunError::ReplyFault {
-                written: written + count,
+            Err(short) => Err(RunError::ReplyFault {
+                written: written + short.written,
             }),
         },
         Err(_) => Err(RunError::NoMemory { line: number }),

@@ -1,14 +1,12 @@
 //! What the program says of a run: its exit status, and the line on standard error.
 
-ghost use Rattle.std.specs.Prelude.{◌≡◌, ◌==◌, if◌then◌else◌, false, OnOk};
+ghost use Rattle.std.specs.Prelude.{◌≡◌, ◌==◌, if◌then◌else◌, false, true, OnOk, OnErr};
 ghost use Rattle.std.specs.Io.KnownBytes.{Appends};
-ghost use Rattle.vcd_core.specs.Device.{Reports};
 ghost use Rattle.vcdedit.specs.Report.{capture_line, capture_status, error_line, numbered_line, error_status, usage_line};
 
 use crate::running::{RunError, Summary};
 use itoa::Buffer;
-use vcd_core::{DeviceFault, Sink};
-use vcd_text::output::write_all;
+use vcd_core::{ShortWrite, Sink, write_all};
 use vcd_text::{Fault, ReadError, WriteError};
 
 /// Writes the line that says what ended a run, and gives the exit status. A fault of the writer is passed
@@ -31,7 +29,7 @@ pub fn report_usage<W: Sink>(writer: &mut W) -> u8
     ensures line { W.has_failed writer.new ≡ false →
         Appends (W.taken writer.old) (W.taken writer.new) usage_line }
 {
-    let _ = put(writer, b"vcdedit: usage\n");
+    let _ = write_all(writer, b"vcdedit: usage\n");
     2
 }
 
@@ -66,65 +64,56 @@ fn capture_status(fault: Fault) -> u8
 
 const OUT_OF_MEMORY: &[u8] = b"vcdedit: out of memory\n";
 
-fn write_line<W: Sink>(error: &RunError, writer: &mut W) -> Result<(), DeviceFault>
+fn write_line<W: Sink>(error: &RunError, writer: &mut W) -> Result<(), ShortWrite>
     requires { W.has_failed writer.old ≡ false }
     ensures line { OnOk result
         (Appends (W.taken writer.old) (W.taken writer.new) (error_line error.now)) }
-    ensures state { Reports (W.has_failed writer.old) (W.has_failed writer.new) result }
+    ensures sound { OnOk result (W.has_failed writer.new ≡ false) }
+    ensures fault { OnErr result (W.has_failed writer.new ≡ true) }
 {
     match error {
         RunError::Capture(error) => write_capture_line(error, writer),
-        RunError::ScriptTooLarge => put(writer, b"vcdedit: script: too large\n"),
-        RunError::ScriptReadFault => put(writer, b"vcdedit: script: read fault\n"),
-        RunError::ReplyFault { .. } => put(writer, b"vcdedit: replies: write fault\n"),
-        RunError::Write(WriteError::WriteFault { .. }) => put(
+        RunError::ScriptTooLarge => write_all(writer, b"vcdedit: script: too large\n"),
+        RunError::ScriptReadFault => write_all(writer, b"vcdedit: script: read fault\n"),
+        RunError::ReplyFault { .. } => write_all(writer, b"vcdedit: replies: write fault\n"),
+        RunError::Write(WriteError::WriteFault { .. }) => write_all(
             writer,
             b"vcdedit: output: write fault\n",
         ),
-        RunError::Write(WriteError::NoMemory) | RunError::NoMemory { .. } => put(
+        RunError::Write(WriteError::NoMemory) | RunError::NoMemory { .. } => write_all(
             writer,
             OUT_OF_MEMORY,
         ),
     }
 }
 
-fn write_capture_line<W: Sink>(error: &ReadError, writer: &mut W) -> Result<(), DeviceFault>
+fn write_capture_line<W: Sink>(error: &ReadError, writer: &mut W) -> Result<(), ShortWrite>
     requires { W.has_failed writer.old ≡ false }
     ensures line { OnOk result
         (Appends (W.taken writer.old) (W.taken writer.new)
         (capture_line error.now.fault error.now.line)) }
-    ensures state { Reports (W.has_failed writer.old) (W.has_failed writer.new) result }
+    ensures sound { OnOk result (W.has_failed writer.new ≡ false) }
+    ensures fault { OnErr result (W.has_failed writer.new ≡ true) }
 {
     match error.fault {
-        Fault::ReadFault => put(writer, b"vcdedit: capture: read fault\n"),
-        Fault::NoMemory => put(writer, OUT_OF_MEMORY),
+        Fault::ReadFault => write_all(writer, b"vcdedit: capture: read fault\n"),
+        Fault::NoMemory => write_all(writer, OUT_OF_MEMORY),
         _ => write_numbered_line(error, writer),
     }
 }
 
-fn write_numbered_line<W: Sink>(error: &ReadError, writer: &mut W) -> Result<(), DeviceFault>
+fn write_numbered_line<W: Sink>(error: &ReadError, writer: &mut W) -> Result<(), ShortWrite>
     requires { W.has_failed writer.old ≡ false }
     ensures line { OnOk result
         (Appends (W.taken writer.old) (W.taken writer.new)
         (numbered_line error.now.fault error.now.line)) }
-    ensures state { Reports (W.has_failed writer.old) (W.has_failed writer.new) result }
+    ensures sound { OnOk result (W.has_failed writer.new ≡ false) }
+    ensures fault { OnErr result (W.has_failed writer.new ≡ true) }
 {
-    put(writer, b"vcdedit: capture line ")?;
-    put(writer, Buffer::new().format(error.line).as_bytes())?;
-    put(writer, b": ")?;
-    put(writer, error.name().as_bytes())?;
-    put(writer, b"\n")?;
+    write_all(writer, b"vcdedit: capture line ")?;
+    write_all(writer, Buffer::new().format(error.line).as_bytes())?;
+    write_all(writer, b": ")?;
+    write_all(writer, error.name().as_bytes())?;
+    write_all(writer, b"\n")?;
     Ok(())
-}
-
-/// Hands all of `bytes` to the writer.
-fn put<W: Sink>(writer: &mut W, bytes: &[u8]) -> Result<(), DeviceFault>
-    requires { W.has_failed writer.old ≡ false }
-    ensures bytes { OnOk result (Appends (W.taken writer.old) (W.taken writer.new) bytes.now) }
-    ensures state { Reports (W.has_failed writer.old) (W.has_failed writer.new) result }
-{
-    match write_all(writer, bytes) {
-        Ok(()) => Ok(()),
-        Err(_) => Err(DeviceFault),
-    }
 }
