@@ -106,35 +106,35 @@ pub redo_accepted : (future : List Contents) (m : Machine) → (redo_outcome fut
 redo_accepted [] m h = absurd (cc)
 redo_accepted (next ∷ later) m h = λ none. cc
 
-pub starved_step : (m : Machine) (s : Step) → (step_outcome m s).answer ≡ Done → IsStep m s (memory_refusal s) m
-starved_step m (steps.Edit e) h = (inr (edit_accepted (edit_fault e m.now) e m h, refl), refl)
-starved_step m steps.Undo h = (undo_accepted m.past m h, refl)
-starved_step m steps.Redo h = (redo_accepted m.future m h, refl)
+pub memory_refusal_is_step : (m : Machine) (s : Step) → (step_outcome m s).answer ≡ Done → IsStep m s (memory_refusal s) m
+memory_refusal_is_step m (steps.Edit e) h = (inr (edit_accepted (edit_fault e m.now) e m h, refl), refl)
+memory_refusal_is_step m steps.Undo h = (undo_accepted m.past m h, refl)
+memory_refusal_is_step m steps.Redo h = (redo_accepted m.future m h, refl)
 
 pub is_step : (m : Machine) (s : Step) (a : Answer) (n : Machine) → IsOutcome m s a n → IsStep m s a n
 is_step m s a n (inl same) = subst (λ (o : StepOutcome). IsStep m s o.answer o.after) (sym same) (ample_step m s)
-is_step m s a n (inr starved) = rw (starved.1, starved.2) (starved_step m s starved.0)
+is_step m s a n (inr refused) = rw (refused.1, refused.2) (memory_refusal_is_step m s refused.0)
 
 pub step_is_outcome : StepIsOutcome
 step_is_outcome m s a n = (outcome_of m s a n, is_step m s a n)
 
 -- the reply to a step is the machine's answer
-pub said_to_edit_is : (found : Option EditError) (e : Edit) (m : Machine) → edit_reply found ≡ answer_reply (edit_outcome found e m).answer
-said_to_edit_is None e m = refl
-said_to_edit_is (Some refusal) e m = refl
+pub reply_to_edit_is : (found : Option EditError) (e : Edit) (m : Machine) → edit_reply found ≡ answer_reply (edit_outcome found e m).answer
+reply_to_edit_is None e m = refl
+reply_to_edit_is (Some refusal) e m = refl
 
-pub said_to_undo_is : (past : List Contents) (now : Contents) (redoable : ℕ) (m : Machine) → step_reply steps.Undo now (length past) redoable ≡ answer_reply (undo_outcome past m).answer
-said_to_undo_is [] now redoable m = refl
-said_to_undo_is (back ∷ older) now redoable m = refl
+pub reply_to_undo_is : (past : List Contents) (now : Contents) (redoable : ℕ) (m : Machine) → step_reply steps.Undo now (length past) redoable ≡ answer_reply (undo_outcome past m).answer
+reply_to_undo_is [] now redoable m = refl
+reply_to_undo_is (back ∷ older) now redoable m = refl
 
-pub said_to_redo_is : (future : List Contents) (now : Contents) (undoable : ℕ) (m : Machine) → step_reply steps.Redo now undoable (length future) ≡ answer_reply (redo_outcome future m).answer
-said_to_redo_is [] now undoable m = refl
-said_to_redo_is (next ∷ later) now undoable m = refl
+pub reply_to_redo_is : (future : List Contents) (now : Contents) (undoable : ℕ) (m : Machine) → step_reply steps.Redo now undoable (length future) ≡ answer_reply (redo_outcome future m).answer
+reply_to_redo_is [] now undoable m = refl
+reply_to_redo_is (next ∷ later) now undoable m = refl
 
 pub reply_is_answer : ReplyIsAnswer
-reply_is_answer m (steps.Edit e) = said_to_edit_is (edit_fault e m.now) e m
-reply_is_answer m steps.Undo = said_to_undo_is m.past m.now (length m.future) m
-reply_is_answer m steps.Redo = said_to_redo_is m.future m.now (length m.past) m
+reply_is_answer m (steps.Edit e) = reply_to_edit_is (edit_fault e m.now) e m
+reply_is_answer m steps.Undo = reply_to_undo_is m.past m.now (length m.future) m
+reply_is_answer m steps.Redo = reply_to_redo_is m.future m.now (length m.past) m
 
 -- a line asks for at most one step, and leaves what comes of it
 pub command_is_run : (m : Machine) (r : Result Command LineError) (asked : List Step) (answers : List Answer) (n : Machine) → IsRun (machine_after_command m r) asked answers n →

@@ -1,5 +1,6 @@
 //! Devices that fail midway.
 
+use std::alloc::Global;
 use std::io;
 use std::io::{ErrorKind, Read, Write};
 

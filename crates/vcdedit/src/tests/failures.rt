@@ -2,6 +2,7 @@
 
 use crate::tests::devices::{FailingReader, SmallWriter};
 use crate::{RunError, Summary, run};
+use std::alloc::Global;
 use std::io::Read;
 use std::process::Abort;
 use vcd_core::{FromRead, ToWrite};

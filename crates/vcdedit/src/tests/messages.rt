@@ -1,6 +1,7 @@
 //! A message is the fault's name.
 
 use crate::{EditError, LineError, RunError, StepError};
+use std::alloc::Global;
 use std::fmt::Display;
 use std::process::Abort;
 use std::test::Fail;
