@@ -13,27 +13,27 @@ use Rattle.vcdedit.specs.declared.edit_error.EditError.TheVariants as errors
 use Rattle.vcdedit.specs.declared.step.Step.{Step}
 use Rattle.vcdedit.specs.declared.step.Step.TheVariants as steps
 use Rattle.vcdedit.specs.declared.step.StepError.TheVariants as refusals
-use Rattle.vcdedit.specs.declared.command.Command.{Command}
-use Rattle.vcdedit.specs.declared.command.Command.TheVariants as commands
-use Rattle.vcdedit.specs.declared.line_error.LineError.{LineError}
-use Rattle.vcdedit.specs.declared.line_error.LineError.TheVariants.{NoSuchName}
+use Rattle.vcdedit.specs.declared.script.command.Command.{Command}
+use Rattle.vcdedit.specs.declared.script.command.Command.TheVariants as commands
+use Rattle.vcdedit.specs.declared.script.line_error.LineError.{LineError}
+use Rattle.vcdedit.specs.declared.script.line_error.LineError.TheVariants.{NoSuchName}
 use Rattle.vcdedit.specs.RefusalNames.{edit_error_name, step_error_name, line_error_name}
-use Rattle.vcdedit.specs.Allowed.{fault, MayRefuse}
-use Rattle.vcdedit.specs.Machine.{Outcome}
-use Rattle.vcdedit.specs.inside.History.{History, with_future, history_after_edit}
+use Rattle.vcdedit.specs.Allowed.{edit_fault, MayRefuse}
+use Rattle.vcdedit.specs.Machine.{StepOutcome}
+use Rattle.vcdedit.specs.inside.History.{History, machine_with_future, history_after_edit}
 use Rattle.vcdedit.specs.Lent.{lent_bytes, step_without_address}
-use Rattle.vcdedit.specs.Script.{command_of, command_of_words, rename_command, undo_command, is_comment, line_words, step_command, ◌>>=◌}
+use Rattle.vcdedit.specs.Script.{command_of_line, command_of_words, rename_command, undo_command, is_comment, line_words, step_command, ◌>>=◌}
 use Rattle.vcdedit.specs.Reply.{LineReply, ok_reply, line_reply, step_reply, edit_reply, command_reply}
-use Rattle.vcdedit.specs.Run.{after_line, after_command}
+use Rattle.vcdedit.specs.Run.{machine_after_line, machine_after_command}
 use Rattle.vcdedit.specs.inside.Answering.{IsNoRedo, AnswersStep, AnswersLine}
-use Rattle.vcdedit.proofs.Steps.{step_unplaced, fault_unplaced}
+use Rattle.vcdedit.proofs.Steps.{step_outcome_without_address, fault_without_address}
 
 -- an accepted edit
-pub edit_accepted : (e : Edit) (old new : History) → fault e old.now ≡ None → new ≡ history_after_edit e old → AnswersStep (steps.Edit e) old new ok_reply
+pub edit_accepted : (e : Edit) (old new : History) → edit_fault e old.now ≡ None → new ≡ history_after_edit e old → AnswersStep (steps.Edit e) old new ok_reply
 edit_accepted e old new none is = λ future. ([], rw (none, is) refl, rw none refl)
 
 -- a refused edit
-pub edit_refused : (e : Edit) (found : EditError) (old new : History) → MayRefuse (fault e old.now) found → found ≢ errors.NoMemory → new ≡ old → AnswersStep (steps.Edit e) old new (Err (edit_error_name found))
+pub edit_refused : (e : Edit) (found : EditError) (old new : History) → MayRefuse (edit_fault e old.now) found → found ≢ errors.NoMemory → new ≡ old → AnswersStep (steps.Edit e) old new (Err (edit_error_name found))
 edit_refused e found old new (inl here) memory is = λ future. (future, rw (here, is) refl, rw here refl)
 edit_refused e found old new (inr starved) memory is = absurd (memory starved.1)
 
@@ -50,29 +50,29 @@ pub undo_refused : (old new : History) → old.past ≡ [] → new ≡ old → A
 undo_refused old new none is = λ future. (future, rw (is, none) refl, rw none refl)
 
 -- the address of a word counts not for what is said
-pub said_unplaced : (s : Step) (c : Contents) (undoable redoable : ℕ) → step_reply (step_without_address s) c undoable redoable ≡ step_reply s c undoable redoable
-said_unplaced (steps.Edit e) c undoable redoable = ap edit_reply (fault_unplaced e c)
-said_unplaced steps.Undo c undoable redoable = refl
-said_unplaced steps.Redo c undoable redoable = refl
+pub reply_without_address : (s : Step) (c : Contents) (undoable redoable : ℕ) → step_reply (step_without_address s) c undoable redoable ≡ step_reply s c undoable redoable
+reply_without_address (steps.Edit e) c undoable redoable = ap edit_reply (fault_without_address e c)
+reply_without_address steps.Undo c undoable redoable = refl
+reply_without_address steps.Redo c undoable redoable = refl
 
 -- a line that asks for a step
-pub line_steps : (line : List ℕ) (s : Step) (old new : History) (reply : LineReply) → command_of old.now line ≡ Ok (commands.Step (step_without_address s)) → AnswersStep s old new reply → AnswersLine line old new reply
-unfolding after_line line_reply
+pub line_steps : (line : List ℕ) (s : Step) (old new : History) (reply : LineReply) → command_of_line old.now line ≡ Ok (commands.Step (step_without_address s)) → AnswersStep s old new reply → AnswersLine line old new reply
+unfolding machine_after_line line_reply
 line_steps line s old new reply read answers = λ skipped future.
     let there = answers future in (
       there.0,
-      ap (after_command (with_future future old)) read ∙ ap (λ (o : Outcome). o.after) (step_unplaced (with_future future old) s) ∙ there.1,
-      ap (λ (r : Result Command LineError). command_reply r old.now skipped (length old.past) (length future)) read ∙ said_unplaced s old.now (length old.past) (length future) ∙ there.2,
+      ap (machine_after_command (machine_with_future future old)) read ∙ ap (λ (o : StepOutcome). o.after) (step_outcome_without_address (machine_with_future future old) s) ∙ there.1,
+      ap (λ (r : Result Command LineError). command_reply r old.now skipped (length old.past) (length future)) read ∙ reply_without_address s old.now (length old.past) (length future) ∙ there.2,
     )
 
 -- a line that asks for nothing
-pub line_nothing : (line : List ℕ) (old new : History) → command_of old.now line ≡ Ok commands.Nothing → new ≡ old → AnswersLine line old new (Ok [])
-unfolding after_line line_reply
+pub line_nothing : (line : List ℕ) (old new : History) → command_of_line old.now line ≡ Ok commands.Nothing → new ≡ old → AnswersLine line old new (Ok [])
+unfolding machine_after_line line_reply
 line_nothing line old new read is = λ skipped future. (future, rw (read, is) refl, rw read refl)
 
 -- a line that is no command
-pub line_refused : (line : List ℕ) (found : LineError) (old new : History) → command_of old.now line ≡ Err found → new ≡ old → AnswersLine line old new (Err (line_error_name found))
-unfolding after_line line_reply
+pub line_refused : (line : List ℕ) (found : LineError) (old new : History) → command_of_line old.now line ≡ Err found → new ≡ old → AnswersLine line old new (Err (line_error_name found))
+unfolding machine_after_line line_reply
 line_refused line found old new read is = λ skipped future. (future, rw (read, is) refl, rw read refl)
 
 -- whether a redo is asked for
@@ -110,8 +110,8 @@ words_ask_no_redo c (first ∷ arguments) =
     (either_asks_no_redo (bytes_eq first (codes "rename")) _ _ (rename_asks_no_redo c arguments)
     (either_asks_no_redo (bytes_eq first (codes "undo")) _ _ (undo_asks_no_redo arguments) refl))
 
-pub no_redo : (c : Contents) (line : List ℕ) (s : Step) → command_of c line ≡ Ok (commands.Step (step_without_address s)) → IsNoRedo s
-unfolding command_of
+pub no_redo : (c : Contents) (line : List ℕ) (s : Step) → command_of_line c line ≡ Ok (commands.Step (step_without_address s)) → IsNoRedo s
+unfolding command_of_line
 no_redo c line (steps.Edit e) read = tt
 no_redo c line steps.Undo read = tt
 no_redo c line steps.Redo read = let no : true ≡ false = sym (ap asks_redo read) ∙ words_ask_no_redo c (line_words line) in absurd (cc)

@@ -9,10 +9,10 @@ use Rattle.vcd_text.specs.Words.{words_from}
 use Rattle.vcd_text.specs.Letters.{short_form}
 use Rattle.vcd_text.specs.Text.{code_digits, signal_items, tick_items, items_of, text}
 use Rattle.vcdedit.specs.Effect.{effect}
-use Rattle.vcdedit.specs.Allowed.{fault}
-use Rattle.vcdedit.specs.Script.{script_lines, command_of}
+use Rattle.vcdedit.specs.Allowed.{edit_fault}
+use Rattle.vcdedit.specs.Script.{script_lines, command_of_line}
 use Rattle.vcdedit.specs.Reply.{line_reply}
-use Rattle.vcdedit.specs.Run.{after_line, after_lines, replies, refusals, run_of, RunWrites}
+use Rattle.vcdedit.specs.Run.{machine_after_line, machine_after_lines, replies_text, refusal_count, run_outcome, RunWrites}
 use Rattle.vcd_text.proofs.CasesOfFiles.{one_scalar as one_scalar_file, one_scalar_contents, one_scalar_means}
 use Rattle.vcd_text.proofs.CasesOfText.{one_scalar, one_scalar_text, capture, wire, top, from}
 
@@ -25,30 +25,30 @@ unfolding script_lines
 lines_of_scripts = (refl, refl, refl, refl)
 
 -- a rename of the one scalar
-rename_run : run_of (one_scalar (codes "a")) 0 (codes "rename top.a b\n") 100
+rename_run : run_outcome (one_scalar (codes "a")) 0 (codes "rename top.a b\n") 100
     ≡ record { replies = codes "ok\n"; output = one_scalar_text (codes "b"); refused = 0 }
-unfolding script_lines words_from command_of lookup name_in fault effect line_reply after_line after_lines replies refusals text items_of signal_items code_digits tick_items value_from short_form digits
+unfolding script_lines words_from command_of_line lookup name_in edit_fault effect line_reply machine_after_line machine_after_lines replies_text refusal_count text items_of signal_items code_digits tick_items value_from short_form digits
 rename_run = refl
 
 -- a rename and its undo
-undo_run : run_of (one_scalar (codes "a")) 0 (codes "rename top.a b\nundo\n") 100
+undo_run : run_outcome (one_scalar (codes "a")) 0 (codes "rename top.a b\nundo\n") 100
     ≡ record { replies = codes "ok\nok\n"; output = one_scalar_text (codes "a"); refused = 0 }
-unfolding script_lines words_from command_of lookup name_in fault effect line_reply after_line after_lines replies refusals text items_of signal_items code_digits tick_items value_from short_form digits
+unfolding script_lines words_from command_of_line lookup name_in edit_fault effect line_reply machine_after_line machine_after_lines replies_text refusal_count text items_of signal_items code_digits tick_items value_from short_form digits
 undo_run = refl
 
 -- three renames in a history of two, and three undos
-full_history_run : run_of (capture 0 (wire (top ∷ []) (codes "a") 1 (from 0 (codes "0") ∷ []) ∷ [])) 0 (codes "rename top.a b\nrename top.b c\nrename top.c d\nundo\nundo\nundo\n") 2
+full_history_run : run_outcome (capture 0 (wire (top ∷ []) (codes "a") 1 (from 0 (codes "0") ∷ []) ∷ [])) 0 (codes "rename top.a b\nrename top.b c\nrename top.c d\nundo\nundo\nundo\n") 2
     ≡ record {
       replies = codes "ok\nok\nok\nok\nok\nline 6: refused: NothingToUndo\n";
       output = codes "$scope module top $end\n$var wire 1 ! b $end\n$upscope $end\n$enddefinitions $end\n#0\n$dumpvars\n0!\n$end\n";
       refused = 1;
     }
-unfolding script_lines words_from command_of lookup name_in fault effect line_reply after_line after_lines replies refusals text items_of signal_items code_digits tick_items value_from short_form digits
+unfolding script_lines words_from command_of_line lookup name_in edit_fault effect line_reply machine_after_line machine_after_lines replies_text refusal_count text items_of signal_items code_digits tick_items value_from short_form digits
 full_history_run = refl
 
 -- the same from the bytes of the file and the script to those that are written
 rename_of_file : RunWrites one_scalar_file (codes "rename top.a b\n") 100 (record { replies = codes "ok\n"; output = one_scalar_text (codes "b"); refused = 0 })
-unfolding script_lines words_from command_of lookup name_in fault effect line_reply after_line after_lines replies refusals text items_of signal_items code_digits tick_items value_from short_form digits
+unfolding script_lines words_from command_of_line lookup name_in edit_fault effect line_reply machine_after_line machine_after_lines replies_text refusal_count text items_of signal_items code_digits tick_items value_from short_form digits
 rename_of_file = record { contents = one_scalar_contents; skipped = 0; means = one_scalar_means; run = refl }
 
 -- two signals in one scope
@@ -56,14 +56,14 @@ abbrev pub two_signals : Contents
 two_signals = capture 9 (wire (top ∷ []) (codes "a") 1 (from 0 (codes "0") ∷ []) ∷ wire (top ∷ []) (codes "v") 4 (from 0 (codes "0000") ∷ []) ∷ [])
 
 -- empty lines and comments are numbered and give nothing; each refused line gives its first fault, and the script goes on
-refused_lines : replies 0 1 (record { past = []; now = two_signals; future = []; depth = 100 }) (script_lines (codes
+refused_lines : replies_text 0 1 (record { past = []; now = two_signals; future = []; depth = 100 }) (script_lines (codes
     "\n# rename\nfrob\nrename top.a\nrename top.a b c\nundo now\nrename top.q $end\nrename top.a $end\nrename top.a v\nundo\n \t#\n  rename\t@1\rb"))
     ≡ codes "line 3: refused: UnknownCommand\nline 4: refused: WrongCount\nline 5: refused: WrongCount\nline 6: refused: WrongCount\nline 7: refused: NoSuchName\nline 8: refused: BadWord\nline 9: refused: NameTaken\nline 10: refused: NothingToUndo\nok\n"
-unfolding script_lines words_from command_of lookup name_in fault effect line_reply after_line replies digits
+unfolding script_lines words_from command_of_line lookup name_in edit_fault effect line_reply machine_after_line replies_text digits
 refused_lines = refl
 
 -- how many of those are refused
-count_of_refused_lines : refusals 0 (record { past = []; now = two_signals; future = []; depth = 100 }) (script_lines (codes "undo\n#\nfrob\nrename top.a b\nrename top.a b\nundo"))
+count_of_refused_lines : refusal_count 0 (record { past = []; now = two_signals; future = []; depth = 100 }) (script_lines (codes "undo\n#\nfrob\nrename top.a b\nrename top.a b\nundo"))
     ≡ 3
-unfolding script_lines words_from command_of lookup name_in fault effect line_reply after_line refusals digits
+unfolding script_lines words_from command_of_line lookup name_in edit_fault effect line_reply machine_after_line refusal_count digits
 count_of_refused_lines = refl

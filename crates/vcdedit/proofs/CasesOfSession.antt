@@ -12,9 +12,9 @@ use Rattle.vcdedit.specs.declared.step.StepError.TheVariants as refusals
 use Rattle.vcdedit.specs.declared.step.Answer.{Answer}
 use Rattle.vcdedit.specs.declared.step.Answer.TheVariants.{Done, Refused}
 use Rattle.vcdedit.specs.Effect.{effect}
-use Rattle.vcdedit.specs.Allowed.{fault}
-use Rattle.vcdedit.specs.Machine.{Machine, first_machine, step_of, accepted_outcome, refused_outcome}
-use Rattle.vcdedit.specs.InForce.{in_force_after, tally_after_all, replay}
+use Rattle.vcdedit.specs.Allowed.{edit_fault}
+use Rattle.vcdedit.specs.Machine.{Machine, first_machine, step_outcome, accepted_outcome, refused_outcome}
+use Rattle.vcdedit.specs.InForce.{edits_in_force_after, tally_after_all, replay}
 use Rattle.vcdedit.specs.Lent.{lent_bytes}
 use Rattle.vcd_text.proofs.CasesOfText.{one_scalar, capture, wire, top, from}
 
@@ -31,22 +31,22 @@ abbrev pub two_signals : Contents
 two_signals = capture 9 (wire (top ∷ []) (codes "a") 1 (from 0 (codes "0") ∷ []) ∷ wire (top ∷ []) (codes "v") 4 (from 0 (codes "0000") ∷ []) ∷ [])
 
 -- a position that is none, words that are none, the name of another signal; the own name is free
-faults_of_rename : (fault (Rename 2 (lent_bytes (codes ""))) two_signals ≡ Some errors.NoSuchSignal)
-    × (fault (rename (codes "")) two_signals ≡ Some errors.BadWord)
-    × (fault (rename (codes "a b")) two_signals ≡ Some errors.BadWord)
-    × (fault (rename (codes "$end")) two_signals ≡ Some errors.BadWord)
-    × (fault (rename (codes "v")) two_signals ≡ Some errors.NameTaken)
-    × (fault (rename (codes "a")) two_signals ≡ None)
-    × (fault (rename (codes "$END")) two_signals ≡ None)
-unfolding fault name_in
+faults_of_rename : (edit_fault (Rename 2 (lent_bytes (codes ""))) two_signals ≡ Some errors.NoSuchSignal)
+    × (edit_fault (rename (codes "")) two_signals ≡ Some errors.BadWord)
+    × (edit_fault (rename (codes "a b")) two_signals ≡ Some errors.BadWord)
+    × (edit_fault (rename (codes "$end")) two_signals ≡ Some errors.BadWord)
+    × (edit_fault (rename (codes "v")) two_signals ≡ Some errors.NameTaken)
+    × (edit_fault (rename (codes "a")) two_signals ≡ None)
+    × (edit_fault (rename (codes "$END")) two_signals ≡ None)
+unfolding edit_fault name_in
 faults_of_rename = (refl, refl, refl, refl, refl, refl, refl)
 
 -- of two signals with one full name neither can keep it by a rename
 abbrev pub twins : Contents
 twins = capture 0 (wire [] (codes "a") 1 [] ∷ wire [] (codes "a") 1 [] ∷ [])
 
-rename_of_twin : (fault (rename (codes "a")) twins ≡ Some errors.NameTaken) × (fault (rename (codes "b")) twins ≡ None)
-unfolding fault name_in
+rename_of_twin : (edit_fault (rename (codes "a")) twins ≡ Some errors.NameTaken) × (edit_fault (rename (codes "b")) twins ≡ None)
+unfolding edit_fault name_in
 rename_of_twin = (refl, refl)
 
 -- `top.a`, under the names that it has one after another
@@ -67,22 +67,22 @@ machine past now future = record { past = past; now = now; future = future; dept
 
 -- the third edit drops the oldest capture, so that only two can be undone
 history_of_two :
-    (step_of (first_machine a 2) (steps.Edit (rename (codes "b"))) ≡ accepted_outcome (machine (a ∷ []) b []))
-    × (step_of (machine (a ∷ []) b []) (steps.Edit (rename (codes "c"))) ≡ accepted_outcome (machine (b ∷ a ∷ []) c []))
-    × (step_of (machine (b ∷ a ∷ []) c []) (steps.Edit (rename (codes "d"))) ≡ accepted_outcome (machine (c ∷ b ∷ []) d []))
-    × (step_of (machine (c ∷ b ∷ []) d []) steps.Undo ≡ accepted_outcome (machine (b ∷ []) c (d ∷ [])))
-    × (step_of (machine (b ∷ []) c (d ∷ [])) steps.Undo ≡ accepted_outcome (machine [] b (c ∷ d ∷ [])))
-    × (step_of (machine [] b (c ∷ d ∷ [])) steps.Undo ≡ refused_outcome refusals.NothingToUndo (machine [] b (c ∷ d ∷ [])))
-unfolding effect fault name_in
+    (step_outcome (first_machine a 2) (steps.Edit (rename (codes "b"))) ≡ accepted_outcome (machine (a ∷ []) b []))
+    × (step_outcome (machine (a ∷ []) b []) (steps.Edit (rename (codes "c"))) ≡ accepted_outcome (machine (b ∷ a ∷ []) c []))
+    × (step_outcome (machine (b ∷ a ∷ []) c []) (steps.Edit (rename (codes "d"))) ≡ accepted_outcome (machine (c ∷ b ∷ []) d []))
+    × (step_outcome (machine (c ∷ b ∷ []) d []) steps.Undo ≡ accepted_outcome (machine (b ∷ []) c (d ∷ [])))
+    × (step_outcome (machine (b ∷ []) c (d ∷ [])) steps.Undo ≡ accepted_outcome (machine [] b (c ∷ d ∷ [])))
+    × (step_outcome (machine [] b (c ∷ d ∷ [])) steps.Undo ≡ refused_outcome refusals.NothingToUndo (machine [] b (c ∷ d ∷ [])))
+unfolding effect edit_fault name_in
 history_of_two = (refl, refl, refl, refl, refl, refl)
 
 -- redo goes the other way; an accepted edit leaves none to redo, a refused one changes nothing
 redo_and_edit :
-    (step_of (machine [] b (c ∷ d ∷ [])) steps.Redo ≡ accepted_outcome (machine (b ∷ []) c (d ∷ [])))
-    × (step_of (machine (b ∷ []) c (d ∷ [])) (steps.Edit (rename (codes ""))) ≡ refused_outcome (refusals.Edit errors.BadWord) (machine (b ∷ []) c (d ∷ [])))
-    × (step_of (machine (b ∷ []) c (d ∷ [])) (steps.Edit (rename (codes "a"))) ≡ accepted_outcome (machine (c ∷ b ∷ []) a []))
-    × (step_of (machine (c ∷ b ∷ []) a []) steps.Redo ≡ refused_outcome refusals.NothingToRedo (machine (c ∷ b ∷ []) a []))
-unfolding effect fault name_in
+    (step_outcome (machine [] b (c ∷ d ∷ [])) steps.Redo ≡ accepted_outcome (machine (b ∷ []) c (d ∷ [])))
+    × (step_outcome (machine (b ∷ []) c (d ∷ [])) (steps.Edit (rename (codes ""))) ≡ refused_outcome (refusals.Edit errors.BadWord) (machine (b ∷ []) c (d ∷ [])))
+    × (step_outcome (machine (b ∷ []) c (d ∷ [])) (steps.Edit (rename (codes "a"))) ≡ accepted_outcome (machine (c ∷ b ∷ []) a []))
+    × (step_outcome (machine (c ∷ b ∷ []) a []) steps.Redo ≡ refused_outcome refusals.NothingToRedo (machine (c ∷ b ∷ []) a []))
+unfolding effect edit_fault name_in
 redo_and_edit = (refl, refl, refl, refl)
 
 -- the edits in force after three renames, two undos and one that is refused
@@ -93,6 +93,6 @@ abbrev pub their_answers : List Answer
 their_answers = Done ∷ Done ∷ Done ∷ Done ∷ Done ∷ Refused refusals.NothingToUndo ∷ []
 
 -- the rename whose capture the history has dropped stays in force
-still_in_force : (in_force_after three_renames their_answers ≡ rename (codes "b") ∷ []) × (replay a (in_force_after three_renames their_answers) ≡ b)
+still_in_force : (edits_in_force_after three_renames their_answers ≡ rename (codes "b") ∷ []) × (replay a (edits_in_force_after three_renames their_answers) ≡ b)
 unfolding tally_after_all replay effect
 still_in_force = (refl, refl)

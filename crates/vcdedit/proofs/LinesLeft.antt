@@ -6,19 +6,19 @@ use Rattle.std.specs.Io.KnownBytes.{Appends, Keeps}
 use Rattle.std.proofs.KnownBytes.{Appends-trans}
 use Rattle.vcd_core.specs.Contents.{Contents}
 use Rattle.vcdedit.specs.Machine.{Machine}
-use Rattle.vcdedit.specs.inside.History.{History, with_future}
+use Rattle.vcdedit.specs.inside.History.{History, machine_with_future}
 use Rattle.vcdedit.specs.Reply.{LineReply, line_reply, reply_text}
 use Rattle.vcdedit.specs.inside.Answering.{AnswersLine}
-use Rattle.vcdedit.specs.Run.{after_lines, replies, refusals}
+use Rattle.vcdedit.specs.Run.{machine_after_lines, replies_text, refusal_count}
 use Rattle.vcdedit.specs.Script.{script_lines}
 use Rattle.vcdedit.specs.inside.RunLines.{TellsLine, RunsLines}
 
 -- of all lines, after so many, these are left on this history; the replies so far are told, and so many lines refused
 pub record AreLeft (skipped : ℕ) (lines : List (List ℕ)) (old : History) (number : ℕ) (left : List (List ℕ)) (now : History) (told : List ℕ) (count : ℕ) : Type 0 where
   pub future : List Contents
-  pub after : after_lines (with_future [] old) lines ≡ after_lines (with_future future now) left
-  pub replies : replies skipped 1 (with_future [] old) lines ≡ told ++ replies skipped (number + 1) (with_future future now) left
-  pub refused : refusals skipped (with_future [] old) lines ≡ count + refusals skipped (with_future future now) left
+  pub after : machine_after_lines (machine_with_future [] old) lines ≡ machine_after_lines (machine_with_future future now) left
+  pub replies : replies_text skipped 1 (machine_with_future [] old) lines ≡ told ++ replies_text skipped (number + 1) (machine_with_future future now) left
+  pub refused : refusal_count skipped (machine_with_future [] old) lines ≡ count + refusal_count skipped (machine_with_future future now) left
 
 -- what the loop keeps
 abbrev pub HasTold : List (List ℕ) → History → ℕ → List (List ℕ) → History → ℕ → Option (List ℕ) → Option (List ℕ) → Type 0
@@ -33,20 +33,20 @@ all_left skipped lines old = record { future = []; after = refl; replies = refl;
 pub line_more : (skipped : ℕ) (lines : List (List ℕ)) (old : History) (number : ℕ) (line : List ℕ) (left : List (List ℕ)) (now new : History) (told : List ℕ) (refused : ℕ) (reply : LineReply) →
     AreLeft skipped lines old number (line ∷ left) now told refused → AnswersLine line now new reply →
     AreLeft skipped lines old (number + 1) left new (told ++ reply_text (number + 1) reply) (refused + cond (is_err reply) 1 0)
-unfolding after_lines replies refusals
+unfolding machine_after_lines replies_text refusal_count
 line_more skipped lines old number line left now new told refused reply so answers =
     let there = answers skipped so.future in
     record {
       future = there.0;
-      after = so.after ∙ ap (λ (m : Machine). after_lines m left) there.1;
+      after = so.after ∙ ap (λ (m : Machine). machine_after_lines m left) there.1;
       replies = so.replies
-          ∙ ap (λ (m : Machine). told ++ (reply_text (number + 1) (line_reply line now.now skipped (length now.past) (length so.future)) ++ replies skipped (number + 1 + 1) m left)) there.1
-          ∙ ap (λ (s : LineReply). told ++ (reply_text (number + 1) s ++ replies skipped (number + 1 + 1) (with_future there.0 new) left)) there.2
-          ∙ sym (append_assoc told (reply_text (number + 1) reply) (replies skipped (number + 1 + 1) (with_future there.0 new) left));
+          ∙ ap (λ (m : Machine). told ++ (reply_text (number + 1) (line_reply line now.now skipped (length now.past) (length so.future)) ++ replies_text skipped (number + 1 + 1) m left)) there.1
+          ∙ ap (λ (s : LineReply). told ++ (reply_text (number + 1) s ++ replies_text skipped (number + 1 + 1) (machine_with_future there.0 new) left)) there.2
+          ∙ sym (append_assoc told (reply_text (number + 1) reply) (replies_text skipped (number + 1 + 1) (machine_with_future there.0 new) left));
       refused = so.refused
-          ∙ ap (λ (m : Machine). refused + (cond (is_err (line_reply line now.now skipped (length now.past) (length so.future))) 1 0 + refusals skipped m left)) there.1
-          ∙ ap (λ (s : LineReply). refused + (cond (is_err s) 1 0 + refusals skipped (with_future there.0 new) left)) there.2
-          ∙ sym (add_assoc refused (cond (is_err reply) 1 0) (refusals skipped (with_future there.0 new) left));
+          ∙ ap (λ (m : Machine). refused + (cond (is_err (line_reply line now.now skipped (length now.past) (length so.future))) 1 0 + refusal_count skipped m left)) there.1
+          ∙ ap (λ (s : LineReply). refused + (cond (is_err s) 1 0 + refusal_count skipped (machine_with_future there.0 new) left)) there.2
+          ∙ sym (add_assoc refused (cond (is_err reply) 1 0) (refusal_count skipped (machine_with_future there.0 new) left));
     }
 
 pub told_more : (lines : List (List ℕ)) (old : History) (number : ℕ) (line : List ℕ) (all left : List (List ℕ)) (now new : History) (refused more : ℕ) (before between after : Option (List ℕ)) →
@@ -61,7 +61,7 @@ told_more lines old number line all left now new refused more before between aft
 -- where no line is left
 pub none_left : (lines : List (List ℕ)) (old : History) (number : ℕ) (left : List (List ℕ)) (now : History) (refused : ℕ) (before after : Option (List ℕ)) →
     left ≡ [] → HasTold lines old number left now refused before after → RunsLines lines old now refused before after
-unfolding after_lines replies refusals
+unfolding machine_after_lines replies_text refusal_count
 none_left lines old number left now refused before after none so = (
   so.0,
   so.1,

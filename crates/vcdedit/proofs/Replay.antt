@@ -21,14 +21,14 @@ PastFollows c (e ∷ es) (held ∷ older) = (held ≡ replay c es) × PastFollow
 abbrev pub FutureFollows : Contents → List Edit → List Edit → List Contents → Type 0
 FutureFollows c es [] [] = Unit {0}
 FutureFollows c es [] (next ∷ later) = ⊥
-FutureFollows c es (u ∷ undone) [] = ⊥
-FutureFollows c es (u ∷ undone) (next ∷ later) = (next ≡ replay c (u ∷ es)) × FutureFollows c (u ∷ es) undone later
+FutureFollows c es (u ∷ undone_edits) [] = ⊥
+FutureFollows c es (u ∷ undone_edits) (next ∷ later) = (next ≡ replay c (u ∷ es)) × FutureFollows c (u ∷ es) undone_edits later
 
 -- the machine holds what the tally makes of the first capture
 pub record Follows (c : Contents) (t : Tally) (m : Machine) : Type 0 where
-  pub now : m.now ≡ replay c t.in_force
-  pub past : PastFollows c t.in_force m.past
-  pub future : FutureFollows c t.in_force t.undone m.future
+  pub now : m.now ≡ replay c t.edits_in_force
+  pub past : PastFollows c t.edits_in_force m.past
+  pub future : FutureFollows c t.edits_in_force t.undone_edits m.future
 
 pub past_taken : (c : Contents) (n : ℕ) (es : List Edit) (past : List Contents) → PastFollows c es past → PastFollows c es (take n past)
 past_taken c zero es past h = tt
@@ -41,32 +41,32 @@ pub edit_follows : (c : Contents) (t : Tally) (m : Machine) (e : Edit) → Follo
 unfolding replay
 edit_follows c t m e f = record {
   now = ap (effect e) f.now;
-  past = past_taken c m.depth (e ∷ t.in_force) (m.now ∷ m.past) (f.now, f.past);
+  past = past_taken c m.depth (e ∷ t.edits_in_force) (m.now ∷ m.past) (f.now, f.past);
   future = tt;
 }
 
 -- an accepted undo
-pub back_follows : (c : Contents) (es undone : List Edit) (now : Contents) (past future : List Contents) (n : Machine) →
-    now ≡ replay c es → PastFollows c es past → FutureFollows c es undone future → past ≡ n.now ∷ n.past → n.future ≡ now ∷ future →
-    Follows c (tally_after (record { in_force = es; undone = undone }) steps.Undo Done) n
-back_follows c es undone now [] future n here p f before after = absurd (cc)
-back_follows c [] undone now (held ∷ older) future n here p f before after = absurd p
-back_follows c (e ∷ es) undone now (held ∷ older) future n here p f before after = record {
+pub back_follows : (c : Contents) (es undone_edits : List Edit) (now : Contents) (past future : List Contents) (n : Machine) →
+    now ≡ replay c es → PastFollows c es past → FutureFollows c es undone_edits future → past ≡ n.now ∷ n.past → n.future ≡ now ∷ future →
+    Follows c (tally_after (record { edits_in_force = es; undone_edits = undone_edits }) steps.Undo Done) n
+back_follows c es undone_edits now [] future n here p f before after = absurd (cc)
+back_follows c [] undone_edits now (held ∷ older) future n here p f before after = absurd p
+back_follows c (e ∷ es) undone_edits now (held ∷ older) future n here p f before after = record {
   now = cc;
   past = let same : older ≡ n.past = cc in subst (PastFollows c es) same p.1;
-  future = subst (FutureFollows c es (e ∷ undone)) (sym after) (here, f);
+  future = subst (FutureFollows c es (e ∷ undone_edits)) (sym after) (here, f);
 }
 
 -- an accepted redo
-pub forth_follows : (c : Contents) (es undone : List Edit) (now : Contents) (past future : List Contents) (n : Machine) →
-    now ≡ replay c es → PastFollows c es past → FutureFollows c es undone future → future ≡ n.now ∷ n.future → n.past ≡ now ∷ past →
-    Follows c (tally_after (record { in_force = es; undone = undone }) steps.Redo Done) n
-forth_follows c es undone now past [] n here p f after before = absurd (cc)
+pub forth_follows : (c : Contents) (es undone_edits : List Edit) (now : Contents) (past future : List Contents) (n : Machine) →
+    now ≡ replay c es → PastFollows c es past → FutureFollows c es undone_edits future → future ≡ n.now ∷ n.future → n.past ≡ now ∷ past →
+    Follows c (tally_after (record { edits_in_force = es; undone_edits = undone_edits }) steps.Redo Done) n
+forth_follows c es undone_edits now past [] n here p f after before = absurd (cc)
 forth_follows c es [] now past (next ∷ later) n here p f after before = absurd f
-forth_follows c es (u ∷ undone) now past (next ∷ later) n here p f after before = record {
+forth_follows c es (u ∷ undone_edits) now past (next ∷ later) n here p f after before = record {
   now = cc;
   past = subst (PastFollows c (u ∷ es)) (sym before) (here, p);
-  future = let same : later ≡ n.future = cc in subst (FutureFollows c (u ∷ es) undone) same f.1;
+  future = let same : later ≡ n.future = cc in subst (FutureFollows c (u ∷ es) undone_edits) same f.1;
 }
 
 -- any step, with any answer that it may have
@@ -76,12 +76,12 @@ step_follows c t m (steps.Edit e) (Refused (refusals.Edit refusal)) n f h = subs
 step_follows c t m (steps.Edit e) (Refused refusals.NothingToUndo) n f h = absurd h
 step_follows c t m (steps.Edit e) (Refused refusals.NothingToRedo) n f h = absurd h
 step_follows c t m (steps.Edit e) (Refused refusals.NoMemory) n f h = absurd h
-step_follows c t m steps.Undo Done n f h = back_follows c t.in_force t.undone m.now m.past m.future n f.now f.past f.future h.past h.future
+step_follows c t m steps.Undo Done n f h = back_follows c t.edits_in_force t.undone_edits m.now m.past m.future n f.now f.past f.future h.past h.future
 step_follows c t m steps.Undo (Refused (refusals.Edit refusal)) n f h = absurd h
 step_follows c t m steps.Undo (Refused refusals.NothingToUndo) n f h = subst (Follows c t) (sym h.1) f
 step_follows c t m steps.Undo (Refused refusals.NothingToRedo) n f h = absurd h
 step_follows c t m steps.Undo (Refused refusals.NoMemory) n f h = subst (Follows c t) (sym h.1) f
-step_follows c t m steps.Redo Done n f h = forth_follows c t.in_force t.undone m.now m.past m.future n f.now f.past f.future h.future h.past
+step_follows c t m steps.Redo Done n f h = forth_follows c t.edits_in_force t.undone_edits m.now m.past m.future n f.now f.past f.future h.future h.past
 step_follows c t m steps.Redo (Refused (refusals.Edit refusal)) n f h = absurd h
 step_follows c t m steps.Redo (Refused refusals.NothingToUndo) n f h = absurd h
 step_follows c t m steps.Redo (Refused refusals.NothingToRedo) n f h = subst (Follows c t) (sym h.1) f
@@ -104,11 +104,11 @@ back_is c [] (first ∷ rest) p held older h = absurd p
 back_is c (e ∷ es) (first ∷ rest) p held older h = (e, es, refl, cc)
 
 -- a machine that follows the tally is a replay
-pub is_replay : (c : Contents) (t : Tally) (m : Machine) → Follows c t m → IsReplay c t.in_force m
-is_replay c t m f = record { now = f.now; back = back_is c t.in_force m.past f.past }
+pub is_replay : (c : Contents) (t : Tally) (m : Machine) → Follows c t m → IsReplay c t.edits_in_force m
+is_replay c t m f = record { now = f.now; back = back_is c t.edits_in_force m.past f.past }
 
 pub session_is_replay : SessionIsReplay
 unfolding replay
 session_is_replay c depth asked answers m r =
-    is_replay c (tally_after_all (record { in_force = []; undone = [] }) asked answers) m
-    (run_follows c (record { in_force = []; undone = [] }) (first_machine c depth) asked answers m (record { now = refl; past = tt; future = tt }) r)
+    is_replay c (tally_after_all (record { edits_in_force = []; undone_edits = [] }) asked answers) m
+    (run_follows c (record { edits_in_force = []; undone_edits = [] }) (first_machine c depth) asked answers m (record { now = refl; past = tt; future = tt }) r)

@@ -9,41 +9,41 @@ use Rattle.vcdedit.specs.declared.step.Step.TheVariants as steps
 use Rattle.vcdedit.specs.declared.step.StepError.TheVariants as refusals
 use Rattle.vcdedit.specs.declared.step.Answer.{Answer}
 use Rattle.vcdedit.specs.declared.step.Answer.TheVariants.{Done, Refused}
-use Rattle.vcdedit.specs.declared.command.Command.{Command}
-use Rattle.vcdedit.specs.declared.command.Command.TheVariants as commands
-use Rattle.vcdedit.specs.declared.line_error.LineError.{LineError}
+use Rattle.vcdedit.specs.declared.script.command.Command.{Command}
+use Rattle.vcdedit.specs.declared.script.command.Command.TheVariants as commands
+use Rattle.vcdedit.specs.declared.script.line_error.LineError.{LineError}
 use Rattle.vcdedit.specs.Effect.{effect}
-use Rattle.vcdedit.specs.Allowed.{fault}
-use Rattle.vcdedit.specs.Machine.{Machine, Outcome, refused_outcome, first_machine, step_of, edit_outcome, undo_outcome, redo_outcome, IsStep, IsRun}
+use Rattle.vcdedit.specs.Allowed.{edit_fault}
+use Rattle.vcdedit.specs.Machine.{Machine, StepOutcome, refused_outcome, first_machine, step_outcome, edit_outcome, undo_outcome, redo_outcome, IsStep, IsRun}
 use Rattle.vcdedit.specs.Lent.{edit_without_address, step_without_address}
-use Rattle.vcdedit.specs.Script.{command_of}
+use Rattle.vcdedit.specs.Script.{command_of_line}
 use Rattle.vcdedit.specs.Reply.{step_reply, edit_reply}
-use Rattle.vcdedit.specs.Run.{after_line, after_lines, after_command}
-use Rattle.vcdedit.specs.Laws.{memory_refusal, step_in, asked_by, answers_to, RunIsReplay, ReplyIsAnswer, answer_reply, IsStarved, StepIsOutcome}
+use Rattle.vcdedit.specs.Run.{machine_after_line, machine_after_lines, machine_after_command}
+use Rattle.vcdedit.specs.Laws.{memory_refusal, steps_of_command, steps_of_lines, answers_of_lines, RunIsReplay, ReplyIsAnswer, answer_reply, IsMemoryRefusal, StepIsOutcome}
 use Rattle.vcdedit.proofs.Replay.{session_is_replay}
 
 -- the address of a word counts neither for the effect of an edit nor for its fault
-pub effect_unplaced : (e : Edit) (c : Contents) → effect (edit_without_address e) c ≡ effect e c
+pub effect_without_address : (e : Edit) (c : Contents) → effect (edit_without_address e) c ≡ effect e c
 unfolding effect
-effect_unplaced (Rename k word) c = refl
+effect_without_address (Rename k word) c = refl
 
-pub fault_unplaced : (e : Edit) (c : Contents) → fault (edit_without_address e) c ≡ fault e c
-unfolding fault
-fault_unplaced (Rename k word) c = refl
+pub fault_without_address : (e : Edit) (c : Contents) → edit_fault (edit_without_address e) c ≡ edit_fault e c
+unfolding edit_fault
+fault_without_address (Rename k word) c = refl
 
-pub edit_unplaced : (found : Option EditError) (e : Edit) (m : Machine) → edit_outcome found (edit_without_address e) m ≡ edit_outcome found e m
+pub edit_outcome_without_address : (found : Option EditError) (e : Edit) (m : Machine) → edit_outcome found (edit_without_address e) m ≡ edit_outcome found e m
 unfolding effect
-edit_unplaced None (Rename k word) m = refl
-edit_unplaced (Some found) (Rename k word) m = refl
+edit_outcome_without_address None (Rename k word) m = refl
+edit_outcome_without_address (Some found) (Rename k word) m = refl
 
-pub step_unplaced : (m : Machine) (s : Step) → step_of m (step_without_address s) ≡ step_of m s
-unfolding fault
-step_unplaced m (steps.Edit (Rename k word)) = edit_unplaced (fault (Rename k word) m.now) (Rename k word) m
-step_unplaced m steps.Undo = refl
-step_unplaced m steps.Redo = refl
+pub step_outcome_without_address : (m : Machine) (s : Step) → step_outcome m (step_without_address s) ≡ step_outcome m s
+unfolding edit_fault
+step_outcome_without_address m (steps.Edit (Rename k word)) = edit_outcome_without_address (edit_fault (Rename k word) m.now) (Rename k word) m
+step_outcome_without_address m steps.Undo = refl
+step_outcome_without_address m steps.Redo = refl
 
 -- what comes of a step where there is memory is what may come of it
-pub edit_is_step : (found : Option EditError) (e : Edit) (m : Machine) → fault e m.now ≡ found →
+pub edit_is_step : (found : Option EditError) (e : Edit) (m : Machine) → edit_fault e m.now ≡ found →
     IsStep m (steps.Edit e) (edit_outcome found e m).answer (edit_outcome found e m).after
 edit_is_step None e m h = (h, refl)
 edit_is_step (Some refusal) e m h = (inl h, refl)
@@ -56,14 +56,14 @@ pub redo_is_step : (future : List Contents) (m : Machine) → m.future ≡ futur
 redo_is_step [] m h = (h, refl)
 redo_is_step (next ∷ later) m h = record { future = h; past = refl; depth = refl }
 
-pub ample_step : (m : Machine) (s : Step) → IsStep m s (step_of m s).answer (step_of m s).after
-ample_step m (steps.Edit e) = edit_is_step (fault e m.now) e m refl
+pub ample_step : (m : Machine) (s : Step) → IsStep m s (step_outcome m s).answer (step_outcome m s).after
+ample_step m (steps.Edit e) = edit_is_step (edit_fault e m.now) e m refl
 ample_step m steps.Undo = undo_is_step m.past m refl
 ample_step m steps.Redo = redo_is_step m.future m refl
 
 -- what may come of a step is one of the two
 abbrev pub IsOutcome : Machine → Step → Answer → Machine → Type 0
-IsOutcome m s a n = (record { answer = a; after = n } ≡ step_of m s) ⊎ IsStarved m s a n
+IsOutcome m s a n = (record { answer = a; after = n } ≡ step_outcome m s) ⊎ IsMemoryRefusal m s a n
 
 pub undo_done : (past : List Contents) (m : Machine) → past ≢ [] → (undo_outcome past m).answer ≡ Done
 undo_done [] m h = absurd (h refl)
@@ -106,51 +106,51 @@ pub redo_accepted : (future : List Contents) (m : Machine) → (redo_outcome fut
 redo_accepted [] m h = absurd (cc)
 redo_accepted (next ∷ later) m h = λ none. cc
 
-pub starved_step : (m : Machine) (s : Step) → (step_of m s).answer ≡ Done → IsStep m s (memory_refusal s) m
-starved_step m (steps.Edit e) h = (inr (edit_accepted (fault e m.now) e m h, refl), refl)
-starved_step m steps.Undo h = (undo_accepted m.past m h, refl)
-starved_step m steps.Redo h = (redo_accepted m.future m h, refl)
+pub memory_refusal_is_step : (m : Machine) (s : Step) → (step_outcome m s).answer ≡ Done → IsStep m s (memory_refusal s) m
+memory_refusal_is_step m (steps.Edit e) h = (inr (edit_accepted (edit_fault e m.now) e m h, refl), refl)
+memory_refusal_is_step m steps.Undo h = (undo_accepted m.past m h, refl)
+memory_refusal_is_step m steps.Redo h = (redo_accepted m.future m h, refl)
 
 pub is_step : (m : Machine) (s : Step) (a : Answer) (n : Machine) → IsOutcome m s a n → IsStep m s a n
-is_step m s a n (inl same) = subst (λ (o : Outcome). IsStep m s o.answer o.after) (sym same) (ample_step m s)
-is_step m s a n (inr starved) = rw (starved.1, starved.2) (starved_step m s starved.0)
+is_step m s a n (inl same) = subst (λ (o : StepOutcome). IsStep m s o.answer o.after) (sym same) (ample_step m s)
+is_step m s a n (inr refused) = rw (refused.1, refused.2) (memory_refusal_is_step m s refused.0)
 
 pub step_is_outcome : StepIsOutcome
 step_is_outcome m s a n = (outcome_of m s a n, is_step m s a n)
 
 -- the reply to a step is the machine's answer
-pub said_to_edit_is : (found : Option EditError) (e : Edit) (m : Machine) → edit_reply found ≡ answer_reply (edit_outcome found e m).answer
-said_to_edit_is None e m = refl
-said_to_edit_is (Some refusal) e m = refl
+pub reply_to_edit_is : (found : Option EditError) (e : Edit) (m : Machine) → edit_reply found ≡ answer_reply (edit_outcome found e m).answer
+reply_to_edit_is None e m = refl
+reply_to_edit_is (Some refusal) e m = refl
 
-pub said_to_undo_is : (past : List Contents) (now : Contents) (redoable : ℕ) (m : Machine) → step_reply steps.Undo now (length past) redoable ≡ answer_reply (undo_outcome past m).answer
-said_to_undo_is [] now redoable m = refl
-said_to_undo_is (back ∷ older) now redoable m = refl
+pub reply_to_undo_is : (past : List Contents) (now : Contents) (redoable : ℕ) (m : Machine) → step_reply steps.Undo now (length past) redoable ≡ answer_reply (undo_outcome past m).answer
+reply_to_undo_is [] now redoable m = refl
+reply_to_undo_is (back ∷ older) now redoable m = refl
 
-pub said_to_redo_is : (future : List Contents) (now : Contents) (undoable : ℕ) (m : Machine) → step_reply steps.Redo now undoable (length future) ≡ answer_reply (redo_outcome future m).answer
-said_to_redo_is [] now undoable m = refl
-said_to_redo_is (next ∷ later) now undoable m = refl
+pub reply_to_redo_is : (future : List Contents) (now : Contents) (undoable : ℕ) (m : Machine) → step_reply steps.Redo now undoable (length future) ≡ answer_reply (redo_outcome future m).answer
+reply_to_redo_is [] now undoable m = refl
+reply_to_redo_is (next ∷ later) now undoable m = refl
 
 pub reply_is_answer : ReplyIsAnswer
-reply_is_answer m (steps.Edit e) = said_to_edit_is (fault e m.now) e m
-reply_is_answer m steps.Undo = said_to_undo_is m.past m.now (length m.future) m
-reply_is_answer m steps.Redo = said_to_redo_is m.future m.now (length m.past) m
+reply_is_answer m (steps.Edit e) = reply_to_edit_is (edit_fault e m.now) e m
+reply_is_answer m steps.Undo = reply_to_undo_is m.past m.now (length m.future) m
+reply_is_answer m steps.Redo = reply_to_redo_is m.future m.now (length m.past) m
 
 -- a line asks for at most one step, and leaves what comes of it
-pub command_is_run : (m : Machine) (r : Result Command LineError) (asked : List Step) (answers : List Answer) (n : Machine) → IsRun (after_command m r) asked answers n →
-    IsRun m (step_in r ++ asked) (map (λ step. (step_of m step).answer) (step_in r) ++ answers) n
+pub command_is_run : (m : Machine) (r : Result Command LineError) (asked : List Step) (answers : List Answer) (n : Machine) → IsRun (machine_after_command m r) asked answers n →
+    IsRun m (steps_of_command r ++ asked) (map (λ step. (step_outcome m step).answer) (steps_of_command r) ++ answers) n
 unfolding IsRun
 command_is_run m (Ok commands.Nothing) asked answers n h = h
-command_is_run m (Ok (commands.Step step)) asked answers n h = ((step_of m step).after, ample_step m step, h)
+command_is_run m (Ok (commands.Step step)) asked answers n h = ((step_outcome m step).after, ample_step m step, h)
 command_is_run m (Err found) asked answers n h = h
 
-pub lines_are_run : (m : Machine) (lines : List (List ℕ)) → IsRun m (asked_by m lines) (answers_to m lines) (after_lines m lines)
-unfolding IsRun asked_by answers_to after_lines after_line
+pub lines_are_run : (m : Machine) (lines : List (List ℕ)) → IsRun m (steps_of_lines m lines) (answers_of_lines m lines) (machine_after_lines m lines)
+unfolding IsRun steps_of_lines answers_of_lines machine_after_lines machine_after_line
 lines_are_run m [] = refl
 lines_are_run m (line ∷ lines) =
-    let next : Machine = after_line m line in
-    command_is_run m (command_of m.now line) (asked_by next lines) (answers_to next lines) (after_lines next lines) (lines_are_run next lines)
+    let next : Machine = machine_after_line m line in
+    command_is_run m (command_of_line m.now line) (steps_of_lines next lines) (answers_of_lines next lines) (machine_after_lines next lines) (lines_are_run next lines)
 
 pub run_is_replay : RunIsReplay
 run_is_replay c depth lines =
-    session_is_replay c depth (asked_by (first_machine c depth) lines) (answers_to (first_machine c depth) lines) (after_lines (first_machine c depth) lines) (lines_are_run (first_machine c depth) lines)
+    session_is_replay c depth (steps_of_lines (first_machine c depth) lines) (answers_of_lines (first_machine c depth) lines) (machine_after_lines (first_machine c depth) lines) (lines_are_run (first_machine c depth) lines)

@@ -11,24 +11,24 @@ use Rattle.vcdedit.specs.Machine.{Machine, first_machine, IsRun}
 
 -- the edits in force, the last first, and those undone, the one undone last first
 pub record Tally : Type 0 where
-  pub in_force : List Edit
-  pub undone : List Edit
+  pub edits_in_force : List Edit
+  pub undone_edits : List Edit
 
 -- an accepted undo: the last edit in force is undone
 abbrev pub tally_after_undo : List Edit → List Edit → Tally
-tally_after_undo [] undone = record { in_force = []; undone = undone }
-tally_after_undo (e ∷ es) undone = record { in_force = es; undone = e ∷ undone }
+tally_after_undo [] undone_edits = record { edits_in_force = []; undone_edits = undone_edits }
+tally_after_undo (e ∷ es) undone_edits = record { edits_in_force = es; undone_edits = e ∷ undone_edits }
 
 -- an accepted redo: the edit that was undone last is in force again
 abbrev pub tally_after_redo : List Edit → List Edit → Tally
-tally_after_redo in_force [] = record { in_force = in_force; undone = [] }
-tally_after_redo in_force (e ∷ es) = record { in_force = e ∷ in_force; undone = es }
+tally_after_redo edits_in_force [] = record { edits_in_force = edits_in_force; undone_edits = [] }
+tally_after_redo edits_in_force (e ∷ es) = record { edits_in_force = e ∷ edits_in_force; undone_edits = es }
 
 -- an accepted edit is in force and leaves none undone; a refused step counts for nothing
 abbrev pub tally_after : Tally → Step → Answer → Tally
-tally_after t (steps.Edit e) Done = record { in_force = e ∷ t.in_force; undone = [] }
-tally_after t steps.Undo Done = tally_after_undo t.in_force t.undone
-tally_after t steps.Redo Done = tally_after_redo t.in_force t.undone
+tally_after t (steps.Edit e) Done = record { edits_in_force = e ∷ t.edits_in_force; undone_edits = [] }
+tally_after t steps.Undo Done = tally_after_undo t.edits_in_force t.undone_edits
+tally_after t steps.Redo Done = tally_after_redo t.edits_in_force t.undone_edits
 tally_after t s (Refused refusal) = t
 
 -- the tally after steps with their answers
@@ -37,8 +37,8 @@ tally_after_all t (s ∷ asked) (a ∷ answers) = tally_after_all (tally_after t
 tally_after_all t asked answers = t
 
 -- the edits in force after steps with their answers, the last first
-abbrev pub in_force_after : List Step → List Answer → List Edit
-in_force_after asked answers = (tally_after_all (record { in_force = []; undone = [] }) asked answers).in_force
+abbrev pub edits_in_force_after : List Step → List Answer → List Edit
+edits_in_force_after asked answers = (tally_after_all (record { edits_in_force = []; undone_edits = [] }) asked answers).edits_in_force
 
 -- edits made one after another, the last of them being the first of the list
 unfoldable pub replay : Contents → List Edit → Contents
@@ -46,10 +46,10 @@ replay c [] = c
 replay c (e ∷ es) = effect e (replay c es)
 
 -- the capture is the replay of the edits in force, and the one that undo goes back to is that of those before the last
-pub record IsReplay (c : Contents) (in_force : List Edit) (m : Machine) : Type 0 where
-  pub now : m.now ≡ replay c in_force
-  pub back : (held : Contents) (older : List Contents) → m.past ≡ held ∷ older → (last : Edit) × (before : List Edit) × (in_force ≡ last ∷ before) × (held ≡ replay c before)
+pub record IsReplay (c : Contents) (edits_in_force : List Edit) (m : Machine) : Type 0 where
+  pub now : m.now ≡ replay c edits_in_force
+  pub back : (held : Contents) (older : List Contents) → m.past ≡ held ∷ older → (last : Edit) × (before : List Edit) × (edits_in_force ≡ last ∷ before) × (held ≡ replay c before)
 
 -- whatever steps are asked and however they are answered, the capture is the replay of the edits in force
 abbrev pub SessionIsReplay : Type 0
-SessionIsReplay = (c : Contents) (depth : ℕ) (asked : List Step) (answers : List Answer) (m : Machine) → IsRun (first_machine c depth) asked answers m → IsReplay c (in_force_after asked answers) m
+SessionIsReplay = (c : Contents) (depth : ℕ) (asked : List Step) (answers : List Answer) (m : Machine) → IsRun (first_machine c depth) asked answers m → IsReplay c (edits_in_force_after asked answers) m

@@ -5,8 +5,8 @@ use Rattle.vcdedit.specs.declared.edit.Edit.{Edit}
 use Rattle.vcdedit.specs.declared.edit.Edit.TheVariants.{Rename}
 use Rattle.vcdedit.specs.declared.step.Step.{Step}
 use Rattle.vcdedit.specs.declared.step.Step.TheVariants as steps
-use Rattle.vcdedit.specs.declared.command.Command.{Command}
-use Rattle.vcdedit.specs.declared.command.Command.TheVariants as commands
+use Rattle.vcdedit.specs.declared.script.command.Command.{Command}
+use Rattle.vcdedit.specs.declared.script.command.Command.TheVariants as commands
 
 -- bytes as a borrow of them, at an address that no definition looks at
 abbrev pub lent_bytes : List ℕ → Bor (List ℕ)

@@ -1,3 +1,4 @@
+-- The definitions of vcdedit, from an edit to a whole run and what is reported of it.
 pub mod Effect
 pub mod Allowed
 pub mod Machine

@@ -10,7 +10,7 @@ use Rattle.vcdedit.specs.declared.step.StepError.TheVariants as refusals
 use Rattle.vcdedit.specs.declared.step.Answer.{Answer}
 use Rattle.vcdedit.specs.declared.step.Answer.TheVariants.{Done, Refused}
 use Rattle.vcdedit.specs.Effect.{effect}
-use Rattle.vcdedit.specs.Allowed.{fault, MayRefuse}
+use Rattle.vcdedit.specs.Allowed.{edit_fault, MayRefuse}
 
 -- the capture now; the past, to which undo goes back, and the future, to which redo goes on, both with the nearest first; how many captures of the past are kept
 pub record Machine : Type 0 where
@@ -36,38 +36,38 @@ abbrev pub machine_after_redo : Contents → List Contents → Machine → Machi
 machine_after_redo next later m = record { past = m.now ∷ m.past; now = next; future = later; depth = m.depth }
 
 -- what comes of a step: the answer, and the machine after it
-pub record Outcome : Type 0 where
+pub record StepOutcome : Type 0 where
   pub answer : Answer
   pub after : Machine
 
 -- an accepted step
-abbrev pub accepted_outcome : Machine → Outcome
+abbrev pub accepted_outcome : Machine → StepOutcome
 accepted_outcome after = record { answer = Done; after = after }
 
 -- a refused step changes nothing
-abbrev pub refused_outcome : StepError → Machine → Outcome
+abbrev pub refused_outcome : StepError → Machine → StepOutcome
 refused_outcome refusal m = record { answer = Refused refusal; after = m }
 
 -- an edit is refused by its fault, and else accepted
-abbrev pub edit_outcome : Option EditError → Edit → Machine → Outcome
+abbrev pub edit_outcome : Option EditError → Edit → Machine → StepOutcome
 edit_outcome None e m = accepted_outcome (machine_after_edit e m)
 edit_outcome (Some found) e m = refused_outcome (refusals.Edit found) m
 
 -- an undo is refused where the past is empty
-abbrev pub undo_outcome : List Contents → Machine → Outcome
+abbrev pub undo_outcome : List Contents → Machine → StepOutcome
 undo_outcome [] m = refused_outcome refusals.NothingToUndo m
 undo_outcome (back ∷ older) m = accepted_outcome (machine_after_undo back older m)
 
 -- a redo is refused where the future is empty
-abbrev pub redo_outcome : List Contents → Machine → Outcome
+abbrev pub redo_outcome : List Contents → Machine → StepOutcome
 redo_outcome [] m = refused_outcome refusals.NothingToRedo m
 redo_outcome (next ∷ later) m = accepted_outcome (machine_after_redo next later m)
 
 -- what comes of a step where there is memory
-abbrev pub step_of : Machine → Step → Outcome
-step_of m (steps.Edit e) = edit_outcome (fault e m.now) e m
-step_of m steps.Undo = undo_outcome m.past m
-step_of m steps.Redo = redo_outcome m.future m
+abbrev pub step_outcome : Machine → Step → StepOutcome
+step_outcome m (steps.Edit e) = edit_outcome (edit_fault e m.now) e m
+step_outcome m steps.Undo = undo_outcome m.past m
+step_outcome m steps.Redo = redo_outcome m.future m
 
 -- an undo leads from m to n
 pub record StepsBack (m n : Machine) : Type 0 where
@@ -83,8 +83,8 @@ pub record StepsForth (m n : Machine) : Type 0 where
 
 -- the answers that a step may have on the machine m, and the machine n after each: where there is no fault it is accepted, or refused for want of memory
 abbrev pub IsStep : Machine → Step → Answer → Machine → Type 0
-IsStep m (steps.Edit e) Done n = (fault e m.now ≡ None) × (n ≡ machine_after_edit e m)
-IsStep m (steps.Edit e) (Refused (refusals.Edit refusal)) n = MayRefuse (fault e m.now) refusal × (n ≡ m)
+IsStep m (steps.Edit e) Done n = (edit_fault e m.now ≡ None) × (n ≡ machine_after_edit e m)
+IsStep m (steps.Edit e) (Refused (refusals.Edit refusal)) n = MayRefuse (edit_fault e m.now) refusal × (n ≡ m)
 IsStep m (steps.Edit e) (Refused refusals.NothingToUndo) n = ⊥
 IsStep m (steps.Edit e) (Refused refusals.NothingToRedo) n = ⊥
 IsStep m (steps.Edit e) (Refused refusals.NoMemory) n = ⊥

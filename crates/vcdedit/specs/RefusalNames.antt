@@ -1,12 +1,13 @@
+-- The names that are printed for refusals: the project's own.
 use Rattle.std.specs.Prelude.{ℕ, List, codes}
 use Rattle.vcdedit.specs.declared.edit_error.EditError.{EditError}
 use Rattle.vcdedit.specs.declared.edit_error.EditError.TheVariants as edits
 use Rattle.vcdedit.specs.declared.step.StepError.{StepError}
 use Rattle.vcdedit.specs.declared.step.StepError.TheVariants as steps
-use Rattle.vcdedit.specs.declared.line_error.LineError.{LineError}
-use Rattle.vcdedit.specs.declared.line_error.LineError.TheVariants as lines
+use Rattle.vcdedit.specs.declared.script.line_error.LineError.{LineError}
+use Rattle.vcdedit.specs.declared.script.line_error.LineError.TheVariants as lines
 
--- the name that is printed for a refused edit: the project's own
+-- the name that is printed for a refused edit
 abbrev pub edit_error_name : EditError → List ℕ
 edit_error_name edits.NoSuchSignal = codes "NoSuchSignal"
 edit_error_name edits.NotScalar = codes "NotScalar"
@@ -19,14 +20,14 @@ edit_error_name edits.NameTaken = codes "NameTaken"
 edit_error_name edits.TooManySignals = codes "TooManySignals"
 edit_error_name edits.NoMemory = codes "NoMemory"
 
--- the name that is printed for a refused step: the project's own
+-- the name that is printed for a refused step
 abbrev pub step_error_name : StepError → List ℕ
 step_error_name (steps.Edit fault) = edit_error_name fault
 step_error_name steps.NothingToUndo = codes "NothingToUndo"
 step_error_name steps.NothingToRedo = codes "NothingToRedo"
 step_error_name steps.NoMemory = codes "NoMemory"
 
--- the name that is printed for a line that is no command: the project's own
+-- the name that is printed for a line that is no command
 abbrev pub line_error_name : LineError → List ℕ
 line_error_name lines.UnknownCommand = codes "UnknownCommand"
 line_error_name lines.WrongCount = codes "WrongCount"

@@ -8,12 +8,12 @@ use Rattle.vcdedit.specs.declared.step.Step.{Step}
 use Rattle.vcdedit.specs.declared.step.Step.TheVariants as steps
 use Rattle.vcdedit.specs.declared.step.StepError.{StepError}
 use Rattle.vcdedit.specs.declared.step.StepError.TheVariants as refusals
-use Rattle.vcdedit.specs.declared.command.Command.{Command}
-use Rattle.vcdedit.specs.declared.command.Command.TheVariants as commands
-use Rattle.vcdedit.specs.declared.line_error.LineError.{LineError}
+use Rattle.vcdedit.specs.declared.script.command.Command.{Command}
+use Rattle.vcdedit.specs.declared.script.command.Command.TheVariants as commands
+use Rattle.vcdedit.specs.declared.script.line_error.LineError.{LineError}
 use Rattle.vcdedit.specs.RefusalNames.{edit_error_name, step_error_name, line_error_name}
-use Rattle.vcdedit.specs.Allowed.{fault}
-use Rattle.vcdedit.specs.Script.{command_of}
+use Rattle.vcdedit.specs.Allowed.{edit_fault}
+use Rattle.vcdedit.specs.Script.{command_of_line}
 
 -- the lines of an answer, or the name of the fault for which the line is refused
 abbrev pub LineReply : Type 0
@@ -35,7 +35,7 @@ history_reply (suc held) refusal = ok_reply
 
 -- a step on a capture, where so many edits can be undone and so many redone
 abbrev pub step_reply : Step → Contents → (undoable redoable : ℕ) → LineReply
-step_reply (steps.Edit e) c undoable redoable = edit_reply (fault e c)
+step_reply (steps.Edit e) c undoable redoable = edit_reply (edit_fault e c)
 step_reply steps.Undo c undoable redoable = history_reply undoable refusals.NothingToUndo
 step_reply steps.Redo c undoable redoable = history_reply redoable refusals.NothingToRedo
 
@@ -47,7 +47,7 @@ command_reply (Ok (commands.Step step)) c skipped undoable redoable = step_reply
 
 -- what is said to a line on a capture, of whose file so many declarations were skipped
 unfoldable pub line_reply : (line : List ℕ) → Contents → (skipped undoable redoable : ℕ) → LineReply
-line_reply line c skipped undoable redoable = command_reply (command_of c line) c skipped undoable redoable
+line_reply line c skipped undoable redoable = command_reply (command_of_line c line) c skipped undoable redoable
 
 -- a line of a reply: it ends with a line feed (10)
 abbrev pub with_line_feed : List ℕ → List ℕ
@@ -59,9 +59,9 @@ reply_text number (Ok lines) = flat_map with_line_feed lines
 reply_text number (Err name) = with_line_feed (codes "line " ++ decimal number ++ codes ": refused: " ++ name)
 
 -- the reply to a line: to its number and words, on a capture, whatever came before
-abbrev pub reply : (number : ℕ) → (line : List ℕ) → Contents → (skipped undoable redoable : ℕ) → List ℕ
-reply number line c skipped undoable redoable = reply_text number (line_reply line c skipped undoable redoable)
+abbrev pub line_reply_text : (number : ℕ) → (line : List ℕ) → Contents → (skipped undoable redoable : ℕ) → List ℕ
+line_reply_text number line c skipped undoable redoable = reply_text number (line_reply line c skipped undoable redoable)
 
 -- whether a line is refused
-abbrev pub is_refused : (line : List ℕ) → Contents → (skipped undoable redoable : ℕ) → Bool
-is_refused line c skipped undoable redoable = is_err (line_reply line c skipped undoable redoable)
+abbrev pub is_line_refused : (line : List ℕ) → Contents → (skipped undoable redoable : ℕ) → Bool
+is_line_refused line c skipped undoable redoable = is_err (line_reply line c skipped undoable redoable)

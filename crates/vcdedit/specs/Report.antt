@@ -5,8 +5,8 @@ use Rattle.vcd_text.specs.declared.fault.Fault.{Fault}
 use Rattle.vcd_text.specs.declared.fault.Fault.TheVariants as faults
 use Rattle.vcd_text.specs.declared.fault.WriteError.{WriteError}
 use Rattle.vcd_text.specs.declared.fault.WriteError.TheVariants as write_errors
-use Rattle.vcdedit.specs.declared.run_error.RunError.{RunError}
-use Rattle.vcdedit.specs.declared.run_error.RunError.TheVariants as run_errors
+use Rattle.vcdedit.specs.declared.running.run_error.RunError.{RunError}
+use Rattle.vcdedit.specs.declared.running.run_error.RunError.TheVariants as run_errors
 
 -- the name of what ended a run; that of the capture's or the output's fault where it was one
 abbrev pub run_error_name : RunError → List ℕ
@@ -29,13 +29,13 @@ write_status write_errors.NoMemory = 5
 write_status (write_errors.WriteFault written) = 4
 
 -- the exit status of a run that failed
-abbrev pub status_of : RunError → ℕ
-status_of (run_errors.Capture e) = capture_status e.fault
-status_of run_errors.ScriptTooLarge = 3
-status_of run_errors.ScriptReadFault = 4
-status_of (run_errors.NoMemory line) = 5
-status_of (run_errors.ReplyFault written) = 4
-status_of (run_errors.Write e) = write_status e
+abbrev pub error_status : RunError → ℕ
+error_status (run_errors.Capture e) = capture_status e.fault
+error_status run_errors.ScriptTooLarge = 3
+error_status run_errors.ScriptReadFault = 4
+error_status (run_errors.NoMemory line) = 5
+error_status (run_errors.ReplyFault written) = 4
+error_status (run_errors.Write e) = write_status e
 
 -- the line for want of memory, wherever it arose
 abbrev pub out_of_memory_line : List ℕ

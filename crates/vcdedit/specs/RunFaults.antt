@@ -1,18 +1,18 @@
 -- What is said of the fault that ended a run: the project's own.
 use Rattle.vcd_text.specs.declared.fault.ReadError.{ReadError}
 use Rattle.vcd_text.specs.declared.fault.WriteError.{WriteError}
-use Rattle.vcdedit.specs.declared.run_error.RunError.{RunError}
-use Rattle.vcdedit.specs.declared.run_error.RunError.TheVariants as run_errors
+use Rattle.vcdedit.specs.declared.running.run_error.RunError.{RunError}
+use Rattle.vcdedit.specs.declared.running.run_error.RunError.TheVariants as run_errors
 
 -- this is said of the capture's fault, where that ended the run
-abbrev pub IfCapture : RunError → (ReadError → Type 0) → Type 0
-IfCapture (run_errors.Capture e) said = said e
-IfCapture _ said = Unit {0}
+abbrev pub IfCaptureFault : RunError → (ReadError → Type 0) → Type 0
+IfCaptureFault (run_errors.Capture e) said = said e
+IfCaptureFault _ said = Unit {0}
 
 -- this is said of the output's fault, where that ended the run
-abbrev pub IfWrite : RunError → (WriteError → Type 0) → Type 0
-IfWrite (run_errors.Write e) said = said e
-IfWrite _ said = Unit {0}
+abbrev pub IfWriteFault : RunError → (WriteError → Type 0) → Type 0
+IfWriteFault (run_errors.Write e) said = said e
+IfWriteFault _ said = Unit {0}
 
 -- the run ends before the first reply
 abbrev pub IsBeforeReplies : RunError → Type 0

@@ -8,10 +8,10 @@ use Rattle.vcd_core.specs.Names.{lookup}
 use Rattle.vcdedit.specs.declared.edit.Edit.TheVariants.{Rename}
 use Rattle.vcdedit.specs.declared.step.Step.{Step}
 use Rattle.vcdedit.specs.declared.step.Step.TheVariants as steps
-use Rattle.vcdedit.specs.declared.command.Command.{Command}
-use Rattle.vcdedit.specs.declared.command.Command.TheVariants as commands
-use Rattle.vcdedit.specs.declared.line_error.LineError.{LineError}
-use Rattle.vcdedit.specs.declared.line_error.LineError.TheVariants.{UnknownCommand, WrongCount, NoSuchName}
+use Rattle.vcdedit.specs.declared.script.command.Command.{Command}
+use Rattle.vcdedit.specs.declared.script.command.Command.TheVariants as commands
+use Rattle.vcdedit.specs.declared.script.line_error.LineError.{LineError}
+use Rattle.vcdedit.specs.declared.script.line_error.LineError.TheVariants.{UnknownCommand, WrongCount, NoSuchName}
 use Rattle.vcd_text.specs.Words.{PlacedWord, words_of}
 use Rattle.vcdedit.specs.Lent.{lent_bytes}
 
@@ -36,8 +36,8 @@ abbrev pub ◌>>=◌ : {A B : Type 0} → Result A LineError → (A → Result B
 (Err fault) >>= f = Err fault
 
 -- the position of the signal that a word names
-abbrev pub signal_named : Contents → List ℕ → Result ℕ LineError
-signal_named c name = ok_or (lookup c.signals name) NoSuchName
+abbrev pub signal_of_name : Contents → List ℕ → Result ℕ LineError
+signal_of_name c name = ok_or (lookup c.signals name) NoSuchName
 
 -- a line asks for this step
 abbrev pub step_command : Step → Result Command LineError
@@ -46,7 +46,7 @@ step_command step = Ok (commands.Step step)
 -- `rename NAME WORD`
 abbrev pub rename_command : Contents → List (List ℕ) → Result Command LineError
 rename_command c (name ∷ word ∷ []) = do
-  k ← signal_named c name
+  k ← signal_of_name c name
   step_command (steps.Edit (Rename k (lent_bytes word)))
 rename_command c arguments = Err WrongCount
 
@@ -65,5 +65,5 @@ command_of_words c (first ∷ arguments) =
     else Err UnknownCommand))
 
 -- what a line asks for on a capture, or why it is no command
-unfoldable pub command_of : Contents → List ℕ → Result Command LineError
-command_of c line = command_of_words c (line_words line)
+unfoldable pub command_of_line : Contents → List ℕ → Result Command LineError
+command_of_line c line = command_of_words c (line_words line)

@@ -5,3 +5,4 @@ pub mod ScriptParts
 pub mod Commands
 pub mod Answering
 pub mod RunLines
+pub mod ScriptRuns

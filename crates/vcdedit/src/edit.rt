@@ -1,3 +1,5 @@
+//! The edits of a capture.
+
 /// A change to a capture.
 ///
 /// Signals are positions in the capture, counted from 0.

@@ -1,12 +1,14 @@
+//! The faults of an edit, and the name of each.
+
 ghost use Rattle.std.specs.Prelude.{◌≡◌};
 ghost use Rattle.vcdedit.specs.RefusalNames.{edit_error_name};
 
 use std::alloc::AllocError;
+use std::fmt;
 use thiserror::Error;
 
 /// Why an edit is refused.
 #[derive(Clone, Copy, Debug, PartialEq, Eq, Error)]
-#[error("{}", self.name())]
 pub enum EditError {
     /// A position is not below the number of signals.
     NoSuchSignal,
@@ -24,7 +26,7 @@ pub enum EditError {
     BadWord,
     /// Another signal already has the full name that would arise.
     NameTaken,
-    /// There are 65,536 signals already.
+    /// There are `SIGNAL_LIMIT` signals already.
     TooManySignals,
     /// Memory was refused.
     NoMemory,
@@ -57,5 +59,11 @@ impl EditError {
             EditError::TooManySignals => "TooManySignals",
             EditError::NoMemory => "NoMemory",
         }
+    }
+}
+
+impl fmt::Display for EditError {
+    fn fmt<W: fmt::Write>(&self, f: &mut fmt::Formatter<W>) -> fmt::Result {
+        f.write_str(self.name())
     }
 }

@@ -7,7 +7,7 @@ ghost use Rattle.vcd_core.specs.Contents.{contents, signal_contents, no_signal, 
 ghost use Rattle.vcd_core.specs.FullName.{name_bytes};
 ghost use Rattle.vcd_core.specs.Names.{full_name, full_names};
 ghost use Rattle.vcd_core.specs.Word.{is_word as word_test};
-ghost use Rattle.vcdedit.specs.Allowed.{fault};
+ghost use Rattle.vcdedit.specs.Allowed.{edit_fault};
 ghost use Rattle.vcdedit.specs.Effect.{renamed_signal};
 ghost use Rattle.vcdedit.specs.declared.edit.Edit.TheVariants as edits;
 
@@ -15,12 +15,12 @@ use crate::edit_error::EditError;
 use std::mem;
 use vcd_core::{Capture, FullName, Seq, Signal, Word, is_word};
 
-#[tactic(auto, unfolding(crate::specs::Allowed::fault))]
+#[tactic(auto, unfolding(crate::specs::Allowed::edit_fault))]
 /// Tells which fault the edit has that makes `word` the first word of a signal's name. It takes no memory.
 pub fn check_rename(capture: &Capture, signal: usize, word: &[u8]) -> Result<(), EditError>
     ensures fault { MatchResult result
-        (λ _. fault (edits.Rename signal word.entry) (contents capture.now) ≡ None)
-        (λ found. fault (edits.Rename signal word.entry) (contents capture.now) ≡ Some found) }
+        (λ _. edit_fault (edits.Rename signal word.entry) (contents capture.now) ≡ None)
+        (λ found. edit_fault (edits.Rename signal word.entry) (contents capture.now) ≡ Some found) }
     ensures within { OnOk result (signal < length capture.now.signals) }
     ensures word { OnOk result (IsTrue (word_test word.now)) }
 {
@@ -72,9 +72,12 @@ fn behind_first(words: &[Word]) -> &[Word]
 pub fn replace_word(capture: &mut Capture, signal: usize, word: Word) -> Word
     requires within { signal < length capture.old.signals }
     requires named { 0 < length (signal_at (contents capture.old) signal).words }
-    ensures renamed { contents capture.new ≡ with_signal (contents capture.old) signal (renamed_signal word (signal_at (contents capture.old) signal)) }
-    ensures first { (signal_at (contents capture.old) signal).words ≡ result ∷ drop 1 (signal_at (contents capture.old) signal).words }
-    ensures back { contents capture.old ≡ with_signal (contents capture.new) signal (renamed_signal result (signal_at (contents capture.new) signal)) }
+    ensures renamed { contents capture.new ≡ with_signal (contents capture.old) signal
+        (renamed_signal word (signal_at (contents capture.old) signal)) }
+    ensures first { (signal_at (contents capture.old) signal).words ≡
+        result ∷ drop 1 (signal_at (contents capture.old) signal).words }
+    ensures back { contents capture.old ≡ with_signal (contents capture.new) signal
+        (renamed_signal result (signal_at (contents capture.new) signal)) }
 {
     replace_first(&mut capture.signals.item_mut(signal).words, word)
 }

@@ -1,36 +1,11 @@
-//! The lines of a script.
+//! A script: its lines, and what each of them asks for.
 
-ghost use Rattle.std.specs.Prelude.{◌≡◌, ◌≤◌, ◌<◌, ◌==◌, ◌∷◌, [], true, not, length, take, drop, MatchOption};
-ghost use Rattle.std.specs.List.{list_all};
-ghost use Rattle.vcdedit.specs.Script.{script_lines};
-ghost use Rattle.vcdedit.specs.inside.ScriptParts.{is_behind_line};
+mod command;
+mod line;
+mod line_error;
+mod splitting;
 
-/// The first line of a script, without its line feed, and what follows it. There is none where the script is
-/// empty.
-pub fn split_line(script: &[u8]) -> Option<(&[u8], &[u8])>
-    ensures { MatchOption result (script.now ≡ []) (λ parts.
-        (script_lines script.now ≡ parts.0.now ∷ script_lines parts.1.now) × (length parts.1.now < length script.now)) }
-{
-    if script.is_empty() {
-        return None;
-    }
-    let (line, behind) = script.split_at(line_len(script));
-    match behind.split_first() {
-        Some((_, rest)) => Some((line, rest)),
-        None => Some((line, behind)),
-    }
-}
-
-/// How many bytes come before the first line feed, or in all where there is none.
-fn line_len(script: &[u8]) -> usize
-    ensures within { result ≤ length script.now }
-    ensures line { list_all (λ b. not (b == 10)) (take result script.now) ≡ true }
-    ensures ends { is_behind_line (drop result script.now) ≡ true }
-{
-    for (i, byte) in script.iter().enumerate() {
-        if *byte == b'\n' {
-            return i;
-        }
-    }
-    script.len()
-}
+pub use command::Command;
+pub use line::parse_line;
+pub use line_error::LineError;
+pub use splitting::split_line;

@@ -4,7 +4,7 @@ ghost use Rattle.std.specs.Prelude.{◌≡◌, ◌≤◌, ◌∷◌, [], None, I
 ghost use Rattle.vcd_core.specs.Contents.{contents};
 ghost use Rattle.vcd_core.specs.Sound.{IsSound};
 ghost use Rattle.vcdedit.specs.declared.edit.Edit.TheVariants as edits;
-ghost use Rattle.vcdedit.specs.Allowed.{fault, MayRefuse};
+ghost use Rattle.vcdedit.specs.Allowed.{edit_fault, MayRefuse};
 
 use crate::edit_error::EditError;
 use crate::record::Record;
@@ -13,6 +13,9 @@ use circular_buffer::HeapCircularBuffer;
 use std::alloc::{AllocError, Global};
 use std::marker::Model;
 use vcd_core::{Capture, Seq, Word};
+
+/// The most steps that a session may hold to be taken back.
+pub const DEPTH_LIMIT: u64 = 1_000;
 
 /// No edit is held that could be taken back.
 #[derive(Clone, Copy, Debug, PartialEq, Eq)]
@@ -31,13 +34,18 @@ impl Model for Session {
     ghost use Rattle.std.specs.Prelude.{◌<◌, ◌≤◌, length};
     ghost use Rattle.vcd_core.specs.Contents.{contents};
     ghost use Rattle.vcd_core.specs.Sound.{IsSound};
-    ghost use Rattle.vcdedit.specs.inside.History.{History, captures_behind, AllFit};
+    ghost use Rattle.vcdedit.specs.inside.History.{History, captures_behind, AllRecordsFit};
 
     ghost Value = { History };
 
-    ghost view = { λ s. record { past = captures_behind (contents s.capture) s.past.items; now = contents s.capture; depth = s.past.capacity } };
+    ghost view = { λ s. record {
+      past = captures_behind (contents s.capture) s.past.items;
+      now = contents s.capture;
+      depth = s.past.capacity;
+    } };
 
-    ghost invariant = { λ s. IsSound (contents s.capture) × AllFit (length s.capture.signals) s.past.items };
+    ghost invariant = { λ s. IsSound (contents s.capture) ×
+        AllRecordsFit (length s.capture.signals) s.past.items };
 }
 
 impl Session {
@@ -46,7 +54,7 @@ impl Session {
     /// A session on a capture, with nothing to take back and at most `depth` records at any time.
     pub fn new(alloc: Global, capture: Capture, depth: u64) -> Result<Session, AllocError>
         requires least { 1 ≤ depth }
-        requires most { depth ≤ 1000 }
+        requires most { depth ≤ DEPTH_LIMIT }
         requires sound { IsSound (contents capture) }
         ensures { IfOk result (λ s. s ≡ first_history (contents capture) depth) }
     {
@@ -63,9 +71,12 @@ impl Session {
     /// The faults, in the order in which they count: there is no such signal, the word is none, another signal
     /// has the name that would arise, memory is refused. After any of them the session is as before.
     pub fn rename(&mut self, signal: usize, word: &[u8]) -> Result<(), EditError>
-        ensures done { OnOk result (self.new ≡ history_after_edit (edits.Rename signal word.entry) self.old) }
-        ensures no_fault { OnOk result (fault (edits.Rename signal word.entry) self.old.now ≡ None) }
-        ensures refused { IfErr result (MayRefuse (fault (edits.Rename signal word.entry) self.old.now)) }
+        ensures done { OnOk result
+            (self.new ≡ history_after_edit (edits.Rename signal word.entry) self.old) }
+        ensures no_fault { OnOk result
+            (edit_fault (edits.Rename signal word.entry) self.old.now ≡ None) }
+        ensures refused { IfErr result
+            (MayRefuse (edit_fault (edits.Rename signal word.entry) self.old.now)) }
         ensures unchanged { OnErr result (self.new ≡ self.old) }
     {
         check_rename(&self.capture, signal, word)?;

@@ -1,8 +1,11 @@
+//! The steps of a session, and what it answers to them.
+
 ghost use Rattle.std.specs.Prelude.{◌≡◌};
 ghost use Rattle.vcdedit.specs.RefusalNames.{step_error_name};
 
 use crate::edit::Edit;
 use crate::edit_error::EditError;
+use std::fmt;
 use thiserror::Error;
 
 /// What a session is asked to do.
@@ -17,7 +20,6 @@ pub enum Step<'a> {
 
 /// Why a step is refused.
 #[derive(Clone, Copy, Debug, PartialEq, Eq, Error)]
-#[error("{}", self.name())]
 pub enum StepError {
     /// The edit is refused.
     Edit(EditError),
@@ -40,6 +42,12 @@ impl StepError {
             StepError::NothingToRedo => "NothingToRedo",
             StepError::NoMemory => "NoMemory",
         }
+    }
+}
+
+impl fmt::Display for StepError {
+    fn fmt<W: fmt::Write>(&self, f: &mut fmt::Formatter<W>) -> fmt::Result {
+        f.write_str(self.name())
     }
 }
 

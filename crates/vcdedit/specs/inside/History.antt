@@ -22,8 +22,8 @@ abbrev pub history_after_edit : Edit → History → History
 history_after_edit e h = record { past = take h.depth (h.now ∷ h.past); now = effect e h.now; depth = h.depth }
 
 -- the machine that has this history and this future
-abbrev pub with_future : List Contents → History → Machine
-with_future future h = record { past = h.past; now = h.now; future = future; depth = h.depth }
+abbrev pub machine_with_future : List Contents → History → Machine
+machine_with_future future h = record { past = h.past; now = h.now; future = future; depth = h.depth }
 
 -- ---- the records that stand for the past
 
@@ -37,6 +37,6 @@ captures_behind c [] = []
 captures_behind c (r ∷ rs) = capture_before r c ∷ captures_behind (capture_before r c) rs
 
 -- each record has the position of one of so many signals, and a word
-abbrev pub AllFit : ℕ → List Record → Type 0
-AllFit count [] = Unit {0}
-AllFit count (r ∷ rs) = (r.signal < count) × IsTrue (is_word r.word) × AllFit count rs
+abbrev pub AllRecordsFit : ℕ → List Record → Type 0
+AllRecordsFit count [] = Unit {0}
+AllRecordsFit count (r ∷ rs) = (r.signal < count) × IsTrue (is_word r.word) × AllRecordsFit count rs

@@ -1,6 +1,7 @@
+-- What a value of `Reply` says: the project's own.
 use Rattle.std.specs.Prelude.{[], Ok, Err}
-use Rattle.vcdedit.specs.declared.reply.Reply.{Reply}
-use Rattle.vcdedit.specs.declared.reply.Reply.TheVariants as replies
+use Rattle.vcdedit.specs.declared.replies.reply.Reply.{Reply}
+use Rattle.vcdedit.specs.declared.replies.reply.Reply.TheVariants as replies
 use Rattle.vcdedit.specs.Reply.{LineReply, ok_reply}
 
 -- what a reply says

@@ -2,12 +2,12 @@
 use Rattle.std.specs.Prelude.{◌≡◌, ℕ, if◌then◌else◌, List, [], Option, is_err}
 use Rattle.std.specs.Io.KnownBytes.{Appends}
 use Rattle.vcd_core.specs.Contents.{Contents}
-use Rattle.vcdedit.specs.declared.run_error.RunError.{RunError}
-use Rattle.vcdedit.specs.declared.run_error.RunError.TheVariants as run_errors
-use Rattle.vcdedit.specs.inside.History.{History, with_future}
+use Rattle.vcdedit.specs.declared.running.run_error.RunError.{RunError}
+use Rattle.vcdedit.specs.declared.running.run_error.RunError.TheVariants as run_errors
+use Rattle.vcdedit.specs.inside.History.{History, machine_with_future}
 use Rattle.vcdedit.specs.Reply.{LineReply, reply_text}
 use Rattle.vcdedit.specs.inside.Answering.{AnswersLine}
-use Rattle.vcdedit.specs.Run.{after_lines, replies, refusals}
+use Rattle.vcdedit.specs.Run.{machine_after_lines, replies_text, refusal_count}
 
 -- the line of this number leads from one history to the other, its reply is told, and so many lines are refused
 abbrev pub TellsLine : ℕ → List ℕ → History → History → (refused : ℕ) → (before after : Option (List ℕ)) → Type 0
@@ -17,9 +17,9 @@ TellsLine number line old new refused before after =
 -- the lines lead from one history, without a future, to the other; their replies are these, and so many are refused
 pub record LinesGive (skipped : ℕ) (lines : List (List ℕ)) (old new : History) (told : List ℕ) (count : ℕ) : Type 0 where
   pub later : List Contents
-  pub after : after_lines (with_future [] old) lines ≡ with_future later new
-  pub replies : replies skipped 1 (with_future [] old) lines ≡ told
-  pub refused : refusals skipped (with_future [] old) lines ≡ count
+  pub after : machine_after_lines (machine_with_future [] old) lines ≡ machine_with_future later new
+  pub replies : replies_text skipped 1 (machine_with_future [] old) lines ≡ told
+  pub refused : refusal_count skipped (machine_with_future [] old) lines ≡ count
 
 -- all lines are run, and their replies told
 abbrev pub RunsLines : List (List ℕ) → History → History → (refused : ℕ) → (before after : Option (List ℕ)) → Type 0

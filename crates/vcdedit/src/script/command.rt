@@ -1,0 +1,11 @@
+//! What a line of a script may ask for.
+
+use crate::step::Step;
+
+/// What a line of the script asks for.
+#[derive(Clone, Copy, Debug, PartialEq, Eq)]
+pub enum Command<'a> {
+    /// The line is empty or a comment.
+    Nothing,
+    Step(Step<'a>),
+}

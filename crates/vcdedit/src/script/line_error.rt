@@ -1,0 +1,49 @@
+//! The faults of a line of a script, and the name of each.
+
+ghost use Rattle.std.specs.Prelude.{◌≡◌};
+ghost use Rattle.vcdedit.specs.RefusalNames.{line_error_name};
+
+use std::fmt;
+use thiserror::Error;
+
+/// Why a line of the script is no command.
+#[derive(Clone, Copy, Debug, PartialEq, Eq, Error)]
+pub enum LineError {
+    /// The first word is the name of no command.
+    UnknownCommand,
+    /// The command takes another number of words.
+    WrongCount,
+    /// A word is not a decimal number, or the number is too large.
+    BadNumber,
+    /// No signal has this name.
+    NoSuchName,
+    /// A value has a letter that is none, or more letters than its signal has bits.
+    BadValueText,
+    /// A word is none of those that may stand in its place.
+    BadOption,
+    /// A decoder's signal is wider than one bit.
+    NotScalar,
+}
+
+impl LineError {
+    /// The name that the tool prints.
+    pub fn name(&self) -> &'static str
+        ensures { result.now ≡ line_error_name self.now }
+    {
+        match self {
+            LineError::UnknownCommand => "UnknownCommand",
+            LineError::WrongCount => "WrongCount",
+            LineError::BadNumber => "BadNumber",
+            LineError::NoSuchName => "NoSuchName",
+            LineError::BadValueText => "BadValueText",
+            LineError::BadOption => "BadOption",
+            LineError::NotScalar => "NotScalar",
+        }
+    }
+}
+
+impl fmt::Display for LineError {
+    fn fmt<W: fmt::Write>(&self, f: &mut fmt::Formatter<W>) -> fmt::Result {
+        f.write_str(self.name())
+    }
+}

@@ -1,0 +1,141 @@
+//! The program: words in, files opened, a status out.
+
+ghost use Rattle.std.specs.Prelude.{◌≡◌, false};
+
+use crate::running::{RunError, Summary, run};
+use crate::shell::arguments::{Options, parse_words};
+use crate::shell::late_file::LateFile;
+use crate::shell::opening::{open_capture, open_script};
+use crate::shell::reporting::{report, report_usage, status_when_done};
+use std::io::{BufWriter, ErrorKind, Write};
+use std::rt::Runtime;
+use std::{env, io};
+use vcd_core::{FromRead, Sink, Source, ToWrite};
+use vcd_text::{Fault, ReadError};
+
+/// How many bytes the replies and the output are gathered in before they go out.
+const BUFFER: usize = 65_536;
+
+/// How many steps can be undone.
+const DEPTH: u64 = 100;
+
+/// Why the program stopped before its end.
+#[derive(Clone, Copy, Debug, PartialEq, Eq)]
+enum Stop {
+    Usage,
+    Run(RunError),
+}
+
+impl From<RunError> for Stop {
+    fn from(error: RunError) -> Stop {
+        Stop::Run(error)
+    }
+}
+
+const NO_MEMORY: RunError = RunError::NoMemory { line: 0 };
+
+/// The capture could not be opened: a read fault before its first line ends.
+const NOT_OPENED: RunError = RunError::Capture(ReadError {
+    line: 1,
+    fault: Fault::ReadFault,
+});
+
+/// Runs the program on the words of its command line, and gives its exit status. What stopped it is told
+/// on `errors`.
+pub fn status_of_program<R: Runtime + AllocGlobal, E: Sink>(rt: &R, errors: &mut E) -> u8
+    requires { E.has_failed errors.old ≡ false }
+{
+    match run_words(rt) {
+        Ok(summary) => status_when_done(&summary),
+        Err(Stop::Usage) => report_usage(errors),
+        Err(Stop::Run(error)) => report(&error, errors),
+    }
+}
+
+fn run_words<R: Runtime + AllocGlobal>(rt: &R) -> Result<Summary, Stop> {
+    let words = command_line_words(rt)?;
+    let Ok(options) = parse_words(words.as_slice()) else {
+        return Err(Stop::Usage);
+    };
+    Ok(run_options(rt, &options)?)
+}
+
+/// The words after the program's name. One that is no text is a fault of usage.
+fn command_line_words<R: Runtime + AllocGlobal>(rt: &R) -> Result<Vec<String>, Stop> {
+    match env::args(rt) {
+        Ok(words) => words
+            .skip(1)
+            .collect(rt.alloc())
+            .map_err(|_| Stop::Run(NO_MEMORY)),
+        Err(error) if error.kind() == ErrorKind::OutOfMemory => Err(Stop::Run(NO_MEMORY)),
+        Err(_) => Err(Stop::Usage),
+    }
+}
+
+/// Opens both inputs before either is read, and runs.
+fn run_options<R: Runtime + AllocGlobal>(
+    rt: &R,
+    options: &Options<'_>,
+) -> Result<Summary, RunError> {
+    let capture = open_capture(rt, options.input).map_err(|_| NOT_OPENED)?;
+    let script = open_script(rt, options.script).map_err(|_| RunError::ScriptReadFault)?;
+    run_inputs(
+        rt,
+        &mut FromRead::new(capture),
+        &mut FromRead::new(script),
+        options.output,
+    )
+}
+
+/// Runs with the replies gathered for standard output.
+fn run_inputs<R: Runtime + AllocGlobal, C: Source, S: Source>(
+    rt: &R,
+    capture: &mut C,
+    script: &mut S,
+    output: Option<&str>,
+) -> Result<Summary, RunError>
+    requires capture_ready { C.has_failed capture.old ≡ false }
+    requires script_ready { S.has_failed script.old ≡ false }
+{
+    let mut replies = ToWrite::new(new_buffer(rt, io::writer(rt))?);
+    let result = run_devices(rt, capture, script, &mut replies, output);
+    close_device(replies);
+    result
+}
+
+/// Runs with the output gathered for the file at `output`, where one is named.
+fn run_devices<R: Runtime + AllocGlobal, C: Source, S: Source, P: Sink>(
+    rt: &R,
+    capture: &mut C,
+    script: &mut S,
+    replies: &mut P,
+    output: Option<&str>,
+) -> Result<Summary, RunError>
+    requires capture_ready { C.has_failed capture.old ≡ false }
+    requires script_ready { S.has_failed script.old ≡ false }
+    requires replies_ready { P.has_failed replies.old ≡ false }
+{
+    let mut out = match output {
+        Some(path) => Some(ToWrite::new(new_buffer(rt, LateFile::new(rt, path))?)),
+        None => None,
+    };
+    let result = run(rt.alloc(), capture, script, replies, out.as_mut(), DEPTH);
+    if let Some(out) = out {
+        close_device(out);
+    }
+    result
+}
+
+fn new_buffer<R: AllocGlobal, W: Write + Drop>(
+    rt: &R,
+    writer: W,
+) -> Result<BufWriter<W>, RunError> {
+    BufWriter::with_capacity(rt.alloc(), BUFFER, writer).map_err(|_| NO_MEMORY)
+}
+
+/// Lets a device go. What it gathered still goes out, but nothing more after a failure.
+fn close_device<W: Write + Drop>(device: ToWrite<BufWriter<W>>) {
+    if device.failed() {
+        let _ = device.into_inner().into_parts();
+    }
+}

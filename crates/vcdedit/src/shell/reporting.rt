@@ -1,0 +1,119 @@
+//! What the program says of a run: its exit status, and the line on standard error.
+
+ghost use Rattle.std.specs.Prelude.{◌≡◌, ◌==◌, if◌then◌else◌, false, true, OnOk, OnErr};
+ghost use Rattle.std.specs.Io.KnownBytes.{Appends};
+ghost use Rattle.vcdedit.specs.Report.{capture_line, capture_status, error_line, numbered_line, error_status, usage_line};
+
+use crate::running::{RunError, Summary};
+use itoa::Buffer;
+use vcd_core::{ShortWrite, Sink, write_all};
+use vcd_text::{Fault, ReadError, WriteError};
+
+/// Writes the line that says what ended a run, and gives the exit status. A fault of the writer is passed
+/// over. It takes no memory.
+pub fn report<W: Sink>(error: &RunError, writer: &mut W) -> u8
+    requires { W.has_failed writer.old ≡ false }
+    ensures status { result ≡ error_status error.now }
+    ensures line { W.has_failed writer.new ≡ false →
+        Appends (W.taken writer.old) (W.taken writer.new) (error_line error.now) }
+{
+    let _ = write_line(error, writer);
+    error_status(error)
+}
+
+/// Writes the line that says that the words of the command line are refused, and gives the exit status. A
+/// fault of the writer is passed over. It takes no memory.
+pub fn report_usage<W: Sink>(writer: &mut W) -> u8
+    requires { W.has_failed writer.old ≡ false }
+    ensures status { result ≡ 2 }
+    ensures line { W.has_failed writer.new ≡ false →
+        Appends (W.taken writer.old) (W.taken writer.new) usage_line }
+{
+    let _ = write_all(writer, b"vcdedit: usage\n");
+    2
+}
+
+/// The exit status of a run that reached its end: 1 where a line of the script was refused.
+pub fn status_when_done(summary: &Summary) -> u8
+    ensures { result ≡ (if summary.now.refused == 0 then 0 else 1) }
+{
+    if summary.refused == 0 { 0 } else { 1 }
+}
+
+fn error_status(error: &RunError) -> u8
+    ensures { result ≡ error_status error.now }
+{
+    match error {
+        RunError::Capture(error) => capture_status(error.fault),
+        RunError::Write(WriteError::NoMemory) | RunError::NoMemory { .. } => 5,
+        RunError::Write(WriteError::WriteFault { .. }) | RunError::ReplyFault { .. } => 4,
+        RunError::ScriptReadFault => 4,
+        RunError::ScriptTooLarge => 3,
+    }
+}
+
+fn capture_status(fault: Fault) -> u8
+    ensures { result ≡ capture_status fault }
+{
+    match fault {
+        Fault::ReadFault => 4,
+        Fault::NoMemory => 5,
+        _ => 3,
+    }
+}
+
+const OUT_OF_MEMORY: &[u8] = b"vcdedit: out of memory\n";
+
+fn write_line<W: Sink>(error: &RunError, writer: &mut W) -> Result<(), ShortWrite>
+    requires { W.has_failed writer.old ≡ false }
+    ensures line { OnOk result
+        (Appends (W.taken writer.old) (W.taken writer.new) (error_line error.now)) }
+    ensures sound { OnOk result (W.has_failed writer.new ≡ false) }
+    ensures fault { OnErr result (W.has_failed writer.new ≡ true) }
+{
+    match error {
+        RunError::Capture(error) => write_capture_line(error, writer),
+        RunError::ScriptTooLarge => write_all(writer, b"vcdedit: script: too large\n"),
+        RunError::ScriptReadFault => write_all(writer, b"vcdedit: script: read fault\n"),
+        RunError::ReplyFault { .. } => write_all(writer, b"vcdedit: replies: write fault\n"),
+        RunError::Write(WriteError::WriteFault { .. }) => write_all(
+            writer,
+            b"vcdedit: output: write fault\n",
+        ),
+        RunError::Write(WriteError::NoMemory) | RunError::NoMemory { .. } => write_all(
+            writer,
+            OUT_OF_MEMORY,
+        ),
+    }
+}
+
+fn write_capture_line<W: Sink>(error: &ReadError, writer: &mut W) -> Result<(), ShortWrite>
+    requires { W.has_failed writer.old ≡ false }
+    ensures line { OnOk result
+        (Appends (W.taken writer.old) (W.taken writer.new)
+        (capture_line error.now.fault error.now.line)) }
+    ensures sound { OnOk result (W.has_failed writer.new ≡ false) }
+    ensures fault { OnErr result (W.has_failed writer.new ≡ true) }
+{
+    match error.fault {
+        Fault::ReadFault => write_all(writer, b"vcdedit: capture: read fault\n"),
+        Fault::NoMemory => write_all(writer, OUT_OF_MEMORY),
+        _ => write_numbered_line(error, writer),
+    }
+}
+
+fn write_numbered_line<W: Sink>(error: &ReadError, writer: &mut W) -> Result<(), ShortWrite>
+    requires { W.has_failed writer.old ≡ false }
+    ensures line { OnOk result
+        (Appends (W.taken writer.old) (W.taken writer.new)
+        (numbered_line error.now.fault error.now.line)) }
+    ensures sound { OnOk result (W.has_failed writer.new ≡ false) }
+    ensures fault { OnErr result (W.has_failed writer.new ≡ true) }
+{
+    write_all(writer, b"vcdedit: capture line ")?;
+    write_all(writer, Buffer::new().format(error.line).as_bytes())?;
+    write_all(writer, b": ")?;
+    write_all(writer, error.name().as_bytes())?;
+    write_all(writer, b"\n")?;
+    Ok(())
+}

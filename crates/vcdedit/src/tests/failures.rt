@@ -1,0 +1,106 @@
+//! Runs whose devices fail midway: which error ends them, and what the writers have taken by then.
+
+use crate::tests::devices::{FailingReader, SmallWriter};
+use crate::{RunError, Summary, run};
+use std::alloc::Global;
+use std::io::Read;
+use std::process::Abort;
+use vcd_core::{FromRead, ToWrite};
+use vcd_text::{Fault, ReadError, WriteError};
+
+/// A capture as it is written.
+const CAPTURE: &[u8] =
+    b"$scope module top $end\n$var wire 1 ! a $end\n$upscope $end\n$enddefinitions $end\n#0\n$dumpvars\n0!\n$end\n";
+
+/// It leaves the capture as it was.
+const SCRIPT: &[u8] = b"rename top.a b\nundo\n";
+
+const REPLIES: &[u8] = b"ok\nok\n";
+
+/// Room for more than a run writes here.
+const AMPLE: usize = 1_000;
+
+/// How a run ended, and its writers then.
+#[derive(Drop)]
+struct EndedRun {
+    ending: Result<Summary, RunError>,
+    replies: SmallWriter,
+    output: SmallWriter,
+}
+
+/// Runs with a history of one step, and with so much room for replies and output.
+fn run_on<R: Read + Drop, S: Read + Drop>(
+    alloc: Global,
+    capture: R,
+    script: S,
+    reply_room: usize,
+    output_room: usize,
+) -> EndedRun {
+    let mut replies = ToWrite::new(SmallWriter::new(alloc, reply_room));
+    let mut output = ToWrite::new(SmallWriter::new(alloc, output_room));
+    let ending = run(
+        alloc,
+        &mut FromRead::new(capture),
+        &mut FromRead::new(script),
+        &mut replies,
+        Some(&mut output),
+        1,
+    );
+    EndedRun {
+        ending,
+        replies: replies.into_inner(),
+        output: output.into_inner(),
+    }
+}
+
+fn check_ending(rt: &impl Abort, run: &EndedRun, error: RunError, replies: &[u8], output: &[u8]) {
+    assert!(rt; run.ending == Err(error));
+    assert!(rt; run.replies.held() == replies);
+    assert!(rt; run.output.held() == output);
+}
+
+#[test]
+fn a_capture_that_fails(rt: HostRuntime) {
+    let reader = FailingReader(b"$date\n today\n$end\n");
+    let run = run_on(rt.alloc(), reader, SCRIPT, AMPLE, AMPLE);
+    let fault = ReadError {
+        line: 4,
+        fault: Fault::ReadFault,
+    };
+    check_ending(&rt, &run, RunError::Capture(fault), b"", b"");
+}
+
+#[test]
+fn a_script_that_fails_after_a_line(rt: HostRuntime) {
+    let reader = FailingReader(b"rename top.a b\n");
+    let run = run_on(rt.alloc(), CAPTURE, reader, AMPLE, AMPLE);
+    check_ending(&rt, &run, RunError::ScriptReadFault, b"", b"");
+}
+
+/// The writer of the replies takes this front of them, all where its flush fails.
+fn check_reply_fault(rt: &impl Abort, alloc: Global, front: &[u8]) {
+    let run = run_on(alloc, CAPTURE, SCRIPT, front.len(), AMPLE);
+    let written = front.len() as u128;
+    check_ending(rt, &run, RunError::ReplyFault { written }, front, b"");
+}
+
+/// The writer of the output takes this front of it, all where its flush fails.
+fn check_output_fault(rt: &impl Abort, alloc: Global, front: &[u8]) {
+    let run = run_on(alloc, CAPTURE, SCRIPT, AMPLE, front.len());
+    let written = front.len() as u128;
+    let fault = WriteError::WriteFault { written };
+    check_ending(rt, &run, RunError::Write(fault), REPLIES, front);
+}
+
+#[test]
+fn replies_that_fail(rt: HostRuntime) {
+    check_reply_fault(&rt, rt.alloc(), b"ok\no");
+    check_reply_fault(&rt, rt.alloc(), REPLIES);
+}
+
+#[test]
+fn an_output_that_fails(rt: HostRuntime) {
+    check_output_fault(&rt, rt.alloc(), b"");
+    check_output_fault(&rt, rt.alloc(), b"$scope mod");
+    check_output_fault(&rt, rt.alloc(), CAPTURE);
+}
