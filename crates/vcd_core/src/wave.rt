@@ -1,4 +1,4 @@
-ghost use Rattle.std.specs.Prelude.{◌≡◌, ℕ, ◌+◌, ◌-◌, ◌<◌, ◌≤◌, if◌then◌else◌, nat_lt, nat_le, [], length, drop, slice_range, count_by, take_while, IsOk, IfOk, OnOk, OnErr, All, Any, vec_len, vec_capacity};
+ghost use Rattle.std.specs.Prelude.{◌≡◌, ℕ, ◌+◌, ◌-◌, ◌<◌, ◌≤◌, if◌then◌else◌, nat_lt, nat_le, [], length, drop, slice_range, count_by, IsOk, OnOk, OnErr, All, Any, vec_len, vec_capacity};
 ghost use Rattle.vcd_core.specs.Wave.{value_at, IsWave, changes_after_push};
 ghost use Rattle.vcd_core.specs.Splice.{TicksFit, spliced_changes};
 
