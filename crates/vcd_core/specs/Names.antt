@@ -10,7 +10,7 @@ use Rattle.vcd_core.specs.Decimal.{is_number, number_of}
 abbrev pub scope_text : ScopeName → List ℕ
 scope_text scope = concat scope.words
 
--- the full name in these scopes of what has these words: the names of the scopes and its own, joined by `.` (46)
+-- the full name of what has these words in these scopes: the names of the scopes and its own, joined by `.` (46)
 unfoldable pub name_in : List ScopeName → List (List ℕ) → List ℕ
 name_in scopes words = join_with_byte 46 (map scope_text scopes ++ concat words ∷ [])
 

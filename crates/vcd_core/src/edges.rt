@@ -114,8 +114,8 @@ impl<'a> Edges<'a> {
         c: Option<&'a Wave>,
         d: Option<&'a Wave>,
     ) -> Edges<'a>
-        ensures edges { let waves = option_copied a.entry ∷ option_copied b.entry ∷ option_copied c.entry
-            ∷ option_copied d.entry ∷ [] in
+        ensures edges { let waves = option_copied a.entry ∷ option_copied b.entry
+            ∷ option_copied c.entry ∷ option_copied d.entry ∷ [] in
             (end : ℕ) → EachUpTo end waves → result ≡ edges_of waves end }
     {
         Edges {

@@ -11,7 +11,8 @@ mod tests;
 /// The changes of `list` from `at` on change places with those of `other`, one for one.
 fn swap_part(list: &mut [Change], at: usize, other: &mut [Change])
     requires { at + length other.old ≤ length list.old }
-    ensures list { list.new ≡ take at list.old ++ other.old ++ drop (at + length other.old) list.old }
+    ensures list { list.new ≡ take at list.old ++ other.old
+        ++ drop (at + length other.old) list.old }
     ensures other { other.new ≡ take (length other.old) (drop at list.old) }
 {
     let (_, rest) = list.split_at_mut(at);
@@ -22,7 +23,8 @@ fn swap_part(list: &mut [Change], at: usize, other: &mut [Change])
 /// The `count` changes from `at` on go to the end of the list, and the later ones come down.
 fn rotate_tail(list: &mut [Change], at: usize, count: usize)
     requires { at + count ≤ length list.old }
-    ensures { list.new ≡ take at list.old ++ drop (at + count) list.old ++ take count (drop at list.old) }
+    ensures { list.new ≡ take at list.old ++ drop (at + count) list.old
+        ++ take count (drop at list.old) }
 {
     let (_, tail) = list.split_at_mut(at);
     tail.rotate_left(count);
@@ -68,7 +70,8 @@ fn swap_fronts(changes: &mut Vec<Change>, at: usize, piece: &mut Vec<Change>, co
     requires front { count ≤ vec_len piece.old }
     ensures changes { changes.new.items ≡ take at changes.old.items ++ take count piece.old.items
         ++ drop (at + count) changes.old.items }
-    ensures piece { piece.new.items ≡ take count (drop at changes.old.items) ++ drop count piece.old.items }
+    ensures piece { piece.new.items ≡ take count (drop at changes.old.items)
+        ++ drop count piece.old.items }
     ensures len { vec_len changes.new ≡ vec_len changes.old }
     ensures capacity { vec_capacity changes.new ≡ vec_capacity changes.old }
     ensures piece_len { vec_len piece.new ≡ vec_len piece.old }
@@ -102,7 +105,8 @@ fn hand_out(changes: &mut Vec<Change>, at: usize, to: usize, piece: &mut Vec<Cha
     requires within { to ≤ vec_len changes.old }
     requires room { vec_len piece.old + (to - at) ≤ vec_capacity piece.old }
     ensures changes { changes.new.items ≡ take at changes.old.items ++ drop to changes.old.items }
-    ensures piece { piece.new.items ≡ piece.old.items ++ take (to - at) (drop at changes.old.items) }
+    ensures piece { piece.new.items ≡ piece.old.items
+        ++ take (to - at) (drop at changes.old.items) }
     ensures capacity { vec_capacity changes.new ≡ vec_capacity changes.old }
     ensures piece_capacity { vec_capacity piece.old ≤ vec_capacity piece.new }
 {
@@ -118,7 +122,8 @@ fn hand_out(changes: &mut Vec<Change>, at: usize, to: usize, piece: &mut Vec<Cha
 fn exchange(changes: &mut Vec<Change>, from: usize, to: usize, piece: &mut Vec<Change>)
     requires ordered { from ≤ to }
     requires within { to ≤ vec_len changes.old }
-    requires room { vec_len changes.old + vec_len piece.old ≤ vec_capacity changes.old + (to - from) }
+    requires room { vec_len changes.old + vec_len piece.old
+        ≤ vec_capacity changes.old + (to - from) }
     requires piece_room { to - from ≤ vec_capacity piece.old }
     ensures changes { changes.new.items ≡ take from changes.old.items ++ piece.old.items
         ++ drop to changes.old.items }
@@ -147,10 +152,12 @@ pub(crate) fn splice_changes(
 )
     requires ordered { from ≤ to }
     requires within { to ≤ vec_len changes.old }
-    requires room { vec_len changes.old + vec_len piece.old ≤ vec_capacity changes.old + (to - from) }
+    requires room { vec_len changes.old + vec_len piece.old
+        ≤ vec_capacity changes.old + (to - from) }
     requires piece_room { to - from ≤ vec_capacity piece.old }
     requires fit { TicksFit by (drop to changes.old.items) }
-    ensures changes { changes.new.items ≡ spliced_changes changes.old.items from to piece.old.items by }
+    ensures changes { changes.new.items
+        ≡ spliced_changes changes.old.items from to piece.old.items by }
     ensures piece { piece.new.items ≡ slice_range changes.old.items from to }
     ensures capacity { vec_capacity changes.old ≤ vec_capacity changes.new }
     ensures piece_capacity { vec_capacity piece.old ≤ vec_capacity piece.new }

@@ -1,4 +1,4 @@
-ghost use Rattle.std.specs.Prelude.{◌≡◌, ℕ, ◌+◌, ◌-◌, ◌<◌, ◌≤◌, if◌then◌else◌, nat_lt, nat_le, [], length, drop, slice_range, count_by, take_while, IsOk, IfOk, OnOk, OnErr, All, Any, vec_len, vec_capacity};
+ghost use Rattle.std.specs.Prelude.{◌≡◌, ℕ, ◌+◌, ◌-◌, ◌<◌, ◌≤◌, if◌then◌else◌, nat_lt, nat_le, [], length, drop, slice_range, count_by, IsOk, OnOk, OnErr, All, Any, vec_len, vec_capacity};
 ghost use Rattle.vcd_core.specs.Wave.{value_at, IsWave, changes_after_push};
 ghost use Rattle.vcd_core.specs.Splice.{TicksFit, spliced_changes};
 
@@ -118,7 +118,8 @@ impl Wave {
         ensures in_place { 0 < self.old.room → IsOk result }
         ensures replaces { Any (λ c. c.tick ≡ tick) self.old.changes → IsOk result }
         ensures adds_none { value_at self.old.width self.old.changes tick ≡ value → IsOk result }
-        ensures room { length self.old.changes + self.old.room ≤ length self.new.changes + self.new.room }
+        ensures room { length self.old.changes + self.old.room
+            ≤ length self.new.changes + self.new.room }
     {
         push_change(&mut self.changes, self.width, tick, value)?;
         Ok(())
@@ -149,14 +150,17 @@ impl Wave {
         requires fits { vec_len piece.old ≤ self.old.room + (to - from) }
         requires piece_fits { to - from ≤ vec_capacity piece.old }
         requires ticks { TicksFit by (drop to self.old.changes) }
-        requires form { IsWave self.old.width (spliced_changes self.old.changes from to piece.old.items by) }
+        requires form { IsWave self.old.width
+            (spliced_changes self.old.changes from to piece.old.items by) }
 
         ensures width { self.new.width ≡ self.old.width }
-        ensures changes { self.new.changes ≡ spliced_changes self.old.changes from to piece.old.items by }
+        ensures changes { self.new.changes
+            ≡ spliced_changes self.old.changes from to piece.old.items by }
         ensures piece { piece.new.items ≡ slice_range self.old.changes from to }
 
         // No room is lost, on either side.
-        ensures room { length self.old.changes + self.old.room ≤ length self.new.changes + self.new.room }
+        ensures room { length self.old.changes + self.old.room
+            ≤ length self.new.changes + self.new.room }
         ensures piece_room { vec_capacity piece.old ≤ vec_capacity piece.new }
     {
         splice_changes(&mut self.changes, from, to, piece, by);

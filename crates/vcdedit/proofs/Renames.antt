@@ -1,6 +1,6 @@
 -- The name that a rename gives, and what it leaves as it was.
-use Rattle.std.proofs.Common.{◌-◌, add-one, ◌≡◌, ◌<◌, Bool, true, false, ◌||◌, ◌&&◌, IsTrue, ℕ, suc, ◌+◌, List, [], ◌∷◌, ◌++◌, length, map, take, drop, get_or, refl, sym, ◌∙◌, ap, arith}
-use Rattle.std.specs.List.{concat, list_any, list_all, remove}
+use Rattle.std.proofs.Common.{◌-◌, add-one, ◌≡◌, ◌<◌, Bool, true, false, ◌||◌, ◌&&◌, IsTrue, ℕ, suc, ◌+◌, List, [], ◌∷◌, length, map, take, drop, get_or, refl, sym, ◌∙◌, ap, arith}
+use Rattle.std.specs.List.{list_any, list_all, remove}
 use Rattle.std.specs.Str.{bytes_eq}
 use Rattle.std.specs.Prelude.{slice_set, slice_index_or}
 use Rattle.std.proofs.lemmas.List.{set-set, set-get_or, get_or-set_same, map-set, length-set, get_or-map, take-map, drop-map, map-append, take_all, length-drop, length-map}

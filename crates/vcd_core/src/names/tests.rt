@@ -1,5 +1,5 @@
 use super::*;
-use crate::capture::ScopePath;
+use crate::capture::{ScopeName, ScopePath, Word};
 use crate::seq::Seq;
 use crate::wave::Wave;
 use std::alloc::{AllocError, Global};
