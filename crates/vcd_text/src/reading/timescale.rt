@@ -55,6 +55,7 @@ fn timescale_with(count: u64, unit: &[u8]) -> Option<Timescale>
 fn unit_of(text: &[u8]) -> Option<TimeUnit>
     ensures { result ≡ unit_named text.now }
 {
+    // Comparisons in a row: a `match` on byte strings leaves goals open.
     if text == b"s".as_slice() {
         Some(TimeUnit::Second)
     } else if text == b"ms".as_slice() {

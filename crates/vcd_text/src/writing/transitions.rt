@@ -49,7 +49,8 @@ fn append_all_values(out: &mut Vec<u8>, signals: &[Signal]) -> Result<(), NoMemo
 const PART: usize = 64;
 
 /// Appends what changes after tick 0, in the order of `transitions`, and the end. The ticks between are not looked
-/// at. For each signal it keeps the place of its next change: 8 bytes a signal.
+/// at. For each signal it keeps the place of its next change, 8 bytes a signal, and by that finds a value at once;
+/// `PART` values at a time stand beside.
 pub fn append_transitions(
     alloc: Global,
     out: &mut Vec<u8>,
