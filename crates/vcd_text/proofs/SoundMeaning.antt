@@ -1,27 +1,29 @@
 -- What an accepted file means is sound.
-use Rattle.std.proofs.Common.{◌≡◌, ◌⊎◌, inl, inr, ℕ, zero, suc, ◌+◌, ◌-◌, ◌<◌, ◌≤◌, Bool, true, false, cond, not, ◌&&◌, ◌||◌, List, [], ◌∷◌, ◌++◌, length, map, take, drop, replicate, Option, Some, None, IsTrue, IsFalse, IsSome, IsSomeAnd, IfSome, All, refl, sym, ap, subst, ◌∙◌, arith, eq-eqb, codes}
-use Rattle.std.specs.Prelude.{find, bytes_eq, nat_eq, ◌==◌, nat_le, nat_lt, filter}
+use Rattle.std.proofs.Common.{◌≡◌, ℕ, zero, suc, ◌+◌, ◌-◌, ◌<◌, ◌≤◌, Bool, true, false, cond, not, ◌&&◌, ◌||◌, List, [], ◌∷◌, ◌++◌, length, take, drop, replicate, Option, Some, None, IsTrue, IsFalse, IsSome, IsSomeAnd, IfSome, All, refl, sym, ap, subst, ◌∙◌, arith, eq-eqb}
+use Rattle.std.specs.Prelude.{find, bytes_eq, nat_eq, ◌==◌, nat_le, nat_lt}
 use Rattle.std.specs.List.{list_all, concat}
 use Rattle.std.specs.Fmt.{decimal}
-use Rattle.std.proofs.lemmas.Bool.{and_parts, and_from, or_parts, or_from, false≢true, not-true, eqb-true, eqb-false, ne_eqb, leb-true, ltb-true, ltb-false}
+use Rattle.std.proofs.lemmas.Bool.{and_parts, and_from, or_parts, false≢true, not-true, eqb-true, eqb-false, leb-true, ltb-true, ltb-false}
 use Rattle.std.proofs.lemmas.Slice.Eq.{bytes_eq-Decides}
 use Rattle.std.proofs.lemmas.List.{append-nil, length-append, length-map, length-replicate, take-append-drop}
-use Rattle.std.proofs.lemmas.List.Elements.{All-nil, All-cons, All-head, All-tail, All-push, All-map, All-weaker, All-filter, filter_passes, filter-append}
+use Rattle.std.proofs.lemmas.List.Elements.{All-nil, All-head, All-tail, All-push, All-map, All-weaker, All-filter, filter_passes, filter-append}
 use Rattle.std.proofs.lemmas.List.Folds.{list_all-append}
 use Rattle.vcd_core.specs.declared.bit.Bit.{Bit}
 use Rattle.vcd_core.specs.declared.bit.Bit.TheVariants.{X}
+use Rattle.vcd_core.specs.declared.capture.Header.{Header}
+use Rattle.vcd_core.specs.declared.capture.ScopeName.{ScopeName}
+use Rattle.vcd_core.specs.declared.capture.Timescale.{Timescale}
 use Rattle.vcd_core.specs.declared.value.TheConstants.{WIDTH_LIMIT}
 use Rattle.vcd_core.specs.declared.capture.TheConstants.{END_LIMIT, SIGNAL_LIMIT}
-use Rattle.vcd_core.specs.Word.{is_word, is_skipped_kind, is_one_of}
+use Rattle.vcd_core.specs.Word.{is_word, is_skipped_kind}
 use Rattle.vcd_core.specs.Value.{all_x}
-use Rattle.vcd_core.specs.Contents.{SignalContents}
 use Rattle.vcd_core.specs.Sound.{IsSound, IsSoundSignal, is_sound_header, is_sound_scope, is_sound_timescale}
 use Rattle.vcd_core.proofs.Waves.{changes_rise, changes_end}
-use Rattle.vcd_text.specs.Words.{PlacedWord, words_from, words_of, word_on, with_byte, with_longer_first, ends_before, line_behind}
+use Rattle.vcd_text.specs.Words.{words_of, word_on}
 use Rattle.vcd_core.specs.Decimal.{is_number, number_of}
 use Rattle.vcd_text.specs.Letters.{extension, pad_letter, letters_read}
 use Rattle.vcd_text.specs.Items.{Item, entry, timescale, scope, upscope, variable, end_definitions, stamp, scalar, vector, real_or_string, bracket, other, spelling, spellings, header_word, end_word, is_end, has_no_end, timescales, unit_text}
-use Rattle.vcd_text.specs.Grammar.{Context, Declaration, ChangeRecord, Accepts, Allows, AllowsAll, after, after_item, nothing_told, word_texts, is_skipped, kept_variables, declaration_of, variable_of, may_have_code, has_room, change_records, with_record, takes_digits, is_value}
+use Rattle.vcd_text.specs.Grammar.{Context, Declaration, ChangeRecord, Accepts, Allows, AllowsAll, after, after_item, nothing_told, is_skipped, kept_variables, variable_of, may_have_code, has_room, change_records, with_record, takes_digits, is_value}
 use Rattle.vcd_text.proofs.WordLaws.{is_run_text, texts_are_runs, run_is_word}
 use Rattle.vcd_text.specs.Meaning.{meaning, declared_signal, recorded_value}
 
@@ -194,80 +196,34 @@ clean_variable c (kind ∷ size ∷ code ∷ name ∷ names) clean all allows =
     clean_declared c (record { scopes = c.scopes; kind = kind; size = number_of size; code = code; words = name ∷ names }) clean allows.0
     (record { scopes = clean.scopes; kind = p.0; named = omega arith; words = r.1 }) allows.3.0 allows.3.1
 
+-- what stays clean where neither variables nor records come
+clean_beside : (c : Context) (header : List Header) (time : Option Timescale) (scopes : List ScopeName) (changing : Bool) (tick : ℕ) → IsClean c
+    → list_all is_sound_header header ≡ true → IfSome time (λ t. is_sound_timescale t ≡ true) → list_all is_sound_scope scopes ≡ true
+    → (changing ≡ false → c.records ≡ []) → tick ≤ END_LIMIT
+    → IsClean (record { header = header; timescale = time; scopes = scopes; declared = c.declared; changing = changing; records = c.records; tick = tick })
+clean_beside c header time scopes changing tick clean sound_header sound_timescale sound_scopes silent within =
+    record { header = sound_header; timescale = sound_timescale; scopes = sound_scopes; declared = clean.declared; agree = clean.agree; few = clean.few; fit = clean.fit; silent = silent; tick = within }
+
 clean_item : (c : Context) (i : Item) → IsClean c → list_all is_run_text (spelling i) ≡ true → Allows c i → IsClean (after_item c i)
-clean_item c (entry kind words) clean all allows = record {
-  header =
-      list_all-append is_sound_header c.header _
-      ∙ and_from (list_all is_sound_header c.header) (list_all is_word words && true) clean.header
-      (and_from (list_all is_word words) true (clean_words words (end_word ∷ []) (and_parts (is_run_text (header_word kind)) (list_all is_run_text (words ++ end_word ∷ [])) all).1 allows.1) refl);
-  timescale = clean.timescale;
-  scopes = clean.scopes;
-  declared = clean.declared;
-  agree = clean.agree;
-  few = clean.few;
-  fit = clean.fit;
-  silent = clean.silent;
-  tick = clean.tick;
-}
-clean_item c (timescale words) clean all allows = record {
-  header = clean.header;
-  timescale = found_passes (λ t. bytes_eq (concat words) (decimal t.count ++ unit_text t.unit)) is_sound_timescale timescales refl;
-  scopes = clean.scopes;
-  declared = clean.declared;
-  agree = clean.agree;
-  few = clean.few;
-  fit = clean.fit;
-  silent = clean.silent;
-  tick = clean.tick;
-}
-clean_item c (scope kind words) clean all allows = record {
-  header = clean.header;
-  timescale = clean.timescale;
-  scopes =
-      list_all-append is_sound_scope c.scopes _
-      ∙ and_from (list_all is_sound_scope c.scopes) (list_all is_word (kind ∷ words) && true) clean.scopes
-      (and_from (list_all is_word (kind ∷ words)) true (clean_words (kind ∷ words) (end_word ∷ []) all allows.1) refl);
-  declared = clean.declared;
-  agree = clean.agree;
-  few = clean.few;
-  fit = clean.fit;
-  silent = clean.silent;
-  tick = clean.tick;
-}
-clean_item c upscope clean all allows = record {
-  header = clean.header;
-  timescale = clean.timescale;
-  scopes = all_taken is_sound_scope (length c.scopes - 1) c.scopes clean.scopes;
-  declared = clean.declared;
-  agree = clean.agree;
-  few = clean.few;
-  fit = clean.fit;
-  silent = clean.silent;
-  tick = clean.tick;
-}
+clean_item c (entry kind words) clean all allows = clean_beside c _ _ _ _ _ clean
+    (list_all-append is_sound_header c.header _
+    ∙ and_from (list_all is_sound_header c.header) (list_all is_word words && true) clean.header
+    (and_from (list_all is_word words) true (clean_words words (end_word ∷ []) (and_parts (is_run_text (header_word kind)) (list_all is_run_text (words ++ end_word ∷ [])) all).1 allows.1) refl))
+    clean.timescale clean.scopes clean.silent clean.tick
+clean_item c (timescale words) clean all allows = clean_beside c _ _ _ _ _ clean
+    clean.header (found_passes (λ t. bytes_eq (concat words) (decimal t.count ++ unit_text t.unit)) is_sound_timescale timescales refl) clean.scopes clean.silent clean.tick
+clean_item c (scope kind words) clean all allows = clean_beside c _ _ _ _ _ clean clean.header clean.timescale
+    (list_all-append is_sound_scope c.scopes _
+    ∙ and_from (list_all is_sound_scope c.scopes) (list_all is_word (kind ∷ words) && true) clean.scopes
+    (and_from (list_all is_word (kind ∷ words)) true (clean_words (kind ∷ words) (end_word ∷ []) all allows.1) refl))
+    clean.silent clean.tick
+clean_item c upscope clean all allows = clean_beside c _ _ _ _ _ clean
+    clean.header clean.timescale (all_taken is_sound_scope (length c.scopes - 1) c.scopes clean.scopes) clean.silent clean.tick
 clean_item c (variable words) clean all allows = clean_variable c words clean all allows
-clean_item c end_definitions clean all allows = record {
-  header = clean.header;
-  timescale = clean.timescale;
-  scopes = clean.scopes;
-  declared = clean.declared;
-  agree = clean.agree;
-  few = clean.few;
-  fit = clean.fit;
-  silent = λ no_more. absurd (false≢true (sym no_more));
-  tick = clean.tick;
-}
-clean_item c (stamp digits) clean all allows = record {
-  header = clean.header;
-  timescale = clean.timescale;
-  scopes = clean.scopes;
-  declared = clean.declared;
-  agree = clean.agree;
-  few = clean.few;
-  fit = clean.fit;
-  silent = clean.silent;
-  tick = leb-true (number_of digits) END_LIMIT (and_parts (is_number digits) (nat_le (number_of digits) END_LIMIT) allows.1).1;
-}
+clean_item c end_definitions clean all allows = clean_beside c _ _ _ _ _ clean
+    clean.header clean.timescale clean.scopes (λ no_more. absurd (false≢true (sym no_more))) clean.tick
+clean_item c (stamp digits) clean all allows = clean_beside c _ _ _ _ _ clean
+    clean.header clean.timescale clean.scopes clean.silent (leb-true (number_of digits) END_LIMIT (and_parts (is_number digits) (nat_le (number_of digits) END_LIMIT) allows.1).1)
 clean_item c (scalar letter code) clean all allows =
     clean_record c code (letters_read (letter ∷ [])) clean allows.0 (some_kept (variable_of c code) allows.3)
 clean_item c (vector first digits code) clean all allows =

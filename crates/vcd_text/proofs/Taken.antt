@@ -1,6 +1,6 @@
 -- One more word, from the first word of the file on.
-use Rattle.std.specs.Prelude.{Bool, true, false, IsTrue, IsFalse, codes, ◌==◌, ◌&&◌, not}
-use Rattle.std.proofs.Common.{◌≡◌, ◌⊎◌, inl, inr, cond, List, [], ◌∷◌, ◌++◌, map, refl, sym, ap, subst, ◌∙◌, append_assoc}
+use Rattle.std.specs.Prelude.{Bool, true, false, IsTrue, IsFalse, ◌==◌, ◌&&◌, not}
+use Rattle.std.proofs.Common.{◌≡◌, ◌⊎◌, inl, inr, cond, List, [], ◌∷◌, ◌++◌, refl, sym, ap, subst, ◌∙◌, append_assoc}
 use Rattle.std.proofs.lemmas.List.{append-nil, map-append}
 use Rattle.std.proofs.lemmas.Bool.{and_parts, eqb-true, false≢true}
 use Rattle.std.specs.Prelude.{ℕ}

@@ -1,6 +1,6 @@
 -- The items of a file, declarations and changes, and the words that spell them (IEEE 1364-2005, 18.2, in the project's profile).
 use Rattle.std.specs.Prelude.{ℕ, Bool, false, not, ◌&&◌, ◌||◌, ◌==◌, List, [], ◌∷◌, ◌++◌, map, find, Option, codes, decimal, bytes_eq}
-use Rattle.std.specs.List.{list_any, list_all, flat_map, concat}
+use Rattle.std.specs.List.{list_all, flat_map, concat}
 use Rattle.vcd_core.specs.Word.{is_one_of}
 use Rattle.vcd_core.specs.declared.capture.HeaderKind.{HeaderKind}
 use Rattle.vcd_core.specs.declared.capture.HeaderKind.TheVariants.{Date, Version, Comment}
@@ -71,12 +71,12 @@ unit_text Picosecond = codes "ps"
 unit_text Femtosecond = codes "fs"
 
 -- 1, 10 and 100 of a unit
-abbrev pub counts_of : TimeUnit → List Timescale
-counts_of unit = record { count = 1; unit = unit } ∷ record { count = 10; unit = unit } ∷ record { count = 100; unit = unit } ∷ []
+abbrev pub unit_timescales : TimeUnit → List Timescale
+unit_timescales unit = record { count = 1; unit = unit } ∷ record { count = 10; unit = unit } ∷ record { count = 100; unit = unit } ∷ []
 
 -- all timescales
 abbrev pub timescales : List Timescale
-timescales = flat_map counts_of (Second ∷ Millisecond ∷ Microsecond ∷ Nanosecond ∷ Picosecond ∷ Femtosecond ∷ [])
+timescales = flat_map unit_timescales (Second ∷ Millisecond ∷ Microsecond ∷ Nanosecond ∷ Picosecond ∷ Femtosecond ∷ [])
 
 -- the timescale that words spell when they are run together, if it is one
 abbrev pub timescale_of : List (List ℕ) → Option Timescale

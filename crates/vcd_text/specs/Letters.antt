@@ -1,6 +1,6 @@
 -- Letters of values, their extension and their short form (IEEE 1364-2005, 18.2).
-use Rattle.std.specs.Prelude.{ℕ, ◌+◌, ◌-◌, ◌*◌, Bool, if◌then◌else◌, List, [], ◌∷◌, ◌++◌, ◌&&◌, not, ◌==◌, nat_le, nat_eq, length, map, replicate, find, Option, Some, None, is_some, unwrap_or, codes}
-use Rattle.std.specs.List.{list_any, list_all}
+use Rattle.std.specs.Prelude.{ℕ, ◌-◌, Bool, if◌then◌else◌, List, [], ◌∷◌, ◌++◌, nat_eq, length, map, replicate, find, Option, Some, None, is_some, unwrap_or, codes}
+use Rattle.std.specs.List.{list_any}
 use Rattle.vcd_core.specs.declared.bit.Bit.{Bit}
 use Rattle.vcd_core.specs.declared.bit.Bit.TheVariants.{Zero, One, X, Z}
 use Rattle.vcd_core.specs.Value.{same_letters, printed_letter}

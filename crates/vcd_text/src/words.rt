@@ -10,7 +10,7 @@ ghost use Rattle.vcd_text.specs.inside.Spaces.{begins_with_space};
 use std::marker::Model;
 use vcd_core::is_white_space;
 
-/// A word and the line that it stands on, counted from 1.
+/// A word, borrowed from its text, and the line that it stands on, counted from 1.
 #[derive(Clone, Copy)]
 pub struct PlacedWord<'a> {
     pub text: &'a [u8],
@@ -79,6 +79,7 @@ impl<'a> Words<'a> {
         let (text, behind) = rest.split_at(word_len(rest));
         self.passed = passed;
         self.rest = behind;
+        // Two tests in a row, where `||` would do: each return has a proof of its own.
         if text.is_empty() {
             return None;
         }

@@ -193,6 +193,7 @@ fn keyword_item(text: &[u8]) -> Option<OpenItem>
     ensures { MatchOption result (IsFalse (is_one_of (declaring_words ++ header_words) text.now))
         (λ item. Opens item text.now) }
 {
+    // Comparisons in a row: a `match` on byte strings leaves goals open.
     if text == b"$scope".as_slice() {
         Some(OpenItem::Scope)
     } else if text == b"$upscope".as_slice() {

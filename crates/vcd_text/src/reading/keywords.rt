@@ -8,6 +8,7 @@ ghost use Rattle.vcd_text.specs.Items.{is_command, declaring_words, dump_words};
 pub fn is_dump_word(text: &[u8]) -> bool
     ensures { result ≡ is_one_of dump_words text.now }
 {
+    // Comparisons in a row: a `match` on byte strings leaves goals open.
     text == b"$dumpall".as_slice()
         || text == b"$dumpoff".as_slice()
         || text == b"$dumpon".as_slice()
@@ -26,6 +27,7 @@ pub fn is_command(text: &[u8]) -> bool
 pub fn is_declaring(text: &[u8]) -> bool
     ensures { result ≡ is_one_of declaring_words text.now }
 {
+    // As above.
     text == b"$scope".as_slice()
         || text == b"$upscope".as_slice()
         || text == b"$var".as_slice()

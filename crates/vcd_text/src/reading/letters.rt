@@ -48,7 +48,7 @@ pub fn read_value(width: u64, digits: &[u8]) -> Result<Value, DigitsError>
             DigitsError::NoValue
         });
     }
-    extended(width, digits).ok_or(DigitsError::NoValue)
+    extended_value(width, digits).ok_or(DigitsError::NoValue)
 }
 
 /// Whether all bytes are value letters.
@@ -66,7 +66,7 @@ pub fn is_letter(byte: u8) -> bool
 }
 
 /// The digits as letters, with those that are wanting on the left; none where one is no value letter.
-fn extended(width: u64, digits: &[u8]) -> Option<Value>
+fn extended_value(width: u64, digits: &[u8]) -> Option<Value>
     requires least { 1 ≤ width }
     requires most { width ≤ WIDTH_LIMIT }
     requires fits { length digits.now ≤ width }

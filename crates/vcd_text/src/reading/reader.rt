@@ -1,4 +1,4 @@
-//! The reader as a machine that takes one word after another.
+//! The reader, which takes one word after another.
 
 ghost use Rattle.std.specs.Prelude.{◌≡◌, ◌<◌, [], true, length, IfOk};
 ghost use Rattle.vcd_core.specs.Contents.{contents};

@@ -12,12 +12,12 @@ use vcd_core::{NoMemory, TimeUnit, Timescale, Word};
 pub fn timescale_in(alloc: Global, words: &[Word]) -> Result<Option<Timescale>, NoMemory>
     ensures { IfOk result (λ found. timescale_of words.now ≡ found) }
 {
-    let text = joined(alloc, words)?;
+    let text = joined_words(alloc, words)?;
     Ok(timescale_of_text(&text))
 }
 
 /// The words run together.
-fn joined(alloc: Global, words: &[Word]) -> Result<Vec<u8>, NoMemory>
+fn joined_words(alloc: Global, words: &[Word]) -> Result<Vec<u8>, NoMemory>
     ensures { IfOk result (λ text. text.items ≡ concat words.now) }
 {
     let mut text = Vec::new(alloc);
@@ -55,6 +55,7 @@ fn timescale_with(count: u64, unit: &[u8]) -> Option<Timescale>
 fn unit_of(text: &[u8]) -> Option<TimeUnit>
     ensures { result ≡ unit_named text.now }
 {
+    // Comparisons in a row: a `match` on byte strings leaves goals open.
     if text == b"s".as_slice() {
         Some(TimeUnit::Second)
     } else if text == b"ms".as_slice() {

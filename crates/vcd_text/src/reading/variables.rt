@@ -255,7 +255,7 @@ impl Variables {
         let Variables { kept, .. } = self;
         let mut signals = Vec::with_capacity(alloc, kept.len())?;
         for variable in kept {
-            push_finished(alloc, &mut signals, variable)?;
+            push_signal(alloc, &mut signals, variable)?;
         }
         Ok(signals)
     }
@@ -293,22 +293,18 @@ fn silent_signal(
 }
 
 /// Adds the signal of a variable behind those of the variables before it.
-fn push_finished(
-    alloc: Global,
-    signals: &mut Vec<Signal>,
-    variable: Variable,
-) -> Result<(), NoMemory>
+fn push_signal(alloc: Global, signals: &mut Vec<Signal>, variable: Variable) -> Result<(), NoMemory>
     ensures { OnOk result ((signal : Signal) × Finishes variable
         (slice_get signals.old.items variable.first) signal ×
         (signals.new.items ≡ signals.old.items ++ signal ∷ [])) }
 {
-    let signal = finished(alloc, variable, signals.as_slice())?;
+    let signal = finished_signal(alloc, variable, signals.as_slice())?;
     signals.push(signal)?;
     Ok(())
 }
 
 /// The signal of a variable, behind those of the variables before it.
-fn finished(alloc: Global, variable: Variable, before: &[Signal]) -> Result<Signal, NoMemory>
+fn finished_signal(alloc: Global, variable: Variable, before: &[Signal]) -> Result<Signal, NoMemory>
     ensures { IfOk result (Finishes variable (slice_get before.now variable.first)) }
 {
     let Variable { signal, first, .. } = variable;

@@ -6,7 +6,7 @@ ghost use Rattle.vcd_core.specs.Contents.{signal_contents};
 ghost use Rattle.vcd_core.specs.Wave.{value_at};
 ghost use Rattle.vcd_core.specs.Sound.{IsSoundSignal};
 ghost use Rattle.vcd_core.specs.declared.capture.TheConstants.{SIGNAL_LIMIT};
-ghost use Rattle.vcd_text.specs.inside.Transitions.{tick_after, later_transitions, listed_from, transition_value, transitions_from, valued_items};
+ghost use Rattle.vcd_text.specs.inside.Transitions.{last_tick, later_transitions, transitions_by_signal, transition_value, transitions_from, valued_items};
 ghost use Rattle.vcd_text.specs.Text.{all_values, end_items, first_items, item_line, stamp_of, tick_items};
 
 use super::values::append_value;
@@ -49,7 +49,8 @@ fn append_all_values(out: &mut Vec<u8>, signals: &[Signal]) -> Result<(), NoMemo
 const PART: usize = 64;
 
 /// Appends what changes after tick 0, in the order of `transitions`, and the end. The ticks between are not looked
-/// at. For each signal it keeps the place of its next change: 8 bytes a signal.
+/// at. For each signal it keeps the place of its next change, 8 bytes a signal, and by that finds a value at once;
+/// `PART` values at a time stand beside.
 pub fn append_transitions(
     alloc: Global,
     out: &mut Vec<u8>,
@@ -109,7 +110,7 @@ fn append_part(
     requires valued { length values.now ≡ length transitions.now }
     ensures text { OnOk result (out.new.items ≡
         out.old.items ++ flat_map item_line (valued_items last transitions.now values.now)) }
-    ensures last { IfOk result (λ tick. tick ≡ tick_after last transitions.now) }
+    ensures last { IfOk result (λ tick. tick ≡ last_tick last transitions.now) }
 {
     let mut last = last;
     for (k, next) in transitions.iter().enumerate() {
@@ -191,7 +192,7 @@ pub fn sorted_transitions(alloc: Global, signals: &[Signal]) -> Result<Vec<Trans
 
 fn listed_transitions(alloc: Global, signals: &[Signal]) -> Result<Vec<Transition>, NoMemory>
     ensures { IfOk result (λ transitions.
-        transitions.items ≡ listed_from 0 (map signal_contents signals.now)) }
+        transitions.items ≡ transitions_by_signal 0 (map signal_contents signals.now)) }
 {
     let mut transitions = Vec::new(alloc);
     for (position, signal) in signals.iter().enumerate() {

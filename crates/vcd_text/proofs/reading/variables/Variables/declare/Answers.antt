@@ -3,7 +3,7 @@ use Rattle.std.proofs.lemmas.Bool.{eqb-false}
 use Rattle.std.proofs.lemmas.List.{take_rest}
 use Rattle.vcd_core.specs.declared.value.TheConstants.{WIDTH_LIMIT}
 use Rattle.vcd_core.specs.Decimal.{number_of}
-use Rattle.vcd_core.specs.Word.{is_one_of, is_skipped_kind}
+use Rattle.vcd_core.specs.Word.{is_skipped_kind}
 use Rattle.vcd_text.specs.Grammar.{Declaration, is_skipped}
 use Rattle.vcd_text.specs.inside.Variables.{declaration_by, DeclaresAs}
 use Rattle.vcd_text.proofs.DeclaredVariables.{worded_declaration, declares_words, words_in_front, left_out, kept_size}

@@ -12,7 +12,7 @@ loop-variable-preserved c =
     let yielded = c.loop-variable.yielded in
     let rest = c.next.new.self.rest.items in
     let signals = c.loop-variable.signals.items in
-    let added = c.in_ok-push_finished.ensures in
+    let added = c.in_ok-push_signal.ensures in
     let all = c.loop-variable.invariant.0 ∙ ap (λ l. yielded ++ l) c.in-Some.ensures.steps.0 in (
       all ∙ sym (append_assoc yielded (v ∷ []) rest),
       λ told k.
