@@ -1,41 +1,34 @@
 -- Worked cases: files that are refused, with fault and line.
-use Rattle.std.proofs.Common.{refl, arith}
+use Rattle.std.proofs.Common.{◌≡◌, refl, arith}
 use Rattle.std.specs.Prelude.{ℕ, List, ◌++◌, [], ◌∷◌, take, drop, codes}
 use Rattle.std.specs.Fmt.{digits}
+use Rattle.vcd_text.specs.declared.fault.Fault.{Fault}
 use Rattle.vcd_text.specs.declared.fault.Fault.TheVariants.{Truncated, UnexpectedWord, BadChange, BadTimescale, BadScope, UpscopeAtTop, BadVar, MixedCode, BadTime, TimeBackwards, UnknownCode, ValueTooLong}
-use Rattle.vcd_text.specs.Words.{word_on, words_from, words_of, closed_words}
-use Rattle.vcd_text.specs.Grammar.{nothing_told, after}
+use Rattle.vcd_text.specs.Words.{PlacedWord, word_on, words_from, words_of, closed_words}
+use Rattle.vcd_text.specs.Grammar.{nothing_told, after, word_texts, AllowsAll}
 use Rattle.vcd_text.proofs.OneAnswer.{accepted-not_refused}
-use Rattle.vcd_text.specs.Items.{Item, scope, upscope, variable, end_definitions, stamp, vector, bracket}
-use Rattle.vcd_text.specs.Faults.{FileFault, FrontFault, HasNoFrontFault, shown, too_early, declaration_due, code_due, among_declarations, among_changes, upscope_at_top, no_timescale, no_kind, no_variable, no_size, code_mixed, no_declaration, definitions_go_on, declaration_late, letter_alone, no_value, no_change, no_tick, tick_goes_back, letter_of_none, pair_of_none, value_too_long}
+use Rattle.vcd_text.specs.Items.{Item, spellings, scope, upscope, variable, end_definitions, stamp, vector, bracket}
+use Rattle.vcd_text.specs.Faults.{FileFault, FrontFault, WordFault, fault_line, HasNoFrontFault, shown, too_early, declaration_due, code_due, among_declarations, among_changes, upscope_at_top, no_timescale, no_kind, no_variable, no_size, code_mixed, no_declaration, definitions_go_on, declaration_late, letter_alone, no_value, no_change, no_tick, tick_goes_back, letter_of_none, pair_of_none, value_too_long}
 
 -- one variable, and the end of the declarations
 abbrev one_variable : List Item
 one_variable = variable (codes "wire" ∷ codes "1" ∷ codes "!" ∷ codes "a" ∷ []) ∷ end_definitions ∷ []
 
+-- a word of a file shows a fault, behind these whole items and the words of another
+shows : (bytes : List ℕ) (line : ℕ) (fault : Fault) (items : List Item) (whole begun : List PlacedWord) (word : PlacedWord) (more : List PlacedWord)
+    → words_of bytes ≡ whole ++ (begun ++ word ∷ more) → word_texts whole ≡ spellings items → AllowsAll nothing_told items
+    → WordFault (after nothing_told items) (word_texts begun) word.text fault → line ≡ fault_line (after nothing_told items).changing begun word → FileFault bytes line fault
+shows bytes line fault items whole begun word more parts spelled allowed decided at =
+    shown (record { items = items; whole = whole; begun = begun; word = word; more = more; parts = parts; spelled = spelled; allowed = allowed; decided = decided; at = at })
+
 -- a stamp below the one before it, also where only the closed words are known
 abbrev time_back : List ℕ
 time_back = codes "$var wire 1 ! a $end\n$enddefinitions $end\n#10\n#9\n"
 
-time_goes_back : FileFault time_back 4 TimeBackwards
-unfolding words_from
-time_goes_back = shown (record {
-  items = variable (codes "wire" ∷ codes "1" ∷ codes "!" ∷ codes "a" ∷ []) ∷ end_definitions ∷ stamp (codes "10") ∷ [];
-  whole = take 9 (words_of time_back);
-  begun = [];
-  word = word_on (codes "#9") 4;
-  more = [];
-  parts = refl;
-  spelled = refl;
-  allowed = search arith;
-  decided = among_changes refl (tick_goes_back (codes "9") refl refl refl (omega arith) refl);
-  at = refl;
-})
-
 time_goes_back_in_front : FrontFault time_back 4 TimeBackwards
 unfolding words_from
 time_goes_back_in_front = record {
-  items = variable (codes "wire" ∷ codes "1" ∷ codes "!" ∷ codes "a" ∷ []) ∷ end_definitions ∷ stamp (codes "10") ∷ [];
+  items = one_variable ++ stamp (codes "10") ∷ [];
   whole = take 9 (words_of time_back);
   begun = [];
   word = word_on (codes "#9") 4;
@@ -47,6 +40,10 @@ time_goes_back_in_front = record {
   at = refl;
 }
 
+time_goes_back : FileFault time_back 4 TimeBackwards
+unfolding words_from
+time_goes_back = shown time_goes_back_in_front
+
 -- the file ends where a code is due
 abbrev no_code : List ℕ
 no_code = codes "$var wire 1 ! a $end\n$enddefinitions $end\n#0\nb101"
@@ -54,7 +51,7 @@ no_code = codes "$var wire 1 ! a $end\n$enddefinitions $end\n#0\nb101"
 ends_before_code : FileFault no_code 4 Truncated
 unfolding words_from
 ends_before_code = too_early (record {
-  items = variable (codes "wire" ∷ codes "1" ∷ codes "!" ∷ codes "a" ∷ []) ∷ end_definitions ∷ stamp (codes "0") ∷ [];
+  items = one_variable ++ stamp (codes "0") ∷ [];
   begun = codes "b101" ∷ [];
   spelled = refl;
   allowed = search arith;
@@ -72,145 +69,64 @@ late_tick = codes "$var wire 1 ! a $end\n$enddefinitions $end\n#9223372036854775
 
 tick_too_great : FileFault late_tick 3 BadTime
 unfolding words_from
-tick_too_great = shown (record {
-  items = one_variable;
-  whole = take 8 (words_of late_tick);
-  begun = [];
-  word = word_on (codes "#9223372036854775808") 3;
-  more = word_on (codes "#9") 4 ∷ [];
-  parts = refl;
-  spelled = refl;
-  allowed = search arith;
-  decided = among_changes refl (no_tick (codes "9223372036854775808") refl refl refl refl);
-  at = refl;
-})
+tick_too_great =
+    shows _ _ _ one_variable (take 8 (words_of late_tick)) [] (word_on (codes "#9223372036854775808") 3) (word_on (codes "#9") 4 ∷ []) refl refl (search arith)
+    (among_changes refl (no_tick (codes "9223372036854775808") refl refl refl refl)) refl
 
 -- files of one line
 two_nanoseconds : FileFault (codes "$timescale 2 ns $end\n") 1 BadTimescale
 unfolding words_from digits
-two_nanoseconds = shown (record {
-  items = [];
-  whole = [];
-  begun = word_on (codes "$timescale") 1 ∷ word_on (codes "2") 1 ∷ word_on (codes "ns") 1 ∷ [];
-  word = word_on (codes "$end") 1;
-  more = [];
-  parts = refl;
-  spelled = refl;
-  allowed = tt;
-  decided = among_declarations refl (no_timescale (codes "2" ∷ codes "ns" ∷ []) refl refl refl refl refl);
-  at = refl;
-})
+two_nanoseconds =
+    shows _ _ _ [] [] (word_on (codes "$timescale") 1 ∷ word_on (codes "2") 1 ∷ word_on (codes "ns") 1 ∷ []) (word_on (codes "$end") 1) [] refl refl tt
+    (among_declarations refl (no_timescale (codes "2" ∷ codes "ns" ∷ []) refl refl refl refl refl)) refl
 
 scope_without_kind : FileFault (codes "$scope $end\n") 1 BadScope
 unfolding words_from
-scope_without_kind = shown (record {
-  items = [];
-  whole = [];
-  begun = word_on (codes "$scope") 1 ∷ [];
-  word = word_on (codes "$end") 1;
-  more = [];
-  parts = refl;
-  spelled = refl;
-  allowed = tt;
-  decided = among_declarations refl (no_kind refl refl refl);
-  at = refl;
-})
+scope_without_kind =
+    shows _ _ _ [] [] (word_on (codes "$scope") 1 ∷ []) (word_on (codes "$end") 1) [] refl refl tt
+    (among_declarations refl (no_kind refl refl refl)) refl
 
 variable_without_name : FileFault (codes "$var wire 1 ! $end\n") 1 BadVar
 unfolding words_from
-variable_without_name = shown (record {
-  items = [];
-  whole = [];
-  begun = word_on (codes "$var") 1 ∷ word_on (codes "wire") 1 ∷ word_on (codes "1") 1 ∷ word_on (codes "!") 1 ∷ [];
-  word = word_on (codes "$end") 1;
-  more = [];
-  parts = refl;
-  spelled = refl;
-  allowed = tt;
-  decided = among_declarations refl (no_variable (codes "wire" ∷ codes "1" ∷ codes "!" ∷ []) refl refl refl refl refl refl);
-  at = refl;
-})
+variable_without_name =
+    shows _ _ _ [] [] (word_on (codes "$var") 1 ∷ word_on (codes "wire") 1 ∷ word_on (codes "1") 1 ∷ word_on (codes "!") 1 ∷ []) (word_on (codes "$end") 1) [] refl refl tt
+    (among_declarations refl (no_variable (codes "wire" ∷ codes "1" ∷ codes "!" ∷ []) refl refl refl refl refl refl)) refl
 
 -- a size that is no number is decided at its word, of a skipped kind too, though the file ends there
 real_without_size : FileFault (codes "$var real x") 1 BadVar
 unfolding words_from
-real_without_size = shown (record {
-  items = [];
-  whole = [];
-  begun = word_on (codes "$var") 1 ∷ word_on (codes "real") 1 ∷ [];
-  word = word_on (codes "x") 1;
-  more = [];
-  parts = refl;
-  spelled = refl;
-  allowed = tt;
-  decided = among_declarations refl (no_size (codes "real") refl refl refl refl);
-  at = refl;
-})
+real_without_size =
+    shows _ _ _ [] [] (word_on (codes "$var") 1 ∷ word_on (codes "real") 1 ∷ []) (word_on (codes "x") 1) [] refl refl tt
+    (among_declarations refl (no_size (codes "real") refl refl refl refl)) refl
 
 -- `$upscope` with no scope open is decided at this word, whatever follows
 upscope_alone : FileFault (codes "\n$upscope") 2 UpscopeAtTop
 unfolding words_from
-upscope_alone = shown (record {
-  items = [];
-  whole = [];
-  begun = [];
-  word = word_on (codes "$upscope") 2;
-  more = [];
-  parts = refl;
-  spelled = refl;
-  allowed = tt;
-  decided = among_declarations refl (upscope_at_top refl refl refl refl);
-  at = refl;
-})
+upscope_alone =
+    shows _ _ _ [] [] [] (word_on (codes "$upscope") 2) [] refl refl tt
+    (among_declarations refl (upscope_at_top refl refl refl refl)) refl
 
 abbrev two_sizes : List ℕ
 two_sizes = codes "$var wire 1 ! a $end $var wire 2 ! b $end\n"
 
 code_of_two_sizes : FileFault two_sizes 1 MixedCode
 unfolding words_from
-code_of_two_sizes = shown (record {
-  items = variable (codes "wire" ∷ codes "1" ∷ codes "!" ∷ codes "a" ∷ []) ∷ [];
-  whole = take 6 (words_of two_sizes);
-  begun = take 5 (drop 6 (words_of two_sizes));
-  word = word_on (codes "$end") 1;
-  more = [];
-  parts = refl;
-  spelled = refl;
-  allowed = search arith;
-  decided = among_declarations refl (code_mixed (codes "wire" ∷ codes "2" ∷ codes "!" ∷ codes "b" ∷ []) _ refl refl refl refl refl refl refl);
-  at = refl;
-})
+code_of_two_sizes =
+    shows _ _ _ (variable (codes "wire" ∷ codes "1" ∷ codes "!" ∷ codes "a" ∷ []) ∷ []) (take 6 (words_of two_sizes)) (take 5 (drop 6 (words_of two_sizes))) (word_on (codes "$end") 1) [] refl refl (search arith)
+    (among_declarations refl (code_mixed (codes "wire" ∷ codes "2" ∷ codes "!" ∷ codes "b" ∷ []) _ refl refl refl refl refl refl refl)) refl
 
 unknown_code : FileFault (codes "$enddefinitions $end 1\"\n") 1 UnknownCode
 unfolding words_from
-unknown_code = shown (record {
-  items = end_definitions ∷ [];
-  whole = word_on (codes "$enddefinitions") 1 ∷ word_on (codes "$end") 1 ∷ [];
-  begun = [];
-  word = word_on (codes "1\"") 1;
-  more = [];
-  parts = refl;
-  spelled = refl;
-  allowed = search arith;
-  decided = among_changes refl (letter_of_none 49 (codes "\"") refl refl refl (omega arith) refl refl);
-  at = refl;
-})
+unknown_code =
+    shows _ _ _ (end_definitions ∷ []) (word_on (codes "$enddefinitions") 1 ∷ word_on (codes "$end") 1 ∷ []) [] (word_on (codes "1\"") 1) [] refl refl (search arith)
+    (among_changes refl (letter_of_none 49 (codes "\"") refl refl refl (omega arith) refl refl)) refl
 
 -- a change of two words has the line of its first, also where `$end` stands in the place of the code
 unknown_code_of_vector : FileFault (codes "$enddefinitions $end\nb1\n$end\n") 2 UnknownCode
 unfolding words_from
-unknown_code_of_vector = shown (record {
-  items = end_definitions ∷ [];
-  whole = word_on (codes "$enddefinitions") 1 ∷ word_on (codes "$end") 1 ∷ [];
-  begun = word_on (codes "b1") 2 ∷ [];
-  word = word_on (codes "$end") 3;
-  more = [];
-  parts = refl;
-  spelled = refl;
-  allowed = search arith;
-  decided = among_changes refl (pair_of_none 98 (codes "1") refl refl refl refl);
-  at = refl;
-})
+unknown_code_of_vector =
+    shows _ _ _ (end_definitions ∷ []) (word_on (codes "$enddefinitions") 1 ∷ word_on (codes "$end") 1 ∷ []) (word_on (codes "b1") 2 ∷ []) (word_on (codes "$end") 3) [] refl refl (search arith)
+    (among_changes refl (pair_of_none 98 (codes "1") refl refl refl refl)) refl
 
 -- more digits than bits
 abbrev long_value : List ℕ
@@ -218,67 +134,30 @@ long_value = codes "$scope module top $end\n$var wire 4 ! v $end\n$upscope $end\
 
 value_of_five_digits : FileFault long_value 10 ValueTooLong
 unfolding words_from
-value_of_five_digits = shown (record {
-  items = scope (codes "module") (codes "top" ∷ []) ∷ variable (codes "wire" ∷ codes "4" ∷ codes "!" ∷ codes "v" ∷ []) ∷ upscope ∷ end_definitions
-      ∷ stamp (codes "0") ∷ bracket (codes "$dumpvars") ∷ vector 98 (codes "x") (codes "!") ∷ bracket (codes "$end") ∷ stamp (codes "1") ∷ [];
-  whole = take 20 (words_of long_value);
-  begun = word_on (codes "b00001") 10 ∷ [];
-  word = word_on (codes "!") 10;
-  more = drop 22 (words_of long_value);
-  parts = refl;
-  spelled = refl;
-  allowed = search arith;
-  decided = among_changes refl (value_too_long 98 (codes "00001") _ refl refl refl refl refl (omega arith) refl);
-  at = refl;
-})
+value_of_five_digits =
+    shows _ _ _ (scope (codes "module") (codes "top" ∷ []) ∷ variable (codes "wire" ∷ codes "4" ∷ codes "!" ∷ codes "v" ∷ []) ∷ upscope ∷ end_definitions ∷ stamp (codes "0") ∷ bracket (codes "$dumpvars") ∷ vector 98 (codes "x") (codes "!") ∷ bracket (codes "$end") ∷ stamp (codes "1") ∷ []) (take 20 (words_of long_value)) (word_on (codes "b00001") 10 ∷ []) (word_on (codes "!") 10) (drop 22 (words_of long_value)) refl refl (search arith)
+    (among_changes refl (value_too_long 98 (codes "00001") _ refl refl refl refl refl (omega arith) refl)) refl
 
 -- the words of a dump's brackets begin no declaration
 dump_among_declarations : FileFault (codes "$dumpvars") 1 UnexpectedWord
 unfolding words_from
-dump_among_declarations = shown (record {
-  items = [];
-  whole = [];
-  begun = [];
-  word = word_on (codes "$dumpvars") 1;
-  more = [];
-  parts = refl;
-  spelled = refl;
-  allowed = tt;
-  decided = among_declarations refl (no_declaration refl refl refl);
-  at = refl;
-})
+dump_among_declarations =
+    shows _ _ _ [] [] [] (word_on (codes "$dumpvars") 1) [] refl refl tt
+    (among_declarations refl (no_declaration refl refl refl)) refl
 
 -- another word than `$end` behind `$enddefinitions` is decided at that word
 definitions_open : FileFault (codes "$enddefinitions\n#0") 2 UnexpectedWord
 unfolding words_from
-definitions_open = shown (record {
-  items = [];
-  whole = [];
-  begun = word_on (codes "$enddefinitions") 1 ∷ [];
-  word = word_on (codes "#0") 2;
-  more = [];
-  parts = refl;
-  spelled = refl;
-  allowed = tt;
-  decided = among_declarations refl (definitions_go_on refl refl refl);
-  at = refl;
-})
+definitions_open =
+    shows _ _ _ [] [] (word_on (codes "$enddefinitions") 1 ∷ []) (word_on (codes "#0") 2) [] refl refl tt
+    (among_declarations refl (definitions_go_on refl refl refl)) refl
 
 -- a declaration among the changes
 scope_among_changes : FileFault (codes "$enddefinitions $end\n$scope module top $end\n") 2 UnexpectedWord
 unfolding words_from
-scope_among_changes = shown (record {
-  items = end_definitions ∷ [];
-  whole = word_on (codes "$enddefinitions") 1 ∷ word_on (codes "$end") 1 ∷ [];
-  begun = [];
-  word = word_on (codes "$scope") 2;
-  more = word_on (codes "module") 2 ∷ word_on (codes "top") 2 ∷ word_on (codes "$end") 2 ∷ [];
-  parts = refl;
-  spelled = refl;
-  allowed = search arith;
-  decided = among_changes refl (declaration_late refl refl refl);
-  at = refl;
-})
+scope_among_changes =
+    shows _ _ _ (end_definitions ∷ []) (word_on (codes "$enddefinitions") 1 ∷ word_on (codes "$end") 1 ∷ []) [] (word_on (codes "$scope") 2) (word_on (codes "module") 2 ∷ word_on (codes "top") 2 ∷ word_on (codes "$end") 2 ∷ []) refl refl (search arith)
+    (among_changes refl (declaration_late refl refl refl)) refl
 
 -- a value letter without a code, a change without digits, and a word that is no change
 abbrev bad_changes : (change : List ℕ) → List ℕ
@@ -286,48 +165,21 @@ bad_changes change = codes "$var wire 1 ! a $end $enddefinitions $end\n" ++ chan
 
 lone_letter : FileFault (bad_changes (codes "1 !")) 2 BadChange
 unfolding words_from
-lone_letter = shown (record {
-  items = one_variable;
-  whole = take 8 (words_of (bad_changes []));
-  begun = [];
-  word = word_on (codes "1") 2;
-  more = word_on (codes "!") 2 ∷ [];
-  parts = refl;
-  spelled = refl;
-  allowed = search arith;
-  decided = among_changes refl (letter_alone 49 refl refl refl refl);
-  at = refl;
-})
+lone_letter =
+    shows _ _ _ one_variable (take 8 (words_of (bad_changes []))) [] (word_on (codes "1") 2) (word_on (codes "!") 2 ∷ []) refl refl (search arith)
+    (among_changes refl (letter_alone 49 refl refl refl refl)) refl
 
 no_digit : FileFault (bad_changes (codes "b !")) 2 BadChange
 unfolding words_from
-no_digit = shown (record {
-  items = one_variable;
-  whole = take 8 (words_of (bad_changes []));
-  begun = word_on (codes "b") 2 ∷ [];
-  word = word_on (codes "!") 2;
-  more = [];
-  parts = refl;
-  spelled = refl;
-  allowed = search arith;
-  decided = among_changes refl (no_value 98 [] _ refl refl refl refl refl refl);
-  at = refl;
-})
+no_digit =
+    shows _ _ _ one_variable (take 8 (words_of (bad_changes []))) (word_on (codes "b") 2 ∷ []) (word_on (codes "!") 2) [] refl refl (search arith)
+    (among_changes refl (no_value 98 [] _ refl refl refl refl refl refl)) refl
 
 no_change_at_all : FileFault (bad_changes (codes "q!")) 2 BadChange
 unfolding words_from
-no_change_at_all = shown (record {
-  items = one_variable;
-  whole = take 8 (words_of (bad_changes []));
-  begun = [];
-  word = word_on (codes "q!") 2;
-  more = [];
-  parts = refl;
-  spelled = refl;
-  allowed = search arith;
-  decided = among_changes refl (no_change 113 (codes "!") refl refl refl refl refl);
-  at = refl;
-})
+no_change_at_all =
+    shows _ _ _ one_variable (take 8 (words_of (bad_changes []))) [] (word_on (codes "q!") 2) [] refl refl (search arith)
+    (among_changes refl (no_change 113 (codes "!") refl refl refl refl refl)) refl
 
 -- the file without its last line shows no fault: where the reader fails there, its fault is told
 front_without_fault : HasNoFrontFault (codes "$var wire 1 ! a $end\n$enddefinitions $end\n#10\n")

@@ -1,7 +1,8 @@
 -- Worked cases: extension and short form of values, and decimal numbers.
 use Rattle.std.proofs.Common.{◌≡◌, refl}
 use Rattle.std.specs.Prelude.{[], ◌∷◌, true, false, map, codes}
-use Rattle.vcd_text.specs.Letters.{is_letter, letters_read, printed_letters, extension, short_form, is_number, number_of}
+use Rattle.vcd_core.specs.Decimal.{is_number, number_of}
+use Rattle.vcd_text.specs.Letters.{is_letter, letters_read, printed_letters, extension, short_form}
 
 -- the letters 0 l L, 1 h H, x X u U w W -, z Z
 all_letters : printed_letters (letters_read (codes "0lL1hHxXuUwW-zZ")) ≡ codes "000111xxxxxxxzz"

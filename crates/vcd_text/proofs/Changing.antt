@@ -6,9 +6,11 @@ use Rattle.std.proofs.lemmas.Bool.{or_parts, or_cases, or_from, or_left, or_righ
 use Rattle.vcd_text.specs.declared.fault.Fault.{Fault}
 use Rattle.vcd_text.specs.declared.fault.Fault.TheVariants.{NoMemory, BadTime, TimeBackwards, BadChange, UnknownCode, UnexpectedWord}
 use Rattle.vcd_text.specs.Words.{PlacedWord, word_on}
-use Rattle.vcd_text.specs.Letters.{is_among, is_letter, number_of}
-use Rattle.vcd_text.specs.Items.{Item, stamp, scalar, vector, real_or_string, bracket, spelling, is_command, is_one_of, dump_words, declaring_words, header_words, vector_letters, dropped_letters}
-use Rattle.vcd_text.specs.Grammar.{Context, Declaration, ChangeRecord, Allows, after_item, word_texts, is_skipped, is_tick, is_value, takes_digits, skipped_kinds, variable_of}
+use Rattle.vcd_core.specs.Decimal.{number_of}
+use Rattle.vcd_core.specs.Word.{is_one_of, is_skipped_kind}
+use Rattle.vcd_text.specs.Letters.{is_among, is_letter}
+use Rattle.vcd_text.specs.Items.{Item, stamp, scalar, vector, real_or_string, bracket, spelling, is_command, dump_words, declaring_words, header_words, vector_letters, dropped_letters}
+use Rattle.vcd_text.specs.Grammar.{Context, Declaration, ChangeRecord, Allows, after_item, word_texts, is_skipped, is_tick, is_value, takes_digits, variable_of}
 use Rattle.vcd_core.specs.declared.value.TheConstants.{WIDTH_LIMIT}
 use Rattle.vcd_text.specs.Faults.{ChangeFault, no_tick, tick_goes_back, letter_alone, letter_of_none, pair_of_none, no_value, value_too_long, declaration_late, no_change, among_changes, WordFault, pair_letters}
 use Rattle.vcd_text.specs.inside.Variables.{Knows, DigitsFault, TakesChange}
@@ -161,7 +163,7 @@ one_letter letter is = λ i. is i && true
 -- a variable that is kept has a bit
 fits_one : (d : Declaration) → is_skipped d ≡ false → d.size < 1 → ⊥
 fits_one d keeps small =
-    let sized = or_parts (d.size == 0) (nat_lt WIDTH_LIMIT d.size) (or_parts (is_one_of skipped_kinds d.kind) _ keeps).1 in
+    let sized = or_parts (d.size == 0) (nat_lt WIDTH_LIMIT d.size) (or_parts (is_skipped_kind d.kind) _ keeps).1 in
     let some : d.size ≡ 0 → ⊥ = eqb-false d.size 0 sized.0 in
     some (omega arith)
 

@@ -3,6 +3,7 @@ use Rattle.std.proofs.Common.{◌≡◌, ◌<◌, ◌≤◌, ◌+◌, ◌/◌, �
 use Rattle.std.specs.List.{list_all}
 use Rattle.std.proofs.lemmas.Bool.{and_from, and_parts, and_right, or_from, not_from_false, false_from_ne_true, le-leb, lt-leb, leb-true, ne_eqb}
 use Rattle.std.proofs.lemmas.Slice.Eq.{bytes_eq-Decides}
+use Rattle.vcd_core.specs.declared.capture.TheConstants.{SIGNAL_LIMIT}
 use Rattle.vcd_core.specs.Word.{is_white_space}
 use Rattle.vcd_text.specs.Items.{end_word, is_end}
 use Rattle.vcd_text.specs.Text.{code_digits, code_of}
@@ -77,7 +78,7 @@ digits_few zero (suc n) small = absurd (omega arith)
 digits_few (suc l) zero small = omega arith
 digits_few (suc l) (suc n) small = one_more_digit n l (digits_few l (n / 94) (omega arith))
 
-pub code_short : (k : ℕ) → k < 65536 → length (code_of k) ≤ 3
+pub code_short : (k : ℕ) → k < SIGNAL_LIMIT → length (code_of k) ≤ 3
 code_short k few = digits_few 3 (k + 1) (omega arith)
 
 -- a printable byte is no white space
@@ -93,7 +94,7 @@ pub code_black : (k : ℕ) → list_all (λ b. not (is_white_space b)) (code_of 
 code_black k = all_weaker is_code_byte (λ b. not (is_white_space b)) printable_is_black (code_of k) (code_printable k)
 
 -- a code is not `$end`
-pub code_no_end : (k : ℕ) → k < 65536 → is_end (code_of k) ≡ false
+pub code_no_end : (k : ℕ) → k < SIGNAL_LIMIT → is_end (code_of k) ≡ false
 code_no_end k few =
     let short : length (code_of k) ≤ 3 = code_short k few in
     false_from_ne_true (is_end (code_of k)) (λ same.

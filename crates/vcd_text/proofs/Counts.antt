@@ -14,7 +14,7 @@ use Rattle.vcd_core.specs.Contents.{SignalContents, signal_value}
 use Rattle.vcd_core.specs.Sound.{IsSoundSignal}
 use Rattle.vcd_core.proofs.Waves.{value_past, value_skip, value_early}
 use Rattle.vcd_text.specs.declared.writing.transitions.Transition.{Transition}
-use Rattle.vcd_text.specs.inside.Transitions.{transition_of, transitions_at, transitions_from, later_transitions, listed_from}
+use Rattle.vcd_text.specs.inside.Transitions.{transition_of, transitions_at, transitions_from, later_transitions, transitions_by_signal}
 use Rattle.vcd_text.specs.Text.{differs_at}
 use Rattle.vcd_text.proofs.Sorting.{counted, once, times, times-append, times_permuted, RisesFrom, same_transitions, by_place, sorted_rises}
 
@@ -210,29 +210,29 @@ signal_differs end t s sound =
     let before : suc t - 1 ≡ t = omega arith in
     differs_where 0 t (all_x s.width) s.changes sound.wave.rise ∙ ap (λ u. differ (signal_value s (suc t)) (signal_value s u)) (sym before)
 
-times_listed : (end t k j : ℕ) (ss : List SignalContents) → All (IsSoundSignal end) ss → times (suc t) k (listed_from j ss) ≡ marks (suc t) k j ss
-unfolding listed_from
+times_listed : (end t k j : ℕ) (ss : List SignalContents) → All (IsSoundSignal end) ss → times (suc t) k (transitions_by_signal j ss) ≡ marks (suc t) k j ss
+unfolding transitions_by_signal
 times_listed end t k j [] sound = refl
 times_listed end t k j (s ∷ ss) sound =
-    times-append (suc t) k (later_transitions j s.changes) (listed_from (j + 1) ss)
-    ∙ ap (λ n. n + times (suc t) k (listed_from (j + 1) ss)) (times_later t k j s.changes ∙ ap (if_so (j == k)) (signal_differs end t s (All-head (IsSoundSignal end) s ss sound)))
+    times-append (suc t) k (later_transitions j s.changes) (transitions_by_signal (j + 1) ss)
+    ∙ ap (λ n. n + times (suc t) k (transitions_by_signal (j + 1) ss)) (times_later t k j s.changes ∙ ap (if_so (j == k)) (signal_differs end t s (All-head (IsSoundSignal end) s ss sound)))
     ∙ ap (λ n. if_so (j == k) (counted (differs_at (suc t) s)) + n) (times_listed end t k (j + 1) ss (All-tail (IsSoundSignal end) s ss sound))
 
-none_listed_past : (end t k j : ℕ) (ss : List SignalContents) → end < suc t → All (IsSoundSignal end) ss → times (suc t) k (listed_from j ss) ≡ 0
-unfolding listed_from
+none_listed_past : (end t k j : ℕ) (ss : List SignalContents) → end < suc t → All (IsSoundSignal end) ss → times (suc t) k (transitions_by_signal j ss) ≡ 0
+unfolding transitions_by_signal
 none_listed_past end t k j [] late sound = refl
 none_listed_past end t k j (s ∷ ss) late sound =
     let one = All-head (IsSoundSignal end) s ss sound in
-    times-append (suc t) k (later_transitions j s.changes) (listed_from (j + 1) ss)
+    times-append (suc t) k (later_transitions j s.changes) (transitions_by_signal (j + 1) ss)
     ∙ omega (arith, times_later t k j s.changes ∙ ap (if_so (j == k)) (none_past end (suc t) s.changes one.ticks late) ∙ if_zero (j == k), none_listed_past end t k (j + 1) ss late (All-tail (IsSoundSignal end) s ss sound))
 
-none_listed_first : (k j : ℕ) (ss : List SignalContents) → times 0 k (listed_from j ss) ≡ 0
-unfolding listed_from
+none_listed_first : (k j : ℕ) (ss : List SignalContents) → times 0 k (transitions_by_signal j ss) ≡ 0
+unfolding transitions_by_signal
 none_listed_first k j [] = refl
 none_listed_first k j (s ∷ ss) =
-    times-append 0 k (later_transitions j s.changes) (listed_from (j + 1) ss) ∙ omega (arith, times_later_zero k j s.changes, none_listed_first k (j + 1) ss)
+    times-append 0 k (later_transitions j s.changes) (transitions_by_signal (j + 1) ss) ∙ omega (arith, times_later_zero k j s.changes, none_listed_first k (j + 1) ss)
 
-same_times : (end : ℕ) (ss : List SignalContents) → All (IsSoundSignal end) ss → (t k : ℕ) → times t k (listed_from 0 ss) ≡ times t k (transitions_from ss 1 end)
+same_times : (end : ℕ) (ss : List SignalContents) → All (IsSoundSignal end) ss → (t k : ℕ) → times t k (transitions_by_signal 0 ss) ≡ times t k (transitions_from ss 1 end)
 same_times end ss sound zero k = none_listed_first k 0 ss ∙ sym (earlier ss 1 end 0 k (omega arith))
 same_times end ss sound (suc t) k =
     elim (cases_lt end (suc t)) [
@@ -241,7 +241,7 @@ same_times end ss sound (suc t) k =
     ]
 
 -- the sorted changes are those by tick
-pub sorted_are : (end : ℕ) (ss : List SignalContents) (listed sorted : List Transition) → listed ≡ listed_from 0 ss → IsPermutation listed sorted → IsSorted by_place sorted
+pub sorted_are : (end : ℕ) (ss : List SignalContents) (listed sorted : List Transition) → listed ≡ transitions_by_signal 0 ss → IsPermutation listed sorted → IsSorted by_place sorted
     → All (IsSoundSignal end) ss → sorted ≡ transitions_from ss 1 end
 sorted_are end ss listed sorted is moved up sound =
     same_transitions sorted (transitions_from ss 1 end) 0 0 1 0 (sorted_rises sorted up) (rises_from ss 1 end)
@@ -265,16 +265,16 @@ below_later n j (c ∷ cs) small = step (nat_lt 0 c.tick) (below_later n j cs sm
     step true rest = (small, rest)
     step false rest = rest
 
-below_listed : (n j : ℕ) (ss : List SignalContents) → j + length ss ≤ n → AllBelow n (listed_from j ss)
-unfolding listed_from
+below_listed : (n j : ℕ) (ss : List SignalContents) → j + length ss ≤ n → AllBelow n (transitions_by_signal j ss)
+unfolding transitions_by_signal
 below_listed n j [] small = tt
-below_listed n j (s ∷ ss) small = below_both n (later_transitions j s.changes) (listed_from (j + 1) ss) (below_later n j s.changes (omega arith)) (below_listed n (j + 1) ss (omega arith))
+below_listed n j (s ∷ ss) small = below_both n (later_transitions j s.changes) (transitions_by_signal (j + 1) ss) (below_later n j s.changes (omega arith)) (below_listed n (j + 1) ss (omega arith))
 
 each_below : (n : ℕ) (ms : List Transition) → AllBelow n ms → All (λ m. m.position < n) ms
 each_below n [] all = λ k d inside. absurd (omega arith)
 each_below n (m ∷ ms) (first, rest) = All-cons (λ m. m.position < n) m ms first (each_below n ms rest)
 
-pub sorted_within : (n : ℕ) (ss : List SignalContents) (listed sorted : List Transition) → listed ≡ listed_from 0 ss → IsPermutation listed sorted → length ss ≤ n
+pub sorted_within : (n : ℕ) (ss : List SignalContents) (listed sorted : List Transition) → listed ≡ transitions_by_signal 0 ss → IsPermutation listed sorted → length ss ≤ n
     → All (λ m. m.position < n) sorted
 sorted_within n ss listed sorted is moved small =
-    All-permutation (λ m. m.position < n) listed sorted moved (subst (All (λ (m : Transition). m.position < n)) (sym is) (each_below n (listed_from 0 ss) (below_listed n 0 ss (omega arith))))
+    All-permutation (λ m. m.position < n) listed sorted moved (subst (All (λ (m : Transition). m.position < n)) (sym is) (each_below n (transitions_by_signal 0 ss) (below_listed n 0 ss (omega arith))))

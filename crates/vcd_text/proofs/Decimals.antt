@@ -3,30 +3,28 @@ use Rattle.std.proofs.Common.{◌≡◌, ℕ, ◌<◌, ◌^◌, true, not, ◌&&
 use Rattle.std.specs.List.{list_all}
 use Rattle.std.proofs.lemmas.Bool.{leb-true, le-leb, ne_eqb}
 use Rattle.std.proofs.lemmas.Fmt.{decimal_nonempty, digits_decimal, digits_value-decimal}
-use Rattle.std.proofs.lemmas.Str.Parse.{IsDigitsTest, FoldsDigits, IsNumeralModel, numerals_by_fold}
-use Rattle.vcd_text.specs.Letters.{is_digit, is_number, number_behind, number_of}
+use Rattle.std.proofs.lemmas.Str.Parse.{IsDigitsTest, IsNumeralModel, numerals_by_value}
+use Rattle.std.specs.Char.{is_ascii_digit}
+use Rattle.vcd_core.specs.Decimal.{is_number, number_of}
 use Rattle.vcd_text.proofs.WordLaws.{both}
 
 abbrev AreDigits : List ℕ → Type 0
-AreDigits text = list_all is_digit text ≡ true
+AreDigits text = list_all is_ascii_digit text ≡ true
 
 tells_digits : IsDigitsTest AreDigits
 tells_digits = record {
   empty = refl;
-  parts = λ c cs e. let k = both (is_digit c) (list_all is_digit cs) e in let m = both (nat_le 48 c) (nat_le c 57) k.0 in ((leb-true 48 c m.0, leb-true c 57 m.1), k.1);
+  parts = λ c cs e. let k = both (is_ascii_digit c) (list_all is_ascii_digit cs) e in let m = both (nat_le 48 c) (nat_le c 57) k.0 in ((leb-true 48 c m.0, leb-true c 57 m.1), k.1);
   more = λ c cs k e i. (le-leb 48 c k.0 i && le-leb c 57 k.1 i) && e i;
 }
 
-folds_digits : FoldsDigits number_behind
-folds_digits = record { empty = λ n. refl; more = λ n c cs k. refl }
-
 reads_decimals : IsNumeralModel AreDigits number_of
-reads_decimals = numerals_by_fold AreDigits tells_digits number_behind folds_digits
+reads_decimals = numerals_by_value AreDigits tells_digits
 
 pub decimal_not_empty : (n : ℕ) → n < 2 ^ 64 → 0 < length (decimal n)
 decimal_not_empty n small = decimal_nonempty n small
 
-pub decimal_digits : (n : ℕ) → n < 2 ^ 64 → list_all is_digit (decimal n) ≡ true
+pub decimal_digits : (n : ℕ) → n < 2 ^ 64 → list_all is_ascii_digit (decimal n) ≡ true
 decimal_digits n small = digits_decimal reads_decimals n small
 
 pub decimal_is_number : (n : ℕ) → n < 2 ^ 64 → is_number (decimal n) ≡ true

@@ -1,6 +1,6 @@
 -- A sound signal is declared as a variable that is kept, and its code finds it.
-use Rattle.std.proofs.Common.{◌≡◌, ◌≢◌, ℕ, zero, suc, ◌+◌, ◌<◌, Bool, true, false, not, cond, ◌||◌, ◌==◌, nat_lt, List, [], ◌∷◌, length, get_or, Some, All, refl, ap, ◌∙◌, arith}
-use Rattle.std.specs.Prelude.{find, bytes_eq, count_by, codes}
+use Rattle.std.proofs.Common.{◌≡◌, ◌≢◌, ℕ, zero, suc, ◌+◌, ◌<◌, true, false, not, cond, ◌||◌, ◌==◌, nat_lt, List, [], ◌∷◌, length, get_or, Some, All, refl, ap, ◌∙◌, arith}
+use Rattle.std.specs.Prelude.{find, bytes_eq, count_by}
 use Rattle.std.proofs.lemmas.Bool.{false_from_ne_true, le-ltb, ne_eqb, not-true}
 use Rattle.std.proofs.lemmas.List.Elements.{All-head, All-tail}
 use Rattle.std.proofs.lemmas.List.Sums.{sum_by-cons}
@@ -8,8 +8,8 @@ use Rattle.std.proofs.lemmas.Slice.Eq.{bytes_eq-Decides}
 use Rattle.vcd_core.specs.declared.value.TheConstants.{WIDTH_LIMIT}
 use Rattle.vcd_core.specs.Contents.{Contents, SignalContents}
 use Rattle.vcd_core.specs.Sound.{IsSoundSignal}
-use Rattle.vcd_text.specs.Items.{is_one_of}
-use Rattle.vcd_text.specs.Grammar.{Context, Declaration, is_skipped, kept_variables, skipped_kinds}
+use Rattle.vcd_core.specs.Word.{is_skipped_kind}
+use Rattle.vcd_text.specs.Grammar.{Context, Declaration, is_skipped, kept_variables}
 use Rattle.vcd_text.specs.Text.{code_of}
 use Rattle.vcd_text.proofs.CodesDiffer.{codes_differ}
 
@@ -36,7 +36,7 @@ declared_context c = record {
 
 pub sound_is_kept : (end k : ℕ) (s : SignalContents) → IsSoundSignal end s → is_skipped (declared_as k s) ≡ false
 sound_is_kept end k s sound =
-    let kind : is_one_of skipped_kinds s.kind ≡ false = not-true (is_one_of skipped_kinds s.kind) sound.kept in
+    let kind : is_skipped_kind s.kind ≡ false = not-true (is_skipped_kind s.kind) sound.kept in
     let some : (s.width == 0) ≡ false = ne_eqb s.width 0 (omega (arith, sound.least)) in
     let few : nat_lt WIDTH_LIMIT s.width ≡ false = le-ltb WIDTH_LIMIT s.width sound.most in
     λ i. kind i || (some i || few i)

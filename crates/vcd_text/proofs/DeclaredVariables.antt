@@ -16,11 +16,11 @@ use Rattle.vcd_core.specs.declared.capture.Signal.{Signal}
 use Rattle.vcd_text.specs.declared.fault.Fault.{Fault}
 use Rattle.vcd_text.specs.declared.fault.Fault.TheVariants as faults
 use Rattle.vcd_core.specs.declared.value.TheConstants.{WIDTH_LIMIT}
-use Rattle.vcd_text.specs.Letters.{number_of}
-use Rattle.vcd_text.specs.Items.{is_one_of}
-use Rattle.vcd_text.specs.Grammar.{Declaration, ChangeRecord, Context, skipped_kinds, is_skipped, kept_variables, variable_of, may_have_code, has_room}
+use Rattle.vcd_core.specs.Decimal.{number_of}
+use Rattle.vcd_core.specs.Word.{is_skipped_kind}
+use Rattle.vcd_text.specs.Grammar.{Declaration, ChangeRecord, Context, is_skipped, kept_variables, variable_of, may_have_code, has_room}
 use Rattle.vcd_text.specs.Meaning.{recorded_value}
-use Rattle.vcd_text.specs.inside.Variables.{declaration, declaration_by, owner_of, HasWave, Stands, HasFirst, Knows, with_declared, mixed, many, DeclaresAs, code_mixed, no_room, Declares}
+use Rattle.vcd_text.specs.inside.Variables.{declaration, declaration_by, owner_of, HasWave, Stands, HasFirst, Knows, with_declaration, mixed, many, DeclaresAs, code_mixed, no_room, Declares}
 use Rattle.vcd_text.specs.declared.reading.variables.Owner.{Owner}
 use Rattle.vcd_text.specs.declared.reading.variables.Owner.TheVariants.{Skipped, Kept}
 use Rattle.vcd_text.specs.declared.reading.variables.Variable.{Variable}
@@ -113,14 +113,14 @@ module _ (old new : Variables) (c : Context) (d : Declaration) (k : Knows old c)
     | inr had ↦ subst (λ o. Stands old.kept.items c.records c.tick d.code o (Some e)) had s
   ]
 
-  skip_stands : (key : List ℕ) → Stands new.kept.items c.records c.tick key (owner_of new key) (variable_of (with_declared c d) key)
+  skip_stands : (key : List ℕ) → Stands new.kept.items c.records c.tick key (owner_of new key) (variable_of (with_declaration c d) key)
   skip_stands key =
       let both =
       by_code (λ b. Stands old.kept.items c.records c.tick key (if b then Some Skipped else owner_of old key) (option_or (variable_of c key) (if b then Some d else None))) key d.code
       (λ is. subst (λ code. Stands old.kept.items c.records c.tick code (Some Skipped) (option_or (variable_of c code) (Some d))) (sym is) (skip_here (variable_of c d.code) (k.stand d.code)))
       (λ _. stands_still c.records c.tick old.kept.items key (owner_of old key) (variable_of c key) (k.stand key)) in
-      subst (λ vs. Stands vs c.records c.tick key (owner_of new key) (variable_of (with_declared c d) key)) (sym items)
-      (subst (λ o. Stands old.kept.items c.records c.tick key o (variable_of (with_declared c d) key)) (sym (puts key))
+      subst (λ vs. Stands vs c.records c.tick key (owner_of new key) (variable_of (with_declaration c d) key)) (sym items)
+      (subst (λ o. Stands old.kept.items c.records c.tick key o (variable_of (with_declaration c d) key)) (sym (puts key))
       (subst (Stands old.kept.items c.records c.tick key (if bytes_eq key d.code then Some Skipped else owner_of old key)) (sym (found_with key c.declared d)) both))
 
   not_kept : (first : ℕ) → owner_of old d.code ≡ Some (Kept first) → ⊥
@@ -223,7 +223,7 @@ module _ (old new : Variables) (c : Context) (code : List ℕ) (s : Signal) (fir
         (subst (λ o. Stands old.kept.items c.records c.tick code o (Some e)) had stands)
   ]
 
-  keep_stands : (key : List ℕ) → Stands new.kept.items c.records c.tick key (owner_of new key) (variable_of (with_declared c (declaration_by code s)) key)
+  keep_stands : (key : List ℕ) → Stands new.kept.items c.records c.tick key (owner_of new key) (variable_of (with_declaration c (declaration_by code s)) key)
   keep_stands key =
       let all = old.kept.items ++ variable_at code s first ∷ [] in
       let d = declaration_by code s in
@@ -232,8 +232,8 @@ module _ (old new : Variables) (c : Context) (code : List ℕ) (s : Signal) (fir
       (λ is. subst (λ name. Stands all c.records c.tick name (Some (Kept first)) (option_or (variable_of c name) (Some d))) (sym is) (keep_here (variable_of c code) (k.stand code)))
       (λ _. stands_still c.records c.tick all key (owner_of old key) (variable_of c key)
       (stands_longer c.records c.tick old.kept.items (variable_at code s first ∷ []) key (owner_of old key) (variable_of c key) (k.stand key))) in
-      subst (λ vs. Stands vs c.records c.tick key (owner_of new key) (variable_of (with_declared c d) key)) (sym items)
-      (subst (λ o. Stands all c.records c.tick key o (variable_of (with_declared c d) key)) (sym (puts key))
+      subst (λ vs. Stands vs c.records c.tick key (owner_of new key) (variable_of (with_declaration c d) key)) (sym items)
+      (subst (λ o. Stands all c.records c.tick key o (variable_of (with_declaration c d) key)) (sym (puts key))
       (subst (Stands all c.records c.tick key (if bytes_eq key code then Some (Kept first) else owner_of old key)) (sym (found_with key c.declared d)) both))
 
   -- the variables before it know their first ones
@@ -377,8 +377,8 @@ same_bounds n size is = elim (cases_lt WIDTH_LIMIT n) [
 
 -- a variable is skipped for its kind, or for the size that is read
 pub left_out : (c : Context) (kind word code : List ℕ) (names : List (List ℕ)) (size : ℕ) → size ≡ min (number_of word) (WIDTH_LIMIT + 1)
-    → is_skipped (worded_declaration c kind word code names) ≡ (is_one_of skipped_kinds kind || (size == 0 || nat_lt WIDTH_LIMIT size))
-left_out c kind word code names size is = ap (λ b. is_one_of skipped_kinds kind || b) (sym (same_bounds (number_of word) size is))
+    → is_skipped (worded_declaration c kind word code names) ≡ (is_skipped_kind kind || (size == 0 || nat_lt WIDTH_LIMIT size))
+left_out c kind word code names size is = ap (λ b. is_skipped_kind kind || b) (sym (same_bounds (number_of word) size is))
 
 -- the size that is read is that of a variable that is kept
 pub kept_size : (by_kind : Bool) (n size : ℕ) → size ≡ min n (WIDTH_LIMIT + 1) → (by_kind || (size == 0 || nat_lt WIDTH_LIMIT size)) ≡ false → size ≡ n

@@ -1,5 +1,5 @@
 -- What is so where no word is left.
-use Rattle.std.proofs.Common.{◌≡◌, ◌⊎◌, inl, inr, ℕ, ◌<◌, length, Bool, true, false, ◌&&◌, ◌||◌, List, [], ◌∷◌, ◌++◌, refl, sym, ap, subst, ◌∙◌}
+use Rattle.std.proofs.Common.{◌≡◌, inl, inr, ℕ, ◌<◌, length, Bool, true, false, ◌&&◌, List, [], ◌∷◌, ◌++◌, refl, sym, ap, subst, ◌∙◌}
 use Rattle.std.specs.Prelude.{IsTrue, IsFalse, codes, nat_eq}
 use Rattle.std.proofs.lemmas.List.{append-nil, map-append}
 use Rattle.std.proofs.lemmas.Bool.{and_parts, false≢true, or_cases, or_left, or_right}
@@ -9,8 +9,9 @@ use Rattle.vcd_core.specs.declared.capture.HeaderKind.TheVariants.{Date, Version
 use Rattle.vcd_text.specs.declared.fault.Fault.{Fault}
 use Rattle.vcd_text.specs.Words.{PlacedWord}
 use Rattle.vcd_text.specs.Letters.{is_among}
-use Rattle.vcd_text.specs.Items.{spellings, header_word, header_words, is_one_of, is_other, vector_letters, dropped_letters}
-use Rattle.vcd_text.specs.Grammar.{Context, Accepts, after, nothing_told, word_texts}
+use Rattle.vcd_core.specs.Word.{is_one_of}
+use Rattle.vcd_text.specs.Items.{spellings, header_word, header_words, is_other, vector_letters, dropped_letters}
+use Rattle.vcd_text.specs.Grammar.{Context, Accepts, word_texts}
 use Rattle.vcd_text.specs.Faults.{ShowsFault, Stops, IsUnfinished, declaration_due, words_due, upscope_due, variable_due, definitions_due, code_due, other_due, pair_letters}
 use Rattle.vcd_text.specs.inside.OpenItems.{is_nothing}
 use Rattle.vcd_text.specs.inside.Reading.{Reads, Agrees, IsBegun, Collects, AwaitsCode, is_complete}

@@ -1,5 +1,5 @@
 -- The answers to a file of which a front is known.
-use Rattle.std.proofs.Common.{◌≡◌, ◌⊎◌, inl, inr, ℕ, ◌<◌, ◌≤◌, Bool, List, ◌++◌, take, length, Option, Some, None, IsTrue, IfSome, refl, sym, subst}
+use Rattle.std.proofs.Common.{◌≡◌, ◌⊎◌, inl, inr, ℕ, ◌<◌, ◌≤◌, Bool, List, take, length, Option, Some, None, IsTrue, IfSome, refl, subst}
 use Rattle.std.specs.Io.KnownBytes.{Consumes}
 use Rattle.vcd_text.specs.declared.reading.TheConstants.{FILE_LIMIT}
 use Rattle.vcd_text.specs.declared.fault.Fault.TheVariants as faults

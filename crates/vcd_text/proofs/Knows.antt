@@ -1,7 +1,7 @@
 -- What the reader's variables hold of what a file has told.
 use Rattle.std.proofs.Common.{◌≡◌, ℕ, ◌≤◌, List, subst, arith, find, map}
 use Rattle.std.specs.Prelude.{count_by, bytes_eq}
-use Rattle.vcd_text.specs.Grammar.{Declaration, ChangeRecord, Context, is_skipped, kept_variables}
+use Rattle.vcd_text.specs.Grammar.{ChangeRecord, Context, is_skipped, kept_variables}
 use Rattle.vcd_text.specs.inside.Variables.{declaration, owner_of, HasWave, Stands, Knows}
 use Rattle.vcd_text.specs.declared.reading.variables.Variable.{Variable}
 use Rattle.vcd_text.specs.declared.reading.variables.Variables.{Variables}

@@ -1,24 +1,14 @@
--- Decimal numbers, digit by digit.
-use Rattle.std.proofs.Common.{◌≡◌, ℕ, ◌+◌, ◌-◌, ◌*◌, ◌<◌, ◌≤◌, ◌&&◌, min, Bool, true, false, List, [], ◌∷◌, refl, ap, ◌∙◌, arith}
-use Rattle.std.proofs.lemmas.Bool.{lt-leb}
-use Rattle.vcd_core.specs.declared.capture.TheConstants.{END_LIMIT}
-use Rattle.vcd_text.specs.Letters.{is_number, number_behind, number_of}
-use Rattle.vcd_text.specs.Grammar.{is_tick}
+-- Decimal numbers up to a greatest one.
+use Rattle.std.proofs.Common.{◌≡◌, ℕ, cond, min, Bool, true, false, List, Option, Some, None, MatchOption, refl, sym, subst}
+use Rattle.vcd_core.specs.Decimal.{is_number, number_of, number_up_to}
 
--- more digits make no lesser number
-pub number_grows : (n : ℕ) (ds : List ℕ) → n ≤ number_behind n ds
-number_grows n [] = omega arith
-number_grows n (d ∷ ds) = omega (arith, number_grows (n * 10 + (d - 48)) ds)
+cases_of_test : (b : Bool) (n : ℕ) → MatchOption (cond b (Some n) None) (b ≡ false) (λ m. (b ≡ true) × (m ≡ n))
+cases_of_test true n = (refl, refl)
+cases_of_test false n = refl
 
--- up to a limit, all numbers past it may count as the limit
-pub number_capped : (limit m n : ℕ) (ds : List ℕ) → min m limit ≡ min n limit → min (number_behind m ds) limit ≡ min (number_behind n ds) limit
-number_capped limit m n [] same = same
-number_capped limit m n (d ∷ ds) same = number_capped limit (m * 10 + (d - 48)) (n * 10 + (d - 48)) ds (grind arith)
-
--- a number past the greatest tick is no tick
-pub too_late : (digits : List ℕ) → END_LIMIT < number_of digits → is_tick digits ≡ false
-too_late digits late = ap (λ t. is_number digits && t) (lt-leb (number_of digits) END_LIMIT late) ∙ and_false (is_number digits)
-  where
-    and_false : (b : Bool) → (b && false) ≡ false
-    and_false true = refl
-    and_false false = refl
+-- a number is answered where there is one, and none where there is none
+pub number_cases : (text : List ℕ) (most : ℕ) (r : Option ℕ) → r ≡ number_up_to text most
+    → MatchOption r (is_number text ≡ false) (λ n. (is_number text ≡ true) × (n ≡ min (number_of text) most))
+number_cases text most r is =
+    subst (λ o. MatchOption o (is_number text ≡ false) (λ n. (is_number text ≡ true) × (n ≡ min (number_of text) most))) (sym is)
+    (cases_of_test (is_number text) (min (number_of text) most))

@@ -8,7 +8,7 @@ use Rattle.vcd_text.specs.Words.{PlacedWord, words_of}
 use Rattle.vcd_text.specs.Items.{Item, spelling, spellings}
 use Rattle.vcd_text.specs.Grammar.{Context, AllowsAll, Accepts, after, after_item, nothing_told, word_texts}
 use Rattle.vcd_text.specs.Faults.{ShowsFault, Stops, FileFault, shown, too_early, fault_line}
-use Rattle.vcd_text.specs.Meaning.{FileMeans, meaning, skipped_variables}
+use Rattle.vcd_text.specs.Meaning.{FileMeans, meaning, skipped_count}
 use Rattle.vcd_text.proofs.FrontItem.{Front, whole, faulty, unfinished, ended, front_of, front_at, whole_front, fault_front, unfinished_front, place_of}
 
 abbrev IsLast : Front → Type 0
@@ -173,7 +173,7 @@ stopped-not_refused words line fault p q =
 pub one_meaning : (bytes : List ℕ) (c d : Contents) (m n : ℕ) → FileMeans bytes c m → FileMeans bytes d n → (c ≡ d) × (m ≡ n)
 one_meaning bytes c d m n p q =
     let e = one_telling (words_of bytes) p.told q.told p.accepted q.accepted in
-    (p.means ∙ ap meaning e ∙ sym q.means, p.left_out ∙ ap skipped_variables e ∙ sym q.left_out)
+    (p.means ∙ ap meaning e ∙ sym q.means, p.left_out ∙ ap skipped_count e ∙ sym q.left_out)
 
 pub one_file_fault : (bytes : List ℕ) (line other_line : ℕ) (fault other_fault : Fault) → FileFault bytes line fault → FileFault bytes other_line other_fault
     → (line ≡ other_line) × (fault ≡ other_fault)

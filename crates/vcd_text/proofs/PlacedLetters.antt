@@ -6,7 +6,8 @@ use Rattle.std.proofs.lemmas.List.{get_or-drop, get_or-set_other, length-drop}
 use Rattle.std.proofs.lemmas.Grind.{get_or-set_at}
 use Rattle.vcd_core.specs.declared.bit.Bit.{Bit}
 use Rattle.vcd_core.specs.declared.bit.Bit.TheVariants.{X}
-use Rattle.vcd_text.specs.Letters.{printed_letters, printed_letter}
+use Rattle.vcd_core.specs.Value.{printed_letter}
+use Rattle.vcd_text.specs.Letters.{printed_letters}
 
 -- the letters from `first` up to before k stand at their places
 abbrev pub Placed : List ℕ → List Bit → ℕ → ℕ → Type 0

@@ -8,10 +8,10 @@ use Rattle.std.proofs.lemmas.List.Elements.{All-nil, All-push, All-head, All-tai
 use Rattle.vcd_core.specs.declared.bit.Bit.{Bit}
 use Rattle.vcd_core.specs.declared.bit.Bit.TheVariants.{Zero, One, X, Z}
 use Rattle.vcd_core.specs.declared.wave.Change.{Change}
-use Rattle.vcd_core.specs.Value.{all_x, same_letters}
+use Rattle.vcd_core.specs.Value.{all_x, same_letters, printed_letter}
 use Rattle.vcd_core.specs.Wave.{value_from, value_at, ChangesFrom, IsWave}
 use Rattle.vcd_core.specs.inside.ValueLaws.{same_letters-Decides}
-use Rattle.vcd_text.specs.Letters.{is_letter, letter_read, letters_read, printed_letters, printed_letter, pad_letter, extension, suffixes, short_form}
+use Rattle.vcd_text.specs.Letters.{is_letter, letter_read, letters_read, printed_letters, pad_letter, extension, suffixes, short_form}
 use Rattle.vcd_text.specs.Grammar.{is_value}
 
 -- ---- letters

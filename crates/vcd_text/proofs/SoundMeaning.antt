@@ -1,12 +1,12 @@
 -- What an accepted file means is sound.
-use Rattle.std.proofs.Common.{◌≡◌, ◌⊎◌, inl, inr, ℕ, zero, suc, ◌+◌, ◌-◌, ◌<◌, ◌≤◌, Bool, true, false, cond, not, ◌&&◌, ◌||◌, List, [], ◌∷◌, ◌++◌, length, map, take, drop, replicate, Option, Some, None, IsTrue, IsFalse, IsSome, IsSomeAnd, IfSome, All, refl, sym, ap, subst, ◌∙◌, arith, eq-eqb, codes}
-use Rattle.std.specs.Prelude.{find, bytes_eq, nat_eq, ◌==◌, nat_le, nat_lt, filter}
+use Rattle.std.proofs.Common.{◌≡◌, ℕ, zero, suc, ◌+◌, ◌-◌, ◌<◌, ◌≤◌, Bool, true, false, cond, not, ◌&&◌, ◌||◌, List, [], ◌∷◌, ◌++◌, length, take, drop, replicate, Option, Some, None, IsTrue, IsFalse, IsSome, IsSomeAnd, IfSome, All, refl, sym, ap, subst, ◌∙◌, arith, eq-eqb}
+use Rattle.std.specs.Prelude.{find, bytes_eq, nat_eq, ◌==◌, nat_le, nat_lt}
 use Rattle.std.specs.List.{list_all, concat}
 use Rattle.std.specs.Fmt.{decimal}
-use Rattle.std.proofs.lemmas.Bool.{and_parts, and_from, or_parts, or_from, false≢true, not-true, eqb-true, eqb-false, ne_eqb, leb-true, ltb-true, ltb-false}
+use Rattle.std.proofs.lemmas.Bool.{and_parts, and_from, or_parts, false≢true, not-true, eqb-true, eqb-false, leb-true, ltb-true, ltb-false}
 use Rattle.std.proofs.lemmas.Slice.Eq.{bytes_eq-Decides}
 use Rattle.std.proofs.lemmas.List.{append-nil, length-append, length-map, length-replicate, take-append-drop}
-use Rattle.std.proofs.lemmas.List.Elements.{All-nil, All-cons, All-head, All-tail, All-push, All-map, All-weaker, All-filter, filter_passes, filter-append}
+use Rattle.std.proofs.lemmas.List.Elements.{All-nil, All-head, All-tail, All-push, All-map, All-weaker, All-filter, filter_passes, filter-append}
 use Rattle.std.proofs.lemmas.List.Folds.{list_all-append}
 use Rattle.vcd_core.specs.declared.bit.Bit.{Bit}
 use Rattle.vcd_core.specs.declared.bit.Bit.TheVariants.{X}
@@ -14,13 +14,13 @@ use Rattle.vcd_core.specs.declared.value.TheConstants.{WIDTH_LIMIT}
 use Rattle.vcd_core.specs.declared.capture.TheConstants.{END_LIMIT, SIGNAL_LIMIT}
 use Rattle.vcd_core.specs.Word.{is_word, is_skipped_kind}
 use Rattle.vcd_core.specs.Value.{all_x}
-use Rattle.vcd_core.specs.Contents.{SignalContents}
 use Rattle.vcd_core.specs.Sound.{IsSound, IsSoundSignal, is_sound_header, is_sound_scope, is_sound_timescale}
 use Rattle.vcd_core.proofs.Waves.{changes_rise, changes_end}
-use Rattle.vcd_text.specs.Words.{PlacedWord, words_from, words_of, word_on, with_byte, with_longer_first, ends_before, line_behind}
-use Rattle.vcd_text.specs.Letters.{extension, pad_letter, letters_read, is_number, number_of}
-use Rattle.vcd_text.specs.Items.{Item, entry, timescale, scope, upscope, variable, end_definitions, stamp, scalar, vector, real_or_string, bracket, other, spelling, spellings, header_word, end_word, is_end, has_no_end, is_one_of, timescales, unit_text}
-use Rattle.vcd_text.specs.Grammar.{Context, Declaration, ChangeRecord, Accepts, Allows, AllowsAll, after, after_item, nothing_told, word_texts, is_skipped, kept_variables, skipped_kinds, declaration_of, variable_of, may_have_code, has_room, change_records, with_record, takes_digits, is_value}
+use Rattle.vcd_text.specs.Words.{words_of, word_on}
+use Rattle.vcd_core.specs.Decimal.{is_number, number_of}
+use Rattle.vcd_text.specs.Letters.{extension, pad_letter, letters_read}
+use Rattle.vcd_text.specs.Items.{Item, entry, timescale, scope, upscope, variable, end_definitions, stamp, scalar, vector, real_or_string, bracket, other, spelling, spellings, header_word, end_word, is_end, has_no_end, timescales, unit_text}
+use Rattle.vcd_text.specs.Grammar.{Context, Declaration, ChangeRecord, Accepts, Allows, AllowsAll, after, after_item, nothing_told, is_skipped, kept_variables, variable_of, may_have_code, has_room, change_records, with_record, takes_digits, is_value}
 use Rattle.vcd_text.proofs.WordLaws.{is_run_text, texts_are_runs, run_is_word}
 use Rattle.vcd_text.specs.Meaning.{meaning, declared_signal, recorded_value}
 
@@ -96,9 +96,9 @@ record IsClean (c : Context) : Type 0 where
 -- ---- sizes
 
 -- a variable that is kept has a kind with four-state letters and a width within the limit
-kept_is : (d : Declaration) → is_skipped d ≡ false → (is_one_of skipped_kinds d.kind ≡ false) × (1 ≤ d.size) × (d.size ≤ WIDTH_LIMIT)
+kept_is : (d : Declaration) → is_skipped d ≡ false → (is_skipped_kind d.kind ≡ false) × (1 ≤ d.size) × (d.size ≤ WIDTH_LIMIT)
 kept_is d keeps =
-    let p = or_parts (is_one_of skipped_kinds d.kind) (d.size == 0 || nat_lt WIDTH_LIMIT d.size) keeps in
+    let p = or_parts (is_skipped_kind d.kind) (d.size == 0 || nat_lt WIDTH_LIMIT d.size) keeps in
     let q = or_parts (d.size == 0) (nat_lt WIDTH_LIMIT d.size) p.1 in
     let some : d.size ≡ 0 → ⊥ = eqb-false d.size 0 q.0 in
     (p.0, positive d.size some, ltb-false WIDTH_LIMIT d.size q.1)

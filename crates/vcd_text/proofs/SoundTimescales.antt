@@ -1,5 +1,5 @@
 -- The timescale of a sound capture is read back.
-use Rattle.std.proofs.Common.{◌≡◌, ◌⊎◌, ◌==◌, ◌||◌, ◌++◌, ◌<◌, ◌^◌, ℕ, List, true, [], ◌∷◌, Some, inl, inr, refl, sym, ap, subst, ◌∙◌, arith, decimal, append-nil}
+use Rattle.std.proofs.Common.{◌≡◌, ◌⊎◌, ◌==◌, ◌||◌, ◌++◌, ◌<◌, ◌^◌, ℕ, List, true, [], ◌∷◌, Some, inl, inr, refl, sym, ap, subst, arith, decimal, append-nil}
 use Rattle.std.specs.Prelude.{find, bytes_eq}
 use Rattle.std.specs.Fmt.{digits}
 use Rattle.std.proofs.lemmas.Bool.{or_cases, eqb-true}

@@ -19,7 +19,9 @@ use Rattle.vcd_core.specs.Word.{is_word, is_white_space}
 use Rattle.vcd_core.specs.Contents.{Contents, SignalContents, signal_value}
 use Rattle.vcd_core.specs.Sound.{is_sound_header, is_sound_scope, is_sound_timescale, IsSoundSignal, IsSound}
 use Rattle.vcd_text.specs.Words.{words_of}
-use Rattle.vcd_text.specs.Letters.{is_digit, printed_letter, printed_letters, short_form}
+use Rattle.std.specs.Char.{is_ascii_digit}
+use Rattle.vcd_core.specs.Value.{printed_letter}
+use Rattle.vcd_text.specs.Letters.{printed_letters, short_form}
 use Rattle.vcd_text.specs.Items.{Item, entry, timescale, scope, upscope, vector, bracket, end_definitions, header_word, unit_text, end_word, spellings}
 use Rattle.vcd_text.specs.Grammar.{word_texts}
 use Rattle.vcd_text.specs.Text.{header_items, timescale_items, same_scope, scope_items, code_of, variable_item, signal_items, value_item, differs_at, value_items, all_values, new_values, stamp_of, with_stamp, first_items, tick_items, end_items, items_of, text}
@@ -46,14 +48,14 @@ black_is_unbroken : (w : List ℕ) → 0 < length w → list_all is_black w ≡ 
 black_is_unbroken [] some black = absurd (omega arith)
 black_is_unbroken (b ∷ bs) some black = black
 
-digit_is_black : (b : ℕ) → is_digit b ≡ true → is_black b ≡ true
+digit_is_black : (b : ℕ) → is_ascii_digit b ≡ true → is_black b ≡ true
 digit_is_black b digit =
     let above : 48 ≤ b = leb-true 48 b (and_parts (nat_le 48 b) (nat_le b 57) digit).0 in
     not_from_false (is_white_space b)
     (or_from (nat_le 9 b && nat_le b 13) (b == 32) (and_right (nat_le 9 b) (nat_le b 13) (lt-leb b 13 (omega arith))) (ne_eqb b 32 (λ e. omega arith)))
 
 decimal_black : (n : ℕ) → n < 2 ^ 64 → list_all is_black (decimal n) ≡ true
-decimal_black n small = all_weaker is_digit is_black digit_is_black (decimal n) (decimal_digits n small)
+decimal_black n small = all_weaker is_ascii_digit is_black digit_is_black (decimal n) (decimal_digits n small)
 
 pub decimal_unbroken : (n : ℕ) → n < 2 ^ 64 → is_unbroken (decimal n) ≡ true
 decimal_unbroken n small = black_is_unbroken (decimal n) (decimal_not_empty n small) (decimal_black n small)

@@ -1,13 +1,14 @@
 -- One more word, from the first word of the file on.
-use Rattle.std.specs.Prelude.{Bool, true, false, IsTrue, IsFalse, codes, ◌==◌, ◌&&◌, not}
-use Rattle.std.proofs.Common.{◌≡◌, ◌⊎◌, inl, inr, cond, List, [], ◌∷◌, ◌++◌, map, refl, sym, ap, subst, ◌∙◌, append_assoc}
+use Rattle.std.specs.Prelude.{Bool, true, false, IsTrue, IsFalse, ◌==◌, ◌&&◌, not}
+use Rattle.std.proofs.Common.{◌≡◌, ◌⊎◌, inl, inr, cond, List, [], ◌∷◌, ◌++◌, refl, sym, ap, subst, ◌∙◌, append_assoc}
 use Rattle.std.proofs.lemmas.List.{append-nil, map-append}
 use Rattle.std.proofs.lemmas.Bool.{and_parts, eqb-true, false≢true}
 use Rattle.std.specs.Prelude.{ℕ}
 use Rattle.vcd_text.specs.declared.fault.Fault.{Fault}
 use Rattle.vcd_text.specs.Words.{PlacedWord}
 use Rattle.vcd_text.specs.Letters.{is_among}
-use Rattle.vcd_text.specs.Items.{Item, spelling, spellings, is_other, begins_declaration, is_one_of, declaring_words, dump_words, vector_letters}
+use Rattle.vcd_core.specs.Word.{is_one_of}
+use Rattle.vcd_text.specs.Items.{Item, spelling, spellings, is_other, begins_declaration, declaring_words, dump_words, vector_letters}
 use Rattle.vcd_text.specs.Grammar.{Context, Allows, AllowsAll, after, after_item, nothing_told, word_texts}
 use Rattle.vcd_text.specs.Faults.{WordFault, among_declarations, among_changes, ChangeFault, no_tick, tick_goes_back, letter_alone, letter_of_none, pair_of_none, no_value, value_too_long, declaration_late, no_change, pair_letters, ShowsFault, fault_line}
 use Rattle.vcd_text.specs.inside.OpenItems.{shown_line}

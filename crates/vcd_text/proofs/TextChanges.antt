@@ -10,8 +10,10 @@ use Rattle.vcd_core.specs.declared.capture.TheConstants.{END_LIMIT}
 use Rattle.vcd_core.specs.declared.bit.Bit.{Bit}
 use Rattle.vcd_core.specs.Contents.{Contents, SignalContents, signal_value}
 use Rattle.vcd_core.specs.Sound.{IsSound, IsSoundSignal}
-use Rattle.vcd_text.specs.Letters.{letters_read, printed_letters, printed_letter, short_form}
-use Rattle.vcd_text.specs.Items.{Item, vector, bracket, dump_words, end_word, is_one_of}
+use Rattle.vcd_core.specs.Value.{printed_letter}
+use Rattle.vcd_core.specs.Word.{is_one_of}
+use Rattle.vcd_text.specs.Letters.{letters_read, printed_letters, short_form}
+use Rattle.vcd_text.specs.Items.{Item, vector, bracket, dump_words, end_word}
 use Rattle.vcd_text.specs.Grammar.{ChangeRecord, Context, is_skipped, takes_digits, change_records, variable_of}
 use Rattle.vcd_text.specs.Text.{all_values, code_of, differs_at, end_items, first_items, new_values, stamp_of, with_stamp, tick_items, value_item, value_items}
 use Rattle.vcd_text.proofs.CodesDiffer.{code_not_empty}

@@ -19,9 +19,10 @@ use Rattle.vcd_core.specs.declared.capture.TheConstants.{SIGNAL_LIMIT}
 use Rattle.vcd_core.specs.Contents.{Contents, SignalContents}
 use Rattle.vcd_core.specs.Word.{is_word}
 use Rattle.vcd_core.specs.Sound.{is_sound_header, is_sound_timescale, IsSoundSignal, IsSound}
-use Rattle.vcd_text.specs.Letters.{is_digit, number_of}
+use Rattle.std.specs.Char.{is_ascii_digit}
+use Rattle.vcd_core.specs.Decimal.{number_of}
 use Rattle.vcd_text.specs.Items.{Item, entry, timescale, variable, end_definitions, unit_text, end_word, is_end, has_no_end, timescale_of}
-use Rattle.vcd_text.specs.Grammar.{Context, Declaration, AllowsAll, after, nothing_told, declaration_of, variable_of, may_have_code, has_room, is_skipped, kept_variables}
+use Rattle.vcd_text.specs.Grammar.{Context, Declaration, nothing_told, declaration_of, variable_of, may_have_code, has_room, is_skipped, kept_variables}
 use Rattle.vcd_text.specs.Text.{header_items, timescale_items, scope_items, code_of, variable_item, signal_items, first_items, tick_items, end_items, items_of}
 use Rattle.vcd_text.proofs.CodesDiffer.{codes_differ, code_no_end}
 use Rattle.vcd_text.proofs.Decimals.{decimal_digits, decimal_is_number, number_of-decimal}
@@ -41,10 +42,10 @@ header_leads front (h ∷ hs) sound =
     (ap (λ l. declaring l None [] []) (append_assoc front (h ∷ []) hs)))
 
 -- digits are not `$end`
-digits_no_end : (w : List ℕ) → list_all is_digit w ≡ true → is_end w ≡ false
+digits_no_end : (w : List ℕ) → list_all is_ascii_digit w ≡ true → is_end w ≡ false
 digits_no_end w digits = false_from_ne_true (is_end w) (λ same.
     let spelled : w ≡ end_word = (bytes_eq-Decides w end_word).0 same in
-    let no : true ≡ false = sym digits ∙ ap (list_all is_digit) spelled in
+    let no : true ≡ false = sym digits ∙ ap (list_all is_ascii_digit) spelled in
     absurd (cc))
 
 decimal_no_end : (n : ℕ) → n < 2 ^ 64 → not (is_end (decimal n)) ≡ true
@@ -160,14 +161,6 @@ declarations_lead c sound =
     (leads_both nothing_told header timed (header_items c.header) (timescale_items c.timescale) (header_leads [] c.header sound.header) (timescale_leads c.header c.timescale sound.timescale))
     (signals_lead c.header c.timescale [] [] c.end 0 c.signals (recursion_from_All (IsSoundSignal c.end) c.signals sound.signals) (omega arith) refl (λ j from. refl)))
     (leads_one declared (declared_context c) end_definitions refl refl)
-
--- the declarations get what they ask for
-pub declarations_allowed : (c : Contents) → IsSound c → AllowsAll nothing_told (declaration_items c)
-declarations_allowed c sound = (declarations_lead c sound).allowed
-
--- and tell what the capture declares
-pub declarations_tell : (c : Contents) → IsSound c → after nothing_told (declaration_items c) ≡ declared_context c
-declarations_tell c sound = (declarations_lead c sound).tells
 
 in_two : (front first ticks end : List Item) (i : Item) → front ++ (i ∷ first) ++ ticks ++ end ≡ (front ++ i ∷ []) ++ (first ++ ticks ++ end)
 in_two front first ticks end i =

@@ -5,7 +5,7 @@ use Rattle.vcd_core.specs.Contents.{Contents, SignalContents}
 use Rattle.vcd_core.specs.Sound.{IsSound, IsSoundSignal}
 use Rattle.vcd_core.proofs.Waves.{wave_is}
 use Rattle.vcd_text.specs.Grammar.{Declaration, kept_variables}
-use Rattle.vcd_text.specs.Meaning.{declared_signal, meaning, recorded_value, skipped_variables}
+use Rattle.vcd_text.specs.Meaning.{declared_signal, meaning, recorded_value, skipped_count}
 use Rattle.vcd_text.specs.Text.{code_of}
 use Rattle.vcd_text.proofs.DeclaredSignals.{all_sound_kept, declared_as, declared_of, none_skipped}
 use Rattle.vcd_text.proofs.ReadValues.{length-value_at}
@@ -44,5 +44,5 @@ pub text_means : (c : Contents) → IsSound c → c ≡ meaning (told_at c (reco
 text_means c sound = λ i. record { header = c.header; timescale = c.timescale; end = c.end; signals = sym (signals_mean c sound) i }
 
 -- and skips nothing
-pub text_skips_nothing : (c : Contents) → IsSound c → 0 ≡ skipped_variables (told_at c (records_of c) c.end)
+pub text_skips_nothing : (c : Contents) → IsSound c → 0 ≡ skipped_count (told_at c (records_of c) c.end)
 text_skips_nothing c sound = sym (none_skipped c.end 0 c.signals sound.signals)

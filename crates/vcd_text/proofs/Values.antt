@@ -2,7 +2,8 @@
 use Rattle.std.proofs.Common.{◌≡◌, ◌≢◌, ℕ, List, [], ◌∷◌, ◌++◌, length, get_or, refl, sym, ap, ◌∙◌, append_assoc, arith}
 use Rattle.vcd_core.specs.declared.bit.Bit.{Bit}
 use Rattle.vcd_core.specs.declared.bit.Bit.TheVariants.{X}
-use Rattle.vcd_text.specs.Letters.{printed_letters, printed_letter, short_form}
+use Rattle.vcd_core.specs.Value.{printed_letter}
+use Rattle.vcd_text.specs.Letters.{printed_letters, short_form}
 use Rattle.vcd_text.specs.Text.{item_line, value_item}
 
 pub line_of_bit : (v : List Bit) (code : List ℕ) → length v ≡ 1 → item_line (value_item code v) ≡ (printed_letter (get_or v 0 X) ∷ []) ++ (code ++ 10 ∷ [])

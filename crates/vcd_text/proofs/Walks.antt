@@ -8,7 +8,7 @@ use Rattle.vcd_core.specs.declared.bit.Bit.{Bit}
 use Rattle.vcd_core.specs.Contents.{SignalContents, no_signal, signal_value}
 use Rattle.vcd_text.specs.declared.writing.transitions.Transition.{Transition}
 use Rattle.vcd_text.specs.Items.{Item}
-use Rattle.vcd_text.specs.inside.Transitions.{transition_of, transition_value, transitions_from, tick_after, valued_items}
+use Rattle.vcd_text.specs.inside.Transitions.{transition_of, transition_value, transitions_from, last_tick, valued_items}
 use Rattle.vcd_text.specs.Text.{code_of, differs_at, end_items, item_line, new_values, stamp_of, with_stamp, tick_items, value_item, value_items}
 use Rattle.vcd_text.proofs.Appended.{carried, two_pieces}
 
@@ -54,12 +54,12 @@ one_tick signals end last t [] ms rest later all still now = still
 one_tick signals end last t (p ∷ ps) ms rest later all still now = later_tick signals end last t p ps ms later all ∙ ap (λ l. with_stamp t (value_items t (p ∷ ps)) ++ l) now
 
 -- the last tick, and the stamp of the end where nothing changes at it
-last_tick : (signals : List SignalContents) (last t : ℕ) (placed : List (ℕ × SignalContents)) → last < t → AllPlaced signals placed
+tick_at_end : (signals : List SignalContents) (last t : ℕ) (placed : List (ℕ × SignalContents)) → last < t → AllPlaced signals placed
     → walk signals t last (at_tick t placed ++ []) ≡ (with_stamp t (value_items t placed) ++ []) ++ (if nat_lt 0 t && (length (value_items t placed) == 0) then stamp_of t ∷ [] else [])
 unfolding walk
-last_tick signals last t [] later all =
+tick_at_end signals last t [] later all =
     ap (λ b. if b then stamp_of t ∷ [] else []) (lt-ltb last t later) ∙ sym (ap (λ b. if b && true then stamp_of t ∷ [] else []) (lt-ltb 0 t (omega arith)))
-last_tick signals last t (p ∷ ps) later all =
+tick_at_end signals last t (p ∷ ps) later all =
     let more : (suc (length (value_items t ps)) == 0) ≡ false = ne_eqb (suc (length (value_items t ps))) 0 (omega arith) in
     later_tick signals t last t p ps [] later all
     ∙ ap (λ b. with_stamp t (value_items t (p ∷ ps)) ++ (if b then stamp_of t ∷ [] else [])) (le-ltb t t (omega arith))
@@ -92,7 +92,7 @@ unfolding transitions_from tick_items
 walk_ticks signals zero end last t later all =
     let at : t ≡ end = omega arith in
     subst (λ e. walk signals e last (transitions_from signals t 1) ≡ tick_items signals t 1 ++ end_items signals e) at
-    (last_tick signals last t (filter (λ p. differs_at t p.1) (enumerate_from 0 signals)) later (all_placed signals t))
+    (tick_at_end signals last t (filter (λ p. differs_at t p.1) (enumerate_from 0 signals)) later (all_placed signals t))
 walk_ticks signals (suc n) end last t later all =
     one_tick signals end last t (filter (λ p. differs_at t p.1) (enumerate_from 0 signals)) (transitions_from signals (suc t) (suc n)) (tick_items signals (suc t) (suc n) ++ end_items signals end)
     later (all_placed signals t) (walk_ticks signals n end last (suc t) (omega arith) (omega arith)) (walk_ticks signals n end t (suc t) (omega arith) (omega arith))
@@ -106,22 +106,22 @@ walk_is signals (suc n) = walk_ticks signals n (suc n) 0 1 (omega arith) (omega 
 
 -- a part of the transitions, with their values, and the walk over the later ones
 pub walk_parts : (signals : List SignalContents) (end last : ℕ) (ms later : List Transition)
-    → walk signals end last (ms ++ later) ≡ valued_items last ms (map (transition_value signals) ms) ++ walk signals end (tick_after last ms) later
-unfolding walk valued_items tick_after
+    → walk signals end last (ms ++ later) ≡ valued_items last ms (map (transition_value signals) ms) ++ walk signals end (last_tick last ms) later
+unfolding walk valued_items last_tick
 walk_parts signals end last [] later = refl
 walk_parts signals end last (m ∷ ms) later =
     ap (λ l. (if m.tick == last then [] else stamp_of m.tick ∷ []) ++ value_item (code_of m.position) (transition_value signals m) ∷ l) (walk_parts signals end m.tick ms later)
-    ∙ sym (append_assoc (if m.tick == last then [] else stamp_of m.tick ∷ []) (value_item (code_of m.position) (transition_value signals m) ∷ valued_items m.tick ms (map (transition_value signals) ms)) (walk signals end (tick_after m.tick ms) later))
+    ∙ sym (append_assoc (if m.tick == last then [] else stamp_of m.tick ∷ []) (value_item (code_of m.position) (transition_value signals m) ∷ valued_items m.tick ms (map (transition_value signals) ms)) (walk signals end (last_tick m.tick ms) later))
 
 -- a part is written
 pub part_walked : (signals : List SignalContents) (end last tick : ℕ) (rest part later : List Transition) (values : List (List Bit)) (out new whole : List ℕ) → rest ≡ part ++ later
-    → values ≡ map (transition_value signals) part → new ≡ out ++ flat_map item_line (valued_items last part values) → tick ≡ tick_after last part
+    → values ≡ map (transition_value signals) part → new ≡ out ++ flat_map item_line (valued_items last part values) → tick ≡ last_tick last part
     → out ++ flat_map item_line (walk signals end last rest) ≡ whole → new ++ flat_map item_line (walk signals end tick later) ≡ whole
 part_walked signals end last tick rest part later values out new whole split valued grown at all =
     ap (λ l. l ++ flat_map item_line (walk signals end tick later)) (grown ∙ ap (λ vs. out ++ flat_map item_line (valued_items last part vs)) valued)
     ∙ ap (λ t. (out ++ flat_map item_line (valued_items last part (map (transition_value signals) part))) ++ flat_map item_line (walk signals end t later)) at
-    ∙ append_assoc out (flat_map item_line (valued_items last part (map (transition_value signals) part))) (flat_map item_line (walk signals end (tick_after last part) later))
-    ∙ ap (λ l. out ++ l) (sym (flat_map-append item_line (valued_items last part (map (transition_value signals) part)) (walk signals end (tick_after last part) later)))
+    ∙ append_assoc out (flat_map item_line (valued_items last part (map (transition_value signals) part))) (flat_map item_line (walk signals end (last_tick last part) later))
+    ∙ ap (λ l. out ++ l) (sym (flat_map-append item_line (valued_items last part (map (transition_value signals) part)) (walk signals end (last_tick last part) later)))
     ∙ ap (λ l. out ++ flat_map item_line l) (sym (walk_parts signals end last part later))
     ∙ ap (λ l. out ++ flat_map item_line (walk signals end last l)) (sym split)
     ∙ all
@@ -143,10 +143,10 @@ one_valued last transitions values k m v out one two whole within inside at is s
     all
 
 -- the last tick stays, one move on
-pub one_later : (last : ℕ) (transitions : List Transition) (k : ℕ) (m : Transition) (whole : ℕ) → k < length transitions → m ≡ get_or transitions k m → tick_after last (drop k transitions) ≡ whole → tick_after m.tick (drop (k + 1) transitions) ≡ whole
-unfolding tick_after
+pub one_later : (last : ℕ) (transitions : List Transition) (k : ℕ) (m : Transition) (whole : ℕ) → k < length transitions → m ≡ get_or transitions k m → last_tick last (drop k transitions) ≡ whole → last_tick m.tick (drop (k + 1) transitions) ≡ whole
+unfolding last_tick
 one_later last transitions k m whole within at all =
-    sym (ap (tick_after last) (drop_more transitions k m within ∙ ap (λ x. x ∷ drop (k + 1) transitions) (sym at))) ∙ all
+    sym (ap (last_tick last) (drop_more transitions k m within ∙ ap (λ x. x ∷ drop (k + 1) transitions) (sym at))) ∙ all
 
 -- all transitions are written, and the stamp of the end
 pub all_walked : (signals : List SignalContents) (end last : ℕ) (transitions rest : List Transition) (out new start : List ℕ) → rest ≡ []
@@ -168,6 +168,6 @@ unfolding valued_items
 all_valued last transitions values k out whole past all =
     sym (append-nil out) ∙ ap (λ l. out ++ flat_map item_line (valued_items last l (drop k values))) (sym (drop_all k transitions past)) ∙ all
 
-pub all_later : (last : ℕ) (transitions : List Transition) (k whole : ℕ) → length transitions ≤ k → tick_after last (drop k transitions) ≡ whole → last ≡ whole
-unfolding tick_after
-all_later last transitions k whole past all = sym (ap (tick_after last) (drop_all k transitions past)) ∙ all
+pub all_later : (last : ℕ) (transitions : List Transition) (k whole : ℕ) → length transitions ≤ k → last_tick last (drop k transitions) ≡ whole → last ≡ whole
+unfolding last_tick
+all_later last transitions k whole past all = sym (ap (last_tick last) (drop_all k transitions past)) ∙ all

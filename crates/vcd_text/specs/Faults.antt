@@ -3,8 +3,10 @@ use Rattle.std.specs.Prelude.{◌≡◌, ℕ, ◌<◌, Bool, true, false, List, 
 use Rattle.vcd_text.specs.declared.fault.Fault.{Fault}
 use Rattle.vcd_text.specs.declared.fault.Fault.TheVariants.{Truncated, UnexpectedWord, BadTimescale, BadScope, UpscopeAtTop, BadVar, MixedCode, BadTime, TimeBackwards, BadChange, UnknownCode, ValueTooLong, TooManySignals}
 use Rattle.vcd_text.specs.Words.{PlacedWord, words_of, closed_words, end_line}
-use Rattle.vcd_text.specs.Letters.{is_among, is_letter, is_number, number_of}
-use Rattle.vcd_text.specs.Items.{Item, spellings, end_word, is_end, has_no_end, is_one_of, declaring_words, header_words, begins_declaration, is_other, timescale_of, vector_letters, dropped_letters}
+use Rattle.vcd_core.specs.Decimal.{is_number, number_of}
+use Rattle.vcd_core.specs.Word.{is_one_of}
+use Rattle.vcd_text.specs.Letters.{is_among, is_letter}
+use Rattle.vcd_text.specs.Items.{Item, spellings, end_word, is_end, has_no_end, declaring_words, header_words, begins_declaration, is_other, timescale_of, vector_letters, dropped_letters}
 use Rattle.vcd_text.specs.Grammar.{Context, Declaration, is_skipped, has_good_size, declaration_of, variable_of, may_have_code, has_room, is_tick, is_value, nothing_told, word_texts, AllowsAll, after}
 
 -- ---- the rows: the words `begun` of an item that is not whole show no fault, and the word behind them shows this one

@@ -1,5 +1,5 @@
 -- Which files are accepted, and what they tell: what each item asks for, and what it adds (IEEE 1364-2005, 18.2, in the project's profile).
-use Rattle.std.specs.Prelude.{◌≡◌, ℕ, ◌-◌, ◌<◌, ◌≤◌, Bool, true, false, not, ◌&&◌, ◌||◌, ◌==◌, nat_lt, nat_le, if◌then◌else◌, List, [], ◌∷◌, ◌++◌, map, length, take, filter, find, Option, Some, None, IsSome, IsSomeAnd, IsTrue, IsFalse, option_to_list, codes, bytes_eq}
+use Rattle.std.specs.Prelude.{◌≡◌, ℕ, ◌-◌, ◌<◌, ◌≤◌, Bool, true, false, not, ◌&&◌, ◌||◌, ◌==◌, nat_lt, nat_le, if◌then◌else◌, List, [], ◌∷◌, ◌++◌, map, length, take, filter, find, Option, Some, None, IsSome, IsSomeAnd, IsTrue, IsFalse, option_to_list, bytes_eq}
 use Rattle.std.specs.List.{list_all}
 use Rattle.vcd_core.specs.declared.bit.Bit.{Bit}
 use Rattle.vcd_core.specs.declared.capture.Header.{Header}
@@ -7,11 +7,11 @@ use Rattle.vcd_core.specs.declared.capture.Timescale.{Timescale}
 use Rattle.vcd_core.specs.declared.capture.ScopeName.{ScopeName}
 use Rattle.vcd_core.specs.declared.value.TheConstants.{WIDTH_LIMIT}
 use Rattle.vcd_core.specs.declared.capture.TheConstants.{END_LIMIT, SIGNAL_LIMIT}
+use Rattle.vcd_core.specs.Word.{is_skipped_kind, is_one_of}
 use Rattle.vcd_text.specs.Words.{PlacedWord}
-use Rattle.vcd_text.specs.Letters.{is_among, is_letter, letters_read, is_number, number_of}
-use Rattle.vcd_text.specs.Items.{Item, entry, timescale, scope, upscope, variable, end_definitions, stamp, scalar, vector, real_or_string, bracket, other, spellings, has_no_end, is_one_of, dump_words, is_other, timescale_of, vector_letters, dropped_letters}
-
--- ---- limits, the project's own
+use Rattle.vcd_core.specs.Decimal.{is_number, number_of}
+use Rattle.vcd_text.specs.Letters.{is_among, is_letter, letters_read}
+use Rattle.vcd_text.specs.Items.{Item, entry, timescale, scope, upscope, variable, end_definitions, stamp, scalar, vector, real_or_string, bracket, other, spellings, has_no_end, dump_words, is_other, timescale_of, vector_letters, dropped_letters}
 
 -- ---- what a file tells
 
@@ -45,13 +45,9 @@ nothing_told = record { header = []; timescale = None; scopes = []; declared = [
 
 -- ---- variables
 
--- the kinds whose values are no four-state letters
-abbrev pub skipped_kinds : List (List ℕ)
-skipped_kinds = codes "real" ∷ codes "realtime" ∷ codes "real_parameter" ∷ codes "shortreal" ∷ codes "event" ∷ codes "string" ∷ []
-
 -- whether a variable is skipped: for its kind, or as it has no bit or too many (the project's own)
 abbrev pub is_skipped : Declaration → Bool
-is_skipped d = is_one_of skipped_kinds d.kind || (d.size == 0 || nat_lt WIDTH_LIMIT d.size)
+is_skipped d = is_skipped_kind d.kind || (d.size == 0 || nat_lt WIDTH_LIMIT d.size)
 
 -- the variables that are not skipped
 abbrev pub kept_variables : List Declaration → List Declaration

@@ -1,6 +1,7 @@
 -- The items of a file, declarations and changes, and the words that spell them (IEEE 1364-2005, 18.2, in the project's profile).
 use Rattle.std.specs.Prelude.{ℕ, Bool, false, not, ◌&&◌, ◌||◌, ◌==◌, List, [], ◌∷◌, ◌++◌, map, find, Option, codes, decimal, bytes_eq}
-use Rattle.std.specs.List.{list_any, list_all, flat_map, concat}
+use Rattle.std.specs.List.{list_all, flat_map, concat}
+use Rattle.vcd_core.specs.Word.{is_one_of}
 use Rattle.vcd_core.specs.declared.capture.HeaderKind.{HeaderKind}
 use Rattle.vcd_core.specs.declared.capture.HeaderKind.TheVariants.{Date, Version, Comment}
 use Rattle.vcd_core.specs.declared.capture.Timescale.{Timescale}
@@ -18,10 +19,6 @@ is_end word = bytes_eq word end_word
 -- whether none of the words is `$end`
 abbrev pub has_no_end : List (List ℕ) → Bool
 has_no_end words = list_all (λ word. not (is_end word)) words
-
--- whether a word is one of these
-abbrev pub is_one_of : List (List ℕ) → List ℕ → Bool
-is_one_of words word = list_any (bytes_eq word) words
 
 -- the words of the changes alone: the brackets of a dump, `$end` being the closing one
 abbrev pub dump_words : List (List ℕ)
@@ -74,12 +71,12 @@ unit_text Picosecond = codes "ps"
 unit_text Femtosecond = codes "fs"
 
 -- 1, 10 and 100 of a unit
-abbrev pub counts_of : TimeUnit → List Timescale
-counts_of unit = record { count = 1; unit = unit } ∷ record { count = 10; unit = unit } ∷ record { count = 100; unit = unit } ∷ []
+abbrev pub unit_timescales : TimeUnit → List Timescale
+unit_timescales unit = record { count = 1; unit = unit } ∷ record { count = 10; unit = unit } ∷ record { count = 100; unit = unit } ∷ []
 
 -- all timescales
 abbrev pub timescales : List Timescale
-timescales = flat_map counts_of (Second ∷ Millisecond ∷ Microsecond ∷ Nanosecond ∷ Picosecond ∷ Femtosecond ∷ [])
+timescales = flat_map unit_timescales (Second ∷ Millisecond ∷ Microsecond ∷ Nanosecond ∷ Picosecond ∷ Femtosecond ∷ [])
 
 -- the timescale that words spell when they are run together, if it is one
 abbrev pub timescale_of : List (List ℕ) → Option Timescale

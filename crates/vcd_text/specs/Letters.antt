@@ -1,9 +1,9 @@
--- Letters of values, their extension and short form, and decimal numbers.
-use Rattle.std.specs.Prelude.{ℕ, ◌+◌, ◌-◌, ◌*◌, Bool, if◌then◌else◌, List, [], ◌∷◌, ◌++◌, ◌&&◌, not, ◌==◌, nat_le, nat_eq, length, map, replicate, find, Option, Some, None, is_some, unwrap_or, codes}
-use Rattle.std.specs.List.{list_any, list_all}
+-- Letters of values, their extension and their short form (IEEE 1364-2005, 18.2).
+use Rattle.std.specs.Prelude.{ℕ, ◌-◌, Bool, if◌then◌else◌, List, [], ◌∷◌, ◌++◌, nat_eq, length, map, replicate, find, Option, Some, None, is_some, unwrap_or, codes}
+use Rattle.std.specs.List.{list_any}
 use Rattle.vcd_core.specs.declared.bit.Bit.{Bit}
 use Rattle.vcd_core.specs.declared.bit.Bit.TheVariants.{Zero, One, X, Z}
-use Rattle.vcd_core.specs.Value.{same_letters}
+use Rattle.vcd_core.specs.Value.{same_letters, printed_letter}
 
 -- whether a byte is among these
 abbrev pub is_among : List ℕ → ℕ → Bool
@@ -24,13 +24,6 @@ is_letter b = is_some (letter_read b)
 -- the letters that a text of value letters is read as
 abbrev pub letters_read : List ℕ → List Bit
 letters_read text = map (λ b. unwrap_or (letter_read b) X) text
-
--- a letter as it is printed
-abbrev pub printed_letter : Bit → ℕ
-printed_letter Zero = 48
-printed_letter One = 49
-printed_letter X = 120
-printed_letter Z = 122
 
 -- letters as they are printed
 abbrev pub printed_letters : List Bit → List ℕ
@@ -56,19 +49,3 @@ suffixes (b ∷ s) = suffixes s ++ (b ∷ s) ∷ []
 -- the short form of a value: its shortest non-empty suffix whose extension is the value (18.2)
 unfoldable pub short_form : List Bit → List Bit
 short_form v = unwrap_or (find (λ s. same_letters (extension (length v) s) v) (suffixes v)) v
-
-abbrev pub is_digit : ℕ → Bool
-is_digit b = nat_le 48 b && nat_le b 57
-
--- whether a text is a decimal number: one or more of the digits 0 to 9
-abbrev pub is_number : List ℕ → Bool
-is_number text = not (length text == 0) && list_all is_digit text
-
--- the number that digits write behind a number
-abbrev pub number_behind : ℕ → List ℕ → ℕ
-number_behind n [] = n
-number_behind n (d ∷ ds) = number_behind (n * 10 + (d - 48)) ds
-
--- the number that a decimal number writes
-abbrev pub number_of : List ℕ → ℕ
-number_of text = number_behind 0 text

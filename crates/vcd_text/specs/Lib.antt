@@ -1,3 +1,4 @@
+-- The definitions that the contracts of this crate cite; a reader of its promises needs no other, but for those of `vcd_core`.
 pub mod Words
 pub mod Letters
 pub mod FaultNames
@@ -8,6 +9,6 @@ pub mod Faults
 pub mod Meaning
 pub mod Text
 pub mod Laws
-pub mod WordsLeft
+pub mod LentWords
 pub mod Refusals
 pub mod inside

@@ -29,12 +29,12 @@ abbrev pub meaning : Context → Contents
 meaning c = record { header = c.header; timescale = c.timescale; end = c.tick; signals = map (declared_signal c.records c.tick) (kept_variables c.declared) }
 
 -- how many variables are skipped
-abbrev pub skipped_variables : Context → ℕ
-skipped_variables c = count_by is_skipped c.declared
+abbrev pub skipped_count : Context → ℕ
+skipped_count c = count_by is_skipped c.declared
 
 -- the file is accepted, and means these contents, with so many variables skipped
 pub record FileMeans (bytes : List ℕ) (contents : Contents) (skipped : ℕ) : Type 0 where
   pub told : Context
   pub accepted : Accepts (words_of bytes) told
   pub means : contents ≡ meaning told
-  pub left_out : skipped ≡ skipped_variables told
+  pub left_out : skipped ≡ skipped_count told

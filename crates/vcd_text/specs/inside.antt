@@ -8,3 +8,4 @@ pub mod Reading
 pub mod SpacedWords
 pub mod Transitions
 pub mod ValueDigits
+pub mod WordWalk

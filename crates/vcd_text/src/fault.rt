@@ -2,10 +2,13 @@
 
 ghost use Rattle.std.specs.Prelude.{◌≡◌};
 ghost use Rattle.vcd_text.specs.FaultNames.{fault_name, write_error_name};
+ghost use Rattle.vcd_text.specs.Refusals.{memory_error};
 ghost use Rattle.vcd_text.specs.declared.fault.Fault.TheVariants.{NoMemory};
 ghost use Rattle.vcd_text.specs.declared.fault.WriteError.TheVariants as write_errors;
 
 use std::alloc::{AllocError, AllocFailed};
+use std::fmt;
+use std::fmt::Display;
 use thiserror::Error;
 
 /// What is wrong with a capture file, or kept it from being read.
@@ -13,7 +16,6 @@ use thiserror::Error;
 /// The names are the project's own. The rules of the format (IEEE 1364-2005, 18.2, in the project's
 /// profile) say which one a file has, and at which line.
 #[derive(Clone, Copy, Debug, PartialEq, Eq, Error)]
-#[error("{}", self.name())]
 pub enum Fault {
     /// The words end before `$enddefinitions $end`, inside an item, or where a code is due.
     Truncated,
@@ -27,7 +29,8 @@ pub enum Fault {
     UpscopeAtTop,
     /// A `$var` without kind, size, code or name, or with a size that is no decimal number.
     BadVar,
-    /// A code declared twice, once kept and once skipped, or with two sizes.
+    /// A code of two kept variables of two sizes, or of one that is kept and one that is skipped. Variables
+    /// that are skipped may share a code whatever their kinds and sizes.
     MixedCode,
     /// A time stamp that is no decimal number, or above the greatest tick, 2^63 - 1.
     BadTime,
@@ -75,6 +78,13 @@ impl Fault {
     }
 }
 
+// By hand: the derived message of a type of many variants takes long to prove.
+impl Display for Fault {
+    fn fmt<W: fmt::Write>(&self, f: &mut fmt::Formatter<W>) -> fmt::Result {
+        f.write_str(self.name())
+    }
+}
+
 impl From<vcd_core::NoMemory> for Fault {
     ghost from_gives = { λ _ e. e ≡ NoMemory };
 
@@ -99,16 +109,32 @@ impl<T: Drop> From<AllocFailed<T>> for Fault {
     }
 }
 
-/// Why a capture file could not be read, and the line at which that was decided, counted from 1.
-/// Where memory ran out the line is 0.
+/// Why a capture file could not be read, and the line of that, counted from 1.
+///
+/// A fault of the file has the line of the word that shows it, or among the changes that of the first word of its
+/// change. `Truncated`, `TooLarge` and `ReadFault` have the line on which the bytes end that were taken. Want of
+/// memory has none: its line is 0.
 #[derive(Clone, Copy, Debug, PartialEq, Eq, Error)]
-#[error("{}", self.name())]
 pub struct ReadError {
     pub line: u64,
     pub fault: Fault,
 }
 
 impl ReadError {
+    /// A fault, decided at this line.
+    pub fn at(line: u64, fault: Fault) -> ReadError
+        ensures { result ≡ record { line = line; fault = fault } }
+    {
+        ReadError { line, fault }
+    }
+
+    /// Want of memory, which is decided at no line.
+    pub fn no_memory() -> ReadError
+        ensures { result ≡ memory_error }
+    {
+        ReadError::at(0, Fault::NoMemory)
+    }
+
     /// The name of the fault. It takes no memory.
     pub fn name(&self) -> &'static str
         ensures { result.now ≡ fault_name self.now.fault }
@@ -117,9 +143,14 @@ impl ReadError {
     }
 }
 
+impl Display for ReadError {
+    fn fmt<W: fmt::Write>(&self, f: &mut fmt::Formatter<W>) -> fmt::Result {
+        f.write_str(self.name())
+    }
+}
+
 /// Why a capture could not be written.
 #[derive(Clone, Copy, Debug, PartialEq, Eq, Error)]
-#[error("{}", self.name())]
 pub enum WriteError {
     /// Memory ran out; no byte was written.
     NoMemory,
@@ -136,6 +167,12 @@ impl WriteError {
             WriteError::NoMemory => "NoMemory",
             WriteError::WriteFault { .. } => "WriteFault",
         }
+    }
+}
+
+impl Display for WriteError {
+    fn fmt<W: fmt::Write>(&self, f: &mut fmt::Formatter<W>) -> fmt::Result {
+        f.write_str(self.name())
     }
 }
 

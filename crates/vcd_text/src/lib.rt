@@ -1,18 +1,23 @@
-//! The text of four-state value change dump files (IEEE 1364-2005, 18.2): words, grammar, what a file means,
-//! and the form in which a capture is written.
+//! The text of four-state value change dump files (IEEE 1364-2005, 18.2).
+//!
+//! `read` answers the capture that a file means, or the file's one fault with its line. `write` writes the text of
+//! a capture, which reads back as the same capture. `Words` are the words of a text, each with its line.
+//!
+//! What a file is stands in `specs/`: `Words`, `Letters`, `Items`, `Grammar`, `Meaning`, `Faults` and `Text`.
 #![tactic(auto)]
 
-pub mod fault;
-pub mod laws;
+mod fault;
+mod laws;
 #[cfg(test)]
 mod narrow_sink;
 #[cfg(test)]
 mod output;
-pub mod reading;
-pub mod words;
-pub mod writing;
+mod reading;
+mod words;
+mod writing;
 
 pub use fault::{Fault, ReadError, WriteError};
-pub use reading::{Loaded, read};
+pub use laws::{has_one_answer, text_is_read_back};
+pub use reading::{FILE_LIMIT, Loaded, read};
 pub use words::{PlacedWord, Words};
-pub use writing::write;
+pub use writing::{text_of, write};

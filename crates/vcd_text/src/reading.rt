@@ -1,13 +1,13 @@
 //! Reads a capture file (IEEE 1364-2005, 18.2, in the project's profile).
 //!
-//! The whole file stands in memory. Its words go one after another through a reader, whose every step keeps
-//! to the grammar: the words so far spell items, and what these tell is what the machine holds.
+//! The whole file stands in memory. Its words go one after another through a `Reader`, whose every step keeps
+//! to the grammar: the words so far spell items, and what these tell is what the reader holds.
 
-ghost use Rattle.std.specs.Prelude.{◌≡◌, ◌⊎◌, ◌<◌, ◌≤◌, ◌^◌, [], false, length, IfOk, IfErr, IfSome, OnOk};
+ghost use Rattle.std.specs.Prelude.{◌≡◌, ◌⊎◌, ◌<◌, ◌≤◌, ◌^◌, [], true, false, length, IfOk, IfErr, IfSome, OnOk};
+ghost use Rattle.std.specs.Io.KnownBytes.{IsAtEnd};
 ghost use Rattle.vcd_core.specs.Contents.{contents};
 ghost use Rattle.vcd_core.specs.Sound.{IsSound};
 ghost use Rattle.vcd_text.specs.Words.{end_line};
-ghost use Rattle.vcd_text.specs.WordsLeft.{words_left};
 ghost use Rattle.vcd_text.specs.Meaning.{FileMeans};
 ghost use Rattle.vcd_text.specs.Faults.{FileFault};
 ghost use Rattle.vcd_text.specs.Refusals.{memory_error, IsFrontAnswer, IsRefusal};
@@ -43,35 +43,43 @@ pub struct Loaded {
 
 /// Reads a capture file to its end: the capture that it means, or its first fault with the line.
 ///
-/// Where the reader fails, or has more than 4 GiB, the words that are sure to be words of the file, since white
-/// space follows them, are looked at first: a fault in them is answered.
+/// Where the source fails, or has more than 4 GiB, the words that are sure to be words of the file, since white
+/// space follows them, are looked at first: a fault in them is answered. `ReadFault` is answered only where the
+/// source has failed.
 ///
-/// The time is that of the bytes, with one look-up and one push for each change. The whole file is held meanwhile.
+/// One step for each byte; for each change besides it one look-up of its code and one push; for each variable one
+/// look-up or two, and a copy of its code, its name and the scopes that are open; for each later variable of a
+/// code a copy of the changes. Memory: the bytes of the whole file, and the capture as it grows, of which each
+/// change takes a tick and a value of `WIDTH_LIMIT` bits; beside each signal its own copy of the code, and each
+/// code once more in the table.
 pub fn read<R: Source>(alloc: Global, reader: &mut R) -> Result<Loaded, ReadError>
     requires ready { R.has_failed reader.old ≡ false }
     ensures means { IfOk result (λ loaded. IfSome (R.coming reader.old) (λ file.
         (length file ≤ FILE_LIMIT) × FileMeans file (contents loaded.capture) loaded.skipped)) }
     ensures sound { IfOk result (λ loaded. IsSound (contents loaded.capture)) }
-    ensures ended { OnOk result (R.has_failed reader.new ≡ false) }
+    ensures not_failed { OnOk result (R.has_failed reader.new ≡ false) }
+    ensures ended { OnOk result (IsAtEnd (R.coming reader.new)) }
     ensures refused { IfErr result (λ e. IfSome (R.coming reader.old) (λ file.
         IsRefusal file (R.has_failed reader.new) (R.coming reader.new) e)) }
+    ensures failed { IfErr result (λ e. e.fault ≡ Fault.ReadFault →
+        R.has_failed reader.new ≡ true) }
+    ensures too_large { IfErr result (λ e. e.fault ≡ Fault.TooLarge →
+        R.has_failed reader.new ≡ false) }
 {
     let mut bytes = Vec::new(alloc);
     match read_whole(reader, FILE_LIMIT, &mut bytes) {
         Ok(()) => read_file(alloc, bytes.as_slice()),
         Err(Incomplete::TooLarge) => Err(read_front(alloc, bytes.as_slice(), Fault::TooLarge)),
         Err(Incomplete::ReadFault) => Err(read_front(alloc, bytes.as_slice(), Fault::ReadFault)),
-        Err(Incomplete::NoMemory) => Err(ReadError {
-            line: 0,
-            fault: Fault::NoMemory,
-        }),
+        Err(Incomplete::NoMemory) => Err(ReadError::no_memory()),
     }
 }
 
 /// Reads a file of which all bytes are there.
 fn read_file(alloc: Global, bytes: &[u8]) -> Result<Loaded, ReadError>
     requires within { length bytes.now ≤ FILE_LIMIT }
-    ensures means { IfOk result (λ loaded. FileMeans bytes.now (contents loaded.capture) loaded.skipped) }
+    ensures means { IfOk result (λ loaded.
+        FileMeans bytes.now (contents loaded.capture) loaded.skipped) }
     ensures sound { IfOk result (λ loaded. IsSound (contents loaded.capture)) }
     ensures fault { IfErr result (λ e. (e ≡ memory_error) ⊎ FileFault bytes.now e.line e.fault) }
 {
@@ -82,10 +90,7 @@ fn read_file(alloc: Global, bytes: &[u8]) -> Result<Loaded, ReadError>
     }
     match reader.finish(alloc) {
         Ok(loaded) => Ok(loaded),
-        Err(_) => Err(ReadError {
-            line: 0,
-            fault: Fault::NoMemory,
-        }),
+        Err(_) => Err(ReadError::no_memory()),
     }
 }
 
@@ -104,8 +109,8 @@ fn read_front(alloc: Global, front: &[u8], reason: Fault) -> ReadError
 /// Takes words one after another, up to the first that shows a fault.
 fn read_words(reader: &mut Reader, alloc: Global, all: Words) -> Result<(), ReadError>
     requires first { Reads reader.old [] }
-    requires few { length (words_left all) < 2 ^ 63 }
-    ensures { ReadsAll (words_left all.entry) result reader.new }
+    requires few { length all < 2 ^ 63 }
+    ensures { ReadsAll all.entry result reader.new }
 {
     let mut words = all;
     while let Some(word) = words.next_word() {
@@ -120,8 +125,5 @@ fn error_at_end(bytes: &[u8], fault: Fault) -> ReadError
     ensures fault { result.fault ≡ fault }
 {
     let feeds = bytes.iter().filter(|byte| **byte == b'\n').count();
-    ReadError {
-        line: 1 + feeds as u64,
-        fault,
-    }
+    ReadError::at(1 + feeds as u64, fault)
 }

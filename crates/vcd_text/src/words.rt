@@ -3,9 +3,11 @@
 ghost use Rattle.std.specs.Prelude.{◌≡◌, ◌+◌, ◌<◌, ◌≤◌, ◌^◌, ◌∷◌, [], Bool, true, false, not, length, take, drop, MatchOption, IfSome, IfNone};
 ghost use Rattle.std.specs.List.{list_all};
 ghost use Rattle.vcd_core.specs.Word.{is_white_space as white};
-ghost use Rattle.vcd_text.specs.Words.{ends_before as ends_word, word_on, words_from, words_of, closed_words};
+ghost use Rattle.vcd_text.specs.Words.{ends_before as ends_word, words_from, words_of, closed_words};
+ghost use Rattle.vcd_text.specs.LentWords.{word_at};
 ghost use Rattle.vcd_text.specs.inside.Spaces.{begins_with_space};
 
+use std::marker::Model;
 use vcd_core::is_white_space;
 
 /// A word and the line that it stands on, counted from 1.
@@ -15,7 +17,8 @@ pub struct PlacedWord<'a> {
     pub line: u64,
 }
 
-/// The words of a text that are still to come. Each takes a step a byte, and no memory.
+/// The words of a text that are still to come, as contracts see it: their list. Each takes a step a byte, and
+/// no memory.
 #[derive(Drop)]
 pub struct Words<'a> {
     rest: &'a [u8],
@@ -23,17 +26,27 @@ pub struct Words<'a> {
     passed: u64,
     // whether the end of the text ends a word
     whole: bool,
-    ghost room: { passed + length rest.now < 2 ^ 64 },
+}
+
+impl<'a> Model for Words<'a> {
+    ghost use Rattle.std.specs.Prelude.{List};
+    ghost use Rattle.vcd_text.specs.Words.{PlacedWord};
+
+    ghost Value = { List PlacedWord };
+
+    ghost use Rattle.vcd_text.specs.inside.WordWalk.{words_left, HasRoom};
+
+    ghost view = { words_left };
+
+    ghost invariant = { HasRoom };
 }
 
 impl<'a> Words<'a> {
-    ghost use Rattle.vcd_text.specs.WordsLeft.{words_left};
-
     /// All words of a text.
     #[tactic(auto, using(crate::proofs::WordLaws::words_are_few))]
     pub fn new(text: &'a [u8]) -> Words<'a>
-        ensures words { words_left result ≡ words_of text.now }
-        ensures few { length (words_left result) < 2 ^ 63 }
+        ensures words { result ≡ words_of text.now }
+        ensures few { length result < 2 ^ 63 }
     {
         Words {
             rest: text,
@@ -45,8 +58,8 @@ impl<'a> Words<'a> {
     /// The words of a text that white space follows: of a text that may go on, those that are sure.
     #[tactic(auto, using(crate::proofs::WordLaws::words_are_few))]
     pub fn closed(text: &'a [u8]) -> Words<'a>
-        ensures words { words_left result ≡ closed_words text.now }
-        ensures few { length (words_left result) < 2 ^ 63 }
+        ensures words { result ≡ closed_words text.now }
+        ensures few { length result < 2 ^ 63 }
     {
         Words {
             rest: text,
@@ -57,9 +70,10 @@ impl<'a> Words<'a> {
 
     /// The next word, if there is one.
     pub fn next_word(&mut self) -> Option<PlacedWord<'a>>
-        ensures words { MatchOption result (words_left self.old ≡ []) (λ w. words_left self.old ≡ word_on w.text.now w.line ∷ words_left self.new) }
-        ensures some { IfSome result (λ w. 0 < length w.text.now) }
-        ensures over { IfNone result (words_left self.new ≡ []) }
+        ensures words { MatchOption result (self.old ≡ []) (λ word.
+            self.old ≡ word_at word ∷ self.new) }
+        ensures some { IfSome result (λ word. 0 < length word.text.now) }
+        ensures over { IfNone result (self.new ≡ []) }
     {
         let (rest, passed) = behind_space(self.rest, self.passed);
         let (text, behind) = rest.split_at(word_len(rest));
@@ -80,13 +94,12 @@ impl<'a> Words<'a> {
 
 impl<'a> Iterator for Words<'a> {
     ghost use Rattle.std.specs.Iterator.{YieldsFirstBy, item_count};
-    ghost use Rattle.vcd_text.specs.WordsLeft.{word_at, words_left};
 
     type Item = PlacedWord<'a>;
 
-    ghost next_gives = { YieldsFirstBy word_at words_left };
+    ghost next_gives = { YieldsFirstBy word_at (λ left. left) };
 
-    ghost remaining = { item_count words_left };
+    ghost remaining = { item_count (λ left. left) };
 
     fn next(&mut self) -> Option<PlacedWord<'a>> {
         self.next_word()
@@ -96,7 +109,8 @@ impl<'a> Iterator for Words<'a> {
 /// What follows the white space at the front of a text, and how many line feeds come before it.
 fn behind_space(text: &[u8], passed: u64) -> (&[u8], u64)
     requires { passed + length text.now < 2 ^ 64 }
-    ensures words { (whole : Bool) → words_from whole (result.1 + 1) result.0.now ≡ words_from whole (passed + 1) text.now }
+    ensures words { (whole : Bool) →
+        words_from whole (result.1 + 1) result.0.now ≡ words_from whole (passed + 1) text.now }
     ensures room { result.1 + length result.0.now ≤ passed + length text.now }
     ensures black { begins_with_space result.0.now ≡ false }
 {

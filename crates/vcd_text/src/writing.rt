@@ -10,7 +10,7 @@ ghost use Rattle.vcd_text.specs.WriteEnds.{TookBefore};
 mod codes;
 mod declarations;
 mod lines;
-pub mod transitions;
+mod transitions;
 mod values;
 
 use crate::fault::WriteError;
@@ -25,14 +25,15 @@ use vcd_core::{Capture, NoMemory, Sink, write_and_flush};
 /// At `NoMemory` the writer took nothing and has not failed. At `WriteFault` it has failed and took exactly the
 /// first `written` bytes of the text, all of them where it failed in the flush.
 ///
-/// It takes the time of a sort of the changes, and memory for the text and, while that is made, 32 bytes for
-/// each change.
+/// Time and memory are those of `text_of`, whose text is held whole until its last byte is out.
 pub fn write<W: Sink>(alloc: Global, capture: &Capture, writer: &mut W) -> Result<(), WriteError>
     requires sound { IsSound (contents capture.now) }
     requires ready { W.has_failed writer.old ≡ false }
-    ensures written { OnOk result (Appends (W.taken writer.old) (W.taken writer.new) (text (contents capture.now))) }
+    ensures written { OnOk result (Appends (W.taken writer.old) (W.taken writer.new)
+        (text (contents capture.now))) }
     ensures sound { OnOk result (W.has_failed writer.new ≡ false) }
-    ensures fault { IfErr result (TookBefore (text (contents capture.now)) (W.taken writer.old) (W.taken writer.new) (W.has_failed writer.new)) }
+    ensures fault { IfErr result (TookBefore (text (contents capture.now)) (W.taken writer.old)
+        (W.taken writer.new) (W.has_failed writer.new)) }
 {
     let text = text_of(alloc, capture)?;
     match write_and_flush(writer, text.as_slice()) {
@@ -46,9 +47,9 @@ pub fn write<W: Sink>(alloc: Global, capture: &Capture, writer: &mut W) -> Resul
 /// The text of a capture, byte for byte: header, timescale, declarations, the values at tick 0, and what
 /// changes at each later tick.
 ///
-/// It takes the time of a sort of the changes, and never looks at ticks without one. It holds 32 bytes for each
-/// change while it sorts; then, besides the text, 16 for each change and 8 for each signal. The only error is
-/// that memory ran out.
+/// It takes the time of a sort of the changes, and never looks at ticks without one. For each change it holds 16
+/// bytes, and as many again while it sorts; for each signal 8; and the text, which may stand twice in memory
+/// while it grows. The only error is that memory ran out.
 pub fn text_of(alloc: Global, capture: &Capture) -> Result<Vec<u8>, NoMemory>
     requires { IsSound (contents capture.now) }
     ensures { IfOk result (λ bytes. bytes.items ≡ text (contents capture.now)) }

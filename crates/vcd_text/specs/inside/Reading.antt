@@ -20,7 +20,7 @@ use Rattle.vcd_text.specs.declared.reading.reader.OpenItem.TheVariants as items
 
 -- ---- the state
 
--- the machine holds what has been told
+-- the reader holds what has been told
 pub record Agrees (m : Reader) (c : Context) : Type 0 where
   pub header : m.header.items ≡ c.header
   pub timescale : m.timescale ≡ c.timescale
@@ -30,7 +30,7 @@ pub record Agrees (m : Reader) (c : Context) : Type 0 where
   pub variables : Knows m.variables c
   pub silent : IsFalse c.changing → c.records ≡ []
 
--- a declaration is open whose words behind the keyword the machine keeps
+-- a declaration is open whose words behind the keyword the reader keeps
 pub record Collects (m : Reader) (begun : List PlacedWord) (keyword : List ℕ) : Type 0 where
   pub declares : IsFalse m.changing
   pub spelled : word_texts begun ≡ keyword ∷ m.words.items

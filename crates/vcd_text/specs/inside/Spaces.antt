@@ -1,3 +1,4 @@
+-- Where the walk over a text stands: at white space, or at a word.
 use Rattle.std.specs.Prelude.{ℕ, Bool, false, List, [], ◌∷◌}
 use Rattle.vcd_core.specs.Word.{is_white_space}
 

@@ -1,3 +1,4 @@
+-- The timescale of a text, found by its count and then by its unit.
 use Rattle.std.specs.Prelude.{ℕ, ◌++◌, List, [], ◌∷◌, Option, find, bytes_eq, decimal}
 use Rattle.std.specs.Option.{option_map}
 use Rattle.vcd_core.specs.declared.capture.Timescale.{Timescale}

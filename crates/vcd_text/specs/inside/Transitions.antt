@@ -26,9 +26,9 @@ abbrev pub later_transitions : ℕ → List Change → List Transition
 later_transitions position changes = map (λ c. transition_of c.tick position) (filter (λ c. nat_lt 0 c.tick) changes)
 
 -- the changes past tick 0 of signals, the first at this position, signal by signal
-unfoldable pub listed_from : ℕ → List SignalContents → List Transition
-listed_from position [] = []
-listed_from position (s ∷ ss) = later_transitions position s.changes ++ listed_from (position + 1) ss
+unfoldable pub transitions_by_signal : ℕ → List SignalContents → List Transition
+transitions_by_signal position [] = []
+transitions_by_signal position (s ∷ ss) = later_transitions position s.changes ++ transitions_by_signal (position + 1) ss
 
 -- the value that a signal changes to
 abbrev pub transition_value : List SignalContents → Transition → List Bit
@@ -40,7 +40,7 @@ valued_items last [] vs = []
 valued_items last (m ∷ ms) [] = []
 valued_items last (m ∷ ms) (v ∷ vs) = (if m.tick == last then [] else stamp_of m.tick ∷ []) ++ value_item (code_of m.position) v ∷ valued_items m.tick ms vs
 
--- the tick of the last move
-unfoldable pub tick_after : ℕ → List Transition → ℕ
-tick_after last [] = last
-tick_after last (m ∷ ms) = tick_after m.tick ms
+-- the tick of the last of them, or the one before them
+unfoldable pub last_tick : ℕ → List Transition → ℕ
+last_tick last [] = last
+last_tick last (m ∷ ms) = last_tick m.tick ms

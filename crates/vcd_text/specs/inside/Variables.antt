@@ -65,8 +65,8 @@ pub record Knows (vs : Variables) (c : Context) : Type 0 where
 -- ---- what comes of a declaration
 
 -- what has been told, with this declaration behind the others
-abbrev pub with_declared : Context → Declaration → Context
-with_declared c d = record c { declared = c.declared ++ d ∷ [] }
+abbrev pub with_declaration : Context → Declaration → Context
+with_declaration c d = record c { declared = c.declared ++ d ∷ [] }
 
 -- the declaration may not stand here
 pub data CannotDeclare (c : Context) (d : Declaration) (fault : Fault) : Type 0 where
@@ -74,7 +74,7 @@ pub data CannotDeclare (c : Context) (d : Declaration) (fault : Fault) : Type 0 
   many : IsTrue (may_have_code (variable_of c d.code) d) → IsFalse (has_room c.declared d) → fault ≡ faults.TooManySignals → CannotDeclare c d fault
 
 abbrev pub DeclaresAs : Context → Declaration → Result (Unit {0}) Fault → Variables → Type 0
-DeclaresAs c d (Ok x) new = IsTrue (may_have_code (variable_of c d.code) d) × IsTrue (has_room c.declared d) × Knows new (with_declared c d)
+DeclaresAs c d (Ok x) new = IsTrue (may_have_code (variable_of c d.code) d) × IsTrue (has_room c.declared d) × Knows new (with_declaration c d)
 DeclaresAs c d (Err fault) new = (fault ≡ faults.NoMemory) ⊎ CannotDeclare c d fault
 
 -- ---- what comes of a `$var`, at its `$end`

@@ -39,7 +39,8 @@ impl Reader {
     fn stamp(&mut self, digits: &[u8]) -> Result<(), Fault>
         requires between { self.old.item ≡ items.Nothing }
         requires changing { self.old.changing ≡ true }
-        ensures { (line : ℕ) → TakesOrRefuses self.old (word_on (35 ∷ digits.now) line) result self.new }
+        ensures { (line : ℕ) →
+            TakesOrRefuses self.old (word_on (35 ∷ digits.now) line) result self.new }
     {
         let Some(tick) = tick_of(digits) else {
             return Err(Fault::BadTime);
@@ -96,7 +97,8 @@ impl Reader {
         requires changing { self.old.changing ≡ true }
         requires reading { IsUnderway self.old }
         requires letter { letter_test letter ≡ true }
-        ensures { (line : ℕ) → TakesOrRefuses self.old (word_on (letter ∷ code.now) line) result self.new }
+        ensures { (line : ℕ) →
+            TakesOrRefuses self.old (word_on (letter ∷ code.now) line) result self.new }
     {
         if code.is_empty() {
             return Err(Fault::BadChange);
@@ -109,7 +111,8 @@ impl Reader {
     fn begin_vector(&mut self, digits: &[u8], line: u64) -> Result<(), Fault>
         requires between { self.old.item ≡ items.Nothing }
         requires changing { self.old.changing ≡ true }
-        ensures { (first : ℕ) → is_among vector_letters first ≡ true → TakesOrRefuses self.old (word_on (first ∷ digits.now) line) result self.new }
+        ensures { (first : ℕ) → is_among vector_letters first ≡ true →
+            TakesOrRefuses self.old (word_on (first ∷ digits.now) line) result self.new }
     {
         self.text.clear();
         self.text.extend_from_slice(digits)?;
@@ -122,7 +125,8 @@ impl Reader {
     fn begin_dropped(&mut self, line: u64)
         requires between { self.old.item ≡ items.Nothing }
         requires changing { self.old.changing ≡ true }
-        ensures { (first : ℕ) (text : List ℕ) → is_among dropped_letters first ≡ true → TakesOrRefuses self.old (word_on (first ∷ text) line) (Ok result) self.new }
+        ensures { (first : ℕ) (text : List ℕ) → is_among dropped_letters first ≡ true →
+            TakesOrRefuses self.old (word_on (first ∷ text) line) (Ok result) self.new }
     {
         self.item = OpenItem::Dropped;
         self.line = line;

@@ -2,7 +2,8 @@
 
 ghost use Rattle.std.specs.Prelude.{◌≡◌, ◌∷◌, ◌++◌, ℕ, [], true, false, IsFalse, MatchOption, OnOk};
 ghost use Rattle.vcd_text.specs.Words.{word_on};
-ghost use Rattle.vcd_text.specs.Items.{end_word, is_end, is_one_of, declaring_words, header_words, begins_declaration};
+ghost use Rattle.vcd_core.specs.Word.{is_one_of};
+ghost use Rattle.vcd_text.specs.Items.{end_word, is_end, declaring_words, header_words, begins_declaration};
 ghost use Rattle.vcd_text.specs.inside.Reading.{IsUnderway, TakesOrRefuses};
 ghost use Rattle.vcd_text.specs.inside.OpenItems.{is_inside};
 ghost use Rattle.vcd_text.specs.inside.Opening.{Opens, keeps_words};
@@ -175,7 +176,8 @@ impl Reader {
 
 /// The item that a word opens among the declarations; none where it begins no declaration.
 fn opened_item(text: &[u8]) -> Option<OpenItem>
-    ensures { MatchOption result (IsFalse (begins_declaration text.now)) (λ item. Opens item text.now) }
+    ensures { MatchOption result (IsFalse (begins_declaration text.now)) (λ item.
+        Opens item text.now) }
 {
     if let Some(item) = keyword_item(text) {
         return Some(item);
@@ -188,7 +190,8 @@ fn opened_item(text: &[u8]) -> Option<OpenItem>
 
 /// The item of a keyword that is not passed over.
 fn keyword_item(text: &[u8]) -> Option<OpenItem>
-    ensures { MatchOption result (IsFalse (is_one_of (declaring_words ++ header_words) text.now)) (λ item. Opens item text.now) }
+    ensures { MatchOption result (IsFalse (is_one_of (declaring_words ++ header_words) text.now))
+        (λ item. Opens item text.now) }
 {
     if text == b"$scope".as_slice() {
         Some(OpenItem::Scope)

@@ -1,7 +1,8 @@
 //! The words with which items begin, by what they may begin.
 
 ghost use Rattle.std.specs.Prelude.{◌≡◌};
-ghost use Rattle.vcd_text.specs.Items.{is_command, is_one_of, declaring_words, dump_words};
+ghost use Rattle.vcd_core.specs.Word.{is_one_of};
+ghost use Rattle.vcd_text.specs.Items.{is_command, declaring_words, dump_words};
 
 /// Whether a word is a bracket of a dump.
 pub fn is_dump_word(text: &[u8]) -> bool

@@ -35,7 +35,8 @@ pub fn bit_of(letter: u8) -> Option<Bit>
 pub fn read_value(width: u64, digits: &[u8]) -> Result<Value, DigitsError>
     requires least { 1 ≤ width }
     requires most { width ≤ WIDTH_LIMIT }
-    ensures { MatchResult result (λ value. WritesValue width digits.now value) (λ error. WritesNoValue width digits.now error) }
+    ensures { MatchResult result (λ value. WritesValue width digits.now value)
+        (λ error. WritesNoValue width digits.now error) }
 {
     if digits.is_empty() {
         return Err(DigitsError::NoValue);
@@ -47,7 +48,7 @@ pub fn read_value(width: u64, digits: &[u8]) -> Result<Value, DigitsError>
             DigitsError::NoValue
         });
     }
-    extended(width, digits).ok_or(DigitsError::NoValue)
+    extended_value(width, digits).ok_or(DigitsError::NoValue)
 }
 
 /// Whether all bytes are value letters.
@@ -65,11 +66,13 @@ pub fn is_letter(byte: u8) -> bool
 }
 
 /// The digits as letters, with those that are wanting on the left; none where one is no value letter.
-fn extended(width: u64, digits: &[u8]) -> Option<Value>
+fn extended_value(width: u64, digits: &[u8]) -> Option<Value>
     requires least { 1 ≤ width }
     requires most { width ≤ WIDTH_LIMIT }
     requires fits { length digits.now ≤ width }
-    ensures { MatchOption result (list_all letter_test digits.now ≡ false) (λ value. (list_all letter_test digits.now ≡ true) × (value ≡ extension width (letters_read digits.now))) }
+    ensures { MatchOption result (list_all letter_test digits.now ≡ false) (λ value.
+        (list_all letter_test digits.now ≡ true) ×
+        (value ≡ extension width (letters_read digits.now))) }
 {
     let mut value = Value::filled(width, pad_of(digits));
     let mut left = digits.len() as u64;

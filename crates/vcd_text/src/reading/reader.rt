@@ -1,4 +1,4 @@
-//! The reader as a machine that takes one word after another.
+//! The reader, which takes one word after another.
 
 ghost use Rattle.std.specs.Prelude.{◌≡◌, ◌<◌, [], true, length, IfOk};
 ghost use Rattle.vcd_core.specs.Contents.{contents};
@@ -141,7 +141,7 @@ fn error_at(line: u64, fault: Fault) -> ReadError
     ensures { result ≡ error_at line fault }
 {
     match fault {
-        Fault::NoMemory => ReadError { line: 0, fault },
-        _ => ReadError { line, fault },
+        Fault::NoMemory => ReadError::no_memory(),
+        _ => ReadError::at(line, fault),
     }
 }

@@ -12,12 +12,12 @@ use vcd_core::{NoMemory, TimeUnit, Timescale, Word};
 pub fn timescale_in(alloc: Global, words: &[Word]) -> Result<Option<Timescale>, NoMemory>
     ensures { IfOk result (λ found. timescale_of words.now ≡ found) }
 {
-    let text = joined(alloc, words)?;
+    let text = joined_words(alloc, words)?;
     Ok(timescale_of_text(&text))
 }
 
 /// The words run together.
-fn joined(alloc: Global, words: &[Word]) -> Result<Vec<u8>, NoMemory>
+fn joined_words(alloc: Global, words: &[Word]) -> Result<Vec<u8>, NoMemory>
     ensures { IfOk result (λ text. text.items ≡ concat words.now) }
 {
     let mut text = Vec::new(alloc);

@@ -5,8 +5,8 @@ ghost use Rattle.std.specs.Option.{option_map_or};
 ghost use Rattle.vcd_core.specs.Contents.{signal_contents};
 ghost use Rattle.vcd_core.specs.Wave.{IsWave};
 ghost use Rattle.vcd_core.specs.declared.value.TheConstants.{WIDTH_LIMIT};
-ghost use Rattle.vcd_text.specs.Grammar.{Context, Declaration, variable_of, has_good_size, skipped_kinds, is_skipped};
-ghost use Rattle.vcd_text.specs.Items.{is_one_of};
+ghost use Rattle.vcd_core.specs.Word.{is_skipped_kind as skips_kind};
+ghost use Rattle.vcd_text.specs.Grammar.{Context, Declaration, variable_of, has_good_size, is_skipped};
 ghost use Rattle.vcd_text.specs.Meaning.{meaning};
 ghost use Rattle.vcd_text.specs.inside.Variables.{owner_of, declaration_by, Knows, Declares, DeclaresAs, TakesChange, Sets, RefusesDigits, Finishes};
 ghost use Rattle.vcd_text.specs.declared.fault.Fault.TheVariants.{NoMemory as NoMemoryFault, TooManySignals};
@@ -38,7 +38,8 @@ impl Variable {
     fn set(&mut self, tick: u64, digits: &[u8]) -> Result<(), Fault>
         requires late { All (λ change. change.tick ≤ tick) self.old.signal.wave.changes }
         ensures sets { OnOk result (Sets tick digits.now self.old self.new) }
-        ensures refuses { IfErr result (λ fault. (fault ≡ NoMemoryFault) ⊎ RefusesDigits self.old.signal.wave.width digits.now fault) }
+        ensures refuses { IfErr result (λ fault. (fault ≡ NoMemoryFault) ⊎
+            RefusesDigits self.old.signal.wave.width digits.now fault) }
     {
         let value = match read_value(self.signal.wave.width(), digits) {
             Ok(value) => value,
@@ -84,7 +85,9 @@ impl Variables {
 
     /// Declares a variable in these scopes, by the words of a `$var` behind the keyword.
     ///
-    /// It copies the words and the scopes, and looks the code up at most twice.
+    /// It looks the code up at most twice. A variable that is kept takes a copy of its words, of its code and of
+    /// the scopes, and the first of its code another copy of the code, in the table; one that is skipped at most
+    /// that of the table.
     pub fn declare(
         &mut self,
         alloc: Global,
@@ -93,7 +96,8 @@ impl Variables {
     ) -> Result<(), Fault>
         requires size { IsTrue (has_good_size words.now) }
         requires few { self.old.skipped + 1 < 2 ^ 64 }
-        ensures { (c : Context) → c.scopes ≡ scopes.now → c.records ≡ [] → Knows self.old c → Declares c words.now result self.new }
+        ensures { (c : Context) → c.scopes ≡ scopes.now → c.records ≡ [] → Knows self.old c →
+            Declares c words.now result self.new }
     {
         let [kind, size, code, name @ ..] = words else {
             return Err(Fault::BadVar);
@@ -114,7 +118,8 @@ impl Variables {
     /// Declares a variable that is skipped.
     fn skip(&mut self, alloc: Global, code: &[u8]) -> Result<(), Fault>
         requires few { self.old.skipped + 1 < 2 ^ 64 }
-        ensures { (c : Context) (d : Declaration) → Knows self.old c → d.code ≡ code.now → IsTrue (is_skipped d) → DeclaresAs c d result self.new }
+        ensures { (c : Context) (d : Declaration) → Knows self.old c → d.code ≡ code.now →
+            IsTrue (is_skipped d) → DeclaresAs c d result self.new }
     {
         match self.owner(code) {
             None => self.own(alloc, code, Owner::Skipped)?,
@@ -128,7 +133,8 @@ impl Variables {
     /// Declares a variable that is kept.
     fn keep(&mut self, alloc: Global, code: &[u8], signal: Signal) -> Result<(), Fault>
         requires silent { signal.wave.changes ≡ [] }
-        ensures { (c : Context) → let d = declaration_by code.now signal in Knows self.old c → c.records ≡ [] → IsFalse (is_skipped d) → DeclaresAs c d result self.new }
+        ensures { (c : Context) → let d = declaration_by code.now signal in
+            Knows self.old c → c.records ≡ [] → IsFalse (is_skipped d) → DeclaresAs c d result self.new }
     {
         match self.owner(code) {
             None => self.keep_first(alloc, code, signal),
@@ -145,10 +151,14 @@ impl Variables {
     /// Declares the first variable of its code, which is kept.
     fn keep_first(&mut self, alloc: Global, code: &[u8], signal: Signal) -> Result<(), Fault>
         ensures few { OnOk result (length self.old.kept.items < SIGNAL_LIMIT) }
-        ensures kept { OnOk result (self.new.kept.items ≡ self.old.kept.items ++ record { code = code.now; signal = signal; first = length self.old.kept.items } ∷ []) }
-        ensures owners { OnOk result ((key : List ℕ) → owner_of self.new key ≡ (if bytes_eq key code.now then Some (KeptAt (length self.old.kept.items)) else owner_of self.old key)) }
+        ensures kept { OnOk result (self.new.kept.items ≡ self.old.kept.items ++
+            record { code = code.now; signal = signal; first = length self.old.kept.items } ∷ []) }
+        ensures owners { OnOk result ((key : List ℕ) → owner_of self.new key ≡
+            (if bytes_eq key code.now then Some (KeptAt (length self.old.kept.items))
+            else owner_of self.old key)) }
         ensures skipped { self.new.skipped ≡ self.old.skipped }
-        ensures refuses { IfErr result (λ fault. (fault ≡ NoMemoryFault) ⊎ ((fault ≡ TooManySignals) × (SIGNAL_LIMIT ≤ length self.old.kept.items))) }
+        ensures refuses { IfErr result (λ fault. (fault ≡ NoMemoryFault) ⊎
+            ((fault ≡ TooManySignals) × (SIGNAL_LIMIT ≤ length self.old.kept.items))) }
     {
         let first = self.kept.len();
         self.push(alloc, code, signal, first)?;
@@ -165,10 +175,12 @@ impl Variables {
         first: usize,
     ) -> Result<(), Fault>
         ensures few { OnOk result (length self.old.kept.items < SIGNAL_LIMIT) }
-        ensures kept { OnOk result (self.new.kept.items ≡ self.old.kept.items ++ record { code = code.now; signal = signal; first = first } ∷ []) }
+        ensures kept { OnOk result (self.new.kept.items ≡ self.old.kept.items ++
+            record { code = code.now; signal = signal; first = first } ∷ []) }
         ensures owners { self.new.owners ≡ self.old.owners }
         ensures skipped { self.new.skipped ≡ self.old.skipped }
-        ensures refuses { IfErr result (λ fault. (fault ≡ NoMemoryFault) ⊎ ((fault ≡ TooManySignals) × (SIGNAL_LIMIT ≤ length self.old.kept.items))) }
+        ensures refuses { IfErr result (λ fault. (fault ≡ NoMemoryFault) ⊎
+            ((fault ≡ TooManySignals) × (SIGNAL_LIMIT ≤ length self.old.kept.items))) }
     {
         if self.kept.len() >= SIGNAL_LIMIT {
             return Err(Fault::TooManySignals);
@@ -184,7 +196,8 @@ impl Variables {
 
     /// Lets a code stand for this.
     fn own(&mut self, alloc: Global, code: &[u8], owner: Owner) -> Result<(), NoMemory>
-        ensures owners { OnOk result ((key : List ℕ) → owner_of self.new key ≡ (if bytes_eq key code.now then Some owner else owner_of self.old key)) }
+        ensures owners { OnOk result ((key : List ℕ) → owner_of self.new key ≡
+            (if bytes_eq key code.now then Some owner else owner_of self.old key)) }
         ensures kept { self.new.kept ≡ self.old.kept }
         ensures skipped { self.new.skipped ≡ self.old.skipped }
     {
@@ -202,7 +215,8 @@ impl Variables {
 
     /// Whether a variable stands at this position, of this width.
     fn has_width(&self, position: usize, width: u64) -> bool
-        ensures { result ≡ option_map_or (λ v. v.signal.wave.width == width) (slice_get self.now.kept.items position) false }
+        ensures { result ≡ option_map_or (λ v. v.signal.wave.width == width)
+            (slice_get self.now.kept.items position) false }
     {
         match self.kept.get(position) {
             Some(variable) => variable.signal.wave.width() == width,
@@ -214,7 +228,8 @@ impl Variables {
     /// that is skipped takes any digits.
     pub fn change(&mut self, code: &[u8], tick: u64, digits: &[u8]) -> Result<(), Fault>
         requires known { (c : Context) × Knows self.old c × (c.tick ≤ tick) }
-        ensures { (c : Context) → c.tick ≡ tick → Knows self.old c → TakesChange c code.now digits.now result self.new }
+        ensures { (c : Context) → c.tick ≡ tick → Knows self.old c →
+            TakesChange c code.now digits.now result self.new }
     {
         match self.owner(code) {
             None => Err(Fault::UnknownCode),
@@ -234,14 +249,13 @@ impl Variables {
     ///
     /// A signal is moved, but a wave that several variables share is copied for the later ones.
     pub fn into_signals(self, alloc: Global) -> Result<Vec<Signal>, NoMemory>
-        ensures { IfOk result (λ signals. (c : Context) → Knows self c → map signal_contents signals.items ≡ (meaning c).signals) }
+        ensures { IfOk result (λ signals. (c : Context) → Knows self c →
+            map signal_contents signals.items ≡ (meaning c).signals) }
     {
         let Variables { kept, .. } = self;
-        let mut signals = Vec::new(alloc);
-        signals.reserve(kept.len())?;
+        let mut signals = Vec::with_capacity(alloc, kept.len())?;
         for variable in kept {
-            let signal = finished(alloc, variable, signals.as_slice())?;
-            signals.push(signal)?;
+            push_signal(alloc, &mut signals, variable)?;
         }
         Ok(signals)
     }
@@ -249,7 +263,7 @@ impl Variables {
 
 /// Whether a variable of this kind and size is skipped.
 fn is_left_out(kind: &[u8], size: u64) -> bool
-    ensures { result ≡ (is_one_of skipped_kinds kind.now || (size == 0 || nat_lt WIDTH_LIMIT size)) }
+    ensures { result ≡ (skips_kind kind.now || (size == 0 || nat_lt WIDTH_LIMIT size)) }
 {
     is_skipped_kind(kind) || size == 0 || size > WIDTH_LIMIT
 }
@@ -278,33 +292,47 @@ fn silent_signal(
     })
 }
 
+/// Adds the signal of a variable behind those of the variables before it.
+fn push_signal(alloc: Global, signals: &mut Vec<Signal>, variable: Variable) -> Result<(), NoMemory>
+    ensures { OnOk result ((signal : Signal) × Finishes variable
+        (slice_get signals.old.items variable.first) signal ×
+        (signals.new.items ≡ signals.old.items ++ signal ∷ [])) }
+{
+    let signal = finished_signal(alloc, variable, signals.as_slice())?;
+    signals.push(signal)?;
+    Ok(())
+}
+
 /// The signal of a variable, behind those of the variables before it.
-fn finished(alloc: Global, variable: Variable, before: &[Signal]) -> Result<Signal, NoMemory>
+fn finished_signal(alloc: Global, variable: Variable, before: &[Signal]) -> Result<Signal, NoMemory>
     ensures { IfOk result (Finishes variable (slice_get before.now variable.first)) }
 {
     let Variable { signal, first, .. } = variable;
-    let Some(shared) = before.get(first) else {
-        return Ok(with_form(signal));
-    };
-    let Signal {
-        scopes,
-        kind,
-        words,
-        ..
-    } = signal;
-    Ok(Signal {
-        scopes,
-        kind,
-        words,
-        wave: copy_wave(alloc, &shared.wave)?,
-    })
+    match before.get(first) {
+        Some(shared) => with_wave_of(alloc, signal, shared),
+        None => Ok(with_form(signal)),
+    }
 }
 
-/// The signal itself, with what its type says of its wave.
+/// A signal with a copy of the wave of another in place of its own.
+fn with_wave_of(alloc: Global, signal: Signal, shared: &Signal) -> Result<Signal, NoMemory>
+    ensures scopes { IfOk result (λ copy. copy.scopes ≡ signal.scopes) }
+    ensures kind { IfOk result (λ copy. copy.kind ≡ signal.kind) }
+    ensures words { IfOk result (λ copy. copy.words ≡ signal.words) }
+    ensures width { IfOk result (λ copy. copy.wave.width ≡ shared.now.wave.width) }
+    ensures changes { IfOk result (λ copy. copy.wave.changes ≡ shared.now.wave.changes) }
+{
+    let mut copy = signal;
+    copy.wave = copy_wave(alloc, &shared.wave)?;
+    Ok(copy)
+}
+
+/// The signal itself, with what its type says of its wave: that wave is the one of its values.
 fn with_form(signal: Signal) -> Signal
     ensures same { result ≡ signal }
     ensures form { IsWave result.wave.width result.wave.changes }
 {
+    // Called for its clause alone, by which the wave is in the one form.
     signal.wave.changes();
     signal
 }
@@ -320,7 +348,8 @@ fn copy_wave(alloc: Global, wave: &Wave) -> Result<Wave, NoMemory>
     for change in changes {
         copy.push(change.tick, change.value)?;
     }
-    // What the type says of the copy: two waves of the same values are the same.
+    // Called for its clause alone, by which the copy is in the one form: two waves of the same values are
+    // the same.
     copy.changes();
     Ok(copy)
 }

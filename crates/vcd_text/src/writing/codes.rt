@@ -1,6 +1,7 @@
 //! The identifier codes of signals, by position.
 
-ghost use Rattle.std.specs.Prelude.{◌≡◌, ◌<◌, ◌^◌, ◌++◌, OnOk};
+ghost use Rattle.std.specs.Prelude.{◌≡◌, ◌<◌, ◌++◌, OnOk};
+ghost use Rattle.vcd_core.specs.declared.capture.TheConstants.{SIGNAL_LIMIT};
 ghost use Rattle.vcd_text.specs.Text.{code_of};
 
 use vcd_core::NoMemory;
@@ -13,7 +14,7 @@ const COUNT: usize = 94;
 /// Appends the code of the signal at `position`: the position counted from 1, in bijective base 94 with the
 /// lowest digit first. One step for each byte.
 pub fn append_code(out: &mut Vec<u8>, position: usize) -> Result<(), NoMemory>
-    requires { position < 2 ^ 32 }
+    requires { position < SIGNAL_LIMIT }
     ensures { OnOk result (out.new.items ≡ out.old.items ++ code_of position) }
 {
     let mut rest = position + 1;

@@ -1,10 +1,11 @@
 //! The declarations of a capture: header, timescale, scopes and variables (IEEE 1364-2005, 18.2).
 
-ghost use Rattle.std.specs.Prelude.{◌≡◌, ◌<◌, ◌≤◌, ◌^◌, ◌++◌, ◌∷◌, [], length, map, replicate, codes, OnOk};
+ghost use Rattle.std.specs.Prelude.{◌≡◌, ◌<◌, ◌≤◌, ◌++◌, ◌∷◌, [], length, map, replicate, codes, OnOk};
 ghost use Rattle.std.specs.List.{common_prefix_len, flat_map};
 ghost use Rattle.std.specs.Cmp.Lexicographic.{pointwise};
 ghost use Rattle.std.specs.Str.{bytes_eq};
 ghost use Rattle.vcd_core.specs.Contents.{signal_contents};
+ghost use Rattle.vcd_core.specs.declared.capture.TheConstants.{SIGNAL_LIMIT};
 ghost use Rattle.vcd_text.specs.Items.{entry, header_word, scope, unit_text, upscope};
 ghost use Rattle.vcd_text.specs.inside.SpacedWords.{spaced_words};
 ghost use Rattle.vcd_text.specs.Text.{code_of, header_items, item_line, same_scope, scope_items, signal_items, timescale_items, variable_item};
@@ -16,7 +17,8 @@ use vcd_core::{Header, HeaderKind, NoMemory, ScopeName, Signal, TimeUnit, Timesc
 
 /// Appends a line for each header entry.
 pub fn append_header(out: &mut Vec<u8>, header: &[Header]) -> Result<(), NoMemory>
-    ensures { OnOk result (out.new.items ≡ out.old.items ++ flat_map item_line (header_items header.now)) }
+    ensures { OnOk result (out.new.items ≡
+        out.old.items ++ flat_map item_line (header_items header.now)) }
 {
     for one in header {
         append_entry(out, one)?;
@@ -25,7 +27,8 @@ pub fn append_header(out: &mut Vec<u8>, header: &[Header]) -> Result<(), NoMemor
 }
 
 fn append_entry(out: &mut Vec<u8>, header: &Header) -> Result<(), NoMemory>
-    ensures { OnOk result (out.new.items ≡ out.old.items ++ item_line (entry header.now.kind header.now.words)) }
+    ensures { OnOk result (out.new.items ≡
+        out.old.items ++ item_line (entry header.now.kind header.now.words)) }
 {
     out.extend_from_slice(header_keyword(header.kind).as_bytes())?;
     append_words(out, header.words.as_slice())?;
@@ -45,7 +48,8 @@ fn header_keyword(kind: HeaderKind) -> &'static str
 
 /// Appends the line of the timescale, where there is one.
 pub fn append_timescale(out: &mut Vec<u8>, timescale: Option<Timescale>) -> Result<(), NoMemory>
-    ensures { OnOk result (out.new.items ≡ out.old.items ++ flat_map item_line (timescale_items timescale)) }
+    ensures { OnOk result (out.new.items ≡
+        out.old.items ++ flat_map item_line (timescale_items timescale)) }
 {
     if let Some(timescale) = timescale {
         out.extend_from_slice(b"$timescale")?;
@@ -71,8 +75,9 @@ fn unit_name(unit: TimeUnit) -> &'static str
 
 /// Appends the declarations of all signals, with the scopes that are opened and closed between them.
 pub fn append_signals(out: &mut Vec<u8>, signals: &[Signal]) -> Result<(), NoMemory>
-    requires { length signals.now < 2 ^ 32 }
-    ensures { OnOk result (out.new.items ≡ out.old.items ++ flat_map item_line (signal_items [] 0 (map signal_contents signals.now))) }
+    requires { length signals.now ≤ SIGNAL_LIMIT }
+    ensures { OnOk result (out.new.items ≡
+        out.old.items ++ flat_map item_line (signal_items [] 0 (map signal_contents signals.now))) }
 {
     let mut opened: &[ScopeName] = &[];
     for (position, signal) in signals.iter().enumerate() {
@@ -86,8 +91,9 @@ pub fn append_signals(out: &mut Vec<u8>, signals: &[Signal]) -> Result<(), NoMem
 }
 
 fn append_variable(out: &mut Vec<u8>, position: usize, signal: &Signal) -> Result<(), NoMemory>
-    requires { position < 2 ^ 32 }
-    ensures { OnOk result (out.new.items ≡ out.old.items ++ item_line (variable_item position (signal_contents signal.now))) }
+    requires { position < SIGNAL_LIMIT }
+    ensures { OnOk result (out.new.items ≡
+        out.old.items ++ item_line (variable_item position (signal_contents signal.now))) }
 {
     out.extend_from_slice(b"$var")?;
     append_word(out, signal.kind.as_slice())?;
@@ -99,7 +105,7 @@ fn append_variable(out: &mut Vec<u8>, position: usize, signal: &Signal) -> Resul
 }
 
 fn append_code_word(out: &mut Vec<u8>, position: usize) -> Result<(), NoMemory>
-    requires { position < 2 ^ 32 }
+    requires { position < SIGNAL_LIMIT }
     ensures { OnOk result (out.new.items ≡ out.old.items ++ spaced_words (code_of position ∷ [])) }
 {
     out.push(b' ')?;
@@ -113,7 +119,8 @@ fn append_scope_changes(
     opened: &[ScopeName],
     path: &[ScopeName],
 ) -> Result<(), NoMemory>
-    ensures { OnOk result (out.new.items ≡ out.old.items ++ flat_map item_line (scope_items opened.now path.now)) }
+    ensures { OnOk result (out.new.items ≡
+        out.old.items ++ flat_map item_line (scope_items opened.now path.now)) }
 {
     let shared = shared_len(opened, path);
     append_upscopes(out, opened.len() - shared)?;
@@ -122,7 +129,8 @@ fn append_scope_changes(
 }
 
 fn append_upscopes(out: &mut Vec<u8>, count: usize) -> Result<(), NoMemory>
-    ensures { OnOk result (out.new.items ≡ out.old.items ++ flat_map item_line (replicate count upscope)) }
+    ensures { OnOk result (out.new.items ≡
+        out.old.items ++ flat_map item_line (replicate count upscope)) }
 {
     for _closed in 0..count {
         out.extend_from_slice(b"$upscope $end\n")?;
@@ -131,7 +139,8 @@ fn append_upscopes(out: &mut Vec<u8>, count: usize) -> Result<(), NoMemory>
 }
 
 fn append_scopes(out: &mut Vec<u8>, scopes: &[ScopeName]) -> Result<(), NoMemory>
-    ensures { OnOk result (out.new.items ≡ out.old.items ++ flat_map item_line (map (λ s. scope s.kind s.words) scopes.now)) }
+    ensures { OnOk result (out.new.items ≡
+        out.old.items ++ flat_map item_line (map (λ s. scope s.kind s.words) scopes.now)) }
 {
     for name in scopes {
         append_scope(out, name)?;
@@ -140,7 +149,8 @@ fn append_scopes(out: &mut Vec<u8>, scopes: &[ScopeName]) -> Result<(), NoMemory
 }
 
 fn append_scope(out: &mut Vec<u8>, name: &ScopeName) -> Result<(), NoMemory>
-    ensures { OnOk result (out.new.items ≡ out.old.items ++ item_line (scope name.now.kind name.now.words)) }
+    ensures { OnOk result (out.new.items ≡
+        out.old.items ++ item_line (scope name.now.kind name.now.words)) }
 {
     out.extend_from_slice(b"$scope")?;
     append_word(out, name.kind.as_slice())?;

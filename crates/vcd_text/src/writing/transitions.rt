@@ -1,11 +1,12 @@
 //! The values of a capture: those at tick 0, and after it the changes by tick (IEEE 1364-2005, 18.2).
 
-ghost use Rattle.std.specs.Prelude.{◌≡◌, ◌==◌, ◌<◌, ◌≤◌, ◌^◌, ◌++◌, ◌∷◌, [], ℕ, if◌then◌else◌, nat_lt, length, map, All, IfOk, OnOk};
+ghost use Rattle.std.specs.Prelude.{◌≡◌, ◌==◌, ◌<◌, ◌≤◌, ◌++◌, ◌∷◌, [], ℕ, if◌then◌else◌, nat_lt, length, map, All, IfOk, OnOk};
 ghost use Rattle.std.specs.List.{flat_map};
 ghost use Rattle.vcd_core.specs.Contents.{signal_contents};
 ghost use Rattle.vcd_core.specs.Wave.{value_at};
 ghost use Rattle.vcd_core.specs.Sound.{IsSoundSignal};
-ghost use Rattle.vcd_text.specs.inside.Transitions.{tick_after, later_transitions, listed_from, transition_value, transitions_from, valued_items};
+ghost use Rattle.vcd_core.specs.declared.capture.TheConstants.{SIGNAL_LIMIT};
+ghost use Rattle.vcd_text.specs.inside.Transitions.{last_tick, later_transitions, transitions_by_signal, transition_value, transitions_from, valued_items};
 ghost use Rattle.vcd_text.specs.Text.{all_values, end_items, first_items, item_line, stamp_of, tick_items};
 
 use super::values::append_value;
@@ -13,7 +14,7 @@ use itoa::Buffer;
 use std::alloc::Global;
 use vcd_core::{Change, NoMemory, Signal, Value, Wave};
 
-/// A signal changes at a tick. Moves are ordered by tick, then by the signal's position.
+/// A signal changes at a tick. Transitions are ordered by tick, then by the signal's position.
 #[derive(Clone, Copy, PartialEq, Eq, PartialOrd, Ord)]
 pub struct Transition {
     pub tick: u64,
@@ -22,8 +23,9 @@ pub struct Transition {
 
 /// Appends the values at tick 0.
 pub fn append_first_values(out: &mut Vec<u8>, signals: &[Signal]) -> Result<(), NoMemory>
-    requires { length signals.now < 2 ^ 32 }
-    ensures { OnOk result (out.new.items ≡ out.old.items ++ flat_map item_line (first_items (map signal_contents signals.now))) }
+    requires { length signals.now ≤ SIGNAL_LIMIT }
+    ensures { OnOk result (out.new.items ≡
+        out.old.items ++ flat_map item_line (first_items (map signal_contents signals.now))) }
 {
     append_stamp(out, 0)?;
     out.extend_from_slice(b"$dumpvars\n")?;
@@ -33,8 +35,9 @@ pub fn append_first_values(out: &mut Vec<u8>, signals: &[Signal]) -> Result<(), 
 }
 
 fn append_all_values(out: &mut Vec<u8>, signals: &[Signal]) -> Result<(), NoMemory>
-    requires { length signals.now < 2 ^ 32 }
-    ensures { OnOk result (out.new.items ≡ out.old.items ++ flat_map item_line (all_values (map signal_contents signals.now) 0)) }
+    requires { length signals.now ≤ SIGNAL_LIMIT }
+    ensures { OnOk result (out.new.items ≡
+        out.old.items ++ flat_map item_line (all_values (map signal_contents signals.now) 0)) }
 {
     for (position, signal) in signals.iter().enumerate() {
         append_value(out, position, signal.wave.at(0))?;
@@ -54,7 +57,7 @@ pub fn append_transitions(
     transitions: &[Transition],
     end: u64,
 ) -> Result<(), NoMemory>
-    requires few { length signals.now < 2 ^ 32 }
+    requires few { length signals.now ≤ SIGNAL_LIMIT }
     requires within { All (λ m. m.position < length signals.now) transitions.now }
     requires all { transitions.now ≡ transitions_from (map signal_contents signals.now) 1 end }
     ensures { OnOk result (out.new.items ≡ out.old.items ++ flat_map item_line
@@ -82,7 +85,8 @@ fn values_of(
 ) -> Result<Vec<Value>, NoMemory>
     requires within { All (λ m. m.position < length signals.now) transitions.now }
     requires placed { length places.old.items ≡ length signals.now }
-    ensures values { IfOk result (λ values. values.items ≡ map (transition_value (map signal_contents signals.now)) transitions.now) }
+    ensures values { IfOk result (λ values.
+        values.items ≡ map (transition_value (map signal_contents signals.now)) transitions.now) }
     ensures placed { length places.new.items ≡ length places.old.items }
 {
     let mut values = Vec::with_capacity(alloc, transitions.len())?;
@@ -101,10 +105,11 @@ fn append_part(
     values: &[Value],
     last: u64,
 ) -> Result<u64, NoMemory>
-    requires small { All (λ m. m.position < 2 ^ 32) transitions.now }
+    requires small { All (λ m. m.position < SIGNAL_LIMIT) transitions.now }
     requires valued { length values.now ≡ length transitions.now }
-    ensures text { OnOk result (out.new.items ≡ out.old.items ++ flat_map item_line (valued_items last transitions.now values.now)) }
-    ensures last { IfOk result (λ tick. tick ≡ tick_after last transitions.now) }
+    ensures text { OnOk result (out.new.items ≡
+        out.old.items ++ flat_map item_line (valued_items last transitions.now values.now)) }
+    ensures last { IfOk result (λ tick. tick ≡ last_tick last transitions.now) }
 {
     let mut last = last;
     for (k, next) in transitions.iter().enumerate() {
@@ -139,7 +144,8 @@ fn value_near(wave: &Wave, tick: u64, place: usize) -> Value
 }
 
 fn append_new_stamp(out: &mut Vec<u8>, last: u64, tick: u64) -> Result<(), NoMemory>
-    ensures { OnOk result (out.new.items ≡ out.old.items ++ flat_map item_line (if tick == last then [] else stamp_of tick ∷ [])) }
+    ensures { OnOk result (out.new.items ≡
+        out.old.items ++ flat_map item_line (if tick == last then [] else stamp_of tick ∷ [])) }
 {
     if tick == last {
         return Ok(());
@@ -149,7 +155,8 @@ fn append_new_stamp(out: &mut Vec<u8>, last: u64, tick: u64) -> Result<(), NoMem
 }
 
 fn append_last_stamp(out: &mut Vec<u8>, last: u64, end: u64) -> Result<(), NoMemory>
-    ensures { OnOk result (out.new.items ≡ out.old.items ++ flat_map item_line (if nat_lt last end then stamp_of end ∷ [] else [])) }
+    ensures { OnOk result (out.new.items ≡
+        out.old.items ++ flat_map item_line (if nat_lt last end then stamp_of end ∷ [] else [])) }
 {
     if last >= end {
         return Ok(());
@@ -159,7 +166,8 @@ fn append_last_stamp(out: &mut Vec<u8>, last: u64, end: u64) -> Result<(), NoMem
 }
 
 fn append_stamp(out: &mut Vec<u8>, tick: u64) -> Result<(), NoMemory>
-    ensures { OnOk result (out.new.items ≡ out.old.items ++ flat_map item_line (stamp_of tick ∷ [])) }
+    ensures { OnOk result (out.new.items ≡
+        out.old.items ++ flat_map item_line (stamp_of tick ∷ [])) }
 {
     out.push(b'#')?;
     out.extend_from_slice(Buffer::new().format(tick).as_bytes())?;
@@ -170,9 +178,11 @@ fn append_stamp(out: &mut Vec<u8>, tick: u64) -> Result<(), NoMemory>
 /// All changes after tick 0, sorted by tick and position. It takes 16 bytes a change, as much again for the sort,
 /// and the time to merge the lists of the signals, each of which is in order.
 pub fn sorted_transitions(alloc: Global, signals: &[Signal]) -> Result<Vec<Transition>, NoMemory>
-    ensures all { IfOk result (λ transitions. (end : ℕ) → All (IsSoundSignal end) (map signal_contents signals.now)
-        → transitions.items ≡ transitions_from (map signal_contents signals.now) 1 end) }
-    ensures within { IfOk result (λ transitions. All (λ m. m.position < length signals.now) transitions.items) }
+    ensures all { IfOk result (λ transitions. (end : ℕ) →
+        All (IsSoundSignal end) (map signal_contents signals.now) →
+        transitions.items ≡ transitions_from (map signal_contents signals.now) 1 end) }
+    ensures within { IfOk result (λ transitions.
+        All (λ m. m.position < length signals.now) transitions.items) }
 {
     let mut transitions = listed_transitions(alloc, signals)?;
     transitions.sort()?;
@@ -180,7 +190,8 @@ pub fn sorted_transitions(alloc: Global, signals: &[Signal]) -> Result<Vec<Trans
 }
 
 fn listed_transitions(alloc: Global, signals: &[Signal]) -> Result<Vec<Transition>, NoMemory>
-    ensures { IfOk result (λ transitions. transitions.items ≡ listed_from 0 (map signal_contents signals.now)) }
+    ensures { IfOk result (λ transitions.
+        transitions.items ≡ transitions_by_signal 0 (map signal_contents signals.now)) }
 {
     let mut transitions = Vec::new(alloc);
     for (position, signal) in signals.iter().enumerate() {
@@ -194,7 +205,8 @@ fn append_later_transitions(
     position: usize,
     changes: &[Change],
 ) -> Result<(), NoMemory>
-    ensures { OnOk result (transitions.new.items ≡ transitions.old.items ++ later_transitions position changes.now) }
+    ensures { OnOk result (transitions.new.items ≡
+        transitions.old.items ++ later_transitions position changes.now) }
 {
     for change in changes {
         if change.tick > 0 {

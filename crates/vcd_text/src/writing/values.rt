@@ -1,8 +1,9 @@
 //! Values as they are printed: one letter, or `b` and the short form.
 
-ghost use Rattle.std.specs.Prelude.{◌≡◌, ℕ, List, ◌<◌, ◌≤◌, ◌^◌, ◌++◌, ◌∷◌, [], length, drop, slice_range, OnOk};
+ghost use Rattle.std.specs.Prelude.{◌≡◌, ℕ, List, ◌<◌, ◌≤◌, ◌++◌, ◌∷◌, [], length, drop, slice_range, OnOk};
 ghost use Rattle.vcd_core.specs.Value.{same_letter};
-ghost use Rattle.vcd_text.specs.Letters.{pad_letter, printed_letters, printed_letter, short_form};
+ghost use Rattle.vcd_core.specs.declared.capture.TheConstants.{SIGNAL_LIMIT};
+ghost use Rattle.vcd_text.specs.Letters.{pad_letter, printed_letters, short_form};
 ghost use Rattle.vcd_text.specs.Text.{code_of, item_line, value_item};
 
 use super::codes::append_code;
@@ -10,8 +11,9 @@ use vcd_core::{Bit, NoMemory, Value, WIDTH_LIMIT};
 
 /// Appends the line that gives a value to the signal at `position`. It looks at each bit twice at most.
 pub fn append_value(out: &mut Vec<u8>, position: usize, value: Value) -> Result<(), NoMemory>
-    requires { position < 2 ^ 32 }
-    ensures { OnOk result (out.new.items ≡ out.old.items ++ item_line (value_item (code_of position) value)) }
+    requires { position < SIGNAL_LIMIT }
+    ensures { OnOk result (out.new.items ≡
+        out.old.items ++ item_line (value_item (code_of position) value)) }
 {
     append_digits(out, value)?;
     append_code(out, position)?;
@@ -25,7 +27,7 @@ fn append_digits(out: &mut Vec<u8>, value: Value) -> Result<(), NoMemory>
         out.new.items ++ (code ++ 10 ∷ []) ≡ out.old.items ++ item_line (value_item code value)) }
 {
     if value.width() == 1 {
-        out.push(printed(value.bit(0)))?;
+        out.push(value.bit(0).letter())?;
         return Ok(());
     }
     out.push(b'b')?;
@@ -52,7 +54,7 @@ fn letters_from(value: Value, first: u64) -> [u8; WIDTH_LIMIT as usize]
     let width = value.width();
     let mut letters = [0; WIDTH_LIMIT as usize];
     for k in first..width {
-        letters[k as usize] = printed(value.bit(width - 1 - k));
+        letters[k as usize] = value.bit(width - 1 - k).letter();
     }
     letters
 }
@@ -79,16 +81,4 @@ fn is_spare(letter: Bit, next: Bit) -> bool
         (letter, next),
         (Bit::Zero, Bit::Zero | Bit::One) | (Bit::X, Bit::X) | (Bit::Z, Bit::Z)
     )
-}
-
-/// A letter as it is printed.
-fn printed(letter: Bit) -> u8
-    ensures { result ≡ printed_letter letter }
-{
-    match letter {
-        Bit::Zero => b'0',
-        Bit::One => b'1',
-        Bit::X => b'x',
-        Bit::Z => b'z',
-    }
 }

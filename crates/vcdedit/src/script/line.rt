@@ -2,8 +2,9 @@
 
 ghost use Rattle.std.specs.Prelude.{◌≡◌, ◌∷◌, [], MatchOption};
 ghost use Rattle.vcd_core.specs.Contents.{contents};
+ghost use Rattle.vcd_text.specs.Grammar.{word_texts};
 ghost use Rattle.vcdedit.specs.Script.{command_of_line, command_of_words, rename_command, undo_command, is_comment as comment_test};
-ghost use Rattle.vcdedit.specs.inside.Commands.{word_texts_left, ReadsAs};
+ghost use Rattle.vcdedit.specs.inside.Commands.{ReadsAs};
 
 use crate::edit::Edit;
 use crate::script::{Command, LineError};
@@ -33,7 +34,7 @@ fn parse_command<'a>(
     capture: &Capture,
 ) -> Result<Command<'a>, LineError>
     ensures { ReadsAs
-        (command_of_words (contents capture.now) (first.now ∷ word_texts_left words.old)) result }
+        (command_of_words (contents capture.now) (first.now ∷ word_texts words.old)) result }
 {
     if is_comment(first) {
         return Ok(Command::Nothing);
@@ -49,7 +50,7 @@ fn parse_command<'a>(
 
 /// Reads `NAME WORD`.
 fn parse_rename<'a>(words: &mut Words<'a>, capture: &Capture) -> Result<Command<'a>, LineError>
-    ensures { ReadsAs (rename_command (contents capture.now) (word_texts_left words.old)) result }
+    ensures { ReadsAs (rename_command (contents capture.now) (word_texts words.old)) result }
 {
     let name = next_text(words).ok_or(LineError::WrongCount)?;
     let word = next_text(words).ok_or(LineError::WrongCount)?;
@@ -64,7 +65,7 @@ fn parse_rename<'a>(words: &mut Words<'a>, capture: &Capture) -> Result<Command<
 
 /// Reads that nothing follows.
 fn parse_undo<'a>(words: &mut Words<'a>) -> Result<Command<'a>, LineError>
-    ensures { ReadsAs (undo_command (word_texts_left words.old)) result }
+    ensures { ReadsAs (undo_command (word_texts words.old)) result }
 {
     match next_text(words) {
         Some(_) => Err(LineError::WrongCount),
@@ -74,7 +75,8 @@ fn parse_undo<'a>(words: &mut Words<'a>) -> Result<Command<'a>, LineError>
 
 /// The next word.
 fn next_text<'a>(words: &mut Words<'a>) -> Option<&'a [u8]>
-    ensures { MatchOption result (word_texts_left words.old ≡ []) (λ text. word_texts_left words.old ≡ text.now ∷ word_texts_left words.new) }
+    ensures { MatchOption result (word_texts words.old ≡ [])
+        (λ text. word_texts words.old ≡ text.now ∷ word_texts words.new) }
 {
     match words.next_word() {
         Some(word) => Some(word.text),

@@ -1,4 +1,4 @@
-use Rattle.std.proofs.Common.{◌≡◌, inr, sym, subst, ◌∙◌}
+use Rattle.std.proofs.Common.{inr, sym, subst, ◌∙◌}
 use Rattle.vcd_text.specs.Faults.{too_early}
 use Rattle.vcd_text.specs.inside.Reading.{Reads}
 use Rattle.vcd_text.proofs.Ended.{stops}

@@ -1,4 +1,4 @@
-use Rattle.std.proofs.Common.{◌≡◌, inr, sym, subst}
+use Rattle.std.proofs.Common.{inr, subst}
 use Rattle.vcd_text.specs.Refusals.{no_fault}
 use Rattle.vcd_text.specs.inside.Reading.{Reads}
 use Rattle.vcd_text.proofs.Ended.{no_fault as shows_none}

@@ -1,7 +1,8 @@
 -- What stands before the code, with the code behind it, is the line.
 use Rattle.std.proofs.Common.{◌≡◌, ◌≢◌, ◌-◌, [], ◌∷◌, ◌++◌, length, get_or, ap, refl, ◌∙◌, arith}
 use Rattle.vcd_core.specs.declared.bit.Bit.TheVariants.{X}
-use Rattle.vcd_text.specs.Letters.{printed_letters, printed_letter, short_form}
+use Rattle.vcd_core.specs.Value.{printed_letter}
+use Rattle.vcd_text.specs.Letters.{printed_letters, short_form}
 use Rattle.vcd_text.proofs.Appended.{carried}
 use Rattle.vcd_text.proofs.Values.{line_in_pieces, line_of_bit, line_of_bits}
 use Rattle.vcd_text.proofs.writing.values.append_digits.Goals as goal
@@ -11,7 +12,7 @@ returns-then-width-eq1 c = λ code.
     let v = c.args.value in
     let one : length v ≡ 1 = omega arith in
     let here : length v - 1 - 0 ≡ 0 = omega arith in
-    let letter = c.printed.ensures ∙ ap printed_letter (c.bit.ensures ∙ ap (λ i. get_or v i X) here) in
+    let letter = c.letter.ensures ∙ ap printed_letter (c.bit.ensures ∙ ap (λ i. get_or v i X) here) in
     carried _ _ _ _ _ _ (c.in_ok-push.ensures.items ∙ ap (λ b. c.args.out.now.items ++ b ∷ []) letter) (line_of_bit v code one) refl
 
 pub returns : goal.returns

@@ -1,10 +1,10 @@
-use Rattle.std.proofs.Common.{◌≡◌, ◌∙◌, ◌<◌, min, ◌||◌, ◌==◌, nat_lt, true, false, length, drop, List, ℕ, ap, sym, subst, arith}
+use Rattle.std.proofs.Common.{◌+◌, ◌≡◌, ◌∙◌, ◌<◌, min, ◌||◌, ◌==◌, nat_lt, true, false, length, drop, List, ℕ, ap, sym, subst, arith}
 use Rattle.std.proofs.lemmas.Bool.{eqb-false}
 use Rattle.std.proofs.lemmas.List.{take_rest}
 use Rattle.vcd_core.specs.declared.value.TheConstants.{WIDTH_LIMIT}
-use Rattle.vcd_text.specs.Letters.{number_of}
-use Rattle.vcd_text.specs.Items.{is_one_of}
-use Rattle.vcd_text.specs.Grammar.{Declaration, is_skipped, skipped_kinds}
+use Rattle.vcd_core.specs.Decimal.{number_of}
+use Rattle.vcd_core.specs.Word.{is_skipped_kind}
+use Rattle.vcd_text.specs.Grammar.{Declaration, is_skipped}
 use Rattle.vcd_text.specs.inside.Variables.{declaration_by, DeclaresAs}
 use Rattle.vcd_text.proofs.DeclaredVariables.{worded_declaration, declares_words, words_in_front, left_out, kept_size}
 use Rattle.vcd_text.proofs.reading.variables.Variables.declare.Goals as goal
@@ -20,10 +20,10 @@ returns-then-is_left_out c = λ told scopes records k.
     let other = eqb-false _ 0 (sym c.is_empty.ensures ∙ c.if-is_empty.false) in
     let some : 0 < length (drop 3 words) = omega (arith, other, ap (length {A = List ℕ}) behind) in
     let d = worded_declaration told kind size code (drop 3 words) in
-    let read = c.in-Some.ensures.1 ∙ ap (λ word. min (number_of word) 129) c.as_slice.ensures in
+    let read = c.in-Some.ensures.1 ∙ ap (λ word. min (number_of word) (WIDTH_LIMIT + 1)) c.as_slice.ensures in
     let skipped : is_skipped d ≡ true =
     left_out told kind size code (drop 3 words) c.in-Some.size read
-    ∙ ap (λ name. is_one_of skipped_kinds name || (c.in-Some.size == 0 || nat_lt WIDTH_LIMIT c.in-Some.size)) (sym c.as_slice-2.ensures)
+    ∙ ap (λ name. is_skipped_kind name || (c.in-Some.size == 0 || nat_lt WIDTH_LIMIT c.in-Some.size)) (sym c.as_slice-2.ensures)
     ∙ sym c.is_left_out.ensures ∙ c.if-is_left_out.true in
     declares_words told words kind size code (drop 3 words) c.skip.result c.skip.new.self front some
     (c.skip.ensures told d k (sym c.as_slice-then-is_left_out.ensures) skipped)
@@ -39,16 +39,16 @@ returns c = λ told scopes records k.
     let other = eqb-false _ 0 (sym c.is_empty.ensures ∙ c.if-is_empty.false) in
     let some : 0 < length (drop 3 words) = omega (arith, other, ap (length {A = List ℕ}) behind) in
     let d = worded_declaration told kind size code (drop 3 words) in
-    let read = c.in-Some.ensures.1 ∙ ap (λ word. min (number_of word) 129) c.as_slice.ensures in
+    let read = c.in-Some.ensures.1 ∙ ap (λ word. min (number_of word) (WIDTH_LIMIT + 1)) c.as_slice.ensures in
     let tested =
-    ap (λ name. is_one_of skipped_kinds name || (c.in-Some.size == 0 || nat_lt WIDTH_LIMIT c.in-Some.size)) (sym c.as_slice-2.ensures)
+    ap (λ name. is_skipped_kind name || (c.in-Some.size == 0 || nat_lt WIDTH_LIMIT c.in-Some.size)) (sym c.as_slice-2.ensures)
     ∙ sym c.is_left_out.ensures ∙ c.if-is_left_out.false in
     let keeps : is_skipped d ≡ false = left_out told kind size code (drop 3 words) c.in-Some.size read ∙ tested in
     let signal = c.in_ok-signal.ensures in
     let same : declaration_by c.as_slice-3.result.now c.in_ok-signal.signal ≡ d = λ i. record {
       scopes = (signal.scopes ∙ sym scopes) i;
       kind = signal.kind i;
-      size = (signal.width ∙ kept_size (is_one_of skipped_kinds kind) (number_of size) c.in-Some.size read tested) i;
+      size = (signal.width ∙ kept_size (is_skipped_kind kind) (number_of size) c.in-Some.size read tested) i;
       code = c.as_slice-3.ensures i;
       words = (signal.words ∙ behind) i;
     } in

@@ -1,9 +1,8 @@
-use Rattle.std.proofs.Common.{◌∙◌, ◌++◌, ◌∷◌, [], map, sym, subst, ap}
-use Rattle.std.specs.Prelude.{slice_get}
+use Rattle.std.proofs.Common.{◌∙◌, ◌++◌, ◌∷◌, [], map, sym, ap}
 use Rattle.std.proofs.lemmas.List.{map-append, append_assoc}
 use Rattle.vcd_core.specs.Contents.{signal_contents}
 use Rattle.vcd_text.specs.Meaning.{declared_signal}
-use Rattle.vcd_text.specs.inside.Variables.{declaration, Finishes}
+use Rattle.vcd_text.specs.inside.Variables.{declaration}
 use Rattle.vcd_text.proofs.FinishedVariables.{finishes_as_declared}
 use Rattle.vcd_text.proofs.reading.variables.Variables.into_signals.Goals as goal
 
@@ -13,14 +12,14 @@ loop-variable-preserved c =
     let yielded = c.loop-variable.yielded in
     let rest = c.next.new.self.rest.items in
     let signals = c.loop-variable.signals.items in
+    let added = c.in_ok-push_signal.ensures in
     let all = c.loop-variable.invariant.0 ∙ ap (λ l. yielded ++ l) c.in-Some.ensures.steps.0 in (
       all ∙ sym (append_assoc yielded (v ∷ []) rest),
       λ told k.
           let one =
-          finishes_as_declared c.args.self told yielded rest v signals k all (c.loop-variable.invariant.1 told k) c.in_ok-signal.signal
-          (subst (λ l. Finishes v (slice_get l v.first) c.in_ok-signal.signal) c.as_slice.ensures.value c.in_ok-signal.ensures) in
-          ap (map signal_contents) c.in_ok-push.ensures.items
-          ∙ map-append signal_contents signals (c.in_ok-signal.signal ∷ [])
+          finishes_as_declared c.args.self told yielded rest v signals k all (c.loop-variable.invariant.1 told k) added.0 added.1 in
+          ap (map signal_contents) added.2
+          ∙ map-append signal_contents signals (added.0 ∷ [])
           ∙ (λ i. c.loop-variable.invariant.1 told k i ++ one i ∷ [])
           ∙ sym (map-append (declared_signal told.records told.tick) (map declaration yielded) (declaration v ∷ []))
           ∙ ap (map (declared_signal told.records told.tick)) (sym (map-append declaration yielded (v ∷ []))),

@@ -8,7 +8,7 @@ use Rattle.std.proofs.lemmas.List.Folds.{list_all_more}
 use Rattle.vcd_core.specs.declared.bit.Bit.TheVariants.{X}
 use Rattle.vcd_text.specs.Letters.{is_letter, letter_read}
 use Rattle.vcd_text.proofs.Extensions.{part_written, none_written, next_written, all_written}
-use Rattle.vcd_text.proofs.reading.letters.extended.Goals as goal
+use Rattle.vcd_text.proofs.reading.letters.extended_value.Goals as goal
 
 pub loop-digit-init : goal.loop-digit-init
 loop-digit-init c = record {

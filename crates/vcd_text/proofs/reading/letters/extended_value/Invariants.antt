@@ -2,7 +2,7 @@ use Rattle.std.proofs.Common.{◌≡◌, ◌+◌, true, length, take}
 use Rattle.std.specs.List.{list_all}
 use Rattle.vcd_text.specs.Letters.{is_letter}
 use Rattle.vcd_text.proofs.Extensions.{part_written}
-use Rattle.vcd_text.proofs.reading.letters.extended.Given as goal
+use Rattle.vcd_text.proofs.reading.letters.extended_value.Given as goal
 
 abbrev pub invariant-loop-digit : goal.invariant-loop-digit
 invariant-loop-digit l = record {
