@@ -41,7 +41,8 @@ pub fn check_rename(capture: &Capture, signal: usize, word: &[u8]) -> Result<(),
 fn is_name_taken(signals: &[Signal], signal: usize, word: &[u8]) -> bool
     requires { signal < length signals.now }
     ensures { result ≡ list_any
-        (bytes_eq (full_name (renamed_signal word.now (slice_index_or (map signal_contents signals.now) signal no_signal))))
+        (bytes_eq (full_name (renamed_signal word.now
+        (slice_index_or (map signal_contents signals.now) signal no_signal))))
         (full_names (remove (map signal_contents signals.now) signal)) }
 {
     let name = name_with(&signals[signal], word);

@@ -66,7 +66,8 @@ fn read_script<S: Source>(alloc: Global, reader: &mut S) -> Result<Vec<u8>, RunE
         IfSome (S.coming reader.old) (λ bytes. SCRIPT_LIMIT < length bytes) }
     ensures failed { IsErrOf result RunError.ScriptReadFault → S.has_failed reader.new ≡ true }
     ensures others { IfErr result (λ e.
-        (e ≡ RunError.ScriptTooLarge) ⊎ (e ≡ RunError.ScriptReadFault) ⊎ (e ≡ RunError.NoMemory 0)) }
+        (e ≡ RunError.ScriptTooLarge) ⊎ (e ≡ RunError.ScriptReadFault) ⊎
+        (e ≡ RunError.NoMemory 0)) }
 {
     let mut bytes = Vec::new(alloc);
     match read_whole(reader, SCRIPT_LIMIT, &mut bytes) {

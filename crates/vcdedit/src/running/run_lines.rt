@@ -99,7 +99,8 @@ fn write_reply<P: Sink>(
     requires ready { P.has_failed replies.old ≡ false }
     requires room { written < 2 ^ 127 }
     ensures told { OnOk result
-        (Appends (P.taken replies.old) (P.taken replies.new) (reply_text number (reply_meaning reply))) }
+        (Appends (P.taken replies.old) (P.taken replies.new)
+        (reply_text number (reply_meaning reply))) }
     ensures sound { OnOk result (P.has_failed replies.new ≡ false) }
     ensures fault { IfErr result IsLineFault }
 {

@@ -75,7 +75,8 @@ fn parse_undo<'a>(words: &mut Words<'a>) -> Result<Command<'a>, LineError>
 
 /// The next word.
 fn next_text<'a>(words: &mut Words<'a>) -> Option<&'a [u8]>
-    ensures { MatchOption result (word_texts words.old ≡ []) (λ text. word_texts words.old ≡ text.now ∷ word_texts words.new) }
+    ensures { MatchOption result (word_texts words.old ≡ [])
+        (λ text. word_texts words.old ≡ text.now ∷ word_texts words.new) }
 {
     match words.next_word() {
         Some(word) => Some(word.text),
