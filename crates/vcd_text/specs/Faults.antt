@@ -89,6 +89,7 @@ pub data ChangeFault (c : Context) (begun : List (List ℕ)) (word : List ℕ) (
       → IsFalse (is_letter first) → IsFalse (is_among (codes "#$" ++ pair_letters) first)
       → fault ≡ BadChange → ChangeFault c begun word fault
 
+-- among the declarations or the changes, whichever a file has come to
 pub data WordFault (c : Context) (begun : List (List ℕ)) (word : List ℕ) (fault : Fault) : Type 0 where
   among_declarations : IsFalse c.changing → DeclarationFault c begun word fault → WordFault c begun word fault
   among_changes : IsTrue c.changing → ChangeFault c begun word fault → WordFault c begun word fault

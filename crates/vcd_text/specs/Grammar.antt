@@ -100,6 +100,7 @@ takes_digits d digits = is_skipped d || (is_value digits && nat_le (length digit
 
 -- ---- what an item asks for
 
+-- behind what has been told an item gets what it asks for
 abbrev pub Allows : Context → Item → Type 0
 Allows c (entry kind words) = IsFalse c.changing × IsTrue (has_no_end words)
 Allows c (timescale words) = IsFalse c.changing × IsTrue (has_no_end words) × IsSome (timescale_of words)
@@ -143,6 +144,7 @@ after_item c (real_or_string first text code) = c
 after_item c (bracket word) = c
 after_item c (other word words) = c
 
+-- what has been told behind items in a row
 abbrev pub after : Context → List Item → Context
 after c [] = c
 after c (i ∷ is) = after (after_item c i) is
@@ -154,6 +156,7 @@ AllowsAll c (i ∷ is) = Allows c i × AllowsAll (after_item c i) is
 
 -- ---- files
 
+-- the texts of words
 abbrev pub word_texts : List PlacedWord → List (List ℕ)
 word_texts words = map (λ word. word.text) words
 

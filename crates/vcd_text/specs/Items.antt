@@ -10,9 +10,11 @@ use Rattle.vcd_core.specs.declared.capture.TimeUnit.TheVariants.{Second, Millise
 
 -- ---- keywords
 
+-- the word that ends declarations and commands
 abbrev pub end_word : List ℕ
 end_word = codes "$end"
 
+-- whether a word is `$end`
 abbrev pub is_end : List ℕ → Bool
 is_end word = bytes_eq word end_word
 
@@ -34,6 +36,7 @@ header_word Date = codes "$date"
 header_word Version = codes "$version"
 header_word Comment = codes "$comment"
 
+-- the keywords of header entries
 abbrev pub header_words : List (List ℕ)
 header_words = map header_word (Date ∷ Version ∷ Comment ∷ [])
 

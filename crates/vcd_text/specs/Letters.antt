@@ -18,6 +18,7 @@ letter_read b =
     else (if is_among (codes "zZ") b then Some Z
     else None)))
 
+-- whether a byte is a value letter
 abbrev pub is_letter : ℕ → Bool
 is_letter b = is_some (letter_read b)
 

@@ -7,6 +7,7 @@ pub record PlacedWord : Type 0 where
   pub text : List ℕ
   pub line : ℕ
 
+-- the word of this text on this line
 abbrev pub word_on : List ℕ → ℕ → PlacedWord
 word_on text line = record { text = text; line = line }
 

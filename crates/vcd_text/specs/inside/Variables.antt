@@ -73,6 +73,7 @@ pub data CannotDeclare (c : Context) (d : Declaration) (fault : Fault) : Type 0 
   mixed : IsFalse (may_have_code (variable_of c d.code) d) → fault ≡ faults.MixedCode → CannotDeclare c d fault
   many : IsTrue (may_have_code (variable_of c d.code) d) → IsFalse (has_room c.declared d) → fault ≡ faults.TooManySignals → CannotDeclare c d fault
 
+-- what comes of a declaration: it is held beside the others, or may not stand here, or memory runs out
 abbrev pub DeclaresAs : Context → Declaration → Result (Unit {0}) Fault → Variables → Type 0
 DeclaresAs c d (Ok x) new = IsTrue (may_have_code (variable_of c d.code) d) × IsTrue (has_room c.declared d) × Knows new (with_declaration c d)
 DeclaresAs c d (Err fault) new = (fault ≡ faults.NoMemory) ⊎ CannotDeclare c d fault
@@ -87,6 +88,7 @@ pub data VariableFault (c : Context) (words : List (List ℕ)) (fault : Fault) :
   no_room : (d : Declaration) → declaration_of c words ≡ Some d → IsTrue (may_have_code (variable_of c d.code) d) → IsFalse (has_room c.declared d)
       → fault ≡ faults.TooManySignals → VariableFault c words fault
 
+-- what comes of the words: their variable is held beside the others, or they show a fault, or memory runs out
 abbrev pub Declares : Context → List (List ℕ) → Result (Unit {0}) Fault → Variables → Type 0
 Declares c words (Ok x) new =
     IsSomeAnd (declaration_of c words) (λ d. IsTrue (may_have_code (variable_of c d.code) d) × IsTrue (has_room c.declared d))
@@ -120,6 +122,7 @@ pub data DigitsFault (c : Context) (code digits : List ℕ) (fault : Fault) : Ty
   too_long : (d : Declaration) → variable_of c code ≡ Some d → IsFalse (is_skipped d) → IsTrue (is_value digits) → d.size < length digits
       → fault ≡ faults.ValueTooLong → DigitsFault c code digits fault
 
+-- what comes of the change: it is recorded, or shows a fault, or memory runs out
 abbrev pub TakesChange : Context → (code digits : List ℕ) → Result (Unit {0}) Fault → Variables → Type 0
 TakesChange c code digits (Ok x) new =
     IsSomeAnd (variable_of c code) (λ d. IsTrue (takes_digits d digits)) × Knows new (with_record c code (letters_read digits))

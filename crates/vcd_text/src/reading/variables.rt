@@ -134,7 +134,8 @@ impl Variables {
     fn keep(&mut self, alloc: Global, code: &[u8], signal: Signal) -> Result<(), Fault>
         requires silent { signal.wave.changes ≡ [] }
         ensures { (c : Context) → let d = declaration_by code.now signal in
-            Knows self.old c → c.records ≡ [] → IsFalse (is_skipped d) → DeclaresAs c d result self.new }
+            Knows self.old c → c.records ≡ [] → IsFalse (is_skipped d) →
+            DeclaresAs c d result self.new }
     {
         match self.owner(code) {
             None => self.keep_first(alloc, code, signal),

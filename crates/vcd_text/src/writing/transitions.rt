@@ -62,7 +62,8 @@ pub fn append_transitions(
     requires within { All (λ m. m.position < length signals.now) transitions.now }
     requires all { transitions.now ≡ transitions_from (map signal_contents signals.now) 1 end }
     ensures { OnOk result (out.new.items ≡ out.old.items ++ flat_map item_line
-        (tick_items (map signal_contents signals.now) 1 end ++ end_items (map signal_contents signals.now) end)) }
+        (tick_items (map signal_contents signals.now) 1 end ++
+        end_items (map signal_contents signals.now) end)) }
 {
     let mut places = later_places(alloc, signals)?;
     let mut last = 0;
