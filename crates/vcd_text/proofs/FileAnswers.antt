@@ -11,7 +11,7 @@ use Rattle.vcd_text.specs.Words.{PlacedWord, words_of, end_line}
 use Rattle.vcd_text.specs.Items.{Item, spelling, spellings}
 use Rattle.vcd_text.specs.Grammar.{Context, Allows, Accepts, after_item, nothing_told, word_texts}
 use Rattle.vcd_text.specs.Faults.{WordFault, IsUnfinished, declaration_due, fault_line, ShowsFault, Stops, FileFault, shown, too_early}
-use Rattle.vcd_text.specs.Meaning.{FileMeans, meaning, skipped_variables}
+use Rattle.vcd_text.specs.Meaning.{FileMeans, meaning, skipped_count}
 use Rattle.vcd_text.proofs.ItemsInTurn.{Leads, leads_none, leads_one, leads_both}
 use Rattle.vcd_text.proofs.WordLaws.{is_run, words_are_words}
 use Rattle.vcd_text.proofs.WordOutcomes.{IsOpen, between, inside, shows_fault, ends_item, goes_on, word_outcome}
@@ -141,7 +141,7 @@ nothing_taken words = record { items = []; whole = []; begun = []; told = nothin
 pub an_answer : (bytes : List ℕ) → ((c : Contents) × (n : ℕ) × FileMeans bytes c n) ⊎ ((line : ℕ) × (fault : Fault) × FileFault bytes line fault)
 an_answer bytes =
     elim (answer_behind (words_of bytes) (words_of bytes) (words_are_words true 1 bytes) (nothing_taken (words_of bytes))) [
-      | is_accepted told accepts ↦ inl (meaning told, skipped_variables told, record { told = told; accepted = accepts; means = refl; left_out = refl })
+      | is_accepted told accepts ↦ inl (meaning told, skipped_count told, record { told = told; accepted = accepts; means = refl; left_out = refl })
       | stops_early stops ↦ inr (end_line bytes, Truncated, too_early stops refl refl)
       | is_refused line fault s ↦ inr (line, fault, shown s)
     ]
