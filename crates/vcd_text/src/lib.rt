@@ -4,10 +4,6 @@
 
 pub mod fault;
 pub mod laws;
-#[cfg(test)]
-mod narrow_sink;
-#[cfg(test)]
-mod output;
 pub mod reading;
 pub mod words;
 pub mod writing;
