@@ -6,9 +6,6 @@ use crate::seq::Seq;
 use crate::wave::Wave;
 use std::marker::Model;
 
-#[cfg(test)]
-mod tests;
-
 /// The greatest tick of a capture's end.
 pub const END_LIMIT: u64 = 9223372036854775807;
 

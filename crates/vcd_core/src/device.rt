@@ -4,8 +4,6 @@ ghost use Rattle.std.specs.Io.KnownBytes.{ReadConsumes, WriteAppends, Keeps};
 ghost use Rattle.vcd_core.specs.Device.{Reports};
 
 mod output;
-#[cfg(test)]
-mod tests;
 mod whole;
 
 pub use output::{ShortWrite, write_all, write_and_flush};

@@ -7,9 +7,6 @@ use crate::value::Value;
 use crate::wave::{Change, Wave};
 use std::marker::Model;
 
-#[cfg(test)]
-mod tests;
-
 /// A tick at which a wave changes, with the values of the waves just before it and at it.
 ///
 /// An absent wave has none, and the value before tick 0 is all x.

@@ -28,21 +28,3 @@ impl<T: Drop> From<AllocFailed<T>> for NoMemory {
         NoMemory
     }
 }
-
-#[cfg(test)]
-mod tests {
-    use super::*;
-
-    fn append(bytes: &mut Vec<u8>, byte: u8) -> Result<(), NoMemory> {
-        bytes.reserve(1)?;
-        bytes.push(byte)?;
-        Ok(())
-    }
-
-    #[test]
-    fn a_question_mark_passes_a_refusal_on(rt: HostRuntime) {
-        let mut bytes = Vec::new(rt.alloc());
-        assert_eq!(rt; append(&mut bytes, b'0'), Ok(()));
-        assert_eq!(rt; NoMemory::from(AllocError).name(), "NoMemory");
-    }
-}

@@ -11,9 +11,6 @@ use crate::capture::{Capture, Signal};
 use crate::decimal::number_up_to;
 use crate::full_name::FullName;
 
-#[cfg(test)]
-mod tests;
-
 impl Capture {
     /// Whether the signal at position `k` has this full name: the names of its scopes and its own,
     /// joined by `.`.

@@ -5,9 +5,6 @@ ghost use Rattle.vcd_core.specs.Splice.{moved_change, TickFits, TicksFit, splice
 
 use crate::wave::Change;
 
-#[cfg(test)]
-mod tests;
-
 /// The changes of `list` from `at` on change places with those of `other`, one for one.
 fn swap_part(list: &mut [Change], at: usize, other: &mut [Change])
     requires { at + length other.old ≤ length list.old }

@@ -6,9 +6,6 @@ use crate::planes::{filled_plane, letter, plane_bit, with_plane_bit};
 use std::fmt;
 use std::marker::Model;
 
-#[cfg(test)]
-mod tests;
-
 /// How many words of 64 bits a plane of a value has.
 pub const WORDS: usize = 2;
 

@@ -9,9 +9,6 @@ use crate::value::{Value, WIDTH_LIMIT};
 use std::alloc::Global;
 use std::marker::Model;
 
-#[cfg(test)]
-mod tests;
-
 /// From `tick` on, a signal has `value`.
 #[derive(Clone, Copy, Debug, PartialEq)]
 pub struct Change {

@@ -8,10 +8,6 @@
 
 mod fault;
 mod laws;
-#[cfg(test)]
-mod narrow_sink;
-#[cfg(test)]
-mod output;
 mod reading;
 mod words;
 mod writing;

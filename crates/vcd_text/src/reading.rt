@@ -20,8 +20,6 @@ mod declarations;
 mod keywords;
 mod letters;
 mod reader;
-#[cfg(test)]
-mod tests;
 mod timescale;
 mod variables;
 

@@ -71,6 +71,3 @@ pub fn text_of(alloc: Global, capture: &Capture) -> Result<Vec<u8>, NoMemory>
     )?;
     Ok(out)
 }
-
-#[cfg(test)]
-mod tests;

@@ -1,0 +1,203 @@
+//! Devices that give or take little and fail: what is answered then and after, and how often they are asked.
+
+ghost use Rattle.std.specs.Prelude.{◌≡◌, Some};
+
+use crate::fake_devices::{FakeReader, FakeWriter, NEVER, sink_of, source_of};
+use std::alloc::Global;
+use std::process::Abort;
+use vcd_core::{
+    DeviceFault, FromRead, Incomplete, Sink, Source, ToWrite, read_whole, write_all,
+    write_and_flush,
+};
+
+/// A source over memory tells the bytes to come.
+fn from_memory<'a>(bytes: &'a [u8]) -> FromRead<&'a [u8]>
+    ensures { ⟦<FromRead<&'a [u8]> as Source>⟧.coming result ≡ Some bytes.now }
+{
+    FromRead::new(bytes)
+}
+
+/// A sink into memory tells the bytes taken.
+fn to_memory(bytes: Vec<u8>) -> ToWrite<Vec<u8>>
+    ensures { ⟦<ToWrite<Vec<u8>> as Sink>⟧.taken result ≡ Some bytes.items }
+{
+    ToWrite::new(bytes)
+}
+
+#[test]
+fn memory_gives_its_bytes_and_ends(rt: HostRuntime) {
+    let mut source = from_memory(b"#10 1!");
+    let mut buffer = [b'.'; 4];
+    assert_eq!(rt; source.read(&mut buffer), Ok(4));
+    assert_eq!(rt; buffer.as_slice(), b"#10 ".as_slice());
+    assert_eq!(rt; source.read(&mut []), Ok(0));
+    assert_eq!(rt; source.read(&mut buffer), Ok(2));
+    assert_eq!(rt; buffer.as_slice(), b"1!0 ".as_slice());
+    assert_eq!(rt; source.read(&mut buffer), Ok(0));
+    assert!(rt; !source.failed());
+}
+
+#[test]
+fn memory_keeps_what_it_takes(rt: HostRuntime) {
+    let mut sink = to_memory(Vec::new(rt.alloc()));
+    assert_eq!(rt; sink.write(b"#10"), Ok(3));
+    assert_eq!(rt; sink.write(b""), Ok(0));
+    assert_eq!(rt; sink.write(b"\n"), Ok(1));
+    assert_eq!(rt; sink.flush(), Ok(()));
+    assert!(rt; !sink.failed());
+    assert_eq!(rt; sink.into_inner().as_slice(), b"#10\n".as_slice());
+}
+
+/// Stops where a source that has failed answers anything but that.
+fn check_stays_failed(rt: &impl Abort, source: &mut FromRead<FakeReader>) {
+    let mut buffer = [b'.'; 4];
+    for _ in 0..3 {
+        assert_eq!(rt; source.read(&mut buffer), Err(DeviceFault));
+        assert!(rt; source.failed());
+    }
+}
+
+#[test]
+fn an_interrupted_read_is_the_end(rt: HostRuntime) {
+    let mut reader = FakeReader::new(b"#10 1!", 1);
+    reader.fault_at = 3;
+    let mut source = source_of(reader);
+    let mut buffer = [b'.'; 4];
+    for byte in *b"#10" {
+        assert_eq!(rt; source.read(&mut buffer), Ok(1));
+        assert_eq!(rt; buffer[0], byte);
+    }
+    assert!(rt; !source.failed());
+    check_stays_failed(&rt, &mut source);
+    let reader = source.into_inner();
+    assert_eq!(rt; reader.rest, b" 1!".as_slice());
+    assert_eq!(rt; reader.calls, 4, "no read after the failure");
+}
+
+/// A writer that takes so many bytes a call, and of which this call is interrupted.
+fn interrupted(alloc: Global, piece: usize, fault_at: usize) -> ToWrite<FakeWriter> {
+    let mut writer = FakeWriter::new(alloc, piece);
+    writer.fault_at = fault_at;
+    ToWrite::new(writer)
+}
+
+#[test]
+fn an_interrupted_write_is_the_end(rt: HostRuntime) {
+    let mut sink = interrupted(rt.alloc(), 2, 2);
+    assert_eq!(rt; sink.write(b"#10 1!"), Ok(2));
+    assert_eq!(rt; sink.write(b"0 1!"), Ok(2));
+    assert_eq!(rt; sink.write(b"1!"), Err(DeviceFault));
+    assert_eq!(rt; sink.write(b"1!"), Err(DeviceFault));
+    assert_eq!(rt; sink.flush(), Err(DeviceFault));
+    assert!(rt; sink.failed());
+    let writer = sink.into_inner();
+    assert_eq!(rt; writer.held.len(), 4);
+    assert_eq!(rt; writer.calls, 3, "no write after the failure");
+}
+
+#[test]
+fn a_write_that_takes_no_byte_is_a_failure(rt: HostRuntime) {
+    let mut sink = interrupted(rt.alloc(), 0, NEVER);
+    assert_eq!(rt; sink.write(b""), Ok(0));
+    assert!(rt; !sink.failed());
+    assert_eq!(rt; sink.write(b"1!"), Err(DeviceFault));
+    assert_eq!(rt; sink.write(b""), Err(DeviceFault));
+    assert!(rt; sink.failed());
+}
+
+#[test]
+fn an_interrupted_flush_is_a_failure(rt: HostRuntime) {
+    let mut sink = interrupted(rt.alloc(), 2, 1);
+    assert_eq!(rt; sink.write(b"1!"), Ok(2));
+    assert_eq!(rt; sink.flush(), Err(DeviceFault));
+    assert_eq!(rt; sink.flush(), Err(DeviceFault));
+    assert_eq!(rt; sink.into_inner().flushes, 1, "no flush after the failure");
+}
+
+/// Nine bytes, read three at a time.
+const BYTES: &[u8] = b"#10 1! 0\"";
+
+/// Stops where a reader's bytes, of which there may be `limit`, end otherwise, or others were read.
+fn check_whole(
+    rt: &impl Abort,
+    alloc: Global,
+    reader: FakeReader,
+    limit: usize,
+    wanted: Result<(), Incomplete>,
+    count: usize,
+) {
+    let mut source = source_of(reader);
+    let mut bytes = Vec::new(alloc);
+    let ended = read_whole(&mut source, limit, &mut bytes);
+    assert_eq!(rt; ended, wanted);
+    assert!(rt; BYTES.get(..count) == Some(bytes.as_slice()));
+}
+
+#[test]
+fn all_bytes_are_read(rt: HostRuntime) {
+    check_whole(&rt, rt.alloc(), FakeReader::new(BYTES, 3), 9, Ok(()), 9);
+}
+
+#[test]
+fn more_bytes_than_the_limit(rt: HostRuntime) {
+    let reader = FakeReader::new(BYTES, 3);
+    check_whole(&rt, rt.alloc(), reader, 8, Err(Incomplete::TooLarge), 8);
+}
+
+#[test]
+fn a_reader_that_fails_gives_what_came_before(rt: HostRuntime) {
+    let mut reader = FakeReader::new(BYTES, 3);
+    reader.fault_at = 2;
+    check_whole(&rt, rt.alloc(), reader, 9, Err(Incomplete::ReadFault), 6);
+}
+
+const TEXT: &[u8] = b"#0\n$dumpvars\n0!\n$end\n";
+
+/// Stops where writing and flushing the text ends otherwise, or other bytes or flushes come. `wanted` is how
+/// many bytes an error counts.
+fn check_written(
+    rt: &impl Abort,
+    writer: FakeWriter,
+    wanted: Option<u128>,
+    count: usize,
+    flushes: usize,
+) {
+    let mut sink = sink_of(writer);
+    let ended = write_and_flush(&mut sink, TEXT);
+    assert_eq!(rt; ended.err().map(|short| short.written), wanted);
+    assert_eq!(rt; sink.failed(), wanted.is_some());
+    let writer = sink.into_inner();
+    assert!(rt; TEXT.get(..count) == Some(writer.held.as_slice()));
+    assert_eq!(rt; writer.flushes, flushes);
+}
+
+#[test]
+fn a_byte_at_a_time(rt: HostRuntime) {
+    check_written(&rt, FakeWriter::new(rt.alloc(), 1), None, 21, 1);
+}
+
+/// Three bytes are handed over at a time where ten have room: the count is what was taken.
+#[test]
+fn fails_after_ten_bytes(rt: HostRuntime) {
+    let writer = FakeWriter::narrow(rt.alloc(), 3, 10, false);
+    check_written(&rt, writer, Some(10), 10, 0);
+}
+
+#[test]
+fn fails_in_the_flush(rt: HostRuntime) {
+    let writer = FakeWriter::narrow(rt.alloc(), 3, 100, true);
+    check_written(&rt, writer, Some(21), 21, 1);
+}
+
+#[test]
+fn takes_no_byte(rt: HostRuntime) {
+    check_written(&rt, FakeWriter::new(rt.alloc(), 0), Some(0), 0, 0);
+}
+
+#[test]
+fn no_bytes_are_written_and_flushed(rt: HostRuntime) {
+    let mut sink = sink_of(FakeWriter::narrow(rt.alloc(), 1, 0, false));
+    assert_eq!(rt; write_all(&mut sink, b""), Ok(()));
+    assert_eq!(rt; write_and_flush(&mut sink, b""), Ok(()));
+    assert_eq!(rt; sink.into_inner().flushes, 1);
+}

@@ -1,0 +1,142 @@
+//! Readers and writers that give or take little at a time, and fail where they are told to.
+
+ghost use Rattle.std.specs.Prelude.{◌≡◌, false};
+
+use std::alloc::Global;
+use std::io;
+use std::io::{ErrorKind, Read, Write};
+use vcd_core::{FromRead, Sink, Source, ToWrite};
+
+/// No call of a device.
+pub const NEVER: usize = usize::MAX;
+
+/// Gives `rest` in pieces of at most `piece` bytes. The call numbered `fault_at`, from 0, is interrupted, and
+/// with `fails_at_end` each one where no byte is left.
+#[derive(Drop)]
+pub struct FakeReader<'a> {
+    pub rest: &'a [u8],
+    pub piece: usize,
+    pub fault_at: usize,
+    pub fails_at_end: bool,
+    /// How often it was asked.
+    pub calls: usize,
+}
+
+impl<'a> FakeReader<'a> {
+    /// A reader that never fails.
+    pub fn new(rest: &'a [u8], piece: usize) -> FakeReader<'a> {
+        FakeReader {
+            rest,
+            piece,
+            fault_at: NEVER,
+            fails_at_end: false,
+            calls: 0,
+        }
+    }
+
+    fn is_interrupted(&mut self) -> bool {
+        let call = self.calls;
+        self.calls = call.saturating_add(1);
+        call == self.fault_at || (self.fails_at_end && self.rest.is_empty())
+    }
+}
+
+impl<'a> Read for FakeReader<'a> {
+    fn read(&mut self, buffer: &mut [u8]) -> io::Result<usize> {
+        if self.is_interrupted() {
+            return Err(io::Error::from(ErrorKind::Interrupted));
+        }
+        let room = buffer.len().min(self.piece);
+        let mut rest = self.rest;
+        let count = rest.read(&mut buffer[..room])?;
+        self.rest = rest;
+        Ok(count)
+    }
+}
+
+/// Takes at most `piece` bytes a call and `room` in all. The call numbered `fault_at`, from 0, is interrupted,
+/// be it a write or a flush.
+#[derive(Drop)]
+pub struct FakeWriter {
+    pub held: Vec<u8>,
+    pub piece: usize,
+    pub room: usize,
+    pub fault_at: usize,
+    pub flush_fails: bool,
+    /// How often it was asked, and how often to flush.
+    pub calls: usize,
+    pub flushes: usize,
+}
+
+impl FakeWriter {
+    /// A writer that never fails.
+    pub fn new(alloc: Global, piece: usize) -> FakeWriter {
+        FakeWriter {
+            held: Vec::new(alloc),
+            piece,
+            room: usize::MAX,
+            fault_at: NEVER,
+            flush_fails: false,
+            calls: 0,
+            flushes: 0,
+        }
+    }
+
+    /// A writer that fails after `room` bytes, and maybe in its flush.
+    pub fn narrow(alloc: Global, piece: usize, room: usize, flush_fails: bool) -> FakeWriter {
+        FakeWriter {
+            held: Vec::new(alloc),
+            piece,
+            room,
+            fault_at: NEVER,
+            flush_fails,
+            calls: 0,
+            flushes: 0,
+        }
+    }
+
+    fn is_interrupted(&mut self) -> bool {
+        let call = self.calls;
+        self.calls = call.saturating_add(1);
+        call == self.fault_at
+    }
+}
+
+impl Write for FakeWriter {
+    fn write(&mut self, bytes: &[u8]) -> io::Result<usize> {
+        if self.is_interrupted() {
+            return Err(io::Error::from(ErrorKind::Interrupted));
+        }
+        let left = self.room.saturating_sub(self.held.len());
+        if left == 0 && self.piece > 0 {
+            return Err(io::Error::from(ErrorKind::StorageFull));
+        }
+        let count = bytes.len().min(self.piece).min(left);
+        match self.held.extend_from_slice(&bytes[..count]) {
+            Ok(()) => Ok(count),
+            Err(_) => Err(io::Error::from(ErrorKind::OutOfMemory)),
+        }
+    }
+
+    fn flush(&mut self) -> io::Result<()> {
+        self.flushes = self.flushes.saturating_add(1);
+        if self.is_interrupted() || self.flush_fails {
+            return Err(io::Error::from(ErrorKind::Interrupted));
+        }
+        Ok(())
+    }
+}
+
+/// A source of what a reader gives.
+pub fn source_of<'a>(reader: FakeReader<'a>) -> FromRead<FakeReader<'a>>
+    ensures { ⟦<FromRead<FakeReader<'a>> as Source>⟧.has_failed result ≡ false }
+{
+    FromRead::new(reader)
+}
+
+/// A sink into a writer.
+pub fn sink_of(writer: FakeWriter) -> ToWrite<FakeWriter>
+    ensures { ⟦<ToWrite<FakeWriter> as Sink>⟧.has_failed result ≡ false }
+{
+    ToWrite::new(writer)
+}

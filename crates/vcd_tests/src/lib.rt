@@ -1,0 +1,30 @@
+//! Tests of `vcd_core` and `vcd_text` over their public calls: worked values from outside, devices that give
+//! little or fail, hostile files, and each call that takes memory once where there is plenty.
+//!
+//! What a clause says is proved and not tested. A table is one text, of which each line is a row.
+#![tactic(auto)]
+
+#[cfg(test)]
+mod captures;
+#[cfg(test)]
+mod devices;
+#[cfg(test)]
+mod edges;
+#[cfg(test)]
+mod fake_devices;
+#[cfg(test)]
+mod fixtures;
+#[cfg(test)]
+mod names;
+#[cfg(test)]
+mod reading;
+#[cfg(test)]
+mod splices;
+#[cfg(test)]
+mod values;
+#[cfg(test)]
+mod waves;
+#[cfg(test)]
+mod words;
+#[cfg(test)]
+mod writing;

@@ -1,0 +1,81 @@
+//! Files that are read: what they mean, their faults, files that break off, and hostile ones.
+
+mod broken_off;
+mod faults;
+mod hostile;
+mod limits;
+mod worked;
+
+use crate::fake_devices::{FakeReader, source_of};
+use std::alloc::Global;
+use std::process::Abort;
+use std::test::Fail;
+use vcd_core::ToWrite;
+use vcd_text::{read, write};
+
+/// How many bytes a reader gives at a time.
+const PIECES: [usize; 3] = [1, 7, 4096];
+
+/// The line and the name of the fault that is answered to a reader, else 0 and `read`.
+fn answer_to(alloc: Global, reader: FakeReader) -> (u64, &'static str) {
+    let mut source = source_of(reader);
+    match read(alloc, &mut source) {
+        Ok(_) => (0, "read"),
+        Err(error) => (error.line, error.name()),
+    }
+}
+
+/// Stops where a reader is answered otherwise than by `answer`, as `3 BadTime`.
+fn check_answer_to(
+    rt: &impl Abort,
+    alloc: Global,
+    reader: FakeReader,
+    answer: &str,
+) -> Result<(), Fail> {
+    let (line, name) = answer.split_once(' ').ok_or("no line")?;
+    let line = line.parse::<u64>()?;
+    let (found, fault) = answer_to(alloc, reader);
+    assert!(rt; found == line && fault == name, "{answer}");
+    Ok(())
+}
+
+/// Stops where a file is answered otherwise, whatever pieces its reader gives. With `fails` the reader fails at
+/// the end of the file.
+fn check_answer(
+    rt: &impl Abort,
+    alloc: Global,
+    file: &[u8],
+    fails: bool,
+    answer: &str,
+) -> Result<(), Fail> {
+    for piece in PIECES {
+        let mut reader = FakeReader::new(file, piece);
+        reader.fails_at_end = fails;
+        check_answer_to(rt, alloc, reader, answer)?;
+    }
+    Ok(())
+}
+
+/// How many variables of a file are skipped, and its capture as it is written.
+fn rewritten(alloc: Global, reader: FakeReader) -> Result<(u64, Vec<u8>), Fail> {
+    let mut source = source_of(reader);
+    let loaded = read(alloc, &mut source)?;
+    let mut sink = ToWrite::new(Vec::new(alloc));
+    write(alloc, &loaded.capture, &mut sink)?;
+    Ok((loaded.skipped, sink.into_inner()))
+}
+
+/// Stops where a file that is read in such pieces, and written, is not `text`, or other variables are skipped.
+fn check_rewritten(
+    rt: &impl Abort,
+    alloc: Global,
+    file: &[u8],
+    piece: usize,
+    skipped: u64,
+    text: &[u8],
+) -> Result<(), Fail> {
+    let (left_out, written) = rewritten(alloc, FakeReader::new(file, piece))?;
+    assert_eq!(rt; left_out, skipped);
+    assert!(rt; written.as_slice() == text);
+    Ok(())
+}

@@ -1,0 +1,211 @@
+//! Splices, each with the splice that undoes it.
+
+ghost use Rattle.std.specs.Prelude.{◌≡◌, ◌≤◌, ◌++◌, IsTrue, IfOk, OnOk, length, drop, map};
+ghost use Rattle.vcd_core.specs.Splice.{TickFits, TicksFit, moved_change, spliced_changes};
+ghost use Rattle.vcd_core.specs.Wave.{IsWave};
+
+use crate::fixtures::{changes_of, wave_of};
+use std::alloc::{AllocError, Global};
+use std::process::Abort;
+use std::test::Fail;
+use vcd_core::{Bit, Change, Value, WIDTH_LIMIT, Wave};
+
+/// Whether a change may move by so many ticks.
+#[tactic(auto, unfolding(vcd_core::specs::Splice::TickFits))]
+fn fits(change: &Change, by: i64) -> bool
+    ensures { IsTrue result → TickFits by change.now }
+{
+    change.tick.checked_add_signed(by).is_some()
+}
+
+/// Whether each of them may.
+fn all_fit(changes: &[Change], by: i64) -> bool
+    ensures { IsTrue result → TicksFit by changes.now }
+{
+    changes.iter().all(|change| fits(change, by))
+}
+
+/// Whether the changes are those of a wave of `width` bits.
+fn is_wave(width: u64, changes: &[Change]) -> bool
+    requires least { 1 ≤ width }
+    requires most { width ≤ WIDTH_LIMIT }
+    ensures { IsTrue result → IsWave width changes.now }
+{
+    let mut floor = 0u64;
+    let mut before = Value::filled(width, Bit::X);
+    for change in changes {
+        let Some(next) = change.tick.checked_add(1) else {
+            return false;
+        };
+        if change.tick < floor || change.value == before || change.value.width() != width {
+            return false;
+        }
+        floor = next;
+        before = change.value;
+    }
+    true
+}
+
+/// The change `by` ticks later.
+fn later(change: Change, by: i64) -> Change
+    requires { TickFits by change }
+    ensures { result ≡ moved_change by change }
+{
+    let tick = change.tick.checked_add_signed(by).unwrap();
+    Change {
+        tick,
+        value: change.value,
+    }
+}
+
+/// Appends the changes of the tail, each `by` ticks later.
+fn append_later(list: &mut Vec<Change>, tail: &[Change], by: i64) -> Result<(), AllocError>
+    requires { TicksFit by tail.now }
+    ensures { OnOk result (list.new.items ≡ list.old.items ++ map (moved_change by) tail.now) }
+{
+    for change in tail {
+        let next = later(*change, by);
+        list.push(next)?;
+    }
+    Ok(())
+}
+
+/// The changes after a splice.
+#[tactic(auto, unfolding(vcd_core::specs::Splice::spliced_changes))]
+fn changes_after(
+    alloc: Global,
+    changes: &[Change],
+    from: usize,
+    to: usize,
+    piece: &[Change],
+    by: i64,
+) -> Result<Vec<Change>, AllocError>
+    requires ordered { from ≤ to }
+    requires within { to ≤ length changes.now }
+    requires ticks { TicksFit by (drop to changes.now) }
+    ensures { IfOk result (λ list. list.items ≡ spliced_changes changes.now from to piece.now by) }
+{
+    let mut list = changes[..from].to_vec(alloc)?;
+    list.extend_from_slice(piece)?;
+    append_later(&mut list, &changes[to..], by)?;
+    Ok(list)
+}
+
+/// Where a splice goes: the changes at positions `from` up to before `to` are replaced, and the later ones
+/// move.
+#[derive(Clone, Copy)]
+struct Place {
+    from: usize,
+    to: usize,
+    by: i64,
+}
+
+/// A splice with just the room that it asks for, where its other conditions hold.
+fn splice(
+    rt: &impl Abort,
+    alloc: Global,
+    wave: &mut Wave,
+    place: Place,
+    piece: &mut Vec<Change>,
+) -> Result<(), Fail> {
+    let Place { from, to, by } = place;
+    assert!(rt; from <= to && to <= wave.changes().len());
+    let out = to - from;
+    wave.reserve(piece.len().saturating_sub(out))?;
+    piece.reserve(out.saturating_sub(piece.len()))?;
+    assert!(rt; all_fit(&wave.changes()[to..], by));
+    let after = changes_after(alloc, wave.changes(), from, to, piece.as_slice(), by)?;
+    assert!(rt; is_wave(wave.width(), after.as_slice()));
+    wave.splice(from, to, piece, by);
+    Ok(())
+}
+
+/// Where the wave of the rows has its changes.
+const WAVE: &str = "1@3 0@5 1@7";
+
+/// The place, by how many ticks the later changes move, the piece, and the changes after the splice: of
+/// nothing, at the front, in the middle, at the end, with an empty piece, of the whole list, and far up.
+const SPLICES: &str = "\
+0 0 0:: 1@3 0@5 1@7
+0 1 4: z@1 1@2: z@1 1@2 0@9 1@11
+1 2 -1: z@4: 1@3 z@4 1@6
+3 3 0: x@8: 1@3 0@5 1@7 x@8
+0 1 -1:: 0@4 1@6
+1 3 0:: 1@3
+0 3 0: z@6: z@6
+2 2 9223372036854775799: x@6: 1@3 0@5 x@6 1@9223372036854775806";
+
+fn place_of(alloc: Global, text: &str) -> Result<Place, Fail> {
+    let words: Vec<&str> = text.split(' ').collect(alloc)?;
+    match words.as_slice() {
+        [from, to, by] => Ok(Place {
+            from: from.parse::<usize>()?,
+            to: to.parse::<usize>()?,
+            by: by.parse::<i64>()?,
+        }),
+        _ => Err(Fail::from("not three numbers")),
+    }
+}
+
+/// Stops where a splice gives another wave, or its opposite does not undo it.
+fn check_splice(
+    rt: &impl Abort,
+    alloc: Global,
+    place: Place,
+    piece: &[Change],
+    after: &[Change],
+) -> Result<(), Fail> {
+    let Place { from, to, by } = place;
+    let mut wave = wave_of(alloc, WAVE)?;
+    let before = wave.changes().to_vec(alloc)?;
+    let mut held = piece.to_vec(alloc)?;
+    splice(rt, alloc, &mut wave, place, &mut held)?;
+    assert!(rt; wave.changes() == after);
+    assert!(rt;
+        before.get(from..to) == Some(held.as_slice()),
+        "what went out"
+    );
+    let back = Place {
+        from,
+        to: from.saturating_add(piece.len()),
+        by: by.wrapping_neg(),
+    };
+    splice(rt, alloc, &mut wave, back, &mut held)?;
+    assert!(rt; wave.changes() == before.as_slice(), "as it was");
+    assert!(rt; held.as_slice() == piece, "the piece comes back");
+    Ok(())
+}
+
+fn check_row(rt: &impl Abort, alloc: Global, row: &str) -> Result<(), Fail> {
+    let (place, lists) = row.split_once(':').ok_or("no place")?;
+    let (piece, after) = lists.split_once(':').ok_or("no piece")?;
+    let place = place_of(alloc, place)?;
+    let piece = changes_of(alloc, piece)?;
+    let after = changes_of(alloc, after)?;
+    check_splice(rt, alloc, place, piece.as_slice(), after.as_slice())
+}
+
+#[test]
+fn a_splice_and_the_opposite_splice(rt: HostRuntime) -> Result<(), Fail> {
+    for row in SPLICES.lines() {
+        check_row(&rt, rt.alloc(), row)?;
+    }
+    Ok(())
+}
+
+#[test]
+fn a_piece_with_room_keeps_it(rt: HostRuntime) -> Result<(), Fail> {
+    let mut wave = wave_of(rt.alloc(), WAVE)?;
+    let mut held = changes_of(rt.alloc(), "z@4")?;
+    held.reserve(9)?;
+    let room = held.capacity();
+    let whole = Place {
+        from: 0,
+        to: 3,
+        by: 0,
+    };
+    splice(&rt, rt.alloc(), &mut wave, whole, &mut held)?;
+    assert_eq!(rt; held.len(), 3);
+    assert!(rt; room <= held.capacity());
+    Ok(())
+}

@@ -1,0 +1,80 @@
+//! Waves: what pushes make of them, and what they tell.
+
+use crate::fixtures::{changes_of, pushed, wave_of};
+use std::alloc::Global;
+use std::process::Abort;
+use std::test::Fail;
+use vcd_core::{Bit, END_LIMIT, Value, WIDTH_LIMIT, Wave};
+
+/// Pushes, and the changes after them. A value equal to the one before adds nothing, and an equal tick
+/// replaces.
+const PUSHES: &str = "\
+=>
+0@0 1@5 z@9 => 0@0 1@5 z@9
+x@0 =>
+x@9 =>
+1@3 1@7 => 1@3
+1@3 0@7 z@7 => 1@3 z@7
+1@3 0@7 z@7 1@7 => 1@3
+1@0 x@0 => 
+1@0 x@0 0@1 x@2 => 0@1 x@2";
+
+/// Stops where pushes leave other changes.
+fn check_pushes(rt: &impl Abort, alloc: Global, row: &str) -> Result<(), Fail> {
+    let (pushes, after) = row.split_once("=>").ok_or("no arrow")?;
+    let pushes = changes_of(alloc, pushes)?;
+    let after = changes_of(alloc, after)?;
+    let wave = pushed(alloc, pushes.as_slice())?;
+    assert!(rt; wave.changes() == after.as_slice(), "{row}");
+    Ok(())
+}
+
+#[test]
+fn pushes_at_the_end(rt: HostRuntime) -> Result<(), Fail> {
+    for row in PUSHES.lines() {
+        check_pushes(&rt, rt.alloc(), row)?;
+    }
+    Ok(())
+}
+
+#[test]
+fn a_wave_keeps_its_value_until_the_next_change(rt: HostRuntime) -> Result<(), Fail> {
+    let wave = wave_of(rt.alloc(), "0@1 1@5 z@9")?;
+    assert_eq!(rt; wave.at(0), Value::filled(1, Bit::X));
+    assert_eq!(rt; wave.at(4), Value::filled(1, Bit::Zero));
+    assert_eq!(rt; wave.at(5), Value::filled(1, Bit::One));
+    assert_eq!(rt; wave.at(8), Value::filled(1, Bit::One));
+    assert_eq!(rt; wave.at(u64::MAX), Value::filled(1, Bit::Z));
+    Ok(())
+}
+
+#[test]
+fn changes_before_a_tick_are_counted(rt: HostRuntime) -> Result<(), Fail> {
+    let wave = wave_of(rt.alloc(), "0@0 1@5 z@9")?;
+    assert_eq!(rt; wave.count_until(0), 0);
+    assert_eq!(rt; wave.count_until(5), 1);
+    assert_eq!(rt; wave.count_until(6), 2);
+    Ok(())
+}
+
+#[test]
+fn the_greatest_tick_of_the_widest_wave(rt: HostRuntime) -> Result<(), Fail> {
+    let mut wave = Wave::new(rt.alloc(), WIDTH_LIMIT);
+    wave.push(0, Value::filled(WIDTH_LIMIT, Bit::One))?;
+    wave.push(END_LIMIT, Value::filled(WIDTH_LIMIT, Bit::Z))?;
+    assert_eq!(rt; wave.width(), WIDTH_LIMIT);
+    assert_eq!(rt;
+        wave.at(END_LIMIT - 1),
+        Value::filled(WIDTH_LIMIT, Bit::One)
+    );
+    assert_eq!(rt; wave.at(END_LIMIT), Value::filled(WIDTH_LIMIT, Bit::Z));
+    Ok(())
+}
+
+#[test]
+fn room_is_made(rt: HostRuntime) -> Result<(), Fail> {
+    let mut wave = wave_of(rt.alloc(), "1@3 0@5")?;
+    assert_eq!(rt; wave.reserve(1000), Ok(()));
+    assert_eq!(rt; wave.changes().len(), 2);
+    Ok(())
+}

@@ -1,0 +1,68 @@
+//! Words of a text, with the lines that they stand on, and the numbers that they are.
+
+use std::process::Abort;
+use std::test::Fail;
+use vcd_core::number_up_to;
+use vcd_text::{PlacedWord, Words};
+
+/// The words of the text below, each behind its line.
+const WORDS: &str = "1 $end\n2 b01x\n2 !\n4 a.b\n4 $";
+
+const TEXT: &[u8] = b" $end\n\tb01x\x0b!\r\n\x0c\na.b $";
+
+/// Stops where a word is another, or on another line.
+fn check_word(rt: &impl Abort, word: PlacedWord, row: &str) -> Result<(), Fail> {
+    let (line, text) = row.split_once(' ').ok_or("no line")?;
+    assert_eq!(rt; word.line, line.parse::<u64>()?);
+    assert!(rt; word.text == text.as_bytes(), "{row}");
+    Ok(())
+}
+
+#[test]
+fn words_and_lines(rt: HostRuntime) -> Result<(), Fail> {
+    let mut words = Words::new(TEXT);
+    for row in WORDS.lines() {
+        check_word(&rt, words.next_word().ok_or("a word is missing")?, row)?;
+    }
+    assert!(rt; words.next_word().is_none());
+    Ok(())
+}
+
+/// The last word of a text that may go on is not sure.
+#[test]
+fn words_that_white_space_follows(rt: HostRuntime) {
+    assert_eq!(rt; Words::new(TEXT).count(), 5);
+    assert_eq!(rt; Words::closed(TEXT).count(), 4);
+}
+
+/// A text, the most that it may be, and its number up to that; `-` where it is none.
+const NUMBERS: &str = "\
+0 9 0
+007 9 7
+9 9 9
+10 9 9
+99999999999999999999999999 18446744073709551615 18446744073709551615
+-1 9 -
+1x 9 -
+ 9 -";
+
+/// Stops where a text has another number.
+fn check_number(rt: &impl Abort, row: &str) -> Result<(), Fail> {
+    let (text, rest) = row.split_once(' ').ok_or("no text")?;
+    let (most, number) = rest.split_once(' ').ok_or("no number")?;
+    let most = most.parse::<u64>()?;
+    assert_eq!(rt;
+        number_up_to(text.as_bytes(), most),
+        number.parse::<u64>().ok(),
+        "{row}"
+    );
+    Ok(())
+}
+
+#[test]
+fn numbers_up_to_the_most(rt: HostRuntime) -> Result<(), Fail> {
+    for row in NUMBERS.lines() {
+        check_number(&rt, row)?;
+    }
+    Ok(())
+}

@@ -1,0 +1,78 @@
+//! Writers that take little and fail while a capture is written.
+
+use crate::fake_devices::{FakeWriter, sink_of};
+use crate::fixtures::loaded;
+use std::alloc::Global;
+use std::process::Abort;
+use std::test::Fail;
+use vcd_text::{WriteError, write};
+
+/// A capture as it is written.
+const TEXT: &str = "$timescale 1 ns $end
+$scope module top $end
+$var wire 1 ! b $end
+$upscope $end
+$enddefinitions $end
+#0
+$dumpvars
+0!
+$end
+#5
+1!
+#9
+";
+
+/// Stops where the writing of that capture ends otherwise, or other bytes or flushes come.
+fn check_written(
+    rt: &impl Abort,
+    alloc: Global,
+    writer: FakeWriter,
+    wanted: Result<(), WriteError>,
+    count: usize,
+    flushes: usize,
+) -> Result<(), Fail> {
+    let loaded = loaded(alloc, TEXT.as_bytes())?;
+    let mut sink = sink_of(writer);
+    let ended = write(alloc, &loaded.capture, &mut sink);
+    assert_eq!(rt; ended, wanted);
+    let writer = sink.into_inner();
+    assert!(rt; TEXT.as_bytes().get(..count) == Some(writer.held.as_slice()));
+    assert_eq!(rt; writer.flushes, flushes);
+    Ok(())
+}
+
+/// No clause speaks of the flush of a writer that takes all, so its calls are counted.
+#[test]
+fn flushed_once(rt: HostRuntime) -> Result<(), Fail> {
+    let writer = FakeWriter::new(rt.alloc(), 7);
+    check_written(&rt, rt.alloc(), writer, Ok(()), 130, 1)
+}
+
+#[test]
+fn a_writer_that_fails_after_ten_bytes(rt: HostRuntime) -> Result<(), Fail> {
+    let writer = FakeWriter::narrow(rt.alloc(), 7, 10, false);
+    let fault = WriteError::WriteFault { written: 10 };
+    check_written(&rt, rt.alloc(), writer, Err(fault), 10, 0)
+}
+
+#[test]
+fn a_flush_that_fails(rt: HostRuntime) -> Result<(), Fail> {
+    let writer = FakeWriter::narrow(rt.alloc(), 1000, 1000, true);
+    let fault = WriteError::WriteFault { written: 130 };
+    check_written(&rt, rt.alloc(), writer, Err(fault), 130, 1)
+}
+
+#[test]
+fn a_writer_that_takes_no_byte(rt: HostRuntime) -> Result<(), Fail> {
+    let writer = FakeWriter::new(rt.alloc(), 0);
+    let fault = WriteError::WriteFault { written: 0 };
+    check_written(&rt, rt.alloc(), writer, Err(fault), 0, 0)
+}
+
+/// A name of a fault that is printed.
+#[test]
+fn faults_are_printed(rt: HostRuntime) -> Result<(), Fail> {
+    let fault = WriteError::WriteFault { written: 3 };
+    assert_eq!(rt; format!(in rt.alloc(); "{fault}")?.as_str(), "WriteFault");
+    Ok(())
+}

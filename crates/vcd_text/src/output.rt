@@ -1,3 +1,0 @@
-//! Tests of the writing of a text to a device.
-
-mod tests;
