@@ -14,8 +14,8 @@ mod writing;
 
 pub use fault::{Fault, ReadError, WriteError};
 pub use laws::{
-    front_fault_stays, front_has_one_fault, has_an_answer, has_one_answer, nothing_else_is_read_back,
-    text_is_read_back,
+    front_fault_stays, front_has_one_fault, has_an_answer, has_one_answer,
+    nothing_else_is_read_back, text_is_read_back,
 };
 pub use reading::{FILE_LIMIT, Loaded, read};
 pub use words::{PlacedWord, Words};
