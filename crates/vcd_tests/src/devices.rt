@@ -28,31 +28,31 @@ fn to_memory(bytes: Vec<u8>) -> ToWrite<Vec<u8>>
 fn memory_gives_its_bytes_and_ends(rt: HostRuntime) {
     let mut source = from_memory(b"#10 1!");
     let mut buffer = [b'.'; 4];
-    assert_eq!(rt; source.read(&mut buffer), Ok(4));
-    assert_eq!(rt; buffer.as_slice(), b"#10 ".as_slice());
-    assert_eq!(rt; source.read(&mut []), Ok(0));
-    assert_eq!(rt; source.read(&mut buffer), Ok(2));
-    assert_eq!(rt; buffer.as_slice(), b"1!0 ".as_slice());
-    assert_eq!(rt; source.read(&mut buffer), Ok(0));
+    assert!(rt; source.read(&mut buffer) == Ok(4));
+    assert!(rt; buffer.as_slice() == b"#10 ".as_slice());
+    assert!(rt; source.read(&mut []) == Ok(0));
+    assert!(rt; source.read(&mut buffer) == Ok(2));
+    assert!(rt; buffer.as_slice() == b"1!0 ".as_slice());
+    assert!(rt; source.read(&mut buffer) == Ok(0));
     assert!(rt; !source.failed());
 }
 
 #[test]
 fn memory_keeps_what_it_takes(rt: HostRuntime) {
     let mut sink = to_memory(Vec::new(rt.alloc()));
-    assert_eq!(rt; sink.write(b"#10"), Ok(3));
-    assert_eq!(rt; sink.write(b""), Ok(0));
-    assert_eq!(rt; sink.write(b"\n"), Ok(1));
-    assert_eq!(rt; sink.flush(), Ok(()));
+    assert!(rt; sink.write(b"#10") == Ok(3));
+    assert!(rt; sink.write(b"") == Ok(0));
+    assert!(rt; sink.write(b"\n") == Ok(1));
+    assert!(rt; sink.flush() == Ok(()));
     assert!(rt; !sink.failed());
-    assert_eq!(rt; sink.into_inner().as_slice(), b"#10\n".as_slice());
+    assert!(rt; sink.into_inner().as_slice() == b"#10\n".as_slice());
 }
 
 /// Stops where a source that has failed answers anything but that.
 fn check_stays_failed(rt: &impl Abort, source: &mut FromRead<FakeReader>) {
     let mut buffer = [b'.'; 4];
     for _ in 0..3 {
-        assert_eq!(rt; source.read(&mut buffer), Err(DeviceFault));
+        assert!(rt; source.read(&mut buffer) == Err(DeviceFault));
         assert!(rt; source.failed());
     }
 }
@@ -64,14 +64,14 @@ fn an_interrupted_read_is_the_end(rt: HostRuntime) {
     let mut source = source_of(reader);
     let mut buffer = [b'.'; 4];
     for byte in *b"#10" {
-        assert_eq!(rt; source.read(&mut buffer), Ok(1));
-        assert_eq!(rt; buffer[0], byte);
+        assert!(rt; source.read(&mut buffer) == Ok(1));
+        assert!(rt; buffer[0] == byte);
     }
     assert!(rt; !source.failed());
     check_stays_failed(&rt, &mut source);
     let reader = source.into_inner();
-    assert_eq!(rt; reader.rest, b" 1!".as_slice());
-    assert_eq!(rt; reader.calls, 4, "no read after the failure");
+    assert!(rt; reader.rest == b" 1!".as_slice());
+    assert!(rt; reader.calls == 4, "no read after the failure");
 }
 
 /// A writer that takes so many bytes a call, and of which this call is interrupted.
@@ -84,34 +84,37 @@ fn interrupted(alloc: Global, piece: usize, fault_at: usize) -> ToWrite<FakeWrit
 #[test]
 fn an_interrupted_write_is_the_end(rt: HostRuntime) {
     let mut sink = interrupted(rt.alloc(), 2, 2);
-    assert_eq!(rt; sink.write(b"#10 1!"), Ok(2));
-    assert_eq!(rt; sink.write(b"0 1!"), Ok(2));
-    assert_eq!(rt; sink.write(b"1!"), Err(DeviceFault));
-    assert_eq!(rt; sink.write(b"1!"), Err(DeviceFault));
-    assert_eq!(rt; sink.flush(), Err(DeviceFault));
+    assert!(rt; sink.write(b"#10 1!") == Ok(2));
+    assert!(rt; sink.write(b"0 1!") == Ok(2));
+    assert!(rt; sink.write(b"1!") == Err(DeviceFault));
+    assert!(rt; sink.write(b"1!") == Err(DeviceFault));
+    assert!(rt; sink.flush() == Err(DeviceFault));
     assert!(rt; sink.failed());
     let writer = sink.into_inner();
-    assert_eq!(rt; writer.held.len(), 4);
-    assert_eq!(rt; writer.calls, 3, "no write after the failure");
+    assert!(rt; writer.held.len() == 4);
+    assert!(rt; writer.calls == 3, "no write after the failure");
 }
 
 #[test]
 fn a_write_that_takes_no_byte_is_a_failure(rt: HostRuntime) {
     let mut sink = interrupted(rt.alloc(), 0, NEVER);
-    assert_eq!(rt; sink.write(b""), Ok(0));
+    assert!(rt; sink.write(b"") == Ok(0));
     assert!(rt; !sink.failed());
-    assert_eq!(rt; sink.write(b"1!"), Err(DeviceFault));
-    assert_eq!(rt; sink.write(b""), Err(DeviceFault));
+    assert!(rt; sink.write(b"1!") == Err(DeviceFault));
+    assert!(rt; sink.write(b"") == Err(DeviceFault));
     assert!(rt; sink.failed());
 }
 
 #[test]
 fn an_interrupted_flush_is_a_failure(rt: HostRuntime) {
     let mut sink = interrupted(rt.alloc(), 2, 1);
-    assert_eq!(rt; sink.write(b"1!"), Ok(2));
-    assert_eq!(rt; sink.flush(), Err(DeviceFault));
-    assert_eq!(rt; sink.flush(), Err(DeviceFault));
-    assert_eq!(rt; sink.into_inner().flushes, 1, "no flush after the failure");
+    assert!(rt; sink.write(b"1!") == Ok(2));
+    assert!(rt; sink.flush() == Err(DeviceFault));
+    assert!(rt; sink.flush() == Err(DeviceFault));
+    assert!(rt;
+        sink.into_inner().flushes == 1,
+        "no flush after the failure"
+    );
 }
 
 /// Nine bytes, read three at a time.
@@ -129,7 +132,7 @@ fn check_whole(
     let mut source = source_of(reader);
     let mut bytes = Vec::new(alloc);
     let ended = read_whole(&mut source, limit, &mut bytes);
-    assert_eq!(rt; ended, wanted);
+    assert!(rt; ended == wanted);
     assert!(rt; BYTES.get(..count) == Some(bytes.as_slice()));
 }
 
@@ -164,11 +167,11 @@ fn check_written(
 ) {
     let mut sink = sink_of(writer);
     let ended = write_and_flush(&mut sink, TEXT);
-    assert_eq!(rt; ended.err().map(|short| short.written), wanted);
-    assert_eq!(rt; sink.failed(), wanted.is_some());
+    assert!(rt; ended.err().map(|short| short.written) == wanted);
+    assert!(rt; sink.failed() == wanted.is_some());
     let writer = sink.into_inner();
     assert!(rt; TEXT.get(..count) == Some(writer.held.as_slice()));
-    assert_eq!(rt; writer.flushes, flushes);
+    assert!(rt; writer.flushes == flushes);
 }
 
 #[test]
@@ -197,7 +200,7 @@ fn takes_no_byte(rt: HostRuntime) {
 #[test]
 fn no_bytes_are_written_and_flushed(rt: HostRuntime) {
     let mut sink = sink_of(FakeWriter::narrow(rt.alloc(), 1, 0, false));
-    assert_eq!(rt; write_all(&mut sink, b""), Ok(()));
-    assert_eq!(rt; write_and_flush(&mut sink, b""), Ok(()));
-    assert_eq!(rt; sink.into_inner().flushes, 1);
+    assert!(rt; write_all(&mut sink, b"") == Ok(()));
+    assert!(rt; write_and_flush(&mut sink, b"") == Ok(()));
+    assert!(rt; sink.into_inner().flushes == 1);
 }

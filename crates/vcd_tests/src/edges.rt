@@ -31,7 +31,7 @@ fn letters(values: [Option<Value>; 4]) -> [u8; 4] {
 fn check_edge(rt: &impl Abort, edge: Edge, row: &str) -> Result<(), Fail> {
     let (tick, values) = row.split_once(' ').ok_or("no tick")?;
     let (before, at) = values.split_once(' ').ok_or("no values")?;
-    assert_eq!(rt; edge.tick, tick.parse::<u64>()?);
+    assert!(rt; edge.tick == tick.parse::<u64>()?);
     assert!(rt;
         letters(edge.before).as_slice() == before.as_bytes(),
         "{row}"

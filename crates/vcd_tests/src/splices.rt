@@ -205,7 +205,7 @@ fn a_piece_with_room_keeps_it(rt: HostRuntime) -> Result<(), Fail> {
         by: 0,
     };
     splice(&rt, rt.alloc(), &mut wave, whole, &mut held)?;
-    assert_eq!(rt; held.len(), 3);
+    assert!(rt; held.len() == 3);
     assert!(rt; room <= held.capacity());
     Ok(())
 }
