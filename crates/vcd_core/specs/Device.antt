@@ -2,9 +2,9 @@
 use Rattle.std.specs.Prelude.{Bool, true, false, ◌≡◌, Result, OnOk, OnErr, IsErr}
 
 -- how the answer of a call tells whether the device has failed: the project's own
-pub record Reports {T E : Type 0} (before after : Bool) (answer : Result T E) : Type 0 where
+pub record TellsFailure {T E : Type 0} (before after : Bool) (answer : Result T E) : Type 0 where
   -- an Ok leaves it not failed
-  pub sound : OnOk answer (after ≡ false)
+  pub not_failed : OnOk answer (after ≡ false)
   -- an Err means that it has failed
   pub fault : OnErr answer (after ≡ true)
   -- from then on every call is an Err

@@ -13,7 +13,7 @@ pub fn number_up_to(text: &[u8], most: u64) -> Option<u64>
     ensures { result ≡ number_up_to text.now most }
 {
     if is_number(text) {
-        Some(number_of(text).min(most))
+        Some(number_or_greatest(text).min(most))
     } else {
         None
     }
@@ -34,7 +34,7 @@ fn are_digits(text: &[u8]) -> bool
 }
 
 /// The number that decimal digits write; `u64::MAX` stands for every greater one.
-fn number_of(digits: &[u8]) -> u64
+fn number_or_greatest(digits: &[u8]) -> u64
     requires { IsTrue (list_all is_ascii_digit digits.now) }
     ensures { result ≡ min (number_of digits.now) (2 ^ 64 - 1) }
 {

@@ -10,7 +10,7 @@ use vcd_core::{Bit, Change, FromRead, NoMemory, Value, Wave};
 use vcd_text::{Loaded, ReadError, read};
 
 /// The bit that a letter means.
-pub fn bit_of(letter: &str) -> Bit {
+pub fn bit_of_letter(letter: &str) -> Bit {
     match letter {
         "0" => Bit::Zero,
         "1" => Bit::One,
@@ -24,12 +24,12 @@ fn change_of(text: &str) -> Result<Change, Fail> {
     let (letter, tick) = text.split_once('@').ok_or("a change without a tick")?;
     Ok(Change {
         tick: tick.parse::<u64>()?,
-        value: Value::filled(1, bit_of(letter)),
+        value: Value::filled(1, bit_of_letter(letter)),
     })
 }
 
 /// Changes of one bit, as `0@0 1@5`.
-pub fn changes_of(alloc: Global, text: &str) -> Result<Vec<Change>, Fail> {
+pub fn changes_in_text(alloc: Global, text: &str) -> Result<Vec<Change>, Fail> {
     let mut changes = Vec::new(alloc);
     for word in text.split_whitespace() {
         changes.push(change_of(word)?)?;
@@ -52,7 +52,7 @@ pub fn pushed(alloc: Global, changes: &[Change]) -> Result<Wave, NoMemory> {
 
 /// A wave of one bit, as `0@0 1@5`.
 pub fn wave_of(alloc: Global, text: &str) -> Result<Wave, Fail> {
-    let changes = changes_of(alloc, text)?;
+    let changes = changes_in_text(alloc, text)?;
     Ok(pushed(alloc, changes.as_slice())?)
 }
 

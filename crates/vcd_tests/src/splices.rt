@@ -4,7 +4,7 @@ ghost use Rattle.std.specs.Prelude.{◌≡◌, ◌≤◌, ◌++◌, IsTrue, IfOk
 ghost use Rattle.vcd_core.specs.Splice.{TickFits, TicksFit, moved_change, spliced_changes};
 ghost use Rattle.vcd_core.specs.Wave.{IsWave};
 
-use crate::fixtures::{changes_of, wave_of};
+use crate::fixtures::{changes_in_text, wave_of};
 use std::alloc::{AllocError, Global};
 use std::process::Abort;
 use std::test::Fail;
@@ -180,8 +180,8 @@ fn check_row(rt: &impl Abort, alloc: Global, row: &str) -> Result<(), Fail> {
     let (place, lists) = row.split_once(':').ok_or("no place")?;
     let (piece, after) = lists.split_once(':').ok_or("no piece")?;
     let place = place_of(alloc, place)?;
-    let piece = changes_of(alloc, piece)?;
-    let after = changes_of(alloc, after)?;
+    let piece = changes_in_text(alloc, piece)?;
+    let after = changes_in_text(alloc, after)?;
     check_splice(rt, alloc, place, piece.as_slice(), after.as_slice())
 }
 
@@ -196,7 +196,7 @@ fn a_splice_and_the_opposite_splice(rt: HostRuntime) -> Result<(), Fail> {
 #[test]
 fn a_piece_with_room_keeps_it(rt: HostRuntime) -> Result<(), Fail> {
     let mut wave = wave_of(rt.alloc(), WAVE)?;
-    let mut held = changes_of(rt.alloc(), "z@4")?;
+    let mut held = changes_in_text(rt.alloc(), "z@4")?;
     held.reserve(9)?;
     let room = held.capacity();
     let whole = Place {

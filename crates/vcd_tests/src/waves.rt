@@ -1,6 +1,6 @@
 //! Waves: what pushes make of them, and what they tell.
 
-use crate::fixtures::{changes_of, pushed, wave_of};
+use crate::fixtures::{changes_in_text, pushed, wave_of};
 use std::alloc::Global;
 use std::process::Abort;
 use std::test::Fail;
@@ -22,8 +22,8 @@ x@9 =>
 /// Stops where pushes leave other changes.
 fn check_pushes(rt: &impl Abort, alloc: Global, row: &str) -> Result<(), Fail> {
     let (pushes, after) = row.split_once("=>").ok_or("no arrow")?;
-    let pushes = changes_of(alloc, pushes)?;
-    let after = changes_of(alloc, after)?;
+    let pushes = changes_in_text(alloc, pushes)?;
+    let after = changes_in_text(alloc, after)?;
     let wave = pushed(alloc, pushes.as_slice())?;
     assert!(rt; wave.changes() == after.as_slice(), "{row}");
     Ok(())

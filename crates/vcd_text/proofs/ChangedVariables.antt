@@ -11,7 +11,7 @@ use Rattle.vcd_core.specs.Wave.{value_at}
 use Rattle.vcd_text.specs.declared.fault.Fault.{Fault}
 use Rattle.vcd_text.specs.declared.fault.Fault.TheVariants as faults
 use Rattle.vcd_text.specs.Letters.{letters_read, extension}
-use Rattle.vcd_text.specs.Grammar.{Declaration, ChangeRecord, Context, is_skipped, variable_of, takes_digits, change_records, with_record}
+use Rattle.vcd_text.specs.Grammar.{VariableDeclaration, RecordedChange, Context, is_skipped, variable_of, takes_digits, recorded_changes, with_recorded_change}
 use Rattle.vcd_text.specs.Meaning.{recorded_value}
 use Rattle.vcd_text.specs.inside.Variables.{declaration, owner_of, HasWave, Stands, HasFirst, Knows, Sets, RefusesDigits, no_value, too_long, TakesChange}
 use Rattle.vcd_text.specs.declared.reading.variables.Owner.{Owner}
@@ -51,7 +51,7 @@ same_length (u ∷ vs) (suc i) w = ap suc (same_length vs i w)
 
 -- ---- a record more
 
-value_with : (width : ℕ) (code : List ℕ) (t : ℕ) (before : List Bit) (rs : List ChangeRecord) (r : ChangeRecord)
+value_with : (width : ℕ) (code : List ℕ) (t : ℕ) (before : List Bit) (rs : List RecordedChange) (r : RecordedChange)
     → recorded_value width code t before (rs ++ r ∷ []) ≡ (if bytes_eq r.code code && nat_le r.tick t then extension width r.letters else recorded_value width code t before rs)
 unfolding recorded_value
 value_with width code t before [] r = refl
@@ -61,7 +61,7 @@ value_with width code t before (s ∷ rs) r = value_with width code t (if bytes_
 
 module _ (old : Variables) (list : Vec Variable) (c : Context) (code digits : List ℕ) (first : ℕ) (v w : Variable) (k : Knows old c)
     (had : owner_of old code ≡ Some (Kept first)) (read : v ≡ get_or old.kept.items first v) where
-  own_wave : (d : Declaration) × (variable_of c code ≡ Some d) × (is_skipped d ≡ false) × HasWave old.kept.items first code d.size c.records c.tick
+  own_wave : (d : VariableDeclaration) × (variable_of c code ≡ Some d) × (is_skipped d ≡ false) × HasWave old.kept.items first code d.size c.records c.tick
   own_wave =
       stands_kept old.kept.items c.records c.tick code (variable_of c code) first
       (subst (λ o. Stands old.kept.items c.records c.tick code o (variable_of c code)) had (k.stand code))
@@ -77,7 +77,7 @@ module _ (old : Variables) (list : Vec Variable) (c : Context) (code digits : Li
 
   module _ (items : list.items ≡ set old.kept.items first w) (sets : Sets c.tick digits v w) where
     same_width : w.signal.wave.width ≡ v.signal.wave.width
-    same_width = ap (λ (d : Declaration). d.size) sets.same
+    same_width = ap (λ (d : VariableDeclaration). d.size) sets.same
 
     -- what stands in the new list stood in the old one, but for the wave
     behind : (position : ℕ) (u : Variable) → slice_get list.items position ≡ Some u
@@ -92,7 +92,7 @@ module _ (old : Variables) (list : Vec Variable) (c : Context) (code digits : Li
         ]
 
     -- the record of the change
-    change_record : ChangeRecord
+    change_record : RecordedChange
     change_record = record { tick = c.tick; code = code; letters = letters_read digits }
 
     -- the wave of the code takes the value
@@ -108,7 +108,7 @@ module _ (old : Variables) (list : Vec Variable) (c : Context) (code digits : Li
         record {
           first = w;
           stands = ap (λ vs. slice_get vs position) items ∙ ap (slice_get (set old.kept.items first w)) (sym at) ∙ set_here old.kept.items first v w stood;
-          coded = ap (λ (d : Declaration). d.code) sets.same ∙ ap (λ (u : Variable). u.code) is ∙ wave.coded;
+          coded = ap (λ (d : VariableDeclaration). d.code) sets.same ∙ ap (λ (u : Variable). u.code) is ∙ wave.coded;
           sized = new_size;
           ticks = sets.ticks;
           values = λ t.
@@ -153,13 +153,13 @@ module _ (old : Variables) (list : Vec Variable) (c : Context) (code digits : Li
         let t = behind position u at in
         let before = k.firsts position t.0 t.1 in
         record {
-          owned = ap (λ (d : Declaration). owner_of old d.code) t.2 ∙ before.owned ∙ ap (λ n. Some (Kept n)) (sym t.3);
+          owned = ap (λ (d : VariableDeclaration). owner_of old d.code) t.2 ∙ before.owned ∙ ap (λ n. Some (Kept n)) (sym t.3);
           no_later = omega (arith, t.3, before.no_later);
           same_size = λ x there.
               let y = behind u.first x there in
-              ap (λ (d : Declaration). d.size) y.2
+              ap (λ (d : VariableDeclaration). d.size) y.2
               ∙ before.same_size y.0 (subst (λ n. slice_get old.kept.items n ≡ Some y.0) t.3 y.1)
-              ∙ ap (λ (d : Declaration). d.size) (sym t.2);
+              ∙ ap (λ (d : VariableDeclaration). d.size) (sym t.2);
         }
 
     changed_stands : (key : List ℕ) → Stands list.items (c.records ++ change_record ∷ []) c.tick key (owner_of old key) (variable_of c key)
@@ -171,14 +171,14 @@ module _ (old : Variables) (list : Vec Variable) (c : Context) (code digits : Li
         ])
         (k.stand key)
 
-    records_are : change_records c code (letters_read digits) (variable_of c code) ≡ change_record ∷ []
+    records_are : recorded_changes c code (letters_read digits) (variable_of c code) ≡ change_record ∷ []
     unfolding change_record
     records_are =
-        ap (change_records c code (letters_read digits)) own_wave.1
+        ap (recorded_changes c code (letters_read digits)) own_wave.1
         ∙ ap (λ b. if b then [] else record { tick = c.tick; code = code; letters = letters_read digits } ∷ []) own_wave.2
 
     -- the variables hold the record of the change
-    pub changed_knows : Knows (record { kept = list; owners = old.owners; skipped = old.skipped }) (with_record c code (letters_read digits))
+    pub changed_knows : Knows (record { kept = list; owners = old.owners; skipped = old.skipped }) (with_recorded_change c code (letters_read digits))
     unfolding changed_variables
     changed_knows = record {
       kept = k.kept ∙ sym (ap (map declaration) items ∙ same_declared old.kept.items first v w stood sets.same);

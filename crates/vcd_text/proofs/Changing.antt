@@ -10,7 +10,7 @@ use Rattle.vcd_core.specs.Decimal.{number_of}
 use Rattle.vcd_core.specs.Word.{is_one_of, is_skipped_kind}
 use Rattle.vcd_text.specs.Letters.{is_among, is_letter}
 use Rattle.vcd_text.specs.Items.{Item, stamp, scalar, vector, real_or_string, bracket, spelling, is_command, dump_words, declaring_words, header_words, vector_letters, dropped_letters}
-use Rattle.vcd_text.specs.Grammar.{Context, Declaration, ChangeRecord, Allows, after_item, word_texts, is_skipped, is_tick, is_value, takes_digits, variable_of}
+use Rattle.vcd_text.specs.Grammar.{Context, VariableDeclaration, RecordedChange, Allows, told_after_item, word_texts, is_skipped, is_tick, is_value, takes_digits, variable_of}
 use Rattle.vcd_core.specs.declared.value.TheConstants.{WIDTH_LIMIT}
 use Rattle.vcd_text.specs.Faults.{ChangeFault, no_tick, tick_goes_back, letter_alone, letter_of_none, pair_of_none, no_value, value_too_long, declaration_late, no_change, among_changes, WordFault, pair_letters}
 use Rattle.vcd_text.specs.inside.Variables.{Knows, DigitsFault, TakesChange}
@@ -34,7 +34,7 @@ none_begun m begun between taken = subst (IsBegun m begun) between taken
 
 -- a word that is a whole item
 whole_item : (old new : Reader) (w : PlacedWord) (i : Item) → old.item ≡ items.Nothing → new.item ≡ items.Nothing → spelling i ≡ w.text ∷ []
-    → ((c : Context) → Agrees old c → Allows c i × Agrees new (after_item c i)) → TakesOrRefuses old w (Ok tt) new
+    → ((c : Context) → Agrees old c → Allows c i × Agrees new (told_after_item c i)) → TakesOrRefuses old w (Ok tt) new
 whole_item old new w i between closed spelled item c begun (agrees, taken) =
     let none = none_begun old begun between taken in
     ends_item i (spelled ∙ ap (λ bs. word_texts (bs ++ w ∷ [])) (sym none)) (item c agrees).0 ((item c agrees).1, subst (IsBegun new []) (sym closed) refl)
@@ -62,7 +62,7 @@ agrees_still m c item line agrees = record {
 }
 
 -- one more record among the changes
-agrees_set : (m : Reader) (c : Context) (vs : Variables) (records : List ChangeRecord) (item : OpenItem) → Agrees m c → m.changing ≡ true
+agrees_set : (m : Reader) (c : Context) (vs : Variables) (records : List RecordedChange) (item : OpenItem) → Agrees m c → m.changing ≡ true
     → Knows vs (record c { records = records }) → Agrees (record m { variables = vs; item = item }) (record c { records = records })
 agrees_set m c vs records item agrees changing knows = record {
   header = agrees.header;
@@ -152,7 +152,7 @@ begins_nothing m new first text line between changing no_command no_letter no_ve
     shows m new (word_on (first ∷ text) line) BadChange between changing (λ c agrees. no_change first text refl refl no_letter other refl)
 
 -- some variable takes the digits
-taken_by_some : (o : Option Declaration) (digits : List ℕ) → IsSomeAnd o (λ d. IsTrue (takes_digits d digits)) → IsSome o
+taken_by_some : (o : Option VariableDeclaration) (digits : List ℕ) → IsSomeAnd o (λ d. IsTrue (takes_digits d digits)) → IsSome o
 taken_by_some None digits none = absurd none
 taken_by_some (Some d) digits takes = refl
 
@@ -161,7 +161,7 @@ one_letter : (letter : ℕ) → is_letter letter ≡ true → is_value (letter �
 one_letter letter is = λ i. is i && true
 
 -- a variable that is kept has a bit
-fits_one : (d : Declaration) → is_skipped d ≡ false → d.size < 1 → ⊥
+fits_one : (d : VariableDeclaration) → is_skipped d ≡ false → d.size < 1 → ⊥
 fits_one d keeps small =
     let sized = or_parts (d.size == 0) (nat_lt WIDTH_LIMIT d.size) (or_parts (is_skipped_kind d.kind) _ keeps).1 in
     let some : d.size ≡ 0 → ⊥ = eqb-false d.size 0 sized.0 in
@@ -181,7 +181,7 @@ sets_bit m vs letter code line (Ok x) between changing is some takes =
     whole_item m (record m { variables = vs }) (word_on (letter ∷ code) line) (scalar letter code) between between refl (λ c agrees.
     let change = takes c (sym agrees.tick) agrees.variables in (
       (sym agrees.changing ∙ changing, is, some, taken_by_some (variable_of c code) (letter ∷ []) change.0),
-      agrees_set m c vs (after_item c (scalar letter code)).records m.item agrees changing change.1,
+      agrees_set m c vs (told_after_item c (scalar letter code)).records m.item agrees changing change.1,
     ))
 sets_bit m vs letter code line (Err fault) between changing is some takes = λ c begun at.
     elim (takes c (sym at.0.tick) at.0.variables) [
@@ -242,7 +242,7 @@ ends_vector m vs code line (Ok x) item takes = λ c begun (agrees, taken).
     let change = takes c (sym agrees.tick) agrees.variables in
     ends_item (vector b.letter m.text.items code) (texts_whole m begun vector_letters m.text.items code line b)
     (sym agrees.changing ∙ b.changes, b.among, change.0)
-    (agrees_set m c vs (after_item c (vector b.letter m.text.items code)).records items.Nothing agrees b.changes change.1, refl)
+    (agrees_set m c vs (told_after_item c (vector b.letter m.text.items code)).records items.Nothing agrees b.changes change.1, refl)
 ends_vector m vs code line (Err fault) item takes = λ c begun (agrees, taken).
     let b : AwaitsCode m begun vector_letters m.text.items = subst (IsBegun m begun) item taken in
     elim (takes c (sym agrees.tick) agrees.variables) [
@@ -264,7 +264,7 @@ ends_dropped m code line item declared c begun (agrees, taken) =
       refl,
     )
 
-none_is : (o : Option Declaration) → is_some o ≡ false → o ≡ None
+none_is : (o : Option VariableDeclaration) → is_some o ≡ false → o ≡ None
 none_is None h = refl
 none_is (Some d) h = not_both refl h
 

@@ -118,9 +118,9 @@ rises_from signals t (suc n) = rises_at t 0 t 0 signals (transitions_from signal
 -- ---- signal by signal
 
 -- how many changes stand at a tick
-abbrev changes_at : ℕ → List Change → ℕ
-changes_at t [] = 0
-changes_at t (c ∷ cs) = counted (c.tick == t) + changes_at t cs
+abbrev count_at : ℕ → List Change → ℕ
+count_at t [] = 0
+count_at t (c ∷ cs) = counted (c.tick == t) + count_at t cs
 
 joint : (x y : Bool) (n : ℕ) → counted (x && y) + if_so y n ≡ if_so y (counted x + n)
 joint true true n = refl
@@ -128,17 +128,17 @@ joint false true n = refl
 joint true false n = refl
 joint false false n = refl
 
-times_later : (t k j : ℕ) (cs : List Change) → times (suc t) k (later_transitions j cs) ≡ if_so (j == k) (changes_at (suc t) cs)
+times_later : (t k j : ℕ) (cs : List Change) → times (suc t) k (later_transitions j cs) ≡ if_so (j == k) (count_at (suc t) cs)
 times_later t k j [] = sym (if_zero (j == k))
 times_later t k j (c ∷ cs) = step (nat_lt 0 c.tick) refl (times_later t k j cs)
   where
-    step : (b : Bool) → nat_lt 0 c.tick ≡ b → times (suc t) k (later_transitions j cs) ≡ if_so (j == k) (changes_at (suc t) cs)
+    step : (b : Bool) → nat_lt 0 c.tick ≡ b → times (suc t) k (later_transitions j cs) ≡ if_so (j == k) (count_at (suc t) cs)
         → times (suc t) k (map (λ c. transition_of c.tick j) (cond b (c ∷ filter (λ c. nat_lt 0 c.tick) cs) (filter (λ c. nat_lt 0 c.tick) cs)))
-        ≡ if_so (j == k) (counted (c.tick == suc t) + changes_at (suc t) cs)
-    step true is rest = ap (λ n. counted ((c.tick == suc t) && (j == k)) + n) rest ∙ joint (c.tick == suc t) (j == k) (changes_at (suc t) cs)
+        ≡ if_so (j == k) (counted (c.tick == suc t) + count_at (suc t) cs)
+    step true is rest = ap (λ n. counted ((c.tick == suc t) && (j == k)) + n) rest ∙ joint (c.tick == suc t) (j == k) (count_at (suc t) cs)
     step false is rest =
         let none : c.tick ≤ 0 = ltb-false 0 c.tick is in
-        let same : counted (c.tick == suc t) + changes_at (suc t) cs ≡ changes_at (suc t) cs = omega (arith, ap counted (ne_eqb c.tick (suc t) (omega arith))) in
+        let same : counted (c.tick == suc t) + count_at (suc t) cs ≡ count_at (suc t) cs = omega (arith, ap counted (ne_eqb c.tick (suc t) (omega arith))) in
         rest ∙ ap (if_so (j == k)) (sym same)
 
 times_later_zero : (k j : ℕ) (cs : List Change) → times 0 k (later_transitions j cs) ≡ 0
@@ -153,12 +153,12 @@ times_later_zero k j (c ∷ cs) = step (nat_lt 0 c.tick) refl (times_later_zero 
         omega (arith, here, rest)
     step false is rest = rest
 
-none_at : (floor t : ℕ) (before : List Bit) (cs : List Change) → ChangesFrom floor before cs → t < floor → changes_at t cs ≡ 0
+none_at : (floor t : ℕ) (before : List Bit) (cs : List Change) → ChangesFrom floor before cs → t < floor → count_at t cs ≡ 0
 none_at floor t before [] rise early = refl
 none_at floor t before (c ∷ cs) (from, other, wide, rest) early =
     omega (arith, ap counted (ne_eqb c.tick t (omega arith)), none_at (c.tick + 1) t c.value cs rest (omega arith))
 
-none_past : (end t : ℕ) (cs : List Change) → AllUpTo end cs → end < t → changes_at t cs ≡ 0
+none_past : (end t : ℕ) (cs : List Change) → AllUpTo end cs → end < t → count_at t cs ≡ 0
 none_past end t [] upto late = refl
 none_past end t (c ∷ cs) (first, rest) late = omega (arith, ap counted (ne_eqb c.tick t (omega arith)), none_past end t cs rest late)
 
@@ -177,7 +177,7 @@ other_is v w ne = by (same_letters v w) refl
 
 -- a wave has a change at a tick where its value differs from the tick before, and only there
 differs_where : (floor t : ℕ) (before : List Bit) (cs : List Change) → ChangesFrom floor before cs
-    → changes_at (suc t) cs ≡ differ (value_from before cs (suc t)) (value_from before cs t)
+    → count_at (suc t) cs ≡ differ (value_from before cs (suc t)) (value_from before cs t)
 unfolding value_from
 differs_where floor t before [] rise = sym (same_is before before refl)
 differs_where floor t before (c ∷ cs) (from, other, wide, rest) =
@@ -205,7 +205,7 @@ differs_where floor t before (c ∷ cs) (from, other, wide, rest) =
           ]
     ]
 
-signal_differs : (end t : ℕ) (s : SignalContents) → IsSoundSignal end s → changes_at (suc t) s.changes ≡ counted (differs_at (suc t) s)
+signal_differs : (end t : ℕ) (s : SignalContents) → IsSoundSignal end s → count_at (suc t) s.changes ≡ counted (differs_at (suc t) s)
 signal_differs end t s sound =
     let before : suc t - 1 ≡ t = omega arith in
     differs_where 0 t (all_x s.width) s.changes sound.wave.rise ∙ ap (λ u. differ (signal_value s (suc t)) (signal_value s u)) (sym before)

@@ -9,16 +9,16 @@ use Rattle.vcd_core.specs.declared.value.TheConstants.{WIDTH_LIMIT}
 use Rattle.vcd_core.specs.Contents.{Contents, SignalContents}
 use Rattle.vcd_core.specs.Sound.{IsSoundSignal}
 use Rattle.vcd_core.specs.Word.{is_skipped_kind}
-use Rattle.vcd_text.specs.Grammar.{Context, Declaration, is_skipped, kept_variables}
+use Rattle.vcd_text.specs.Grammar.{Context, VariableDeclaration, is_skipped, kept_variables}
 use Rattle.vcd_text.specs.Text.{code_of}
 use Rattle.vcd_text.proofs.CodesDiffer.{codes_differ}
 
 -- the declaration of the signal at a position
-abbrev pub declared_as : ℕ → SignalContents → Declaration
+abbrev pub declared_as : ℕ → SignalContents → VariableDeclaration
 declared_as k s = record { scopes = s.scopes; kind = s.kind; size = s.width; code = code_of k; words = s.words }
 
 -- those of signals, the first at this position
-unfoldable pub declared_of : ℕ → List SignalContents → List Declaration
+unfoldable pub declared_of : ℕ → List SignalContents → List VariableDeclaration
 declared_of k [] = []
 declared_of k (s ∷ ss) = declared_as k s ∷ declared_of (suc k) ss
 

@@ -18,7 +18,7 @@ use Rattle.vcd_text.specs.declared.fault.Fault.TheVariants as faults
 use Rattle.vcd_core.specs.declared.value.TheConstants.{WIDTH_LIMIT}
 use Rattle.vcd_core.specs.Decimal.{number_of}
 use Rattle.vcd_core.specs.Word.{is_skipped_kind}
-use Rattle.vcd_text.specs.Grammar.{Declaration, ChangeRecord, Context, is_skipped, kept_variables, variable_of, may_have_code, has_room}
+use Rattle.vcd_text.specs.Grammar.{VariableDeclaration, RecordedChange, Context, is_skipped, kept_variables, variable_of, may_have_code, has_room}
 use Rattle.vcd_text.specs.Meaning.{recorded_value}
 use Rattle.vcd_text.specs.inside.Variables.{declaration, declaration_by, owner_of, HasWave, Stands, HasFirst, Knows, with_declaration, mixed, many, DeclaresAs, code_mixed, no_room, Declares}
 use Rattle.vcd_text.specs.declared.reading.variables.Owner.{Owner}
@@ -29,21 +29,21 @@ use Rattle.vcd_text.proofs.Owners.{own_code, by_code, stands_kept, stands_moved,
 
 -- ---- lists with one item more
 
-kept_skipped : (ds : List Declaration) (d : Declaration) → is_skipped d ≡ true → kept_variables (ds ++ d ∷ []) ≡ kept_variables ds
+kept_skipped : (ds : List VariableDeclaration) (d : VariableDeclaration) → is_skipped d ≡ true → kept_variables (ds ++ d ∷ []) ≡ kept_variables ds
 kept_skipped ds d skipped =
-    filter-append (λ (e : Declaration). not (is_skipped e)) ds (d ∷ [])
+    filter-append (λ (e : VariableDeclaration). not (is_skipped e)) ds (d ∷ [])
     ∙ ap (λ b. kept_variables ds ++ cond (not b) (d ∷ []) []) skipped
     ∙ append-nil (kept_variables ds)
 
-kept_kept : (ds : List Declaration) (d : Declaration) → is_skipped d ≡ false → kept_variables (ds ++ d ∷ []) ≡ kept_variables ds ++ d ∷ []
+kept_kept : (ds : List VariableDeclaration) (d : VariableDeclaration) → is_skipped d ≡ false → kept_variables (ds ++ d ∷ []) ≡ kept_variables ds ++ d ∷ []
 kept_kept ds d keeps =
-    filter-append (λ (e : Declaration). not (is_skipped e)) ds (d ∷ [])
+    filter-append (λ (e : VariableDeclaration). not (is_skipped e)) ds (d ∷ [])
     ∙ ap (λ b. kept_variables ds ++ cond (not b) (d ∷ []) []) keeps
 
-count_with : (ds : List Declaration) (d : Declaration) (b : Bool) → is_skipped d ≡ b → count_by is_skipped (ds ++ d ∷ []) ≡ count_by is_skipped ds + cond b 1 0
+count_with : (ds : List VariableDeclaration) (d : VariableDeclaration) (b : Bool) → is_skipped d ≡ b → count_by is_skipped (ds ++ d ∷ []) ≡ count_by is_skipped ds + cond b 1 0
 count_with ds d b is =
-    sum_by-append (λ (e : Declaration). cond (is_skipped e) 1 0) ds (d ∷ [])
-    ∙ ap (λ (n : ℕ). count_by is_skipped ds + n) (sum_by-cons (λ (e : Declaration). cond (is_skipped e) 1 0) d [])
+    sum_by-append (λ (e : VariableDeclaration). cond (is_skipped e) 1 0) ds (d ∷ [])
+    ∙ ap (λ (n : ℕ). count_by is_skipped ds + n) (sum_by-cons (λ (e : VariableDeclaration). cond (is_skipped e) 1 0) d [])
     ∙ ap (λ x. count_by is_skipped ds + (cond x 1 0 + 0)) is
     ∙ omega arith
 
@@ -72,20 +72,20 @@ same_number n = grind arith
 
 -- as many variables are kept as were declared to be
 kept_long : (vs : Variables) (c : Context) → Knows vs c → length (kept_variables c.declared) ≡ length vs.kept.items
-kept_long vs c k = ap (length {A = Declaration}) k.kept ∙ length-map vs.kept.items declaration
+kept_long vs c k = ap (length {A = VariableDeclaration}) k.kept ∙ length-map vs.kept.items declaration
 
 -- ---- what codes stand for, with one variable more
 
-module _ (records : List ChangeRecord) (tick : ℕ) where
+module _ (records : List RecordedChange) (tick : ℕ) where
   -- a variable behind the others takes nothing from a code
-  stands_longer : (vs more : List Variable) (code : List ℕ) (owner : Option Owner) (declared : Option Declaration)
+  stands_longer : (vs more : List Variable) (code : List ℕ) (owner : Option Owner) (declared : Option VariableDeclaration)
       → Stands vs records tick code owner declared → Stands (vs ++ more) records tick code owner declared
   stands_longer vs more code owner declared s =
       stands_moved vs (vs ++ more) records records tick tick code owner declared
       (λ position size _ w. record { first = w.first; stands = stays vs more position w.first w.stands; coded = w.coded; sized = w.sized; ticks = w.ticks; values = w.values }) s
 
   -- a later declaration of another code takes nothing from a code
-  stands_still : (vs : List Variable) (code : List ℕ) (owner : Option Owner) (declared : Option Declaration)
+  stands_still : (vs : List Variable) (code : List ℕ) (owner : Option Owner) (declared : Option VariableDeclaration)
       → Stands vs records tick code owner declared → Stands vs records tick code owner (option_or declared None)
   stands_still vs code owner None s = s
   stands_still vs code owner (Some d) s = s
@@ -103,9 +103,9 @@ puts_same old new code owner same had = λ key.
 
 -- ---- a variable that is skipped
 
-module _ (old new : Variables) (c : Context) (d : Declaration) (k : Knows old c) (items : new.kept.items ≡ old.kept.items) (skipped : is_skipped d ≡ true)
+module _ (old new : Variables) (c : Context) (d : VariableDeclaration) (k : Knows old c) (items : new.kept.items ≡ old.kept.items) (skipped : is_skipped d ≡ true)
     (free : (owner_of old d.code ≡ None) ⊎ (owner_of old d.code ≡ Some Skipped)) (puts : Puts old new d.code Skipped) where
-  skip_here : (v : Option Declaration) → Stands old.kept.items c.records c.tick d.code (owner_of old d.code) v
+  skip_here : (v : Option VariableDeclaration) → Stands old.kept.items c.records c.tick d.code (owner_of old d.code) v
       → Stands old.kept.items c.records c.tick d.code (Some Skipped) (option_or v (Some d))
   skip_here None s = skipped
   skip_here (Some e) s = elim free [
@@ -140,7 +140,7 @@ module _ (old new : Variables) (c : Context) (d : Declaration) (k : Knows old c)
         same_size = λ w there. before.same_size w (subst (λ vs. slice_get vs v.first ≡ Some w) items there);
       }
 
-  skip_may : (v : Option Declaration) → Stands old.kept.items c.records c.tick d.code (owner_of old d.code) v → may_have_code v d ≡ true
+  skip_may : (v : Option VariableDeclaration) → Stands old.kept.items c.records c.tick d.code (owner_of old d.code) v → may_have_code v d ≡ true
   skip_may None s = refl
   skip_may (Some e) s =
       let also : is_skipped e ≡ true = skip_here (Some e) s in
@@ -174,7 +174,7 @@ IsFree old code s first =
 
 module _ (old : Variables) (c : Context) (code : List ℕ) (s : Signal) (first : ℕ) (k : Knows old c)
     (keeps : is_skipped (declaration_by code s) ≡ false) (free : IsFree old code s first) where
-  keep_may : (v : Option Declaration) → Stands old.kept.items c.records c.tick code (owner_of old code) v → may_have_code v (declaration_by code s) ≡ true
+  keep_may : (v : Option VariableDeclaration) → Stands old.kept.items c.records c.tick code (owner_of old code) v → may_have_code v (declaration_by code s) ≡ true
   keep_may None stands = refl
   keep_may (Some e) stands = elim free [
     | inl (none, end) ↦ absurd (subst (λ o. Stands old.kept.items c.records c.tick code o (Some e)) none stands)
@@ -209,7 +209,7 @@ module _ (old new : Variables) (c : Context) (code : List ℕ) (s : Signal) (fir
         ∙ sym (ap (recorded_value s.wave.width code t (all_x s.wave.width)) records);
   }
 
-  keep_here : (v : Option Declaration) → Stands old.kept.items c.records c.tick code (owner_of old code) v
+  keep_here : (v : Option VariableDeclaration) → Stands old.kept.items c.records c.tick code (owner_of old code) v
       → Stands (old.kept.items ++ variable_at code s first ∷ []) c.records c.tick code (Some (Kept first)) (option_or v (Some (declaration_by code s)))
   keep_here None stands = elim free [
     | inl (none, end) ↦
@@ -329,7 +329,7 @@ same_width (Some v) width test w is = ap (λ (u : Variable). u.signal.wave.width
 -- ---- the words of a declaration
 
 -- what the words of a `$var` declare
-abbrev pub worded_declaration : Context → (kind size code : List ℕ) → (names : List (List ℕ)) → Declaration
+abbrev pub worded_declaration : Context → (kind size code : List ℕ) → (names : List (List ℕ)) → VariableDeclaration
 worded_declaration c kind size code names = record { scopes = c.scopes; kind = kind; size = number_of size; code = code; words = names }
 
 declares_names : (c : Context) (kind size code : List ℕ) (names : List (List ℕ)) (result : Result (Unit {0}) Fault) (new : Variables) → 0 < length names

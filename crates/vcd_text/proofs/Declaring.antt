@@ -12,7 +12,7 @@ use Rattle.vcd_text.specs.declared.fault.Fault.TheVariants as faults
 use Rattle.vcd_text.specs.Words.{PlacedWord, word_on}
 use Rattle.vcd_core.specs.Decimal.{is_number}
 use Rattle.vcd_text.specs.Items.{Item, entry, timescale, scope, upscope, variable, end_definitions, other, spelling, end_word, is_end, has_no_end, header_word, is_other, timescale_of}
-use Rattle.vcd_text.specs.Grammar.{Context, Allows, after_item, word_texts, has_good_size}
+use Rattle.vcd_text.specs.Grammar.{Context, Allows, told_after_item, word_texts, has_good_size}
 use Rattle.vcd_text.specs.Faults.{WordFault, DeclarationFault, no_timescale, no_size, among_declarations}
 use Rattle.vcd_text.specs.inside.Variables.{Knows, Declares, VariableFault}
 use Rattle.vcd_text.specs.inside.Reading.{Agrees, Collects, PassesOver, IsBegun, At, TakesWord, goes_on, ends_item, TakesOrRefuses}
@@ -46,7 +46,7 @@ same_known vs c d declared records tick known = knows_further vs c d declared re
 
 -- where the item that is open asks for no more, its `$end` ends it
 ends_here : (new : Reader) (c : Context) (begun : List PlacedWord) (line : ℕ) (i : Item) (words : List (List ℕ))
-    → word_texts begun ≡ words → spelling i ≡ words ++ end_word ∷ [] → Allows c i → Agrees new (after_item c i) → new.item ≡ items.Nothing
+    → word_texts begun ≡ words → spelling i ≡ words ++ end_word ∷ [] → Allows c i → Agrees new (told_after_item c i) → new.item ≡ items.Nothing
     → TakesWord c (begun ++ word_on end_word line ∷ []) new
 ends_here new c begun line i words spelled whole allows agrees closed =
     ends_item i (whole ∙ spelled_whole begun line words spelled) allows
@@ -70,7 +70,7 @@ closes_entry m new kind is pushed others line c begun at =
       scopes = a.scopes;
       changing = a.changing;
       tick = a.tick;
-      variables = same_known m.variables c (after_item c i) refl refl refl a.variables;
+      variables = same_known m.variables c (told_after_item c i) refl refl refl a.variables;
       silent = a.silent;
     }) refl)
 
@@ -90,7 +90,7 @@ closes_timescale m found is some line c begun at =
       scopes = a.scopes;
       changing = a.changing;
       tick = a.tick;
-      variables = same_known m.variables c (after_item c i) refl refl refl a.variables;
+      variables = same_known m.variables c (told_after_item c i) refl refl refl a.variables;
       silent = a.silent;
     }) refl
 
@@ -118,7 +118,7 @@ closes_scope m new s is words pushed others line c begun at =
       scopes = pushed ∙ ap (λ ss. ss ++ s ∷ []) a.scopes;
       changing = a.changing;
       tick = a.tick;
-      variables = same_known m.variables c (after_item c i) refl refl refl a.variables;
+      variables = same_known m.variables c (told_after_item c i) refl refl refl a.variables;
       silent = a.silent;
     }) refl)
 
@@ -143,7 +143,7 @@ closes_upscope m new is popped others line c begun at =
       scopes = popped ∙ ap (λ (ss : List ScopeName). take (length ss - 1) ss) a.scopes;
       changing = a.changing;
       tick = a.tick;
-      variables = same_known m.variables c (after_item c upscope) refl refl refl a.variables;
+      variables = same_known m.variables c (told_after_item c upscope) refl refl refl a.variables;
       silent = a.silent;
     }) refl)
 
@@ -162,7 +162,7 @@ closes_definitions m is line c begun at =
       scopes = a.scopes;
       changing = refl;
       tick = a.tick;
-      variables = same_known m.variables c (after_item c end_definitions) refl refl refl a.variables;
+      variables = same_known m.variables c (told_after_item c end_definitions) refl refl refl a.variables;
       silent = λ _. a.silent (sym a.changing ∙ b.0);
     }) refl
 

@@ -9,7 +9,7 @@ use Rattle.vcd_text.specs.declared.fault.Fault.{Fault}
 use Rattle.vcd_text.specs.declared.fault.Fault.TheVariants.{Truncated}
 use Rattle.vcd_text.specs.Words.{PlacedWord, words_of, end_line}
 use Rattle.vcd_text.specs.Items.{Item, spelling, spellings}
-use Rattle.vcd_text.specs.Grammar.{Context, Allows, Accepts, after_item, nothing_told, word_texts}
+use Rattle.vcd_text.specs.Grammar.{Context, Allows, Accepts, told_after_item, nothing_told, word_texts}
 use Rattle.vcd_text.specs.Faults.{WordFault, IsUnfinished, declaration_due, fault_line, ShowsFault, Stops, FileFault, shown, too_early}
 use Rattle.vcd_text.specs.Meaning.{FileMeans, meaning, skipped_count}
 use Rattle.vcd_text.proofs.ItemsInTurn.{Leads, leads_none, leads_one, leads_both}
@@ -65,12 +65,12 @@ with_item words rest w u i spelled allows = record {
   items = u.items ++ i ∷ [];
   whole = u.whole ++ (u.begun ++ w ∷ []);
   begun = [];
-  told = after_item u.told i;
+  told = told_after_item u.told i;
   parts = u.parts ∙ ap (λ ws. u.whole ++ ws) (word_behind u.begun rest w) ∙ sym (append_assoc u.whole (u.begun ++ w ∷ []) rest);
   spelled =
       map-append (λ (v : PlacedWord). v.text) u.whole (u.begun ++ w ∷ []) ∙ ap (λ ws. ws ++ word_texts (u.begun ++ w ∷ [])) u.spelled
       ∙ ap (λ ws. spellings u.items ++ ws) (texts_more u.begun w ∙ sym spelled) ∙ sym (spelled_more u.items i);
-  leads = leads_both nothing_told u.told (after_item u.told i) u.items (i ∷ []) u.leads (leads_one u.told (after_item u.told i) i allows refl);
+  leads = leads_both nothing_told u.told (told_after_item u.told i) u.items (i ∷ []) u.leads (leads_one u.told (told_after_item u.told i) i allows refl);
   open_item = between refl;
 }
 

@@ -9,7 +9,7 @@ use Rattle.vcd_core.specs.Value.{all_x}
 use Rattle.vcd_core.specs.Wave.{value_at, changes_of, IsWave}
 use Rattle.vcd_core.specs.Contents.{SignalContents, signal_contents}
 use Rattle.vcd_core.proofs.Waves.{wave_is}
-use Rattle.vcd_text.specs.Grammar.{Declaration, Context, is_skipped, variable_of}
+use Rattle.vcd_text.specs.Grammar.{VariableDeclaration, Context, is_skipped, variable_of}
 use Rattle.vcd_text.specs.Meaning.{recorded_value, declared_signal}
 use Rattle.vcd_text.specs.inside.Variables.{declaration, HasWave, Stands, Knows, Finishes}
 use Rattle.vcd_text.specs.declared.reading.variables.Variable.{Variable}
@@ -32,7 +32,7 @@ variable_behind f (v ∷ vs) (x ∷ signals) zero s same at =
     (v, refl, ap signal_contents (sym (same_Some x s at)) ∙ same_Some (signal_contents x) (f v) (ap (λ l. slice_get l 0) same))
 variable_behind f (v ∷ vs) (x ∷ signals) (suc n) s same at = variable_behind f vs signals n s (ap (drop 1) same) at
 
-map_twice : (f : Declaration → SignalContents) (vs : List Variable) → map f (map declaration vs) ≡ map (λ v. f (declaration v)) vs
+map_twice : (f : VariableDeclaration → SignalContents) (vs : List Variable) → map f (map declaration vs) ≡ map (λ v. f (declaration v)) vs
 map_twice f [] = refl
 map_twice f (v ∷ vs) = ap (λ l. f (declaration v) ∷ l) (map_twice f vs)
 
@@ -41,7 +41,7 @@ module _ (vs : Variables) (c : Context) (yielded rest : List Variable) (v : Vari
   stands_at : slice_get vs.kept.items (length yielded) ≡ Some v
   stands_at = ap (λ l. slice_get l (length yielded)) all ∙ middle_of yielded rest v
 
-  own_wave : (d : Declaration) × (variable_of c v.code ≡ Some d) × (is_skipped d ≡ false) × HasWave vs.kept.items v.first v.code d.size c.records c.tick
+  own_wave : (d : VariableDeclaration) × (variable_of c v.code ≡ Some d) × (is_skipped d ≡ false) × HasWave vs.kept.items v.first v.code d.size c.records c.tick
   own_wave =
       stands_kept vs.kept.items c.records c.tick v.code (variable_of c v.code) v.first
       (subst (λ o. Stands vs.kept.items c.records c.tick v.code o (variable_of c v.code)) (k.firsts (length yielded) v stands_at).owned (k.stand v.code))

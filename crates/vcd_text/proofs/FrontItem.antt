@@ -13,7 +13,7 @@ use Rattle.vcd_core.specs.Decimal.{is_number, number_of}
 use Rattle.vcd_core.specs.Word.{is_one_of}
 use Rattle.vcd_text.specs.Letters.{is_among, is_letter}
 use Rattle.vcd_text.specs.Items.{Item, entry, timescale, scope, upscope, variable, end_definitions, stamp, scalar, vector, real_or_string, bracket, other, spelling, end_word, is_end, has_no_end, dump_words, declaring_words, header_words, begins_declaration, is_other, timescale_of, vector_letters, dropped_letters}
-use Rattle.vcd_text.specs.Grammar.{Context, Declaration, Allows, is_skipped, has_good_size, declaration_of, variable_of, may_have_code, has_room, is_tick, is_value, takes_digits}
+use Rattle.vcd_text.specs.Grammar.{Context, VariableDeclaration, Allows, is_skipped, has_good_size, declaration_of, variable_of, may_have_code, has_room, is_tick, is_value, takes_digits}
 use Rattle.vcd_text.specs.Faults.{DeclarationFault, ChangeFault, WordFault, IsUnfinished, pair_letters, no_declaration, no_timescale, no_kind, upscope_at_top, upscope_goes_on, no_size, no_variable, code_mixed, no_room, definitions_go_on, no_tick, tick_goes_back, letter_alone, letter_of_none, pair_of_none, no_value, value_too_long, declaration_late, no_change, among_declarations, among_changes, declaration_due, words_due, upscope_due, variable_due, definitions_due, code_due, other_due}
 
 -- a fault stands at a place, counted from the front
@@ -62,7 +62,7 @@ abbrev pub upscope_front : List ScopeName → List (List ℕ) → Front
 upscope_front [] ws = faulty 0 UpscopeAtTop
 upscope_front (s ∷ scopes) ws = closing_next upscope ws
 
-abbrev pub variable_told : Context → Option Declaration → List (List ℕ) → List (List ℕ) → Front
+abbrev pub variable_told : Context → Option VariableDeclaration → List (List ℕ) → List (List ℕ) → Front
 variable_told c None words rest = faulty (suc (length words)) BadVar
 variable_told c (Some d) words rest =
     cond (may_have_code (variable_of c d.code) d) (cond (has_room c.declared d) (whole (variable words) rest) (faulty (suc (length words)) TooManySignals)) (faulty (suc (length words)) MixedCode)
@@ -96,7 +96,7 @@ declaration_front c w ws =
 abbrev pub stamp_front : Context → List ℕ → List (List ℕ) → Front
 stamp_front c digits ws = cond (is_tick digits) (cond (nat_lt (number_of digits) c.tick) (faulty 0 TimeBackwards) (whole (stamp digits) ws)) (faulty 0 BadTime)
 
-abbrev pub known : Option Declaration → (Declaration → Front) → Front
+abbrev pub known : Option VariableDeclaration → (VariableDeclaration → Front) → Front
 known None f = faulty 0 UnknownCode
 known (Some d) f = f d
 
@@ -104,7 +104,7 @@ abbrev pub scalar_front : Context → ℕ → List ℕ → List (List ℕ) → F
 scalar_front c letter [] ws = faulty 0 BadChange
 scalar_front c letter (b ∷ code) ws = known (variable_of c (b ∷ code)) (λ d. whole (scalar letter (b ∷ code)) ws)
 
-abbrev pub vector_fits : Context → ℕ → List ℕ → List ℕ → List (List ℕ) → Declaration → Front
+abbrev pub vector_fits : Context → ℕ → List ℕ → List ℕ → List (List ℕ) → VariableDeclaration → Front
 vector_fits c first digits code ws d =
     cond (is_skipped d) (whole (vector first digits code) ws)
     (cond (is_value digits) (cond (nat_lt d.size (length digits)) (faulty 0 ValueTooLong) (whole (vector first digits code) ws)) (faulty 0 BadChange))
@@ -172,7 +172,7 @@ upscope_some : (scopes : List ScopeName) (ws : List (List ℕ)) → 0 < length s
 upscope_some [] ws h = absurd (omega (arith, h))
 upscope_some (s ∷ scopes) ws h = refl
 
-known_some : (o : Option Declaration) (f : Front) → IsSome o → known o (λ d. f) ≡ f
+known_some : (o : Option VariableDeclaration) (f : Front) → IsSome o → known o (λ d. f) ≡ f
 known_some None f h = absurd (false≢true h)
 known_some (Some d) f h = refl
 
@@ -180,11 +180,11 @@ sized : (c : Context) (kind size : List ℕ) (ws : List (List ℕ)) → is_end k
     → variable_front c (kind ∷ size ∷ ws) ≡ closing (λ words rest. variable_told c (declaration_of c words) words rest) (kind ∷ size ∷ ws)
 sized c kind size ws k s = on_false (is_end kind) _ _ k ∙ on_true (is_number size) _ _ s
 
-told_whole : (c : Context) (d : Declaration) (words rest : List (List ℕ)) → may_have_code (variable_of c d.code) d ≡ true → has_room c.declared d ≡ true
+told_whole : (c : Context) (d : VariableDeclaration) (words rest : List (List ℕ)) → may_have_code (variable_of c d.code) d ≡ true → has_room c.declared d ≡ true
     → variable_told c (Some d) words rest ≡ whole (variable words) rest
 told_whole c d words rest m r = on_true (may_have_code (variable_of c d.code) d) _ _ m ∙ on_true (has_room c.declared d) _ _ r
 
-told_some : (c : Context) (o : Option Declaration) (words rest : List (List ℕ)) → IsSomeAnd o (λ d. IsTrue (may_have_code (variable_of c d.code) d) × IsTrue (has_room c.declared d))
+told_some : (c : Context) (o : Option VariableDeclaration) (words rest : List (List ℕ)) → IsSomeAnd o (λ d. IsTrue (may_have_code (variable_of c d.code) d) × IsTrue (has_room c.declared d))
     → variable_told c o words rest ≡ whole (variable words) rest
 told_some c None words rest h = absurd h
 told_some c (Some d) words rest h = told_whole c d words rest h.0 h.1
@@ -201,7 +201,7 @@ variable_closing c (kind ∷ size ∷ words) rest n g =
 stamp_whole : (c : Context) (digits : List ℕ) (ws : List (List ℕ)) → is_tick digits ≡ true → c.tick ≤ number_of digits → stamp_front c digits ws ≡ whole (stamp digits) ws
 stamp_whole c digits ws t le = on_true (is_tick digits) _ _ t ∙ on_false (nat_lt (number_of digits) c.tick) _ _ (le-ltb (number_of digits) c.tick le)
 
-vector_taken : (d : Declaration) (digits : List ℕ) (w : Front) → takes_digits d digits ≡ true
+vector_taken : (d : VariableDeclaration) (digits : List ℕ) (w : Front) → takes_digits d digits ≡ true
     → cond (is_skipped d) w (cond (is_value digits) (cond (nat_lt d.size (length digits)) (faulty 0 ValueTooLong) w) (faulty 0 BadChange)) ≡ w
 vector_taken d digits w h =
     elim (or_cases (is_skipped d) (is_value digits && nat_le (length digits) d.size) h) [
@@ -213,7 +213,7 @@ vector_taken d digits w h =
       ]
     ]
 
-vector_known : (o : Option Declaration) (digits : List ℕ) (w : Front) → IsSomeAnd o (λ d. IsTrue (takes_digits d digits))
+vector_known : (o : Option VariableDeclaration) (digits : List ℕ) (w : Front) → IsSomeAnd o (λ d. IsTrue (takes_digits d digits))
     → known o (λ d. cond (is_skipped d) w (cond (is_value digits) (cond (nat_lt d.size (length digits)) (faulty 0 ValueTooLong) w) (faulty 0 BadChange))) ≡ w
 vector_known None digits w h = absurd h
 vector_known (Some d) digits w h = vector_taken d digits w h
@@ -314,7 +314,7 @@ change_faulty c begun word fault more (letter_of_none letter [] b w h l n f) = a
 change_faulty c begun word fault more (letter_of_none letter (x ∷ code) b w h l n f) =
     rw (b, w, f) (on_true (is_letter letter) _ _ h ∙ ap (λ o. known o (λ d. whole (scalar letter (x ∷ code)) more)) n)
 change_faulty c begun word fault more (pair_of_none first text b h n f) =
-    let step : (g : Declaration → Front) → known (variable_of c word) g ≡ faulty 0 UnknownCode = λ g. ap (λ o. known o g) n in
+    let step : (g : VariableDeclaration → Front) → known (variable_of c word) g ≡ faulty 0 UnknownCode = λ g. ap (λ o. known o g) n in
     rw (b, f) (by_among (λ x. change_front c (x ∷ text) (word ∷ more) ≡ faulty 0 UnknownCode) pair_letters first h (step _, (step _, (step _, (step _, (step _, (step _, tt)))))))
 change_faulty c begun word fault more (no_value first digits d b h v s n f) =
     rw (b, f) (by_among (λ x. change_front c (x ∷ digits) (word ∷ more) ≡ vector_front c x digits (word ∷ more)) vector_letters first h (refl, (refl, tt))

@@ -1,13 +1,13 @@
 -- What the reader's variables hold of what a file has told.
 use Rattle.std.proofs.Common.{◌≡◌, ℕ, ◌≤◌, List, subst, arith, find, map}
 use Rattle.std.specs.Prelude.{count_by, bytes_eq}
-use Rattle.vcd_text.specs.Grammar.{ChangeRecord, Context, is_skipped, kept_variables}
+use Rattle.vcd_text.specs.Grammar.{RecordedChange, Context, is_skipped, kept_variables}
 use Rattle.vcd_text.specs.inside.Variables.{declaration, owner_of, HasWave, Stands, Knows}
 use Rattle.vcd_text.specs.declared.reading.variables.Variable.{Variable}
 use Rattle.vcd_text.specs.declared.reading.variables.Variables.{Variables}
 use Rattle.vcd_text.proofs.Owners.{stands_moved}
 
-wave_further : (vs : List Variable) (records : List ChangeRecord) (early late position : ℕ) (code : List ℕ) (size : ℕ)
+wave_further : (vs : List Variable) (records : List RecordedChange) (early late position : ℕ) (code : List ℕ) (size : ℕ)
     → early ≤ late → HasWave vs position code size records early → HasWave vs position code size records late
 wave_further vs records early late position code size later w =
     record { first = w.first; stands = w.stands; coded = w.coded; sized = w.sized; ticks = λ k d within. omega (arith, later, w.ticks k d within); values = w.values }

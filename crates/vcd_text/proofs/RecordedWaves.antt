@@ -8,14 +8,14 @@ use Rattle.vcd_core.specs.Value.{all_x, same_letters}
 use Rattle.vcd_core.specs.inside.ValueLaws.{same_letters-Decides}
 use Rattle.vcd_core.specs.Contents.{SignalContents, signal_value}
 use Rattle.vcd_text.specs.Letters.{extension, short_form}
-use Rattle.vcd_text.specs.Grammar.{ChangeRecord}
+use Rattle.vcd_text.specs.Grammar.{RecordedChange}
 use Rattle.vcd_text.specs.Meaning.{recorded_value}
 use Rattle.vcd_text.specs.Text.{code_of, differs_at}
 use Rattle.vcd_text.proofs.DeclaredSignals.{same_code, other_code}
 use Rattle.vcd_text.proofs.ReadValues.{ext-short}
 use Rattle.vcd_text.proofs.TextChanges.{differing, record_of, tick_records}
 
-recorded_value-append : (width : ℕ) (code : List ℕ) (t : ℕ) (before : List Bit) (rs qs : List ChangeRecord)
+recorded_value-append : (width : ℕ) (code : List ℕ) (t : ℕ) (before : List Bit) (rs qs : List RecordedChange)
     → recorded_value width code t before (rs ++ qs) ≡ recorded_value width code t (recorded_value width code t before rs) qs
 unfolding recorded_value
 recorded_value-append width code t before [] qs = refl
@@ -24,7 +24,7 @@ recorded_value-append width code t before (r ∷ rs) qs = recorded_value-append 
 -- of one signal, at the position k, at the tick t
 module _ (width k t : ℕ) where
   -- what the records say after a value
-  abbrev after_records : List Bit → List ChangeRecord → List Bit
+  abbrev after_records : List Bit → List RecordedChange → List Bit
   after_records before rs = recorded_value width (code_of k) t before rs
 
   -- records past the tick say nothing
@@ -47,7 +47,7 @@ module _ (width k t : ℕ) where
   -- at a tick that has come, for signals that pass a test
   module _ (u : ℕ) (test : ℕ × SignalContents → Bool) where
     -- the records of signals from position j on
-    abbrev records_from : ℕ → List SignalContents → List ChangeRecord
+    abbrev records_from : ℕ → List SignalContents → List RecordedChange
     records_from j ss = map (record_of u) (filter test (enumerate_from j ss))
 
     -- a signal at another position says nothing

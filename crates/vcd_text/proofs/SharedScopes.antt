@@ -13,14 +13,14 @@ use Rattle.vcd_core.specs.declared.capture.ScopeName.{ScopeName}
 use Rattle.vcd_core.specs.Word.{is_word}
 use Rattle.vcd_core.specs.Sound.{is_sound_scope}
 use Rattle.vcd_text.specs.Items.{scope, upscope, is_end, has_no_end}
-use Rattle.vcd_text.specs.Grammar.{Context, Declaration}
+use Rattle.vcd_text.specs.Grammar.{Context, VariableDeclaration}
 use Rattle.vcd_text.specs.Text.{same_scope, scope_items}
 use Rattle.vcd_text.proofs.Scopes.{all_closed}
 use Rattle.vcd_text.proofs.WeakerTests.{all_weaker}
 use Rattle.vcd_text.proofs.ItemsInTurn.{Leads, leads_none, leads_first, leads_both, leads_same}
 
 -- what has been told in the middle of the declarations
-abbrev pub declaring : List Header → Option Timescale → List ScopeName → List Declaration → Context
+abbrev pub declaring : List Header → Option Timescale → List ScopeName → List VariableDeclaration → Context
 declaring header timescale scopes declared =
     record { header = header; timescale = timescale; scopes = scopes; declared = declared; changing = false; records = []; tick = 0 }
 
@@ -54,7 +54,7 @@ pub words_have_no_end : (ws : List (List ℕ)) → list_all is_word ws ≡ true 
 words_have_no_end ws words = all_weaker is_word (λ word. not (is_end word)) (λ w word. (and_parts _ (not (is_end w)) word).1) ws words
 
 -- the scopes past the front of a path are closed, the innermost first
-scopes_closed : (h : List Header) (t : Option Timescale) (opened : List ScopeName) (ds : List Declaration) (n : ℕ) → n ≤ length opened
+scopes_closed : (h : List Header) (t : Option Timescale) (opened : List ScopeName) (ds : List VariableDeclaration) (n : ℕ) → n ≤ length opened
     → Leads (declaring h t opened ds) (replicate n upscope) (declaring h t (take (length opened - n) opened) ds)
 scopes_closed h t opened ds zero within =
     let all : length opened - 0 ≡ length opened = omega arith in
@@ -68,7 +68,7 @@ scopes_closed h t opened ds (suc n) within =
     (ap (λ s. declaring h t s ds) (ap (λ m. take m outer) left ∙ take-take (length opened - suc n) (length opened - 1) opened (omega arith))))
 
 -- scopes are opened, the outermost first
-scopes_opened : (h : List Header) (t : Option Timescale) (front path : List ScopeName) (ds : List Declaration) → list_all is_sound_scope path ≡ true
+scopes_opened : (h : List Header) (t : Option Timescale) (front path : List ScopeName) (ds : List VariableDeclaration) → list_all is_sound_scope path ≡ true
     → Leads (declaring h t front ds) (map (λ s. scope s.kind s.words) path) (declaring h t (front ++ path) ds)
 scopes_opened h t front [] ds sound = leads_same _ _ _ [] (leads_none (declaring h t front ds)) (ap (λ s. declaring h t s ds) (sym (append-nil front)))
 scopes_opened h t front (s ∷ path) ds sound =
@@ -78,7 +78,7 @@ scopes_opened h t front (s ∷ path) ds sound =
     (ap (λ s. declaring h t s ds) (append_assoc front (s ∷ []) path)))
 
 -- from one path to another
-pub scopes_lead : (h : List Header) (t : Option Timescale) (opened path : List ScopeName) (ds : List Declaration) → list_all is_sound_scope path ≡ true
+pub scopes_lead : (h : List Header) (t : Option Timescale) (opened path : List ScopeName) (ds : List VariableDeclaration) → list_all is_sound_scope path ≡ true
     → Leads (declaring h t opened ds) (scope_items opened path) (declaring h t path ds)
 scopes_lead h t opened path ds sound =
     let shared : ℕ = common_prefix_len same_scope opened path in
@@ -91,7 +91,7 @@ scopes_lead h t opened path ds sound =
     (leads_same _ _ _ _ (scopes_opened h t front (drop shared path) ds (later_scopes shared path sound)) (ap (λ s. declaring h t s ds) (take-append-drop shared path)))
 
 -- all scopes are closed
-pub scopes_end : (h : List Header) (t : Option Timescale) (opened : List ScopeName) (ds : List Declaration)
+pub scopes_end : (h : List Header) (t : Option Timescale) (opened : List ScopeName) (ds : List VariableDeclaration)
     → Leads (declaring h t opened ds) (map (λ s. upscope) opened) (declaring h t [] ds)
 scopes_end h t opened ds =
     let none : length opened - length opened ≡ 0 = omega arith in

@@ -23,7 +23,7 @@ use Rattle.vcd_text.specs.Words.{words_of, word_on}
 use Rattle.vcd_core.specs.Decimal.{is_number, number_of}
 use Rattle.vcd_text.specs.Letters.{extension, pad_letter, letters_read}
 use Rattle.vcd_text.specs.Items.{Item, entry, timescale, scope, upscope, variable, end_definitions, stamp, scalar, vector, real_or_string, bracket, other, spelling, spellings, header_word, end_word, is_end, has_no_end, timescales, unit_text}
-use Rattle.vcd_text.specs.Grammar.{Context, Declaration, ChangeRecord, Accepts, Allows, AllowsAll, after, after_item, nothing_told, is_skipped, kept_variables, variable_of, may_have_code, has_room, change_records, with_record, takes_digits, is_value}
+use Rattle.vcd_text.specs.Grammar.{Context, VariableDeclaration, RecordedChange, Accepts, Allows, AllowsAll, told_after, told_after_item, nothing_told, is_skipped, kept_variables, variable_of, may_have_code, has_room, recorded_changes, with_recorded_change, takes_digits, is_value}
 use Rattle.vcd_text.proofs.WordLaws.{is_run_text, texts_are_runs, run_is_word}
 use Rattle.vcd_text.specs.Meaning.{meaning, declared_signal, recorded_value}
 
@@ -71,18 +71,18 @@ same_bytes (b ∷ bs) = and_from (nat_eq b b) (bytes_eq bs bs) (eq-eqb b b refl)
 
 -- ---- what is kept to
 
-pub record IsCleanDeclaration (d : Declaration) : Type 0 where
+pub record IsCleanDeclaration (d : VariableDeclaration) : Type 0 where
   scopes : list_all is_sound_scope d.scopes ≡ true
   kind : is_word d.kind ≡ true
   named : 0 < length d.words
   words : list_all is_word d.words ≡ true
 
 -- the variable of a code has the size of this one, where it is kept
-abbrev Agrees : Context → Declaration → Type 0
-Agrees c d = is_skipped d ≡ false → IsSomeAnd (variable_of c d.code) (λ e. (e.size ≡ d.size) × (is_skipped e ≡ false))
+abbrev IsAgreed : Context → VariableDeclaration → Type 0
+IsAgreed c d = is_skipped d ≡ false → IsSomeAnd (variable_of c d.code) (λ e. (e.size ≡ d.size) × (is_skipped e ≡ false))
 
 -- the variable of the record's code takes its letters
-abbrev Fits : Context → ChangeRecord → Type 0
+abbrev Fits : Context → RecordedChange → Type 0
 Fits c r = IsSomeAnd (variable_of c r.code) (λ e. length r.letters ≤ e.size)
 
 record IsClean (c : Context) : Type 0 where
@@ -90,7 +90,7 @@ record IsClean (c : Context) : Type 0 where
   timescale : IfSome c.timescale (λ t. is_sound_timescale t ≡ true)
   scopes : list_all is_sound_scope c.scopes ≡ true
   declared : All IsCleanDeclaration c.declared
-  agree : All (Agrees c) c.declared
+  agree : All (IsAgreed c) c.declared
   few : length (kept_variables c.declared) ≤ SIGNAL_LIMIT
   fit : All (Fits c) c.records
   silent : c.changing ≡ false → c.records ≡ []
@@ -99,7 +99,7 @@ record IsClean (c : Context) : Type 0 where
 -- ---- sizes
 
 -- a variable that is kept has a kind with four-state letters and a width within the limit
-kept_is : (d : Declaration) → is_skipped d ≡ false → (is_skipped_kind d.kind ≡ false) × (1 ≤ d.size) × (d.size ≤ WIDTH_LIMIT)
+kept_is : (d : VariableDeclaration) → is_skipped d ≡ false → (is_skipped_kind d.kind ≡ false) × (1 ≤ d.size) × (d.size ≤ WIDTH_LIMIT)
 kept_is d keeps =
     let p = or_parts (is_skipped_kind d.kind) (d.size == 0 || nat_lt WIDTH_LIMIT d.size) keeps in
     let q = or_parts (d.size == 0) (nat_lt WIDTH_LIMIT d.size) p.1 in
@@ -111,12 +111,12 @@ kept_is d keeps =
     positive (suc n) none = omega arith
 
 -- a variable takes a letter
-some_kept : (o : Option Declaration) → IsSome o → IsSomeAnd o (λ e. is_skipped e ≡ false → 1 ≤ e.size)
+some_kept : (o : Option VariableDeclaration) → IsSome o → IsSomeAnd o (λ e. is_skipped e ≡ false → 1 ≤ e.size)
 some_kept None some = absurd (false≢true some)
 some_kept (Some e) some = λ keeps. (kept_is e keeps).1
 
 -- a variable takes digits that are no more than its bits
-some_taken : (digits : List ℕ) (o : Option Declaration) → IsSomeAnd o (λ e. IsTrue (takes_digits e digits)) → IsSomeAnd o (λ e. is_skipped e ≡ false → length (letters_read digits) ≤ e.size)
+some_taken : (digits : List ℕ) (o : Option VariableDeclaration) → IsSomeAnd o (λ e. IsTrue (takes_digits e digits)) → IsSomeAnd o (λ e. is_skipped e ≡ false → length (letters_read digits) ≤ e.size)
 some_taken digits None some = absurd some
 some_taken digits (Some e) takes = λ keeps.
     let here : (is_value digits && nat_le (length digits) e.size) ≡ true = ap (λ b. b || (is_value digits && nat_le (length digits) e.size)) (sym keeps) ∙ takes in
@@ -126,7 +126,7 @@ some_taken digits (Some e) takes = λ keeps.
 
 -- one more record
 clean_record : (c : Context) (code : List ℕ) (letters : List Bit) → IsClean c → IsTrue c.changing → IsSomeAnd (variable_of c code) (λ e. is_skipped e ≡ false → length letters ≤ e.size)
-    → IsClean (with_record c code letters)
+    → IsClean (with_recorded_change c code letters)
 clean_record c code letters clean changing fits = record {
   header = clean.header;
   timescale = clean.timescale;
@@ -139,10 +139,10 @@ clean_record c code letters clean changing fits = record {
   tick = clean.tick;
 }
   where
-    more : (o : Option Declaration) → variable_of c code ≡ o → IsSomeAnd o (λ e. is_skipped e ≡ false → length letters ≤ e.size) → All (Fits c) (c.records ++ change_records c code letters o)
+    more : (o : Option VariableDeclaration) → variable_of c code ≡ o → IsSomeAnd o (λ e. is_skipped e ≡ false → length letters ≤ e.size) → All (Fits c) (c.records ++ recorded_changes c code letters o)
     more None is some = absurd some
     more (Some e) is some =
-        let r : ChangeRecord = record { tick = c.tick; code = code; letters = letters } in
+        let r : RecordedChange = record { tick = c.tick; code = code; letters = letters } in
         by_test (λ b. All (Fits c) (c.records ++ cond b [] (r ∷ []))) (is_skipped e) (λ _. subst (All (Fits c)) (sym (append-nil c.records)) clean.fit)
         (λ keeps. All-push (Fits c) c.records r clean.fit (subst (λ o. IsSomeAnd o (λ e. length letters ≤ e.size)) (sym is) (some keeps)))
 
@@ -151,7 +151,7 @@ both_kept true e h = absurd (false≢true h)
 both_kept false e h = (h, refl)
 
 -- one more variable
-clean_declared : (c : Context) (d : Declaration) → IsClean c → IsFalse c.changing → IsCleanDeclaration d → IsTrue (may_have_code (variable_of c d.code) d) → IsTrue (has_room c.declared d)
+clean_declared : (c : Context) (d : VariableDeclaration) → IsClean c → IsFalse c.changing → IsCleanDeclaration d → IsTrue (may_have_code (variable_of c d.code) d) → IsTrue (has_room c.declared d)
     → IsClean (record c { declared = c.declared ++ d ∷ [] })
 clean_declared c d clean declaring is shares room =
     let e : Context = record c { declared = c.declared ++ d ∷ [] } in
@@ -161,7 +161,7 @@ clean_declared c d clean declaring is shares room =
       scopes = clean.scopes;
       declared = All-push IsCleanDeclaration c.declared d clean.declared is;
       agree =
-          All-push (Agrees e) c.declared d (All-weaker (Agrees c) (Agrees e) (λ x agrees keeps. found_further _ (λ y. bytes_eq x.code y.code) c.declared d (agrees keeps)) c.declared clean.agree)
+          All-push (IsAgreed e) c.declared d (All-weaker (IsAgreed c) (IsAgreed e) (λ x agrees keeps. found_further _ (λ y. bytes_eq x.code y.code) c.declared d (agrees keeps)) c.declared clean.agree)
           (λ keeps. first_or_same (variable_of c d.code) refl shares keeps);
       few = counted;
       fit = subst (All (Fits e)) (sym (clean.silent declaring)) (All-nil (Fits e));
@@ -169,7 +169,7 @@ clean_declared c d clean declaring is shares room =
       tick = clean.tick;
     }
   where
-    first_or_same : (o : Option Declaration) → variable_of c d.code ≡ o → IsTrue (may_have_code o d) → is_skipped d ≡ false
+    first_or_same : (o : Option VariableDeclaration) → variable_of c d.code ≡ o → IsTrue (may_have_code o d) → is_skipped d ≡ false
         → IsSomeAnd (find (λ y. bytes_eq d.code y.code) (c.declared ++ d ∷ [])) (λ e. (e.size ≡ d.size) × (is_skipped e ≡ false))
     first_or_same None none shares keeps =
         subst (λ o. IsSomeAnd o (λ e. (e.size ≡ d.size) × (is_skipped e ≡ false))) (sym (found_last (λ y. bytes_eq d.code y.code) c.declared d none (same_bytes d.code))) (refl, keeps)
@@ -183,7 +183,7 @@ clean_declared c d clean declaring is shares room =
         (by_test (λ b. (b || nat_lt (length (kept_variables c.declared)) SIGNAL_LIMIT) ≡ true → length (kept_variables c.declared) + length (cond (not b) (d ∷ []) []) ≤ SIGNAL_LIMIT) (is_skipped d)
         (λ _ _. omega (arith, clean.few)) (λ _ room. let less = ltb-true (length (kept_variables c.declared)) SIGNAL_LIMIT room in omega arith) room)
 
-clean_variable : (c : Context) (words : List (List ℕ)) → IsClean c → list_all is_run_text (spelling (variable words)) ≡ true → Allows c (variable words) → IsClean (after_item c (variable words))
+clean_variable : (c : Context) (words : List (List ℕ)) → IsClean c → list_all is_run_text (spelling (variable words)) ≡ true → Allows c (variable words) → IsClean (told_after_item c (variable words))
 clean_variable c [] clean all allows = absurd allows.3
 clean_variable c (kind ∷ []) clean all allows = absurd allows.3
 clean_variable c (kind ∷ size ∷ []) clean all allows = absurd allows.3
@@ -204,7 +204,7 @@ clean_beside : (c : Context) (header : List Header) (time : Option Timescale) (s
 clean_beside c header time scopes changing tick clean sound_header sound_timescale sound_scopes silent within =
     record { header = sound_header; timescale = sound_timescale; scopes = sound_scopes; declared = clean.declared; agree = clean.agree; few = clean.few; fit = clean.fit; silent = silent; tick = within }
 
-clean_item : (c : Context) (i : Item) → IsClean c → list_all is_run_text (spelling i) ≡ true → Allows c i → IsClean (after_item c i)
+clean_item : (c : Context) (i : Item) → IsClean c → list_all is_run_text (spelling i) ≡ true → Allows c i → IsClean (told_after_item c i)
 clean_item c (entry kind words) clean all allows = clean_beside c _ _ _ _ _ clean
     (list_all-append is_sound_header c.header _
     ∙ and_from (list_all is_sound_header c.header) (list_all is_word words && true) clean.header
@@ -232,11 +232,11 @@ clean_item c (real_or_string first text code) clean all allows = clean
 clean_item c (bracket word_on) clean all allows = clean
 clean_item c (other word_on words) clean all allows = clean
 
-clean_items : (c : Context) (is : List Item) → IsClean c → list_all is_run_text (spellings is) ≡ true → AllowsAll c is → IsClean (after c is)
+clean_items : (c : Context) (is : List Item) → IsClean c → list_all is_run_text (spellings is) ≡ true → AllowsAll c is → IsClean (told_after c is)
 clean_items c [] clean all allows = clean
 clean_items c (i ∷ is) clean all allows =
     let p = and_parts (list_all is_run_text (spelling i)) (list_all is_run_text (spellings is)) (sym (list_all-append is_run_text (spelling i) (spellings is)) ∙ all) in
-    clean_items (after_item c i) is (clean_item c i clean p.0 allows.0) p.1 allows.1
+    clean_items (told_after_item c i) is (clean_item c i clean p.0 allows.0) p.1 allows.1
 
 -- ---- waves
 
@@ -245,10 +245,10 @@ length-ext width s fits =
     length-append (replicate (width - length s) (pad_letter s)) s ∙ ap (λ n. n + length s) (length-replicate (width - length s) (pad_letter s)) ∙ omega arith
 
 -- a record of this code has letters for so many bits
-abbrev FitsWidth : ℕ → List ℕ → ChangeRecord → Type 0
+abbrev FitsWidth : ℕ → List ℕ → RecordedChange → Type 0
 FitsWidth width code r = bytes_eq r.code code ≡ true → length r.letters ≤ width
 
-recorded_length : (width : ℕ) (code : List ℕ) (t : ℕ) (before : List Bit) (rs : List ChangeRecord) → length before ≡ width
+recorded_length : (width : ℕ) (code : List ℕ) (t : ℕ) (before : List Bit) (rs : List RecordedChange) → length before ≡ width
     → All (FitsWidth width code) rs → length (recorded_value width code t before rs) ≡ width
 unfolding recorded_value
 recorded_length width code t before [] long all = long
@@ -258,16 +258,16 @@ recorded_length width code t before (r ∷ rs) long all =
     (λ here. length-ext width r.letters (All-head (FitsWidth width code) r rs all (and_parts (bytes_eq r.code code) (nat_le r.tick t) here).0)) (λ _. long)) (All-tail (FitsWidth width code) r rs all)
 
 -- the records of a code that is kept fit its width
-records_fit : (c : Context) (d : Declaration) → Agrees c d → is_skipped d ≡ false → All (Fits c) c.records → All (FitsWidth d.size d.code) c.records
+records_fit : (c : Context) (d : VariableDeclaration) → IsAgreed c d → is_skipped d ≡ false → All (Fits c) c.records → All (FitsWidth d.size d.code) c.records
 records_fit c d agrees keeps fit = All-weaker (Fits c) (FitsWidth d.size d.code)
     (λ r fits same. let code : r.code ≡ d.code = (bytes_eq-Decides r.code d.code).0 same in
     joined r (variable_of c d.code) (subst (λ k. IsSomeAnd (variable_of c k) (λ e. length r.letters ≤ e.size)) code fits) (agrees keeps)) c.records fit
   where
-    joined : (r : ChangeRecord) (o : Option Declaration) → IsSomeAnd o (λ e. length r.letters ≤ e.size) → IsSomeAnd o (λ e. (e.size ≡ d.size) × (is_skipped e ≡ false)) → length r.letters ≤ d.size
+    joined : (r : RecordedChange) (o : Option VariableDeclaration) → IsSomeAnd o (λ e. length r.letters ≤ e.size) → IsSomeAnd o (λ e. (e.size ≡ d.size) × (is_skipped e ≡ false)) → length r.letters ≤ d.size
     joined r None some same = absurd some
     joined r (Some e) fits same = subst (λ n. length r.letters ≤ n) same.0 fits
 
-sound_signal : (c : Context) (d : Declaration) → IsClean c → IsCleanDeclaration d → Agrees c d → is_skipped d ≡ false → IsSoundSignal c.tick (declared_signal c.records c.tick d)
+sound_signal : (c : Context) (d : VariableDeclaration) → IsClean c → IsCleanDeclaration d → IsAgreed c d → is_skipped d ≡ false → IsSoundSignal c.tick (declared_signal c.records c.tick d)
 sound_signal c d clean is agrees keeps =
     let width = kept_is d keeps in
     let values : (t : ℕ) → length (recorded_value d.size d.code t (all_x d.size) c.records) ≡ d.size = λ t.
@@ -290,7 +290,7 @@ clean_start = record {
   timescale = tt;
   scopes = refl;
   declared = All-nil IsCleanDeclaration;
-  agree = All-nil (Agrees nothing_told);
+  agree = All-nil (IsAgreed nothing_told);
   few = omega arith;
   fit = All-nil (Fits nothing_told);
   silent = λ _. refl;
@@ -301,7 +301,7 @@ pub meaning_is_sound : (bytes : List ℕ) (told : Context) → Accepts (words_of
 meaning_is_sound bytes told accepted =
     let clean : IsClean told = subst IsClean accepted.tells (clean_items nothing_told accepted.items clean_start (ap (list_all is_run_text) (sym accepted.spelled) ∙ texts_are_runs true 1 bytes) accepted.allowed) in
     let declared = All-filter (λ d. not (is_skipped d)) IsCleanDeclaration told.declared clean.declared in
-    let agree = All-filter (λ d. not (is_skipped d)) (Agrees told) told.declared clean.agree in
+    let agree = All-filter (λ d. not (is_skipped d)) (IsAgreed told) told.declared clean.agree in
     let keeps = filter_passes (λ d. not (is_skipped d)) told.declared in
     record {
       header = clean.header;

@@ -152,9 +152,9 @@ header_spelled (h ∷ hs) sound =
     (and_from (is_unbroken (header_word h.kind)) (list_all is_unbroken (h.words ++ end_word ∷ [])) (header_word_unbroken h.kind) (with_end_unbroken h.words (words_are_unbroken h.words parts.0)))
     (header_spelled hs parts.1)
 
-timescale_spelled : (t : Option Timescale) → IfSome t (λ t. IsTrue (is_sound_timescale t)) → list_all is_spelled (timescale_items t) ≡ true
-timescale_spelled None sound = refl
-timescale_spelled (Some t) sound =
+timescale_is_spelled : (t : Option Timescale) → IfSome t (λ t. IsTrue (is_sound_timescale t)) → list_all is_spelled (timescale_items t) ≡ true
+timescale_is_spelled None sound = refl
+timescale_is_spelled (Some t) sound =
     and_from (is_spelled (timescale (decimal t.count ∷ unit_text t.unit ∷ []))) true
     (and_from (is_unbroken (decimal t.count)) (is_unbroken (unit_text t.unit) && true) (decimal_unbroken t.count (count_small t.count (sound_count t sound))) (one_word (unit_text t.unit) (unit_unbroken t.unit)))
     refl
@@ -207,7 +207,7 @@ items_spelled c sound =
     (both_spelled first (tick_items c.signals 1 c.end)
     (both_spelled declared (end_definitions ∷ first_items c.signals)
     (both_spelled front (signal_items [] 0 c.signals)
-    (both_spelled (header_items c.header) (timescale_items c.timescale) (header_spelled c.header sound.header) (timescale_spelled c.timescale sound.timescale))
+    (both_spelled (header_items c.header) (timescale_items c.timescale) (header_spelled c.header sound.header) (timescale_is_spelled c.timescale sound.timescale))
     (signals_spelled c.end [] 0 c.signals (recursion_from_All (IsSoundSignal c.end) c.signals sound.signals)))
     (and_from (is_spelled end_definitions) (list_all is_spelled (first_items c.signals)) refl (first_spelled c.signals)))
     (ticks_spelled c.signals 1 c.end (omega arith)))

@@ -9,7 +9,7 @@ use Rattle.vcd_text.specs.Words.{PlacedWord}
 use Rattle.vcd_text.specs.Letters.{is_among}
 use Rattle.vcd_core.specs.Word.{is_one_of}
 use Rattle.vcd_text.specs.Items.{Item, spelling, spellings, is_other, begins_declaration, declaring_words, dump_words, vector_letters}
-use Rattle.vcd_text.specs.Grammar.{Context, Allows, AllowsAll, after, after_item, nothing_told, word_texts}
+use Rattle.vcd_text.specs.Grammar.{Context, Allows, AllowsAll, told_after, told_after_item, nothing_told, word_texts}
 use Rattle.vcd_text.specs.Faults.{WordFault, among_declarations, among_changes, ChangeFault, no_tick, tick_goes_back, letter_alone, letter_of_none, pair_of_none, no_value, value_too_long, declaration_late, no_change, pair_letters, ShowsFault, fault_line}
 use Rattle.vcd_text.specs.inside.OpenItems.{shown_line}
 use Rattle.vcd_text.specs.inside.Reading.{Reads, TakesWord, goes_on, ends_item, Agrees, IsBegun, is_want_of_memory, error_at}
@@ -19,13 +19,13 @@ use Rattle.vcd_text.specs.declared.reading.reader.OpenItem.{OpenItem}
 use Rattle.vcd_text.specs.declared.reading.reader.OpenItem.TheVariants as items
 use Rattle.vcd_text.specs.declared.reading.reader.Reader.{Reader}
 
-allowed_more : (c : Context) (is : List Item) (i : Item) → AllowsAll c is → Allows (after c is) i → AllowsAll c (is ++ i ∷ [])
+allowed_more : (c : Context) (is : List Item) (i : Item) → AllowsAll c is → Allows (told_after c is) i → AllowsAll c (is ++ i ∷ [])
 allowed_more c [] i all here = (here, tt)
-allowed_more c (j ∷ is) i (first, rest) here = (first, allowed_more (after_item c j) is i rest here)
+allowed_more c (j ∷ is) i (first, rest) here = (first, allowed_more (told_after_item c j) is i rest here)
 
-after_more : (c : Context) (is : List Item) (i : Item) → after c (is ++ i ∷ []) ≡ after_item (after c is) i
+after_more : (c : Context) (is : List Item) (i : Item) → told_after c (is ++ i ∷ []) ≡ told_after_item (told_after c is) i
 after_more c [] i = refl
-after_more c (j ∷ is) i = after_more (after_item c j) is i
+after_more c (j ∷ is) i = after_more (told_after_item c j) is i
 
 spelled_more : (is : List Item) (i : Item) → spellings (is ++ i ∷ []) ≡ spellings is ++ spelling i
 spelled_more [] i = append-nil (spelling i)
@@ -48,7 +48,7 @@ one_taken old new words w r (ends_item i spelled allows at) = record {
   items = r.items ++ i ∷ [];
   whole = words ++ w ∷ [];
   begun = [];
-  told = after_item r.told i;
+  told = told_after_item r.told i;
   parts = sym (append-nil (words ++ w ∷ []));
   spelled =
       ap word_texts (ap (λ ws. ws ++ w ∷ []) r.parts ∙ append_assoc r.whole r.begun (w ∷ []))
@@ -57,7 +57,7 @@ one_taken old new words w r (ends_item i spelled allows at) = record {
       ∙ ap (λ ws. spellings r.items ++ ws) (sym spelled)
       ∙ sym (spelled_more r.items i);
   allowed = allowed_more nothing_told r.items i r.allowed (subst (λ c. Allows c i) (sym r.tells) allows);
-  tells = after_more nothing_told r.items i ∙ ap (λ c. after_item c i) r.tells;
+  tells = after_more nothing_told r.items i ∙ ap (λ c. told_after_item c i) r.tells;
   at = at;
 }
 

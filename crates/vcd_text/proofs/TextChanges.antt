@@ -14,7 +14,7 @@ use Rattle.vcd_core.specs.Value.{printed_letter}
 use Rattle.vcd_core.specs.Word.{is_one_of}
 use Rattle.vcd_text.specs.Letters.{letters_read, printed_letters, short_form}
 use Rattle.vcd_text.specs.Items.{Item, vector, bracket, dump_words, end_word}
-use Rattle.vcd_text.specs.Grammar.{ChangeRecord, Context, is_skipped, takes_digits, change_records, variable_of}
+use Rattle.vcd_text.specs.Grammar.{RecordedChange, Context, is_skipped, takes_digits, recorded_changes, variable_of}
 use Rattle.vcd_text.specs.Text.{all_values, code_of, differs_at, end_items, first_items, new_values, stamp_of, with_stamp, tick_items, value_item, value_items}
 use Rattle.vcd_text.proofs.CodesDiffer.{code_not_empty}
 use Rattle.vcd_text.proofs.Decimals.{decimal_is_number, number_of-decimal}
@@ -25,11 +25,11 @@ use Rattle.vcd_text.proofs.ReadValues.{letter_back, letters_back, printed_is_val
 -- ---- one value
 
 -- what has been told of a capture's text, with these records, at this tick
-abbrev pub told_at : Contents → List ChangeRecord → ℕ → Context
+abbrev pub told_at : Contents → List RecordedChange → ℕ → Context
 told_at c records tick = record (declared_context c) { records = records; tick = tick }
 
 -- the record that the value at a tick of a signal leaves
-abbrev pub record_of : ℕ → ℕ × SignalContents → ChangeRecord
+abbrev pub record_of : ℕ → ℕ × SignalContents → RecordedChange
 record_of t p = record { tick = t; code = code_of p.0; letters = short_form (signal_value p.1 t) }
 
 -- a signal that is found by the code of its position, with its width at each tick
@@ -39,12 +39,12 @@ pub record IsPlaced (c : Contents) (p : ℕ × SignalContents) : Type 0 where
   pub some : 1 ≤ p.1.width
   pub wide : (t : ℕ) → length (signal_value p.1 t) ≡ p.1.width
 
-module _ (c : Contents) (p : ℕ × SignalContents) (placed : IsPlaced c p) (records : List ChangeRecord) (t : ℕ) where
+module _ (c : Contents) (p : ℕ × SignalContents) (placed : IsPlaced c p) (records : List RecordedChange) (t : ℕ) where
   -- what is recorded of letters that are read as this short form
   recorded_one : (letters v : List Bit) → letters ≡ short_form v
-      → change_records (told_at c records t) (code_of p.0) letters (variable_of (told_at c records t) (code_of p.0)) ≡ record { tick = t; code = code_of p.0; letters = short_form v } ∷ []
+      → recorded_changes (told_at c records t) (code_of p.0) letters (variable_of (told_at c records t) (code_of p.0)) ≡ record { tick = t; code = code_of p.0; letters = short_form v } ∷ []
   recorded_one letters v same =
-      (λ i. change_records (told_at c records t) (code_of p.0) (same i) (placed.found i))
+      (λ i. recorded_changes (told_at c records t) (code_of p.0) (same i) (placed.found i))
       ∙ (λ i. cond (placed.kept i) [] (record { tick = t; code = code_of p.0; letters = short_form v } ∷ []))
 
   -- its variable takes the short form
@@ -75,7 +75,7 @@ module _ (c : Contents) (p : ℕ × SignalContents) (placed : IsPlaced c p) (rec
 
 -- ---- all values at a tick
 
-pub values_lead : (c : Contents) (placed : List (ℕ × SignalContents)) (records : List ChangeRecord) (t : ℕ) → All (IsPlaced c) placed
+pub values_lead : (c : Contents) (placed : List (ℕ × SignalContents)) (records : List RecordedChange) (t : ℕ) → All (IsPlaced c) placed
     → Leads (told_at c records t) (value_items t placed) (told_at c (records ++ map (record_of t) placed) t)
 values_lead c [] records t all = leads_same (told_at c records t) (told_at c records t) _ [] (leads_none (told_at c records t)) (λ i. told_at c (sym (append-nil records) i) t)
 values_lead c (p ∷ ps) records t all =
@@ -87,7 +87,7 @@ values_lead c (p ∷ ps) records t all =
 -- ---- stamps and brackets
 
 -- a stamp that does not go back
-stamp_leads : (c : Contents) (records : List ChangeRecord) (u t : ℕ) → u ≤ t → t ≤ END_LIMIT → Leads (told_at c records u) (stamp_of t ∷ []) (told_at c records t)
+stamp_leads : (c : Contents) (records : List RecordedChange) (u t : ℕ) → u ≤ t → t ≤ END_LIMIT → Leads (told_at c records u) (stamp_of t ∷ []) (told_at c records t)
 stamp_leads c records u t later within =
     let small : t < 2 ^ 64 = omega arith in
     let same = number_of-decimal t small in
@@ -97,7 +97,7 @@ stamp_leads c records u t later within =
     }
 
 -- a bracket tells nothing
-bracket_leads : (c : Contents) (records : List ChangeRecord) (t : ℕ) (word : List ℕ) → is_one_of dump_words word ≡ true
+bracket_leads : (c : Contents) (records : List RecordedChange) (t : ℕ) (word : List ℕ) → is_one_of dump_words word ≡ true
     → Leads (told_at c records t) (bracket word ∷ []) (told_at c records t)
 bracket_leads c records t word is = leads_one (told_at c records t) (told_at c records t) (bracket word) (refl, is) refl
 
@@ -119,19 +119,19 @@ abbrev pub differing : List SignalContents → ℕ → List (ℕ × SignalConten
 differing signals t = filter (λ p. differs_at t p.1) (enumerate_from 0 signals)
 
 -- the records of n ticks, from t on
-unfoldable pub tick_records : List SignalContents → ℕ → ℕ → List ChangeRecord
+unfoldable pub tick_records : List SignalContents → ℕ → ℕ → List RecordedChange
 tick_records signals t zero = []
 tick_records signals t (suc n) = map (record_of t) (differing signals t) ++ tick_records signals (suc t) n
 
 -- the stamp of a tick and its values, one at least
-stamped_lead : (c : Contents) (records : List ChangeRecord) (u t : ℕ) (p : ℕ × SignalContents) (ps : List (ℕ × SignalContents)) → u ≤ t → t ≤ END_LIMIT → All (IsPlaced c) (p ∷ ps)
+stamped_lead : (c : Contents) (records : List RecordedChange) (u t : ℕ) (p : ℕ × SignalContents) (ps : List (ℕ × SignalContents)) → u ≤ t → t ≤ END_LIMIT → All (IsPlaced c) (p ∷ ps)
     → Leads (told_at c records u) (with_stamp t (value_items t (p ∷ ps))) (told_at c (records ++ map (record_of t) (p ∷ ps)) t)
 stamped_lead c records u t p ps later within all =
     leads_both (told_at c records u) (told_at c records t) (told_at c (records ++ map (record_of t) (p ∷ ps)) t) (stamp_of t ∷ []) (value_items t (p ∷ ps))
     (stamp_leads c records u t later within) (values_lead c (p ∷ ps) records t all)
 
 -- one tick, behind which the rest goes on from a tick that is no later
-one_tick : (c : Contents) (e : Context) (records : List ChangeRecord) (u t : ℕ) (placed : List (ℕ × SignalContents)) (rest : List Item) → u ≤ t → t ≤ END_LIMIT → All (IsPlaced c) placed
+one_tick : (c : Contents) (e : Context) (records : List RecordedChange) (u t : ℕ) (placed : List (ℕ × SignalContents)) (rest : List Item) → u ≤ t → t ≤ END_LIMIT → All (IsPlaced c) placed
     → ((v : ℕ) → v ≤ t → Leads (told_at c (records ++ map (record_of t) placed) v) rest e)
     → Leads (told_at c records u) (with_stamp t (value_items t placed) ++ rest) e
 one_tick c e records u t [] rest later within all go = subst (λ rs. Leads (told_at c rs u) rest e) (append-nil records) (go u later)
@@ -140,12 +140,12 @@ one_tick c e records u t (p ∷ ps) rest later within all go =
     (stamped_lead c records u t p ps later within all) (go t (omega arith))
 
 -- the last tick, and the stamp of the end where nothing differs at it
-last_tick : (c : Contents) (records : List ChangeRecord) (u t : ℕ) (placed : List (ℕ × SignalContents)) → u < t → t ≤ END_LIMIT → All (IsPlaced c) placed
+records_at_last_tick : (c : Contents) (records : List RecordedChange) (u t : ℕ) (placed : List (ℕ × SignalContents)) → u < t → t ≤ END_LIMIT → All (IsPlaced c) placed
     → Leads (told_at c records u) (with_stamp t (value_items t placed) ++ (if nat_lt 0 t && (length (value_items t placed) == 0) then stamp_of t ∷ [] else [])) (told_at c (records ++ map (record_of t) placed) t)
-last_tick c records u t [] later within all =
+records_at_last_tick c records u t [] later within all =
     subst (λ b. Leads (told_at c records u) (if b && true then stamp_of t ∷ [] else []) (told_at c (records ++ []) t)) (sym (lt-ltb 0 t (omega arith)))
     (subst (λ rs. Leads (told_at c records u) (stamp_of t ∷ []) (told_at c rs t)) (sym (append-nil records)) (stamp_leads c records u t (omega arith) within))
-last_tick c records u t (p ∷ ps) later within all =
+records_at_last_tick c records u t (p ∷ ps) later within all =
     let more : (suc (length (value_items t ps)) == 0) ≡ false = ne_eqb (suc (length (value_items t ps))) 0 (omega arith) in
     let above : nat_lt 0 t ≡ true = lt-ltb 0 t (omega arith) in
     let none : (with_stamp t (value_items t (p ∷ ps)) ++ (if nat_lt 0 t && (suc (length (value_items t ps)) == 0) then stamp_of t ∷ [] else [])) ≡ with_stamp t (value_items t (p ∷ ps)) =
@@ -153,12 +153,12 @@ last_tick c records u t (p ∷ ps) later within all =
     subst (λ is. Leads (told_at c records u) is (told_at c (records ++ map (record_of t) (p ∷ ps)) t)) (sym none) (stamped_lead c records u t p ps (omega arith) within all)
 
 -- the ticks from t to the end, and the stamp of the end
-ticks_lead : (c : Contents) (n : ℕ) (records : List ChangeRecord) (u t : ℕ) → u < t → t + n ≡ c.end → c.end ≤ END_LIMIT → All (IsPlaced c) (enumerate_from 0 c.signals)
+ticks_lead : (c : Contents) (n : ℕ) (records : List RecordedChange) (u t : ℕ) → u < t → t + n ≡ c.end → c.end ≤ END_LIMIT → All (IsPlaced c) (enumerate_from 0 c.signals)
     → Leads (told_at c records u) (tick_items c.signals t (suc n) ++ end_items c.signals c.end) (told_at c (records ++ tick_records c.signals t (suc n)) c.end)
 unfolding tick_items tick_records
 ticks_lead c zero records u t later at within all =
     let end : t ≡ c.end = omega arith in
-    let here = last_tick c records u t (differing c.signals t) later (omega arith) (All-filter (λ p. differs_at t p.1) (IsPlaced c) (enumerate_from 0 c.signals) all) in
+    let here = records_at_last_tick c records u t (differing c.signals t) later (omega arith) (All-filter (λ p. differs_at t p.1) (IsPlaced c) (enumerate_from 0 c.signals) all) in
     subst (λ e. Leads (told_at c records u) (tick_items c.signals t 1 ++ end_items c.signals e) (told_at c (records ++ tick_records c.signals t 1) e)) end
     (subst (λ is. Leads (told_at c records u) (is ++ end_items c.signals t) (told_at c (records ++ tick_records c.signals t 1) t)) (sym (append-nil (with_stamp t (new_values c.signals t))))
     (subst (λ rs. Leads (told_at c records u) (with_stamp t (new_values c.signals t) ++ end_items c.signals t) (told_at c (records ++ rs) t)) (sym (append-nil (map (record_of t) (differing c.signals t)))) here))
@@ -173,7 +173,7 @@ ticks_lead c (suc n) records u t later at within all =
     (ticks_lead c n (records ++ here) v (suc t) (omega arith) (omega arith) within all)))
 
 -- the ticks from 1 on, of which there may be none
-ticks_from_one : (c : Contents) (end : ℕ) (records : List ChangeRecord) → end ≡ c.end → c.end ≤ END_LIMIT → All (IsPlaced c) (enumerate_from 0 c.signals)
+ticks_from_one : (c : Contents) (end : ℕ) (records : List RecordedChange) → end ≡ c.end → c.end ≤ END_LIMIT → All (IsPlaced c) (enumerate_from 0 c.signals)
     → Leads (told_at c records 0) (tick_items c.signals 1 end ++ end_items c.signals end) (told_at c (records ++ tick_records c.signals 1 end) end)
 unfolding tick_items tick_records
 ticks_from_one c zero records at within all = leads_same (told_at c records 0) (told_at c records 0) _ [] (leads_none (told_at c records 0)) (λ i. told_at c (sym (append-nil records) i) 0)
@@ -184,7 +184,7 @@ ticks_from_one c (suc n) records at within all =
 -- ---- the changes
 
 -- the records of a capture's text
-abbrev pub records_of : Contents → List ChangeRecord
+abbrev pub records_of : Contents → List RecordedChange
 records_of c = map (record_of 0) (enumerate_from 0 c.signals) ++ tick_records c.signals 1 c.end
 
 -- each signal of a sound capture is found by its code

@@ -22,7 +22,7 @@ use Rattle.vcd_core.specs.Sound.{is_sound_header, is_sound_timescale, IsSoundSig
 use Rattle.std.specs.Char.{is_ascii_digit}
 use Rattle.vcd_core.specs.Decimal.{number_of}
 use Rattle.vcd_text.specs.Items.{Item, entry, timescale, variable, end_definitions, unit_text, end_word, is_end, has_no_end, timescale_of}
-use Rattle.vcd_text.specs.Grammar.{Context, Declaration, nothing_told, declaration_of, variable_of, may_have_code, has_room, is_skipped, kept_variables}
+use Rattle.vcd_text.specs.Grammar.{Context, VariableDeclaration, nothing_told, declaration_of, variable_of, may_have_code, has_room, is_skipped, kept_variables}
 use Rattle.vcd_text.specs.Text.{header_items, timescale_items, scope_items, code_of, variable_item, signal_items, first_items, tick_items, end_items, items_of}
 use Rattle.vcd_text.proofs.CodesDiffer.{codes_differ, code_no_end}
 use Rattle.vcd_text.proofs.Decimals.{decimal_digits, decimal_is_number, number_of-decimal}
@@ -72,10 +72,10 @@ timescale_leads h (Some t) sound =
 -- ---- variables
 
 -- no variable has the code of a position from k on
-abbrev HasCodesBelow : ℕ → List Declaration → Type 0
+abbrev HasCodesBelow : ℕ → List VariableDeclaration → Type 0
 HasCodesBelow k ds = (j : ℕ) → k ≤ j → find (λ d. bytes_eq (code_of j) d.code) ds ≡ None
 
-codes_below_more : (k : ℕ) (ds : List Declaration) (d : Declaration) → HasCodesBelow k ds → d.code ≡ code_of k → HasCodesBelow (suc k) (ds ++ d ∷ [])
+codes_below_more : (k : ℕ) (ds : List VariableDeclaration) (d : VariableDeclaration) → HasCodesBelow k ds → d.code ≡ code_of k → HasCodesBelow (suc k) (ds ++ d ∷ [])
 codes_below_more k ds d below is = λ j from.
     let other : bytes_eq (code_of j) d.code ≡ false =
     false_from_ne_true (bytes_eq (code_of j) d.code) (λ same.
@@ -101,13 +101,13 @@ variable_no_end end k s sound few =
     (and_from (not (is_end (code_of k))) (has_no_end s.words) (not_from_false (is_end (code_of k)) (code_no_end k few)) (words_have_no_end s.words sound.words)))
 
 -- there is room behind fewer variables than there may be signals
-room_left : (ds : List Declaration) (d : Declaration) → length ds < SIGNAL_LIMIT → has_room ds d ≡ true
+room_left : (ds : List VariableDeclaration) (d : VariableDeclaration) → length ds < SIGNAL_LIMIT → has_room ds d ≡ true
 room_left ds d few =
     let kept_few : length (kept_variables ds) ≤ length ds = subst (λ n. n ≤ length ds) (sym (length-filter (λ d. not (is_skipped d)) ds)) (count_by-le-length (λ d. not (is_skipped d)) ds) in
     or_right (is_skipped d) (nat_lt (length (kept_variables ds)) SIGNAL_LIMIT) (lt-ltb (length (kept_variables ds)) SIGNAL_LIMIT (lt_of_le_of_lt kept_few few))
 
 -- the variable of the signal at a position
-variable_leads : (h : List Header) (t : Option Timescale) (ds : List Declaration) (end k : ℕ) (s : SignalContents) → IsSoundSignal end s → k < SIGNAL_LIMIT → length ds ≡ k → HasCodesBelow k ds
+variable_leads : (h : List Header) (t : Option Timescale) (ds : List VariableDeclaration) (end k : ℕ) (s : SignalContents) → IsSoundSignal end s → k < SIGNAL_LIMIT → length ds ≡ k → HasCodesBelow k ds
     → Leads (declaring h t s.scopes ds) (variable_item k s ∷ []) (declaring h t s.scopes (ds ++ declared_as k s ∷ []))
 variable_leads h t ds end k s sound few at below =
     let most : s.width ≤ WIDTH_LIMIT = sound.most in
@@ -126,14 +126,14 @@ variable_leads h t ds end k s sound few at below =
 
 -- ---- signals
 
-signals_lead : (h : List Header) (t : Option Timescale) (opened : List ScopeName) (ds : List Declaration) (end k : ℕ) (signals : List SignalContents) → AllByRecursion (IsSoundSignal end) signals
+signals_lead : (h : List Header) (t : Option Timescale) (opened : List ScopeName) (ds : List VariableDeclaration) (end k : ℕ) (signals : List SignalContents) → AllByRecursion (IsSoundSignal end) signals
     → k + length signals ≤ SIGNAL_LIMIT → length ds ≡ k → HasCodesBelow k ds
     → Leads (declaring h t opened ds) (signal_items opened k signals) (declaring h t [] (ds ++ declared_of k signals))
 unfolding signal_items declared_of
 signals_lead h t opened ds end k [] sound few at below =
     leads_same _ _ _ _ (scopes_end h t opened ds) (ap (λ l. declaring h t [] l) (sym (append-nil ds)))
 signals_lead h t opened ds end k (s ∷ ss) sound few at below =
-    let more : List Declaration = ds ++ declared_as k s ∷ [] in
+    let more : List VariableDeclaration = ds ++ declared_as k s ∷ [] in
     let one_more : length more ≡ length ds + 1 = length-append ds (declared_as k s ∷ []) in
     leads_both (declaring h t opened ds) (declaring h t s.scopes ds) (declaring h t [] (ds ++ (declared_as k s ∷ declared_of (suc k) ss)))
     (scope_items opened s.scopes) (variable_item k s ∷ signal_items s.scopes (suc k) ss)

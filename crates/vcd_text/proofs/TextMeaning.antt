@@ -4,7 +4,7 @@ use Rattle.vcd_core.specs.Value.{all_x}
 use Rattle.vcd_core.specs.Contents.{Contents, SignalContents}
 use Rattle.vcd_core.specs.Sound.{IsSound, IsSoundSignal}
 use Rattle.vcd_core.proofs.Waves.{wave_is}
-use Rattle.vcd_text.specs.Grammar.{Declaration, kept_variables}
+use Rattle.vcd_text.specs.Grammar.{VariableDeclaration, kept_variables}
 use Rattle.vcd_text.specs.Meaning.{declared_signal, meaning, recorded_value, skipped_count}
 use Rattle.vcd_text.specs.Text.{code_of}
 use Rattle.vcd_text.proofs.DeclaredSignals.{all_sound_kept, declared_as, declared_of, none_skipped}
@@ -23,7 +23,7 @@ signal_means c sound k d inside =
     λ i. record { scopes = s.scopes; kind = s.kind; words = s.words; width = s.width; changes = sym wave i }
 
 -- what gives back each signal gives back all
-signals_back : (f : Declaration → SignalContents) (j : ℕ) (ss : List SignalContents)
+signals_back : (f : VariableDeclaration → SignalContents) (j : ℕ) (ss : List SignalContents)
     → ((i k : ℕ) (d : SignalContents) → j + i ≡ k → i < length ss → f (declared_as k (get_or ss i d)) ≡ get_or ss i d)
     → map f (declared_of j ss) ≡ ss
 unfolding declared_of

@@ -11,7 +11,7 @@ use Rattle.vcd_text.specs.declared.fault.Fault.{Fault}
 use Rattle.vcd_text.specs.declared.fault.Fault.TheVariants.{UnexpectedWord, BadTimescale, BadScope, UpscopeAtTop, BadVar, MixedCode, BadTime, TimeBackwards, BadChange, UnknownCode, ValueTooLong, TooManySignals}
 use Rattle.vcd_text.specs.Letters.{is_among, is_letter}
 use Rattle.vcd_text.specs.Items.{Item, entry, timescale, scope, upscope, variable, end_definitions, stamp, scalar, vector, real_or_string, bracket, other, spelling, end_word, is_end, has_no_end, dump_words, declaring_words, header_words, begins_declaration, timescale_of, vector_letters, dropped_letters}
-use Rattle.vcd_text.specs.Grammar.{Context, Declaration, Allows, is_skipped, has_good_size, declaration_of, variable_of, may_have_code, has_room, is_tick, is_value, takes_digits}
+use Rattle.vcd_text.specs.Grammar.{Context, VariableDeclaration, Allows, is_skipped, has_good_size, declaration_of, variable_of, may_have_code, has_room, is_tick, is_value, takes_digits}
 use Rattle.vcd_text.specs.Faults.{WordFault, IsUnfinished, pair_letters, no_declaration, no_timescale, no_kind, upscope_at_top, upscope_goes_on, no_size, no_variable, code_mixed, no_room, definitions_go_on, no_tick, tick_goes_back, letter_alone, letter_of_none, pair_of_none, no_value, value_too_long, declaration_late, no_change, among_declarations, among_changes, declaration_due, words_due, upscope_due, variable_due, definitions_due, code_due, other_due}
 use Rattle.vcd_text.proofs.OneOf.{by_among, by_one_of}
 
@@ -166,7 +166,7 @@ words_end c keyword words declares is no_end =
       ),
     )
 
-declared_ends : (c : Context) (words : List (List ℕ)) (d : Declaration) → IsFalse c.changing → IsTrue (has_no_end words) → IsTrue (has_good_size words)
+declared_ends : (c : Context) (words : List (List ℕ)) (d : VariableDeclaration) → IsFalse c.changing → IsTrue (has_no_end words) → IsTrue (has_good_size words)
     → declaration_of c words ≡ Some d → WordOutcome c (codes "$var" ∷ words) end_word
 declared_ends c words d declares no_end good told =
     elim (cases_Bool (may_have_code (variable_of c d.code) d)) [
@@ -203,7 +203,7 @@ variable_continues c (kind ∷ size ∷ words) word declares no_end good isnt =
 
 -- ---- the code of a change of two words
 
-vector_ends : (c : Context) (first : ℕ) (digits code : List ℕ) (d : Declaration) → IsTrue c.changing → IsTrue (is_among pair_letters first) → IsTrue (is_among vector_letters first)
+vector_ends : (c : Context) (first : ℕ) (digits code : List ℕ) (d : VariableDeclaration) → IsTrue c.changing → IsTrue (is_among pair_letters first) → IsTrue (is_among vector_letters first)
     → variable_of c code ≡ Some d → WordOutcome c ((first ∷ digits) ∷ []) code
 vector_ends c first digits code d changing pair is found =
     let taken : IsTrue (takes_digits d digits) → WordOutcome c ((first ∷ digits) ∷ []) code =

@@ -7,7 +7,7 @@ use Rattle.vcd_core.specs.Decimal.{is_number, number_of}
 use Rattle.vcd_core.specs.Word.{is_one_of}
 use Rattle.vcd_text.specs.Letters.{is_among, is_letter}
 use Rattle.vcd_text.specs.Items.{Item, spellings, end_word, is_end, has_no_end, declaring_words, header_words, begins_declaration, is_other, timescale_of, vector_letters, dropped_letters}
-use Rattle.vcd_text.specs.Grammar.{Context, Declaration, is_skipped, has_good_size, declaration_of, variable_of, may_have_code, has_room, is_tick, is_value, nothing_told, word_texts, AllowsAll, after}
+use Rattle.vcd_text.specs.Grammar.{Context, VariableDeclaration, is_skipped, has_good_size, declaration_of, variable_of, may_have_code, has_room, is_tick, is_value, nothing_told, word_texts, AllowsAll, told_after}
 
 -- ---- the rows: the words `begun` of an item that is not whole show no fault, and the word behind them shows this one
 
@@ -37,12 +37,12 @@ pub data DeclarationFault (c : Context) (begun : List (List ℕ)) (word : List �
       → IsTrue (has_no_end words) → IsTrue (has_good_size words) → declaration_of c words ≡ None
       → fault ≡ BadVar → DeclarationFault c begun word fault
   -- at its `$end`: a variable that does not agree with the one that has its code
-  code_mixed : (words : List (List ℕ)) (d : Declaration) → begun ≡ codes "$var" ∷ words → word ≡ end_word
+  code_mixed : (words : List (List ℕ)) (d : VariableDeclaration) → begun ≡ codes "$var" ∷ words → word ≡ end_word
       → IsTrue (has_no_end words) → IsTrue (has_good_size words) → declaration_of c words ≡ Some d
       → IsFalse (may_have_code (variable_of c d.code) d)
       → fault ≡ MixedCode → DeclarationFault c begun word fault
   -- at its `$end`: one signal too many
-  no_room : (words : List (List ℕ)) (d : Declaration) → begun ≡ codes "$var" ∷ words → word ≡ end_word
+  no_room : (words : List (List ℕ)) (d : VariableDeclaration) → begun ≡ codes "$var" ∷ words → word ≡ end_word
       → IsTrue (has_no_end words) → IsTrue (has_good_size words) → declaration_of c words ≡ Some d
       → IsTrue (may_have_code (variable_of c d.code) d) → IsFalse (has_room c.declared d)
       → fault ≡ TooManySignals → DeclarationFault c begun word fault
@@ -74,11 +74,11 @@ pub data ChangeFault (c : Context) (begun : List (List ℕ)) (word : List ℕ) (
       → variable_of c word ≡ None
       → fault ≡ UnknownCode → ChangeFault c begun word fault
   -- no digit, or one that is no value letter, for a variable that is kept
-  no_value : (first : ℕ) (digits : List ℕ) (d : Declaration) → begun ≡ (first ∷ digits) ∷ [] → IsTrue (is_among vector_letters first)
+  no_value : (first : ℕ) (digits : List ℕ) (d : VariableDeclaration) → begun ≡ (first ∷ digits) ∷ [] → IsTrue (is_among vector_letters first)
       → variable_of c word ≡ Some d → IsFalse (is_skipped d) → IsFalse (is_value digits)
       → fault ≡ BadChange → ChangeFault c begun word fault
   -- more digits than the variable has bits
-  value_too_long : (first : ℕ) (digits : List ℕ) (d : Declaration) → begun ≡ (first ∷ digits) ∷ [] → IsTrue (is_among vector_letters first)
+  value_too_long : (first : ℕ) (digits : List ℕ) (d : VariableDeclaration) → begun ≡ (first ∷ digits) ∷ [] → IsTrue (is_among vector_letters first)
       → variable_of c word ≡ Some d → IsFalse (is_skipped d) → IsTrue (is_value digits) → d.size < length digits
       → fault ≡ ValueTooLong → ChangeFault c begun word fault
   -- a word of the declarations
@@ -132,8 +132,8 @@ pub record ShowsFault (words : List PlacedWord) (line : ℕ) (fault : Fault) : T
   pub parts : words ≡ whole ++ (begun ++ word ∷ more)
   pub spelled : word_texts whole ≡ spellings items
   pub allowed : AllowsAll nothing_told items
-  pub decided : WordFault (after nothing_told items) (word_texts begun) word.text fault
-  pub at : line ≡ fault_line (after nothing_told items).changing begun word
+  pub decided : WordFault (told_after nothing_told items) (word_texts begun) word.text fault
+  pub at : line ≡ fault_line (told_after nothing_told items).changing begun word
 
 -- the words end too early, and no word shows a fault
 pub record Stops (words : List PlacedWord) : Type 0 where
@@ -141,7 +141,7 @@ pub record Stops (words : List PlacedWord) : Type 0 where
   pub begun : List (List ℕ)
   pub spelled : word_texts words ≡ spellings items ++ begun
   pub allowed : AllowsAll nothing_told items
-  pub unfinished : IsUnfinished (after nothing_told items) begun
+  pub unfinished : IsUnfinished (told_after nothing_told items) begun
 
 -- the file has this fault, with this line: a word shows it, or the end comes too early
 pub data FileFault (bytes : List ℕ) (line : ℕ) (fault : Fault) : Type 0 where

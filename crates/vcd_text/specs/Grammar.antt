@@ -16,7 +16,7 @@ use Rattle.vcd_text.specs.Items.{Item, entry, timescale, scope, upscope, variabl
 -- ---- what a file tells
 
 -- a variable, with the scopes that are open where it is declared
-pub record Declaration : Type 0 where
+pub record VariableDeclaration : Type 0 where
   pub scopes : List ScopeName
   pub kind : List ℕ
   pub size : ℕ
@@ -24,7 +24,7 @@ pub record Declaration : Type 0 where
   pub words : List (List ℕ)
 
 -- a record: from this tick on, the variables of this code have the value that these letters give
-pub record ChangeRecord : Type 0 where
+pub record RecordedChange : Type 0 where
   pub tick : ℕ
   pub code : List ℕ
   pub letters : List Bit
@@ -34,9 +34,9 @@ pub record Context : Type 0 where
   pub header : List Header
   pub timescale : Option Timescale
   pub scopes : List ScopeName
-  pub declared : List Declaration
+  pub declared : List VariableDeclaration
   pub changing : Bool
-  pub records : List ChangeRecord
+  pub records : List RecordedChange
   pub tick : ℕ
 
 -- before the first item
@@ -46,11 +46,11 @@ nothing_told = record { header = []; timescale = None; scopes = []; declared = [
 -- ---- variables
 
 -- whether a variable is skipped: for its kind, or as it has no bit or too many (the project's own)
-abbrev pub is_skipped : Declaration → Bool
+abbrev pub is_skipped : VariableDeclaration → Bool
 is_skipped d = is_skipped_kind d.kind || (d.size == 0 || nat_lt WIDTH_LIMIT d.size)
 
 -- the variables that are not skipped
-abbrev pub kept_variables : List Declaration → List Declaration
+abbrev pub kept_variables : List VariableDeclaration → List VariableDeclaration
 kept_variables declared = filter (λ d. not (is_skipped d)) declared
 
 -- whether the size in the words of a `$var`, if it has come, is a decimal number
@@ -60,7 +60,7 @@ has_good_size (kind ∷ []) = true
 has_good_size (kind ∷ size ∷ words) = is_number size
 
 -- what the words of a `$var` declare: kind, size, code, and one or more words of the name
-abbrev pub declaration_of : Context → List (List ℕ) → Option Declaration
+abbrev pub declaration_of : Context → List (List ℕ) → Option VariableDeclaration
 declaration_of c [] = None
 declaration_of c (kind ∷ []) = None
 declaration_of c (kind ∷ size ∷ []) = None
@@ -68,20 +68,20 @@ declaration_of c (kind ∷ size ∷ code ∷ []) = None
 declaration_of c (kind ∷ size ∷ code ∷ name ∷ names) = Some (record { scopes = c.scopes; kind = kind; size = number_of size; code = code; words = name ∷ names })
 
 -- the first variable of this code; the later ones agree with it
-abbrev pub variable_of : Context → List ℕ → Option Declaration
+abbrev pub variable_of : Context → List ℕ → Option VariableDeclaration
 variable_of c code = find (λ d. bytes_eq code d.code) c.declared
 
 -- whether two variables may have one code: both are skipped, or both are kept with one size
-abbrev pub may_share : Declaration → Declaration → Bool
+abbrev pub may_share : VariableDeclaration → VariableDeclaration → Bool
 may_share a b = (is_skipped a && is_skipped b) || (not (is_skipped a) && not (is_skipped b) && (a.size == b.size))
 
 -- whether a variable may have its code, beside the one that has it already, if there is one
-abbrev pub may_have_code : Option Declaration → Declaration → Bool
+abbrev pub may_have_code : Option VariableDeclaration → VariableDeclaration → Bool
 may_have_code None d = true
 may_have_code (Some before) d = may_share before d
 
 -- whether there is room for a variable among the signals
-abbrev pub has_room : List Declaration → Declaration → Bool
+abbrev pub has_room : List VariableDeclaration → VariableDeclaration → Bool
 has_room declared d = is_skipped d || nat_lt (length (kept_variables declared)) SIGNAL_LIMIT
 
 -- ---- changes
@@ -95,7 +95,7 @@ abbrev pub is_value : List ℕ → Bool
 is_value digits = not (length digits == 0) && list_all is_letter digits
 
 -- whether a variable takes these digits: a skipped one any, another one a value that is not too long
-abbrev pub takes_digits : Declaration → List ℕ → Bool
+abbrev pub takes_digits : VariableDeclaration → List ℕ → Bool
 takes_digits d digits = is_skipped d || (is_value digits && nat_le (length digits) d.size)
 
 -- ---- what an item asks for
@@ -121,38 +121,38 @@ Allows c (other word words) = IsTrue (is_other c.changing word) × IsTrue (has_n
 -- ---- what an item adds
 
 -- a record of these letters at the tick, for a variable that is kept
-abbrev pub change_records : Context → List ℕ → List Bit → Option Declaration → List ChangeRecord
-change_records c code letters None = []
-change_records c code letters (Some d) = if is_skipped d then [] else record { tick = c.tick; code = code; letters = letters } ∷ []
+abbrev pub recorded_changes : Context → List ℕ → List Bit → Option VariableDeclaration → List RecordedChange
+recorded_changes c code letters None = []
+recorded_changes c code letters (Some d) = if is_skipped d then [] else record { tick = c.tick; code = code; letters = letters } ∷ []
 
 -- what has been told, with this record behind the others
-abbrev pub with_record : Context → List ℕ → List Bit → Context
-with_record c code letters = record c { records = c.records ++ change_records c code letters (variable_of c code) }
+abbrev pub with_recorded_change : Context → List ℕ → List Bit → Context
+with_recorded_change c code letters = record c { records = c.records ++ recorded_changes c code letters (variable_of c code) }
 
 -- what has been told behind an item
-abbrev pub after_item : Context → Item → Context
-after_item c (entry kind words) = record c { header = c.header ++ record { kind = kind; words = words } ∷ [] }
-after_item c (timescale words) = record c { timescale = timescale_of words }
-after_item c (scope kind words) = record c { scopes = c.scopes ++ record { kind = kind; words = words } ∷ [] }
-after_item c upscope = record c { scopes = take (length c.scopes - 1) c.scopes }
-after_item c (variable words) = record c { declared = c.declared ++ option_to_list (declaration_of c words) }
-after_item c end_definitions = record c { changing = true }
-after_item c (stamp digits) = record c { tick = number_of digits }
-after_item c (scalar letter code) = with_record c code (letters_read (letter ∷ []))
-after_item c (vector first digits code) = with_record c code (letters_read digits)
-after_item c (real_or_string first text code) = c
-after_item c (bracket word) = c
-after_item c (other word words) = c
+abbrev pub told_after_item : Context → Item → Context
+told_after_item c (entry kind words) = record c { header = c.header ++ record { kind = kind; words = words } ∷ [] }
+told_after_item c (timescale words) = record c { timescale = timescale_of words }
+told_after_item c (scope kind words) = record c { scopes = c.scopes ++ record { kind = kind; words = words } ∷ [] }
+told_after_item c upscope = record c { scopes = take (length c.scopes - 1) c.scopes }
+told_after_item c (variable words) = record c { declared = c.declared ++ option_to_list (declaration_of c words) }
+told_after_item c end_definitions = record c { changing = true }
+told_after_item c (stamp digits) = record c { tick = number_of digits }
+told_after_item c (scalar letter code) = with_recorded_change c code (letters_read (letter ∷ []))
+told_after_item c (vector first digits code) = with_recorded_change c code (letters_read digits)
+told_after_item c (real_or_string first text code) = c
+told_after_item c (bracket word) = c
+told_after_item c (other word words) = c
 
 -- what has been told behind items in a row
-abbrev pub after : Context → List Item → Context
-after c [] = c
-after c (i ∷ is) = after (after_item c i) is
+abbrev pub told_after : Context → List Item → Context
+told_after c [] = c
+told_after c (i ∷ is) = told_after (told_after_item c i) is
 
 -- each item gets what it asks for, in turn
 abbrev pub AllowsAll : Context → List Item → Type 0
 AllowsAll c [] = Unit {0}
-AllowsAll c (i ∷ is) = Allows c i × AllowsAll (after_item c i) is
+AllowsAll c (i ∷ is) = Allows c i × AllowsAll (told_after_item c i) is
 
 -- ---- files
 
@@ -165,5 +165,5 @@ pub record Accepts (words : List PlacedWord) (told : Context) : Type 0 where
   pub items : List Item
   pub spelled : word_texts words ≡ spellings items
   pub allowed : AllowsAll nothing_told items
-  pub tells : after nothing_told items ≡ told
+  pub tells : told_after nothing_told items ≡ told
   pub declared : IsTrue told.changing

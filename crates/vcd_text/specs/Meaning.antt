@@ -6,16 +6,16 @@ use Rattle.vcd_core.specs.Wave.{changes_of}
 use Rattle.vcd_core.specs.Contents.{Contents, SignalContents}
 use Rattle.vcd_text.specs.Words.{words_of}
 use Rattle.vcd_text.specs.Letters.{extension}
-use Rattle.vcd_text.specs.Grammar.{Declaration, ChangeRecord, Context, Accepts, is_skipped, kept_variables}
+use Rattle.vcd_text.specs.Grammar.{VariableDeclaration, RecordedChange, Context, Accepts, is_skipped, kept_variables}
 
 -- the value that a code of this width has at a tick: the extension of the last record, in the order of the file, with that code and a tick at most t; else `before`
-unfoldable pub recorded_value : ℕ → List ℕ → ℕ → List Bit → List ChangeRecord → List Bit
+unfoldable pub recorded_value : ℕ → List ℕ → ℕ → List Bit → List RecordedChange → List Bit
 recorded_value width code t before [] = before
 recorded_value width code t before (r ∷ rs) =
     recorded_value width code t (if bytes_eq r.code code && nat_le r.tick t then extension width r.letters else before) rs
 
 -- the signal that a variable is, up to the tick `end`: all x before its first record
-abbrev pub declared_signal : List ChangeRecord → ℕ → Declaration → SignalContents
+abbrev pub declared_signal : List RecordedChange → ℕ → VariableDeclaration → SignalContents
 declared_signal records end d = record {
   scopes = d.scopes;
   kind = d.kind;

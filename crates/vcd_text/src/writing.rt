@@ -31,7 +31,7 @@ pub fn write<W: Sink>(alloc: Global, capture: &Capture, writer: &mut W) -> Resul
     requires ready { W.has_failed writer.old ≡ false }
     ensures written { OnOk result (Appends (W.taken writer.old) (W.taken writer.new)
         (text (contents capture.now))) }
-    ensures sound { OnOk result (W.has_failed writer.new ≡ false) }
+    ensures not_failed { OnOk result (W.has_failed writer.new ≡ false) }
     ensures fault { IfErr result (TookBefore (text (contents capture.now)) (W.taken writer.old)
         (W.taken writer.new) (W.has_failed writer.new)) }
 {

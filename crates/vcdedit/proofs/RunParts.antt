@@ -13,7 +13,7 @@ use Rattle.vcdedit.specs.inside.RunLines.{RunsLines}
 use Rattle.vcd_text.specs.declared.fault.WriteError.{WriteError}
 use Rattle.vcdedit.specs.declared.running.run_error.RunError.{RunError}
 use Rattle.vcdedit.specs.declared.running.run_error.RunError.TheVariants as run_errors
-use Rattle.vcdedit.specs.RunFaults.{IfWriteFault}
+use Rattle.vcdedit.specs.RunFaults.{IfOutputError}
 use Rattle.vcdedit.specs.inside.ScriptRuns.{ScriptGives}
 use Rattle.vcdedit.specs.RunEnds.{IfRunWrites, RunReachesEnd, RunStopsAtOutput}
 
@@ -76,6 +76,6 @@ at_each_err (Ok v) P all = tt
 at_each_err (Err e) P all = all e
 
 -- what holds of the output's fault is said of the run's error that it gives
-pub at_write_fault : {A : Type 0} (r : Result A RunError) (fault : WriteError) (P : WriteError → Type 0) → IsErrAnd r (λ e. e ≡ run_errors.Write fault) → P fault → IfErr r (λ e. IfWriteFault e P)
+pub at_write_fault : {A : Type 0} (r : Result A RunError) (fault : WriteError) (P : WriteError → Type 0) → IsErrAnd r (λ e. e ≡ run_errors.Write fault) → P fault → IfErr r (λ e. IfOutputError e P)
 at_write_fault (Ok v) fault P gives holds = tt
 at_write_fault (Err e) fault P gives holds = rw gives holds

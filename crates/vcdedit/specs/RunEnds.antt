@@ -11,23 +11,23 @@ use Rattle.vcdedit.specs.declared.running.inputs.TheConstants.{SCRIPT_LIMIT}
 use Rattle.vcdedit.specs.declared.running.run_error.RunError.{RunError}
 use Rattle.vcdedit.specs.declared.running.run_error.RunError.TheVariants as run_errors
 use Rattle.vcdedit.specs.Run.{RunOutcome, RunWrites}
-use Rattle.vcdedit.specs.RunFaults.{IfCaptureFault, IsBeforeReplies}
+use Rattle.vcdedit.specs.RunFaults.{IfCaptureError, IsBeforeReplies}
 
 -- ---- the readers, and the writer of the replies
 
 -- how the reader of the capture is left, of which some bytes were to come and others are left
 pub record LeavesCaptureReader {A : Type 0} (ending : Result A RunError) (coming left : Option (List ℕ)) (has_failed : Bool) : Type 0 where
   -- a run to its end leaves it not failed
-  pub sound : OnOk ending (has_failed ≡ false)
+  pub not_failed : OnOk ending (has_failed ≡ false)
   -- and its file was within the limit
   pub within : OnOk ending (IfSome coming (λ file. length file ≤ FILE_LIMIT))
   -- a capture's fault is the one that its file has
-  pub refused : IfErr ending (λ e. IfCaptureFault e (λ fault. IfSome coming (λ file. IsRefusal file has_failed left fault)))
+  pub refused : IfErr ending (λ e. IfCaptureError e (λ fault. IfSome coming (λ file. IsRefusal file has_failed left fault)))
 
 -- how the reader of the script is left, of which some bytes were to come
 pub record LeavesScriptReader {A : Type 0} (ending : Result A RunError) (coming : Option (List ℕ)) (has_failed : Bool) : Type 0 where
   -- a run to its end leaves it not failed
-  pub sound : OnOk ending (has_failed ≡ false)
+  pub not_failed : OnOk ending (has_failed ≡ false)
   -- and the script was within the limit
   pub within : OnOk ending (IfSome coming (λ script. length script ≤ SCRIPT_LIMIT))
   -- a script that is too large is above the limit
@@ -38,7 +38,7 @@ pub record LeavesScriptReader {A : Type 0} (ending : Result A RunError) (coming 
 -- how the writer of the replies is left, which had taken some bytes before and has taken others after
 pub record LeavesReplyWriter {A : Type 0} (ending : Result A RunError) (taken_before taken_after : Option (List ℕ)) (has_failed : Bool) : Type 0 where
   -- a run to its end leaves it not failed
-  pub sound : OnOk ending (has_failed ≡ false)
+  pub not_failed : OnOk ending (has_failed ≡ false)
   -- a run that ends before the replies writes none
   pub no_reply : IfErr ending (λ e. IsBeforeReplies e → taken_after ≡ taken_before)
 

@@ -5,14 +5,14 @@ use Rattle.vcdedit.specs.declared.running.run_error.RunError.{RunError}
 use Rattle.vcdedit.specs.declared.running.run_error.RunError.TheVariants as run_errors
 
 -- this is said of the capture's fault, where that ended the run
-abbrev pub IfCaptureFault : RunError → (ReadError → Type 0) → Type 0
-IfCaptureFault (run_errors.Capture e) said = said e
-IfCaptureFault _ said = Unit {0}
+abbrev pub IfCaptureError : RunError → (ReadError → Type 0) → Type 0
+IfCaptureError (run_errors.Capture e) said = said e
+IfCaptureError _ said = Unit {0}
 
 -- this is said of the output's fault, where that ended the run
-abbrev pub IfWriteFault : RunError → (WriteError → Type 0) → Type 0
-IfWriteFault (run_errors.Write e) said = said e
-IfWriteFault _ said = Unit {0}
+abbrev pub IfOutputError : RunError → (WriteError → Type 0) → Type 0
+IfOutputError (run_errors.Write e) said = said e
+IfOutputError _ said = Unit {0}
 
 -- the run ends before the first reply
 abbrev pub IsBeforeReplies : RunError → Type 0

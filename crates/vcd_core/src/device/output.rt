@@ -19,7 +19,7 @@ pub struct ShortWrite {
 pub fn write_all<W: Sink>(sink: &mut W, bytes: &[u8]) -> Result<(), ShortWrite>
     requires ready { W.has_failed sink.old ≡ false }
     ensures all { OnOk result (Appends (W.taken sink.old) (W.taken sink.new) bytes.now) }
-    ensures sound { OnOk result (W.has_failed sink.new ≡ false) }
+    ensures not_failed { OnOk result (W.has_failed sink.new ≡ false) }
     ensures front { IfErr result (λ short.
         Appends (W.taken sink.old) (W.taken sink.new) (take short.written bytes.now)) }
     ensures not_all { IfErr result (λ short. short.written < length bytes.now) }
@@ -46,7 +46,7 @@ pub fn write_all<W: Sink>(sink: &mut W, bytes: &[u8]) -> Result<(), ShortWrite>
 pub fn write_and_flush<W: Sink>(sink: &mut W, bytes: &[u8]) -> Result<(), ShortWrite>
     requires ready { W.has_failed sink.old ≡ false }
     ensures all { OnOk result (Appends (W.taken sink.old) (W.taken sink.new) bytes.now) }
-    ensures sound { OnOk result (W.has_failed sink.new ≡ false) }
+    ensures not_failed { OnOk result (W.has_failed sink.new ≡ false) }
     ensures front { IfErr result (λ short.
         Appends (W.taken sink.old) (W.taken sink.new) (take short.written bytes.now)) }
     ensures within { IfErr result (λ short. short.written ≤ length bytes.now) }

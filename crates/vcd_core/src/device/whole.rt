@@ -50,9 +50,9 @@ pub fn read_whole<S: Source>(
     requires empty { bytes.old.items ≡ [] }
     ensures all { OnOk result (IfSome (S.coming source.old) (λ xs. bytes.new.items ≡ xs)) }
     ensures within { vec_len bytes.new ≤ limit }
-    ensures sound { OnOk result (S.has_failed source.new ≡ false) }
+    ensures not_failed { OnOk result (S.has_failed source.new ≡ false) }
     ensures ended { OnOk result (IsAtEnd (S.coming source.new)) }
-    ensures not_failed { IsErrOf result Incomplete.TooLarge → S.has_failed source.new ≡ false }
+    ensures too_large_only { IsErrOf result Incomplete.TooLarge → S.has_failed source.new ≡ false }
     ensures too_large { IsErrOf result Incomplete.TooLarge → IfSome (S.coming source.old) (λ xs.
         (limit < length xs) × (bytes.new.items ≡ take limit xs)) }
     ensures failed { IsErrOf result Incomplete.ReadFault → S.has_failed source.new ≡ true }
@@ -82,7 +82,7 @@ fn read_block<S: Source>(
     ensures within { vec_len bytes.new ≤ limit }
     ensures ended { IfOk result (λ more. more ≡ false → IsAtEnd (S.coming source.new)) }
     ensures ready { OnOk result (S.has_failed source.new ≡ false) }
-    ensures not_failed { IsErrOf result Incomplete.TooLarge → S.has_failed source.new ≡ false }
+    ensures too_large_only { IsErrOf result Incomplete.TooLarge → S.has_failed source.new ≡ false }
     ensures too_large { IsErrOf result Incomplete.TooLarge → (piece : List ℕ)
         × Consumes (S.coming source.old) (S.coming source.new) piece
         × (limit < vec_len bytes.old + length piece)

@@ -3,7 +3,7 @@
 use super::limits::append_copies;
 use super::{check_answer_to, check_rewritten};
 use crate::fake_devices::FakeReader;
-use crate::fixtures::{changes_of, loaded};
+use crate::fixtures::{changes_in_text, loaded};
 use std::alloc::Global;
 use std::process::Abort;
 use std::test::Fail;
@@ -93,7 +93,7 @@ fn codes_of_each_byte(rt: HostRuntime) -> Result<(), Fail> {
     file.extend_from_slice(b"#4\n")?;
     append_codes(&mut file, b"bz ", b"\n")?;
     let loaded = loaded(rt.alloc(), file.as_slice())?;
-    let wanted = changes_of(rt.alloc(), "1@3 z@4")?;
+    let wanted = changes_in_text(rt.alloc(), "1@3 z@4")?;
     check_all(&rt, &loaded, wanted.as_slice());
     Ok(())
 }

@@ -2,7 +2,7 @@
 
 use super::{check_answer, check_answer_to, check_rewritten, rewritten};
 use crate::fake_devices::FakeReader;
-use crate::fixtures::{changes_of, file_of, loaded};
+use crate::fixtures::{changes_in_text, file_of, loaded};
 use std::alloc::Global;
 use std::process::Abort;
 use std::test::Fail;
@@ -51,7 +51,7 @@ pub fn append_copies(file: &mut Vec<u8>, text: &[u8], count: usize) -> Result<()
 }
 
 /// A code for a number: six digits, the lowest first.
-fn append_code(text: &mut Vec<u8>, number: usize) -> Result<(), Fail> {
+fn append_code_bytes(text: &mut Vec<u8>, number: usize) -> Result<(), Fail> {
     let mut rest = number;
     for _ in 0..6 {
         text.push(b'0' + (rest % 10) as u8)?;
@@ -64,7 +64,7 @@ fn append_code(text: &mut Vec<u8>, number: usize) -> Result<(), Fail> {
 fn append_variables(text: &mut Vec<u8>, kind: &[u8], from: usize, to: usize) -> Result<(), Fail> {
     for number in from..to {
         text.extend_from_slice(kind)?;
-        append_code(text, number)?;
+        append_code_bytes(text, number)?;
         text.extend_from_slice(b" a $end\n")?;
     }
     Ok(())
@@ -80,9 +80,9 @@ fn most_signals(alloc: Global) -> Result<Vec<u8>, Fail> {
     append_variables(&mut file, b"$var event 1 ", SIGNAL_LIMIT, VARIABLES)?;
     append_variables(&mut file, b"$var wire 1 ", 0, SIGNAL_LIMIT)?;
     file.extend_from_slice(b"$enddefinitions $end 1000000 #7 1")?;
-    append_code(&mut file, SIGNAL_LIMIT - 1)?;
+    append_code_bytes(&mut file, SIGNAL_LIMIT - 1)?;
     file.extend_from_slice(b" x")?;
-    append_code(&mut file, SIGNAL_LIMIT)?;
+    append_code_bytes(&mut file, SIGNAL_LIMIT)?;
     Ok(file)
 }
 
@@ -106,8 +106,8 @@ fn check_most(rt: &impl Abort, loaded: &Loaded, first: &[Change], last: &[Change
 fn the_most_signals(rt: HostRuntime) -> Result<(), Fail> {
     let file = most_signals(rt.alloc())?;
     let loaded = loaded(rt.alloc(), file.as_slice())?;
-    let first = changes_of(rt.alloc(), "1@0")?;
-    let last = changes_of(rt.alloc(), "1@7")?;
+    let first = changes_in_text(rt.alloc(), "1@0")?;
+    let last = changes_in_text(rt.alloc(), "1@7")?;
     assert!(rt; loaded.skipped == (VARIABLES - SIGNAL_LIMIT) as u64);
     check_most(&rt, &loaded, first.as_slice(), last.as_slice());
     Ok(())

@@ -10,7 +10,7 @@ use Rattle.vcd_text.specs.Meaning.{FileMeans}
 use Rattle.vcd_text.specs.inside.OpenItems.{is_nothing}
 use Rattle.vcd_text.specs.Letters.{is_among}
 use Rattle.vcd_text.specs.Items.{Item, spelling, spellings, has_no_end, header_word, is_other, vector_letters, dropped_letters}
-use Rattle.vcd_text.specs.Grammar.{Context, Allows, AllowsAll, after, after_item, nothing_told, word_texts, has_good_size}
+use Rattle.vcd_text.specs.Grammar.{Context, Allows, AllowsAll, told_after, told_after_item, nothing_told, word_texts, has_good_size}
 use Rattle.vcd_text.specs.Faults.{WordFault, ShowsFault}
 use Rattle.vcd_text.specs.Refusals.{memory_error}
 use Rattle.vcd_text.specs.inside.Variables.{Knows}
@@ -76,7 +76,7 @@ At m c begun = Agrees m c × IsBegun m begun m.item
 -- a word goes on with the open item, or ends it, which then gets what it asks for
 pub data TakesWord (c : Context) (begun : List PlacedWord) (new : Reader) : Type 0 where
   goes_on : At new c begun → TakesWord c begun new
-  ends_item : (i : Item) → spelling i ≡ word_texts begun → Allows c i → At new (after_item c i) [] → TakesWord c begun new
+  ends_item : (i : Item) → spelling i ≡ word_texts begun → Allows c i → At new (told_after_item c i) [] → TakesWord c begun new
 
 -- what comes of a word: it is taken, or shows a fault, or memory runs out
 abbrev pub TakesOrRefuses : Reader → PlacedWord → Result (Unit {0}) Fault → Reader → Type 0
@@ -94,7 +94,7 @@ pub record Reads (m : Reader) (words : List PlacedWord) : Type 0 where
   pub parts : words ≡ whole ++ begun
   pub spelled : word_texts whole ≡ spellings items
   pub allowed : AllowsAll nothing_told items
-  pub tells : after nothing_told items ≡ told
+  pub tells : told_after nothing_told items ≡ told
   pub at : At m told begun
 
 -- some words have been taken, fewer than a number of 64 bits can count

@@ -11,7 +11,7 @@ use Rattle.vcd_text.specs.declared.fault.Fault.{Fault}
 use Rattle.vcd_text.specs.declared.fault.Fault.TheVariants as faults
 use Rattle.vcd_text.specs.Letters.{letters_read, extension}
 use Rattle.vcd_text.specs.Items.{variable}
-use Rattle.vcd_text.specs.Grammar.{Declaration, ChangeRecord, Context, is_skipped, kept_variables, declaration_of, variable_of, may_have_code, has_room, is_value, takes_digits, after_item, with_record}
+use Rattle.vcd_text.specs.Grammar.{VariableDeclaration, RecordedChange, Context, is_skipped, kept_variables, declaration_of, variable_of, may_have_code, has_room, is_value, takes_digits, told_after_item, with_recorded_change}
 use Rattle.vcd_text.specs.Meaning.{recorded_value}
 use Rattle.vcd_text.specs.declared.reading.variables.Owner.{Owner}
 use Rattle.vcd_text.specs.declared.reading.variables.Owner.TheVariants.{Skipped, Kept}
@@ -21,11 +21,11 @@ use Rattle.vcd_text.specs.declared.reading.variables.Variables.{Variables}
 -- ---- what the variables hold
 
 -- what a code and a signal declare
-abbrev pub declaration_by : (code : List ℕ) → Signal → Declaration
+abbrev pub declaration_by : (code : List ℕ) → Signal → VariableDeclaration
 declaration_by code s = record { scopes = s.scopes; kind = s.kind; size = s.wave.width; code = code; words = s.words }
 
 -- what a kept variable of the reader declares
-abbrev pub declaration : Variable → Declaration
+abbrev pub declaration : Variable → VariableDeclaration
 declaration v = declaration_by v.code v.signal
 
 -- what a code stands for
@@ -33,7 +33,7 @@ abbrev pub owner_of : Variables → List ℕ → Option Owner
 owner_of vs code = get_by (λ key. bytes_eq code key.items) vs.owners
 
 -- the variable of this code and size stands at this position, and its wave follows the records, the last of which is at the tick or before
-pub record HasWave (vs : List Variable) (position : ℕ) (code : List ℕ) (size : ℕ) (records : List ChangeRecord) (tick : ℕ) : Type 0 where
+pub record HasWave (vs : List Variable) (position : ℕ) (code : List ℕ) (size : ℕ) (records : List RecordedChange) (tick : ℕ) : Type 0 where
   pub first : Variable
   pub stands : slice_get vs position ≡ Some first
   pub coded : first.code ≡ code
@@ -42,7 +42,7 @@ pub record HasWave (vs : List Variable) (position : ℕ) (code : List ℕ) (size
   pub values : (t : ℕ) → value_at size first.signal.wave.changes t ≡ recorded_value size code t (all_x size) records
 
 -- what a code stands for agrees with the first variable that was declared with it
-abbrev pub Stands : List Variable → List ChangeRecord → ℕ → List ℕ → Option Owner → Option Declaration → Type 0
+abbrev pub Stands : List Variable → List RecordedChange → ℕ → List ℕ → Option Owner → Option VariableDeclaration → Type 0
 Stands vs records tick code None None = Unit {0}
 Stands vs records tick code (Some Skipped) (Some d) = IsTrue (is_skipped d)
 Stands vs records tick code (Some (Kept position)) (Some d) = IsFalse (is_skipped d) × HasWave vs position code d.size records tick
@@ -65,16 +65,16 @@ pub record Knows (vs : Variables) (c : Context) : Type 0 where
 -- ---- what comes of a declaration
 
 -- what has been told, with this declaration behind the others
-abbrev pub with_declaration : Context → Declaration → Context
+abbrev pub with_declaration : Context → VariableDeclaration → Context
 with_declaration c d = record c { declared = c.declared ++ d ∷ [] }
 
 -- the declaration may not stand here
-pub data CannotDeclare (c : Context) (d : Declaration) (fault : Fault) : Type 0 where
+pub data CannotDeclare (c : Context) (d : VariableDeclaration) (fault : Fault) : Type 0 where
   mixed : IsFalse (may_have_code (variable_of c d.code) d) → fault ≡ faults.MixedCode → CannotDeclare c d fault
   many : IsTrue (may_have_code (variable_of c d.code) d) → IsFalse (has_room c.declared d) → fault ≡ faults.TooManySignals → CannotDeclare c d fault
 
 -- what comes of a declaration: it is held beside the others, or may not stand here, or memory runs out
-abbrev pub DeclaresAs : Context → Declaration → Result (Unit {0}) Fault → Variables → Type 0
+abbrev pub DeclaresAs : Context → VariableDeclaration → Result (Unit {0}) Fault → Variables → Type 0
 DeclaresAs c d (Ok x) new = IsTrue (may_have_code (variable_of c d.code) d) × IsTrue (has_room c.declared d) × Knows new (with_declaration c d)
 DeclaresAs c d (Err fault) new = (fault ≡ faults.NoMemory) ⊎ CannotDeclare c d fault
 
@@ -83,16 +83,16 @@ DeclaresAs c d (Err fault) new = (fault ≡ faults.NoMemory) ⊎ CannotDeclare c
 -- the words declare no variable that may stand here
 pub data VariableFault (c : Context) (words : List (List ℕ)) (fault : Fault) : Type 0 where
   no_variable : declaration_of c words ≡ None → fault ≡ faults.BadVar → VariableFault c words fault
-  code_mixed : (d : Declaration) → declaration_of c words ≡ Some d → IsFalse (may_have_code (variable_of c d.code) d)
+  code_mixed : (d : VariableDeclaration) → declaration_of c words ≡ Some d → IsFalse (may_have_code (variable_of c d.code) d)
       → fault ≡ faults.MixedCode → VariableFault c words fault
-  no_room : (d : Declaration) → declaration_of c words ≡ Some d → IsTrue (may_have_code (variable_of c d.code) d) → IsFalse (has_room c.declared d)
+  no_room : (d : VariableDeclaration) → declaration_of c words ≡ Some d → IsTrue (may_have_code (variable_of c d.code) d) → IsFalse (has_room c.declared d)
       → fault ≡ faults.TooManySignals → VariableFault c words fault
 
 -- what comes of the words: their variable is held beside the others, or they show a fault, or memory runs out
 abbrev pub Declares : Context → List (List ℕ) → Result (Unit {0}) Fault → Variables → Type 0
 Declares c words (Ok x) new =
     IsSomeAnd (declaration_of c words) (λ d. IsTrue (may_have_code (variable_of c d.code) d) × IsTrue (has_room c.declared d))
-    × Knows new (after_item c (variable words))
+    × Knows new (told_after_item c (variable words))
 Declares c words (Err fault) new = (fault ≡ faults.NoMemory) ⊎ VariableFault c words fault
 
 -- ---- what comes of digits
@@ -117,15 +117,15 @@ RefusesDigits width digits fault =
 -- the code is none, or its variable does not take the digits
 pub data DigitsFault (c : Context) (code digits : List ℕ) (fault : Fault) : Type 0 where
   unknown : variable_of c code ≡ None → fault ≡ faults.UnknownCode → DigitsFault c code digits fault
-  no_value : (d : Declaration) → variable_of c code ≡ Some d → IsFalse (is_skipped d) → IsFalse (is_value digits)
+  no_value : (d : VariableDeclaration) → variable_of c code ≡ Some d → IsFalse (is_skipped d) → IsFalse (is_value digits)
       → fault ≡ faults.BadChange → DigitsFault c code digits fault
-  too_long : (d : Declaration) → variable_of c code ≡ Some d → IsFalse (is_skipped d) → IsTrue (is_value digits) → d.size < length digits
+  too_long : (d : VariableDeclaration) → variable_of c code ≡ Some d → IsFalse (is_skipped d) → IsTrue (is_value digits) → d.size < length digits
       → fault ≡ faults.ValueTooLong → DigitsFault c code digits fault
 
 -- what comes of the change: it is recorded, or shows a fault, or memory runs out
 abbrev pub TakesChange : Context → (code digits : List ℕ) → Result (Unit {0}) Fault → Variables → Type 0
 TakesChange c code digits (Ok x) new =
-    IsSomeAnd (variable_of c code) (λ d. IsTrue (takes_digits d digits)) × Knows new (with_record c code (letters_read digits))
+    IsSomeAnd (variable_of c code) (λ d. IsTrue (takes_digits d digits)) × Knows new (with_recorded_change c code (letters_read digits))
 TakesChange c code digits (Err fault) new = (fault ≡ faults.NoMemory) ⊎ DigitsFault c code digits fault
 
 -- ---- what comes of the variables at the end

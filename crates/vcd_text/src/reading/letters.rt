@@ -89,7 +89,7 @@ fn pad_of(digits: &[u8]) -> Bit
     ensures { result ≡ pad_letter (letters_read digits.now) }
 {
     match digits {
-        [first, ..] => match letter_of(*first) {
+        [first, ..] => match bit_or_x(*first) {
             Bit::Zero | Bit::One => Bit::Zero,
             letter => letter,
         },
@@ -97,7 +97,7 @@ fn pad_of(digits: &[u8]) -> Bit
     }
 }
 
-fn letter_of(digit: u8) -> Bit
+fn bit_or_x(digit: u8) -> Bit
     ensures { result ≡ unwrap_or (letter_read digit) X }
 {
     bit_of(digit).unwrap_or(Bit::X)

@@ -6,7 +6,7 @@ ghost use Rattle.vcd_core.specs.Contents.{signal_contents};
 ghost use Rattle.vcd_core.specs.Wave.{IsWave};
 ghost use Rattle.vcd_core.specs.declared.value.TheConstants.{WIDTH_LIMIT};
 ghost use Rattle.vcd_core.specs.Word.{is_skipped_kind as skips_kind};
-ghost use Rattle.vcd_text.specs.Grammar.{Context, Declaration, variable_of, has_good_size, is_skipped};
+ghost use Rattle.vcd_text.specs.Grammar.{Context, VariableDeclaration, variable_of, has_good_size, is_skipped};
 ghost use Rattle.vcd_text.specs.Meaning.{meaning};
 ghost use Rattle.vcd_text.specs.inside.Variables.{owner_of, declaration_by, Knows, Declares, DeclaresAs, TakesChange, Sets, RefusesDigits, Finishes};
 ghost use Rattle.vcd_text.specs.declared.fault.Fault.TheVariants.{NoMemory as NoMemoryFault, TooManySignals};
@@ -118,7 +118,7 @@ impl Variables {
     /// Declares a variable that is skipped.
     fn skip(&mut self, alloc: Global, code: &[u8]) -> Result<(), Fault>
         requires few { self.old.skipped + 1 < 2 ^ 64 }
-        ensures { (c : Context) (d : Declaration) → Knows self.old c → d.code ≡ code.now →
+        ensures { (c : Context) (d : VariableDeclaration) → Knows self.old c → d.code ≡ code.now →
             IsTrue (is_skipped d) → DeclaresAs c d result self.new }
     {
         match self.owner(code) {

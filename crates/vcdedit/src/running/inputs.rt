@@ -61,7 +61,7 @@ fn read_script<S: Source>(alloc: Global, reader: &mut S) -> Result<Vec<u8>, RunE
     ensures all { IfOk result (λ script. IfSome (S.coming reader.old)
         (λ bytes. script.items ≡ bytes)) }
     ensures short { IfOk result (λ script. length script.items ≤ SCRIPT_LIMIT) }
-    ensures sound { OnOk result (S.has_failed reader.new ≡ false) }
+    ensures not_failed { OnOk result (S.has_failed reader.new ≡ false) }
     ensures too_large { IsErrOf result RunError.ScriptTooLarge →
         IfSome (S.coming reader.old) (λ bytes. SCRIPT_LIMIT < length bytes) }
     ensures failed { IsErrOf result RunError.ScriptReadFault → S.has_failed reader.new ≡ true }

@@ -5,7 +5,7 @@ ghost use Rattle.std.specs.Option.{ForSome};
 ghost use Rattle.std.specs.Io.KnownBytes.{Appends};
 ghost use Rattle.vcd_core.specs.Contents.{contents};
 ghost use Rattle.vcd_core.specs.Sound.{IsSound};
-ghost use Rattle.vcdedit.specs.RunFaults.{IfWriteFault, IsBeforeOutput};
+ghost use Rattle.vcdedit.specs.RunFaults.{IfOutputError, IsBeforeOutput};
 ghost use Rattle.vcdedit.specs.RunEnds.{LeavesCaptureReader, LeavesScriptReader, LeavesReplyWriter, RunReachesEnd, RunStopsAtOutput, IfOutput, OutputTakes, OutputKeeps, OutputStops};
 ghost use Rattle.vcdedit.specs.inside.History.{first_history};
 ghost use Rattle.vcdedit.specs.inside.ScriptRuns.{ScriptGives};
@@ -41,7 +41,7 @@ pub fn run<R: Source, S: Source, P: Sink, W: Sink>(
         (R.coming capture_reader.old) (S.coming script_reader.old) depth summary.refused
         (Appends (P.taken replies.old) (P.taken replies.new))
         (OutputTakes W.taken out.entry out.exit)) }
-    ensures output_failed { IfErr result (λ e. IfWriteFault e (λ fault. RunStopsAtOutput
+    ensures output_failed { IfErr result (λ e. IfOutputError e (λ fault. RunStopsAtOutput
         (R.coming capture_reader.old) (S.coming script_reader.old) depth
         (Appends (P.taken replies.old) (P.taken replies.new))
         (OutputStops W.taken W.has_failed out.entry out.exit fault))) }
@@ -53,7 +53,7 @@ pub fn run<R: Source, S: Source, P: Sink, W: Sink>(
         (S.coming script_reader.old) (S.has_failed script_reader.new) }
     ensures replies { LeavesReplyWriter result
         (P.taken replies.old) (P.taken replies.new) (P.has_failed replies.new) }
-    ensures out_sound { OnOk result
+    ensures out_not_failed { OnOk result
         (IfOutput out.entry out.exit (λ _ new. W.has_failed new ≡ false)) }
     ensures no_output { IfErr result (λ e. IsBeforeOutput e →
         OutputKeeps W.taken out.entry out.exit) }

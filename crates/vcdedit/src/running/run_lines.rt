@@ -39,7 +39,7 @@ pub fn run_lines<P: Sink>(
     ensures told { IfOk result (λ refused.
         RunsLines (script_lines script.now) session.old session.new refused
         (P.taken replies.old) (P.taken replies.new)) }
-    ensures sound { OnOk result (P.has_failed replies.new ≡ false) }
+    ensures not_failed { OnOk result (P.has_failed replies.new ≡ false) }
     ensures fault { IfErr result IsLineFault }
 {
     let mut rest = script;
@@ -75,7 +75,7 @@ fn run_line<P: Sink>(
         (P.taken replies.old) (P.taken replies.new)) }
     ensures few { IfOk result (λ outcome. outcome.refused ≤ 1) }
     ensures short { IfOk result (λ outcome. outcome.written < 2 ^ 64) }
-    ensures sound { OnOk result (P.has_failed replies.new ≡ false) }
+    ensures not_failed { OnOk result (P.has_failed replies.new ≡ false) }
     ensures fault { IfErr result IsLineFault }
 {
     match answer_line(session, line) {
@@ -101,7 +101,7 @@ fn write_reply<P: Sink>(
     ensures told { OnOk result
         (Appends (P.taken replies.old) (P.taken replies.new)
         (reply_text number (reply_meaning reply))) }
-    ensures sound { OnOk result (P.has_failed replies.new ≡ false) }
+    ensures not_failed { OnOk result (P.has_failed replies.new ≡ false) }
     ensures fault { IfErr result IsLineFault }
 {
     match reply.to_bytes(alloc, number) {

@@ -68,7 +68,7 @@ fn write_line<W: Sink>(error: &RunError, writer: &mut W) -> Result<(), ShortWrit
     requires { W.has_failed writer.old ≡ false }
     ensures line { OnOk result
         (Appends (W.taken writer.old) (W.taken writer.new) (error_line error.now)) }
-    ensures sound { OnOk result (W.has_failed writer.new ≡ false) }
+    ensures not_failed { OnOk result (W.has_failed writer.new ≡ false) }
     ensures fault { OnErr result (W.has_failed writer.new ≡ true) }
 {
     match error {
@@ -92,7 +92,7 @@ fn write_capture_line<W: Sink>(error: &ReadError, writer: &mut W) -> Result<(), 
     ensures line { OnOk result
         (Appends (W.taken writer.old) (W.taken writer.new)
         (capture_line error.now.fault error.now.line)) }
-    ensures sound { OnOk result (W.has_failed writer.new ≡ false) }
+    ensures not_failed { OnOk result (W.has_failed writer.new ≡ false) }
     ensures fault { OnErr result (W.has_failed writer.new ≡ true) }
 {
     match error.fault {
@@ -107,7 +107,7 @@ fn write_numbered_line<W: Sink>(error: &ReadError, writer: &mut W) -> Result<(),
     ensures line { OnOk result
         (Appends (W.taken writer.old) (W.taken writer.new)
         (numbered_line error.now.fault error.now.line)) }
-    ensures sound { OnOk result (W.has_failed writer.new ≡ false) }
+    ensures not_failed { OnOk result (W.has_failed writer.new ≡ false) }
     ensures fault { OnErr result (W.has_failed writer.new ≡ true) }
 {
     write_all(writer, b"vcdedit: capture line ")?;

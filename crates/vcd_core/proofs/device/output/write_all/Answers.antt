@@ -13,6 +13,6 @@ pub loop-written-preserved : goal.loop-written-preserved
 loop-written-preserved g c =
     let (within, ready, taken) = c.loop-written.invariant in (
       omega (arith, c.in-Ok.ensures.count, length-take {A = ℕ}, length-drop {A = ℕ}),
-      c.in-Ok.ensures.fault.sound,
+      c.in-Ok.ensures.fault.not_failed,
       subst (Appends _ _) (take_further _ _ _) (Appends-trans _ _ _ _ _ taken c.in-Ok.ensures.bytes),
     )

@@ -18,8 +18,8 @@ pub returns-clause-written : goal.returns-clause-written
 returns-clause-written g c =
     rw (c.in-None.is) (run_reaches_end _ _ c.args.depth c.in_ok-script_run.script_run.refused _ _ c.in_ok-script_run.script_run.session.now c.in_ok-script_run.ensures.gives tt)
 
-pub returns-in-Some-clause-out_sound : goal.returns-in-Some-clause-out_sound
-returns-in-Some-clause-out_sound g c = rw (c.in-Some.is) c.in_ok-write-in-Some.ensures.sound
+pub returns-in-Some-clause-out_not_failed : goal.returns-in-Some-clause-out_not_failed
+returns-in-Some-clause-out_not_failed g c = rw (c.in-Some.is) c.in_ok-write-in-Some.ensures.not_failed
 
 pub returns-in_err-write-in-Some-clause-output_failed : goal.returns-in_err-write-in-Some-clause-output_failed
 returns-in_err-write-in-Some-clause-output_failed g c =

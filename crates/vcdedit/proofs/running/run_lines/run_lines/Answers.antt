@@ -7,7 +7,7 @@ pub loop-line-preserved : goal.loop-line-preserved
 loop-line-preserved g c = record {
   told = told_more (script_lines c.args.script.now) c.args.session.now c.loop-line.number c.in-Some.line.now (script_lines c.loop-line.rest.now) (script_lines c.in-Some.behind.now)
       c.loop-line.session c.run_line.new.session c.loop-line.refused c.in_ok-outcome.outcome.refused _ _ _ c.in-Some.ensures.0 c.loop-line.invariant.told c.in_ok-outcome.ensures.told;
-  ready = c.in_ok-outcome.ensures.sound;
+  ready = c.in_ok-outcome.ensures.not_failed;
   number = omega (arith, c.in-Some.ensures.1);
   refused = omega (arith, c.in_ok-outcome.ensures.few);
   written = omega (arith, c.in_ok-outcome.ensures.short);

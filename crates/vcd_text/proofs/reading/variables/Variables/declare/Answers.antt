@@ -4,7 +4,7 @@ use Rattle.std.proofs.lemmas.List.{take_rest}
 use Rattle.vcd_core.specs.declared.value.TheConstants.{WIDTH_LIMIT}
 use Rattle.vcd_core.specs.Decimal.{number_of}
 use Rattle.vcd_core.specs.Word.{is_skipped_kind}
-use Rattle.vcd_text.specs.Grammar.{Declaration, is_skipped}
+use Rattle.vcd_text.specs.Grammar.{VariableDeclaration, is_skipped}
 use Rattle.vcd_text.specs.inside.Variables.{declaration_by, DeclaresAs}
 use Rattle.vcd_text.proofs.DeclaredVariables.{worded_declaration, declares_words, words_in_front, left_out, kept_size}
 use Rattle.vcd_text.proofs.reading.variables.Variables.declare.Goals as goal
@@ -53,4 +53,4 @@ returns c = λ told scopes records k.
       words = (signal.words ∙ behind) i;
     } in
     declares_words told words kind size code (drop 3 words) c.keep.result c.keep.new.self front some
-    (subst (λ (e : Declaration). DeclaresAs told e c.keep.result c.keep.new.self) same (c.keep.ensures told k records (ap is_skipped same ∙ keeps)))
+    (subst (λ (e : VariableDeclaration). DeclaresAs told e c.keep.result c.keep.new.self) same (c.keep.ensures told k records (ap is_skipped same ∙ keeps)))
