@@ -1,0 +1,4 @@
+pub mod FaultNames
+pub mod Operators
+pub mod Effect
+pub mod Allowed

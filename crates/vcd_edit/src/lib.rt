@@ -1,0 +1,13 @@
+//! Edits of a capture: which fault an edit has, what it makes of the capture, and the record that takes it back.
+//!
+//! An [`Edit`] either has a fault, the first of nine, or is applied whole. The answer is then a record that
+//! leads back, and that holds the touched changes alone.
+#![tactic(auto)]
+
+mod edit;
+mod fault;
+mod record;
+
+pub use edit::{Edit, Rule};
+pub use fault::EditError;
+pub use record::{Piece, Record};

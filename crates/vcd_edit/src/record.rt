@@ -1,0 +1,22 @@
+use vcd_core::{Change, Signal};
+
+/// A part of a signal's changes that gives way to others: those at positions `from` up to before `to` become
+/// `changes`, and the later ones move by `by` ticks.
+#[derive(Drop)]
+pub struct Piece {
+    pub(crate) signal: usize,
+    pub(crate) from: usize,
+    pub(crate) to: usize,
+    pub(crate) changes: Vec<Change>,
+    pub(crate) by: i64,
+}
+
+/// What leads from one capture to another: pieces of waves, and where the step needs them a word that begins
+/// a signal's name, a signal to put in (or none, to take one out), and another end.
+#[derive(Drop)]
+pub struct Record {
+    pub(crate) pieces: Vec<Piece>,
+    pub(crate) word: Option<(usize, Vec<u8>)>,
+    pub(crate) signal: Option<(usize, Option<Signal>)>,
+    pub(crate) other_end: Option<u64>,
+}
