@@ -6,6 +6,7 @@
 
 mod edit;
 mod fault;
+mod pieces;
 mod record;
 
 pub use edit::{Edit, Rule};
