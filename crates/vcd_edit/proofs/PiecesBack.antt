@@ -1,11 +1,7 @@
 -- Pieces put into a capture one after another, and the pieces that lead back.
-use Rattle.std.proofs.Common.{◌≡◌, ◌≢◌, ℕ, zero, suc, ◌+◌, ◌-◌, ◌^◌, ◌<◌, ◌≤◌, ℤ, neg_ℤ, List, [], ◌∷◌, ◌++◌, length, take, drop, map, reverse, get_or, set, slice_index_or, slice_set, All, Option, Some, None, refl, sym, ap, subst, ◌∙◌, inl, inr, arith}
-use Rattle.std.specs.List.{sum_by, common_prefix_len}
-use Rattle.std.proofs.lemmas.Bool.{cases_eq}
-use Rattle.std.proofs.lemmas.List.{length-set, length-map, get_or-set_same, get_or-set_other, set-set, set-get_or, get_or-map, reverse-append, length-append}
+use Rattle.std.proofs.Common.{◌≡◌, ◌≢◌, ℕ, ◌<◌, ◌≤◌, List, [], ◌∷◌, ◌++◌, length, drop, reverse, get_or, set, All, refl, sym, ap, subst, ◌∙◌, arith}
+use Rattle.std.proofs.lemmas.List.{length-set, get_or-set_same, get_or-set_other, set-set, set-get_or, reverse-append}
 use Rattle.std.proofs.lemmas.List.Elements.{All-nil, All-cons, All-head, All-tail}
-use Rattle.std.proofs.lemmas.List.Sums.{sum_by-cons}
-use Rattle.vcd_core.specs.declared.wave.Change.{Change}
 use Rattle.vcd_core.specs.Contents.{Contents, SignalContents, no_signal, signal_at}
 use Rattle.vcd_core.specs.Splice.{TicksFit}
 use Rattle.vcd_edit.specs.RecordView.{PieceView}
@@ -63,10 +59,10 @@ module _ (c : Contents) (p q : PieceView) (within : p.signal < length c.signals)
       let old = signal_at c p.signal in
       let new = signal_with_changes old (changes_with_piece p old.changes) in
       let put_back : signal_with_changes (signal_at (with_piece c p) q.signal) (changes_with_piece q (signal_at (with_piece c p) q.signal).changes) ≡ old =
-          (λ i. signal_with_changes (signal_at (with_piece c p) (leads.signal i)) (changes_with_piece q (changes_here i)))
-          ∙ (λ i. signal_with_changes (signal_here c p within i) (leads.back i)) in
+      (λ i. signal_with_changes (signal_at (with_piece c p) (leads.signal i)) (changes_with_piece q (changes_here i)))
+      ∙ (λ i. signal_with_changes (signal_here c p within i) (leads.back i)) in
       let signals : set (set c.signals p.signal new) q.signal (signal_with_changes (signal_at (with_piece c p) q.signal) (changes_with_piece q (signal_at (with_piece c p) q.signal).changes)) ≡ c.signals =
-          (λ i. set (set c.signals p.signal new) (leads.signal i) (put_back i)) ∙ set-set c.signals p.signal new old ∙ set-get_or c.signals p.signal no_signal in
+      (λ i. set (set c.signals p.signal new) (leads.signal i) (put_back i)) ∙ set-set c.signals p.signal new old ∙ set-get_or c.signals p.signal no_signal in
       λ i. record { header = c.header; timescale = c.timescale; end = c.end; signals = signals i }
 
 -- ---- pieces one after another
@@ -155,8 +151,8 @@ back_fits_all c [] (q ∷ qs) lead apart = absurd lead
 back_fits_all c (p ∷ ps) [] lead apart = absurd lead
 back_fits_all c (p ∷ ps) (q ∷ qs) (within, leads, lead) (none, apart) =
     let here : PieceFits (with_pieces (with_piece c p) ps) q =
-        fits_elsewhere (with_piece c p) (with_pieces (with_piece c p) ps) q (counts_kept (with_piece c p) ps)
-        (signal_kept (with_piece c p) ps q.signal (subst (λ k. NoneFor k ps) (sym leads.signal) none)) (back_fits_one c p q within leads) in
+    fits_elsewhere (with_piece c p) (with_pieces (with_piece c p) ps) q (counts_kept (with_piece c p) ps)
+    (signal_kept (with_piece c p) ps q.signal (subst (λ k. NoneFor k ps) (sym leads.signal) none)) (back_fits_one c p q within leads) in
     All-cons (PieceFits (with_pieces (with_piece c p) ps)) q qs here (back_fits_all (with_piece c p) ps qs lead apart)
 
 -- ---- what the pieces make of their signals
@@ -170,6 +166,6 @@ pieces_reach c (p ∷ ps) (none, apart) within =
     let inside : All (λ q. q.signal < length next.signals) ps = λ k d less. omega (arith, count_kept c p, All-tail (λ q. q.signal < length c.signals) p ps within k d less) in
     let rest = pieces_reach next ps apart inside in
     let here : signal_at (with_pieces next ps) p.signal ≡ signal_with_changes (signal_at c p.signal) (changes_with_piece p (signal_at c p.signal).changes) =
-        signal_kept next ps p.signal none ∙ signal_here c p (All-head (λ q. q.signal < length c.signals) p ps within) in
+    signal_kept next ps p.signal none ∙ signal_here c p (All-head (λ q. q.signal < length c.signals) p ps within) in
     All-cons (λ q. signal_at (with_pieces next ps) q.signal ≡ signal_with_changes (signal_at c q.signal) (changes_with_piece q (signal_at c q.signal).changes)) p ps here
     (λ k d less. rest k d less ∙ ap (λ (s : SignalContents). signal_with_changes s (changes_with_piece (get_or ps k d) s.changes)) (signal_elsewhere c p (get_or ps k d).signal (none_all p.signal ps none k d less)))

@@ -1,5 +1,5 @@
 -- A trimmed piece and its part have changed places: the piece leads back.
-use Rattle.std.proofs.Common.{◌≡◌, ℕ, suc, ◌+◌, ◌-◌, ◌^◌, ◌<◌, ◌≤◌, ℤ, pos, ◌+ℤ◌, neg_ℤ, List, [], ◌∷◌, ◌++◌, length, take, drop, map, slice_range, All, refl, sym, ap, subst, ◌∙◌, ◌⊎◌, inl, inr, arith}
+use Rattle.std.proofs.Common.{◌≡◌, ℕ, ◌+◌, ◌^◌, ◌<◌, ◌≤◌, ℤ, pos, ◌+ℤ◌, neg_ℤ, List, [], ◌∷◌, ◌++◌, length, take, drop, map, slice_range, All, refl, sym, ap, subst, ◌∙◌, ◌⊎◌, inl, inr, arith}
 use Rattle.std.specs.Int.{w64, FitsUnsigned}
 use Rattle.std.proofs.lemmas.List.Elements.{All-nil, All-head, All-drop, All-weaker}
 use Rattle.std.proofs.lemmas.List.Edits.{length-between}
@@ -10,7 +10,6 @@ use Rattle.vcd_core.specs.Splice.{moved_change, TickFits, TicksFit, spliced_chan
 use Rattle.vcd_core.proofs.Splices.{later_of-spliced, spliced_back, back_within, back_fits}
 use Rattle.vcd_edit.specs.RecordView.{PieceView}
 use Rattle.vcd_edit.specs.Back.{changes_with_piece}
-use Rattle.vcd_edit.specs.Touched.{touched_count}
 use Rattle.vcd_edit.specs.inside.Trims.{IsTrimmed}
 use Rattle.vcd_edit.specs.inside.Exchanges.{LeadsBack}
 
@@ -44,14 +43,14 @@ module _ (cs piece : List Change) (a z : ℕ) (by back : ℤ) (ordered : a ≤ z
   exchanged_back opposite =
       elim (none_or_back opposite) [
         | inl none ↦ (
-            any_offset (neg_ℤ by) none ∙ spliced_back cs piece a z by (neg_ℤ by) ordered within fit (omega (arith, ints)),
-            subst (TicksFit back) (sym (none_later none)) (All-nil (TickFits back)),
-          )
+          any_offset (neg_ℤ by) none ∙ spliced_back cs piece a z by (neg_ℤ by) ordered within fit (omega (arith, ints)),
+          subst (TicksFit back) (sym (none_later none)) (All-nil (TickFits back)),
+        )
         | inr sum ↦ (
-            spliced_back cs piece a z by back ordered within fit sum,
-            back_fits cs piece a z by back ordered within
-                (All-weaker (λ (c : Change). c.tick ≤ END_LIMIT) (λ (c : Change). c.tick < 2 ^ 64) (λ c le. omega (arith, le)) cs upto) fit sum,
-          )
+          spliced_back cs piece a z by back ordered within fit sum,
+          back_fits cs piece a z by back ordered within
+              (All-weaker (λ (c : Change). c.tick ≤ END_LIMIT) (λ (c : Change). c.tick < 2 ^ 64) (λ c le. omega (arith, le)) cs upto) fit sum,
+        )
       ]
 
 pub led_back : (cs : List Change) (p trimmed q : PieceView) → IsTrimmed cs p trimmed → All (λ c. c.tick ≤ END_LIMIT) cs

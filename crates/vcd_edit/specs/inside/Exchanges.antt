@@ -1,14 +1,15 @@
 -- How pieces and parts of waves change places: what is asked, and what then leads back.
-use Rattle.std.specs.Prelude.{◌≡◌, ℕ, ◌+◌, ◌-◌, ◌^◌, ◌<◌, ◌≤◌, neg_ℤ, List, [], ◌∷◌, length, drop, map, slice_index_or, All, vec_len, vec_capacity}
+use Rattle.std.specs.Prelude.{◌≡◌, ℕ, ◌+◌, ◌-◌, ◌^◌, ◌<◌, ◌≤◌, neg_ℤ, List, [], ◌∷◌, length, take, drop, map, slice_index_or, All, vec_len, vec_capacity}
 use Rattle.vcd_core.specs.declared.wave.Change.{Change}
 use Rattle.vcd_core.specs.declared.capture.Signal.{Signal}
 use Rattle.vcd_core.specs.declared.capture.TheConstants.{END_LIMIT}
-use Rattle.vcd_core.specs.Contents.{Contents, SignalContents, signal_at}
+use Rattle.vcd_core.specs.Contents.{Contents, signal_at}
 use Rattle.vcd_core.specs.Wave.{IsWave}
 use Rattle.vcd_core.specs.Splice.{TicksFit}
 use Rattle.vcd_edit.specs.declared.record.Piece.{Piece}
 use Rattle.vcd_edit.specs.RecordView.{PieceView}
-use Rattle.vcd_edit.specs.Back.{changes_with_piece, with_piece, PieceFits}
+use Rattle.vcd_edit.specs.Back.{changes_with_piece, with_piece, with_pieces, AreApart}
+use Rattle.vcd_edit.specs.inside.Records.{piece_view}
 use Rattle.vcd_edit.specs.Touched.{touched_count}
 
 -- ---- one wave
@@ -55,3 +56,20 @@ room_at ss k = slice_index_or (map (λ s. s.wave.room) ss) k 0
 pub record HasRoom (ss : List Signal) (p : Piece) : Type 0 where
   pub wave : vec_len p.changes ≤ room_at ss p.signal + (p.to - p.from)
   pub piece : p.to - p.from ≤ vec_capacity p.changes
+
+-- ---- how far the pieces have come
+
+-- room was made for the first i pieces; the later ones are as at first
+pub record ReservedSoFar (old : List Piece) (i : ℕ) (new : List Piece) (ss : List Signal) : Type 0 where
+  pub rest : drop i new ≡ drop i old
+  pub same : map piece_view new ≡ map piece_view old
+  pub room : All (HasRoom ss) (take i new)
+
+-- the first i pieces were put in and now lead back, and the later ones are as at first, and ready
+pub record PutSoFar (before : Contents) (old : List Piece) (i : ℕ) (new : List Piece) (now : Contents) (ss : List Signal) : Type 0 where
+  pub rest : drop i new ≡ drop i old
+  pub there : now ≡ with_pieces before (map piece_view (take i old))
+  pub back : LeadBack before (map piece_view (take i old)) (map piece_view (take i new))
+  pub ready : All (PieceReadyIn now) (map piece_view (drop i old))
+  pub apart : AreApart (map piece_view (drop i old))
+  pub room : All (HasRoom ss) (drop i old)

@@ -1,12 +1,12 @@
 //! How a piece and a part of a wave change places.
 
-ghost use Rattle.std.specs.Prelude.{◌≡◌, ◌≢◌, ℕ, ◌+◌, ◌-◌, ◌<◌, ◌≤◌, pos, ◌+ℤ◌, map, length, vec_len, vec_capacity};
+ghost use Rattle.std.specs.Prelude.{◌≡◌, ◌≢◌, ℕ, ◌+◌, ◌-◌, ◌<◌, ◌≤◌, All, pos, ◌+ℤ◌, map, length, vec_len, vec_capacity};
 ghost use Rattle.std.specs.Int.{w64, FitsUnsigned};
 ghost use Rattle.vcd_core.specs.declared.capture.TheConstants.{END_LIMIT};
 ghost use Rattle.vcd_core.specs.Contents.{contents, signal_at};
-ghost use Rattle.vcd_edit.specs.Back.{changes_with_piece, with_piece};
+ghost use Rattle.vcd_edit.specs.Back.{changes_with_piece, with_piece, with_pieces, AreApart};
 ghost use Rattle.vcd_edit.specs.inside.Records.{piece_view};
-ghost use Rattle.vcd_edit.specs.inside.Exchanges.{PieceReady, PieceReadyIn, LeadsBack, room_at, HasRoom};
+ghost use Rattle.vcd_edit.specs.inside.Exchanges.{PieceReady, PieceReadyIn, LeadsBack, LeadBack, room_at, HasRoom};
 
 use crate::pieces::trimming::trim;
 use crate::record::Piece;
@@ -48,4 +48,18 @@ fn put_one(capture: &mut Capture, piece: &mut Piece)
         → room_at capture.new.signals k ≡ room_at capture.old.signals k }
 {
     put_in(piece, &mut capture.signals.item_mut(piece.signal).wave);
+}
+
+/// All pieces and their parts of the capture change places, one after another, and the pieces then lead
+/// back.
+pub(crate) fn put_all(capture: &mut Capture, pieces: &mut [Piece])
+    requires ready { All (PieceReadyIn (contents capture.old)) (map piece_view pieces.old) }
+    requires apart { AreApart (map piece_view pieces.old) }
+    requires room { All (HasRoom capture.old.signals) pieces.old }
+    ensures there { contents capture.new ≡ with_pieces (contents capture.old) (map piece_view pieces.old) }
+    ensures back { LeadBack (contents capture.old) (map piece_view pieces.old) (map piece_view pieces.new) }
+{
+    for piece in pieces.iter_mut() {
+        put_one(capture, piece);
+    }
 }
