@@ -8,7 +8,9 @@ mod edit;
 mod fault;
 mod pieces;
 mod record;
+mod reverting;
 
 pub use edit::{Edit, Rule};
 pub use fault::EditError;
 pub use record::{Piece, Record};
+pub use reverting::Kept;
