@@ -2,3 +2,4 @@ pub mod FaultNames
 pub mod Operators
 pub mod Effect
 pub mod Allowed
+pub mod Laws

@@ -6,8 +6,10 @@
 
 mod edit;
 mod fault;
+mod laws;
 mod record;
 
 pub use edit::{Edit, Rule};
 pub use fault::EditError;
+pub use laws::effect_is_sound;
 pub use record::{Piece, Record};
