@@ -3,3 +3,7 @@ pub mod Operators
 pub mod Effect
 pub mod Allowed
 pub mod Laws
+pub mod RecordView
+pub mod Back
+pub mod Touched
+pub mod inside

@@ -1,3 +1,4 @@
+use std::marker::Model;
 use vcd_core::{Change, Signal};
 
 /// A part of a signal's changes that gives way to others: those at positions `from` up to before `to` become
@@ -13,10 +14,25 @@ pub struct Piece {
 
 /// What leads from one capture to another: pieces of waves, and where the step needs them a word that begins
 /// a signal's name, a signal to put in (or none, to take one out), and another end.
+///
+/// Each signal has at most one piece. A record with a word has no pieces, and one with a signal to put in or
+/// take out has neither. Contracts see a record as plain data.
 #[derive(Drop)]
 pub struct Record {
     pub(crate) pieces: Vec<Piece>,
     pub(crate) word: Option<(usize, Vec<u8>)>,
     pub(crate) signal: Option<(usize, Option<Signal>)>,
     pub(crate) other_end: Option<u64>,
+}
+
+impl Model for Record {
+    ghost use Rattle.vcd_edit.specs.RecordView.{RecordView};
+    ghost use Rattle.vcd_edit.specs.Back.{IsOneStep};
+    ghost use Rattle.vcd_edit.specs.inside.Records.{record_view};
+
+    ghost Value = { RecordView };
+
+    ghost view = { λ r. record_view r.pieces.items r.word r.signal r.other_end };
+
+    ghost invariant = { λ r. IsOneStep (record_view r.pieces.items r.word r.signal r.other_end) };
 }
