@@ -1,3 +1,4 @@
 -- Stepping stones: definitions that only contracts of private functions and proofs cite. A reader need not believe them.
 pub mod Ranges
+pub mod Plans
 pub mod Records

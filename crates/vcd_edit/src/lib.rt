@@ -5,6 +5,7 @@
 #![tactic(auto)]
 
 mod edit;
+mod effects;
 mod fault;
 mod laws;
 mod record;

@@ -1,0 +1,21 @@
+-- What a plan of an edit is: a record that leads forth.
+use Rattle.std.specs.Prelude.{◌≡◌, ℕ, List}
+use Rattle.vcd_core.specs.declared.bit.Bit.{Bit}
+use Rattle.vcd_core.specs.Contents.{Contents, SignalContents}
+use Rattle.vcd_edit.specs.declared.edit.Edit.{Edit}
+use Rattle.vcd_edit.specs.declared.record.Piece.{Piece}
+use Rattle.vcd_edit.specs.RecordView.{RecordView}
+use Rattle.vcd_edit.specs.Effect.{effect}
+use Rattle.vcd_edit.specs.Back.{back, Fits}
+use Rattle.vcd_edit.specs.inside.Ranges.{LeadsTo}
+use Rattle.vcd_edit.specs.inside.Records.{piece_view}
+
+-- a record that leads from a capture to what an edit makes of it
+pub record IsPlan (e : Edit) (c : Contents) (r : RecordView) : Type 0 where
+  pub fits : Fits r c
+  pub leads : back r c ≡ effect e c
+
+-- the piece of the signal at a position, which gives it the values of a function up to an end
+pub record GivesValues (k : ℕ) (s : SignalContents) (end : ℕ) (f : ℕ → List Bit) (p : Piece) : Type 0 where
+  pub signal : p.signal ≡ k
+  pub leads : LeadsTo (piece_view p) s.changes s.width end f
