@@ -8,7 +8,7 @@ use Rattle.vcd_core.specs.declared.capture.ScopeName.{ScopeName}
 use Rattle.vcd_core.specs.declared.wave.Change.{Change}
 use Rattle.vcd_core.specs.Wave.{change, value_from, changes_from}
 use Rattle.vcd_core.specs.Contents.{Contents, SignalContents}
-use Rattle.vcd_core.specs.Names.{full_name}
+use Rattle.vcd_core.specs.Names.{name_in}
 use Rattle.vcd_edit.specs.declared.edit.Edit.TheVariants.{Rename, Remove, Invert, Shift, Cut, Deglitch, Force, Derive}
 use Rattle.vcd_edit.specs.declared.edit.Rule.TheVariants.{Not, And, Or, Xor, BitOf}
 use Rattle.vcd_edit.specs.declared.fault.EditError.TheVariants as errors
@@ -155,7 +155,7 @@ bad_operands : (fault (Derive (lent (codes "n")) (Not 1)) scalar_and_vector ≡ 
     × (fault (Derive (lent (codes "n")) (BitOf 1 4)) scalar_and_vector ≡ Some errors.BadBit)
     × (fault (Derive (lent (codes "")) (BitOf 0 1)) scalar_and_vector ≡ Some errors.BadBit)
     × (fault (Derive (lent (codes "n")) (BitOf 1 3)) scalar_and_vector ≡ None)
-unfolding fault full_name
+unfolding fault name_in
 bad_operands = (refl, refl, refl, refl, refl)
 
 -- ranges that are empty or too long, a count of 0, a value of another width
@@ -180,7 +180,7 @@ bad_names : (fault (Rename 0 (lent (codes ""))) scalar_and_vector ≡ Some error
     × (fault (Derive (lent (codes "a")) (Not 0)) scalar_and_vector ≡ Some errors.NameTaken)
     × (fault (Derive (lent (codes "$end")) (Not 0)) scalar_and_vector ≡ Some errors.BadWord)
     × (fault (Derive (lent (codes "$END")) (Not 0)) scalar_and_vector ≡ None)
-unfolding fault full_name
+unfolding fault name_in
 bad_names = (refl, refl, refl, refl, refl, refl, refl, refl)
 
 -- edits that ask for nothing but a signal

@@ -2,3 +2,4 @@
 pub mod Ranges
 pub mod Plans
 pub mod Records
+pub mod Trims

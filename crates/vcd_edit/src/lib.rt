@@ -4,12 +4,15 @@
 //! leads back, and that holds the touched changes alone.
 #![tactic(auto)]
 
+mod checking;
 mod edit;
 mod effects;
 mod fault;
 mod laws;
+mod pieces;
 mod record;
 
+pub use checking::check;
 pub use edit::{Edit, Rule};
 pub use fault::EditError;
 pub use laws::effect_is_sound;
