@@ -6,6 +6,7 @@ ghost use Rattle.vcd_core.specs.Sound.{IsSound};
 ghost use Rattle.vcd_edit.specs.Allowed.{fault};
 ghost use Rattle.vcd_edit.specs.inside.Plans.{IsPlan};
 
+mod cut;
 mod force;
 mod making;
 mod remove;
@@ -25,6 +26,7 @@ pub(crate) fn plan(alloc: Global, capture: &Capture, edit: &Edit) -> Result<Reco
     match *edit {
         Edit::Rename { signal, word } => rename::plan(alloc, capture, signal, word),
         Edit::Remove { signal } => Ok(remove::plan(alloc, capture, signal)),
+        Edit::Cut { from, to } => cut::plan(alloc, capture, from, to),
         Edit::Force {
             signal,
             from,

@@ -1,6 +1,6 @@
 //! What plans are made of.
 
-ghost use Rattle.std.specs.Prelude.{◌≡◌, ◌++◌, ◌∷◌, [], None, OnOk, IfOk, Some, false, ◌<◌, length, count_by, nat_lt, pos};
+ghost use Rattle.std.specs.Prelude.{◌≡◌, ◌++◌, ◌∷◌, [], None, OnOk, IfOk, Some, false, ◌<◌, length, count_by, nat_lt, ◌≤◌, pos, neg_ℤ};
 ghost use Rattle.vcd_core.specs.Contents.{contents, signal_contents, signal_at};
 ghost use Rattle.vcd_core.specs.Sound.{IsSound, IsSoundSignal};
 ghost use Rattle.vcd_core.specs.Value.{same_letters};
@@ -11,7 +11,7 @@ ghost use Rattle.vcd_edit.specs.inside.Ranges.{value_before as value_just_before
 
 use crate::record::{Piece, Record};
 use std::alloc::Global;
-use vcd_core::{Bit, Capture, Change, NoMemory, Signal, Value, Wave};
+use vcd_core::{Bit, Capture, Change, END_LIMIT, NoMemory, Signal, Value, Wave};
 
 /// The signal at a position of a sound capture.
 pub(crate) fn signal_there(capture: &Capture, position: usize) -> &Signal
@@ -74,6 +74,14 @@ pub(crate) fn piece_between(
         changes,
         by: 0,
     }
+}
+
+/// The offset of so many ticks to an earlier tick.
+pub(crate) fn earlier(ticks: u64) -> i64
+    requires { ticks ≤ END_LIMIT }
+    ensures { result ≡ neg_ℤ (pos ticks) }
+{
+    -(ticks as i64)
 }
 
 /// The record of one piece and nothing else.
