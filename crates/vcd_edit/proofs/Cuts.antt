@@ -18,7 +18,7 @@ use Rattle.vcd_edit.proofs.Ranges.{changes_in-constant, replacement_leads}
 use Rattle.vcd_edit.proofs.Forces.{same_before}
 
 -- all are counted
-all_counted : (a : ℕ) (cs : List Change) → count_by (λ c. nat_lt c.tick a) cs ≡ length cs → All (λ c. c.tick < a) cs
+pub all_counted : (a : ℕ) (cs : List Change) → count_by (λ c. nat_lt c.tick a) cs ≡ length cs → All (λ c. c.tick < a) cs
 all_counted a [] counted = All-nil (λ (c : Change). c.tick < a)
 all_counted a (c ∷ cs) counted =
     let sum = sum_by-cons (λ (c : Change). cond (nat_lt c.tick a) 1 0) c cs in

@@ -3,3 +3,4 @@ pub mod Ranges
 pub mod Plans
 pub mod Records
 pub mod Trims
+pub mod Exchanges

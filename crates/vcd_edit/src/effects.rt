@@ -11,6 +11,7 @@ mod force;
 mod making;
 mod remove;
 mod rename;
+mod shift;
 
 use crate::edit::Edit;
 use crate::record::Record;

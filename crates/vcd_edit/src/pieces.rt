@@ -1,5 +1,5 @@
 //! How the pieces of a record and parts of a capture's waves change places.
 
+mod growth;
+mod splicing;
 mod trimming;
-
-pub(crate) use trimming::trim;
