@@ -27,6 +27,7 @@ pub(crate) fn plan(alloc: Global, capture: &Capture, edit: &Edit) -> Result<Reco
     match *edit {
         Edit::Rename { signal, word } => rename::plan(alloc, capture, signal, word),
         Edit::Remove { signal } => Ok(remove::plan(alloc, capture, signal)),
+        Edit::Shift { signal, by } => shift::plan(alloc, capture, signal, by),
         Edit::Cut { from, to } => cut::plan(alloc, capture, from, to),
         Edit::Force {
             signal,
