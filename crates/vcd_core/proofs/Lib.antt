@@ -1,4 +1,5 @@
-pub mod NameWalks
+pub mod Decimals
+pub mod FullNames
 pub mod Lookups
 pub mod EdgeLines
 pub mod EdgeLists

@@ -1,36 +1,14 @@
 -- Looking a name up: the numbers of positions, and the list of full names.
-use Rattle.std.proofs.Common.{◌≡◌, ℕ, zero, suc, ◌+◌, ◌-◌, ◌*◌, ◌<◌, ◌&&◌, ◌↔◌, nat_lt, Bool, true, false, cond, not, if◌then◌else◌, Option, Some, None, List, [], ◌∷◌, length, min, take, get_or, map, refl, sym, ◌∙◌, ap, arith}
-use Rattle.std.specs.List.{list_all, position, position_or_len, slice_get}
-use Rattle.std.specs.Char.{is_ascii_digit, digit_value}
-use Rattle.std.specs.Str.Parse.{digits_value}
-use Rattle.std.specs.Int.{IsInRange}
+use Rattle.std.proofs.Common.{◌≡◌, ℕ, ◌+◌, ◌<◌, ◌&&◌, ◌↔◌, nat_lt, Bool, true, false, cond, not, if◌then◌else◌, Option, Some, None, List, [], ◌∷◌, length, get_or, map, refl, sym, ◌∙◌, ap}
+use Rattle.std.specs.List.{position, position_or_len, slice_get}
 use Rattle.std.specs.Bool.{IsTrue}
 use Rattle.std.specs.Str.{bytes_eq}
 use Rattle.std.proofs.lemmas.Slice.Eq.{bytes_eq-Decides}
-use Rattle.std.proofs.lemmas.Str.{digit_value_digit}
-use Rattle.std.proofs.lemmas.Int.Digits.{digits_value_more}
-use Rattle.std.proofs.lemmas.Bool.Decides.{nat_tests}
 use Rattle.std.proofs.lemmas.List.{length-map}
 use Rattle.std.proofs.lemmas.Option.{slice_get_read, slice_get-map, same_Some}
 use Rattle.vcd_core.specs.declared.capture.Signal.{Signal}
 use Rattle.vcd_core.specs.Contents.{SignalContents, signal_contents}
 use Rattle.vcd_core.specs.Names.{full_name, full_names, is_numbered, number_in, lookup}
-
--- each byte of a list of digits is one
-pub digit_within : (bytes : List ℕ) (i : ℕ) → list_all is_ascii_digit bytes ≡ true → i < length bytes → IsInRange 48 57 (get_or bytes i 0)
-digit_within [] i all within = absurd (omega arith)
-digit_within (b ∷ bytes) zero all within = grind (arith, nat_tests)
-digit_within (b ∷ bytes) (suc i) all within = digit_within bytes i (grind (arith, nat_tests)) (omega arith)
-
--- a number that stops at a limit takes in one more digit
-pub capped_more : (value limit digit : ℕ) → min (min (min value limit * 10) limit + digit) limit ≡ min (value * 10 + digit) limit
-capped_more value limit digit = grind arith
-
--- the step of reading a numeral that stops at a limit
-pub numeral_more : (bytes : List ℕ) (i limit number product digit : ℕ) → list_all is_ascii_digit bytes ≡ true → i < length bytes → number ≡ min (digits_value 10 (take i bytes)) limit → product ≡ min (number * 10) limit → digit ≡ get_or bytes i 0 - 48 → min (product + digit) limit ≡ min (digits_value 10 (take (i + 1) bytes)) limit
-numeral_more bytes i limit number product digit all within number_is product_is digit_is =
-    let value : digit ≡ digit_value (get_or bytes i 0) = omega (arith, digit_value_digit (get_or bytes i 0) (digit_within bytes i all within)) in
-    rw (product_is, number_is, value, digits_value_more 10 bytes i within) (capped_more (digits_value 10 (take i bytes)) limit (digit_value (get_or bytes i 0)))
 
 -- an answer that was given by position
 pub numbered : (test : Bool) (n k : ℕ) (other : Option ℕ) → Some k ≡ (if test then Some n else None) → Some k ≡ (if test then Some n else other)

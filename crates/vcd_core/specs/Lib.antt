@@ -6,9 +6,11 @@ pub mod Push
 pub mod Splice
 pub mod Contents
 pub mod Word
+pub mod Decimal
 pub mod Sound
 pub mod Laws
 pub mod Names
+pub mod FullName
 pub mod Device
 pub mod Edges
 pub mod inside

@@ -1,4 +1,5 @@
-use Rattle.std.specs.Prelude.{ℕ, Bool, ◌-◌, List, length, replicate, slice_index_or, nat_eq, codes}
+-- The letters of a four-state value, and when two values are the same.
+use Rattle.std.specs.Prelude.{ℕ, Bool, ◌-◌, List, length, replicate, slice_index_or, nat_eq}
 use Rattle.std.specs.Cmp.Lexicographic.{pointwise}
 use Rattle.vcd_core.specs.declared.bit.Bit.{Bit}
 use Rattle.vcd_core.specs.declared.bit.Bit.TheVariants.{Zero, One, X, Z}
@@ -26,9 +27,9 @@ same_letter a b = nat_eq (letter_number a) (letter_number b)
 abbrev pub same_letters : List Bit → List Bit → Bool
 same_letters = pointwise same_letter
 
--- the letter that is printed (IEEE 1364-2005, 18.2)
-abbrev pub letter_text : Bit → List ℕ
-letter_text Zero = codes "0"
-letter_text One = codes "1"
-letter_text X = codes "x"
-letter_text Z = codes "z"
+-- a letter as it is printed: `0`, `1`, `x` or `z` (IEEE 1364-2005, 18.2)
+abbrev pub printed_letter : Bit → ℕ
+printed_letter Zero = 48
+printed_letter One = 49
+printed_letter X = 120
+printed_letter Z = 122

@@ -1,5 +1,6 @@
-use Rattle.std.specs.Prelude.{ℕ, Bool, not, ◌&&◌, ◌||◌, ◌==◌, nat_le, List, length, codes}
-use Rattle.std.specs.List.{list_all}
+-- Words of files and scripts, and the kinds of variables that are skipped (IEEE 1364-2005, 18.2).
+use Rattle.std.specs.Prelude.{ℕ, Bool, not, ◌&&◌, ◌||◌, ◌==◌, nat_le, List, [], ◌∷◌, length, codes}
+use Rattle.std.specs.List.{list_all, list_any}
 use Rattle.std.specs.Str.{bytes_eq}
 
 -- white space: a tab, a line feed, a vertical tab, a form feed, a carriage return, a space
@@ -10,8 +11,14 @@ is_white_space byte = nat_le 9 byte && nat_le byte 13 || byte == 32
 abbrev pub is_word : List ℕ → Bool
 is_word bytes = not (length bytes == 0) && list_all (λ b. not (is_white_space b)) bytes && not (bytes_eq bytes (codes "$end"))
 
--- the kinds whose variables are skipped
+-- whether a word is one of these
+abbrev pub is_one_of : List (List ℕ) → List ℕ → Bool
+is_one_of words word = list_any (bytes_eq word) words
+
+-- the kinds whose variables are skipped: their values are no four-state values, or they have none
+abbrev pub skipped_kinds : List (List ℕ)
+skipped_kinds = codes "real" ∷ codes "realtime" ∷ codes "real_parameter" ∷ codes "shortreal" ∷ codes "event" ∷ codes "string" ∷ []
+
+-- whether variables of this kind are skipped
 abbrev pub is_skipped_kind : List ℕ → Bool
-is_skipped_kind kind =
-    bytes_eq kind (codes "real") || bytes_eq kind (codes "realtime") || bytes_eq kind (codes "real_parameter")
-    || bytes_eq kind (codes "shortreal") || bytes_eq kind (codes "event") || bytes_eq kind (codes "string")
+is_skipped_kind = is_one_of skipped_kinds

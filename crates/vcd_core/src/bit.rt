@@ -1,5 +1,5 @@
 ghost use Rattle.std.specs.Prelude.{◌≡◌};
-ghost use Rattle.vcd_core.specs.Value.{letter_text};
+ghost use Rattle.vcd_core.specs.Value.{printed_letter};
 
 /// One letter of a four-state value: 0, 1, unknown or high impedance (IEEE 1364-2005, 18.2).
 #[derive(Clone, Copy, Debug, PartialEq, Eq)]
@@ -11,15 +11,15 @@ pub enum Bit {
 }
 
 impl Bit {
-    /// The letter that is printed: `0`, `1`, `x` or `z`.
-    pub fn letter(self) -> &'static str
-        ensures { result.now ≡ letter_text self }
+    /// The letter that is printed, an ASCII byte: `0`, `1`, `x` or `z`.
+    pub fn letter(self) -> u8
+        ensures { result ≡ printed_letter self }
     {
         match self {
-            Bit::Zero => "0",
-            Bit::One => "1",
-            Bit::X => "x",
-            Bit::Z => "z",
+            Bit::Zero => b'0',
+            Bit::One => b'1',
+            Bit::X => b'x',
+            Bit::Z => b'z',
         }
     }
 }

@@ -3,10 +3,14 @@ ghost use Rattle.std.specs.Io.{ReadsAtMost, WritesAtMost};
 ghost use Rattle.std.specs.Io.KnownBytes.{ReadConsumes, WriteAppends, Keeps};
 ghost use Rattle.vcd_core.specs.Device.{Reports};
 
-use std::io::{Read, Write};
-
+mod output;
 #[cfg(test)]
 mod tests;
+mod whole;
+
+pub use output::{ShortWrite, write_all, write_and_flush};
+use std::io::{Read, Write};
+pub use whole::{Incomplete, read_whole};
 
 /// A device has failed.
 #[derive(Clone, Copy, Debug, PartialEq, Eq)]

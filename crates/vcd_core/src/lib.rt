@@ -8,8 +8,10 @@
 pub mod bit;
 pub mod capture;
 mod change_list;
+mod decimal;
 pub mod device;
 pub mod edges;
+mod full_name;
 pub mod laws;
 pub mod memory;
 mod names;
@@ -26,8 +28,13 @@ pub use capture::{
     Capture, END_LIMIT, Header, HeaderKind, SIGNAL_LIMIT, ScopeName, ScopePath, Signal, TimeUnit,
     Timescale, Word,
 };
-pub use device::{DeviceFault, FromRead, Sink, Source, ToWrite};
+pub use decimal::number_up_to;
+pub use device::{
+    DeviceFault, FromRead, Incomplete, ShortWrite, Sink, Source, ToWrite, read_whole, write_all,
+    write_and_flush,
+};
 pub use edges::{Edge, Edges};
+pub use full_name::FullName;
 pub use memory::NoMemory;
 pub use seq::Seq;
 pub use value::{Value, WIDTH_LIMIT};

@@ -1,13 +1,15 @@
-ghost use Rattle.std.specs.Prelude.{◌≡◌, ◌<◌, ◌↔◌, ◌&&◌, ◌++◌, ◌∷◌, [], IsTrue, Some, None, MatchOption, true, false, length, nat_lt, slice_get, if◌then◌else◌};
-ghost use Rattle.std.specs.List.{concat, list_all, position};
-ghost use Rattle.std.specs.Char.{is_ascii_digit};
-ghost use Rattle.std.specs.Str.{bytes_eq};
-ghost use Rattle.std.specs.Str.Parse.{digits_value};
-ghost use Rattle.vcd_core.specs.Contents.{contents, signal_contents};
-ghost use Rattle.vcd_core.specs.Names.{full_name, full_names, is_numbered, number_in, lookup};
-ghost use Rattle.vcd_core.specs.inside.NameParts.{IsRestAfter, scope_front, scopes_front};
+//! Signals looked up by name.
 
-use crate::capture::{Capture, ScopeName, Signal, Word};
+ghost use Rattle.std.specs.Prelude.{◌≡◌, ◌<◌, ◌↔◌, ◌&&◌, IsTrue, Some, None, length, nat_lt, slice_get, if◌then◌else◌};
+ghost use Rattle.std.specs.List.{position};
+ghost use Rattle.std.specs.Str.{bytes_eq};
+ghost use Rattle.vcd_core.specs.Contents.{contents, signal_contents};
+ghost use Rattle.vcd_core.specs.Decimal.{is_number, number_of};
+ghost use Rattle.vcd_core.specs.Names.{full_name, full_names, is_numbered, number_in, lookup};
+
+use crate::capture::{Capture, Signal};
+use crate::decimal::number_up_to;
+use crate::full_name::FullName;
 
 #[cfg(test)]
 mod tests;
@@ -43,87 +45,31 @@ fn first_named(signals: &[Signal], name: &[u8]) -> Option<usize>
         .position(|signal| has_full_name(signal, name))
 }
 
-/// The number behind the `@` of a name, where it is below `count`.
-fn position_in(name: &[u8], count: usize) -> Option<usize>
-    ensures { result ≡ (if is_numbered name.now && nat_lt (number_in name.now) count then Some (number_in name.now) else None) }
+/// Whether a signal has this full name.
+fn has_full_name(signal: &Signal, name: &[u8]) -> bool
+    ensures { result ≡ bytes_eq name.now (full_name (signal_contents signal.now)) }
 {
-    number_below(digits_in(name)?, count)
+    FullName::of(signal).is_text(name)
 }
 
-/// The digits of a name that is `@` and decimal digits alone.
-fn digits_in(name: &[u8]) -> Option<&[u8]>
-    ensures { MatchOption result (is_numbered name.now ≡ false) (λ digits. (is_numbered name.now ≡ true) × (name.now ≡ 64 ∷ digits.now)) }
+/// The position that a name gives as `@` and a decimal number, where it is below `count`.
+fn position_in(name: &[u8], count: usize) -> Option<usize>
+    ensures { result ≡ (if is_numbered name.now && nat_lt (number_in name.now) count
+        then Some (number_in name.now) else None) }
 {
     match name {
-        [b'@', digits @ ..] if !digits.is_empty() && are_digits(digits) => Some(digits),
+        [b'@', digits @ ..] => number_below(digits, count),
         _ => None,
     }
 }
 
-/// Whether each byte is a decimal digit.
-fn are_digits(text: &[u8]) -> bool
-    ensures { result ≡ list_all is_ascii_digit text.now }
+/// The decimal number that a text is, where it is below `limit`.
+fn number_below(text: &[u8], limit: usize) -> Option<usize>
+    ensures { result ≡ (if is_number text.now && nat_lt (number_of text.now) limit
+        then Some (number_of text.now) else None) }
 {
-    text.iter().all(|byte| byte.is_ascii_digit())
-}
-
-/// The number that decimal digits write, where it is below `limit`. There may be any number of digits.
-fn number_below(digits: &[u8], limit: usize) -> Option<usize>
-    requires { IsTrue (list_all is_ascii_digit digits.now) }
-    ensures { result ≡ (if nat_lt (digits_value 10 digits.now) limit then Some (digits_value 10 digits.now) else None) }
-{
-    let mut number = 0usize;
-    for digit in digits {
-        let value = usize::from(*digit - b'0');
-        number = number.saturating_mul(10).saturating_add(value);
+    match number_up_to(text, limit as u64) {
+        Some(number) if number < limit as u64 => Some(number as usize),
+        _ => None,
     }
-    (number < limit).then_some(number)
-}
-
-/// Whether a signal has this full name. The name is compared part by part and never built.
-fn has_full_name(signal: &Signal, name: &[u8]) -> bool
-    ensures { result ≡ bytes_eq name.now (full_name (signal_contents signal.now)) }
-{
-    match after_full_name(name, signal) {
-        Some(rest) => rest.is_empty(),
-        None => false,
-    }
-}
-
-/// What follows the full name of a signal.
-fn after_full_name<'a>(text: &'a [u8], signal: &Signal) -> Option<&'a [u8]>
-    ensures { IsRestAfter (full_name (signal_contents signal.now)) text.now result }
-{
-    let rest = after_scopes(text, signal.scopes.as_slice())?;
-    after_words(rest, signal.words.as_slice())
-}
-
-/// What follows the names of the scopes, each with a `.` behind it.
-fn after_scopes<'a>(text: &'a [u8], scopes: &[ScopeName]) -> Option<&'a [u8]>
-    ensures { IsRestAfter (scopes_front scopes.now) text.now result }
-{
-    let mut rest = text;
-    for scope in scopes {
-        rest = after_scope(rest, scope)?;
-    }
-    Some(rest)
-}
-
-/// What follows the name of a scope and the `.` behind it.
-fn after_scope<'a>(text: &'a [u8], scope: &ScopeName) -> Option<&'a [u8]>
-    ensures { IsRestAfter (scope_front scope.now) text.now result }
-{
-    let rest = after_words(text, scope.words.as_slice())?;
-    rest.strip_prefix(b".")
-}
-
-/// What follows the words, run together.
-fn after_words<'a>(text: &'a [u8], words: &[Word]) -> Option<&'a [u8]>
-    ensures { IsRestAfter (concat words.now) text.now result }
-{
-    let mut rest = text;
-    for word in words {
-        rest = rest.strip_prefix(word.as_slice())?;
-    }
-    Some(rest)
 }

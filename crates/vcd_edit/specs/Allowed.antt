@@ -1,5 +1,5 @@
 -- Which fault an edit has on a capture: the project's own.
-use Rattle.std.specs.Prelude.{◌≡◌, ◌⊎◌, ℕ, ◌+◌, ◌==◌, ◌||◌, nat_lt, nat_le, Bool, false, not, if◌then◌else◌, List, [], ◌∷◌, length, Option, Some, None}
+use Rattle.std.specs.Prelude.{◌≡◌, ◌⊎◌, ℕ, ◌+◌, ◌==◌, ◌||◌, nat_lt, nat_le, Bool, false, not, if◌then◌else◌, List, [], ◌∷◌, length, Option, Some, None, Result, MatchResult}
 use Rattle.std.specs.List.{list_any, remove}
 use Rattle.std.specs.Str.{bytes_eq}
 use Rattle.vcd_core.specs.Contents.{Contents, signal_at}
@@ -136,3 +136,7 @@ fault e c = first_fault (fault_rows e c)
 -- how an edit may be refused: by the fault that it has, or for want of memory where it has none
 abbrev pub MayRefuse : Option EditError → EditError → Type 0
 MayRefuse found refusal = (found ≡ Some refusal) ⊎ ((found ≡ None) × (refusal ≡ errors.NoMemory))
+
+-- what a check answers, told by the fault that there is
+abbrev pub TellsFault : {T : Type 0} → Result T EditError → Option EditError → Type 0
+TellsFault answer found = MatchResult answer (λ _. found ≡ None) (λ refusal. found ≡ Some refusal)

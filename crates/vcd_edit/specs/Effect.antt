@@ -104,11 +104,15 @@ derived_signal word rule c = record {
 
 -- ---- all edits
 
+-- a signal with a range of ticks cut out, up to an end
+abbrev pub signal_after_cut : ℕ → ℕ → ℕ → SignalContents → SignalContents
+signal_after_cut end from to s = with_values end (cut_value from to s) s
+
 -- the capture with a range of ticks cut out of every signal
 abbrev pub cut_contents : ℕ → ℕ → Contents → Contents
 cut_contents from to c =
     let end = c.end - (to - from) in
-    record c { end = end; signals = map (λ s. with_values end (cut_value from to s) s) c.signals }
+    record c { end = end; signals = map (signal_after_cut end from to) c.signals }
 
 -- the capture after an edit
 unfoldable pub effect : Edit → Contents → Contents

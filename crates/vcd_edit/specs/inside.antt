@@ -1,5 +1,6 @@
 -- Stepping stones: definitions that only contracts of private functions and proofs cite. A reader need not believe them.
 pub mod Ranges
+pub mod Plans
 pub mod Records
 pub mod Trims
 pub mod Exchanges

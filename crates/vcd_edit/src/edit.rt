@@ -1,3 +1,6 @@
+ghost use Rattle.std.specs.Prelude.{◌≡◌};
+ghost use Rattle.vcd_edit.specs.Effect.{first_operand};
+
 use vcd_core::Value;
 
 /// A change to a capture.
@@ -66,4 +69,16 @@ pub enum Rule {
     /// The bit of the signal at the first position that the second number counts to, from the least
     /// significant end.
     BitOf(usize, u64),
+}
+
+impl Rule {
+    /// The position of the first operand.
+    pub(crate) fn first_operand(self) -> usize
+        ensures { result ≡ first_operand self }
+    {
+        match self {
+            Rule::Not(a) | Rule::And(a, _) | Rule::Or(a, _) | Rule::Xor(a, _) | Rule::BitOf(a, _) =>
+                a,
+        }
+    }
 }

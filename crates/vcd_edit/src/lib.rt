@@ -4,13 +4,18 @@
 //! leads back, and that holds the touched changes alone.
 #![tactic(auto)]
 
+mod checking;
 mod edit;
+mod effects;
 mod fault;
+mod laws;
 mod pieces;
 mod record;
 mod reverting;
 
+pub use checking::check;
 pub use edit::{Edit, Rule};
 pub use fault::EditError;
+pub use laws::effect_is_sound;
 pub use record::{Piece, Record};
 pub use reverting::Kept;

@@ -1,7 +1,7 @@
 -- A sound signal is declared as a variable that is kept, and its code finds it.
 use Rattle.std.proofs.Common.{◌≡◌, ◌≢◌, ℕ, zero, suc, ◌+◌, ◌<◌, Bool, true, false, not, cond, ◌||◌, ◌==◌, nat_lt, List, [], ◌∷◌, length, get_or, Some, All, refl, ap, ◌∙◌, arith}
 use Rattle.std.specs.Prelude.{find, bytes_eq, count_by, codes}
-use Rattle.std.proofs.lemmas.Bool.{false_from_ne_true, le-ltb, ne_eqb}
+use Rattle.std.proofs.lemmas.Bool.{false_from_ne_true, le-ltb, ne_eqb, not-true}
 use Rattle.std.proofs.lemmas.List.Elements.{All-head, All-tail}
 use Rattle.std.proofs.lemmas.List.Sums.{sum_by-cons}
 use Rattle.std.proofs.lemmas.Slice.Eq.{bytes_eq-Decides}
@@ -34,21 +34,9 @@ declared_context c = record {
   tick = 0;
 }
 
--- six tests that all fail, in the other grouping
-none_passes : (a b c d e f : Bool) → not (a || b || c || d || e || f) ≡ true → (a || (b || (c || (d || (e || (f || false)))))) ≡ false
-none_passes true b c d e f h = let no : false ≡ true = h in absurd (cc)
-none_passes false true c d e f h = let no : false ≡ true = h in absurd (cc)
-none_passes false false true d e f h = let no : false ≡ true = h in absurd (cc)
-none_passes false false false true e f h = let no : false ≡ true = h in absurd (cc)
-none_passes false false false false true f h = let no : false ≡ true = h in absurd (cc)
-none_passes false false false false false true h = let no : false ≡ true = h in absurd (cc)
-none_passes false false false false false false h = refl
-
 pub sound_is_kept : (end k : ℕ) (s : SignalContents) → IsSoundSignal end s → is_skipped (declared_as k s) ≡ false
 sound_is_kept end k s sound =
-    let kind : is_one_of skipped_kinds s.kind ≡ false =
-    none_passes (bytes_eq s.kind (codes "real")) (bytes_eq s.kind (codes "realtime")) (bytes_eq s.kind (codes "real_parameter"))
-    (bytes_eq s.kind (codes "shortreal")) (bytes_eq s.kind (codes "event")) (bytes_eq s.kind (codes "string")) sound.kept in
+    let kind : is_one_of skipped_kinds s.kind ≡ false = not-true (is_one_of skipped_kinds s.kind) sound.kept in
     let some : (s.width == 0) ≡ false = ne_eqb s.width 0 (omega (arith, sound.least)) in
     let few : nat_lt WIDTH_LIMIT s.width ≡ false = le-ltb WIDTH_LIMIT s.width sound.most in
     λ i. kind i || (some i || few i)

@@ -310,17 +310,6 @@ records_fit c d agrees keeps fit = All-weaker (Fits c) (FitsWidth d.size d.code)
     joined r None some same = absurd some
     joined r (Some e) fits same = subst (λ n. length r.letters ≤ n) same.0 fits
 
-kept_kind : (kind : List ℕ) → is_one_of skipped_kinds kind ≡ false → is_skipped_kind kind ≡ false
-kept_kind kind none =
-    let is : List ℕ → Bool = bytes_eq kind in
-    let a = or_parts (is (codes "real")) (is_one_of (codes "realtime" ∷ codes "real_parameter" ∷ codes "shortreal" ∷ codes "event" ∷ codes "string" ∷ []) kind) none in
-    let b = or_parts (is (codes "realtime")) (is_one_of (codes "real_parameter" ∷ codes "shortreal" ∷ codes "event" ∷ codes "string" ∷ []) kind) a.1 in
-    let c = or_parts (is (codes "real_parameter")) (is_one_of (codes "shortreal" ∷ codes "event" ∷ codes "string" ∷ []) kind) b.1 in
-    let d = or_parts (is (codes "shortreal")) (is_one_of (codes "event" ∷ codes "string" ∷ []) kind) c.1 in
-    let e = or_parts (is (codes "event")) (is_one_of (codes "string" ∷ []) kind) d.1 in
-    let f = or_parts (is (codes "string")) false e.1 in
-    λ i. a.0 i || b.0 i || c.0 i || d.0 i || e.0 i || f.0 i
-
 sound_signal : (c : Context) (d : Declaration) → IsClean c → IsCleanDeclaration d → Agrees c d → is_skipped d ≡ false → IsSoundSignal c.tick (declared_signal c.records c.tick d)
 sound_signal c d clean is agrees keeps =
     let width = kept_is d keeps in
@@ -329,7 +318,7 @@ sound_signal c d clean is agrees keeps =
     record {
       scopes = is.scopes;
       kind = is.kind;
-      kept = ap not (kept_kind d.kind width.0);
+      kept = ap not width.0;
       named = is.named;
       words = is.words;
       least = width.1;

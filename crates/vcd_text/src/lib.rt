@@ -6,9 +6,9 @@ pub mod fault;
 pub mod laws;
 #[cfg(test)]
 mod narrow_sink;
-pub mod output;
+#[cfg(test)]
+mod output;
 pub mod reading;
-pub mod whole;
 pub mod words;
 pub mod writing;
 

@@ -27,10 +27,9 @@ mod variables;
 
 use crate::fault::{Fault, ReadError};
 use crate::reading::reader::Reader;
-use crate::whole::{Incomplete, read_whole};
 use crate::words::Words;
 use std::alloc::Global;
-use vcd_core::{Capture, Source};
+use vcd_core::{Capture, Incomplete, Source, read_whole};
 
 /// The most bytes that a capture file may have: 4 GiB.
 pub const FILE_LIMIT: usize = 4_294_967_296;

@@ -14,11 +14,10 @@ pub mod transitions;
 mod values;
 
 use crate::fault::WriteError;
-use crate::output::write_and_flush;
 use declarations::{append_header, append_signals, append_timescale};
 use std::alloc::Global;
 use transitions::{append_first_values, append_transitions, sorted_transitions};
-use vcd_core::{Capture, NoMemory, Sink};
+use vcd_core::{Capture, NoMemory, Sink, write_and_flush};
 
 /// Writes the text of a capture, and flushes the writer once behind its last byte. The text is made whole
 /// before the first of its bytes goes out.
@@ -38,7 +37,9 @@ pub fn write<W: Sink>(alloc: Global, capture: &Capture, writer: &mut W) -> Resul
     let text = text_of(alloc, capture)?;
     match write_and_flush(writer, text.as_slice()) {
         Ok(()) => Ok(()),
-        Err(written) => Err(WriteError::WriteFault { written }),
+        Err(short) => Err(WriteError::WriteFault {
+            written: short.written,
+        }),
     }
 }
 

@@ -3,7 +3,7 @@ use Rattle.std.proofs.Common.{◌≡◌, refl}
 use Rattle.std.specs.Prelude.{[], ◌∷◌, codes}
 use Rattle.std.specs.Fmt.{digits}
 use Rattle.vcd_core.specs.Wave.{value_from}
-use Rattle.vcd_core.specs.Names.{full_name, lookup}
+use Rattle.vcd_core.specs.Names.{name_in, lookup}
 use Rattle.vcd_core.specs.Contents.{Contents}
 use Rattle.vcd_text.specs.Words.{words_from}
 use Rattle.vcd_text.specs.Letters.{short_form}
@@ -27,13 +27,13 @@ lines_of_scripts = (refl, refl, refl, refl)
 -- a rename of the one scalar
 rename_run : run_of (one_scalar (codes "a")) 0 (codes "rename top.a b\n") 100
     ≡ record { replies = codes "ok\n"; output = one_scalar_text (codes "b"); refused = 0 }
-unfolding script_lines words_from command_of lookup full_name fault effect line_reply after_line after_lines replies refusals text items_of signal_items code_digits tick_items value_from short_form digits
+unfolding script_lines words_from command_of lookup name_in fault effect line_reply after_line after_lines replies refusals text items_of signal_items code_digits tick_items value_from short_form digits
 rename_run = refl
 
 -- a rename and its undo
 undo_run : run_of (one_scalar (codes "a")) 0 (codes "rename top.a b\nundo\n") 100
     ≡ record { replies = codes "ok\nok\n"; output = one_scalar_text (codes "a"); refused = 0 }
-unfolding script_lines words_from command_of lookup full_name fault effect line_reply after_line after_lines replies refusals text items_of signal_items code_digits tick_items value_from short_form digits
+unfolding script_lines words_from command_of lookup name_in fault effect line_reply after_line after_lines replies refusals text items_of signal_items code_digits tick_items value_from short_form digits
 undo_run = refl
 
 -- three renames in a history of two, and three undos
@@ -43,12 +43,12 @@ full_history_run : run_of (capture 0 (wire (top ∷ []) (codes "a") 1 (from 0 (c
       output = codes "$scope module top $end\n$var wire 1 ! b $end\n$upscope $end\n$enddefinitions $end\n#0\n$dumpvars\n0!\n$end\n";
       refused = 1;
     }
-unfolding script_lines words_from command_of lookup full_name fault effect line_reply after_line after_lines replies refusals text items_of signal_items code_digits tick_items value_from short_form digits
+unfolding script_lines words_from command_of lookup name_in fault effect line_reply after_line after_lines replies refusals text items_of signal_items code_digits tick_items value_from short_form digits
 full_history_run = refl
 
 -- the same from the bytes of the file and the script to those that are written
 rename_of_file : RunWrites one_scalar_file (codes "rename top.a b\n") 100 (record { replies = codes "ok\n"; output = one_scalar_text (codes "b"); refused = 0 })
-unfolding script_lines words_from command_of lookup full_name fault effect line_reply after_line after_lines replies refusals text items_of signal_items code_digits tick_items value_from short_form digits
+unfolding script_lines words_from command_of lookup name_in fault effect line_reply after_line after_lines replies refusals text items_of signal_items code_digits tick_items value_from short_form digits
 rename_of_file = record { contents = one_scalar_contents; skipped = 0; means = one_scalar_means; run = refl }
 
 -- two signals in one scope
@@ -59,11 +59,11 @@ two_signals = capture 9 (wire (top ∷ []) (codes "a") 1 (from 0 (codes "0") ∷
 refused_lines : replies 0 1 (record { past = []; now = two_signals; future = []; depth = 100 }) (script_lines (codes
     "\n# rename\nfrob\nrename top.a\nrename top.a b c\nundo now\nrename top.q $end\nrename top.a $end\nrename top.a v\nundo\n \t#\n  rename\t@1\rb"))
     ≡ codes "line 3: refused: UnknownCommand\nline 4: refused: WrongCount\nline 5: refused: WrongCount\nline 6: refused: WrongCount\nline 7: refused: NoSuchName\nline 8: refused: BadWord\nline 9: refused: NameTaken\nline 10: refused: NothingToUndo\nok\n"
-unfolding script_lines words_from command_of lookup full_name fault effect line_reply after_line replies digits
+unfolding script_lines words_from command_of lookup name_in fault effect line_reply after_line replies digits
 refused_lines = refl
 
 -- how many of those are refused
 count_of_refused_lines : refusals 0 (record { past = []; now = two_signals; future = []; depth = 100 }) (script_lines (codes "undo\n#\nfrob\nrename top.a b\nrename top.a b\nundo"))
     ≡ 3
-unfolding script_lines words_from command_of lookup full_name fault effect line_reply after_line refusals digits
+unfolding script_lines words_from command_of lookup name_in fault effect line_reply after_line refusals digits
 count_of_refused_lines = refl

@@ -1,7 +1,7 @@
 -- Worked cases: renaming, its faults, undo and redo, and a history of two.
 use Rattle.std.proofs.Common.{◌≡◌, refl}
 use Rattle.std.specs.Prelude.{ℕ, List, [], ◌∷◌, Some, None, codes}
-use Rattle.vcd_core.specs.Names.{full_name}
+use Rattle.vcd_core.specs.Names.{name_in}
 use Rattle.vcd_core.specs.Contents.{Contents}
 use Rattle.vcdedit.specs.declared.edit.Edit.{Edit}
 use Rattle.vcdedit.specs.declared.edit.Edit.TheVariants.{Rename}
@@ -38,7 +38,7 @@ faults_of_rename : (fault (Rename 2 (lent_bytes (codes ""))) two_signals ≡ Som
     × (fault (rename (codes "v")) two_signals ≡ Some errors.NameTaken)
     × (fault (rename (codes "a")) two_signals ≡ None)
     × (fault (rename (codes "$END")) two_signals ≡ None)
-unfolding fault full_name
+unfolding fault name_in
 faults_of_rename = (refl, refl, refl, refl, refl, refl, refl)
 
 -- of two signals with one full name neither can keep it by a rename
@@ -46,7 +46,7 @@ abbrev pub twins : Contents
 twins = capture 0 (wire [] (codes "a") 1 [] ∷ wire [] (codes "a") 1 [] ∷ [])
 
 rename_of_twin : (fault (rename (codes "a")) twins ≡ Some errors.NameTaken) × (fault (rename (codes "b")) twins ≡ None)
-unfolding fault full_name
+unfolding fault name_in
 rename_of_twin = (refl, refl)
 
 -- `top.a`, under the names that it has one after another
@@ -73,7 +73,7 @@ history_of_two :
     × (step_of (machine (c ∷ b ∷ []) d []) steps.Undo ≡ accepted_outcome (machine (b ∷ []) c (d ∷ [])))
     × (step_of (machine (b ∷ []) c (d ∷ [])) steps.Undo ≡ accepted_outcome (machine [] b (c ∷ d ∷ [])))
     × (step_of (machine [] b (c ∷ d ∷ [])) steps.Undo ≡ refused_outcome refusals.NothingToUndo (machine [] b (c ∷ d ∷ [])))
-unfolding effect fault full_name
+unfolding effect fault name_in
 history_of_two = (refl, refl, refl, refl, refl, refl)
 
 -- redo goes the other way; an accepted edit leaves none to redo, a refused one changes nothing
@@ -82,7 +82,7 @@ redo_and_edit :
     × (step_of (machine (b ∷ []) c (d ∷ [])) (steps.Edit (rename (codes ""))) ≡ refused_outcome (refusals.Edit errors.BadWord) (machine (b ∷ []) c (d ∷ [])))
     × (step_of (machine (b ∷ []) c (d ∷ [])) (steps.Edit (rename (codes "a"))) ≡ accepted_outcome (machine (c ∷ b ∷ []) a []))
     × (step_of (machine (c ∷ b ∷ []) a []) steps.Redo ≡ refused_outcome refusals.NothingToRedo (machine (c ∷ b ∷ []) a []))
-unfolding effect fault full_name
+unfolding effect fault name_in
 redo_and_edit = (refl, refl, refl, refl)
 
 -- the edits in force after three renames, two undos and one that is refused

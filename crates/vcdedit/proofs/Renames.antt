@@ -3,43 +3,24 @@ use Rattle.std.proofs.Common.{◌-◌, add-one, ◌≡◌, ◌<◌, Bool, true, 
 use Rattle.std.specs.List.{concat, list_any, list_all, remove}
 use Rattle.std.specs.Str.{bytes_eq}
 use Rattle.std.specs.Prelude.{slice_set, slice_index_or}
-use Rattle.std.proofs.lemmas.List.{set-set, set-get_or, get_or-set_same, map-set, length-set, get_or-map, take-map, drop-map, take_all, length-drop, length-map}
+use Rattle.std.proofs.lemmas.List.{set-set, set-get_or, get_or-set_same, map-set, length-set, get_or-map, take-map, drop-map, map-append, take_all, length-drop, length-map}
 use Rattle.std.proofs.lemmas.List.Folds.{list_any-append}
 use Rattle.std.proofs.lemmas.List.Elements.{All-set, All-get_or}
-use Rattle.vcd_core.specs.declared.capture.ScopeName.{ScopeName}
 use Rattle.vcd_core.specs.declared.capture.Signal.{Signal}
 use Rattle.vcd_core.specs.declared.capture.Capture.{Capture}
 use Rattle.vcd_core.specs.Contents.{Contents, SignalContents, contents, signal_contents, no_signal, signal_at, with_signal}
 use Rattle.vcd_core.specs.Names.{full_name, full_names}
-use Rattle.vcd_core.specs.inside.NameParts.{scopes_front}
 use Rattle.vcd_core.specs.Word.{is_word}
 use Rattle.vcd_core.specs.Sound.{IsSound, IsSoundSignal}
-use Rattle.vcd_core.proofs.NameWalks.{full_name_parts}
 use Rattle.vcdedit.specs.Effect.{renamed_signal}
-
--- the names of the scopes, each with a `.` behind it, and the words are the full name
-pub name_parts : (s : SignalContents) (scopes : List ScopeName) (first : List ℕ) (words : List (List ℕ)) (bytes : List ℕ) →
-    scopes ≡ s.scopes → first ≡ [] → words ≡ s.words → bytes ≡ scopes_front scopes ++ (first ++ concat words) → bytes ≡ full_name s
-name_parts s scopes first words bytes e f g h = h ∙ rw (e, f, g) (sym (full_name_parts s))
-
--- the same with another first word
-pub renamed_parts : (s : SignalContents) (word : List ℕ) (scopes : List ScopeName) (others : List (List ℕ)) (bytes : List ℕ) →
-    scopes ≡ s.scopes → others ≡ drop 1 s.words → bytes ≡ scopes_front scopes ++ (word ++ concat others) → bytes ≡ full_name (renamed_signal word s)
-renamed_parts s word scopes others bytes e f h = h ∙ rw (e, f) (sym (full_name_parts (renamed_signal word s)))
-
--- a test of what signals hold
-pub list_any_map : {X Y : Type 0} (f : X → Y) (p : Y → Bool) (xs : List X) → list_any p (map f xs) ≡ list_any (λ x. p (f x)) xs
-list_any_map f p [] = refl
-list_any_map f p (x ∷ xs) = ap (λ (b : Bool). p (f x) || b) (list_any_map f p xs)
 
 -- whether a signal other than the one at position k has a full name
 pub has_other : (name : List ℕ) (signals : List Signal) (k : ℕ) → list_any (bytes_eq name) (full_names (remove (map signal_contents signals) k))
-    ≡ (list_any (λ s. bytes_eq name (full_name (signal_contents s))) (take k signals) || list_any (λ s. bytes_eq name (full_name (signal_contents s))) (drop (suc k) signals))
+    ≡ (list_any (bytes_eq name) (full_names (map signal_contents (take k signals))) || list_any (bytes_eq name) (full_names (map signal_contents (drop (suc k) signals))))
 has_other name signals k =
-    list_any_map full_name (bytes_eq name) (take k (map signal_contents signals) ++ drop (suc k) (map signal_contents signals))
-    ∙ list_any-append (λ s. bytes_eq name (full_name s)) (take k (map signal_contents signals)) (drop (suc k) (map signal_contents signals))
-    ∙ rw (take-map signal_contents k signals, drop-map signal_contents (suc k) signals)
-    (rw (list_any_map signal_contents (λ s. bytes_eq name (full_name s)) (take k signals), list_any_map signal_contents (λ s. bytes_eq name (full_name s)) (drop (suc k) signals)) refl)
+    ap (list_any (bytes_eq name)) (map-append full_name (take k (map signal_contents signals)) (drop (suc k) (map signal_contents signals)))
+    ∙ list_any-append (bytes_eq name) (full_names (take k (map signal_contents signals))) (full_names (drop (suc k) (map signal_contents signals)))
+    ∙ rw (take-map signal_contents k signals, drop-map signal_contents (suc k) signals) refl
 
 -- the signal at a position, by what it holds
 pub contents_at : (signals : List Signal) (k : ℕ) (s : Signal) → k < length signals → s ≡ get_or signals k s → slice_index_or (map signal_contents signals) k no_signal ≡ signal_contents s
@@ -48,7 +29,7 @@ contents_at signals k s within is = get_or-map signal_contents signals k s no_si
 -- whether the name that a rename gives stands before the signal or behind it
 pub name_taken : (signals : List Signal) (k : ℕ) (s : Signal) (word name : List ℕ) → k < length signals → s ≡ get_or signals k s → name ≡ full_name (renamed_signal word (signal_contents s)) →
     list_any (bytes_eq (full_name (renamed_signal word (slice_index_or (map signal_contents signals) k no_signal)))) (full_names (remove (map signal_contents signals) k))
-    ≡ (list_any (λ t. bytes_eq name (full_name (signal_contents t))) (take k signals) || list_any (λ t. bytes_eq name (full_name (signal_contents t))) (drop (suc k) signals))
+    ≡ (list_any (bytes_eq name) (full_names (map signal_contents (take k signals))) || list_any (bytes_eq name) (full_names (map signal_contents (drop (suc k) signals))))
 name_taken signals k s word name within is given = rw (contents_at signals k s within is, ← given) (has_other name signals k)
 
 -- the first of two tests holds, or the second decides

@@ -12,7 +12,6 @@ pub mod late_file;
 pub mod laws;
 mod line;
 pub mod line_error;
-mod name_cursor;
 pub mod opening;
 pub mod program;
 mod record;

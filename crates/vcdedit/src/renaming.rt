@@ -4,17 +4,16 @@ ghost use Rattle.std.specs.Prelude.{◌≡◌, ◌<◌, ◌∷◌, Some, None, l
 ghost use Rattle.std.specs.List.{list_any, remove};
 ghost use Rattle.std.specs.Str.{bytes_eq};
 ghost use Rattle.vcd_core.specs.Contents.{contents, signal_contents, no_signal, signal_at, with_signal};
+ghost use Rattle.vcd_core.specs.FullName.{name_bytes};
 ghost use Rattle.vcd_core.specs.Names.{full_name, full_names};
 ghost use Rattle.vcd_core.specs.Word.{is_word as word_test};
 ghost use Rattle.vcdedit.specs.Allowed.{fault};
 ghost use Rattle.vcdedit.specs.Effect.{renamed_signal};
-ghost use Rattle.vcdedit.specs.inside.NameCursor.{bytes_left};
 ghost use Rattle.vcdedit.specs.declared.edit.Edit.TheVariants as edits;
 
 use crate::edit_error::EditError;
-use crate::name_cursor::NameCursor;
 use std::mem;
-use vcd_core::{Capture, Seq, Signal, Word, is_word};
+use vcd_core::{Capture, FullName, Seq, Signal, Word, is_word};
 
 #[tactic(auto, unfolding(crate::specs::Allowed::fault))]
 /// Tells which fault the edit has that makes `word` the first word of a signal's name. It takes no memory.
@@ -46,14 +45,14 @@ fn is_name_taken(signals: &[Signal], signal: usize, word: &[u8]) -> bool
         (full_names (remove (map signal_contents signals.now) signal)) }
 {
     let name = name_with(&signals[signal], word);
-    has_name(&signals[..signal], &name) || has_name(&signals[signal + 1..], &name)
+    name.is_taken(&signals[..signal]) || name.is_taken(&signals[signal + 1..])
 }
 
 /// The full name of a signal with another first word.
-fn name_with<'a>(signal: &'a Signal, word: &'a [u8]) -> NameCursor<'a>
-    ensures { bytes_left result ≡ full_name (renamed_signal word.now (signal_contents signal.now)) }
+fn name_with<'a>(signal: &'a Signal, word: &'a [u8]) -> FullName<'a>
+    ensures { name_bytes result ≡ full_name (renamed_signal word.now (signal_contents signal.now)) }
 {
-    NameCursor::new(
+    FullName::new(
         signal.scopes.as_slice(),
         word,
         behind_first(signal.words.as_slice()),
@@ -67,26 +66,6 @@ fn behind_first(words: &[Word]) -> &[Word]
         [_, others @ ..] => others,
         [] => words,
     }
-}
-
-/// The full name of a signal.
-fn name_of(signal: &Signal) -> NameCursor
-    ensures { bytes_left result ≡ full_name (signal_contents signal.now) }
-{
-    NameCursor::new(
-        signal.scopes.as_slice(),
-        b"".as_slice(),
-        signal.words.as_slice(),
-    )
-}
-
-/// Whether one of the signals has this full name.
-fn has_name(signals: &[Signal], name: &NameCursor) -> bool
-    ensures { result ≡ list_any (λ s. bytes_eq (bytes_left name.now) (full_name (signal_contents s))) signals.now }
-{
-    signals
-        .iter()
-        .any(|signal| name.has_same_bytes(name_of(signal)))
 }
 
 /// Puts a word in the place of the first word of a signal's name, and gives that one back. It takes no memory.

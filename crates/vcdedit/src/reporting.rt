@@ -7,8 +7,7 @@ ghost use Rattle.vcdedit.specs.Report.{capture_line, capture_status, error_line,
 
 use crate::run_error::{RunError, Summary};
 use itoa::Buffer;
-use vcd_core::{DeviceFault, Sink};
-use vcd_text::output::write_all;
+use vcd_core::{DeviceFault, Sink, write_all};
 use vcd_text::{Fault, ReadError, WriteError};
 
 /// Writes the line that says what ended a run, and gives the exit status. A fault of the writer is passed

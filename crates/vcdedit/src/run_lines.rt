@@ -13,8 +13,7 @@ use crate::run_error::RunError;
 use crate::script::split_line;
 use crate::session::Session;
 use std::alloc::Global;
-use vcd_core::Sink;
-use vcd_text::output::write_all;
+use vcd_core::{Sink, write_all};
 
 /// What is told of a line.
 #[derive(Clone, Copy)]
@@ -103,8 +102,8 @@ fn tell<P: Sink>(
     match reply.text(alloc, number) {
         Ok(text) => match write_all(replies, text.as_slice()) {
             Ok(()) => Ok(text.len()),
-            Err(count) => Err(RunError::ReplyFault {
-                written: written + count,
+            Err(short) => Err(RunError::ReplyFault {
+                written: written + short.written,
             }),
         },
         Err(_) => Err(RunError::NoMemory { line: number }),

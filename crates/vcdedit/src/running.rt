@@ -14,9 +14,8 @@ use crate::run_error::{RunError, Summary};
 use crate::run_lines::run_lines;
 use crate::session::Session;
 use std::alloc::Global;
-use vcd_core::{Capture, Sink, Source};
+use vcd_core::{Capture, Incomplete, Sink, Source, read_whole};
 use vcd_text::reading::FILE_LIMIT;
-use vcd_text::whole::{Incomplete, read_whole};
 use vcd_text::{read, write};
 
 /// The most bytes that a script may have: 1 MiB.

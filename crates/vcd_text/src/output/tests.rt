@@ -1,6 +1,5 @@
-use super::*;
 use crate::narrow_sink::sink_of;
-use vcd_core::ToWrite;
+use vcd_core::{ShortWrite, Sink, ToWrite, write_all, write_and_flush};
 
 const TEXT: &[u8] = b"#0\n$dumpvars\n0!\n$end\n";
 
@@ -28,7 +27,10 @@ fn a_byte_at_a_time(rt: HostRuntime) {
 #[test]
 fn fails_after_ten_bytes(rt: HostRuntime) {
     let mut sink = sink_of(Vec::new(rt.alloc()), 3, 10, false);
-    assert_eq!(rt; write_and_flush(&mut sink, TEXT), Err(10));
+    assert_eq!(rt;
+        write_and_flush(&mut sink, TEXT),
+        Err(ShortWrite { written: 10 })
+    );
     assert!(rt; sink.failed());
     let writer = sink.into_inner();
     assert_eq!(rt; writer.held.as_slice(), b"#0\n$dumpva".as_slice());
@@ -38,7 +40,10 @@ fn fails_after_ten_bytes(rt: HostRuntime) {
 #[test]
 fn fails_in_the_flush(rt: HostRuntime) {
     let mut sink = sink_of(Vec::new(rt.alloc()), 3, 100, true);
-    assert_eq!(rt; write_and_flush(&mut sink, TEXT), Err(21));
+    assert_eq!(rt;
+        write_and_flush(&mut sink, TEXT),
+        Err(ShortWrite { written: 21 })
+    );
     assert!(rt; sink.failed());
     assert_eq!(rt; sink.into_inner().held.as_slice(), TEXT);
 }
@@ -46,7 +51,7 @@ fn fails_in_the_flush(rt: HostRuntime) {
 #[test]
 fn takes_no_byte(rt: HostRuntime) {
     let mut sink = sink_of(Vec::new(rt.alloc()), 0, 100, false);
-    assert_eq!(rt; write_all(&mut sink, TEXT), Err(0));
+    assert_eq!(rt; write_all(&mut sink, TEXT), Err(ShortWrite { written: 0 }));
     assert!(rt; sink.failed());
 }
 

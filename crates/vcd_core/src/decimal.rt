@@ -1,0 +1,47 @@
+//! Decimal numbers, as files, scripts and names write them.
+
+ghost use Rattle.std.specs.Prelude.{◌≡◌, ◌-◌, ◌^◌, min, IsTrue};
+ghost use Rattle.std.specs.List.{list_all};
+ghost use Rattle.std.specs.Char.{is_ascii_digit};
+ghost use Rattle.vcd_core.specs.Decimal.{is_number, number_of, number_up_to};
+
+/// The number that `text` writes in decimal digits, where `most` stands for every greater one; none where it
+/// is no decimal number. There may be any number of digits and of leading zeros.
+///
+/// The time is that of the digits, and no memory is taken.
+pub fn number_up_to(text: &[u8], most: u64) -> Option<u64>
+    ensures { result ≡ number_up_to text.now most }
+{
+    if is_number(text) {
+        Some(number_of(text).min(most))
+    } else {
+        None
+    }
+}
+
+/// Whether a text is a decimal number: one digit or more, and nothing else.
+fn is_number(text: &[u8]) -> bool
+    ensures { result ≡ is_number text.now }
+{
+    !text.is_empty() && are_digits(text)
+}
+
+/// Whether each byte is a decimal digit.
+fn are_digits(text: &[u8]) -> bool
+    ensures { result ≡ list_all is_ascii_digit text.now }
+{
+    text.iter().all(|byte| byte.is_ascii_digit())
+}
+
+/// The number that decimal digits write; `u64::MAX` stands for every greater one.
+fn number_of(digits: &[u8]) -> u64
+    requires { IsTrue (list_all is_ascii_digit digits.now) }
+    ensures { result ≡ min (number_of digits.now) (2 ^ 64 - 1) }
+{
+    let mut number = 0u64;
+    for digit in digits {
+        let value = u64::from(*digit - b'0');
+        number = number.saturating_mul(10).saturating_add(value);
+    }
+    number
+}

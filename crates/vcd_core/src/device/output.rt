@@ -1,0 +1,61 @@
+//! Writing all bytes of a text to a device, with the count of those that it took.
+
+ghost use Rattle.std.specs.Prelude.{◌≡◌, ◌<◌, ◌≤◌, ℕ, false, true, length, take, OnOk, OnErr, IfErr};
+ghost use Rattle.std.specs.Io.KnownBytes.{Appends};
+
+use crate::device::Sink;
+
+/// A sink failed before it had taken all bytes and passed them on: it took the first `written` of them, and no other.
+#[derive(Clone, Copy, Debug, PartialEq, Eq)]
+pub struct ShortWrite {
+    pub written: u128,
+}
+
+/// Writes all of `bytes`, in order. It takes no memory.
+///
+/// An error means that the sink has failed, and says how many of the bytes it took before that: exactly so many
+/// from the front, which is not all of them.
+pub fn write_all<W: Sink>(sink: &mut W, bytes: &[u8]) -> Result<(), ShortWrite>
+    requires ready { W.has_failed sink.old ≡ false }
+    ensures all { OnOk result (Appends (W.taken sink.old) (W.taken sink.new) bytes.now) }
+    ensures sound { OnOk result (W.has_failed sink.new ≡ false) }
+    ensures front { IfErr result (λ short.
+        Appends (W.taken sink.old) (W.taken sink.new) (take short.written bytes.now)) }
+    ensures not_all { IfErr result (λ short. short.written < length bytes.now) }
+    ensures fault { OnErr result (W.has_failed sink.new ≡ true) }
+{
+    let mut written = 0;
+    while written < bytes.len() {
+        match sink.write(&bytes[written..]) {
+            Ok(count) => written += count,
+            Err(_) => {
+                return Err(ShortWrite {
+                    written: written as u128,
+                });
+            }
+        }
+    }
+    Ok(())
+}
+
+/// Writes all of `bytes`, in order, and flushes the sink once behind the last. It takes no memory.
+///
+/// An error means that the sink has failed, and says how many of the bytes it took before that: exactly so many
+/// from the front, all of them where it failed in the flush.
+pub fn write_and_flush<W: Sink>(sink: &mut W, bytes: &[u8]) -> Result<(), ShortWrite>
+    requires ready { W.has_failed sink.old ≡ false }
+    ensures all { OnOk result (Appends (W.taken sink.old) (W.taken sink.new) bytes.now) }
+    ensures sound { OnOk result (W.has_failed sink.new ≡ false) }
+    ensures front { IfErr result (λ short.
+        Appends (W.taken sink.old) (W.taken sink.new) (take short.written bytes.now)) }
+    ensures within { IfErr result (λ short. short.written ≤ length bytes.now) }
+    ensures fault { OnErr result (W.has_failed sink.new ≡ true) }
+{
+    write_all(sink, bytes)?;
+    match sink.flush() {
+        Ok(()) => Ok(()),
+        Err(_) => Err(ShortWrite {
+            written: bytes.len() as u128,
+        }),
+    }
+}
