@@ -1,6 +1,6 @@
 //! A range of ticks cut out.
 
-ghost use Rattle.std.specs.Prelude.{◌≡◌, ◌<◌, ◌≤◌, ◌+◌, ◌-◌, ◌^◌, ℕ, None, IfOk, All, length, map, count_by, nat_lt, IsTrue, ◌↔◌};
+ghost use Rattle.std.specs.Prelude.{◌≡◌, ◌<◌, ◌≤◌, ◌+◌, ◌-◌, ◌^◌, ℕ, None, IfOk, All, length, map, count_by, nat_lt, IsTrue, ◌↔◌, pos, neg_ℤ};
 ghost use Rattle.vcd_core.specs.Contents.{Contents, contents, signal_contents};
 ghost use Rattle.vcd_core.specs.Sound.{IsSound, IsSoundSignal};
 ghost use Rattle.vcd_edit.specs.Effect.{cut_value, signal_after_cut};
@@ -44,7 +44,7 @@ fn cut_pieces(
     requires some { from < to }
     requires small { to ≤ END_LIMIT }
     ensures { (c : Contents) → c.signals ≡ map signal_contents signals.now → IsSound c → to ≤ c.end
-        → IfOk result (λ pieces. LeadEach c (signal_after_cut (c.end - (to - from)) from to) (length c.signals) (map piece_view pieces.items)) }
+        → IfOk result (λ pieces. LeadEach c (neg_ℤ (pos (to - from))) (signal_after_cut (c.end - (to - from)) from to) (length c.signals) (map piece_view pieces.items)) }
 {
     let mut pieces = Vec::new(alloc);
     for (position, signal) in signals.iter().enumerate() {
@@ -77,7 +77,7 @@ pub(crate) fn cut_piece(
     requires small { to ≤ END_LIMIT }
     ensures { (end stop : ℕ) → IsSoundSignal end (signal_contents signal.now)
         → end ≤ stop + (to - from) → from ≤ stop → stop < 2 ^ 64
-        → IfOk result (GivesValues position (signal_contents signal.now) stop (cut_value from to (signal_contents signal.now))) }
+        → IfOk result (GivesValues position (signal_contents signal.now) stop (neg_ℤ (pos (to - from))) (cut_value from to (signal_contents signal.now))) }
 {
     let wave = &signal.wave;
     let mut changes = Vec::new(alloc);
