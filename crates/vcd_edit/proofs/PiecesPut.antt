@@ -1,11 +1,13 @@
 -- What a capture holds after a piece was put into one of its waves.
-use Rattle.std.proofs.Common.{◌≡◌, ◌≢◌, ℕ, ◌<◌, ◌≤◌, List, length, map, get_or, set, slice_index_or, sym, ap, subst, ◌∙◌, inl, inr, arith}
+use Rattle.std.proofs.Common.{◌≡◌, ◌≢◌, refl, suc, ℕ, ◌<◌, ◌≤◌, List, ◌∷◌, ◌++◌, length, take, drop, map, get_or, set, slice_index_or, sym, ap, subst, ◌∙◌, inl, inr, arith}
+use Rattle.std.specs.List.{insert, remove}
 use Rattle.std.proofs.lemmas.Bool.{cases_eq}
-use Rattle.std.proofs.lemmas.List.{map-set, get_or-map, get_or-set_same, get_or-set_other, set-get_or, length-map}
+use Rattle.std.proofs.lemmas.List.{map-set, get_or-map, get_or-set_same, get_or-set_other, set-get_or, length-map, map-append, take-map, drop-map}
 use Rattle.vcd_core.specs.declared.wave.Change.{Change}
 use Rattle.vcd_core.specs.declared.capture.Signal.{Signal}
 use Rattle.vcd_core.specs.WaveView.{WaveView}
 use Rattle.vcd_core.specs.Contents.{SignalContents, signal_contents, no_signal}
+use Rattle.vcd_edit.specs.Effect.{renamed_signal}
 use Rattle.vcd_edit.specs.Back.{signal_with_changes}
 use Rattle.vcd_edit.specs.inside.Exchanges.{room_at}
 
@@ -55,3 +57,21 @@ rooms_grow signals k s w within is more j =
           (omega (arith, get_or-map (λ (t : Signal). t.wave.room) signals k s 0 within, ap (λ (t : Signal). t.wave.room) is, room_there signals k s w within, more))
       | inr other ↦ omega (arith, other_rooms signals k j (record s { wave = w }) other)
     ]
+
+-- ---- a word, and a signal put in or taken out
+
+pub word_written : (signals : List Signal) (k : ℕ) (s : Signal) (word : List ℕ) (words : List (List ℕ)) → k < length signals → s ≡ get_or signals k s → words ≡ word ∷ drop 1 s.words
+    → map signal_contents (set signals k (record s { words = words })) ≡ set (map signal_contents signals) k (renamed_signal word (slice_index_or (map signal_contents signals) k no_signal))
+word_written signals k s word words within is written =
+    map-set signal_contents signals k (record s { words = words })
+    ∙ rw (contents_at signals k s within is, written) refl
+
+pub signal_put : (signals : List Signal) (k : ℕ) (s : Signal) → map signal_contents (insert signals k s) ≡ insert (map signal_contents signals) k (signal_contents s)
+signal_put signals k s =
+    map-append signal_contents (take k signals) (s ∷ drop k signals)
+    ∙ (λ i. sym (take-map signal_contents k signals) i ++ signal_contents s ∷ sym (drop-map signal_contents k signals) i)
+
+pub signal_taken : (signals : List Signal) (k : ℕ) → map signal_contents (remove signals k) ≡ remove (map signal_contents signals) k
+signal_taken signals k =
+    map-append signal_contents (take k signals) (drop (suc k) signals)
+    ∙ (λ i. sym (take-map signal_contents k signals) i ++ sym (drop-map signal_contents (suc k) signals) i)

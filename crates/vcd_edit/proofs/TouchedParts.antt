@@ -5,7 +5,7 @@ use Rattle.std.specs.List.{common_prefix_len}
 use Rattle.std.specs.Ordering.{int_eq}
 use Rattle.std.proofs.lemmas.Bool.{cases_lt, cases_Bool, and_from, and_parts, eq-eqb, eqb-true, cond-true, cond-false}
 use Rattle.std.proofs.lemmas.Bool.Decides.{Decides-int_eq}
-use Rattle.std.proofs.lemmas.List.{append_assoc, reverse-append, reverse-reverse, length-append, length-map, length-reverse, length-drop, drop-append-le, drop_at, append-nil, take-append-drop, get_or-reverse, map-append, map-id}
+use Rattle.std.proofs.lemmas.List.{append_assoc, reverse-append, reverse-reverse, length-append, length-map, length-reverse, length-drop, drop-append-le, take-append-le, take_all, drop_at, append-nil, take-append-drop, get_or-reverse, map-append, map-id}
 use Rattle.std.proofs.lemmas.List.Sums.{common_prefix_len-le}
 use Rattle.std.proofs.lemmas.List.Elements.{All-nil, All-cons, All-head, All-tail}
 use Rattle.std.proofs.lemmas.Int.{ints}
@@ -20,7 +20,7 @@ use Rattle.vcd_edit.specs.Touched.{same_change, same_lowered, common_suffix_lowe
 same_letters_self : (c : Change) → same_letters c.value c.value ≡ true
 same_letters_self c = (same_letters-Decides c.value c.value).1 refl
 
-same_change_self : (c : Change) → same_change c c ≡ true
+pub same_change_self : (c : Change) → same_change c c ≡ true
 same_change_self c = and_from (c.tick == c.tick) (same_letters c.value c.value) (eq-eqb c.tick c.tick refl) (same_letters_self c)
 
 same_change_is : (c d : Change) → same_change c d ≡ true → c ≡ d
@@ -118,12 +118,16 @@ module _ {X : Type 0} where
       ap (drop (length xs - n)) parts
       ∙ drop_at (reverse (drop n back)) (reverse (take n back)) (length xs - n) (omega (arith, length-reverse (drop n back), length-drop n back, length-reverse xs))
 
-  map-reverse : {Y : Type 0} (h : X → Y) (xs : List X) → map h (reverse xs) ≡ reverse (map h xs)
+  -- what a slice leaves in its list, where it is the whole list
+  pub whole_list : (n : ℕ) (new old : List X) → n ≡ length new → take n (new ++ drop (length new) old) ≡ new
+  whole_list n new old all = take-append-le n new (drop (length new) old) (omega arith) ∙ take_all n new (omega arith)
+
+  pub map-reverse : {Y : Type 0} (h : X → Y) (xs : List X) → map h (reverse xs) ≡ reverse (map h xs)
   map-reverse h [] = refl
   map-reverse h (x ∷ xs) =
       ap (map h) (reverse-append (x ∷ []) xs) ∙ map-append h (reverse xs) (x ∷ []) ∙ ap (λ l. l ++ h x ∷ []) (map-reverse h xs) ∙ sym (reverse-append (h x ∷ []) (map h xs))
 
-  All-reverse : (P : X → Type 0) (xs : List X) → All P xs → All P (reverse xs)
+  pub All-reverse : (P : X → Type 0) (xs : List X) → All P xs → All P (reverse xs)
   All-reverse P xs all = λ k d within.
       let long : k < length xs = omega (arith, within, length-reverse xs) in
       subst P (sym (get_or-reverse xs k d long)) (all (length xs - 1 - k) d (omega arith))

@@ -68,14 +68,14 @@ abbrev pub WordFits : Contents → Option (ℕ × List ℕ) → Type 0
 WordFits c None = Unit {0}
 WordFits c (Some w) = w.0 < length c.signals
 
--- a signal to take out is one of the capture, and one to put in stands at most behind the last
+-- a signal to put in stands at most behind the last one, and one to take out is one of them
+abbrev pub MayMoveSignal : Contents → ℕ → Option SignalContents → Type 0
+MayMoveSignal c k (Some s) = k ≤ length c.signals
+MayMoveSignal c k None = k < length c.signals
+
 abbrev pub MovedSignalFits : Contents → Option (ℕ × Option SignalContents) → Type 0
 MovedSignalFits c None = Unit {0}
-MovedSignalFits c (Some m) = StandsIn m.1
-  where
-    StandsIn : Option SignalContents → Type 0
-    StandsIn (Some s) = m.0 ≤ length c.signals
-    StandsIn None = m.0 < length c.signals
+MovedSignalFits c (Some m) = MayMoveSignal c m.0 m.1
 
 -- each part of the record stands within the capture, and what it makes of it is sound
 pub record Fits (r : RecordView) (c : Contents) : Type 0 where

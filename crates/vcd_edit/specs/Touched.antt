@@ -60,31 +60,31 @@ unfoldable pub piece_offset : List PieceView → ℕ → ℤ
 piece_offset [] k = pos 0
 piece_offset (p ∷ ps) k = if p.signal == k then neg_ℤ p.by else piece_offset ps k
 
-abbrev pub record_pairing : RecordView → Pairing
-record_pairing r = of_moved r.signal
-  where
-    of_moved : Option (ℕ × Option SignalContents) → Pairing
-    of_moved None = stays
-    of_moved (Some m) = of_kind m.0 m.1
-      where
-        of_kind : ℕ → Option SignalContents → Pairing
-        of_kind k (Some s) = puts_in k
-        of_kind k None = takes_out k
+-- the step that puts a signal in at a position, or takes the one there out
+abbrev pub pairing_of_move : ℕ → Option SignalContents → Pairing
+pairing_of_move k (Some s) = puts_in k
+pairing_of_move k None = takes_out k
+
+abbrev pub record_pairing : Option (ℕ × Option SignalContents) → Pairing
+record_pairing None = stays
+record_pairing (Some m) = pairing_of_move m.0 m.1
 
 -- the sum over all signals
 abbrev pub touched_by_record : RecordView → Contents → ℕ
-touched_by_record r c = touched_from (piece_offset r.pieces) 0 c.signals (partners (record_pairing r) (back r c).signals)
+touched_by_record r c = touched_from (piece_offset r.pieces) 0 c.signals (partners (record_pairing r.signal) (back r c).signals)
 
 -- ---- what a record stores
 
-abbrev pub moved_changes : Option (ℕ × Option SignalContents) → ℕ
-moved_changes None = 0
-moved_changes (Some m) = of_signal m.1
-  where
-    of_signal : Option SignalContents → ℕ
-    of_signal None = 0
-    of_signal (Some s) = length s.changes
+-- how many changes a signal has, if there is one
+abbrev pub change_count : Option SignalContents → ℕ
+change_count None = 0
+change_count (Some s) = length s.changes
+
+-- how many are in a signal to put in
+abbrev pub moved_change_count : Option (ℕ × Option SignalContents) → ℕ
+moved_change_count None = 0
+moved_change_count (Some m) = change_count m.1
 
 -- the changes in its pieces and in a signal to put in
 abbrev pub stored_changes : RecordView → ℕ
-stored_changes r = sum_by (λ p. length p.changes) r.pieces + moved_changes r.signal
+stored_changes r = sum_by (λ p. length p.changes) r.pieces + moved_change_count r.signal

@@ -4,3 +4,4 @@ pub mod Plans
 pub mod Records
 pub mod Trims
 pub mod Exchanges
+pub mod Opposites

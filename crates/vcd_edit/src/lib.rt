@@ -11,9 +11,11 @@ mod fault;
 mod laws;
 mod pieces;
 mod record;
+mod reverting;
 
 pub use checking::check;
 pub use edit::{Edit, Rule};
 pub use fault::EditError;
 pub use laws::effect_is_sound;
 pub use record::{Piece, Record};
+pub use reverting::Kept;

@@ -3,3 +3,6 @@
 mod growth;
 mod splicing;
 mod trimming;
+
+pub(crate) use growth::reserve_all;
+pub(crate) use splicing::put_pieces;

@@ -1,3 +1,8 @@
+ghost use Rattle.std.specs.Prelude.{◌≡◌, ℕ, ◌^◌, ◌<◌, length};
+ghost use Rattle.std.specs.List.{sum_by};
+ghost use Rattle.vcd_edit.specs.Touched.{moved_change_count};
+ghost use Rattle.vcd_edit.specs.inside.Records.{moved_signal_view};
+
 use std::marker::Model;
 use vcd_core::{Change, Signal};
 
@@ -35,4 +40,37 @@ impl Model for Record {
     ghost view = { λ r. record_view r.pieces.items r.word r.signal r.other_end };
 
     ghost invariant = { λ r. IsOneStep (record_view r.pieces.items r.word r.signal r.other_end) };
+}
+
+impl Record {
+    ghost use Rattle.std.specs.Prelude.{◌≡◌};
+    ghost use Rattle.vcd_edit.specs.Touched.{stored_changes};
+
+    /// How many changes the record holds, in its pieces and in a signal to put in. It takes no memory.
+    pub fn stored(&self) -> u128
+        ensures { result ≡ stored_changes self.now }
+    {
+        count_in_pieces(self.pieces.as_slice()) + count_in_signal(&self.signal)
+    }
+}
+
+fn count_in_pieces(pieces: &[Piece]) -> u128
+    ensures count { result ≡ sum_by (λ p. length p.changes.items) pieces.now }
+    ensures most { result < 2 ^ 127 }
+{
+    let mut count = 0;
+    for piece in pieces {
+        count += piece.changes.as_slice().len() as u128;
+    }
+    count
+}
+
+fn count_in_signal(signal: &Option<(usize, Option<Signal>)>) -> u128
+    ensures count { result ≡ moved_change_count (moved_signal_view signal.now) }
+    ensures most { result < 2 ^ 64 }
+{
+    match signal {
+        Some((_, Some(signal))) => signal.wave.changes().len() as u128,
+        _ => 0,
+    }
 }

@@ -1,6 +1,6 @@
 //! The room that pieces and waves need to change places.
 
-ghost use Rattle.std.specs.Prelude.{◌≡◌, ℕ, ◌<◌, ◌≤◌, All, OnOk, map, length};
+ghost use Rattle.std.specs.Prelude.{◌≡◌, ℕ, ◌<◌, ◌≤◌, [], All, IsOk, OnOk, map, length};
 ghost use Rattle.vcd_core.specs.Contents.{contents};
 ghost use Rattle.vcd_edit.specs.inside.Records.{piece_view};
 ghost use Rattle.vcd_edit.specs.inside.Exchanges.{room_at, HasRoom};
@@ -43,6 +43,7 @@ pub(crate) fn reserve_all(capture: &mut Capture, pieces: &mut [Piece]) -> Result
     ensures contents { contents capture.new ≡ contents capture.old }
     ensures pieces { map piece_view pieces.new ≡ map piece_view pieces.old }
     ensures room { OnOk result (All (HasRoom capture.new.signals) pieces.new) }
+    ensures never { pieces.old ≡ [] → IsOk result }
 {
     for piece in pieces.iter_mut() {
         reserve_one(capture, piece)?;

@@ -1,9 +1,10 @@
 //! How a piece and a part of a wave change places.
 
-ghost use Rattle.std.specs.Prelude.{◌≡◌, ◌≢◌, ℕ, ◌+◌, ◌-◌, ◌<◌, ◌≤◌, All, pos, ◌+ℤ◌, map, length, vec_len, vec_capacity};
+ghost use Rattle.std.specs.Prelude.{◌≡◌, ◌≢◌, ℕ, ◌+◌, ◌-◌, ◌<◌, ◌≤◌, All, pos, ◌+ℤ◌, List, map, reverse, length, vec_len, vec_capacity};
 ghost use Rattle.std.specs.Int.{w64, FitsUnsigned};
 ghost use Rattle.vcd_core.specs.declared.capture.TheConstants.{END_LIMIT};
 ghost use Rattle.vcd_core.specs.Contents.{contents, signal_at};
+ghost use Rattle.vcd_edit.specs.RecordView.{PieceView};
 ghost use Rattle.vcd_edit.specs.Back.{changes_with_piece, with_piece, with_pieces, AreApart};
 ghost use Rattle.vcd_edit.specs.inside.Records.{piece_view};
 ghost use Rattle.vcd_edit.specs.inside.Exchanges.{PieceReady, PieceReadyIn, LeadsBack, LeadBack, room_at, HasRoom};
@@ -52,7 +53,7 @@ fn put_one(capture: &mut Capture, piece: &mut Piece)
 
 /// All pieces and their parts of the capture change places, one after another, and the pieces then lead
 /// back.
-pub(crate) fn put_all(capture: &mut Capture, pieces: &mut [Piece])
+fn put_all(capture: &mut Capture, pieces: &mut [Piece])
     requires ready { All (PieceReadyIn (contents capture.old)) (map piece_view pieces.old) }
     requires apart { AreApart (map piece_view pieces.old) }
     requires room { All (HasRoom capture.old.signals) pieces.old }
@@ -62,4 +63,17 @@ pub(crate) fn put_all(capture: &mut Capture, pieces: &mut [Piece])
     for piece in pieces.iter_mut() {
         put_one(capture, piece);
     }
+}
+
+/// The same for a list of pieces, which are then listed the other way round, so that they lead back in turn.
+pub(crate) fn put_pieces(capture: &mut Capture, pieces: &mut Vec<Piece>)
+    requires ready { All (PieceReadyIn (contents capture.old)) (map piece_view pieces.old.items) }
+    requires apart { AreApart (map piece_view pieces.old.items) }
+    requires room { All (HasRoom capture.old.signals) pieces.old.items }
+    ensures there { contents capture.new ≡ with_pieces (contents capture.old) (map piece_view pieces.old.items) }
+    ensures back { (qs : List PieceView) × (map piece_view pieces.new.items ≡ reverse qs)
+        × LeadBack (contents capture.old) (map piece_view pieces.old.items) qs }
+{
+    put_all(capture, pieces.as_mut_slice());
+    pieces.reverse();
 }
