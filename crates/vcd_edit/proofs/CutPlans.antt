@@ -62,7 +62,7 @@ unfolding back effect
 cut_plan c from to ps sound none lead =
     is_plan (Cut from to) c (record { pieces = ps; word = None; signal = None; other_end = Some (c.end - (to - from)) }) sound none
     (ap (λ (d : Contents). record d { end = c.end - (to - from) }) (lead_all c (neg_ℤ (pos (to - from))) (signal_after_cut (c.end - (to - from)) from to) ps lead))
-    lead.fit tt tt (λ k d less. opposite from to (cut_ticks from to c none).0 ∙ ap neg_ℤ (sym (lead.moves k d less)))
+    lead.fit tt tt (λ k d less. opposite from to (cut_ticks from to c none).0 ∙ ap neg_ℤ (sym (lead.moves k d less))) refl
   where
     opposite : (from to : ℕ) → from < to → pos to -ℤ pos from ≡ neg_ℤ (neg_ℤ (pos (to - from)))
     opposite from to some = omega (arith, ints)

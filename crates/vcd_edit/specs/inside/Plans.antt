@@ -6,7 +6,8 @@ use Rattle.vcd_edit.specs.declared.edit.Edit.{Edit}
 use Rattle.vcd_edit.specs.declared.record.Piece.{Piece}
 use Rattle.vcd_edit.specs.RecordView.{PieceView, RecordView}
 use Rattle.vcd_edit.specs.Effect.{effect}
-use Rattle.vcd_edit.specs.TouchedByEdit.{edit_offset}
+use Rattle.vcd_edit.specs.Touched.{record_pairing}
+use Rattle.vcd_edit.specs.TouchedByEdit.{edit_offset, edit_pairing}
 use Rattle.vcd_edit.specs.Back.{with_pieces, back, PieceFits, Fits, AreApart}
 use Rattle.vcd_edit.specs.inside.Ranges.{LeadsTo}
 use Rattle.vcd_edit.specs.inside.Records.{piece_view}
@@ -16,6 +17,7 @@ pub record IsPlan (e : Edit) (c : Contents) (r : RecordView) : Type 0 where
   pub fits : Fits r c
   pub leads : back r c ≡ effect e c
   pub offset : All (λ p. edit_offset e ≡ neg_ℤ p.by) r.pieces
+  pub pairing : record_pairing r.signal ≡ edit_pairing e c
 
 -- the piece of the signal at a position, which gives it the values of a function up to an end, with an offset
 pub record GivesValues (k : ℕ) (s : SignalContents) (end : ℕ) (by : ℤ) (f : ℕ → List Bit) (p : Piece) : Type 0 where

@@ -15,12 +15,7 @@ use std::alloc::Global;
 use vcd_core::{Capture, END_LIMIT, NoMemory, Signal, Wave};
 
 /// The record of a piece for each signal that has changes from the first tick on that is cut out.
-pub(crate) fn plan(
-    alloc: Global,
-    capture: &Capture,
-    from: u64,
-    to: u64,
-) -> Result<Record, NoMemory>
+pub(crate) fn plan(alloc: Global, capture: &Capture, from: u64, to: u64) -> Result<Record, NoMemory>
     requires sound { IsSound (contents capture.now) }
     requires allowed { fault (edits.Cut from to) (contents capture.now) ≡ None }
     ensures { IfOk result (IsPlan (edits.Cut from to) (contents capture.now)) }
@@ -35,12 +30,7 @@ pub(crate) fn plan(
 }
 
 /// The pieces of the signals with changes from `from` on.
-fn cut_pieces(
-    alloc: Global,
-    signals: &[Signal],
-    from: u64,
-    to: u64,
-) -> Result<Vec<Piece>, NoMemory>
+fn cut_pieces(alloc: Global, signals: &[Signal], from: u64, to: u64) -> Result<Vec<Piece>, NoMemory>
     requires some { from < to }
     requires small { to ≤ END_LIMIT }
     ensures { (c : Contents) → c.signals ≡ map signal_contents signals.now → IsSound c → to ≤ c.end
