@@ -32,7 +32,7 @@ apart_more (q ∷ ps) p (none, apart) below =
     (none_more q.signal ps p none (λ same. absurd (omega (arith, first, same))), apart_more ps p apart (All-tail (λ (q : PieceView). q.signal < p.signal) q ps below))
 
 -- an element that has not been reached yet
-element_here : {X : Type 0} (f : X → X) (xs ys : List X) (i : ℕ) (d : X) → i < length xs → ys ≡ map f (take i xs) ++ drop i xs → get_or ys i d ≡ get_or xs i d
+pub element_here : {X : Type 0} (f : X → X) (xs ys : List X) (i : ℕ) (d : X) → i < length xs → ys ≡ map f (take i xs) ++ drop i xs → get_or ys i d ≡ get_or xs i d
 element_here f xs ys i d within is =
     ap (λ l. get_or l i d) is
     ∙ get_or-append_right (map f (take i xs)) (drop i xs) i i d (length-map (take i xs) f ∙ length-take-le i xs (omega arith)) (omega arith)
