@@ -20,7 +20,7 @@ rise_lower width low high [] le rise = tt
 rise_lower width low high (c ∷ cs) le (from, wide, rest) = (omega arith, wide, rest)
 
 -- before the first change the value is the one before the list
-early_value : (width : ℕ) (v : List Bit) (cs : List Change) (floor t : ℕ) → TicksRise width floor cs → t < floor → value_from v cs t ≡ v
+pub early_value : (width : ℕ) (v : List Bit) (cs : List Change) (floor t : ℕ) → TicksRise width floor cs → t < floor → value_from v cs t ≡ v
 unfolding value_from
 early_value width v [] floor t rise early = refl
 early_value width v (c ∷ cs) floor t (from, wide, rest) early =

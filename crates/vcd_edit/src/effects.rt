@@ -7,6 +7,7 @@ ghost use Rattle.vcd_edit.specs.Allowed.{fault};
 ghost use Rattle.vcd_edit.specs.inside.Plans.{IsPlan};
 
 mod cut;
+mod deglitch;
 mod force;
 mod invert;
 mod making;
