@@ -1,5 +1,5 @@
 -- Pieces for several signals, one after another.
-use Rattle.std.proofs.Common.{◌≡◌, ◌≢◌, ℕ, zero, suc, ◌+◌, ◌-◌, ◌<◌, ◌≤◌, List, [], ◌∷◌, ◌++◌, length, map, take, drop, get_or, set, All, refl, sym, ap, subst, ◌∙◌, arith}
+use Rattle.std.proofs.Common.{◌≡◌, ◌≢◌, ℕ, zero, suc, ◌+◌, ◌-◌, ◌<◌, ◌≤◌, ℤ, List, [], ◌∷◌, ◌++◌, length, map, take, drop, get_or, set, All, refl, sym, ap, subst, ◌∙◌, arith}
 use Rattle.std.proofs.lemmas.List.{set-get_or, length-map, length-take-le, get_or-append_right, get_or-drop, take_all, drop_all, append-nil}
 use Rattle.std.proofs.lemmas.List.Edits.{map_over_more}
 use Rattle.std.proofs.lemmas.List.Elements.{All-nil, All-cons, All-push, All-head, All-tail}
@@ -32,14 +32,14 @@ apart_more (q ∷ ps) p (none, apart) below =
     (none_more q.signal ps p none (λ same. absurd (omega (arith, first, same))), apart_more ps p apart (All-tail (λ (q : PieceView). q.signal < p.signal) q ps below))
 
 -- an element that has not been reached yet
-element_here : {X : Type 0} (f : X → X) (xs ys : List X) (i : ℕ) (d : X) → i < length xs → ys ≡ map f (take i xs) ++ drop i xs → get_or ys i d ≡ get_or xs i d
+pub element_here : {X : Type 0} (f : X → X) (xs ys : List X) (i : ℕ) (d : X) → i < length xs → ys ≡ map f (take i xs) ++ drop i xs → get_or ys i d ≡ get_or xs i d
 element_here f xs ys i d within is =
     ap (λ l. get_or l i d) is
     ∙ get_or-append_right (map f (take i xs)) (drop i xs) i i d (length-map (take i xs) f ∙ length-take-le i xs (omega arith)) (omega arith)
     ∙ get_or-drop i xs (i - i) d
     ∙ ap (λ k. get_or xs k d) {x = i + (i - i)} {y = i} (omega arith)
 
-module _ (c : Contents) (g : SignalContents → SignalContents) (n : ℕ) (ps : List PieceView) (lead : LeadEach c g n ps) (within : n < length c.signals) where
+module _ (c : Contents) (g : SignalContents → SignalContents) (n : ℕ) (by : ℤ) (ps : List PieceView) (lead : LeadEach c by g n ps) (within : n < length c.signals) where
   abbrev reached : List SignalContents
   reached = map g (take n c.signals) ++ drop n c.signals
 
@@ -58,12 +58,13 @@ module _ (c : Contents) (g : SignalContents → SignalContents) (n : ℕ) (ps : 
   still_below = λ k d less. omega (arith, lead.below k d less)
 
   -- a signal that stays as it is needs no piece
-  pub lead_without : (s : SignalContents) → signal_at c n ≡ s → g s ≡ s → LeadEach c g (n + 1) ps
+  pub lead_without : (s : SignalContents) → signal_at c n ≡ s → g s ≡ s → LeadEach c by g (n + 1) ps
   lead_without s is same = record {
     led = lead.led ∙ ap (λ (ss : List SignalContents). record c { signals = ss }) (sym unchanged ∙ more);
     fit = lead.fit;
     below = still_below;
     apart = lead.apart;
+    moves = lead.moves;
   }
     where
       unchanged : set reached n (g (signal_at c n)) ≡ reached
@@ -73,9 +74,9 @@ module _ (c : Contents) (g : SignalContents → SignalContents) (n : ℕ) (ps : 
           set_same ss k = set-get_or ss k no_signal
 
   -- a signal with a piece
-  pub lead_with : (s : SignalContents) (p : PieceView) (end : ℕ) (f : ℕ → List Bit) → signal_at c n ≡ s → p.signal ≡ n → g s ≡ with_values end f s → LeadsTo p s.changes s.width end f
-      → LeadEach c g (n + 1) (ps ++ p ∷ [])
-  lead_with s p end f is at_n given gives = record {
+  pub lead_with : (s : SignalContents) (p : PieceView) (end : ℕ) (f : ℕ → List Bit) → signal_at c n ≡ s → p.signal ≡ n → g s ≡ with_values end f s → LeadsTo p s.changes s.width end f → p.by ≡ by
+      → LeadEach c by g (n + 1) (ps ++ p ∷ [])
+  lead_with s p end f is at_n given gives moves = record {
     led = with_pieces-push c ps p ∙ ap (λ (d : Contents). with_piece d p) lead.led ∙ ap (λ (ss : List SignalContents). record c { signals = ss }) (written ∙ more);
     fit = All-push (PieceFits c) ps p lead.fit (record {
       signal = omega (arith, at_n, within);
@@ -85,6 +86,7 @@ module _ (c : Contents) (g : SignalContents → SignalContents) (n : ℕ) (ps : 
     });
     below = All-push (λ (q : PieceView). q.signal < n + 1) ps p still_below (omega (arith, at_n));
     apart = apart_more ps p lead.apart (λ k d less. omega (arith, lead.below k d less, at_n));
+    moves = All-push (λ (q : PieceView). q.by ≡ by) ps p lead.moves moves;
   }
     where
       there : signal_at c p.signal ≡ s
@@ -98,13 +100,13 @@ module _ (c : Contents) (g : SignalContents → SignalContents) (n : ℕ) (ps : 
           ∙ ap (set reached n) (sym given ∙ ap g (sym is))
 
 -- no signal yet
-pub lead_none : (c : Contents) (g : SignalContents → SignalContents) (ps : List PieceView) → ps ≡ [] → LeadEach c g 0 ps
+pub lead_none : (c : Contents) (by : ℤ) (g : SignalContents → SignalContents) (ps : List PieceView) → ps ≡ [] → LeadEach c by g 0 ps
 unfolding with_pieces
-lead_none c g ps empty =
-    subst (LeadEach c g 0) (sym empty) (record { led = refl; fit = All-nil (PieceFits c); below = All-nil (λ (p : PieceView). p.signal < 0); apart = tt })
+lead_none c by g ps empty =
+    subst (LeadEach c by g 0) (sym empty) (record { led = refl; fit = All-nil (PieceFits c); below = All-nil (λ (p : PieceView). p.signal < 0); apart = tt; moves = All-nil (λ (p : PieceView). p.by ≡ by) })
 
 -- all signals
-pub lead_all : (c : Contents) (g : SignalContents → SignalContents) (ps : List PieceView) → LeadEach c g (length c.signals) ps → with_pieces c ps ≡ record c { signals = map g c.signals }
-lead_all c g ps lead =
+pub lead_all : (c : Contents) (by : ℤ) (g : SignalContents → SignalContents) (ps : List PieceView) → LeadEach c by g (length c.signals) ps → with_pieces c ps ≡ record c { signals = map g c.signals }
+lead_all c by g ps lead =
     lead.led ∙ ap (λ (ss : List SignalContents). record c { signals = ss })
     ((λ i. map g (take_all (length c.signals) c.signals (omega arith) i) ++ drop_all (length c.signals) c.signals (omega arith) i) ∙ append-nil (map g c.signals))

@@ -38,10 +38,10 @@ pub leads_same : (p : PieceView) (cs : List Change) (width end : ℕ) (f g : ℕ
 leads_same p cs width end f g same leads = record { ordered = leads.ordered; within = leads.within; ticks = leads.ticks; is = leads.is ∙ changes_same width end f g same }
 
 -- the same of the piece of a signal
-pub gives_same : (made : Result Piece NoMemory) (k : ℕ) (s : SignalContents) (end : ℕ) (f g : ℕ → List Bit) → ((t : ℕ) → f t ≡ g t) → IfOk made (GivesValues k s end f) → IfOk made (GivesValues k s end g)
-gives_same made k s end f g same =
-    at_ok made (GivesValues k s end f) (GivesValues k s end g)
-    (λ p gives. record { signal = gives.signal; leads = leads_same (piece_view p) s.changes s.width end f g (λ t to. same t) gives.leads })
+pub gives_same : (made : Result Piece NoMemory) (k : ℕ) (s : SignalContents) (end : ℕ) (at by : ℤ) (f g : ℕ → List Bit) → at ≡ by → ((t : ℕ) → f t ≡ g t) → IfOk made (GivesValues k s end at f) → IfOk made (GivesValues k s end by g)
+gives_same made k s end at by f g moves same =
+    at_ok made (GivesValues k s end at f) (GivesValues k s end by g)
+    (λ p gives. record { signal = gives.signal; moves = gives.moves ∙ moves; leads = leads_same (piece_view p) s.changes s.width end f g (λ t to. same t) gives.leads })
 
 -- ---- copies of changes
 

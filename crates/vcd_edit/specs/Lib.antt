@@ -6,4 +6,5 @@ pub mod Laws
 pub mod RecordView
 pub mod Back
 pub mod Touched
+pub mod TouchedByEdit
 pub mod inside

@@ -7,8 +7,11 @@ ghost use Rattle.vcd_edit.specs.Allowed.{fault};
 ghost use Rattle.vcd_edit.specs.inside.Plans.{IsPlan};
 
 mod cut;
+mod deglitch;
 mod force;
+mod invert;
 mod making;
+mod operators;
 mod remove;
 mod rename;
 mod shift;
@@ -27,6 +30,7 @@ pub(crate) fn plan(alloc: Global, capture: &Capture, edit: &Edit) -> Result<Reco
     match *edit {
         Edit::Rename { signal, word } => rename::plan(alloc, capture, signal, word),
         Edit::Remove { signal } => Ok(remove::plan(alloc, capture, signal)),
+        Edit::Invert { signal } => invert::plan(alloc, capture, signal),
         Edit::Shift { signal, by } => shift::plan(alloc, capture, signal, by),
         Edit::Cut { from, to } => cut::plan(alloc, capture, from, to),
         Edit::Force {

@@ -4,6 +4,7 @@
 //! leads back, and that holds the touched changes alone.
 #![tactic(auto)]
 
+mod applying;
 mod checking;
 mod edit;
 mod effects;
@@ -13,6 +14,7 @@ mod pieces;
 mod record;
 mod reverting;
 
+pub use applying::apply;
 pub use checking::check;
 pub use edit::{Edit, Rule};
 pub use fault::EditError;

@@ -1,6 +1,6 @@
 //! A range of ticks cut out.
 
-ghost use Rattle.std.specs.Prelude.{◌≡◌, ◌<◌, ◌≤◌, ◌+◌, ◌-◌, ◌^◌, ℕ, None, IfOk, All, length, map, count_by, nat_lt, IsTrue, ◌↔◌};
+ghost use Rattle.std.specs.Prelude.{◌≡◌, ◌<◌, ◌≤◌, ◌+◌, ◌-◌, ◌^◌, ℕ, None, IfOk, All, length, map, count_by, nat_lt, IsTrue, ◌↔◌, pos, neg_ℤ};
 ghost use Rattle.vcd_core.specs.Contents.{Contents, contents, signal_contents};
 ghost use Rattle.vcd_core.specs.Sound.{IsSound, IsSoundSignal};
 ghost use Rattle.vcd_edit.specs.Effect.{cut_value, signal_after_cut};
@@ -15,12 +15,7 @@ use std::alloc::Global;
 use vcd_core::{Capture, END_LIMIT, NoMemory, Signal, Wave};
 
 /// The record of a piece for each signal that has changes from the first tick on that is cut out.
-pub(crate) fn plan(
-    alloc: Global,
-    capture: &Capture,
-    from: u64,
-    to: u64,
-) -> Result<Record, NoMemory>
+pub(crate) fn plan(alloc: Global, capture: &Capture, from: u64, to: u64) -> Result<Record, NoMemory>
     requires sound { IsSound (contents capture.now) }
     requires allowed { fault (edits.Cut from to) (contents capture.now) ≡ None }
     ensures { IfOk result (IsPlan (edits.Cut from to) (contents capture.now)) }
@@ -35,16 +30,11 @@ pub(crate) fn plan(
 }
 
 /// The pieces of the signals with changes from `from` on.
-fn cut_pieces(
-    alloc: Global,
-    signals: &[Signal],
-    from: u64,
-    to: u64,
-) -> Result<Vec<Piece>, NoMemory>
+fn cut_pieces(alloc: Global, signals: &[Signal], from: u64, to: u64) -> Result<Vec<Piece>, NoMemory>
     requires some { from < to }
     requires small { to ≤ END_LIMIT }
     ensures { (c : Contents) → c.signals ≡ map signal_contents signals.now → IsSound c → to ≤ c.end
-        → IfOk result (λ pieces. LeadEach c (signal_after_cut (c.end - (to - from)) from to) (length c.signals) (map piece_view pieces.items)) }
+        → IfOk result (λ pieces. LeadEach c (neg_ℤ (pos (to - from))) (signal_after_cut (c.end - (to - from)) from to) (length c.signals) (map piece_view pieces.items)) }
 {
     let mut pieces = Vec::new(alloc);
     for (position, signal) in signals.iter().enumerate() {
@@ -77,7 +67,7 @@ pub(crate) fn cut_piece(
     requires small { to ≤ END_LIMIT }
     ensures { (end stop : ℕ) → IsSoundSignal end (signal_contents signal.now)
         → end ≤ stop + (to - from) → from ≤ stop → stop < 2 ^ 64
-        → IfOk result (GivesValues position (signal_contents signal.now) stop (cut_value from to (signal_contents signal.now))) }
+        → IfOk result (GivesValues position (signal_contents signal.now) stop (neg_ℤ (pos (to - from))) (cut_value from to (signal_contents signal.now))) }
 {
     let wave = &signal.wave;
     let mut changes = Vec::new(alloc);

@@ -1,6 +1,6 @@
 //! One value at a range of ticks.
 
-ghost use Rattle.std.specs.Prelude.{◌≡◌, ◌<◌, ◌≤◌, ◌+◌, None, IfOk, length};
+ghost use Rattle.std.specs.Prelude.{◌≡◌, ◌<◌, ◌≤◌, ◌+◌, None, IfOk, length, pos};
 ghost use Rattle.vcd_core.specs.Contents.{contents, signal_contents};
 ghost use Rattle.vcd_core.specs.Sound.{IsSound, IsSoundSignal};
 ghost use Rattle.vcd_edit.specs.Effect.{force_value};
@@ -45,7 +45,7 @@ fn forced(
     requires end { end ≤ END_LIMIT }
     requires some { from < to }
     requires within { to ≤ end + 1 }
-    ensures { IfOk result (GivesValues position (signal_contents signal.now) end
+    ensures { IfOk result (GivesValues position (signal_contents signal.now) end (pos 0)
         (force_value from to value (signal_contents signal.now))) }
 {
     let wave = &signal.wave;

@@ -3,7 +3,7 @@
 ghost use Rattle.std.specs.Prelude.{◌≡◌, ◌++◌, ◌∷◌, [], None, OnOk, IfOk, Some, false, ◌<◌, length, count_by, nat_lt, ◌≤◌, pos, neg_ℤ};
 ghost use Rattle.vcd_core.specs.Contents.{contents, signal_contents, signal_at};
 ghost use Rattle.vcd_core.specs.Sound.{IsSound, IsSoundSignal};
-ghost use Rattle.vcd_core.specs.Value.{same_letters};
+ghost use Rattle.vcd_core.specs.Value.{all_x, same_letters};
 ghost use Rattle.vcd_core.specs.Wave.{change, unless_same, value_at};
 ghost use Rattle.vcd_edit.specs.Allowed.{is_no_signal};
 ghost use Rattle.vcd_edit.specs.inside.Records.{piece_view};
@@ -29,7 +29,7 @@ pub(crate) fn value_before(wave: &Wave, tick: u64) -> Value
     ensures { result ≡ value_just_before wave.now.width (value_at wave.now.width wave.now.changes) tick }
 {
     if tick == 0 {
-        return Value::filled(wave.width(), Bit::X);
+        return x_value(wave);
     }
     wave.at(tick - 1)
 }
@@ -82,6 +82,32 @@ pub(crate) fn earlier(ticks: u64) -> i64
     ensures { result ≡ neg_ℤ (pos ticks) }
 {
     -(ticks as i64)
+}
+
+/// The value that is x in every bit, with the width of a wave.
+pub(crate) fn x_value(wave: &Wave) -> Value
+    ensures { result ≡ all_x wave.now.width }
+{
+    Value::filled(wave.width(), Bit::X)
+}
+
+/// The piece that takes the place of all changes.
+pub(crate) fn whole_piece(wave: &Wave, position: usize, changes: Vec<Change>) -> Piece
+    ensures { piece_view result ≡ record {
+      signal = position;
+      from = 0;
+      to = length wave.now.changes;
+      changes = changes.items;
+      by = pos 0;
+    } }
+{
+    Piece {
+        signal: position,
+        from: 0,
+        to: wave.changes().len(),
+        changes,
+        by: 0,
+    }
 }
 
 /// The record of one piece and nothing else.

@@ -1,6 +1,6 @@
 //! A signal that comes later, or earlier.
 
-ghost use Rattle.std.specs.Prelude.{◌≡◌, ◌<◌, ◌≤◌, ◌+◌, ◌^◌, ℕ, ℤ, pos, neg_ℤ, List, None, IfOk, All, length, map};
+ghost use Rattle.std.specs.Prelude.{◌≡◌, ◌<◌, ◌≤◌, ◌+◌, ◌^◌, ℕ, ℤ, pos, ◌<ℤ◌, ◌≤ℤ◌, List, None, IfOk, All, length, map};
 ghost use Rattle.vcd_core.specs.declared.bit.Bit.{Bit};
 ghost use Rattle.vcd_core.specs.Contents.{contents, signal_contents};
 ghost use Rattle.vcd_core.specs.Sound.{IsSound, IsSoundSignal};
@@ -42,53 +42,56 @@ fn shifted(
 ) -> Result<Piece, NoMemory>
     requires sound { IsSoundSignal end (signal_contents signal.now) }
     requires end { end ≤ END_LIMIT }
-    ensures { IfOk result (GivesValues position (signal_contents signal.now) end
+    ensures { IfOk result (GivesValues position (signal_contents signal.now) end by
         (shift_value end by (signal_contents signal.now))) }
 {
-    let ticks = by.unsigned_abs();
     if by < 0 {
-        return come_earlier(alloc, signal, position, end, ticks);
+        return come_earlier(alloc, signal, position, end, by);
     }
-    come_later(alloc, signal, position, end, ticks)
+    come_later(alloc, signal, position, end, by)
 }
 
-/// The piece of a signal that comes some ticks earlier.
+/// The piece of a signal that comes earlier.
 fn come_earlier(
     alloc: Global,
     signal: &Signal,
     position: usize,
     end: u64,
-    ticks: u64,
+    by: i64,
 ) -> Result<Piece, NoMemory>
     requires sound { IsSoundSignal end (signal_contents signal.now) }
     requires end { end ≤ END_LIMIT }
-    requires some { 0 < ticks }
-    ensures { IfOk result (GivesValues position (signal_contents signal.now) end
-        (shift_value end (neg_ℤ (pos ticks)) (signal_contents signal.now))) }
+    requires earlier { by <ℤ pos 0 }
+    ensures { IfOk result (GivesValues position (signal_contents signal.now) end by
+        (shift_value end by (signal_contents signal.now))) }
 {
+    let ticks = by.unsigned_abs();
     if ticks > end {
         let last = signal.wave.at(end);
-        return one_value(alloc, signal, position, last);
+        return one_value(alloc, signal, position, by, last);
     }
     cut_piece(alloc, signal, position, 0, ticks)
 }
 
-/// The piece of a signal that comes some ticks later.
+/// The piece of a signal that comes later, or at the same tick.
 fn come_later(
     alloc: Global,
     signal: &Signal,
     position: usize,
     end: u64,
-    ticks: u64,
+    by: i64,
 ) -> Result<Piece, NoMemory>
     requires sound { IsSoundSignal end (signal_contents signal.now) }
     requires end { end ≤ END_LIMIT }
-    ensures { IfOk result (GivesValues position (signal_contents signal.now) end
-        (shift_value end (pos ticks) (signal_contents signal.now))) }
+    requires later { pos 0 ≤ℤ by }
+    ensures { IfOk result (GivesValues position (signal_contents signal.now) end by
+        (shift_value end by (signal_contents signal.now))) }
 {
     let wave = &signal.wave;
+    let ticks = by.unsigned_abs();
     if ticks > end {
-        return one_value(alloc, signal, position, Value::filled(wave.width(), Bit::X));
+        let x = Value::filled(wave.width(), Bit::X);
+        return one_value(alloc, signal, position, by, x);
     }
     let changes = wave.changes();
     let kept = wave.count_until(end - ticks + 1);
@@ -98,7 +101,7 @@ fn come_later(
             from: 0,
             to: 0,
             changes: Vec::new(alloc),
-            by: ticks as i64,
+            by,
         });
     }
     Ok(Piece {
@@ -106,7 +109,7 @@ fn come_later(
         from: 0,
         to: changes.len(),
         changes: later_changes(alloc, &changes[..kept], ticks)?,
-        by: ticks as i64,
+        by,
     })
 }
 
@@ -115,10 +118,11 @@ fn one_value(
     alloc: Global,
     signal: &Signal,
     position: usize,
+    by: i64,
     value: Value,
 ) -> Result<Piece, NoMemory>
     ensures { (end : ℕ) (f : ℕ → List Bit) → ((t : ℕ) → t ≤ end → f t ≡ value)
-        → IfOk result (GivesValues position (signal_contents signal.now) end f) }
+        → IfOk result (GivesValues position (signal_contents signal.now) end by f) }
 {
     let wave = &signal.wave;
     let mut changes = Vec::new(alloc);
@@ -128,7 +132,7 @@ fn one_value(
         from: 0,
         to: wave.changes().len(),
         changes,
-        by: 0,
+        by,
     })
 }
 

@@ -9,7 +9,7 @@ use Rattle.vcd_edit.proofs.CutPlans.{cut_without, cut_with, cut_end}
 use Rattle.vcd_edit.proofs.effects.cut.cut_pieces.Goals as goal
 
 pub loop-position-init : goal.loop-position-init
-loop-position-init c = λ d are sound ends. lead_none d _ _ (ap (map piece_view) c.new-pieces.ensures.items)
+loop-position-init c = λ d are sound ends. lead_none d _ _ _ (ap (map piece_view) c.new-pieces.ensures.items)
 
 pub loop-position-preserved-then-is_quiet_from : goal.loop-position-preserved-then-is_quiet_from
 loop-position-preserved-then-is_quiet_from c = λ d are sound ends.

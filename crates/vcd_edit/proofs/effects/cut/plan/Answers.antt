@@ -22,7 +22,7 @@ pub invariant_of-result : goal.invariant_of-result
 invariant_of-result c =
     let d : Contents = contents c.args.capture.now in
     let ends : c.args.to ≤ d.end = (cut_ticks c.args.from c.args.to d c.requires.allowed).1 in
-    cut_is_one_step d _ _ (map piece_view c.in_ok-pieces.pieces.items) _ (c.in_ok-pieces.ensures d (rw (c.signals.ensures) refl) c.requires.sound ends)
+    cut_is_one_step d _ _ _ (map piece_view c.in_ok-pieces.pieces.items) _ (c.in_ok-pieces.ensures d (rw (c.signals.ensures) refl) c.requires.sound ends)
 
 pub returns : goal.returns
 returns c =

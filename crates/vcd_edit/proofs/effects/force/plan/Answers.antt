@@ -1,3 +1,4 @@
+use Rattle.std.proofs.Common.{refl, pos}
 use Rattle.vcd_core.specs.Contents.{contents, signal_contents}
 use Rattle.vcd_edit.specs.declared.edit.Edit.TheVariants.{Force}
 use Rattle.vcd_edit.specs.Effect.{force_value}
@@ -17,6 +18,6 @@ forced-requires-clause-within c = rw (c.end.ensures) ((force_ticks c.args.signal
 pub returns : goal.returns
 returns c =
     let piece = rw (c.end.ensures) at c.in_ok-piece.ensures in
-    wave_plan (Force c.args.signal c.args.from c.args.to c.args.value) (contents c.args.capture.now) c.args.signal (force_value c.args.from c.args.to c.args.value) (signal_contents c.signal_there-old.result.now)
+    wave_plan (Force c.args.signal c.args.from c.args.to c.args.value) (contents c.args.capture.now) c.args.signal (force_value c.args.from c.args.to c.args.value) (pos 0) (signal_contents c.signal_there-old.result.now)
     c.in_ok-piece.piece c.one_piece.result c.requires.sound c.requires.allowed c.signal_there-old.ensures.within c.signal_there-old.ensures.is
-    (force_is_wave c.args.signal c.args.from c.args.to c.args.value (contents c.args.capture.now)) piece c.one_piece.ensures
+    (force_is_wave c.args.signal c.args.from c.args.to c.args.value (contents c.args.capture.now)) refl refl piece c.one_piece.ensures

@@ -1,3 +1,4 @@
+use Rattle.std.proofs.Common.{refl}
 use Rattle.std.specs.Int.{w64}
 use Rattle.std.proofs.lemmas.Int.{to_z-of_z}
 use Rattle.vcd_core.specs.Contents.{contents, signal_contents}
@@ -14,6 +15,6 @@ signal_there-old-requires-clause-there c = (no_fault (Shift c.args.signal c.args
 pub returns : goal.returns
 returns c =
     let piece = rw (c.end.ensures, to_z-of_z w64 c.args.by c.ranges.by) at c.in_ok-piece.ensures in
-    wave_plan (Shift c.args.signal c.args.by) (contents c.args.capture.now) c.args.signal (shift_value c.args.capture.now.end c.args.by) (signal_contents c.signal_there-old.result.now)
+    wave_plan (Shift c.args.signal c.args.by) (contents c.args.capture.now) c.args.signal (shift_value c.args.capture.now.end c.args.by) c.args.by (signal_contents c.signal_there-old.result.now)
     c.in_ok-piece.piece c.one_piece.result c.requires.sound c.requires.allowed c.signal_there-old.ensures.within c.signal_there-old.ensures.is
-    (shift_is_wave c.args.signal c.args.by (contents c.args.capture.now)) piece c.one_piece.ensures
+    (shift_is_wave c.args.signal c.args.by (contents c.args.capture.now)) refl refl piece c.one_piece.ensures
