@@ -36,7 +36,8 @@ fn is_free(before: &[Change], tick: u64) -> bool
 fn may_follow(before: &[Change], width: u64, change: &Change) -> bool
     requires least { 1 ≤ width }
     requires most { width ≤ WIDTH_LIMIT }
-    ensures { result ≡ may_follow (floor_after 0 before.now) (value_behind width before.now) change.now }
+    ensures { result
+        ≡ may_follow (floor_after 0 before.now) (value_behind width before.now) change.now }
 {
     let last = value_behind(before, width);
     is_free(before, change.tick) && change.value != last && change.value.width() == last.width()
@@ -45,8 +46,10 @@ fn may_follow(before: &[Change], width: u64, change: &Change) -> bool
 /// The changes right behind which the one at `index` stands: those before it, or `before` where it is the first.
 fn changes_behind<'a>(before: &'a [Change], changes: &'a [Change], index: usize) -> &'a [Change]
     requires { index ≤ length changes.now }
-    ensures floor { floor_after 0 result.now ≡ floor_after (floor_after 0 before.now) (take index changes.now) }
-    ensures value { (width : ℕ) → value_behind width result.now ≡ last_value (value_behind width before.now) (take index changes.now) }
+    ensures floor { floor_after 0 result.now
+        ≡ floor_after (floor_after 0 before.now) (take index changes.now) }
+    ensures value { (width : ℕ) → value_behind width result.now
+        ≡ last_value (value_behind width before.now) (take index changes.now) }
 {
     if index == 0 {
         before
@@ -59,7 +62,8 @@ fn changes_behind<'a>(before: &'a [Change], changes: &'a [Change], index: usize)
 fn may_all_follow(before: &[Change], width: u64, changes: &[Change]) -> bool
     requires least { 1 ≤ width }
     requires most { width ≤ WIDTH_LIMIT }
-    ensures { result ≡ may_all_follow (floor_after 0 before.now) (value_behind width before.now) changes.now }
+    ensures { result
+        ≡ may_all_follow (floor_after 0 before.now) (value_behind width before.now) changes.now }
 {
     for i in 0..changes.len() {
         if !may_follow(changes_behind(before, changes, i), width, &changes[i]) {
@@ -108,7 +112,8 @@ fn may_come_next(before: &[Change], width: u64, later: &[Change], by: i64) -> bo
     requires least { 1 ≤ width }
     requires most { width ≤ WIDTH_LIMIT }
     requires fit { TicksFit by later.now }
-    ensures { result ≡ may_all_follow (floor_after 0 before.now) (value_behind width before.now) (map (moved_change by) (take 1 later.now)) }
+    ensures { result ≡ may_all_follow (floor_after 0 before.now) (value_behind width before.now)
+        (map (moved_change by) (take 1 later.now)) }
 {
     if later.is_empty() {
         return true;
@@ -133,7 +138,8 @@ fn ends_by(changes: &[Change], end: u64) -> bool
 ///
 /// It looks at the piece, at the two seams and at the last change, and takes no memory.
 pub(crate) fn piece_stands(piece: &Piece, wave: &Wave, end: u64) -> bool
-    ensures { IsTrue result ↔ PieceStands wave.now.width end wave.now.changes (piece_view piece.now) }
+    ensures { IsTrue result ↔ PieceStands wave.now.width end wave.now.changes
+        (piece_view piece.now) }
 {
     let changes = wave.changes();
     let width = wave.width();
