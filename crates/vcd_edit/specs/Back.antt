@@ -51,6 +51,7 @@ with_end (Some end) c = record c { end = end }
 
 -- ---- what a record makes of a capture
 
+-- the pieces in their turn, then the word, the signal and the end
 unfoldable pub back : RecordView → Contents → Contents
 back r c = with_end r.other_end (with_moved_signal r.signal (with_first_word r.word (with_pieces c r.pieces)))
 
@@ -73,6 +74,7 @@ abbrev pub MayMoveSignal : Contents → ℕ → Option SignalContents → Type 0
 MayMoveSignal c k (Some s) = k ≤ length c.signals
 MayMoveSignal c k None = k < length c.signals
 
+-- where there is one to put in or take out
 abbrev pub MovedSignalFits : Contents → Option (ℕ × Option SignalContents) → Type 0
 MovedSignalFits c None = Unit {0}
 MovedSignalFits c (Some m) = MayMoveSignal c m.0 m.1

@@ -65,6 +65,7 @@ abbrev pub pairing_of_move : ℕ → Option SignalContents → Pairing
 pairing_of_move k (Some s) = puts_in k
 pairing_of_move k None = takes_out k
 
+-- the same of what a record says of a signal
 abbrev pub record_pairing : Option (ℕ × Option SignalContents) → Pairing
 record_pairing None = stays
 record_pairing (Some m) = pairing_of_move m.0 m.1

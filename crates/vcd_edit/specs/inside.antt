@@ -7,3 +7,4 @@ pub mod Records
 pub mod Trims
 pub mod Exchanges
 pub mod Opposites
+pub mod Seams

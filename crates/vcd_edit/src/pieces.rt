@@ -1,5 +1,6 @@
 //! How the pieces of a record and parts of a capture's waves change places.
 
+mod fitting;
 mod growth;
 mod splicing;
 mod trimming;

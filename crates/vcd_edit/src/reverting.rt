@@ -87,7 +87,8 @@ pub fn revert(alloc: Global, capture: &mut Capture, way: Record) -> Result<Recor
     ensures back { OnOk result (contents capture.new ≡ back way (contents capture.old)) }
     ensures forth { IfOk result (λ r. back r (contents capture.new) ≡ contents capture.old) }
     ensures fits { IfOk result (λ r. Fits r (contents capture.new)) }
-    ensures bound { IfOk result (λ r. stored_changes r ≤ touched_by_record way (contents capture.old)) }
+    ensures bound { IfOk result (λ r. stored_changes r
+        ≤ touched_by_record way (contents capture.old)) }
     ensures sound { OnOk result (IsSound (contents capture.new)) }
     ensures kept { IfErr result (λ k. k.held ≡ way) }
     ensures unchanged { OnErr result (contents capture.new ≡ contents capture.old) }

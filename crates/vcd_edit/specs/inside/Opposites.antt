@@ -15,6 +15,7 @@ abbrev pub opposite_partner : ℕ → Option SignalContents → Contents → Opt
 opposite_partner k (Some s) c = None
 opposite_partner k None c = Some (signal_at c k)
 
+-- with its position
 abbrev pub opposite_move : Option (ℕ × Option SignalContents) → Contents → Option (ℕ × Option SignalContents)
 opposite_move None c = None
 opposite_move (Some m) c = Some (m.0, opposite_partner m.0 m.1 c)

@@ -10,6 +10,7 @@ use Rattle.vcd_edit.specs.RecordView.{PieceView, RecordView}
 abbrev pub piece_view : Piece → PieceView
 piece_view p = record { signal = p.signal; from = p.from; to = p.to; changes = p.changes.items; by = p.by }
 
+-- a word with its position, as its bytes
 abbrev pub word_view : Option (ℕ × Vec ℕ) → Option (ℕ × List ℕ)
 word_view None = None
 word_view (Some w) = Some (w.0, w.1.items)
@@ -19,6 +20,7 @@ abbrev pub contents_of_signal : Option Signal → Option SignalContents
 contents_of_signal None = None
 contents_of_signal (Some s) = Some (signal_contents s)
 
+-- with its position
 abbrev pub moved_signal_view : Option (ℕ × Option Signal) → Option (ℕ × Option SignalContents)
 moved_signal_view None = None
 moved_signal_view (Some m) = Some (m.0, contents_of_signal m.1)

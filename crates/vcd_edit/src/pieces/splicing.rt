@@ -15,7 +15,8 @@ use vcd_core::{Capture, Wave};
 
 /// The offset that moves back what `by` moves. Only -2^63 has none, and by that no tick of a capture moves.
 fn opposite(by: i64) -> i64
-    ensures { (tick : ℕ) → tick ≤ END_LIMIT → FitsUnsigned w64 (pos tick +ℤ by) → by +ℤ result ≡ pos 0 }
+    ensures { (tick : ℕ) → tick ≤ END_LIMIT → FitsUnsigned w64 (pos tick +ℤ by)
+        → by +ℤ result ≡ pos 0 }
 {
     by.checked_neg().unwrap_or(0)
 }
@@ -42,7 +43,8 @@ fn put_in(piece: &mut Piece, wave: &mut Wave)
 fn put_one(capture: &mut Capture, piece: &mut Piece)
     requires ready { PieceReadyIn (contents capture.old) (piece_view piece.old) }
     requires room { HasRoom capture.old.signals piece.old }
-    ensures there { contents capture.new ≡ with_piece (contents capture.old) (piece_view piece.old) }
+    ensures there { contents capture.new
+        ≡ with_piece (contents capture.old) (piece_view piece.old) }
     ensures back { LeadsBack (signal_at (contents capture.old) piece.old.signal).changes
         (piece_view piece.old) (piece_view piece.new) }
     ensures others { (k : ℕ) → k ≢ piece.old.signal
@@ -57,8 +59,10 @@ fn put_all(capture: &mut Capture, pieces: &mut [Piece])
     requires ready { All (PieceReadyIn (contents capture.old)) (map piece_view pieces.old) }
     requires apart { AreApart (map piece_view pieces.old) }
     requires room { All (HasRoom capture.old.signals) pieces.old }
-    ensures there { contents capture.new ≡ with_pieces (contents capture.old) (map piece_view pieces.old) }
-    ensures back { LeadBack (contents capture.old) (map piece_view pieces.old) (map piece_view pieces.new) }
+    ensures there { contents capture.new
+        ≡ with_pieces (contents capture.old) (map piece_view pieces.old) }
+    ensures back { LeadBack (contents capture.old)
+        (map piece_view pieces.old) (map piece_view pieces.new) }
 {
     for piece in pieces.iter_mut() {
         put_one(capture, piece);
@@ -70,7 +74,8 @@ pub(crate) fn put_pieces(capture: &mut Capture, pieces: &mut Vec<Piece>)
     requires ready { All (PieceReadyIn (contents capture.old)) (map piece_view pieces.old.items) }
     requires apart { AreApart (map piece_view pieces.old.items) }
     requires room { All (HasRoom capture.old.signals) pieces.old.items }
-    ensures there { contents capture.new ≡ with_pieces (contents capture.old) (map piece_view pieces.old.items) }
+    ensures there { contents capture.new
+        ≡ with_pieces (contents capture.old) (map piece_view pieces.old.items) }
     ensures back { (qs : List PieceView) × (map piece_view pieces.new.items ≡ reverse qs)
         × LeadBack (contents capture.old) (map piece_view pieces.old.items) qs }
 {

@@ -28,7 +28,8 @@ fn replace_word(capture: &mut Capture, signal: usize, word: Vec<u8>) -> Vec<u8>
     requires named { 0 < length (signal_at (contents capture.old) signal).words }
     ensures there { contents capture.new ≡ with_signal (contents capture.old) signal
         (renamed_signal word.items (signal_at (contents capture.old) signal)) }
-    ensures first { result.items ≡ slice_index_or (signal_at (contents capture.old) signal).words 0 result.items }
+    ensures first { result.items
+        ≡ slice_index_or (signal_at (contents capture.old) signal).words 0 result.items }
 {
     let first = replace_first(
         &mut capture.signals.item_mut(signal).words,
@@ -84,7 +85,8 @@ fn put_signal(alloc: Global, capture: &mut Capture, at: usize, signal: Signal) -
 /// Takes the signal at a position out; later ones move up. It takes no memory.
 fn take_signal(alloc: Global, capture: &mut Capture, at: usize) -> Signal
     requires { at < length capture.old.signals }
-    ensures there { contents capture.new ≡ with_moved_signal (Some (at, None)) (contents capture.old) }
+    ensures there { contents capture.new
+        ≡ with_moved_signal (Some (at, None)) (contents capture.old) }
     ensures signal { signal_contents result ≡ signal_at (contents capture.old) at }
 {
     let mut signals = mem::replace(&mut capture.signals, Seq::new(alloc)).into_vec();
