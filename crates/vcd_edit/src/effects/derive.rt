@@ -44,7 +44,8 @@ pub(crate) fn plan(
 fn derived(alloc: Global, capture: &Capture, word: &[u8], rule: Rule) -> Result<Signal, NoMemory>
     requires sound { IsSound (contents capture.now) }
     requires there { lacks_operand rule (contents capture.now) ≡ false }
-    ensures { IfOk result (λ s. signal_contents s ≡ derived_signal word.now rule (contents capture.now)) }
+    ensures { IfOk result (λ s. signal_contents s
+        ≡ derived_signal word.now rule (contents capture.now)) }
 {
     let first = signal_there(capture, rule.first_operand());
     let last = signal_there(capture, rule.last_operand());
@@ -74,7 +75,8 @@ fn derived_wave<'a>(
     requires { (end : ℕ) × AllUpTo end first.now.changes × AllUpTo end last.now.changes }
     ensures { (end : ℕ) → AllUpTo end first.now.changes → AllUpTo end last.now.changes
         → IfOk result (λ w. (w.width ≡ 1) × (w.changes ≡ changes_of 1 end (λ t. operator_bit rule
-        (value_at first.now.width first.now.changes t) (value_at last.now.width last.now.changes t) ∷ []))) }
+        (value_at first.now.width first.now.changes t)
+        (value_at last.now.width last.now.changes t) ∷ []))) }
 {
     let edges = Edges::new(Some(first), Some(last), None, None);
     let wave = wave_of(alloc, edges, rule)?;

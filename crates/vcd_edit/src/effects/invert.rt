@@ -35,7 +35,8 @@ fn inverse_changes(
     changes: &[Change],
     before: Value,
 ) -> Result<Vec<Change>, NoMemory>
-    ensures { IfOk result (λ inverse. inverse.items ≡ thinned before (map (with_value (map not_bit)) changes.now)) }
+    ensures { IfOk result (λ inverse. inverse.items
+        ≡ thinned before (map (with_value (map not_bit)) changes.now)) }
 {
     let mut inverse = Vec::new(alloc);
     let mut last = before;
