@@ -17,28 +17,28 @@ use Rattle.vcd_edit.specs.Allowed.{fault}
 
 -- ---- captures
 
-abbrev top : ScopeName
+abbrev pub top : ScopeName
 top = record { kind = codes "module"; words = codes "top" ∷ [] }
 
 -- from a tick on, one letter
-abbrev from : ℕ → Bit → Change
+abbrev pub from : ℕ → Bit → Change
 from tick letter = change tick (letter ∷ [])
 
-abbrev wire : List ℕ → List Change → SignalContents
+abbrev pub wire : List ℕ → List Change → SignalContents
 wire name changes = record { scopes = top ∷ []; kind = codes "wire"; words = name ∷ []; width = 1; changes = changes }
 
-abbrev a : List Change → SignalContents
+abbrev pub a : List Change → SignalContents
 a = wire (codes "a")
 
-abbrev capture : ℕ → List SignalContents → Contents
+abbrev pub capture : ℕ → List SignalContents → Contents
 capture end signals = record { header = []; timescale = None; end = end; signals = signals }
 
 -- a capture of the one signal `a`
-abbrev alone : ℕ → List Change → Contents
+abbrev pub alone : ℕ → List Change → Contents
 alone end changes = capture end (a changes ∷ [])
 
 -- bytes as a borrow of them
-abbrev lent : List ℕ → Bor (List ℕ)
+abbrev pub lent : List ℕ → Bor (List ℕ)
 lent bytes = record { ref_ptr = (0, 0); now = bytes }
 
 -- ---- what edits make of it
@@ -66,7 +66,7 @@ deglitch : effect (Deglitch 0 3) (alone 30 (from 0 Zero ∷ from 5 One ∷ from 
 unfolding effect changes_from value_from run_start run_end steady_value
 deglitch = refl
 
-abbrev three_signals : Contents
+abbrev pub three_signals : Contents
 three_signals = capture 4 (wire (codes "a") (from 0 Zero ∷ []) ∷ wire (codes "b") (from 0 One ∷ []) ∷ wire (codes "c") (from 0 Z ∷ []) ∷ [])
 
 remove_second : effect (Remove 1) three_signals ≡ capture 4 (wire (codes "a") (from 0 Zero ∷ []) ∷ wire (codes "c") (from 0 Z ∷ []) ∷ [])
@@ -82,13 +82,13 @@ rename_second : effect (Rename 1 (lent (codes "d"))) three_signals
 unfolding effect
 rename_second = refl
 
-abbrev two_signals : Contents
+abbrev pub two_signals : Contents
 two_signals = capture 8 (a (from 0 Zero ∷ from 3 One ∷ []) ∷ wire (codes "b") (from 0 One ∷ from 5 X ∷ []) ∷ [])
 
-abbrev with_first : List Change → Contents
+abbrev pub with_first : List Change → Contents
 with_first changes = capture 8 (a changes ∷ wire (codes "b") (from 0 One ∷ from 5 X ∷ []) ∷ [])
 
-abbrev with_third : List ℕ → List Change → Contents
+abbrev pub with_third : List ℕ → List Change → Contents
 with_third name changes = capture 8 (a (from 0 Zero ∷ from 3 One ∷ []) ∷ wire (codes "b") (from 0 One ∷ from 5 X ∷ []) ∷ wire name changes ∷ [])
 
 derive_and : effect (Derive (lent (codes "y")) (And 0 1)) two_signals ≡ with_third (codes "y") (from 0 Zero ∷ from 3 One ∷ from 5 X ∷ [])
@@ -134,7 +134,7 @@ force_two_ticks = refl
 
 -- ---- faults
 
-abbrev scalar_and_vector : Contents
+abbrev pub scalar_and_vector : Contents
 scalar_and_vector = capture 9 (
     a (from 0 Zero ∷ [])
     ∷ record { scopes = top ∷ []; kind = codes "wire"; words = codes "v" ∷ []; width = 4; changes = change 0 (Zero ∷ Zero ∷ Zero ∷ Zero ∷ []) ∷ [] }

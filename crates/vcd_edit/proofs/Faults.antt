@@ -7,6 +7,7 @@ use Rattle.vcd_edit.specs.declared.edit.Rule.{Rule}
 use Rattle.vcd_edit.specs.declared.edit.Rule.TheVariants.{Not, And, Or, Xor, BitOf}
 use Rattle.vcd_edit.specs.declared.fault.EditError.{EditError}
 use Rattle.vcd_edit.specs.Effect.{first_operand}
+use Rattle.vcd_edit.specs.inside.Derived.{last_operand}
 use Rattle.vcd_edit.specs.Allowed.{is_no_signal, lacks_operand, lacks_signal, joins_wide_signal, lacks_bit, has_bad_range, has_bad_count, has_bad_value, gives_no_word, takes_name, adds_too_many, fault}
 
 -- none of the nine tests holds
@@ -55,6 +56,25 @@ first_operand_there c (And a b) none = signal_there c a (neither (is_no_signal c
 first_operand_there c (Or a b) none = signal_there c a (neither (is_no_signal c a) (is_no_signal c b) none)
 first_operand_there c (Xor a b) none = signal_there c a (neither (is_no_signal c a) (is_no_signal c b) none)
 first_operand_there c (BitOf a k) none = signal_there c a none
+
+other : (p q : Bool) → (p || q) ≡ false → q ≡ false
+other true q none = absurd (cc)
+other false q none = none
+
+-- each operand is there where none is missing
+pub first_there : (c : Contents) (rule : Rule) → lacks_operand rule c ≡ false → is_no_signal c (first_operand rule) ≡ false
+first_there c (Not a) none = none
+first_there c (And a b) none = neither (is_no_signal c a) (is_no_signal c b) none
+first_there c (Or a b) none = neither (is_no_signal c a) (is_no_signal c b) none
+first_there c (Xor a b) none = neither (is_no_signal c a) (is_no_signal c b) none
+first_there c (BitOf a k) none = none
+
+pub last_there : (c : Contents) (rule : Rule) → lacks_operand rule c ≡ false → is_no_signal c (last_operand rule) ≡ false
+last_there c (Not a) none = none
+last_there c (And a b) none = other (is_no_signal c a) (is_no_signal c b) none
+last_there c (Or a b) none = other (is_no_signal c a) (is_no_signal c b) none
+last_there c (Xor a b) none = other (is_no_signal c a) (is_no_signal c b) none
+last_there c (BitOf a k) none = none
 
 -- a test whose opposite fails holds
 pub holds_where_not : (b : Bool) → not b ≡ false → IsTrue b

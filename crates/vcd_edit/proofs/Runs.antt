@@ -1,5 +1,5 @@
 -- Runs of one value, and the values without the short ones.
-use Rattle.std.proofs.Common.{◌≡◌, ◌≢◌, ℕ, zero, suc, ◌+◌, ◌-◌, ◌<◌, ◌≤◌, ◌==◌, ◌||◌, Bool, true, false, cond, nat_le, nat_eq, if◌then◌else◌, List, [], ◌∷◌, ◌++◌, length, take, drop, get_or, inl, inr, refl, sym, ap, subst, ◌∙◌, arith}
+use Rattle.std.proofs.Common.{◌≡◌, ◌≢◌, ℕ, zero, suc, ◌+◌, ◌-◌, ◌<◌, ◌≤◌, ◌==◌, ◌||◌, Bool, true, false, nat_le, if◌then◌else◌, List, [], ◌∷◌, ◌++◌, length, take, drop, get_or, inl, inr, refl, sym, ap, subst, ◌∙◌, arith}
 use Rattle.std.proofs.lemmas.Bool.{cases_lt, cases_eq}
 use Rattle.std.proofs.lemmas.Bool.Decides.{nat_tests}
 use Rattle.std.proofs.lemmas.List.{length-replicate, append-nil, take_all}
@@ -8,14 +8,14 @@ use Rattle.vcd_core.specs.declared.bit.Bit.TheVariants.{X}
 use Rattle.vcd_core.specs.declared.wave.Change.{Change}
 use Rattle.vcd_core.specs.Value.{all_x, same_letters}
 use Rattle.vcd_core.specs.inside.ValueLaws.{same_letters-Decides}
-use Rattle.vcd_core.specs.Wave.{change, unless_same, value_from, value_at, changes_of, ChangesFrom, IsWave, AllUpTo}
+use Rattle.vcd_core.specs.Wave.{change, unless_same, value_from, changes_of, ChangesFrom, IsWave, AllUpTo}
 use Rattle.vcd_core.specs.Contents.{Contents, SignalContents, signal_at, signal_value}
 use Rattle.vcd_core.proofs.Waves.{value_past, value_early}
 use Rattle.vcd_edit.specs.declared.edit.Edit.TheVariants.{Deglitch}
 use Rattle.vcd_edit.specs.Effect.{run_start, run_end, is_steady, steady_value, with_wave, effect}
-use Rattle.vcd_edit.specs.inside.Thinned.{thinned, begins_steady, steady_changes}
+use Rattle.vcd_edit.specs.inside.Thinned.{TicksRise, thinned, begins_steady, steady_changes}
 use Rattle.vcd_edit.proofs.Inverses.{thinned_more}
-use Rattle.vcd_edit.proofs.ThinnedLists.{TicksRise, rise_lower, early_value, wave_rises, thinned_is}
+use Rattle.vcd_edit.proofs.ThinnedLists.{rise_lower, early_value, wave_rises, thinned_is}
 
 -- ---- a choice by whether two values are the same
 

@@ -1,5 +1,5 @@
 -- The pieces of a signal that comes later, or earlier.
-use Rattle.std.proofs.Common.{◌≡◌, ℕ, zero, suc, ◌+◌, ◌-◌, ◌^◌, ◌<◌, ◌≤◌, Bool, true, false, nat_lt, cond, if◌then◌else◌, ℤ, pos, negsuc, ◌+ℤ◌, ◌-ℤ◌, List, [], ◌∷◌, ◌++◌, length, take, drop, map, get_or, All, inl, inr, refl, sym, ap, subst, ◌∙◌, arith}
+use Rattle.std.proofs.Common.{◌≡◌, ℕ, zero, suc, ◌+◌, ◌-◌, ◌^◌, ◌<◌, ◌≤◌, Bool, true, nat_lt, cond, if◌then◌else◌, ℤ, pos, negsuc, ◌-ℤ◌, List, [], ◌∷◌, ◌++◌, length, take, map, get_or, inl, inr, refl, sym, ap, ◌∙◌, arith}
 use Rattle.std.specs.Prelude.{neg_ℤ, Result, IfOk}
 use Rattle.std.specs.List.{count_by}
 use Rattle.std.proofs.lemmas.Bool.{cases_lt, lt-ltb, le-ltb}
@@ -10,11 +10,11 @@ use Rattle.vcd_core.specs.declared.bit.Bit.{Bit}
 use Rattle.vcd_core.specs.declared.wave.Change.{Change}
 use Rattle.vcd_core.specs.Value.{all_x, same_letters}
 use Rattle.vcd_core.specs.inside.ValueLaws.{same_letters-Decides}
-use Rattle.vcd_core.specs.Wave.{change, value_at, unless_same, changes_from, changes_of, IsWave, AllUpTo, last_value}
+use Rattle.vcd_core.specs.Wave.{change, unless_same, changes_from, IsWave, AllUpTo}
 use Rattle.vcd_core.specs.Splice.{moved_change}
 use Rattle.vcd_core.specs.Contents.{Contents, SignalContents, signal_at, signal_value}
 use Rattle.vcd_core.proofs.Waves.{changes_same}
-use Rattle.vcd_core.proofs.Pushes.{upto_from_all, all_from_upto}
+use Rattle.vcd_core.proofs.Pushes.{upto_from_all}
 use Rattle.vcd_core.proofs.EdgeLines.{value_last}
 use Rattle.vcd_core.specs.declared.memory.NoMemory.{NoMemory}
 use Rattle.vcd_edit.specs.declared.record.Piece.{Piece}

@@ -1,19 +1,14 @@
 -- Changes of which only those count that change the value, and the functions whose changes they are.
-use Rattle.std.proofs.Common.{◌≡◌, ◌≢◌, ℕ, zero, suc, ◌+◌, ◌-◌, ◌<◌, ◌≤◌, Bool, true, false, cond, nat_le, if◌then◌else◌, List, [], ◌∷◌, ◌++◌, length, map, inl, inr, refl, sym, ap, subst, ◌∙◌, arith}
+use Rattle.std.proofs.Common.{◌≡◌, ℕ, ◌+◌, ◌<◌, ◌≤◌, Bool, true, false, nat_le, if◌then◌else◌, List, [], ◌∷◌, length, map, inl, inr, refl, sym, ap, subst, ◌∙◌, arith}
 use Rattle.std.proofs.lemmas.Bool.{cases_lt}
 use Rattle.std.proofs.lemmas.List.{length-replicate}
 use Rattle.vcd_core.specs.declared.bit.Bit.{Bit}
 use Rattle.vcd_core.specs.declared.bit.Bit.TheVariants.{X}
 use Rattle.vcd_core.specs.declared.wave.Change.{Change}
-use Rattle.vcd_core.specs.Value.{all_x, same_letters}
-use Rattle.vcd_core.specs.Wave.{change, value_from, value_at, unless_same, changes_of, ChangesFrom, IsWave, AllUpTo}
+use Rattle.vcd_core.specs.Value.{all_x}
+use Rattle.vcd_core.specs.Wave.{value_from, changes_of, ChangesFrom, AllUpTo}
 use Rattle.vcd_core.proofs.Waves.{put_cases, value_past, value_skip, value_early, lower_floor, wave_is}
-use Rattle.vcd_edit.specs.inside.Thinned.{thinned, with_value}
-
--- ticks rise strictly from a floor on, and values have one width
-abbrev pub TicksRise : ℕ → ℕ → List Change → Type 0
-TicksRise width floor [] = Unit {0}
-TicksRise width floor (c ∷ cs) = (floor ≤ c.tick) × (length c.value ≡ width) × TicksRise width (c.tick + 1) cs
+use Rattle.vcd_edit.specs.inside.Thinned.{TicksRise, thinned, with_value}
 
 pub rise_lower : (width low high : ℕ) (cs : List Change) → low ≤ high → TicksRise width high cs → TicksRise width low cs
 rise_lower width low high [] le rise = tt

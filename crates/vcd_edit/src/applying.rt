@@ -18,6 +18,9 @@ use crate::reverting::exchange;
 use std::alloc::Global;
 use vcd_core::Capture;
 
+#[cfg(test)]
+mod tests;
+
 /// Makes an edit of a capture, and gives the record that takes it back.
 ///
 /// An edit that has a fault, as [`check`] tells it, is refused by it, without memory; want of memory comes
@@ -28,10 +31,12 @@ use vcd_core::Capture;
 pub fn apply(alloc: Global, capture: &mut Capture, edit: &Edit) -> Result<Record, EditError>
     requires { IsSound (contents capture.old) }
     ensures allowed { OnOk result (fault edit.now (contents capture.old) ≡ None) }
-    ensures effect { OnOk result (contents capture.new ≡ edit_effect edit.now (contents capture.old)) }
+    ensures effect { OnOk result
+        (contents capture.new ≡ edit_effect edit.now (contents capture.old)) }
     ensures fits { IfOk result (λ r. Fits r (contents capture.new)) }
     ensures back { IfOk result (λ r. back r (contents capture.new) ≡ contents capture.old) }
-    ensures bound { IfOk result (λ r. stored_changes r ≤ touched_by_edit edit.now (contents capture.old)) }
+    ensures bound { IfOk result
+        (λ r. stored_changes r ≤ touched_by_edit edit.now (contents capture.old)) }
     ensures sound { OnOk result (IsSound (contents capture.new)) }
     ensures refused { IfErr result (MayRefuse (fault edit.now (contents capture.old))) }
     ensures unchanged { OnErr result (contents capture.new ≡ contents capture.old) }

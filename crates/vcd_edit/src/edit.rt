@@ -1,5 +1,6 @@
 ghost use Rattle.std.specs.Prelude.{◌≡◌};
 ghost use Rattle.vcd_edit.specs.Effect.{first_operand};
+ghost use Rattle.vcd_edit.specs.inside.Derived.{last_operand};
 
 use vcd_core::Value;
 
@@ -72,6 +73,16 @@ pub enum Rule {
 }
 
 impl Rule {
+    /// The position of the last operand: the first where there is one alone.
+    pub(crate) fn last_operand(self) -> usize
+        ensures { result ≡ last_operand self }
+    {
+        match self {
+            Rule::And(_, b) | Rule::Or(_, b) | Rule::Xor(_, b) => b,
+            Rule::Not(a) | Rule::BitOf(a, _) => a,
+        }
+    }
+
     /// The position of the first operand.
     pub(crate) fn first_operand(self) -> usize
         ensures { result ≡ first_operand self }

@@ -6,8 +6,10 @@ ghost use Rattle.vcd_core.specs.Sound.{IsSound};
 ghost use Rattle.vcd_edit.specs.Allowed.{fault};
 ghost use Rattle.vcd_edit.specs.inside.Plans.{IsPlan};
 
+mod copies;
 mod cut;
 mod deglitch;
+mod derive;
 mod force;
 mod invert;
 mod making;
@@ -39,6 +41,7 @@ pub(crate) fn plan(alloc: Global, capture: &Capture, edit: &Edit) -> Result<Reco
             to,
             value,
         } => force::plan(alloc, capture, signal, from, to, value),
-        _ => Err(NoMemory),
+        Edit::Deglitch { signal, ticks } => deglitch::plan(alloc, capture, signal, ticks),
+        Edit::Derive { word, rule } => derive::plan(alloc, capture, word, rule),
     }
 }

@@ -20,4 +20,4 @@ pub use edit::{Edit, Rule};
 pub use fault::EditError;
 pub use laws::effect_is_sound;
 pub use record::{Piece, Record};
-pub use reverting::Kept;
+pub use reverting::{Kept, revert};

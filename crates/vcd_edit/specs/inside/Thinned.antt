@@ -1,9 +1,14 @@
 -- Changes of which only those count that change the value.
-use Rattle.std.specs.Prelude.{ℕ, Bool, ◌==◌, ◌||◌, ◌-◌, true, if◌then◌else◌, nat_le, List, [], ◌∷◌}
+use Rattle.std.specs.Prelude.{ℕ, Bool, ◌==◌, ◌||◌, ◌-◌, ◌+◌, ◌≤◌, ◌≡◌, length, true, if◌then◌else◌, nat_le, List, [], ◌∷◌}
 use Rattle.vcd_core.specs.declared.bit.Bit.{Bit}
 use Rattle.vcd_core.specs.declared.wave.Change.{Change}
 use Rattle.vcd_core.specs.Value.{same_letters}
 use Rattle.vcd_core.specs.Wave.{change, unless_same}
+
+-- ticks rise strictly from a floor on, and values have one width
+abbrev pub TicksRise : ℕ → ℕ → List Change → Type 0
+TicksRise width floor [] = Unit {0}
+TicksRise width floor (c ∷ cs) = (floor ≤ c.tick) × (length c.value ≡ width) × TicksRise width (c.tick + 1) cs
 
 -- each change whose value is another than the one before it
 unfoldable pub thinned : List Bit → List Change → List Change

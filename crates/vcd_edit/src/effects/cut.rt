@@ -34,7 +34,9 @@ fn cut_pieces(alloc: Global, signals: &[Signal], from: u64, to: u64) -> Result<V
     requires some { from < to }
     requires small { to ≤ END_LIMIT }
     ensures { (c : Contents) → c.signals ≡ map signal_contents signals.now → IsSound c → to ≤ c.end
-        → IfOk result (λ pieces. LeadEach c (neg_ℤ (pos (to - from))) (signal_after_cut (c.end - (to - from)) from to) (length c.signals) (map piece_view pieces.items)) }
+        → IfOk result (λ pieces. LeadEach c (neg_ℤ (pos (to - from)))
+        (signal_after_cut (c.end - (to - from)) from to) (length c.signals)
+        (map piece_view pieces.items)) }
 {
     let mut pieces = Vec::new(alloc);
     for (position, signal) in signals.iter().enumerate() {
@@ -49,7 +51,8 @@ fn cut_pieces(alloc: Global, signals: &[Signal], from: u64, to: u64) -> Result<V
 
 /// Whether a wave has no change at a tick or behind it.
 fn is_quiet_from(wave: &Wave, tick: u64) -> bool
-    ensures { IsTrue result ↔ (count_by (λ c. nat_lt c.tick tick) wave.now.changes ≡ length wave.now.changes) }
+    ensures { IsTrue result
+        ↔ (count_by (λ c. nat_lt c.tick tick) wave.now.changes ≡ length wave.now.changes) }
 {
     wave.count_until(tick) == wave.changes().len()
 }
@@ -67,7 +70,8 @@ pub(crate) fn cut_piece(
     requires small { to ≤ END_LIMIT }
     ensures { (end stop : ℕ) → IsSoundSignal end (signal_contents signal.now)
         → end ≤ stop + (to - from) → from ≤ stop → stop < 2 ^ 64
-        → IfOk result (GivesValues position (signal_contents signal.now) stop (neg_ℤ (pos (to - from))) (cut_value from to (signal_contents signal.now))) }
+        → IfOk result (GivesValues position (signal_contents signal.now) stop
+        (neg_ℤ (pos (to - from))) (cut_value from to (signal_contents signal.now))) }
 {
     let wave = &signal.wave;
     let mut changes = Vec::new(alloc);

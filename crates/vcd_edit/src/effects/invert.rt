@@ -30,8 +30,13 @@ pub(crate) fn plan(alloc: Global, capture: &Capture, signal: usize) -> Result<Re
 }
 
 /// The changes to the inverse values, behind the value `before`, those left out that change nothing.
-fn inverse_changes(alloc: Global, changes: &[Change], before: Value) -> Result<Vec<Change>, NoMemory>
-    ensures { IfOk result (λ inverse. inverse.items ≡ thinned before (map (with_value (map not_bit)) changes.now)) }
+fn inverse_changes(
+    alloc: Global,
+    changes: &[Change],
+    before: Value,
+) -> Result<Vec<Change>, NoMemory>
+    ensures { IfOk result (λ inverse. inverse.items
+        ≡ thinned before (map (with_value (map not_bit)) changes.now)) }
 {
     let mut inverse = Vec::new(alloc);
     let mut last = before;

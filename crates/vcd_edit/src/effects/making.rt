@@ -26,7 +26,8 @@ pub(crate) fn signal_there(capture: &Capture, position: usize) -> &Signal
 
 /// The value at the tick before `tick`: all x before tick 0.
 pub(crate) fn value_before(wave: &Wave, tick: u64) -> Value
-    ensures { result ≡ value_just_before wave.now.width (value_at wave.now.width wave.now.changes) tick }
+    ensures { result ≡ value_just_before wave.now.width
+        (value_at wave.now.width wave.now.changes) tick }
 {
     if tick == 0 {
         return x_value(wave);

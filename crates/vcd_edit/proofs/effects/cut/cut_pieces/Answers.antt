@@ -1,9 +1,5 @@
-use Rattle.std.proofs.Common.{◌≡◌, List, map, length, ap, subst, sym, ◌∙◌, arith}
-use Rattle.std.proofs.lemmas.List.{length-map}
-use Rattle.vcd_core.specs.Contents.{Contents, signal_contents}
-use Rattle.vcd_edit.specs.Effect.{signal_after_cut}
+use Rattle.std.proofs.Common.{map, ap, arith}
 use Rattle.vcd_edit.specs.inside.Records.{piece_view}
-use Rattle.vcd_edit.specs.inside.Plans.{LeadEach}
 use Rattle.vcd_edit.proofs.PieceLists.{lead_none}
 use Rattle.vcd_edit.proofs.CutPlans.{cut_without, cut_with, cut_end}
 use Rattle.vcd_edit.proofs.effects.cut.cut_pieces.Goals as goal

@@ -1,4 +1,4 @@
-use Rattle.std.proofs.Common.{List, refl, pos, ◌∙◌}
+use Rattle.std.proofs.Common.{refl, pos, ◌∙◌}
 use Rattle.vcd_core.specs.Contents.{SignalContents, contents, signal_contents, signal_value}
 use Rattle.vcd_edit.specs.declared.edit.Edit.TheVariants.{Deglitch}
 use Rattle.vcd_edit.specs.Effect.{steady_value}

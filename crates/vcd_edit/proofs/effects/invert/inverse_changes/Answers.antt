@@ -1,4 +1,3 @@
-use Rattle.std.proofs.Common.{arith}
 use Rattle.vcd_edit.proofs.Inverses.{inverse_more, inverse_done, inverse_none}
 use Rattle.vcd_edit.proofs.effects.invert.inverse_changes.Goals as goal
 

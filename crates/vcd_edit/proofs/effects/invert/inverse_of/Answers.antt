@@ -1,4 +1,4 @@
-use Rattle.std.proofs.Common.{◌≡◌, ◌<◌, ◌≤◌, ◌-◌, length, arith}
+use Rattle.std.proofs.Common.{◌<◌, ◌-◌, length, arith}
 use Rattle.vcd_edit.proofs.Inverses.{inverse_length, bit_more}
 use Rattle.vcd_edit.proofs.effects.invert.inverse_of.Goals as goal
 

@@ -1,5 +1,4 @@
-use Rattle.std.proofs.Common.{◌≡◌, List, map, refl, pos, ◌∙◌}
-use Rattle.vcd_core.specs.declared.wave.Change.{Change}
+use Rattle.std.proofs.Common.{map, refl, pos, ◌∙◌}
 use Rattle.vcd_core.specs.Contents.{SignalContents, contents, signal_contents}
 use Rattle.vcd_edit.specs.declared.edit.Edit.TheVariants.{Invert}
 use Rattle.vcd_edit.specs.Operators.{not_bit}

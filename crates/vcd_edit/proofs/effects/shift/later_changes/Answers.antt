@@ -1,4 +1,4 @@
-use Rattle.std.proofs.Common.{◌≡◌, ◌+◌, List, ◌∷◌, [], ◌++◌, ap, ◌∙◌}
+use Rattle.std.proofs.Common.{◌+◌, List, ◌∷◌, [], ◌++◌, ap, ◌∙◌}
 use Rattle.vcd_core.specs.declared.wave.Change.{Change}
 use Rattle.vcd_edit.proofs.Shifts.{later_more}
 use Rattle.vcd_edit.proofs.effects.shift.later_changes.Goals as goal

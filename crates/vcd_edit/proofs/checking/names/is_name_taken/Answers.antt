@@ -4,7 +4,7 @@ use Rattle.vcd_core.specs.Contents.{signal_contents}
 use Rattle.vcd_core.specs.Names.{full_name, name_in}
 use Rattle.vcd_edit.specs.Effect.{renamed_signal}
 use Rattle.vcd_edit.proofs.TakenNames.{taken_before, taken_behind}
-use Rattle.vcd_edit.proofs.checking.is_name_taken.Goals as goal
+use Rattle.vcd_edit.proofs.checking.names.is_name_taken.Goals as goal
 
 pub returns-then-is_taken : goal.returns-then-is_taken
 returns-then-is_taken c =
