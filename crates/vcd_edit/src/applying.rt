@@ -26,8 +26,10 @@ mod tests;
 /// An edit that has a fault, as [`check`] tells it, is refused by it, without memory; want of memory comes
 /// after every fault. After any refusal the capture is as it was. The record holds touched changes alone.
 ///
-/// An edit of one wave takes a search by halves, the changes that it puts in and takes out, and one move of the
-/// later ones; a cut takes that in every signal with changes from its first tick on.
+/// A force and a shift take a search by halves, the changes that they put in and take out, and one move of
+/// the later ones, a cut that in every signal with changes from its first tick on. An invert, a deglitch, and
+/// a shift that pushes changes out past the end take one pass over the wave and a list of its changes aside,
+/// and a derive one merged pass over its operands.
 pub fn apply(alloc: Global, capture: &mut Capture, edit: &Edit) -> Result<Record, EditError>
     requires { IsSound (contents capture.old) }
     ensures allowed { OnOk result (fault edit.now (contents capture.old) ≡ None) }

@@ -39,11 +39,14 @@ fn check_scalar(capture: &Capture, a: usize) -> Result<(), EditError>
 }
 
 fn check_scalars(capture: &Capture, a: usize, b: usize) -> Result<(), EditError>
-    ensures { TellsFault result (first_fault (
-        (is_no_signal (contents capture.now) a || is_no_signal (contents capture.now) b,
-        errors.NoSuchSignal)
-        ∷ (is_wide (contents capture.now) a || is_wide (contents capture.now) b,
-        errors.NotScalar) ∷ [])) }
+    ensures { TellsFault result (first_fault ((
+      is_no_signal (contents capture.now) a || is_no_signal (contents capture.now) b,
+      errors.NoSuchSignal,
+    )
+        ∷ (
+          is_wide (contents capture.now) a || is_wide (contents capture.now) b,
+          errors.NotScalar,
+        ) ∷ [])) }
 {
     let signals = capture.signals();
     if a >= signals.len() || b >= signals.len() {
