@@ -1,0 +1,66 @@
+-- The code's tests of changes, and its walks over two lists.
+use Rattle.std.proofs.Common.{◌≡◌, ℕ, ◌+◌, ◌-◌, ◌^◌, ◌<◌, ◌≤◌, Bool, true, false, eqb, ℤ, pos, ◌+ℤ◌, ◌-ℤ◌, neg_ℤ, unsigned_abs, List, length, drop, get_or, reverse, min, Option, Some, None, SomeIff, sym, subst, ◌∙◌, inl, inr, arith}
+use Rattle.std.specs.Int.{w64, FitsUnsigned}
+use Rattle.std.specs.List.{common_prefix_len}
+use Rattle.std.specs.Option.{option_eq}
+use Rattle.std.specs.Ordering.{int_eq}
+use Rattle.std.proofs.lemmas.Bool.{cases_Bool, eq-eqb, eqb-true, false_from_ne_true}
+use Rattle.std.proofs.lemmas.Bool.Decides.{Decides-int_eq}
+use Rattle.std.proofs.lemmas.List.{length-reverse, length-drop, get_or-reverse}
+use Rattle.std.proofs.lemmas.List.Sums.{common_prefix_len-le, common_prefix_len-drop_yes, common_prefix_len-drop_no}
+use Rattle.std.proofs.lemmas.Int.{ints}
+use Rattle.vcd_core.specs.declared.wave.Change.{Change}
+
+same_Bool : (a b : Bool) → (a ≡ true → b ≡ true) → (b ≡ true → a ≡ true) → a ≡ b
+same_Bool a b there back =
+    elim (cases_Bool a) [
+      | inl holds ↦ holds ∙ sym (there holds)
+      | inr fails ↦ elim (cases_Bool b) [
+        | inl holds ↦ back holds ∙ sym holds
+        | inr other ↦ fails ∙ sym other
+      ]
+    ]
+
+-- whether a tick that is moved is another
+pub moved_test : (old new : ℕ) (by at : ℤ) (sum : Option ℕ) (r : Bool) → at ≡ by → new < 2 ^ 64
+    → SomeIff sum (FitsUnsigned w64 (pos old +ℤ at)) (unsigned_abs (pos old +ℤ at)) → r ≡ option_eq eqb sum (Some new)
+    → r ≡ int_eq (pos old -ℤ neg_ℤ by) (pos new)
+moved_test old new by at None r same small told is =
+    is ∙ sym (false_from_ne_true _ (λ equal.
+    let later : pos old -ℤ neg_ℤ by ≡ pos new = (Decides-int_eq _ _).0 equal in
+    let here : pos old +ℤ at ≡ pos new = omega (arith, ints, later, same) in
+    told (subst (FitsUnsigned w64) (sym here) (omega (arith, ints), omega (arith, ints, small)))))
+moved_test old new by at (Some x) r same small told is =
+    let fits : FitsUnsigned w64 (pos old +ℤ at) = told.0 in
+    let value : x ≡ unsigned_abs (pos old +ℤ at) = told.1 in
+    is ∙ same_Bool (eqb x new) (int_eq (pos old -ℤ neg_ℤ by) (pos new))
+    (λ equal.
+    let at_new : x ≡ new = eqb-true x new equal in
+    let later : pos old -ℤ neg_ℤ by ≡ pos new = omega (arith, ints, fits.0, value, at_new, same) in
+    (Decides-int_eq _ _).1 later)
+    (λ equal. eq-eqb x new (let later : pos old -ℤ neg_ℤ by ≡ pos new = (Decides-int_eq _ _).0 equal in omega (arith, ints, fits.0, value, later, same)))
+
+-- ---- walks over two lists
+
+module _ (e : Change → Change → Bool) (xs ys : List Change) (i : ℕ) where
+  -- behind the shorter list nothing is left
+  pub walk_end : (most : ℕ) → most ≡ min (length xs) (length ys) → most ≤ i → i ≤ most → i + common_prefix_len e (drop i xs) (drop i ys) ≡ common_prefix_len e xs ys
+      → most ≡ common_prefix_len e xs ys
+  walk_end most is past within left =
+      let le = common_prefix_len-le e (drop i xs) (drop i ys) in
+      omega (arith, le.0, le.1, length-drop i xs, length-drop i ys)
+
+  -- from the end: what is left at a pair that differs, and at one that matches
+  pub back_stops : (c d : Change) → i < length xs → i < length ys → c ≡ get_or xs (length xs - 1 - i) c → d ≡ get_or ys (length ys - 1 - i) d → e c d ≡ false
+      → i + common_prefix_len e (drop i (reverse xs)) (drop i (reverse ys)) ≡ common_prefix_len e (reverse xs) (reverse ys)
+      → i ≡ common_prefix_len e (reverse xs) (reverse ys)
+  back_stops c d in_xs in_ys is_c is_d differs left =
+      let first = subst (λ x. e x (get_or (reverse ys) i d) ≡ false) (is_c ∙ sym (get_or-reverse xs i c in_xs)) (subst (λ y. e c y ≡ false) (is_d ∙ sym (get_or-reverse ys i d in_ys)) differs) in
+      omega (arith, left, common_prefix_len-drop_no e (reverse xs) (reverse ys) i c d (omega (arith, length-reverse xs)) (omega (arith, length-reverse ys)) first)
+
+  pub back_more : (c d : Change) → i < length xs → i < length ys → c ≡ get_or xs (length xs - 1 - i) c → d ≡ get_or ys (length ys - 1 - i) d → e c d ≡ true
+      → i + common_prefix_len e (drop i (reverse xs)) (drop i (reverse ys)) ≡ common_prefix_len e (reverse xs) (reverse ys)
+      → i + 1 + common_prefix_len e (drop (i + 1) (reverse xs)) (drop (i + 1) (reverse ys)) ≡ common_prefix_len e (reverse xs) (reverse ys)
+  back_more c d in_xs in_ys is_c is_d same left =
+      let first = subst (λ x. e x (get_or (reverse ys) i d) ≡ true) (is_c ∙ sym (get_or-reverse xs i c in_xs)) (subst (λ y. e c y ≡ true) (is_d ∙ sym (get_or-reverse ys i d in_ys)) same) in
+      omega (arith, left, common_prefix_len-drop_yes e (reverse xs) (reverse ys) i c d (omega (arith, length-reverse xs)) (omega (arith, length-reverse ys)) first)

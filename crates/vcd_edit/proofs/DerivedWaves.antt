@@ -1,0 +1,206 @@
+-- The wave of a derived signal, from the edges of its operands.
+use Rattle.std.proofs.Common.{◌≡◌, ℕ, zero, suc, ◌+◌, ◌-◌, ◌<◌, ◌≤◌, ◌||◌, not, Bool, true, false, cond, nat_le, if◌then◌else◌, List, [], ◌∷◌, length, map, replicate, get_or, All, Some, None, inl, inr, refl, sym, ap, subst, ◌∙◌, arith}
+use Rattle.std.specs.List.{filter, range_with_len, list_any}
+use Rattle.std.proofs.lemmas.Bool.{cases_eq}
+use Rattle.std.proofs.lemmas.List.Elements.{All-nil, All-cons}
+use Rattle.vcd_core.specs.declared.bit.Bit.{Bit}
+use Rattle.vcd_core.specs.declared.bit.Bit.TheVariants.{X}
+use Rattle.vcd_core.specs.declared.edges.Edge.{Edge}
+use Rattle.vcd_core.specs.declared.wave.Change.{Change}
+use Rattle.vcd_core.specs.Value.{all_x, letter_at, same_letters}
+use Rattle.vcd_core.specs.inside.ValueLaws.{same_letters-Decides}
+use Rattle.vcd_core.specs.Wave.{change, value_from, value_at, changes_of, IsWave, AllUpTo}
+use Rattle.vcd_core.specs.WaveView.{WaveView}
+use Rattle.vcd_core.specs.Edges.{Trace, trace_of, changes_at, edge_on, edges_on, edges_of}
+use Rattle.vcd_core.proofs.Waves.{value_past, wave_is}
+use Rattle.vcd_core.proofs.Pushes.{upto_from_all}
+use Rattle.vcd_edit.specs.declared.edit.Rule.{Rule}
+use Rattle.vcd_edit.specs.declared.edit.Rule.TheVariants.{Not, And, Or, Xor, BitOf}
+use Rattle.vcd_edit.specs.inside.Thinned.{TicksRise}
+use Rattle.vcd_edit.specs.inside.Ranges.{value_before}
+use Rattle.vcd_edit.specs.inside.Derived.{operator_bit, edge_bit, edge_change, IsMade}
+use Rattle.vcd_edit.proofs.ThinnedLists.{rise_lower, early_value}
+
+-- ---- one change after another
+
+rise_all : (width floor : ℕ) (cs : List Change) → TicksRise width floor cs → All (λ c. floor ≤ c.tick) cs
+rise_all width floor [] rise = All-nil (λ (c : Change). floor ≤ c.tick)
+rise_all width floor (c ∷ cs) (from, wide, rest) =
+    All-cons (λ (c : Change). floor ≤ c.tick) c cs from (λ k d less. omega (arith, from, rise_all width (c.tick + 1) cs rest k d less))
+
+-- nothing is made yet
+pub none_made : (all : List Change) (w : WaveView) → w.width ≡ 1 → w.changes ≡ [] → TicksRise 1 0 all → IsMade all all w
+unfolding value_from
+none_made all w width none rise = record {
+  width = width;
+  values = λ t. ap (λ (cs : List Change). value_from (value_from (all_x 1) cs t) all t) none;
+  rise = rise;
+  before = subst (All (λ (c : Change). All (λ (d : Change). c.tick ≤ d.tick) all)) (sym none) (All-nil (λ (c : Change). All (λ (d : Change). c.tick ≤ d.tick) all));
+  upto = λ end upto. (subst (AllUpTo end) (sym none) tt, upto);
+}
+
+-- one more change is pushed
+pub made_more : (all rest : List Change) (c : Change) (old new : WaveView) → IsMade all (c ∷ rest) old → new.width ≡ old.width
+    → ((t : ℕ) → value_at new.width new.changes t ≡ (if nat_le c.tick t then c.value else value_at old.width old.changes t)) → All (λ d. d.tick ≤ c.tick) new.changes → IsMade all rest new
+unfolding value_from
+made_more all rest c old new made width values last =
+    let (from, wide, rise) = made.rise in
+    record {
+      width = width ∙ made.width;
+      values = λ t.
+          ap (λ v. value_from v rest t) (ap (λ w. value_at w new.changes t) (sym (width ∙ made.width)) ∙ values t ∙ ap (λ w. if nat_le c.tick t then c.value else value_at w old.changes t) made.width)
+          ∙ made.values t;
+      rise = rise_lower 1 0 (c.tick + 1) rest (omega arith) rise;
+      before = λ k d less j e within. omega (arith, last k d less, rise_all 1 (c.tick + 1) rest rise j e within);
+      upto = λ end upto. (upto_from_all end new.changes (λ k d less. omega (arith, last k d less, (made.upto end upto).1.0)), (made.upto end upto).1.1);
+    }
+
+-- the next change is not before the last
+pub late_enough : (all rest : List Change) (c : Change) (w : WaveView) → IsMade all (c ∷ rest) w → All (λ d. d.tick ≤ c.tick) w.changes
+late_enough all rest c w made = λ k d less. made.before k d less 0 c (omega arith)
+
+-- the same of an edge
+pub edge_made : (rule : Rule) (all left rest : List Edge) (e : Edge) (value : List Bit) (old new : WaveView) → left ≡ e ∷ rest → value ≡ edge_bit rule e.at ∷ []
+    → IsMade (map (edge_change rule) all) (map (edge_change rule) left) old → new.width ≡ old.width
+    → ((t : ℕ) → value_at new.width new.changes t ≡ (if nat_le e.tick t then value else value_at old.width old.changes t)) → All (λ d. d.tick ≤ e.tick) new.changes
+    → IsMade (map (edge_change rule) all) (map (edge_change rule) rest) new
+edge_made rule all left rest e value old new steps is made width values last =
+    made_more (map (edge_change rule) all) (map (edge_change rule) rest) (edge_change rule e) old new
+    (subst (λ (es : List Edge). IsMade (map (edge_change rule) all) (map (edge_change rule) es) old) steps made) width
+    (λ t. values t ∙ ap (λ v. if nat_le e.tick t then v else value_at old.width old.changes t) is) last
+
+pub edge_late : (rule : Rule) (all left rest : List Edge) (e : Edge) (w : WaveView) → left ≡ e ∷ rest → IsMade (map (edge_change rule) all) (map (edge_change rule) left) w → All (λ d. d.tick ≤ e.tick) w.changes
+edge_late rule all left rest e w steps made =
+    late_enough (map (edge_change rule) all) (map (edge_change rule) rest) (edge_change rule e) w (subst (λ (es : List Edge). IsMade (map (edge_change rule) all) (map (edge_change rule) es) w) steps made)
+
+-- all is made
+pub made_is : (all : List Change) (w : WaveView) (end : ℕ) (f : ℕ → List Bit) → IsMade all [] w → IsWave w.width w.changes → AllUpTo end all
+    → ((t : ℕ) → t ≤ end → value_from (all_x 1) all t ≡ f t) → w.changes ≡ changes_of 1 end f
+unfolding value_from
+made_is all w end f made is upto same =
+    wave_is 1 end w.changes f (subst (λ n. IsWave n w.changes) made.width is) (made.upto end upto).0 (λ t to. made.values t ∙ same t to)
+
+-- ---- a function at the ticks at which it may change
+
+module _ (p : ℕ → Bool) (r : ℕ → List Bit) where
+  abbrev at_ticks : List ℕ → List Change
+  at_ticks us = map (λ u. change u (r u)) us
+
+  pub sampled_rise : (a n : ℕ) → ((u : ℕ) → length (r u) ≡ 1) → TicksRise 1 a (at_ticks (filter p (range_with_len a n)))
+  sampled_rise a zero wide = tt
+  sampled_rise a (suc n) wide =
+      let later = sampled_rise (a + 1) n wide in
+      elim (p a) as (λ b. TicksRise 1 a (at_ticks (cond b (a ∷ filter p (range_with_len (a + 1) n)) (filter p (range_with_len (a + 1) n))))) [
+        | true ↦ (omega arith, wide a, later)
+        | false ↦ rise_lower 1 a (a + 1) (at_ticks (filter p (range_with_len (a + 1) n))) (omega arith) later
+      ]
+
+  pub sampled_upto : (a n end : ℕ) → a + n ≤ suc end → AllUpTo end (at_ticks (filter p (range_with_len a n)))
+  sampled_upto a zero end within = tt
+  sampled_upto a (suc n) end within =
+      let later = sampled_upto (a + 1) n end (omega arith) in
+      elim (p a) as (λ b. AllUpTo end (at_ticks (cond b (a ∷ filter p (range_with_len (a + 1) n)) (filter p (range_with_len (a + 1) n))))) [
+        | true ↦ (omega arith, later)
+        | false ↦ later
+      ]
+
+  pub sampled : (a n : ℕ) (v : List Bit) → v ≡ value_before 1 r a → ((u : ℕ) → length (r u) ≡ 1) → ((u : ℕ) → p u ≡ false → r u ≡ value_before 1 r u)
+      → (t : ℕ) → a ≤ t → t < a + n → value_from v (at_ticks (filter p (range_with_len a n))) t ≡ r t
+  sampled a zero v is wide still t from to = absurd (omega arith)
+  sampled a (suc n) v is wide still t from to =
+      let later : value_from (r a) (at_ticks (filter p (range_with_len (a + 1) n))) t ≡ r t =
+      elim (cases_eq a t) [
+        | inl at ↦ early_value 1 (r a) (at_ticks (filter p (range_with_len (a + 1) n))) (a + 1) t (sampled_rise (a + 1) n wide) (omega arith) ∙ ap r at
+        | inr apart ↦ sampled (a + 1) n (r a) (sym (ap (value_before 1 r) {x = a + 1} {y = suc a} (omega arith))) wide still t (omega arith) (omega arith)
+      ] in
+      choose (p a) refl later
+    where
+      choose : (b : Bool) → p a ≡ b → value_from (r a) (at_ticks (filter p (range_with_len (a + 1) n))) t ≡ r t
+          → value_from v (at_ticks (cond b (a ∷ filter p (range_with_len (a + 1) n)) (filter p (range_with_len (a + 1) n)))) t ≡ r t
+      choose true holds later = value_past v (change a (r a)) (at_ticks (filter p (range_with_len (a + 1) n))) t from ∙ later
+      choose false fails later = ap (λ w. value_from w (at_ticks (filter p (range_with_len (a + 1) n))) t) (is ∙ sym (still a fails)) ∙ later
+
+-- ---- the edges of two waves
+
+first_fails : (p q : Bool) → (p || q) ≡ false → p ≡ false
+first_fails true q none = none
+first_fails false q none = refl
+
+second_fails : (p q : Bool) → (p || q) ≡ false → q ≡ false
+second_fails true q none = absurd (cc)
+second_fails false q none = none
+
+same_where : (v w : List Bit) → not (same_letters v w) ≡ false → v ≡ w
+same_where v w none = (same_letters-Decides v w).0 (twice (same_letters v w) none)
+  where
+    twice : (b : Bool) → not b ≡ false → b ≡ true
+    twice true none = refl
+    twice false none = absurd (cc)
+
+-- a wave that does not change at a tick has the value before it
+unchanged : (w : WaveView) (u : ℕ) → changes_at u (trace_of (Some w)) ≡ false → value_at w.width w.changes u ≡ value_before w.width (value_at w.width w.changes) u
+unchanged w zero none = same_where (value_at w.width w.changes 0) (all_x w.width) none
+unchanged w (suc u) none = same_where (value_at w.width w.changes (suc u)) (value_at w.width w.changes u) none
+
+x_letter : (n i : ℕ) → get_or (replicate n X) i X ≡ X
+x_letter zero i = refl
+x_letter (suc n) zero = refl
+x_letter (suc n) (suc i) = x_letter n i
+
+-- x gives x
+x_bit : (rule : Rule) (m n : ℕ) → operator_bit rule (all_x m) (all_x n) ≡ X
+x_bit rule m n = for_each rule
+  where
+    letter : (m k : ℕ) → letter_at (all_x m) k ≡ X
+    letter m k = x_letter m (length (all_x m) - 1 - k)
+
+    for_each : (rule : Rule) → operator_bit rule (all_x m) (all_x n) ≡ X
+    for_each (Not a) = ap (λ v. operator_bit (Not a) (v ∷ []) (all_x n)) (letter m 0)
+    for_each (And a b) = λ i. operator_bit (And a b) (letter m 0 i ∷ []) (letter n 0 i ∷ [])
+    for_each (Or a b) = λ i. operator_bit (Or a b) (letter m 0 i ∷ []) (letter n 0 i ∷ [])
+    for_each (Xor a b) = λ i. operator_bit (Xor a b) (letter m 0 i ∷ []) (letter n 0 i ∷ [])
+    for_each (BitOf a k) = letter m k
+
+map-map : {A B C : Type 0} (f : B → C) (g : A → B) (xs : List A) → map f (map g xs) ≡ map (λ x. f (g x)) xs
+map-map f g [] = refl
+map-map f g (x ∷ xs) = ap (λ ys. f (g x) ∷ ys) (map-map f g xs)
+
+module _ (rule : Rule) (a b : WaveView) where
+  abbrev rule_value : ℕ → List Bit
+  rule_value t = operator_bit rule (value_at a.width a.changes t) (value_at b.width b.changes t) ∷ []
+
+  abbrev lines : List Trace
+  lines = trace_of (Some a) ∷ trace_of (Some b) ∷ trace_of None ∷ trace_of None ∷ []
+
+  abbrev edges : ℕ → List Edge
+  edges end = edges_of (Some a ∷ Some b ∷ None ∷ None ∷ []) end
+
+  still : (u : ℕ) → list_any (changes_at u) lines ≡ false → rule_value u ≡ value_before 1 rule_value u
+  still u none =
+      from_both u
+      (unchanged a u (first_fails (changes_at u (trace_of (Some a))) (list_any (changes_at u) (trace_of (Some b) ∷ trace_of None ∷ trace_of None ∷ [])) none))
+      (unchanged b u (first_fails (changes_at u (trace_of (Some b))) (list_any (changes_at u) (trace_of None ∷ trace_of None ∷ []))
+      (second_fails (changes_at u (trace_of (Some a))) (list_any (changes_at u) (trace_of (Some b) ∷ trace_of None ∷ trace_of None ∷ [])) none)))
+    where
+      from_both : (u : ℕ) → value_at a.width a.changes u ≡ value_before a.width (value_at a.width a.changes) u → value_at b.width b.changes u ≡ value_before b.width (value_at b.width b.changes) u
+          → rule_value u ≡ value_before 1 rule_value u
+      from_both zero one two = (λ i. operator_bit rule (one i) (two i) ∷ []) ∙ ap (λ (x : Bit). x ∷ []) (x_bit rule a.width b.width)
+      from_both (suc u) one two = λ i. operator_bit rule (one i) (two i) ∷ []
+
+  edge_changes : (end : ℕ) → map (edge_change rule) (edges end) ≡ map (λ u. change u (rule_value u)) (filter (λ t. list_any (changes_at t) lines) (range_with_len 0 (suc end)))
+  unfolding edges_on
+  edge_changes end = map-map (edge_change rule) (edge_on lines) (filter (λ t. list_any (changes_at t) lines) (range_with_len 0 (suc end)))
+
+  pub edges_rise : (end : ℕ) (es : List Edge) → es ≡ edges end → TicksRise 1 0 (map (edge_change rule) es)
+  edges_rise end es is =
+      subst (TicksRise 1 0) (sym (ap (map (edge_change rule)) is ∙ edge_changes end)) (sampled_rise (λ t. list_any (changes_at t) lines) rule_value 0 (suc end) (λ u. refl))
+
+  -- what is made of the edges has the rule's bit at each tick
+  pub derived_is : (end : ℕ) (es : List Edge) (w : WaveView) → es ≡ edges end → IsMade (map (edge_change rule) es) [] w → IsWave w.width w.changes
+      → w.changes ≡ changes_of 1 end rule_value
+  derived_is end es w is made form =
+      let all = ap (map (edge_change rule)) is ∙ edge_changes end in
+      made_is (map (edge_change rule) es) w end rule_value made form
+      (subst (AllUpTo end) (sym all) (sampled_upto (λ t. list_any (changes_at t) lines) rule_value 0 (suc end) end (omega arith)))
+      (λ t to. ap (λ (cs : List Change). value_from (all_x 1) cs t) all
+      ∙ sampled (λ t. list_any (changes_at t) lines) rule_value 0 (suc end) (all_x 1) refl (λ u. refl) still t (omega arith) (omega arith))

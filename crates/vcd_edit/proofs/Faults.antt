@@ -1,0 +1,82 @@
+-- What it says of an edit that it has no fault.
+use Rattle.std.proofs.Common.{◌≡◌, ◌<◌, ℕ, ◌||◌, not, Bool, true, false, if◌then◌else◌, IsTrue, length, Option, Some, None, refl, arith}
+use Rattle.std.proofs.lemmas.Bool.Decides.{nat_tests}
+use Rattle.vcd_core.specs.Contents.{Contents}
+use Rattle.vcd_edit.specs.declared.edit.Edit.{Edit}
+use Rattle.vcd_edit.specs.declared.edit.Rule.{Rule}
+use Rattle.vcd_edit.specs.declared.edit.Rule.TheVariants.{Not, And, Or, Xor, BitOf}
+use Rattle.vcd_edit.specs.declared.fault.EditError.{EditError}
+use Rattle.vcd_edit.specs.Effect.{first_operand}
+use Rattle.vcd_edit.specs.inside.Derived.{last_operand}
+use Rattle.vcd_edit.specs.Allowed.{is_no_signal, lacks_operand, lacks_signal, joins_wide_signal, lacks_bit, has_bad_range, has_bad_count, has_bad_value, gives_no_word, takes_name, adds_too_many, fault}
+
+-- none of the nine tests holds
+pub record HasNoFault (e : Edit) (c : Contents) : Type 0 where
+  pub signals : lacks_signal e c ≡ false
+  pub scalars : joins_wide_signal e c ≡ false
+  pub bit : lacks_bit e c ≡ false
+  pub range : has_bad_range e c ≡ false
+  pub count : has_bad_count e ≡ false
+  pub value : has_bad_value e c ≡ false
+  pub word : gives_no_word e ≡ false
+  pub name : takes_name e c ≡ false
+  pub room : adds_too_many e c ≡ false
+
+-- a test that does not hold is passed over
+not_first : (b : Bool) (error : EditError) (rest : Option EditError) → (if b then Some error else rest) ≡ None → (b ≡ false) × (rest ≡ None)
+not_first true error rest none = absurd (cc)
+not_first false error rest none = (refl, none)
+
+pub no_fault : (e : Edit) (c : Contents) → fault e c ≡ None → HasNoFault e c
+unfolding fault
+no_fault e c none =
+    let a = not_first (lacks_signal e c) _ _ none in
+    let b = not_first (joins_wide_signal e c) _ _ a.1 in
+    let d = not_first (lacks_bit e c) _ _ b.1 in
+    let f = not_first (has_bad_range e c) _ _ d.1 in
+    let g = not_first (has_bad_count e) _ _ f.1 in
+    let h = not_first (has_bad_value e c) _ _ g.1 in
+    let i = not_first (gives_no_word e) _ _ h.1 in
+    let j = not_first (takes_name e c) _ _ i.1 in
+    let k = not_first (adds_too_many e c) _ _ j.1 in
+    record { signals = a.0; scalars = b.0; bit = d.0; range = f.0; count = g.0; value = h.0; word = i.0; name = j.0; room = k.0 }
+
+-- a position that is one
+pub signal_there : (c : Contents) (k : ℕ) → is_no_signal c k ≡ false → k < length c.signals
+signal_there c k none = grind (arith, nat_tests)
+
+neither : (p q : Bool) → (p || q) ≡ false → p ≡ false
+neither true q none = none
+neither false q none = refl
+
+-- the first operand is there where none is missing
+pub first_operand_there : (c : Contents) (rule : Rule) → lacks_operand rule c ≡ false → first_operand rule < length c.signals
+first_operand_there c (Not a) none = signal_there c a none
+first_operand_there c (And a b) none = signal_there c a (neither (is_no_signal c a) (is_no_signal c b) none)
+first_operand_there c (Or a b) none = signal_there c a (neither (is_no_signal c a) (is_no_signal c b) none)
+first_operand_there c (Xor a b) none = signal_there c a (neither (is_no_signal c a) (is_no_signal c b) none)
+first_operand_there c (BitOf a k) none = signal_there c a none
+
+other : (p q : Bool) → (p || q) ≡ false → q ≡ false
+other true q none = absurd (cc)
+other false q none = none
+
+-- each operand is there where none is missing
+pub first_there : (c : Contents) (rule : Rule) → lacks_operand rule c ≡ false → is_no_signal c (first_operand rule) ≡ false
+first_there c (Not a) none = none
+first_there c (And a b) none = neither (is_no_signal c a) (is_no_signal c b) none
+first_there c (Or a b) none = neither (is_no_signal c a) (is_no_signal c b) none
+first_there c (Xor a b) none = neither (is_no_signal c a) (is_no_signal c b) none
+first_there c (BitOf a k) none = none
+
+pub last_there : (c : Contents) (rule : Rule) → lacks_operand rule c ≡ false → is_no_signal c (last_operand rule) ≡ false
+last_there c (Not a) none = none
+last_there c (And a b) none = other (is_no_signal c a) (is_no_signal c b) none
+last_there c (Or a b) none = other (is_no_signal c a) (is_no_signal c b) none
+last_there c (Xor a b) none = other (is_no_signal c a) (is_no_signal c b) none
+last_there c (BitOf a k) none = none
+
+-- a test whose opposite fails holds
+pub holds_where_not : (b : Bool) → not b ≡ false → IsTrue b
+holds_where_not true none = refl
+holds_where_not false none = absurd (cc)

@@ -1,0 +1,102 @@
+-- The piece of a signal with each bit negated.
+use Rattle.std.proofs.Common.{◌≡◌, ℕ, zero, suc, ◌<◌, ◌≤◌, ◌+◌, ◌-◌, Bool, true, false, List, [], ◌∷◌, ◌++◌, length, map, take, drop, get_or, set, refl, sym, ap, ◌∙◌, arith, append_assoc}
+use Rattle.std.proofs.lemmas.List.{length-map, length-replicate, length-append, length-take-le, length-drop, append-nil, drop_all}
+use Rattle.std.proofs.Math.Seq.{drop-cons}
+use Rattle.std.proofs.lemmas.List.Edits.{map_over_more}
+use Rattle.vcd_core.specs.declared.bit.Bit.{Bit}
+use Rattle.vcd_core.specs.declared.bit.Bit.TheVariants.{X}
+use Rattle.vcd_core.specs.declared.wave.Change.{Change}
+use Rattle.vcd_core.specs.Value.{all_x, letter_at, same_letters}
+use Rattle.vcd_core.specs.Wave.{change, unless_same, value_from, changes_of, IsWave, AllUpTo}
+use Rattle.vcd_core.specs.Contents.{Contents, SignalContents, signal_at}
+use Rattle.vcd_edit.specs.declared.edit.Edit.TheVariants.{Invert}
+use Rattle.vcd_edit.specs.Operators.{not_bit}
+use Rattle.vcd_edit.specs.Effect.{inverse_value, with_wave, effect}
+use Rattle.vcd_edit.specs.inside.Thinned.{thinned, with_value}
+use Rattle.vcd_edit.proofs.PieceLists.{element_here}
+use Rattle.vcd_edit.proofs.ThinnedLists.{thinned_is, wave_rises, mapped_rise, mapped_upto, mapped_value}
+
+-- ---- the bits of a value, one after another
+
+-- the default counts not where there is an element
+any_default : (v : List Bit) (i : ℕ) (d e : Bit) → i < length v → get_or v i d ≡ get_or v i e
+any_default [] i d e within = absurd (omega arith)
+any_default (b ∷ v) zero d e within = refl
+any_default (b ∷ v) (suc i) d e within = any_default v i d e (omega arith)
+
+pub inverse_length : (value inverse : List Bit) (place : ℕ) → place ≤ length value → inverse ≡ map not_bit (take place value) ++ drop place value → length inverse ≡ length value
+inverse_length value inverse place within is =
+    omega (
+      arith,
+      ap length is,
+      length-append (map not_bit (take place value)) (drop place value),
+      length-map (take place value) not_bit,
+      length-take-le place value within,
+      length-drop place value,
+    )
+
+pub bit_more : (value inverse next : List Bit) (place k at : ℕ) (bit negated : Bit) → place < length value → length value - 1 - k ≡ place → inverse ≡ map not_bit (take place value) ++ drop place value
+    → bit ≡ letter_at value k → negated ≡ not_bit bit → at ≡ place → next ≡ set inverse at negated → next ≡ map not_bit (take (place + 1) value) ++ drop (place + 1) value
+bit_more value inverse next place k at bit negated within here is read told same written =
+    written ∙ (λ i. set inverse (same i) ((told ∙ ap not_bit (read ∙ ap (λ n. get_or value n X) here)) i))
+    ∙ map_over_more not_bit value inverse place (get_or value place X) within is
+    (any_default value place X (get_or value place X) within ∙ sym (element_here not_bit value inverse place (get_or value place X) within is))
+
+-- ---- the changes of a wave, one after another
+
+-- the last change put, where the rest is still to come
+pub thinned_more : (before last : List Bit) (c : Change) (out more rest all : List Change) → out ++ thinned last (c ∷ rest) ≡ all → more ≡ out ++ unless_same (same_letters c.value last) c []
+    → more ++ thinned c.value rest ≡ all
+unfolding thinned
+thinned_more before last c out more rest all was put =
+    ap (λ (cs : List Change). cs ++ thinned c.value rest) put ∙ append_assoc out (unless_same (same_letters c.value last) c []) (thinned c.value rest)
+    ∙ ap (λ (cs : List Change). out ++ cs) (joined (same_letters c.value last)) ∙ was
+  where
+    joined : (b : Bool) → unless_same b c [] ++ thinned c.value rest ≡ unless_same b c (thinned c.value rest)
+    joined true = refl
+    joined false = refl
+
+-- the changes that are left
+left : (h : List Bit → List Bit) (cs : List Change) (i : ℕ) (c : Change) → i < length cs → c ≡ get_or cs i c
+    → map (with_value h) (drop i cs) ≡ with_value h c ∷ map (with_value h) (drop (i + 1) cs)
+left h cs i c within at =
+    ap (map (with_value h)) (drop-cons cs i c within ∙ ap (λ (d : Change). d ∷ drop (suc i) cs) (sym at)) ∙ ap (λ n. with_value h c ∷ map (with_value h) (drop n cs)) {x = suc i} {y = i + 1} (omega arith)
+
+pub inverse_more : (before last value : List Bit) (cs : List Change) (i : ℕ) (c : Change) (out more : List Change) → i < length cs → c ≡ get_or cs i c → value ≡ map not_bit c.value
+    → out ++ thinned last (map (with_value (map not_bit)) (drop i cs)) ≡ thinned before (map (with_value (map not_bit)) cs)
+    → more ≡ out ++ unless_same (same_letters value last) (change c.tick value) []
+    → more ++ thinned value (map (with_value (map not_bit)) (drop (i + 1) cs)) ≡ thinned before (map (with_value (map not_bit)) cs)
+inverse_more before last value cs i c out more within at is was put =
+    ap (λ v. more ++ thinned v (map (with_value (map not_bit)) (drop (i + 1) cs))) is
+    ∙ thinned_more before last (with_value (map not_bit) c) out more (map (with_value (map not_bit)) (drop (i + 1) cs)) (thinned before (map (with_value (map not_bit)) cs))
+    (ap (λ (rest : List Change). out ++ thinned last rest) (sym (left (map not_bit) cs i c within at)) ∙ was)
+    (put ∙ ap (λ v. out ++ unless_same (same_letters v last) (change c.tick v) []) is)
+
+-- none is left
+pub inverse_done : (before last : List Bit) (cs : List Change) (i : ℕ) (out : List Change) → length cs ≤ i
+    → out ++ thinned last (map (with_value (map not_bit)) (drop i cs)) ≡ thinned before (map (with_value (map not_bit)) cs) → out ≡ thinned before (map (with_value (map not_bit)) cs)
+unfolding thinned
+inverse_done before last cs i out past all =
+    sym (append-nil out) ∙ ap (λ (rest : List Change). out ++ thinned last (map (with_value (map not_bit)) rest)) (sym (drop_all i cs past)) ∙ all
+
+pub inverse_none : (before : List Bit) (cs out : List Change) → out ≡ [] → out ++ thinned before (map (with_value (map not_bit)) (drop 0 cs)) ≡ thinned before (map (with_value (map not_bit)) cs)
+inverse_none before cs out empty = ap (λ (l : List Change). l ++ thinned before (map (with_value (map not_bit)) cs)) empty
+
+-- ---- the whole signal
+
+inverse_of_x : (width : ℕ) → map not_bit (all_x width) ≡ all_x width
+inverse_of_x zero = refl
+inverse_of_x (suc width) = ap (λ (v : List Bit). X ∷ v) (inverse_of_x width)
+
+-- the changes to inverse values, those that change nothing left out
+pub inverse_changes : (end : ℕ) (s : SignalContents) → IsWave s.width s.changes → AllUpTo end s.changes
+    → thinned (all_x s.width) (map (with_value (map not_bit)) s.changes) ≡ changes_of s.width end (inverse_value s)
+inverse_changes end s is upto =
+    thinned_is s.width end (map (with_value (map not_bit)) s.changes) (inverse_value s)
+    (mapped_rise s.width 0 (map not_bit) s.changes (λ v. length-map v not_bit) (wave_rises s.width 0 (all_x s.width) s.changes (length-replicate s.width X) is.rise))
+    (mapped_upto end (map not_bit) s.changes upto)
+    (λ t to. ap (λ v. value_from v (map (with_value (map not_bit)) s.changes) t) (sym (inverse_of_x s.width)) ∙ mapped_value (map not_bit) (all_x s.width) s.changes t)
+
+pub invert_is_wave : (k : ℕ) (c : Contents) → effect (Invert k) c ≡ with_wave c k (inverse_value (signal_at c k))
+unfolding effect
+invert_is_wave k c = refl

@@ -1,0 +1,77 @@
+-- What a capture holds after a piece was put into one of its waves.
+use Rattle.std.proofs.Common.{◌≡◌, ◌≢◌, refl, suc, ℕ, ◌<◌, ◌≤◌, List, ◌∷◌, ◌++◌, length, take, drop, map, get_or, set, slice_index_or, sym, ap, subst, ◌∙◌, inl, inr, arith}
+use Rattle.std.specs.List.{insert, remove}
+use Rattle.std.proofs.lemmas.Bool.{cases_eq}
+use Rattle.std.proofs.lemmas.List.{map-set, get_or-map, get_or-set_same, get_or-set_other, set-get_or, length-map, map-append, take-map, drop-map}
+use Rattle.vcd_core.specs.declared.wave.Change.{Change}
+use Rattle.vcd_core.specs.declared.capture.Signal.{Signal}
+use Rattle.vcd_core.specs.WaveView.{WaveView}
+use Rattle.vcd_core.specs.Contents.{SignalContents, signal_contents, no_signal}
+use Rattle.vcd_edit.specs.Effect.{renamed_signal}
+use Rattle.vcd_edit.specs.Back.{signal_with_changes}
+use Rattle.vcd_edit.specs.inside.Exchanges.{room_at}
+
+-- the signal at a position, by what it holds
+pub contents_at : (signals : List Signal) (k : ℕ) (s : Signal) → k < length signals → s ≡ get_or signals k s → slice_index_or (map signal_contents signals) k no_signal ≡ signal_contents s
+contents_at signals k s within is = get_or-map signal_contents signals k s no_signal within ∙ ap signal_contents (sym is)
+
+-- its changes become others
+pub changes_written : (signals : List Signal) (k : ℕ) (s : Signal) (w : WaveView) (cs : List Change) → k < length signals → s ≡ get_or signals k s → w.width ≡ s.wave.width → w.changes ≡ cs
+    → map signal_contents (set signals k (record s { wave = w })) ≡ set (map signal_contents signals) k (signal_with_changes (slice_index_or (map signal_contents signals) k no_signal) cs)
+changes_written signals k s w cs within is width changes =
+    map-set signal_contents signals k (record s { wave = w })
+    ∙ ap (set (map signal_contents signals) k)
+    (λ i. record {
+      scopes = (sym (contents_at signals k s within is) i).scopes;
+      kind = (sym (contents_at signals k s within is) i).kind;
+      words = (sym (contents_at signals k s within is) i).words;
+      width = (width ∙ ap (λ (t : SignalContents). t.width) (sym (contents_at signals k s within is))) i;
+      changes = changes i;
+    })
+
+-- the rooms elsewhere stay
+pub other_rooms : (signals : List Signal) (k j : ℕ) (s : Signal) → j ≢ k → room_at (set signals k s) j ≡ room_at signals j
+other_rooms signals k j s other =
+    ap (λ l. get_or l j 0) (map-set (λ (t : Signal). t.wave.room) signals k s) ∙ get_or-set_other (map (λ (t : Signal). t.wave.room) signals) k j s.wave.room 0 other
+
+-- with other room alone, the signals hold what they held
+pub contents_kept : (signals : List Signal) (k : ℕ) (s : Signal) (w : WaveView) → k < length signals → s ≡ get_or signals k s → w.width ≡ s.wave.width → w.changes ≡ s.wave.changes
+    → map signal_contents (set signals k (record s { wave = w })) ≡ map signal_contents signals
+contents_kept signals k s w within is width changes =
+    let at = contents_at signals k s within is in
+    changes_written signals k s w s.wave.changes within is width changes
+    ∙ ap (λ cs. set (map signal_contents signals) k (signal_with_changes (slice_index_or (map signal_contents signals) k no_signal) cs)) (ap (λ (t : SignalContents). t.changes) (sym at))
+    ∙ set-get_or (map signal_contents signals) k no_signal
+
+pub room_there : (signals : List Signal) (k : ℕ) (s : Signal) (w : WaveView) → k < length signals → room_at (set signals k (record s { wave = w })) k ≡ w.room
+room_there signals k s w within =
+    ap (λ l. get_or l k 0) (map-set (λ (t : Signal). t.wave.room) signals k (record s { wave = w }))
+    ∙ get_or-set_same (map (λ (t : Signal). t.wave.room) signals) k w.room 0 (omega (arith, length-map signals (λ (t : Signal). t.wave.room), within))
+
+-- and no room is less
+pub rooms_grow : (signals : List Signal) (k : ℕ) (s : Signal) (w : WaveView) → k < length signals → s ≡ get_or signals k s → s.wave.room ≤ w.room
+    → (j : ℕ) → room_at signals j ≤ room_at (set signals k (record s { wave = w })) j
+rooms_grow signals k s w within is more j =
+    elim (cases_eq j k) [
+      | inl same ↦ subst (λ n. room_at signals n ≤ room_at (set signals k (record s { wave = w })) n) (sym same)
+          (omega (arith, get_or-map (λ (t : Signal). t.wave.room) signals k s 0 within, ap (λ (t : Signal). t.wave.room) is, room_there signals k s w within, more))
+      | inr other ↦ omega (arith, other_rooms signals k j (record s { wave = w }) other)
+    ]
+
+-- ---- a word, and a signal put in or taken out
+
+pub word_written : (signals : List Signal) (k : ℕ) (s : Signal) (word : List ℕ) (words : List (List ℕ)) → k < length signals → s ≡ get_or signals k s → words ≡ word ∷ drop 1 s.words
+    → map signal_contents (set signals k (record s { words = words })) ≡ set (map signal_contents signals) k (renamed_signal word (slice_index_or (map signal_contents signals) k no_signal))
+word_written signals k s word words within is written =
+    map-set signal_contents signals k (record s { words = words })
+    ∙ rw (contents_at signals k s within is, written) refl
+
+pub signal_put : (signals : List Signal) (k : ℕ) (s : Signal) → map signal_contents (insert signals k s) ≡ insert (map signal_contents signals) k (signal_contents s)
+signal_put signals k s =
+    map-append signal_contents (take k signals) (s ∷ drop k signals)
+    ∙ (λ i. sym (take-map signal_contents k signals) i ++ signal_contents s ∷ sym (drop-map signal_contents k signals) i)
+
+pub signal_taken : (signals : List Signal) (k : ℕ) → map signal_contents (remove signals k) ≡ remove (map signal_contents signals) k
+signal_taken signals k =
+    map-append signal_contents (take k signals) (drop (suc k) signals)
+    ∙ (λ i. sym (take-map signal_contents k signals) i ++ sym (drop-map signal_contents (suc k) signals) i)

@@ -1,0 +1,15 @@
+use Rattle.std.proofs.Common.{ℕ, sym, ap, ◌∙◌}
+use Rattle.vcd_core.specs.Contents.{Contents, SignalContents, contents, signal_contents, signal_at}
+use Rattle.vcd_edit.proofs.DerivedSignals.{derived_parts}
+use Rattle.vcd_edit.proofs.effects.derive.derived.Goals as goal
+
+pub returns : goal.returns
+returns c =
+    let d : Contents = contents c.args.capture.now in
+    let first : SignalContents = signal_contents c.signal_there-first.result.now in
+    let last : SignalContents = signal_contents c.signal_there-last.result.now in
+    derived_parts d c.args.word.now c.args.rule _ _ _ c.in_ok-derived_wave.field-0 first last
+    (ap (λ (k : ℕ). signal_at d k) (sym c.first_operand.ensures) ∙ c.signal_there-first.ensures.is)
+    (ap (λ (k : ℕ). signal_at d k) (sym c.last_operand.ensures) ∙ c.signal_there-last.ensures.is)
+    (c.in_ok-copy_scopes.ensures ∙ c.as_slice.ensures) c.in_ok-copy_word.ensures c.in_ok-one_word.ensures
+    (c.in_ok-derived_wave.ensures d.end c.signal_there-first.ensures.sound.ticks c.signal_there-last.ensures.sound.ticks)

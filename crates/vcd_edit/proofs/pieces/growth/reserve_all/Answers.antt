@@ -1,0 +1,56 @@
+use Rattle.std.proofs.Common.{◌≡◌, ◌∙◌, ◌<◌, ◌≤◌, All, subst, sym, ap, length, map, arith}
+use Rattle.std.proofs.lemmas.List.{length-map, take_all}
+use Rattle.vcd_core.specs.Contents.{Contents, signal_contents}
+use Rattle.vcd_edit.specs.declared.record.Piece.{Piece}
+use Rattle.vcd_edit.specs.inside.Records.{piece_view}
+use Rattle.vcd_edit.specs.inside.Exchanges.{HasRoom}
+use Rattle.vcd_edit.proofs.PieceLoops.{item_as_first, views_kept, reserved_more}
+use Rattle.vcd_edit.proofs.pieces.growth.reserve_all.Goals as goal
+
+pub reserve_one-requires-clause-within : goal.reserve_one-requires-clause-within
+reserve_one-requires-clause-within c =
+    let l = c.loop-piece in
+    let x = c.piece-item.result in
+    let inside : l.piece-index < length l.pieces = omega arith in
+    let is = item_as_first c.args.pieces.now l.pieces l.piece-index x x inside c.piece-item.is l.invariant.1.rest in
+    let first : x.signal < length c.args.capture.now.signals = subst (λ (p : Piece). p.signal < length c.args.capture.now.signals) (sym is) (c.requires.within l.piece-index x (omega arith)) in
+    let count : length (map signal_contents l.capture.signals) ≡ length (map signal_contents c.args.capture.now.signals) = ap (λ (n : Contents). length n.signals) l.invariant.0 in
+    omega (
+      arith,
+      first,
+      count,
+      length-map l.capture.signals signal_contents,
+      length-map c.args.capture.now.signals signal_contents,
+      ap (λ (p : Piece). p.signal) c.piece-item.is,
+    )
+
+pub reserve_one-requires-clause-ordered : goal.reserve_one-requires-clause-ordered
+reserve_one-requires-clause-ordered c =
+    let l = c.loop-piece in
+    let x = c.piece-item.result in
+    let inside : l.piece-index < length l.pieces = omega arith in
+    let is = item_as_first c.args.pieces.now l.pieces l.piece-index x x inside c.piece-item.is l.invariant.1.rest in
+    subst (λ (p : Piece). p.from ≤ p.to) (sym is ∙ c.piece-item.is) (c.requires.ordered l.piece-index x (omega arith))
+
+pub returns-in_err-reserve_one-clause-pieces : goal.returns-in_err-reserve_one-clause-pieces
+returns-in_err-reserve_one-clause-pieces c =
+    let l = c.loop-piece in
+    let x = c.piece-item.result in
+    let inside : l.piece-index < length l.pieces = omega arith in
+    views_kept c.args.pieces.now l.pieces l.piece-index x c.reserve_one.new.piece inside c.piece-item.is l.invariant.1.rest (c.reserve_one.ensures.piece ∙ ap piece_view (sym c.piece-item.is))
+    ∙ l.invariant.1.same
+
+pub loop-piece-preserved : goal.loop-piece-preserved
+loop-piece-preserved c =
+    let l = c.loop-piece in
+    let x = c.piece-item.result in
+    let inside : l.piece-index < length l.pieces = omega arith in (
+      c.reserve_one.ensures.contents ∙ l.invariant.0,
+      reserved_more c.args.pieces.now l.pieces l.piece-index x c.reserve_one.new.piece l.capture.signals c.reserve_one.new.capture.signals inside c.piece-item.is l.invariant.1
+          (c.reserve_one.ensures.piece ∙ ap piece_view (sym c.piece-item.is)) c.in_ok-reserve_one.ensures.room c.reserve_one.ensures.never_less,
+    )
+
+pub returns-clause-room : goal.returns-clause-room
+returns-clause-room c =
+    let l = c.loop-piece in
+    subst (All (HasRoom l.capture.signals)) (take_all l.piece-index l.pieces (omega arith)) l.invariant.1.room

@@ -1,0 +1,18 @@
+use Rattle.std.proofs.Common.{List, ap, sym, subst, ◌≤◌, OnOk}
+use Rattle.vcd_core.specs.Contents.{Contents, SignalContents, contents}
+use Rattle.vcd_edit.proofs.PiecesPut.{contents_kept, rooms_grow, room_there}
+use Rattle.vcd_edit.proofs.pieces.growth.reserve_wave.Goals as goal
+
+pub returns-clause-contents : goal.returns-clause-contents
+returns-clause-contents c =
+    let old : Contents = contents c.args.capture.now in
+    ap (λ (ss : List SignalContents). record { header = old.header; timescale = old.timescale; end = old.end; signals = ss })
+    (contents_kept c.args.capture.now.signals c.args.signal c.item_mut.result.now c.reserve.new.self c.requires c.item_mut.ensures.value c.reserve.ensures.width c.reserve.ensures.changes)
+
+pub returns-clause-never_less : goal.returns-clause-never_less
+returns-clause-never_less c =
+    rooms_grow c.args.capture.now.signals c.args.signal c.item_mut.result.now c.reserve.new.self c.requires c.item_mut.ensures.value c.reserve.ensures.never_less
+
+pub returns-clause-room : goal.returns-clause-room
+returns-clause-room c =
+    subst (λ n. OnOk c.reserve.result (c.args.more ≤ n)) (sym (room_there c.args.capture.now.signals c.args.signal c.item_mut.result.now c.reserve.new.self c.requires)) c.reserve.ensures.room

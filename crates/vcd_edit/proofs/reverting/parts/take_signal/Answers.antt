@@ -1,0 +1,12 @@
+use Rattle.std.proofs.Common.{List, map, ap, ◌∙◌}
+use Rattle.std.specs.List.{remove}
+use Rattle.vcd_core.specs.Contents.{Contents, SignalContents, signal_contents, contents}
+use Rattle.vcd_edit.proofs.PiecesPut.{signal_taken}
+use Rattle.vcd_edit.proofs.reverting.parts.take_signal.Goals as goal
+
+pub returns-clause-there : goal.returns-clause-there
+returns-clause-there c =
+    let old : Contents = contents c.args.capture.now in
+    ap (λ (ss : List SignalContents). record { header = old.header; timescale = old.timescale; end = old.end; signals = ss })
+    (ap (map signal_contents) (c.from_vec.ensures ∙ c.remove-signal.ensures.items
+    ∙ ap (λ l. remove l c.args.at) (c.into_vec-signals.ensures ∙ c.replace.ensures.value)) ∙ signal_taken c.args.capture.now.signals c.args.at)

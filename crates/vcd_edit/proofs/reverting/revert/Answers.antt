@@ -1,0 +1,12 @@
+use Rattle.std.proofs.lemmas.Result.{IfOk-weaker}
+use Rattle.vcd_core.specs.Contents.{contents}
+use Rattle.vcd_edit.specs.Touched.{piece_offset}
+use Rattle.vcd_edit.specs.inside.Opposites.{LeadsOtherWay}
+use Rattle.vcd_edit.proofs.TouchedSums.{own_offsets}
+use Rattle.vcd_edit.proofs.reverting.revert.Goals as goal
+
+pub returns-clause-bound : goal.returns-clause-bound
+returns-clause-bound c =
+    let way = c.args.way in
+    IfOk-weaker c.exchange.result (LeadsOtherWay (contents c.args.capture.now) way) _ (λ q leads. leads.stored (piece_offset way.pieces) (own_offsets way.pieces c.exchange.ensures.apart))
+    c.exchange.ensures.opposite

@@ -1,0 +1,11 @@
+-- A law that joins the definitions: the project's own.
+use Rattle.std.specs.Prelude.{◌≡◌, None}
+use Rattle.vcd_core.specs.Contents.{Contents}
+use Rattle.vcd_core.specs.Sound.{IsSound}
+use Rattle.vcd_edit.specs.declared.edit.Edit.{Edit}
+use Rattle.vcd_edit.specs.Effect.{effect}
+use Rattle.vcd_edit.specs.Allowed.{fault}
+
+-- what an edit with no fault makes of a sound capture is sound
+abbrev pub EffectIsSound : Type 0
+EffectIsSound = (e : Edit) (c : Contents) → IsSound c → fault e c ≡ None → IsSound (effect e c)

@@ -1,0 +1,10 @@
+pub mod FaultNames
+pub mod Operators
+pub mod Effect
+pub mod Allowed
+pub mod Laws
+pub mod RecordView
+pub mod Back
+pub mod Touched
+pub mod TouchedByEdit
+pub mod inside

@@ -1,0 +1,91 @@
+-- How many changes a step touches, signal by signal: the bound of what a record stores. The project's own.
+use Rattle.std.specs.Prelude.{ℕ, suc, ◌+◌, ◌-◌, ◌==◌, ◌&&◌, if◌then◌else◌, ℤ, pos, ◌-ℤ◌, neg_ℤ, Bool, List, [], ◌∷◌, length, drop, map, reverse, Option, Some, None}
+use Rattle.std.specs.List.{common_prefix_len, insert, remove, sum_by}
+use Rattle.std.specs.Ordering.{int_eq}
+use Rattle.vcd_core.specs.declared.wave.Change.{Change}
+use Rattle.vcd_core.specs.Value.{same_letters}
+use Rattle.vcd_core.specs.Contents.{Contents, SignalContents}
+use Rattle.vcd_edit.specs.RecordView.{PieceView, RecordView}
+use Rattle.vcd_edit.specs.Back.{back}
+
+-- ---- the touched changes of a list
+
+-- whether two changes have the same tick and value
+abbrev pub same_change : Change → Change → Bool
+same_change a b = (a.tick == b.tick) && same_letters a.value b.value
+
+-- whether the first change, `offset` ticks earlier, is the second
+abbrev pub same_lowered : ℤ → Change → Change → Bool
+same_lowered offset a b = int_eq (pos a.tick -ℤ offset) (pos b.tick) && same_letters a.value b.value
+
+-- how many of the last changes of two lists are the same, the old ticks lowered
+abbrev pub common_suffix_lowered : ℤ → List Change → List Change → ℕ
+common_suffix_lowered offset old new = common_prefix_len (same_lowered offset) (reverse old) (reverse new)
+
+-- the old changes without the longest common prefix, and without the longest common suffix of what remains
+unfoldable pub touched_count : ℤ → List Change → List Change → ℕ
+touched_count offset old new =
+    let front = common_prefix_len same_change old new in
+    length old - front - common_suffix_lowered offset (drop front old) (drop front new)
+
+-- ---- each signal of a capture beside what it is after a step
+
+-- the step leaves each signal in its place, takes the one at a position out, or puts one in there
+pub data Pairing : Type 0 where
+  stays : Pairing
+  takes_out : ℕ → Pairing
+  puts_in : ℕ → Pairing
+
+-- for each signal before the step what it is after it: none where it is taken out
+abbrev pub partners : Pairing → List SignalContents → List (Option SignalContents)
+partners stays after = map Some after
+partners (takes_out k) after = insert (map Some after) k None
+partners (puts_in k) after = map Some (remove after k)
+
+-- a signal that is taken out is touched whole
+abbrev pub touched_of : ℤ → SignalContents → Option SignalContents → ℕ
+touched_of offset s None = length s.changes
+touched_of offset s (Some n) = touched_count offset s.changes n.changes
+
+-- the sum over the signals from position k on, each with its own offset
+unfoldable pub touched_from : (ℕ → ℤ) → ℕ → List SignalContents → List (Option SignalContents) → ℕ
+touched_from offset k [] ns = 0
+touched_from offset k (s ∷ ss) [] = 0
+touched_from offset k (s ∷ ss) (n ∷ ns) = touched_of (offset k) s n + touched_from offset (suc k) ss ns
+
+-- ---- what a revert of a record touches
+
+-- the opposite of the offset of the piece for a signal, and 0 where there is none
+unfoldable pub piece_offset : List PieceView → ℕ → ℤ
+piece_offset [] k = pos 0
+piece_offset (p ∷ ps) k = if p.signal == k then neg_ℤ p.by else piece_offset ps k
+
+-- the step that puts a signal in at a position, or takes the one there out
+abbrev pub pairing_of_move : ℕ → Option SignalContents → Pairing
+pairing_of_move k (Some s) = puts_in k
+pairing_of_move k None = takes_out k
+
+-- the same of what a record says of a signal
+abbrev pub record_pairing : Option (ℕ × Option SignalContents) → Pairing
+record_pairing None = stays
+record_pairing (Some m) = pairing_of_move m.0 m.1
+
+-- the sum over all signals
+abbrev pub touched_by_record : RecordView → Contents → ℕ
+touched_by_record r c = touched_from (piece_offset r.pieces) 0 c.signals (partners (record_pairing r.signal) (back r c).signals)
+
+-- ---- what a record stores
+
+-- how many changes a signal has, if there is one
+abbrev pub change_count : Option SignalContents → ℕ
+change_count None = 0
+change_count (Some s) = length s.changes
+
+-- how many are in a signal to put in
+abbrev pub moved_change_count : Option (ℕ × Option SignalContents) → ℕ
+moved_change_count None = 0
+moved_change_count (Some m) = change_count m.1
+
+-- the changes in its pieces and in a signal to put in
+abbrev pub stored_changes : RecordView → ℕ
+stored_changes r = sum_by (λ p. length p.changes) r.pieces + moved_change_count r.signal

@@ -1,0 +1,23 @@
+-- How many changes an edit touches: the bound of what its record stores. The project's own.
+use Rattle.std.specs.Prelude.{ℕ, ℤ, pos, ◌-ℤ◌, neg_ℤ, length}
+use Rattle.vcd_core.specs.Contents.{Contents}
+use Rattle.vcd_edit.specs.declared.edit.Edit.{Edit}
+use Rattle.vcd_edit.specs.declared.edit.Edit.TheVariants.{Remove, Shift, Cut, Derive}
+use Rattle.vcd_edit.specs.Effect.{effect}
+use Rattle.vcd_edit.specs.Touched.{Pairing, stays, takes_out, puts_in, partners, touched_from}
+
+-- by how many ticks the edit brings the later changes to an earlier tick
+abbrev pub edit_offset : Edit → ℤ
+edit_offset (Cut from to) = pos to -ℤ pos from
+edit_offset (Shift k by) = neg_ℤ by
+edit_offset e = pos 0
+
+-- whether the edit takes a signal out or puts one in
+abbrev pub edit_pairing : Edit → Contents → Pairing
+edit_pairing (Remove k) c = takes_out k
+edit_pairing (Derive word rule) c = puts_in (length c.signals)
+edit_pairing e c = stays
+
+-- the sum over all signals
+abbrev pub touched_by_edit : Edit → Contents → ℕ
+touched_by_edit e c = touched_from (λ k. edit_offset e) 0 c.signals (partners (edit_pairing e c) (effect e c).signals)

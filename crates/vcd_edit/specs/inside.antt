@@ -1,0 +1,10 @@
+-- Stepping stones: definitions that only contracts of private functions and proofs cite. A reader need not believe them.
+pub mod Ranges
+pub mod Plans
+pub mod Thinned
+pub mod Derived
+pub mod Records
+pub mod Trims
+pub mod Exchanges
+pub mod Opposites
+pub mod Seams

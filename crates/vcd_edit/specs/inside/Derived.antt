@@ -1,0 +1,45 @@
+-- How a derived signal is made from the edges of its operands.
+use Rattle.std.specs.Prelude.{◌≡◌, ℕ, ◌≤◌, List, [], ◌∷◌, Option, Some, All}
+use Rattle.vcd_core.specs.declared.bit.Bit.{Bit}
+use Rattle.vcd_core.specs.declared.bit.Bit.TheVariants.{X}
+use Rattle.vcd_core.specs.declared.edges.Edge.{Edge}
+use Rattle.vcd_core.specs.declared.wave.Change.{Change}
+use Rattle.vcd_core.specs.Value.{all_x, letter_at}
+use Rattle.vcd_core.specs.Wave.{change, value_from, value_at, AllUpTo}
+use Rattle.vcd_core.specs.WaveView.{WaveView}
+use Rattle.vcd_edit.specs.declared.edit.Rule.{Rule}
+use Rattle.vcd_edit.specs.declared.edit.Rule.TheVariants.{Not, And, Or, Xor, BitOf}
+use Rattle.vcd_edit.specs.Operators.{not_bit, and_bit, or_bit, xor_bit}
+use Rattle.vcd_edit.specs.inside.Thinned.{TicksRise}
+
+-- the position of a rule's last operand: the first where there is one alone
+abbrev pub last_operand : Rule → ℕ
+last_operand (Not a) = a
+last_operand (And a b) = b
+last_operand (Or a b) = b
+last_operand (Xor a b) = b
+last_operand (BitOf a k) = a
+
+-- what a rule gives for the values of its first and its last operand
+abbrev pub operator_bit : Rule → List Bit → List Bit → Bit
+operator_bit (Not a) v w = not_bit (letter_at v 0)
+operator_bit (And a b) v w = and_bit (letter_at v 0) (letter_at w 0)
+operator_bit (Or a b) v w = or_bit (letter_at v 0) (letter_at w 0)
+operator_bit (Xor a b) v w = xor_bit (letter_at v 0) (letter_at w 0)
+operator_bit (BitOf a k) v w = letter_at v k
+
+-- what it gives for the values at an edge
+abbrev pub edge_bit : Rule → List (Option (List Bit)) → Bit
+edge_bit rule (Some v ∷ Some w ∷ others) = operator_bit rule v w
+edge_bit rule values = X
+
+abbrev pub edge_change : Rule → Edge → Change
+edge_change rule e = change e.tick (edge_bit rule e.at ∷ [])
+
+-- the wave and the changes that are left give the values of all of them
+pub record IsMade (all left : List Change) (w : WaveView) : Type 0 where
+  pub width : w.width ≡ 1
+  pub values : (t : ℕ) → value_from (value_at 1 w.changes t) left t ≡ value_from (all_x 1) all t
+  pub rise : TicksRise 1 0 left
+  pub before : All (λ c. All (λ d. c.tick ≤ d.tick) left) w.changes
+  pub upto : (end : ℕ) → AllUpTo end all → AllUpTo end w.changes × AllUpTo end left

@@ -1,0 +1,75 @@
+-- How pieces and parts of waves change places: what is asked, and what then leads back.
+use Rattle.std.specs.Prelude.{◌≡◌, ℕ, ◌+◌, ◌-◌, ◌^◌, ◌<◌, ◌≤◌, neg_ℤ, List, [], ◌∷◌, length, take, drop, map, slice_index_or, All, vec_len, vec_capacity}
+use Rattle.vcd_core.specs.declared.wave.Change.{Change}
+use Rattle.vcd_core.specs.declared.capture.Signal.{Signal}
+use Rattle.vcd_core.specs.declared.capture.TheConstants.{END_LIMIT}
+use Rattle.vcd_core.specs.Contents.{Contents, signal_at}
+use Rattle.vcd_core.specs.Wave.{IsWave}
+use Rattle.vcd_core.specs.Splice.{TicksFit}
+use Rattle.vcd_edit.specs.declared.record.Piece.{Piece}
+use Rattle.vcd_edit.specs.RecordView.{PieceView}
+use Rattle.vcd_edit.specs.Back.{changes_with_piece, with_piece, with_pieces, AreApart}
+use Rattle.vcd_edit.specs.inside.Records.{piece_view}
+use Rattle.vcd_edit.specs.Touched.{touched_count}
+
+-- ---- one wave
+
+-- a piece may take its place in the changes of a wave
+pub record PieceReady (width : ℕ) (cs : List Change) (p : PieceView) : Type 0 where
+  pub ordered : p.from ≤ p.to
+  pub within : p.to ≤ length cs
+  pub ticks : TicksFit p.by (drop p.to cs)
+  pub form : IsWave width (changes_with_piece p cs)
+  pub small : All (λ c. c.tick < 2 ^ 64) p.changes
+  pub upto : All (λ c. c.tick ≤ END_LIMIT) cs
+
+-- the second piece leads back from what the first makes of a list, and has touched changes alone
+pub record LeadsBack (cs : List Change) (p q : PieceView) : Type 0 where
+  pub signal : q.signal ≡ p.signal
+  pub ordered : q.from ≤ q.to
+  pub within : q.to ≤ length (changes_with_piece p cs)
+  pub ticks : TicksFit q.by (drop q.to (changes_with_piece p cs))
+  pub back : changes_with_piece q (changes_with_piece p cs) ≡ cs
+  pub stored : length q.changes ≤ touched_count (neg_ℤ p.by) cs (changes_with_piece p cs)
+
+-- ---- a capture
+
+-- a piece may take its place in its signal
+pub record PieceReadyIn (c : Contents) (p : PieceView) : Type 0 where
+  pub signal : p.signal < length c.signals
+  pub ready : PieceReady (signal_at c p.signal).width (signal_at c p.signal).changes p
+
+-- the pieces of the second list lead back, each from what that of the first makes, one after another
+abbrev pub LeadBack : Contents → List PieceView → List PieceView → Type 0
+LeadBack c [] [] = Unit {0}
+LeadBack c [] (q ∷ qs) = ⊥
+LeadBack c (p ∷ ps) [] = ⊥
+LeadBack c (p ∷ ps) (q ∷ qs) = (p.signal < length c.signals) × LeadsBack (signal_at c p.signal).changes p q × LeadBack (with_piece c p) ps qs
+
+-- ---- room
+
+-- how many more changes the wave at a position holds
+abbrev pub room_at : List Signal → ℕ → ℕ
+room_at ss k = slice_index_or (map (λ s. s.wave.room) ss) k 0
+
+-- a piece and its wave have the room for what the other gives
+pub record HasRoom (ss : List Signal) (p : Piece) : Type 0 where
+  pub wave : vec_len p.changes ≤ room_at ss p.signal + (p.to - p.from)
+  pub piece : p.to - p.from ≤ vec_capacity p.changes
+
+-- ---- how far the pieces have come
+
+-- room was made for the first i pieces; the later ones are as at first
+pub record ReservedSoFar (old : List Piece) (i : ℕ) (new : List Piece) (ss : List Signal) : Type 0 where
+  pub rest : drop i new ≡ drop i old
+  pub same : map piece_view new ≡ map piece_view old
+  pub room : All (HasRoom ss) (take i new)
+
+-- the first i pieces were put in and now lead back, and the later ones are as at first, and ready
+pub record PutSoFar (before : Contents) (old : List Piece) (i : ℕ) (new : List Piece) (now : Contents) (ss : List Signal) : Type 0 where
+  pub rest : drop i new ≡ drop i old
+  pub there : now ≡ with_pieces before (map piece_view (take i old))
+  pub back : LeadBack before (map piece_view (take i old)) (map piece_view (take i new))
+  pub ready : All (PieceReadyIn now) (map piece_view (drop i old))
+  pub apart : AreApart (map piece_view (drop i old))
+  pub room : All (HasRoom ss) (drop i old)

@@ -1,0 +1,30 @@
+-- The parts of a record as plain data.
+use Rattle.std.specs.Prelude.{ℕ, List, Option, Some, None, map}
+use Rattle.std.specs.Global.{Vec}
+use Rattle.vcd_core.specs.declared.capture.Signal.{Signal}
+use Rattle.vcd_core.specs.Contents.{SignalContents, signal_contents}
+use Rattle.vcd_edit.specs.declared.record.Piece.{Piece}
+use Rattle.vcd_edit.specs.RecordView.{PieceView, RecordView}
+
+-- a piece by its numbers and its changes
+abbrev pub piece_view : Piece → PieceView
+piece_view p = record { signal = p.signal; from = p.from; to = p.to; changes = p.changes.items; by = p.by }
+
+-- a word with its position, as its bytes
+abbrev pub word_view : Option (ℕ × Vec ℕ) → Option (ℕ × List ℕ)
+word_view None = None
+word_view (Some w) = Some (w.0, w.1.items)
+
+-- what a signal holds, if there is one
+abbrev pub contents_of_signal : Option Signal → Option SignalContents
+contents_of_signal None = None
+contents_of_signal (Some s) = Some (signal_contents s)
+
+-- with its position
+abbrev pub moved_signal_view : Option (ℕ × Option Signal) → Option (ℕ × Option SignalContents)
+moved_signal_view None = None
+moved_signal_view (Some m) = Some (m.0, contents_of_signal m.1)
+
+-- a record of these parts
+abbrev pub record_view : List Piece → Option (ℕ × Vec ℕ) → Option (ℕ × Option Signal) → Option ℕ → RecordView
+record_view pieces word signal end = record { pieces = map piece_view pieces; word = word_view word; signal = moved_signal_view signal; other_end = end }

@@ -1,0 +1,30 @@
+-- Changes of which only those count that change the value.
+use Rattle.std.specs.Prelude.{ℕ, Bool, ◌==◌, ◌||◌, ◌-◌, ◌+◌, ◌≤◌, ◌≡◌, length, true, if◌then◌else◌, nat_le, List, [], ◌∷◌}
+use Rattle.vcd_core.specs.declared.bit.Bit.{Bit}
+use Rattle.vcd_core.specs.declared.wave.Change.{Change}
+use Rattle.vcd_core.specs.Value.{same_letters}
+use Rattle.vcd_core.specs.Wave.{change, unless_same}
+
+-- ticks rise strictly from a floor on, and values have one width
+abbrev pub TicksRise : ℕ → ℕ → List Change → Type 0
+TicksRise width floor [] = Unit {0}
+TicksRise width floor (c ∷ cs) = (floor ≤ c.tick) × (length c.value ≡ width) × TicksRise width (c.tick + 1) cs
+
+-- each change whose value is another than the one before it
+unfoldable pub thinned : List Bit → List Change → List Change
+thinned before [] = []
+thinned before (c ∷ cs) = unless_same (same_letters c.value before) c (thinned c.value cs)
+
+-- a change to another value
+abbrev pub with_value : (List Bit → List Bit) → Change → Change
+with_value h c = change c.tick (h c.value)
+
+-- whether the run of one value that begins with a change holds tick 0, or the end, or at least so many ticks
+abbrev pub begins_steady : ℕ → Change → List Change → Bool
+begins_steady ticks c [] = true
+begins_steady ticks c (next ∷ cs) = c.tick == 0 || nat_le ticks (next.tick - c.tick)
+
+-- the changes that begin such runs
+unfoldable pub steady_changes : ℕ → List Change → List Change
+steady_changes ticks [] = []
+steady_changes ticks (c ∷ cs) = if begins_steady ticks c cs then c ∷ steady_changes ticks cs else steady_changes ticks cs

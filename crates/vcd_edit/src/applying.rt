@@ -1,0 +1,52 @@
+//! Edits made.
+
+ghost use Rattle.std.specs.Prelude.{◌≡◌, ◌≤◌, None, IfOk, OnOk, IfErr, OnErr};
+ghost use Rattle.vcd_core.specs.Contents.{contents};
+ghost use Rattle.vcd_core.specs.Sound.{IsSound};
+ghost use Rattle.vcd_edit.specs.Effect.{effect as edit_effect};
+ghost use Rattle.vcd_edit.specs.Allowed.{fault, MayRefuse};
+ghost use Rattle.vcd_edit.specs.Back.{back, Fits};
+ghost use Rattle.vcd_edit.specs.Touched.{stored_changes};
+ghost use Rattle.vcd_edit.specs.TouchedByEdit.{touched_by_edit};
+
+use crate::checking::check;
+use crate::edit::Edit;
+use crate::effects::plan;
+use crate::fault::EditError;
+use crate::record::Record;
+use crate::reverting::exchange;
+use std::alloc::Global;
+use vcd_core::Capture;
+
+#[cfg(test)]
+mod tests;
+
+/// Makes an edit of a capture, and gives the record that takes it back.
+///
+/// An edit that has a fault, as [`check`] tells it, is refused by it, without memory; want of memory comes
+/// after every fault. After any refusal the capture is as it was. The record holds touched changes alone.
+///
+/// A force and a shift take a search by halves, the changes that they put in and take out, and one move of
+/// the later ones, a cut that in every signal with changes from its first tick on. An invert, a deglitch, and
+/// a shift that pushes changes out past the end take one pass over the wave and a list of its changes aside,
+/// and a derive one merged pass over its operands.
+pub fn apply(alloc: Global, capture: &mut Capture, edit: &Edit) -> Result<Record, EditError>
+    requires { IsSound (contents capture.old) }
+    ensures allowed { OnOk result (fault edit.now (contents capture.old) ≡ None) }
+    ensures effect { OnOk result
+        (contents capture.new ≡ edit_effect edit.now (contents capture.old)) }
+    ensures fits { IfOk result (λ r. Fits r (contents capture.new)) }
+    ensures back { IfOk result (λ r. back r (contents capture.new) ≡ contents capture.old) }
+    ensures bound { IfOk result
+        (λ r. stored_changes r ≤ touched_by_edit edit.now (contents capture.old)) }
+    ensures sound { OnOk result (IsSound (contents capture.new)) }
+    ensures refused { IfErr result (MayRefuse (fault edit.now (contents capture.old))) }
+    ensures unchanged { OnErr result (contents capture.new ≡ contents capture.old) }
+{
+    check(capture, edit)?;
+    let way = plan(alloc, capture, edit)?;
+    match exchange(alloc, capture, way) {
+        Ok(record) => Ok(record),
+        Err(_) => Err(EditError::NoMemory),
+    }
+}

@@ -1,0 +1,98 @@
+//! Which fault an edit has.
+
+ghost use Rattle.std.specs.Prelude.{◌∷◌, []};
+ghost use Rattle.vcd_core.specs.Contents.{contents};
+ghost use Rattle.vcd_edit.specs.Allowed.{is_no_signal, first_fault, fault, TellsFault};
+ghost use Rattle.vcd_edit.specs.declared.edit.Edit.TheVariants as edits;
+ghost use Rattle.vcd_edit.specs.declared.fault.EditError.TheVariants as errors;
+
+mod names;
+mod operands;
+
+use crate::edit::Edit;
+use crate::fault::EditError;
+use names::{check_derive, check_rename};
+use vcd_core::{Capture, Value};
+
+#[tactic(auto, unfolding(crate::specs::Allowed::fault))]
+/// Tells which fault an edit has on a capture, where it has one: the first that holds, in the order of
+/// [`EditError`].
+///
+/// It takes no memory. Its time grows with the signals and their names where the edit gives a name, else
+/// it is bounded.
+pub fn check(capture: &Capture, edit: &Edit) -> Result<(), EditError>
+    ensures { TellsFault result (fault edit.now (contents capture.now)) }
+{
+    match *edit {
+        Edit::Rename { signal, word } => check_rename(capture, signal, word),
+        Edit::Remove { signal } | Edit::Invert { signal } | Edit::Shift { signal, .. } => {
+            check_signal(capture, signal)
+        }
+        Edit::Cut { from, to } => check_cut(capture, from, to),
+        Edit::Deglitch { signal, ticks } => check_deglitch(capture, signal, ticks),
+        Edit::Force {
+            signal,
+            from,
+            to,
+            value,
+        } => check_force(capture, signal, from, to, value),
+        Edit::Derive { word, rule } => check_derive(capture, word, rule),
+    }
+}
+
+/// Whether there is a signal at a position.
+fn check_signal(capture: &Capture, signal: usize) -> Result<(), EditError>
+    ensures { TellsFault result (first_fault
+        ((is_no_signal (contents capture.now) signal, errors.NoSuchSignal) ∷ [])) }
+{
+    if signal >= capture.signals().len() {
+        return Err(EditError::NoSuchSignal);
+    }
+    Ok(())
+}
+
+#[tactic(auto, unfolding(crate::specs::Allowed::fault))]
+fn check_cut(capture: &Capture, from: u64, to: u64) -> Result<(), EditError>
+    ensures { TellsFault result (fault (edits.Cut from to) (contents capture.now)) }
+{
+    if from >= to || to > capture.end() {
+        return Err(EditError::BadRange);
+    }
+    Ok(())
+}
+
+#[tactic(auto, unfolding(crate::specs::Allowed::fault))]
+fn check_deglitch(capture: &Capture, signal: usize, ticks: u64) -> Result<(), EditError>
+    ensures { TellsFault result (fault (edits.Deglitch signal ticks) (contents capture.now)) }
+{
+    if signal >= capture.signals().len() {
+        return Err(EditError::NoSuchSignal);
+    }
+    if ticks == 0 {
+        return Err(EditError::BadCount);
+    }
+    Ok(())
+}
+
+#[tactic(auto, unfolding(crate::specs::Allowed::fault))]
+fn check_force(
+    capture: &Capture,
+    signal: usize,
+    from: u64,
+    to: u64,
+    value: Value,
+) -> Result<(), EditError>
+    ensures { TellsFault result (fault (edits.Force signal from to value) (contents capture.now)) }
+{
+    let signals = capture.signals();
+    if signal >= signals.len() {
+        return Err(EditError::NoSuchSignal);
+    }
+    if from >= to || to - 1 > capture.end() {
+        return Err(EditError::BadRange);
+    }
+    if value.width() != signals[signal].wave.width() {
+        return Err(EditError::BadValue);
+    }
+    Ok(())
+}

@@ -1,0 +1,83 @@
+//! Which fault a name has that an edit gives.
+
+ghost use Rattle.std.specs.Prelude.{◌≡◌, ◌<◌, false, map, drop, length, slice_index_or};
+ghost use Rattle.std.specs.List.{list_any, remove};
+ghost use Rattle.std.specs.Str.{bytes_eq};
+ghost use Rattle.vcd_core.specs.Contents.{contents, signal_contents, no_signal};
+ghost use Rattle.vcd_core.specs.Names.{full_name, full_names};
+ghost use Rattle.vcd_edit.specs.Effect.{renamed_signal};
+ghost use Rattle.vcd_edit.specs.Allowed.{lacks_operand, takes_name, fault, TellsFault};
+ghost use Rattle.vcd_edit.specs.declared.edit.Edit.TheVariants as edits;
+
+use crate::checking::operands::check_operands;
+use crate::edit::Rule;
+use crate::fault::EditError;
+use vcd_core::{Capture, FullName, SIGNAL_LIMIT, Signal, Word, is_word};
+
+#[tactic(auto, unfolding(crate::specs::Allowed::fault))]
+pub(crate) fn check_rename(capture: &Capture, signal: usize, word: &[u8]) -> Result<(), EditError>
+    ensures { TellsFault result (fault (edits.Rename signal word.entry) (contents capture.now)) }
+{
+    let signals = capture.signals();
+    if signal >= signals.len() {
+        return Err(EditError::NoSuchSignal);
+    }
+    if !is_word(word) {
+        return Err(EditError::BadWord);
+    }
+    if is_name_taken(signals, signal, word) {
+        return Err(EditError::NameTaken);
+    }
+    Ok(())
+}
+
+/// Whether another signal already has the full name that would arise.
+fn is_name_taken(signals: &[Signal], signal: usize, word: &[u8]) -> bool
+    requires { signal < length signals.now }
+    ensures { result ≡ list_any
+        (bytes_eq (full_name (renamed_signal word.now
+        (slice_index_or (map signal_contents signals.now) signal no_signal))))
+        (full_names (remove (map signal_contents signals.now) signal)) }
+{
+    let renamed = &signals[signal];
+    let others = behind_first(renamed.words.as_slice());
+    let name = FullName::new(renamed.scopes.as_slice(), word, others);
+    name.is_taken(&signals[..signal]) || name.is_taken(&signals[signal + 1..])
+}
+
+/// The words of a name but the first.
+fn behind_first(words: &[Word]) -> &[Word]
+    ensures { result.now ≡ drop 1 words.now }
+{
+    match words {
+        [_, others @ ..] => others,
+        [] => words,
+    }
+}
+
+#[tactic(auto, unfolding(crate::specs::Allowed::fault))]
+pub(crate) fn check_derive(capture: &Capture, word: &[u8], rule: Rule) -> Result<(), EditError>
+    ensures { TellsFault result (fault (edits.Derive word.entry rule) (contents capture.now)) }
+{
+    check_operands(capture, rule)?;
+    if !is_word(word) {
+        return Err(EditError::BadWord);
+    }
+    if is_derived_name_taken(capture, word, rule) {
+        return Err(EditError::NameTaken);
+    }
+    if capture.signals().len() >= SIGNAL_LIMIT {
+        return Err(EditError::TooManySignals);
+    }
+    Ok(())
+}
+
+/// Whether a signal already has the full name that would arise.
+fn is_derived_name_taken(capture: &Capture, word: &[u8], rule: Rule) -> bool
+    requires { lacks_operand rule (contents capture.now) ≡ false }
+    ensures { result ≡ takes_name (edits.Derive word.entry rule) (contents capture.now) }
+{
+    let signals = capture.signals();
+    let scopes = signals[rule.first_operand()].scopes.as_slice();
+    FullName::new(scopes, word, &[]).is_taken(signals)
+}

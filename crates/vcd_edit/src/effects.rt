@@ -1,0 +1,47 @@
+//! What each edit asks for: a record that leads to its effect. Nothing is written here.
+
+ghost use Rattle.std.specs.Prelude.{◌≡◌, None, IfOk};
+ghost use Rattle.vcd_core.specs.Contents.{contents};
+ghost use Rattle.vcd_core.specs.Sound.{IsSound};
+ghost use Rattle.vcd_edit.specs.Allowed.{fault};
+ghost use Rattle.vcd_edit.specs.inside.Plans.{IsPlan};
+
+mod copies;
+mod cut;
+mod deglitch;
+mod derive;
+mod force;
+mod invert;
+mod making;
+mod operators;
+mod remove;
+mod rename;
+mod shift;
+
+use crate::edit::Edit;
+use crate::record::Record;
+use std::alloc::Global;
+use vcd_core::{Capture, NoMemory};
+
+/// The record that leads to the effect of an edit.
+pub(crate) fn plan(alloc: Global, capture: &Capture, edit: &Edit) -> Result<Record, NoMemory>
+    requires sound { IsSound (contents capture.now) }
+    requires allowed { fault edit.now (contents capture.now) ≡ None }
+    ensures { IfOk result (IsPlan edit.now (contents capture.now)) }
+{
+    match *edit {
+        Edit::Rename { signal, word } => rename::plan(alloc, capture, signal, word),
+        Edit::Remove { signal } => Ok(remove::plan(alloc, capture, signal)),
+        Edit::Invert { signal } => invert::plan(alloc, capture, signal),
+        Edit::Shift { signal, by } => shift::plan(alloc, capture, signal, by),
+        Edit::Cut { from, to } => cut::plan(alloc, capture, from, to),
+        Edit::Force {
+            signal,
+            from,
+            to,
+            value,
+        } => force::plan(alloc, capture, signal, from, to, value),
+        Edit::Deglitch { signal, ticks } => deglitch::plan(alloc, capture, signal, ticks),
+        Edit::Derive { word, rule } => derive::plan(alloc, capture, word, rule),
+    }
+}

@@ -1,0 +1,86 @@
+//! A range of ticks cut out.
+
+ghost use Rattle.std.specs.Prelude.{◌≡◌, ◌<◌, ◌≤◌, ◌+◌, ◌-◌, ◌^◌, ℕ, None, IfOk, All, length, map, count_by, nat_lt, IsTrue, ◌↔◌, pos, neg_ℤ};
+ghost use Rattle.vcd_core.specs.Contents.{Contents, contents, signal_contents};
+ghost use Rattle.vcd_core.specs.Sound.{IsSound, IsSoundSignal};
+ghost use Rattle.vcd_edit.specs.Effect.{cut_value, signal_after_cut};
+ghost use Rattle.vcd_edit.specs.Allowed.{fault};
+ghost use Rattle.vcd_edit.specs.inside.Records.{piece_view};
+ghost use Rattle.vcd_edit.specs.inside.Plans.{IsPlan, GivesValues, LeadEach};
+ghost use Rattle.vcd_edit.specs.declared.edit.Edit.TheVariants as edits;
+
+use crate::effects::making::{earlier, put_change, value_before};
+use crate::record::{Piece, Record};
+use std::alloc::Global;
+use vcd_core::{Capture, END_LIMIT, NoMemory, Signal, Wave};
+
+/// The record of a piece for each signal that has changes from the first tick on that is cut out.
+pub(crate) fn plan(alloc: Global, capture: &Capture, from: u64, to: u64) -> Result<Record, NoMemory>
+    requires sound { IsSound (contents capture.now) }
+    requires allowed { fault (edits.Cut from to) (contents capture.now) ≡ None }
+    ensures { IfOk result (IsPlan (edits.Cut from to) (contents capture.now)) }
+{
+    let pieces = cut_pieces(alloc, capture.signals(), from, to)?;
+    Ok(Record {
+        pieces,
+        word: None,
+        signal: None,
+        other_end: Some(capture.end() - (to - from)),
+    })
+}
+
+/// The pieces of the signals with changes from `from` on.
+fn cut_pieces(alloc: Global, signals: &[Signal], from: u64, to: u64) -> Result<Vec<Piece>, NoMemory>
+    requires some { from < to }
+    requires small { to ≤ END_LIMIT }
+    ensures { (c : Contents) → c.signals ≡ map signal_contents signals.now → IsSound c → to ≤ c.end
+        → IfOk result (λ pieces. LeadEach c (neg_ℤ (pos (to - from)))
+        (signal_after_cut (c.end - (to - from)) from to) (length c.signals)
+        (map piece_view pieces.items)) }
+{
+    let mut pieces = Vec::new(alloc);
+    for (position, signal) in signals.iter().enumerate() {
+        if is_quiet_from(&signal.wave, from) {
+            continue;
+        }
+        let piece = cut_piece(alloc, signal, position, from, to)?;
+        pieces.push(piece)?;
+    }
+    Ok(pieces)
+}
+
+/// Whether a wave has no change at a tick or behind it.
+fn is_quiet_from(wave: &Wave, tick: u64) -> bool
+    ensures { IsTrue result
+        ↔ (count_by (λ c. nat_lt c.tick tick) wave.now.changes ≡ length wave.now.changes) }
+{
+    wave.count_until(tick) == wave.changes().len()
+}
+
+/// The piece of the signal at a position from which the ticks `from` up to before `to` are cut out. Its
+/// changes may have ticks up to `to - from` past the end that is left.
+pub(crate) fn cut_piece(
+    alloc: Global,
+    signal: &Signal,
+    position: usize,
+    from: u64,
+    to: u64,
+) -> Result<Piece, NoMemory>
+    requires some { from < to }
+    requires small { to ≤ END_LIMIT }
+    ensures { (end stop : ℕ) → IsSoundSignal end (signal_contents signal.now)
+        → end ≤ stop + (to - from) → from ≤ stop → stop < 2 ^ 64
+        → IfOk result (GivesValues position (signal_contents signal.now) stop
+        (neg_ℤ (pos (to - from))) (cut_value from to (signal_contents signal.now))) }
+{
+    let wave = &signal.wave;
+    let mut changes = Vec::new(alloc);
+    put_change(&mut changes, value_before(wave, from), from, wave.at(to))?;
+    Ok(Piece {
+        signal: position,
+        from: wave.count_until(from),
+        to: wave.count_until(to + 1),
+        changes,
+        by: earlier(to - from),
+    })
+}

@@ -1,0 +1,127 @@
+//! What plans are made of.
+
+ghost use Rattle.std.specs.Prelude.{◌≡◌, ◌++◌, ◌∷◌, [], None, OnOk, IfOk, Some, false, ◌<◌, length, count_by, nat_lt, ◌≤◌, pos, neg_ℤ};
+ghost use Rattle.vcd_core.specs.Contents.{contents, signal_contents, signal_at};
+ghost use Rattle.vcd_core.specs.Sound.{IsSound, IsSoundSignal};
+ghost use Rattle.vcd_core.specs.Value.{all_x, same_letters};
+ghost use Rattle.vcd_core.specs.Wave.{change, unless_same, value_at};
+ghost use Rattle.vcd_edit.specs.Allowed.{is_no_signal};
+ghost use Rattle.vcd_edit.specs.inside.Records.{piece_view};
+ghost use Rattle.vcd_edit.specs.inside.Ranges.{value_before as value_just_before};
+
+use crate::record::{Piece, Record};
+use std::alloc::Global;
+use vcd_core::{Bit, Capture, Change, END_LIMIT, NoMemory, Signal, Value, Wave};
+
+/// The signal at a position of a sound capture.
+pub(crate) fn signal_there(capture: &Capture, position: usize) -> &Signal
+    requires sound { IsSound (contents capture.now) }
+    requires there { is_no_signal (contents capture.now) position ≡ false }
+    ensures is { signal_at (contents capture.now) position ≡ signal_contents result.now }
+    ensures sound { IsSoundSignal capture.now.end (signal_contents result.now) }
+    ensures within { position < length (contents capture.now).signals }
+{
+    &capture.signals()[position]
+}
+
+/// The value at the tick before `tick`: all x before tick 0.
+pub(crate) fn value_before(wave: &Wave, tick: u64) -> Value
+    ensures { result ≡ value_just_before wave.now.width
+        (value_at wave.now.width wave.now.changes) tick }
+{
+    if tick == 0 {
+        return x_value(wave);
+    }
+    wave.at(tick - 1)
+}
+
+/// Lists a change to `value` at `tick`, where `before` is another value.
+pub(crate) fn put_change(
+    changes: &mut Vec<Change>,
+    before: Value,
+    tick: u64,
+    value: Value,
+) -> Result<(), NoMemory>
+    ensures { OnOk result (changes.new.items
+        ≡ changes.old.items ++ unless_same (same_letters value before) (change tick value) []) }
+{
+    if value != before {
+        changes.push(Change { tick, value })?;
+    }
+    Ok(())
+}
+
+/// The piece that takes the place of the changes from the tick `from` up to before the tick `to`, and leaves the
+/// later ones at their ticks.
+pub(crate) fn piece_between(
+    wave: &Wave,
+    position: usize,
+    from: u64,
+    to: u64,
+    changes: Vec<Change>,
+) -> Piece
+    ensures { piece_view result ≡ record {
+      signal = position;
+      from = count_by (λ c. nat_lt c.tick from) wave.now.changes;
+      to = count_by (λ c. nat_lt c.tick to) wave.now.changes;
+      changes = changes.items;
+      by = pos 0;
+    } }
+{
+    Piece {
+        signal: position,
+        from: wave.count_until(from),
+        to: wave.count_until(to),
+        changes,
+        by: 0,
+    }
+}
+
+/// The offset of so many ticks to an earlier tick.
+pub(crate) fn earlier(ticks: u64) -> i64
+    requires { ticks ≤ END_LIMIT }
+    ensures { result ≡ neg_ℤ (pos ticks) }
+{
+    -(ticks as i64)
+}
+
+/// The value that is x in every bit, with the width of a wave.
+pub(crate) fn x_value(wave: &Wave) -> Value
+    ensures { result ≡ all_x wave.now.width }
+{
+    Value::filled(wave.width(), Bit::X)
+}
+
+/// The piece that takes the place of all changes.
+pub(crate) fn whole_piece(wave: &Wave, position: usize, changes: Vec<Change>) -> Piece
+    ensures { piece_view result ≡ record {
+      signal = position;
+      from = 0;
+      to = length wave.now.changes;
+      changes = changes.items;
+      by = pos 0;
+    } }
+{
+    Piece {
+        signal: position,
+        from: 0,
+        to: wave.changes().len(),
+        changes,
+        by: 0,
+    }
+}
+
+/// The record of one piece and nothing else.
+pub(crate) fn one_piece(alloc: Global, piece: Piece) -> Result<Record, NoMemory>
+    ensures { IfOk result (λ r. r
+        ≡ record { pieces = piece_view piece ∷ []; word = None; signal = None; other_end = None }) }
+{
+    let mut pieces = Vec::new(alloc);
+    pieces.push(piece)?;
+    Ok(Record {
+        pieces,
+        word: None,
+        signal: None,
+        other_end: None,
+    })
+}

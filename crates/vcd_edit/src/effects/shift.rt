@@ -1,0 +1,153 @@
+//! A signal that comes later, or earlier.
+
+ghost use Rattle.std.specs.Prelude.{◌≡◌, ◌<◌, ◌≤◌, ◌+◌, ◌^◌, ℕ, ℤ, pos, ◌<ℤ◌, ◌≤ℤ◌, List, None, IfOk, All, length, map};
+ghost use Rattle.vcd_core.specs.declared.bit.Bit.{Bit};
+ghost use Rattle.vcd_core.specs.Contents.{contents, signal_contents};
+ghost use Rattle.vcd_core.specs.Sound.{IsSound, IsSoundSignal};
+ghost use Rattle.vcd_core.specs.Splice.{moved_change};
+ghost use Rattle.vcd_edit.specs.Effect.{shift_value};
+ghost use Rattle.vcd_edit.specs.Allowed.{fault};
+ghost use Rattle.vcd_edit.specs.inside.Plans.{IsPlan, GivesValues};
+ghost use Rattle.vcd_edit.specs.declared.edit.Edit.TheVariants as edits;
+
+use crate::effects::cut::cut_piece;
+use crate::effects::making::{one_piece, put_change, signal_there};
+use crate::record::{Piece, Record};
+use std::alloc::Global;
+use vcd_core::{Bit, Capture, Change, END_LIMIT, NoMemory, Signal, Value};
+
+/// The record of the piece at the front, or of the whole list where changes go out at the end.
+pub(crate) fn plan(
+    alloc: Global,
+    capture: &Capture,
+    signal: usize,
+    by: i64,
+) -> Result<Record, NoMemory>
+    requires sound { IsSound (contents capture.now) }
+    requires allowed { fault (edits.Shift signal by) (contents capture.now) ≡ None }
+    ensures { IfOk result (IsPlan (edits.Shift signal by) (contents capture.now)) }
+{
+    let old = signal_there(capture, signal);
+    let piece = shifted(alloc, old, signal, capture.end(), by)?;
+    one_piece(alloc, piece)
+}
+
+/// The piece of the signal at a position, which comes `by` ticks later.
+fn shifted(
+    alloc: Global,
+    signal: &Signal,
+    position: usize,
+    end: u64,
+    by: i64,
+) -> Result<Piece, NoMemory>
+    requires sound { IsSoundSignal end (signal_contents signal.now) }
+    requires end { end ≤ END_LIMIT }
+    ensures { IfOk result (GivesValues position (signal_contents signal.now) end by
+        (shift_value end by (signal_contents signal.now))) }
+{
+    if by < 0 {
+        return come_earlier(alloc, signal, position, end, by);
+    }
+    come_later(alloc, signal, position, end, by)
+}
+
+/// The piece of a signal that comes earlier.
+fn come_earlier(
+    alloc: Global,
+    signal: &Signal,
+    position: usize,
+    end: u64,
+    by: i64,
+) -> Result<Piece, NoMemory>
+    requires sound { IsSoundSignal end (signal_contents signal.now) }
+    requires end { end ≤ END_LIMIT }
+    requires earlier { by <ℤ pos 0 }
+    ensures { IfOk result (GivesValues position (signal_contents signal.now) end by
+        (shift_value end by (signal_contents signal.now))) }
+{
+    let ticks = by.unsigned_abs();
+    if ticks > end {
+        let last = signal.wave.at(end);
+        return one_value(alloc, signal, position, by, last);
+    }
+    cut_piece(alloc, signal, position, 0, ticks)
+}
+
+/// The piece of a signal that comes later, or at the same tick.
+fn come_later(
+    alloc: Global,
+    signal: &Signal,
+    position: usize,
+    end: u64,
+    by: i64,
+) -> Result<Piece, NoMemory>
+    requires sound { IsSoundSignal end (signal_contents signal.now) }
+    requires end { end ≤ END_LIMIT }
+    requires later { pos 0 ≤ℤ by }
+    ensures { IfOk result (GivesValues position (signal_contents signal.now) end by
+        (shift_value end by (signal_contents signal.now))) }
+{
+    let wave = &signal.wave;
+    let ticks = by.unsigned_abs();
+    if ticks > end {
+        let x = Value::filled(wave.width(), Bit::X);
+        return one_value(alloc, signal, position, by, x);
+    }
+    let changes = wave.changes();
+    let kept = wave.count_until(end - ticks + 1);
+    if kept == changes.len() {
+        return Ok(Piece {
+            signal: position,
+            from: 0,
+            to: 0,
+            changes: Vec::new(alloc),
+            by,
+        });
+    }
+    Ok(Piece {
+        signal: position,
+        from: 0,
+        to: changes.len(),
+        changes: later_changes(alloc, &changes[..kept], ticks)?,
+        by,
+    })
+}
+
+/// The piece of a signal that has one value at all ticks.
+fn one_value(
+    alloc: Global,
+    signal: &Signal,
+    position: usize,
+    by: i64,
+    value: Value,
+) -> Result<Piece, NoMemory>
+    ensures { (end : ℕ) (f : ℕ → List Bit) → ((t : ℕ) → t ≤ end → f t ≡ value)
+        → IfOk result (GivesValues position (signal_contents signal.now) end by f) }
+{
+    let wave = &signal.wave;
+    let mut changes = Vec::new(alloc);
+    put_change(&mut changes, Value::filled(wave.width(), Bit::X), 0, value)?;
+    Ok(Piece {
+        signal: position,
+        from: 0,
+        to: wave.changes().len(),
+        changes,
+        by,
+    })
+}
+
+/// Copies of the changes, some ticks later.
+fn later_changes(alloc: Global, changes: &[Change], ticks: u64) -> Result<Vec<Change>, NoMemory>
+    requires { All (λ c. c.tick + ticks < 2 ^ 64) changes.now }
+    ensures { IfOk result (λ copies. copies.items ≡ map (moved_change (pos ticks)) changes.now) }
+{
+    let mut copies = Vec::new(alloc);
+    for change in changes {
+        let tick = change.tick + ticks;
+        copies.push(Change {
+            tick,
+            value: change.value,
+        })?;
+    }
+    Ok(copies)
+}

@@ -1,0 +1,78 @@
+//! Why an edit is refused.
+
+ghost use Rattle.std.specs.Prelude.{◌≡◌};
+ghost use Rattle.vcd_edit.specs.FaultNames.{edit_error_name};
+ghost use Rattle.vcd_edit.specs.declared.fault.EditError.TheVariants as errors;
+
+use std::alloc::AllocError;
+use std::fmt;
+use thiserror::Error;
+
+/// Why an edit is refused.
+///
+/// The first nine are decided in this order. The names are the project's own.
+#[derive(Clone, Copy, Debug, PartialEq, Eq, Error)]
+pub enum EditError {
+    /// A position is not below the number of signals.
+    NoSuchSignal,
+    /// An operand of a logical operator is wider than one bit.
+    NotScalar,
+    /// A bit is not below the width of its signal.
+    BadBit,
+    /// A range of ticks is empty or goes past the end.
+    BadRange,
+    /// A count of ticks is 0.
+    BadCount,
+    /// A value has another width than its signal.
+    BadValue,
+    /// A name is empty, has white space or is `$end`.
+    BadWord,
+    /// Another signal already has the full name that would arise.
+    NameTaken,
+    /// There are as many signals as a capture may have.
+    TooManySignals,
+    /// Memory was refused.
+    NoMemory,
+}
+
+impl EditError {
+    /// The fault's name, as it is printed. It takes no memory.
+    pub fn name(&self) -> &'static str
+        ensures { result.now ≡ edit_error_name self.now }
+    {
+        match self {
+            EditError::NoSuchSignal => "NoSuchSignal",
+            EditError::NotScalar => "NotScalar",
+            EditError::BadBit => "BadBit",
+            EditError::BadRange => "BadRange",
+            EditError::BadCount => "BadCount",
+            EditError::BadValue => "BadValue",
+            EditError::BadWord => "BadWord",
+            EditError::NameTaken => "NameTaken",
+            EditError::TooManySignals => "TooManySignals",
+            EditError::NoMemory => "NoMemory",
+        }
+    }
+}
+
+impl fmt::Display for EditError {
+    fn fmt<W: fmt::Write>(&self, f: &mut fmt::Formatter<W>) -> fmt::Result {
+        f.write_str(self.name())
+    }
+}
+
+impl From<vcd_core::NoMemory> for EditError {
+    ghost from_gives = { λ _ e. e ≡ errors.NoMemory };
+
+    fn from(_refused: vcd_core::NoMemory) -> EditError {
+        EditError::NoMemory
+    }
+}
+
+impl From<AllocError> for EditError {
+    ghost from_gives = { λ _ e. e ≡ errors.NoMemory };
+
+    fn from(_refused: AllocError) -> EditError {
+        EditError::NoMemory
+    }
+}

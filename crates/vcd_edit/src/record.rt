@@ -1,0 +1,76 @@
+ghost use Rattle.std.specs.Prelude.{◌≡◌, ℕ, ◌^◌, ◌<◌, length};
+ghost use Rattle.std.specs.List.{sum_by};
+ghost use Rattle.vcd_edit.specs.Touched.{moved_change_count};
+ghost use Rattle.vcd_edit.specs.inside.Records.{moved_signal_view};
+
+use std::marker::Model;
+use vcd_core::{Change, Signal};
+
+/// A part of a signal's changes that gives way to others: those at positions `from` up to before `to` become
+/// `changes`, and the later ones move by `by` ticks.
+#[derive(Drop)]
+pub struct Piece {
+    pub(crate) signal: usize,
+    pub(crate) from: usize,
+    pub(crate) to: usize,
+    pub(crate) changes: Vec<Change>,
+    pub(crate) by: i64,
+}
+
+/// What leads from one capture to another: pieces of waves, and where the step needs them a word that begins
+/// a signal's name, a signal to put in (or none, to take one out), and another end.
+///
+/// Each signal has at most one piece. A record with a word has no pieces, and one with a signal to put in or
+/// take out has neither. Contracts see a record as plain data.
+#[derive(Drop)]
+pub struct Record {
+    pub(crate) pieces: Vec<Piece>,
+    pub(crate) word: Option<(usize, Vec<u8>)>,
+    pub(crate) signal: Option<(usize, Option<Signal>)>,
+    pub(crate) other_end: Option<u64>,
+}
+
+impl Model for Record {
+    ghost use Rattle.vcd_edit.specs.RecordView.{RecordView};
+    ghost use Rattle.vcd_edit.specs.Back.{IsOneStep};
+    ghost use Rattle.vcd_edit.specs.inside.Records.{record_view};
+
+    ghost Value = { RecordView };
+
+    ghost view = { λ r. record_view r.pieces.items r.word r.signal r.other_end };
+
+    ghost invariant = { λ r. IsOneStep (record_view r.pieces.items r.word r.signal r.other_end) };
+}
+
+impl Record {
+    ghost use Rattle.std.specs.Prelude.{◌≡◌};
+    ghost use Rattle.vcd_edit.specs.Touched.{stored_changes};
+
+    /// How many changes the record holds, in its pieces and in a signal to put in. It takes no memory.
+    pub fn stored(&self) -> u128
+        ensures { result ≡ stored_changes self.now }
+    {
+        count_in_pieces(self.pieces.as_slice()) + count_in_signal(&self.signal)
+    }
+}
+
+fn count_in_pieces(pieces: &[Piece]) -> u128
+    ensures count { result ≡ sum_by (λ p. length p.changes.items) pieces.now }
+    ensures most { result < 2 ^ 127 }
+{
+    let mut count = 0;
+    for piece in pieces {
+        count += piece.changes.as_slice().len() as u128;
+    }
+    count
+}
+
+fn count_in_signal(signal: &Option<(usize, Option<Signal>)>) -> u128
+    ensures count { result ≡ moved_change_count (moved_signal_view signal.now) }
+    ensures most { result < 2 ^ 64 }
+{
+    match signal {
+        Some((_, Some(signal))) => signal.wave.changes().len() as u128,
+        _ => 0,
+    }
+}

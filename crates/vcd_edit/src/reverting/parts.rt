@@ -1,0 +1,126 @@
+//! How the word, the signal and the end of a record and those of a capture change places.
+
+ghost use Rattle.std.specs.Prelude.{◌≡◌, ◌<◌, ◌≤◌, ◌∷◌, Some, None, length, drop, slice_index_or, IsOk, IfOk, OnOk, OnErr, IfErr};
+ghost use Rattle.std.specs.List.{insert, remove};
+ghost use Rattle.vcd_core.specs.Contents.{contents, signal_contents, signal_at, with_signal};
+ghost use Rattle.vcd_core.specs.Sound.{IsSound};
+ghost use Rattle.vcd_edit.specs.Effect.{renamed_signal};
+ghost use Rattle.vcd_edit.specs.Back.{with_first_word, with_moved_signal, with_end, WordFits, MovedSignalFits};
+ghost use Rattle.vcd_edit.specs.inside.Records.{word_view, moved_signal_view};
+ghost use Rattle.vcd_edit.specs.inside.Opposites.{opposite_word, opposite_move, opposite_end, IsNamedAt};
+
+use std::alloc::Global;
+use std::mem;
+use vcd_core::{Capture, Seq, Signal, Word};
+
+/// Puts a word in the place of the first, and gives that one back.
+fn replace_first(words: &mut Seq<Word>, word: Word) -> Word
+    requires { 0 < length words.old }
+    ensures new { words.new ≡ word ∷ drop 1 words.old }
+    ensures old { result ≡ slice_index_or words.old 0 result }
+{
+    mem::replace(words.item_mut(0), word)
+}
+
+/// The word and the first of its signal's name change places, without memory.
+fn replace_word(capture: &mut Capture, signal: usize, word: Vec<u8>) -> Vec<u8>
+    requires within { signal < length capture.old.signals }
+    requires named { 0 < length (signal_at (contents capture.old) signal).words }
+    ensures there { contents capture.new ≡ with_signal (contents capture.old) signal
+        (renamed_signal word.items (signal_at (contents capture.old) signal)) }
+    ensures first { result.items
+        ≡ slice_index_or (signal_at (contents capture.old) signal).words 0 result.items }
+{
+    let first = replace_first(
+        &mut capture.signals.item_mut(signal).words,
+        Seq::from_vec(word),
+    );
+    first.into_vec()
+}
+
+/// The same, where there is a word.
+pub(crate) fn exchange_word(
+    capture: &mut Capture,
+    word: Option<(usize, Vec<u8>)>,
+) -> Option<(usize, Vec<u8>)>
+    requires fits { WordFits (contents capture.old) (word_view word) }
+    requires named { IsNamedAt (contents capture.old) (word_view word) }
+    ensures there { contents capture.new ≡ with_first_word (word_view word) (contents capture.old) }
+    ensures back { word_view result ≡ opposite_word (word_view word) (contents capture.old) }
+{
+    match word {
+        Some((signal, word)) => Some((signal, replace_word(capture, signal, word))),
+        None => None,
+    }
+}
+
+/// Another end takes the place of the old one.
+pub(crate) fn exchange_end(capture: &mut Capture, other_end: Option<u64>) -> Option<u64>
+    ensures there { contents capture.new ≡ with_end other_end (contents capture.old) }
+    ensures back { result ≡ opposite_end other_end (contents capture.old) }
+{
+    match other_end {
+        Some(end) => Some(mem::replace(&mut capture.end, end)),
+        None => None,
+    }
+}
+
+/// Puts a signal in at a position; later ones move down. Where memory is refused, it comes back.
+fn put_signal(alloc: Global, capture: &mut Capture, at: usize, signal: Signal) -> Result<(), Signal>
+    requires { at ≤ length capture.old.signals }
+    ensures there { OnOk result (contents capture.new
+        ≡ with_moved_signal (Some (at, Some (signal_contents signal))) (contents capture.old)) }
+    ensures unchanged { OnErr result (contents capture.new ≡ contents capture.old) }
+    ensures kept { IfErr result (λ s. s ≡ signal) }
+{
+    let mut signals = mem::replace(&mut capture.signals, Seq::new(alloc)).into_vec();
+    let put = signals.insert(at, signal);
+    capture.signals = Seq::from_vec(signals);
+    match put {
+        Ok(()) => Ok(()),
+        Err(refused) => Err(refused.value),
+    }
+}
+
+/// Takes the signal at a position out; later ones move up. It takes no memory.
+fn take_signal(alloc: Global, capture: &mut Capture, at: usize) -> Signal
+    requires { at < length capture.old.signals }
+    ensures there { contents capture.new
+        ≡ with_moved_signal (Some (at, None)) (contents capture.old) }
+    ensures signal { signal_contents result ≡ signal_at (contents capture.old) at }
+{
+    let mut signals = mem::replace(&mut capture.signals, Seq::new(alloc)).into_vec();
+    let signal = signals.remove(at);
+    capture.signals = Seq::from_vec(signals);
+    signal
+}
+
+/// A signal is put in or taken out. Where memory is refused for one to put in, it comes back, and the
+/// capture is as it was.
+pub(crate) fn exchange_signal(
+    alloc: Global,
+    capture: &mut Capture,
+    signal: Option<(usize, Option<Signal>)>,
+) -> Result<Option<(usize, Option<Signal>)>, Option<(usize, Option<Signal>)>>
+    requires { MovedSignalFits (contents capture.old) (moved_signal_view signal) }
+    ensures there { OnOk result (contents capture.new
+        ≡ with_moved_signal (moved_signal_view signal) (contents capture.old)) }
+    ensures back { IfOk result (λ m. moved_signal_view m
+        ≡ opposite_move (moved_signal_view signal) (contents capture.old)) }
+    ensures unchanged { OnErr result (contents capture.new ≡ contents capture.old) }
+    ensures kept { IfErr result (λ m. moved_signal_view m ≡ moved_signal_view signal) }
+    ensures never { signal ≡ None → IsOk result }
+    ensures still { signal ≡ None → capture.new ≡ capture.old }
+{
+    match signal {
+        Some((at, Some(signal))) => match put_signal(alloc, capture, at, signal) {
+            Ok(()) => Ok(Some((at, None))),
+            Err(signal) => Err(Some((at, Some(signal)))),
+        },
+        Some((at, None)) => {
+            let signal = take_signal(alloc, capture, at);
+            Ok(Some((at, Some(signal))))
+        }
+        None => Ok(None),
+    }
+}
