@@ -13,7 +13,7 @@ use Rattle.vcd_edit.specs.declared.edit.Edit.TheVariants.{Rename, Remove, Invert
 use Rattle.vcd_edit.specs.declared.edit.Rule.TheVariants.{Not, And, Or, Xor, BitOf}
 use Rattle.vcd_edit.specs.declared.fault.EditError.TheVariants as errors
 use Rattle.vcd_edit.specs.Effect.{effect, run_start, run_end, steady_value}
-use Rattle.vcd_edit.specs.Allowed.{fault}
+use Rattle.vcd_edit.specs.Allowed.{edit_fault}
 
 -- ---- captures
 
@@ -142,50 +142,50 @@ scalar_and_vector = capture 9 (
     )
 
 -- a position that is none, also as the second operand
-missing_signals : (fault (Rename 2 (lent (codes ""))) scalar_and_vector ≡ Some errors.NoSuchSignal)
-    × (fault (Remove 2) scalar_and_vector ≡ Some errors.NoSuchSignal)
-    × (fault (Deglitch 2 0) scalar_and_vector ≡ Some errors.NoSuchSignal)
-    × (fault (Derive (lent (codes "")) (And 1 2)) scalar_and_vector ≡ Some errors.NoSuchSignal)
-unfolding fault
+missing_signals : (edit_fault (Rename 2 (lent (codes ""))) scalar_and_vector ≡ Some errors.NoSuchSignal)
+    × (edit_fault (Remove 2) scalar_and_vector ≡ Some errors.NoSuchSignal)
+    × (edit_fault (Deglitch 2 0) scalar_and_vector ≡ Some errors.NoSuchSignal)
+    × (edit_fault (Derive (lent (codes "")) (And 1 2)) scalar_and_vector ≡ Some errors.NoSuchSignal)
+unfolding edit_fault
 missing_signals = (refl, refl, refl, refl)
 
 -- a wide operand, and a bit past the width; each counts before the word that is none
-bad_operands : (fault (Derive (lent (codes "n")) (Not 1)) scalar_and_vector ≡ Some errors.NotScalar)
-    × (fault (Derive (lent (codes "")) (Xor 0 1)) scalar_and_vector ≡ Some errors.NotScalar)
-    × (fault (Derive (lent (codes "n")) (BitOf 1 4)) scalar_and_vector ≡ Some errors.BadBit)
-    × (fault (Derive (lent (codes "")) (BitOf 0 1)) scalar_and_vector ≡ Some errors.BadBit)
-    × (fault (Derive (lent (codes "n")) (BitOf 1 3)) scalar_and_vector ≡ None)
-unfolding fault name_in
+bad_operands : (edit_fault (Derive (lent (codes "n")) (Not 1)) scalar_and_vector ≡ Some errors.NotScalar)
+    × (edit_fault (Derive (lent (codes "")) (Xor 0 1)) scalar_and_vector ≡ Some errors.NotScalar)
+    × (edit_fault (Derive (lent (codes "n")) (BitOf 1 4)) scalar_and_vector ≡ Some errors.BadBit)
+    × (edit_fault (Derive (lent (codes "")) (BitOf 0 1)) scalar_and_vector ≡ Some errors.BadBit)
+    × (edit_fault (Derive (lent (codes "n")) (BitOf 1 3)) scalar_and_vector ≡ None)
+unfolding edit_fault name_in
 bad_operands = (refl, refl, refl, refl, refl)
 
 -- ranges that are empty or too long, a count of 0, a value of another width
-bad_ranges : (fault (Cut 5 5) scalar_and_vector ≡ Some errors.BadRange)
-    × (fault (Cut 3 10) scalar_and_vector ≡ Some errors.BadRange)
-    × (fault (Cut 0 9) scalar_and_vector ≡ None)
-    × (fault (Force 0 9 9 (X ∷ X ∷ [])) scalar_and_vector ≡ Some errors.BadRange)
-    × (fault (Force 0 9 11 (X ∷ [])) scalar_and_vector ≡ Some errors.BadRange)
-    × (fault (Force 0 9 10 (X ∷ X ∷ [])) scalar_and_vector ≡ Some errors.BadValue)
-    × (fault (Force 0 9 10 (X ∷ [])) scalar_and_vector ≡ None)
-    × (fault (Deglitch 0 0) scalar_and_vector ≡ Some errors.BadCount)
-    × (fault (Deglitch 0 1) scalar_and_vector ≡ None)
-unfolding fault
+bad_ranges : (edit_fault (Cut 5 5) scalar_and_vector ≡ Some errors.BadRange)
+    × (edit_fault (Cut 3 10) scalar_and_vector ≡ Some errors.BadRange)
+    × (edit_fault (Cut 0 9) scalar_and_vector ≡ None)
+    × (edit_fault (Force 0 9 9 (X ∷ X ∷ [])) scalar_and_vector ≡ Some errors.BadRange)
+    × (edit_fault (Force 0 9 11 (X ∷ [])) scalar_and_vector ≡ Some errors.BadRange)
+    × (edit_fault (Force 0 9 10 (X ∷ X ∷ [])) scalar_and_vector ≡ Some errors.BadValue)
+    × (edit_fault (Force 0 9 10 (X ∷ [])) scalar_and_vector ≡ None)
+    × (edit_fault (Deglitch 0 0) scalar_and_vector ≡ Some errors.BadCount)
+    × (edit_fault (Deglitch 0 1) scalar_and_vector ≡ None)
+unfolding edit_fault
 bad_ranges = (refl, refl, refl, refl, refl, refl, refl, refl, refl)
 
 -- words that are none, names that are taken; its own name is free to a rename
-bad_names : (fault (Rename 0 (lent (codes ""))) scalar_and_vector ≡ Some errors.BadWord)
-    × (fault (Rename 0 (lent (codes "a b"))) scalar_and_vector ≡ Some errors.BadWord)
-    × (fault (Rename 0 (lent (codes "$end"))) scalar_and_vector ≡ Some errors.BadWord)
-    × (fault (Rename 0 (lent (codes "v"))) scalar_and_vector ≡ Some errors.NameTaken)
-    × (fault (Rename 0 (lent (codes "a"))) scalar_and_vector ≡ None)
-    × (fault (Derive (lent (codes "a")) (Not 0)) scalar_and_vector ≡ Some errors.NameTaken)
-    × (fault (Derive (lent (codes "$end")) (Not 0)) scalar_and_vector ≡ Some errors.BadWord)
-    × (fault (Derive (lent (codes "$END")) (Not 0)) scalar_and_vector ≡ None)
-unfolding fault name_in
+bad_names : (edit_fault (Rename 0 (lent (codes ""))) scalar_and_vector ≡ Some errors.BadWord)
+    × (edit_fault (Rename 0 (lent (codes "a b"))) scalar_and_vector ≡ Some errors.BadWord)
+    × (edit_fault (Rename 0 (lent (codes "$end"))) scalar_and_vector ≡ Some errors.BadWord)
+    × (edit_fault (Rename 0 (lent (codes "v"))) scalar_and_vector ≡ Some errors.NameTaken)
+    × (edit_fault (Rename 0 (lent (codes "a"))) scalar_and_vector ≡ None)
+    × (edit_fault (Derive (lent (codes "a")) (Not 0)) scalar_and_vector ≡ Some errors.NameTaken)
+    × (edit_fault (Derive (lent (codes "$end")) (Not 0)) scalar_and_vector ≡ Some errors.BadWord)
+    × (edit_fault (Derive (lent (codes "$END")) (Not 0)) scalar_and_vector ≡ None)
+unfolding edit_fault name_in
 bad_names = (refl, refl, refl, refl, refl, refl, refl, refl)
 
 -- edits that ask for nothing but a signal
-free_edits : (fault (Remove 1) scalar_and_vector ≡ None)
-    × (fault (Invert 1) scalar_and_vector ≡ None)
-    × (fault (Shift 1 (negsuc 9223372036854775807)) scalar_and_vector ≡ None)
-unfolding fault
+free_edits : (edit_fault (Remove 1) scalar_and_vector ≡ None)
+    × (edit_fault (Invert 1) scalar_and_vector ≡ None)
+    × (edit_fault (Shift 1 (negsuc 9223372036854775807)) scalar_and_vector ≡ None)
+unfolding edit_fault
 free_edits = (refl, refl, refl)

@@ -12,7 +12,7 @@ use Rattle.vcd_edit.specs.declared.edit.Edit.TheVariants.{Cut}
 use Rattle.vcd_edit.specs.declared.record.Piece.{Piece}
 use Rattle.vcd_edit.specs.RecordView.{PieceView}
 use Rattle.vcd_edit.specs.Effect.{cut_value, signal_after_cut, effect}
-use Rattle.vcd_edit.specs.Allowed.{fault}
+use Rattle.vcd_edit.specs.Allowed.{edit_fault}
 use Rattle.vcd_edit.specs.Back.{back, IsOneStep}
 use Rattle.vcd_edit.specs.inside.Records.{piece_view}
 use Rattle.vcd_edit.specs.inside.Plans.{IsPlan, GivesValues, LeadEach}
@@ -23,7 +23,7 @@ use Rattle.vcd_edit.proofs.PieceLists.{lead_without, lead_with, lead_all}
 use Rattle.vcd_edit.proofs.Cuts.{quiet_cut}
 
 -- the ticks of a cut
-pub cut_ticks : (from to : ℕ) (c : Contents) → fault (Cut from to) c ≡ None → (from < to) × (to ≤ c.end)
+pub cut_ticks : (from to : ℕ) (c : Contents) → edit_fault (Cut from to) c ≡ None → (from < to) × (to ≤ c.end)
 cut_ticks from to c none = let free : (nat_le to from || nat_lt c.end to) ≡ false = (no_fault (Cut from to) c none).range in (grind (arith, nat_tests), grind (arith, nat_tests))
 
 module _ (c : Contents) (signals : List Signal) (are : c.signals ≡ map signal_contents signals) (sound : IsSound c) (from to : ℕ) (some : from < to) (ends : to ≤ c.end) (n : ℕ) (s : Signal) (within : n < length signals) (at : s ≡ get_or signals n s) (ps : List Piece) where
@@ -54,7 +54,7 @@ module _ (c : Contents) (signals : List Signal) (are : c.signals ≡ map signal_
       (lead_with c (signal_after_cut stop from to) n (neg_ℤ (pos (to - from))) (map piece_view ps) lead within_c (signal_contents s) (piece_view p) stop (cut_value from to (signal_contents s)) here piece.signal refl piece.leads piece.moves)
 
 -- the pieces of all signals, and the end
-pub cut_plan : (c : Contents) (from to : ℕ) (ps : List PieceView) → IsSound c → fault (Cut from to) c ≡ None
+pub cut_plan : (c : Contents) (from to : ℕ) (ps : List PieceView) → IsSound c → edit_fault (Cut from to) c ≡ None
     → LeadEach c (neg_ℤ (pos (to - from))) (signal_after_cut (c.end - (to - from)) from to) (length c.signals) ps
     → IsPlan (Cut from to) c (record { pieces = ps; word = None; signal = None; other_end = Some (c.end - (to - from)) })
 unfolding back effect

@@ -10,7 +10,7 @@ use Rattle.vcd_core.specs.Wave.{change, unless_same, IsWave, AllUpTo, last_value
 use Rattle.vcd_core.specs.Contents.{SignalContents, signal_value}
 use Rattle.vcd_edit.specs.RecordView.{PieceView}
 use Rattle.vcd_edit.specs.Effect.{cut_value, signal_after_cut}
-use Rattle.vcd_edit.specs.inside.Ranges.{value_before, changes_in, LeadsTo}
+use Rattle.vcd_edit.specs.inside.Ranges.{value_just_before, changes_in, LeadsTo}
 use Rattle.vcd_core.proofs.Waves.{wave_is}
 use Rattle.vcd_core.proofs.Pushes.{upto_from_all}
 use Rattle.vcd_core.proofs.EdgeLines.{value_last}
@@ -42,7 +42,7 @@ module _ (a b end stop : ℕ) (s : SignalContents) (is : IsWave s.width s.change
   behind_cut t u late is =
       ap (λ q. if q then signal_value s t else signal_value s (t + (b - a))) (le-ltb t a late) ∙ ap (signal_value s) (sym is)
 
-  seam : changes_in s.width (cut_value a b s) a 1 ≡ unless_same (same_letters (signal_value s b) (value_before s.width (signal_value s) a)) (change a (signal_value s b)) []
+  seam : changes_in s.width (cut_value a b s) a 1 ≡ unless_same (same_letters (signal_value s b) (value_just_before s.width (signal_value s) a)) (change a (signal_value s b)) []
   seam =
       changes_in-constant s.width (cut_value a b s) (signal_value s b) a 1 (omega arith) (λ i less. behind_cut (a + i) b (omega arith) (omega arith))
       ∙ ap (λ w. unless_same (same_letters (signal_value s b) w) (change a (signal_value s b)) []) (same_before s.width (cut_value a b s) (signal_value s) a before_cut)
@@ -50,13 +50,13 @@ module _ (a b end stop : ℕ) (s : SignalContents) (is : IsWave s.width s.change
   -- one change at most takes the place of those at the ticks that are cut out and at the one behind them
   pub cut_leads : (p : PieceView) (by : ℤ) → pos (b + 1) +ℤ by ≡ pos (a + 1) → p.from ≡ count_by (λ c. nat_lt c.tick a) s.changes
       → p.to ≡ count_by (λ c. nat_lt c.tick (b + 1)) s.changes → p.by ≡ by
-      → p.changes ≡ [] ++ unless_same (same_letters (signal_value s b) (value_before s.width (signal_value s) a)) (change a (signal_value s b)) []
+      → p.changes ≡ [] ++ unless_same (same_letters (signal_value s b) (value_just_before s.width (signal_value s) a)) (change a (signal_value s b)) []
       → LeadsTo p s.changes s.width stop (cut_value a b s)
   cut_leads p by later from to is_by told =
       replacement_leads s.width end s.changes is upto a (b + 1) 1 (stop - a) p.from p.to stop by (cut_value a b s) p.changes (omega arith) (omega arith) from to later p refl refl refl is_by
       (omega arith) small before_cut (λ i less. behind_cut (a + 1 + i) (b + 1 + i) (omega arith) (omega arith))
-      (λ less. ap (value_before s.width (cut_value a b s)) {x = a + 1} {y = suc a} (omega arith) ∙ behind_cut a b (omega arith) (omega arith)
-      ∙ sym (ap (value_before s.width (signal_value s)) {x = b + 1} {y = suc b} (omega arith)))
+      (λ less. ap (value_just_before s.width (cut_value a b s)) {x = a + 1} {y = suc a} (omega arith) ∙ behind_cut a b (omega arith) (omega arith)
+      ∙ sym (ap (value_just_before s.width (signal_value s)) {x = b + 1} {y = suc b} (omega arith)))
       (told ∙ sym seam)
 
 -- a wave with no change from the first tick on that is cut out stays as it is

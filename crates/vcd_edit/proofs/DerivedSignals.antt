@@ -18,7 +18,7 @@ use Rattle.vcd_edit.specs.declared.edit.Rule.TheVariants.{Not, And, Or, Xor, Bit
 use Rattle.vcd_edit.specs.declared.record.Piece.{Piece}
 use Rattle.vcd_edit.specs.RecordView.{PieceView}
 use Rattle.vcd_edit.specs.Effect.{first_operand, rule_bit, derived_signal, effect}
-use Rattle.vcd_edit.specs.Allowed.{fault}
+use Rattle.vcd_edit.specs.Allowed.{edit_fault}
 use Rattle.vcd_edit.specs.Back.{with_pieces, back, PieceFits}
 use Rattle.vcd_edit.specs.Touched.{puts_in}
 use Rattle.vcd_edit.specs.inside.Records.{piece_view}
@@ -48,7 +48,7 @@ derived_parts c word rule scopes kind words wave first last is_first is_last sam
 insert_last : (ss : List SignalContents) (k : ℕ) (s : SignalContents) → k ≡ length ss → insert ss k s ≡ push ss s
 insert_last ss k s is = λ i. take_all k ss (omega (arith, is)) i ++ s ∷ drop_all k ss (omega (arith, is)) i
 
-pub derive_plan : (c : Contents) (word : Bor (List ℕ)) (rule : Rule) (k : ℕ) (s : SignalContents) (pieces : List Piece) → IsSound c → fault (Derive word rule) c ≡ None
+pub derive_plan : (c : Contents) (word : Bor (List ℕ)) (rule : Rule) (k : ℕ) (s : SignalContents) (pieces : List Piece) → IsSound c → edit_fault (Derive word rule) c ≡ None
     → k ≡ length c.signals → s ≡ derived_signal word.now rule c → pieces ≡ []
     → IsPlan (Derive word rule) c (record { pieces = map piece_view pieces; word = None; signal = Some (k, Some s); other_end = None })
 unfolding back with_pieces effect

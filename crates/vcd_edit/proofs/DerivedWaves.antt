@@ -17,7 +17,7 @@ use Rattle.vcd_core.proofs.Pushes.{upto_from_all}
 use Rattle.vcd_edit.specs.declared.edit.Rule.{Rule}
 use Rattle.vcd_edit.specs.declared.edit.Rule.TheVariants.{Not, And, Or, Xor, BitOf}
 use Rattle.vcd_edit.specs.inside.Thinned.{TicksRise}
-use Rattle.vcd_edit.specs.inside.Ranges.{value_before}
+use Rattle.vcd_edit.specs.inside.Ranges.{value_just_before}
 use Rattle.vcd_edit.specs.inside.Derived.{operator_bit, edge_bit, edge_change, IsMade}
 use Rattle.vcd_edit.proofs.ThinnedLists.{rise_lower, early_value}
 
@@ -104,14 +104,14 @@ module _ (p : ℕ → Bool) (r : ℕ → List Bit) where
         | false ↦ later
       ]
 
-  pub sampled : (a n : ℕ) (v : List Bit) → v ≡ value_before 1 r a → ((u : ℕ) → length (r u) ≡ 1) → ((u : ℕ) → p u ≡ false → r u ≡ value_before 1 r u)
+  pub sampled : (a n : ℕ) (v : List Bit) → v ≡ value_just_before 1 r a → ((u : ℕ) → length (r u) ≡ 1) → ((u : ℕ) → p u ≡ false → r u ≡ value_just_before 1 r u)
       → (t : ℕ) → a ≤ t → t < a + n → value_from v (at_ticks (filter p (range_with_len a n))) t ≡ r t
   sampled a zero v is wide still t from to = absurd (omega arith)
   sampled a (suc n) v is wide still t from to =
       let later : value_from (r a) (at_ticks (filter p (range_with_len (a + 1) n))) t ≡ r t =
       elim (cases_eq a t) [
         | inl at ↦ early_value 1 (r a) (at_ticks (filter p (range_with_len (a + 1) n))) (a + 1) t (sampled_rise (a + 1) n wide) (omega arith) ∙ ap r at
-        | inr apart ↦ sampled (a + 1) n (r a) (sym (ap (value_before 1 r) {x = a + 1} {y = suc a} (omega arith))) wide still t (omega arith) (omega arith)
+        | inr apart ↦ sampled (a + 1) n (r a) (sym (ap (value_just_before 1 r) {x = a + 1} {y = suc a} (omega arith))) wide still t (omega arith) (omega arith)
       ] in
       choose (p a) refl later
     where
@@ -138,7 +138,7 @@ same_where v w none = (same_letters-Decides v w).0 (twice (same_letters v w) non
     twice false none = absurd (cc)
 
 -- a wave that does not change at a tick has the value before it
-unchanged : (w : WaveView) (u : ℕ) → changes_at u (trace_of (Some w)) ≡ false → value_at w.width w.changes u ≡ value_before w.width (value_at w.width w.changes) u
+unchanged : (w : WaveView) (u : ℕ) → changes_at u (trace_of (Some w)) ≡ false → value_at w.width w.changes u ≡ value_just_before w.width (value_at w.width w.changes) u
 unchanged w zero none = same_where (value_at w.width w.changes 0) (all_x w.width) none
 unchanged w (suc u) none = same_where (value_at w.width w.changes (suc u)) (value_at w.width w.changes u) none
 
@@ -175,15 +175,15 @@ module _ (rule : Rule) (a b : WaveView) where
   abbrev edges : ℕ → List Edge
   edges end = edges_of (Some a ∷ Some b ∷ None ∷ None ∷ []) end
 
-  still : (u : ℕ) → list_any (changes_at u) lines ≡ false → rule_value u ≡ value_before 1 rule_value u
+  still : (u : ℕ) → list_any (changes_at u) lines ≡ false → rule_value u ≡ value_just_before 1 rule_value u
   still u none =
       from_both u
       (unchanged a u (first_fails (changes_at u (trace_of (Some a))) (list_any (changes_at u) (trace_of (Some b) ∷ trace_of None ∷ trace_of None ∷ [])) none))
       (unchanged b u (first_fails (changes_at u (trace_of (Some b))) (list_any (changes_at u) (trace_of None ∷ trace_of None ∷ []))
       (second_fails (changes_at u (trace_of (Some a))) (list_any (changes_at u) (trace_of (Some b) ∷ trace_of None ∷ trace_of None ∷ [])) none)))
     where
-      from_both : (u : ℕ) → value_at a.width a.changes u ≡ value_before a.width (value_at a.width a.changes) u → value_at b.width b.changes u ≡ value_before b.width (value_at b.width b.changes) u
-          → rule_value u ≡ value_before 1 rule_value u
+      from_both : (u : ℕ) → value_at a.width a.changes u ≡ value_just_before a.width (value_at a.width a.changes) u → value_at b.width b.changes u ≡ value_just_before b.width (value_at b.width b.changes) u
+          → rule_value u ≡ value_just_before 1 rule_value u
       from_both zero one two = (λ i. operator_bit rule (one i) (two i) ∷ []) ∙ ap (λ (x : Bit). x ∷ []) (x_bit rule a.width b.width)
       from_both (suc u) one two = λ i. operator_bit rule (one i) (two i) ∷ []
 

@@ -8,7 +8,7 @@ use Rattle.vcd_edit.specs.declared.edit.Rule.TheVariants.{Not, And, Or, Xor, Bit
 use Rattle.vcd_edit.specs.declared.fault.EditError.{EditError}
 use Rattle.vcd_edit.specs.Effect.{first_operand}
 use Rattle.vcd_edit.specs.inside.Derived.{last_operand}
-use Rattle.vcd_edit.specs.Allowed.{is_no_signal, lacks_operand, lacks_signal, joins_wide_signal, lacks_bit, has_bad_range, has_bad_count, has_bad_value, gives_no_word, takes_name, adds_too_many, fault}
+use Rattle.vcd_edit.specs.Allowed.{is_no_signal, lacks_operand, lacks_signal, joins_wide_signal, lacks_bit, has_bad_range, has_bad_count, has_bad_value, gives_no_word, takes_name, adds_too_many, edit_fault}
 
 -- none of the nine tests holds
 pub record HasNoFault (e : Edit) (c : Contents) : Type 0 where
@@ -27,8 +27,8 @@ not_first : (b : Bool) (error : EditError) (rest : Option EditError) → (if b t
 not_first true error rest none = absurd (cc)
 not_first false error rest none = (refl, none)
 
-pub no_fault : (e : Edit) (c : Contents) → fault e c ≡ None → HasNoFault e c
-unfolding fault
+pub no_fault : (e : Edit) (c : Contents) → edit_fault e c ≡ None → HasNoFault e c
+unfolding edit_fault
 no_fault e c none =
     let a = not_first (lacks_signal e c) _ _ none in
     let b = not_first (joins_wide_signal e c) _ _ a.1 in

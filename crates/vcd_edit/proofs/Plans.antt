@@ -21,7 +21,7 @@ use Rattle.vcd_edit.specs.RecordView.{PieceView, RecordView}
 use Rattle.vcd_edit.specs.Effect.{with_wave, renamed_signal, force_value, effect}
 use Rattle.vcd_edit.specs.Touched.{stays, record_pairing}
 use Rattle.vcd_edit.specs.TouchedByEdit.{edit_offset, edit_pairing}
-use Rattle.vcd_edit.specs.Allowed.{fault, is_no_signal}
+use Rattle.vcd_edit.specs.Allowed.{edit_fault, is_no_signal}
 use Rattle.vcd_edit.specs.Back.{changes_with_piece, signal_with_changes, with_pieces, back, PieceFits, WordFits, MovedSignalFits}
 use Rattle.vcd_edit.specs.inside.Ranges.{LeadsTo}
 use Rattle.vcd_edit.specs.inside.Records.{piece_view}
@@ -30,7 +30,7 @@ use Rattle.vcd_edit.proofs.Faults.{no_fault, signal_there}
 use Rattle.vcd_edit.proofs.SoundEffects.{sound_at, effect_is_sound}
 
 -- a record that leads to the effect is a plan where its parts stand within the capture
-pub is_plan : (e : Edit) (c : Contents) (r : RecordView) → IsSound c → fault e c ≡ None → back r c ≡ effect e c
+pub is_plan : (e : Edit) (c : Contents) (r : RecordView) → IsSound c → edit_fault e c ≡ None → back r c ≡ effect e c
     → All (PieceFits c) r.pieces → WordFits c r.word → MovedSignalFits c r.signal → All (λ p. edit_offset e ≡ neg_ℤ p.by) r.pieces → record_pairing r.signal ≡ edit_pairing e c → IsPlan e c r
 is_plan e c r sound none leads pieces word signal offset pairing = record {
   fits = record { pieces = pieces; word = word; signal = signal; sound = subst IsSound (sym leads) (effect_is_sound e c sound none) };
@@ -79,7 +79,7 @@ module _ (e : Edit) (c : Contents) (k : ℕ) (f : ℕ → List Bit) (p : PieceVi
       }
 
   -- where those are the values that the edit gives it, it is a plan
-  pub one_piece_plan : IsSound c → fault e c ≡ None → k < length c.signals → effect e c ≡ with_wave c k f → edit_offset e ≡ neg_ℤ p.by → edit_pairing e c ≡ stays → IsPlan e c r
+  pub one_piece_plan : IsSound c → edit_fault e c ≡ None → k < length c.signals → effect e c ≡ with_wave c k f → edit_offset e ≡ neg_ℤ p.by → edit_pairing e c ≡ stays → IsPlan e c r
   one_piece_plan sound none within effect_is offset pairing =
       subst (IsPlan e c) (sym is)
       (is_plan e c alone sound none (sym (ap (λ (q : RecordView). back q c) is) ∙ one_piece_leads ∙ sym effect_is)
@@ -88,7 +88,7 @@ module _ (e : Edit) (c : Contents) (k : ℕ) (f : ℕ → List Bit) (p : PieceVi
 
 -- ---- each edit
 
-pub rename_plan : (c : Capture) (k : ℕ) (word : Bor (List ℕ)) (pieces : List Piece) (copy : List ℕ) → IsSound (contents c) → fault (Rename k word) (contents c) ≡ None
+pub rename_plan : (c : Capture) (k : ℕ) (word : Bor (List ℕ)) (pieces : List Piece) (copy : List ℕ) → IsSound (contents c) → edit_fault (Rename k word) (contents c) ≡ None
     → pieces ≡ [] → copy ≡ word.now → IsPlan (Rename k word) (contents c) (record { pieces = map piece_view pieces; word = Some (k, copy); signal = None; other_end = None })
 unfolding back with_pieces effect
 rename_plan c k word pieces copy sound none empty same =
@@ -97,7 +97,7 @@ rename_plan c k word pieces copy sound none empty same =
     (ap (λ (w : List ℕ). with_signal (contents c) k (renamed_signal w (signal_at (contents c) k))) same)
     (All-nil (PieceFits (contents c))) (signal_there (contents c) k (no_fault (Rename k word) (contents c) none).signals) tt (All-nil (λ (p : PieceView). pos 0 ≡ neg_ℤ p.by)) refl)
 
-pub remove_plan : (c : Capture) (k : ℕ) (pieces : List Piece) → IsSound (contents c) → fault (Remove k) (contents c) ≡ None → pieces ≡ []
+pub remove_plan : (c : Capture) (k : ℕ) (pieces : List Piece) → IsSound (contents c) → edit_fault (Remove k) (contents c) ≡ None → pieces ≡ []
     → IsPlan (Remove k) (contents c) (record { pieces = map piece_view pieces; word = None; signal = Some (k, None); other_end = None })
 unfolding back with_pieces effect
 remove_plan c k pieces sound none empty =
@@ -106,7 +106,7 @@ remove_plan c k pieces sound none empty =
     (All-nil (PieceFits (contents c))) tt (signal_there (contents c) k (no_fault (Remove k) (contents c) none).signals) (All-nil (λ (p : PieceView). pos 0 ≡ neg_ℤ p.by)) refl)
 
 -- an edit of one wave, by the piece of its signal
-pub wave_plan : (e : Edit) (c : Contents) (k : ℕ) (f : SignalContents → ℕ → List Bit) (by : ℤ) (s : SignalContents) (p : Piece) (made : Result RecordView NoMemory) → IsSound c → fault e c ≡ None
+pub wave_plan : (e : Edit) (c : Contents) (k : ℕ) (f : SignalContents → ℕ → List Bit) (by : ℤ) (s : SignalContents) (p : Piece) (made : Result RecordView NoMemory) → IsSound c → edit_fault e c ≡ None
     → k < length c.signals → signal_at c k ≡ s → effect e c ≡ with_wave c k (f (signal_at c k))
     → edit_offset e ≡ neg_ℤ by → edit_pairing e c ≡ stays → GivesValues k s c.end by (f s) p → IfOk made (λ r. r ≡ record { pieces = piece_view p ∷ []; word = None; signal = None; other_end = None })
     → IfOk made (IsPlan e c)
@@ -125,5 +125,5 @@ unfolding effect
 force_is_wave k from to value c = refl
 
 -- the ticks of a force
-pub force_ticks : (k from to : ℕ) (value : List Bit) (c : Contents) → fault (Force k from to value) c ≡ None → (from < to) × (to ≤ c.end + 1)
+pub force_ticks : (k from to : ℕ) (value : List Bit) (c : Contents) → edit_fault (Force k from to value) c ≡ None → (from < to) × (to ≤ c.end + 1)
 force_ticks k from to value c none = let free : (nat_le to from || nat_lt (c.end + 1) to) ≡ false = (no_fault (Force k from to value) c none).range in (grind (arith, nat_tests), grind (arith, nat_tests))

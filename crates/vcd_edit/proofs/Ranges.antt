@@ -15,7 +15,7 @@ use Rattle.vcd_core.specs.Wave.{change, value_at, unless_same, changes_from, cha
 use Rattle.vcd_core.specs.Splice.{moved_change, TickFits, TicksFit, spliced_changes}
 use Rattle.vcd_core.proofs.Waves.{put_cases, changes_are}
 use Rattle.vcd_edit.specs.RecordView.{PieceView}
-use Rattle.vcd_edit.specs.inside.Ranges.{value_before, changes_in, LeadsTo}
+use Rattle.vcd_edit.specs.inside.Ranges.{value_just_before, changes_in, LeadsTo}
 
 -- ---- a range is two ranges
 
@@ -29,9 +29,9 @@ changes_in-split width f t zero n =
     ap (changes_in width f t) {x = 0 + n} {y = n} (omega arith) ∙ ap (λ u. changes_in width f u n) {x = t} {y = t + 0} (omega arith)
 changes_in-split width f t (suc m) n =
     ap (changes_in width f t) {x = suc m + n} {y = suc (m + n)} (omega arith)
-    ∙ ap (unless_same (same_letters (f t) (value_before width f t)) (change t (f t)))
+    ∙ ap (unless_same (same_letters (f t) (value_just_before width f t)) (change t (f t)))
     (changes_in-split width f (suc t) m n ∙ ap (λ u. changes_in width f (suc t) m ++ changes_in width f u n) {x = suc t + m} {y = t + suc m} (omega arith))
-    ∙ unless_same-append (same_letters (f t) (value_before width f t)) (change t (f t)) (changes_in width f (suc t) m) (changes_in width f (t + suc m) n)
+    ∙ unless_same-append (same_letters (f t) (value_just_before width f t)) (change t (f t)) (changes_in width f (suc t) m) (changes_in width f (t + suc m) n)
 
 -- ---- the same values
 
@@ -48,10 +48,10 @@ same_from f g before t (suc n) same =
     λ i. unless_same (same_letters (here i) before) (change t (here i)) (rest i)
 
 -- two functions with the same values over a range, and the same value before it
-pub changes_in-same : (width : ℕ) (f g : ℕ → List Bit) (t n : ℕ) → value_before width f t ≡ value_before width g t
+pub changes_in-same : (width : ℕ) (f g : ℕ → List Bit) (t n : ℕ) → value_just_before width f t ≡ value_just_before width g t
     → ((i : ℕ) → i < n → f (t + i) ≡ g (t + i)) → changes_in width g t n ≡ changes_in width f t n
 changes_in-same width f g t n before same =
-    same_from f g (value_before width g t) t n same ∙ ap (λ v. changes_from v t n f) (sym before)
+    same_from f g (value_just_before width g t) t n same ∙ ap (λ v. changes_from v t n f) (sym before)
 
 -- ---- the same values elsewhere
 
@@ -75,12 +75,12 @@ moved_from f g before by t u (suc n) later same =
     ∙ (λ i. unless_same (same_letters (here i) before) (change (tick i) (here i)) (rest i))
 
 pub changes_in-moved : (width : ℕ) (f g : ℕ → List Bit) (by : ℤ) (t u n : ℕ) → pos u +ℤ by ≡ pos t
-    → (0 < n → value_before width f t ≡ value_before width g u) → ((i : ℕ) → i < n → f (t + i) ≡ g (u + i))
+    → (0 < n → value_just_before width f t ≡ value_just_before width g u) → ((i : ℕ) → i < n → f (t + i) ≡ g (u + i))
     → map (moved_change by) (changes_in width g u n) ≡ changes_in width f t n
 unfolding changes_from
 changes_in-moved width f g by t u zero later before same = refl
 changes_in-moved width f g by t u (suc n) later before same =
-    moved_from f g (value_before width g u) by t u (suc n) later same ∙ ap (λ v. changes_from v t (suc n) f) (sym (before (omega arith)))
+    moved_from f g (value_just_before width g u) by t u (suc n) later same ∙ ap (λ v. changes_from v t (suc n) f) (sym (before (omega arith)))
 
 -- the values over a range are one value
 constant_from : (f : ℕ → List Bit) (v : List Bit) (t n : ℕ) → ((i : ℕ) → i < n → f (t + i) ≡ v) → changes_from v t n f ≡ []
@@ -93,14 +93,14 @@ constant_from f v t (suc n) same =
     (λ other. absurd (other here))
 
 pub changes_in-constant : (width : ℕ) (f : ℕ → List Bit) (v : List Bit) (t n : ℕ) → 0 < n → ((i : ℕ) → i < n → f (t + i) ≡ v)
-    → changes_in width f t n ≡ unless_same (same_letters v (value_before width f t)) (change t v) []
+    → changes_in width f t n ≡ unless_same (same_letters v (value_just_before width f t)) (change t v) []
 unfolding changes_from
 changes_in-constant width f v t zero some same = absurd (omega arith)
 changes_in-constant width f v t (suc n) some same =
     let here : f t ≡ v = ap f {x = t} {y = t + 0} (omega arith) ∙ same 0 (omega arith) in
     let rest : changes_from (f t) (suc t) n f ≡ [] =
     ap (λ w. changes_from w (suc t) n f) here ∙ constant_from f v (suc t) n (λ i less. ap f {x = suc t + i} {y = t + suc i} (omega arith) ∙ same (suc i) (omega arith)) in
-    λ i. unless_same (same_letters (here i) (value_before width f t)) (change t (here i)) (rest i)
+    λ i. unless_same (same_letters (here i) (value_just_before width f t)) (change t (here i)) (rest i)
 
 -- ---- the ticks of a range
 
@@ -166,7 +166,7 @@ module _ (width end a n k : ℕ) (cs : List Change) (is : IsWave width cs) (upto
   count_is_length : length low ≡ k
   count_is_length =
       sym (count ∙ ap (count_by (λ c. nat_lt c.tick a)) parts ∙ sum_by-append (λ (c : Change). cond (nat_lt c.tick a) 1 0) low high
-      ∙ (λ i. count_low_from (all_x width) 0 a a (value_at width cs) (omega arith) i + count_high_from (value_before width (value_at width cs) a) a n a (value_at width cs) (omega arith) i)
+      ∙ (λ i. count_low_from (all_x width) 0 a a (value_at width cs) (omega arith) i + count_high_from (value_just_before width (value_at width cs) a) a n a (value_at width cs) (omega arith) i)
       ∙ omega arith)
 
   -- the changes before a tick
@@ -183,7 +183,7 @@ module _ (width end : ℕ) (cs : List Change) (is : IsWave width cs) (upto : All
     (long : end < u + n) (all : a + (m + n) ≡ suc stop) (from : k ≡ count_by (λ c. nat_lt c.tick a) cs) (to : l ≡ count_by (λ c. nat_lt c.tick u) cs) (later : pos u +ℤ by ≡ pos (a + m)) where
   -- the piece takes the place of the ticks from a to u, and the later changes come to a + m
   pub replaced : a ≤ u → ((s : ℕ) → s < a → f s ≡ value_at width cs s) → ((i : ℕ) → i < n → f (a + m + i) ≡ value_at width cs (u + i))
-      → (0 < n → value_before width f (a + m) ≡ value_before width (value_at width cs) u) → piece ≡ changes_in width f a m
+      → (0 < n → value_just_before width f (a + m) ≡ value_just_before width (value_at width cs) u) → piece ≡ changes_in width f a m
       → spliced_changes cs k l piece by ≡ changes_of width stop f
   unfolding spliced_changes
   replaced ordered early late before told =
@@ -203,7 +203,7 @@ module _ (width end : ℕ) (cs : List Change) (is : IsWave width cs) (upto : All
   -- and that is a piece that leads to the changes of f
   pub replacement_leads : (p : PieceView) → p.from ≡ k → p.to ≡ l → p.changes ≡ piece → p.by ≡ by → a ≤ u → stop < 2 ^ 64
       → ((s : ℕ) → s < a → f s ≡ value_at width cs s) → ((i : ℕ) → i < n → f (a + m + i) ≡ value_at width cs (u + i))
-      → (0 < n → value_before width f (a + m) ≡ value_before width (value_at width cs) u) → piece ≡ changes_in width f a m
+      → (0 < n → value_just_before width f (a + m) ≡ value_just_before width (value_at width cs) u) → piece ≡ changes_in width f a m
       → LeadsTo p cs width stop f
   replacement_leads p is_from is_to is_piece is_by ordered small early late before told =
       record {
@@ -211,6 +211,6 @@ module _ (width end : ℕ) (cs : List Change) (is : IsWave width cs) (upto : All
         within = omega (arith, is_to, to, count_by-le-length (λ (c : Change). nat_lt c.tick u) cs);
         ticks = subst (λ z. TicksFit z (drop p.to cs)) (sym is_by) (subst (λ j. TicksFit by (drop j cs)) (sym is_to)
             (subst (TicksFit by) (sym (changes_from_tick width end u n l cs is upto long to))
-            (ticks_fit_from (value_before width (value_at width cs) u) by u (a + m) n (value_at width cs) later (omega arith))));
+            (ticks_fit_from (value_just_before width (value_at width cs) u) by u (a + m) n (value_at width cs) later (omega arith))));
         is = (λ i. spliced_changes cs (is_from i) (is_to i) (is_piece i) (is_by i)) ∙ replaced ordered early late before told;
       }

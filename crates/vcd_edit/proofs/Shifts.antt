@@ -24,7 +24,7 @@ use Rattle.vcd_edit.proofs.Plans.{at_ok}
 use Rattle.vcd_edit.specs.RecordView.{PieceView}
 use Rattle.vcd_edit.specs.Effect.{value_near, shift_value, cut_value, with_wave, effect}
 use Rattle.vcd_edit.specs.declared.edit.Edit.TheVariants.{Shift}
-use Rattle.vcd_edit.specs.inside.Ranges.{value_before, changes_in, LeadsTo}
+use Rattle.vcd_edit.specs.inside.Ranges.{value_just_before, changes_in, LeadsTo}
 use Rattle.vcd_edit.proofs.Ranges.{changes_in-split, changes_in-constant, changes_in-moved, changes_before_tick, replacement_leads}
 use Rattle.vcd_edit.proofs.Cuts.{all_counted}
 use Rattle.vcd_edit.proofs.WholeLists.{whole_leads}
@@ -110,7 +110,7 @@ module _ (d end : ℕ) (s : SignalContents) where
       of_true : (b : Bool) (c : Change) → b ≡ true → unless_same b c [] ≡ []
       of_true b c holds = ap (λ q. unless_same q c []) holds
 
-  x_before : (t : ℕ) → t ≡ d → value_before s.width (shift_value end (pos d) s) t ≡ all_x s.width
+  x_before : (t : ℕ) → t ≡ d → value_just_before s.width (shift_value end (pos d) s) t ≡ all_x s.width
   x_before zero is = refl
   x_before (suc t) is = shift_before t (omega (arith, is))
 
@@ -123,7 +123,7 @@ module _ (d end : ℕ) (s : SignalContents) where
         0 0 d (end - d + 1) p.from p.to end (pos d) (shift_value end (pos d) s) p.changes (omega arith) (omega arith) (first ∙ sym (none_counted s.changes)) (last ∙ sym (none_counted s.changes))
         (omega (arith, ints)) p refl refl refl by (omega arith) (omega arith) (λ t early. absurd (omega arith))
         (λ i less. shift_behind (0 + d + i) (0 + i) (omega arith) (omega arith))
-        (λ less. ap (value_before s.width (shift_value end (pos d) s)) {x = 0 + d} {y = d} (omega arith) ∙ x_before d refl)
+        (λ less. ap (value_just_before s.width (shift_value end (pos d) s)) {x = 0 + d} {y = d} (omega arith) ∙ x_before d refl)
         (empty ∙ sym (front_empty d (omega arith)))
       where
         none_counted : (cs : List Change) → count_by (λ c. nat_lt c.tick 0) cs ≡ 0

@@ -20,7 +20,7 @@ use Rattle.vcd_edit.specs.declared.edit.Edit.TheVariants.{Rename, Remove, Invert
 use Rattle.vcd_edit.specs.declared.edit.Rule.{Rule}
 use Rattle.vcd_edit.specs.Operators.{not_bit}
 use Rattle.vcd_edit.specs.Effect.{with_values, with_wave, renamed_signal, inverse_value, value_near, shift_value, cut_value, force_value, is_steady, steady_value, first_operand, rule_bit, derived_signal, cut_contents, effect}
-use Rattle.vcd_edit.specs.Allowed.{fault}
+use Rattle.vcd_edit.specs.Allowed.{edit_fault}
 use Rattle.vcd_edit.proofs.Faults.{no_fault, signal_there, first_operand_there, holds_where_not}
 
 -- ---- the width of values
@@ -171,7 +171,7 @@ room_for : (c : Contents) → nat_le SIGNAL_LIMIT (length c.signals) ≡ false �
 room_for c few = grind (arith, nat_tests)
 
 -- the effect of each edit
-pub effect_is_sound : (e : Edit) (c : Contents) → IsSound c → fault e c ≡ None → IsSound (effect e c)
+pub effect_is_sound : (e : Edit) (c : Contents) → IsSound c → edit_fault e c ≡ None → IsSound (effect e c)
 unfolding effect
 effect_is_sound (Rename k word) c sound none =
     let free = no_fault (Rename k word) c none in

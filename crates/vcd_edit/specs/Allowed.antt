@@ -130,8 +130,8 @@ fault_rows e c =
     ∷ []
 
 -- the fault of an edit on a capture, where it has one
-unfoldable pub fault : Edit → Contents → Option EditError
-fault e c = first_fault (fault_rows e c)
+unfoldable pub edit_fault : Edit → Contents → Option EditError
+edit_fault e c = first_fault (fault_rows e c)
 
 -- how an edit may be refused: by the fault that it has, or for want of memory where it has none
 abbrev pub MayRefuse : Option EditError → EditError → Type 0

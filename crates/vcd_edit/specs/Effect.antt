@@ -81,16 +81,16 @@ first_operand (Xor a b) = a
 first_operand (BitOf a k) = a
 
 -- bit k of the signal at a position, at a tick
-abbrev pub bit_at : Contents → ℕ → ℕ → ℕ → Bit
-bit_at c a k t = letter_at (signal_value (signal_at c a) t) k
+abbrev pub signal_bit : Contents → ℕ → ℕ → ℕ → Bit
+signal_bit c a k t = letter_at (signal_value (signal_at c a) t) k
 
 -- what a rule gives at a tick
 abbrev pub rule_bit : Rule → Contents → ℕ → Bit
-rule_bit (Not a) c t = not_bit (bit_at c a 0 t)
-rule_bit (And a b) c t = and_bit (bit_at c a 0 t) (bit_at c b 0 t)
-rule_bit (Or a b) c t = or_bit (bit_at c a 0 t) (bit_at c b 0 t)
-rule_bit (Xor a b) c t = xor_bit (bit_at c a 0 t) (bit_at c b 0 t)
-rule_bit (BitOf a k) c t = bit_at c a k t
+rule_bit (Not a) c t = not_bit (signal_bit c a 0 t)
+rule_bit (And a b) c t = and_bit (signal_bit c a 0 t) (signal_bit c b 0 t)
+rule_bit (Or a b) c t = or_bit (signal_bit c a 0 t) (signal_bit c b 0 t)
+rule_bit (Xor a b) c t = xor_bit (signal_bit c a 0 t) (signal_bit c b 0 t)
+rule_bit (BitOf a k) c t = signal_bit c a k t
 
 -- a signal of one bit in the scopes of the first operand, with one word as its name
 abbrev pub derived_signal : List ℕ → Rule → Contents → SignalContents

@@ -4,8 +4,8 @@ use Rattle.vcd_core.specs.Contents.{Contents}
 use Rattle.vcd_core.specs.Sound.{IsSound}
 use Rattle.vcd_edit.specs.declared.edit.Edit.{Edit}
 use Rattle.vcd_edit.specs.Effect.{effect}
-use Rattle.vcd_edit.specs.Allowed.{fault}
+use Rattle.vcd_edit.specs.Allowed.{edit_fault}
 
 -- what an edit with no fault makes of a sound capture is sound
 abbrev pub EffectIsSound : Type 0
-EffectIsSound = (e : Edit) (c : Contents) → IsSound c → fault e c ≡ None → IsSound (effect e c)
+EffectIsSound = (e : Edit) (c : Contents) → IsSound c → edit_fault e c ≡ None → IsSound (effect e c)

@@ -4,7 +4,7 @@ ghost use Rattle.std.specs.Prelude.{◌≡◌, ◌≤◌, None, IfOk, OnOk, IfEr
 ghost use Rattle.vcd_core.specs.Contents.{contents};
 ghost use Rattle.vcd_core.specs.Sound.{IsSound};
 ghost use Rattle.vcd_edit.specs.Effect.{effect as edit_effect};
-ghost use Rattle.vcd_edit.specs.Allowed.{fault, MayRefuse};
+ghost use Rattle.vcd_edit.specs.Allowed.{edit_fault, MayRefuse};
 ghost use Rattle.vcd_edit.specs.Back.{back, Fits};
 ghost use Rattle.vcd_edit.specs.Touched.{stored_changes};
 ghost use Rattle.vcd_edit.specs.TouchedByEdit.{touched_by_edit};
@@ -32,7 +32,7 @@ mod tests;
 /// and a derive one merged pass over its operands.
 pub fn apply(alloc: Global, capture: &mut Capture, edit: &Edit) -> Result<Record, EditError>
     requires { IsSound (contents capture.old) }
-    ensures allowed { OnOk result (fault edit.now (contents capture.old) ≡ None) }
+    ensures allowed { OnOk result (edit_fault edit.now (contents capture.old) ≡ None) }
     ensures effect { OnOk result
         (contents capture.new ≡ edit_effect edit.now (contents capture.old)) }
     ensures fits { IfOk result (λ r. Fits r (contents capture.new)) }
@@ -40,7 +40,7 @@ pub fn apply(alloc: Global, capture: &mut Capture, edit: &Edit) -> Result<Record
     ensures bound { IfOk result
         (λ r. stored_changes r ≤ touched_by_edit edit.now (contents capture.old)) }
     ensures sound { OnOk result (IsSound (contents capture.new)) }
-    ensures refused { IfErr result (MayRefuse (fault edit.now (contents capture.old))) }
+    ensures refused { IfErr result (MayRefuse (edit_fault edit.now (contents capture.old))) }
     ensures unchanged { OnErr result (contents capture.new ≡ contents capture.old) }
 {
     check(capture, edit)?;

@@ -2,7 +2,7 @@
 
 ghost use Rattle.std.specs.Prelude.{◌∷◌, []};
 ghost use Rattle.vcd_core.specs.Contents.{contents};
-ghost use Rattle.vcd_edit.specs.Allowed.{is_no_signal, first_fault, fault, TellsFault};
+ghost use Rattle.vcd_edit.specs.Allowed.{is_no_signal, first_fault, edit_fault, TellsFault};
 ghost use Rattle.vcd_edit.specs.declared.edit.Edit.TheVariants as edits;
 ghost use Rattle.vcd_edit.specs.declared.fault.EditError.TheVariants as errors;
 
@@ -14,14 +14,14 @@ use crate::fault::EditError;
 use names::{check_derive, check_rename};
 use vcd_core::{Capture, Value};
 
-#[tactic(auto, unfolding(crate::specs::Allowed::fault))]
+#[tactic(auto, unfolding(crate::specs::Allowed::edit_fault))]
 /// Tells which fault an edit has on a capture, where it has one: the first that holds, in the order of
 /// [`EditError`].
 ///
 /// It takes no memory. Its time grows with the signals and their names where the edit gives a name, else
 /// it is bounded.
 pub fn check(capture: &Capture, edit: &Edit) -> Result<(), EditError>
-    ensures { TellsFault result (fault edit.now (contents capture.now)) }
+    ensures { TellsFault result (edit_fault edit.now (contents capture.now)) }
 {
     match *edit {
         Edit::Rename { signal, word } => check_rename(capture, signal, word),
@@ -51,9 +51,9 @@ fn check_signal(capture: &Capture, signal: usize) -> Result<(), EditError>
     Ok(())
 }
 
-#[tactic(auto, unfolding(crate::specs::Allowed::fault))]
+#[tactic(auto, unfolding(crate::specs::Allowed::edit_fault))]
 fn check_cut(capture: &Capture, from: u64, to: u64) -> Result<(), EditError>
-    ensures { TellsFault result (fault (edits.Cut from to) (contents capture.now)) }
+    ensures { TellsFault result (edit_fault (edits.Cut from to) (contents capture.now)) }
 {
     if from >= to || to > capture.end() {
         return Err(EditError::BadRange);
@@ -61,9 +61,9 @@ fn check_cut(capture: &Capture, from: u64, to: u64) -> Result<(), EditError>
     Ok(())
 }
 
-#[tactic(auto, unfolding(crate::specs::Allowed::fault))]
+#[tactic(auto, unfolding(crate::specs::Allowed::edit_fault))]
 fn check_deglitch(capture: &Capture, signal: usize, ticks: u64) -> Result<(), EditError>
-    ensures { TellsFault result (fault (edits.Deglitch signal ticks) (contents capture.now)) }
+    ensures { TellsFault result (edit_fault (edits.Deglitch signal ticks) (contents capture.now)) }
 {
     if signal >= capture.signals().len() {
         return Err(EditError::NoSuchSignal);
@@ -74,7 +74,7 @@ fn check_deglitch(capture: &Capture, signal: usize, ticks: u64) -> Result<(), Ed
     Ok(())
 }
 
-#[tactic(auto, unfolding(crate::specs::Allowed::fault))]
+#[tactic(auto, unfolding(crate::specs::Allowed::edit_fault))]
 fn check_force(
     capture: &Capture,
     signal: usize,
@@ -82,7 +82,7 @@ fn check_force(
     to: u64,
     value: Value,
 ) -> Result<(), EditError>
-    ensures { TellsFault result (fault (edits.Force signal from to value) (contents capture.now)) }
+    ensures { TellsFault result (edit_fault (edits.Force signal from to value) (contents capture.now)) }
 {
     let signals = capture.signals();
     if signal >= signals.len() {

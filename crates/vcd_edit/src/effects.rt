@@ -3,7 +3,7 @@
 ghost use Rattle.std.specs.Prelude.{◌≡◌, None, IfOk};
 ghost use Rattle.vcd_core.specs.Contents.{contents};
 ghost use Rattle.vcd_core.specs.Sound.{IsSound};
-ghost use Rattle.vcd_edit.specs.Allowed.{fault};
+ghost use Rattle.vcd_edit.specs.Allowed.{edit_fault};
 ghost use Rattle.vcd_edit.specs.inside.Plans.{IsPlan};
 
 mod copies;
@@ -26,7 +26,7 @@ use vcd_core::{Capture, NoMemory};
 /// The record that leads to the effect of an edit.
 pub(crate) fn plan(alloc: Global, capture: &Capture, edit: &Edit) -> Result<Record, NoMemory>
     requires sound { IsSound (contents capture.now) }
-    requires allowed { fault edit.now (contents capture.now) ≡ None }
+    requires allowed { edit_fault edit.now (contents capture.now) ≡ None }
     ensures { IfOk result (IsPlan edit.now (contents capture.now)) }
 {
     match *edit {

@@ -9,13 +9,13 @@ use Rattle.vcd_edit.specs.RecordView.{PieceView}
 use Rattle.vcd_edit.specs.Back.{changes_with_piece}
 
 -- the value at the tick before: all x before tick 0
-abbrev pub value_before : ℕ → (ℕ → List Bit) → ℕ → List Bit
-value_before width f zero = all_x width
-value_before width f (suc t) = f t
+abbrev pub value_just_before : ℕ → (ℕ → List Bit) → ℕ → List Bit
+value_just_before width f zero = all_x width
+value_just_before width f (suc t) = f t
 
 -- the changes of f at n ticks from t on
 abbrev pub changes_in : ℕ → (ℕ → List Bit) → ℕ → ℕ → List Change
-changes_in width f t n = changes_from (value_before width f t) t n f
+changes_in width f t n = changes_from (value_just_before width f t) t n f
 
 -- a piece that makes of a list the changes of f from tick 0 to `stop`
 pub record LeadsTo (p : PieceView) (cs : List Change) (width stop : ℕ) (f : ℕ → List Bit) : Type 0 where

@@ -6,7 +6,7 @@ ghost use Rattle.std.specs.Str.{bytes_eq};
 ghost use Rattle.vcd_core.specs.Contents.{contents, signal_contents, no_signal};
 ghost use Rattle.vcd_core.specs.Names.{full_name, full_names};
 ghost use Rattle.vcd_edit.specs.Effect.{renamed_signal};
-ghost use Rattle.vcd_edit.specs.Allowed.{lacks_operand, takes_name, fault, TellsFault};
+ghost use Rattle.vcd_edit.specs.Allowed.{lacks_operand, takes_name, edit_fault, TellsFault};
 ghost use Rattle.vcd_edit.specs.declared.edit.Edit.TheVariants as edits;
 
 use crate::checking::operands::check_operands;
@@ -14,9 +14,9 @@ use crate::edit::Rule;
 use crate::fault::EditError;
 use vcd_core::{Capture, FullName, SIGNAL_LIMIT, Signal, Word, is_word};
 
-#[tactic(auto, unfolding(crate::specs::Allowed::fault))]
+#[tactic(auto, unfolding(crate::specs::Allowed::edit_fault))]
 pub(crate) fn check_rename(capture: &Capture, signal: usize, word: &[u8]) -> Result<(), EditError>
-    ensures { TellsFault result (fault (edits.Rename signal word.entry) (contents capture.now)) }
+    ensures { TellsFault result (edit_fault (edits.Rename signal word.entry) (contents capture.now)) }
 {
     let signals = capture.signals();
     if signal >= signals.len() {
@@ -55,9 +55,9 @@ fn behind_first(words: &[Word]) -> &[Word]
     }
 }
 
-#[tactic(auto, unfolding(crate::specs::Allowed::fault))]
+#[tactic(auto, unfolding(crate::specs::Allowed::edit_fault))]
 pub(crate) fn check_derive(capture: &Capture, word: &[u8], rule: Rule) -> Result<(), EditError>
-    ensures { TellsFault result (fault (edits.Derive word.entry rule) (contents capture.now)) }
+    ensures { TellsFault result (edit_fault (edits.Derive word.entry rule) (contents capture.now)) }
 {
     check_operands(capture, rule)?;
     if !is_word(word) {

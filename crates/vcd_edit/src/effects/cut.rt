@@ -4,7 +4,7 @@ ghost use Rattle.std.specs.Prelude.{◌≡◌, ◌<◌, ◌≤◌, ◌+◌, ◌-
 ghost use Rattle.vcd_core.specs.Contents.{Contents, contents, signal_contents};
 ghost use Rattle.vcd_core.specs.Sound.{IsSound, IsSoundSignal};
 ghost use Rattle.vcd_edit.specs.Effect.{cut_value, signal_after_cut};
-ghost use Rattle.vcd_edit.specs.Allowed.{fault};
+ghost use Rattle.vcd_edit.specs.Allowed.{edit_fault};
 ghost use Rattle.vcd_edit.specs.inside.Records.{piece_view};
 ghost use Rattle.vcd_edit.specs.inside.Plans.{IsPlan, GivesValues, LeadEach};
 ghost use Rattle.vcd_edit.specs.declared.edit.Edit.TheVariants as edits;
@@ -17,7 +17,7 @@ use vcd_core::{Capture, END_LIMIT, NoMemory, Signal, Wave};
 /// The record of a piece for each signal that has changes from the first tick on that is cut out.
 pub(crate) fn plan(alloc: Global, capture: &Capture, from: u64, to: u64) -> Result<Record, NoMemory>
     requires sound { IsSound (contents capture.now) }
-    requires allowed { fault (edits.Cut from to) (contents capture.now) ≡ None }
+    requires allowed { edit_fault (edits.Cut from to) (contents capture.now) ≡ None }
     ensures { IfOk result (IsPlan (edits.Cut from to) (contents capture.now)) }
 {
     let pieces = cut_pieces(alloc, capture.signals(), from, to)?;

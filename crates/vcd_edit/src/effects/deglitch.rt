@@ -3,7 +3,7 @@
 ghost use Rattle.std.specs.Prelude.{◌≡◌, None, IfOk};
 ghost use Rattle.vcd_core.specs.Contents.{contents};
 ghost use Rattle.vcd_core.specs.Sound.{IsSound};
-ghost use Rattle.vcd_edit.specs.Allowed.{fault};
+ghost use Rattle.vcd_edit.specs.Allowed.{edit_fault};
 ghost use Rattle.vcd_edit.specs.inside.Thinned.{thinned, begins_steady as steady_test, steady_changes};
 ghost use Rattle.vcd_edit.specs.inside.Plans.{IsPlan};
 ghost use Rattle.vcd_edit.specs.declared.edit.Edit.TheVariants as edits;
@@ -21,7 +21,7 @@ pub(crate) fn plan(
     ticks: u64,
 ) -> Result<Record, NoMemory>
     requires sound { IsSound (contents capture.now) }
-    requires allowed { fault (edits.Deglitch signal ticks) (contents capture.now) ≡ None }
+    requires allowed { edit_fault (edits.Deglitch signal ticks) (contents capture.now) ≡ None }
     ensures { IfOk result (IsPlan (edits.Deglitch signal ticks) (contents capture.now)) }
 {
     let wave = &signal_there(capture, signal).wave;

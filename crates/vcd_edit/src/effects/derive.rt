@@ -6,7 +6,7 @@ ghost use Rattle.vcd_core.specs.Sound.{IsSound};
 ghost use Rattle.vcd_core.specs.Value.{letter_at};
 ghost use Rattle.vcd_core.specs.Wave.{value_at, changes_of, AllUpTo};
 ghost use Rattle.vcd_edit.specs.Effect.{derived_signal};
-ghost use Rattle.vcd_edit.specs.Allowed.{lacks_operand, fault};
+ghost use Rattle.vcd_edit.specs.Allowed.{lacks_operand, edit_fault};
 ghost use Rattle.vcd_edit.specs.inside.Thinned.{TicksRise};
 ghost use Rattle.vcd_edit.specs.inside.Derived.{operator_bit, edge_bit as bit_at_edge, edge_change, IsMade};
 ghost use Rattle.vcd_edit.specs.inside.Plans.{IsPlan};
@@ -28,7 +28,7 @@ pub(crate) fn plan(
     rule: Rule,
 ) -> Result<Record, NoMemory>
     requires sound { IsSound (contents capture.now) }
-    requires allowed { fault (edits.Derive word rule) (contents capture.now) ≡ None }
+    requires allowed { edit_fault (edits.Derive word rule) (contents capture.now) ≡ None }
     ensures { IfOk result (IsPlan (edits.Derive word.entry rule) (contents capture.now)) }
 {
     let signal = derived(alloc, capture, word, rule)?;

@@ -4,7 +4,7 @@ ghost use Rattle.std.specs.Prelude.{◌≡◌, ◌<◌, ◌≤◌, ◌+◌, None
 ghost use Rattle.vcd_core.specs.Contents.{contents, signal_contents};
 ghost use Rattle.vcd_core.specs.Sound.{IsSound, IsSoundSignal};
 ghost use Rattle.vcd_edit.specs.Effect.{force_value};
-ghost use Rattle.vcd_edit.specs.Allowed.{fault};
+ghost use Rattle.vcd_edit.specs.Allowed.{edit_fault};
 ghost use Rattle.vcd_edit.specs.inside.Plans.{IsPlan, GivesValues};
 ghost use Rattle.vcd_edit.specs.declared.edit.Edit.TheVariants as edits;
 
@@ -23,7 +23,7 @@ pub(crate) fn plan(
     value: Value,
 ) -> Result<Record, NoMemory>
     requires sound { IsSound (contents capture.now) }
-    requires allowed { fault (edits.Force signal from to value) (contents capture.now) ≡ None }
+    requires allowed { edit_fault (edits.Force signal from to value) (contents capture.now) ≡ None }
     ensures { IfOk result (IsPlan (edits.Force signal from to value) (contents capture.now)) }
 {
     let old = signal_there(capture, signal);

@@ -7,7 +7,7 @@ ghost use Rattle.vcd_core.specs.Value.{all_x};
 ghost use Rattle.vcd_core.specs.Wave.{value_at};
 ghost use Rattle.vcd_edit.specs.Operators.{not_bit};
 ghost use Rattle.vcd_edit.specs.Effect.{inverse_value};
-ghost use Rattle.vcd_edit.specs.Allowed.{fault};
+ghost use Rattle.vcd_edit.specs.Allowed.{edit_fault};
 ghost use Rattle.vcd_edit.specs.inside.Thinned.{thinned, with_value};
 ghost use Rattle.vcd_edit.specs.inside.Plans.{IsPlan, GivesValues};
 ghost use Rattle.vcd_edit.specs.declared.edit.Edit.TheVariants as edits;
@@ -21,7 +21,7 @@ use vcd_core::{Capture, Change, NoMemory, Value};
 /// The record of the whole list of changes.
 pub(crate) fn plan(alloc: Global, capture: &Capture, signal: usize) -> Result<Record, NoMemory>
     requires sound { IsSound (contents capture.now) }
-    requires allowed { fault (edits.Invert signal) (contents capture.now) ≡ None }
+    requires allowed { edit_fault (edits.Invert signal) (contents capture.now) ≡ None }
     ensures { IfOk result (IsPlan (edits.Invert signal) (contents capture.now)) }
 {
     let wave = &signal_there(capture, signal).wave;

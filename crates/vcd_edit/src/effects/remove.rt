@@ -3,7 +3,7 @@
 ghost use Rattle.std.specs.Prelude.{◌≡◌, None};
 ghost use Rattle.vcd_core.specs.Contents.{contents};
 ghost use Rattle.vcd_core.specs.Sound.{IsSound};
-ghost use Rattle.vcd_edit.specs.Allowed.{fault};
+ghost use Rattle.vcd_edit.specs.Allowed.{edit_fault};
 ghost use Rattle.vcd_edit.specs.inside.Plans.{IsPlan};
 ghost use Rattle.vcd_edit.specs.declared.edit.Edit.TheVariants as edits;
 
@@ -14,7 +14,7 @@ use vcd_core::Capture;
 /// The record that takes the signal out. It takes no memory.
 pub(crate) fn plan(alloc: Global, capture: &Capture, signal: usize) -> Record
     requires sound { IsSound (contents capture.now) }
-    requires allowed { fault (edits.Remove signal) (contents capture.now) ≡ None }
+    requires allowed { edit_fault (edits.Remove signal) (contents capture.now) ≡ None }
     ensures { IsPlan (edits.Remove signal) (contents capture.now) result }
 {
     Record {

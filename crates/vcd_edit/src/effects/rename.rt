@@ -3,7 +3,7 @@
 ghost use Rattle.std.specs.Prelude.{◌≡◌, None, IfOk};
 ghost use Rattle.vcd_core.specs.Contents.{contents};
 ghost use Rattle.vcd_core.specs.Sound.{IsSound};
-ghost use Rattle.vcd_edit.specs.Allowed.{fault};
+ghost use Rattle.vcd_edit.specs.Allowed.{edit_fault};
 ghost use Rattle.vcd_edit.specs.inside.Plans.{IsPlan};
 ghost use Rattle.vcd_edit.specs.declared.edit.Edit.TheVariants as edits;
 
@@ -19,7 +19,7 @@ pub(crate) fn plan(
     word: &[u8],
 ) -> Result<Record, NoMemory>
     requires sound { IsSound (contents capture.now) }
-    requires allowed { fault (edits.Rename signal word) (contents capture.now) ≡ None }
+    requires allowed { edit_fault (edits.Rename signal word) (contents capture.now) ≡ None }
     ensures { IfOk result (IsPlan (edits.Rename signal word.entry) (contents capture.now)) }
 {
     let mut copy = Vec::new(alloc);

@@ -6,7 +6,7 @@ ghost use Rattle.vcd_core.specs.Contents.{contents, signal_contents};
 ghost use Rattle.vcd_core.specs.Sound.{IsSound, IsSoundSignal};
 ghost use Rattle.vcd_core.specs.Splice.{moved_change};
 ghost use Rattle.vcd_edit.specs.Effect.{shift_value};
-ghost use Rattle.vcd_edit.specs.Allowed.{fault};
+ghost use Rattle.vcd_edit.specs.Allowed.{edit_fault};
 ghost use Rattle.vcd_edit.specs.inside.Plans.{IsPlan, GivesValues};
 ghost use Rattle.vcd_edit.specs.declared.edit.Edit.TheVariants as edits;
 
@@ -24,7 +24,7 @@ pub(crate) fn plan(
     by: i64,
 ) -> Result<Record, NoMemory>
     requires sound { IsSound (contents capture.now) }
-    requires allowed { fault (edits.Shift signal by) (contents capture.now) ≡ None }
+    requires allowed { edit_fault (edits.Shift signal by) (contents capture.now) ≡ None }
     ensures { IfOk result (IsPlan (edits.Shift signal by) (contents capture.now)) }
 {
     let old = signal_there(capture, signal);
