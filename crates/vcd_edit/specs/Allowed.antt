@@ -16,6 +16,7 @@ use Rattle.vcd_edit.specs.Effect.{renamed_signal, derived_signal}
 
 -- ---- a position is not below the number of signals
 
+-- whether there is no signal at a position
 abbrev pub is_no_signal : Contents → ℕ → Bool
 is_no_signal c k = nat_le (length c.signals) k
 
