@@ -8,7 +8,7 @@ use Rattle.vcdedit.specs.declared.step.StepError.TheVariants as refusals
 use Rattle.vcdedit.specs.declared.step.Answer.{Answer}
 use Rattle.vcdedit.specs.declared.step.Answer.TheVariants.{Done, Refused}
 use Rattle.vcdedit.specs.Effect.{effect}
-use Rattle.vcdedit.specs.Machine.{Machine, first_machine, machine_after_edit, IsStep, IsRun}
+use Rattle.vcdedit.specs.Machine.{Machine, first_machine, machine_after_edit, IsStep, StepsLead}
 use Rattle.vcdedit.specs.InForce.{Tally, tally_after, tally_after_all, replay, IsReplay, SessionIsReplay}
 
 -- each capture of the past is the replay of the edits before one in force, the last first
@@ -89,8 +89,8 @@ step_follows c t m steps.Redo (Refused refusals.NoMemory) n f h = subst (Follows
 
 -- any steps
 pub run_follows : (c : Contents) (t : Tally) (m : Machine) (asked : List Step) (answers : List Answer) (n : Machine) →
-    Follows c t m → IsRun m asked answers n → Follows c (tally_after_all t asked answers) n
-unfolding IsRun tally_after_all
+    Follows c t m → StepsLead m asked answers n → Follows c (tally_after_all t asked answers) n
+unfolding StepsLead tally_after_all
 run_follows c t m [] [] n f r = subst (Follows c t) (sym r) f
 run_follows c t m [] (a ∷ answers) n f r = absurd r
 run_follows c t m (s ∷ asked) [] n f r = absurd r

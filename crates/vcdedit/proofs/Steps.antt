@@ -14,7 +14,7 @@ use Rattle.vcdedit.specs.declared.script.command.Command.TheVariants as commands
 use Rattle.vcdedit.specs.declared.script.line_error.LineError.{LineError}
 use Rattle.vcdedit.specs.Effect.{effect}
 use Rattle.vcdedit.specs.Allowed.{edit_fault}
-use Rattle.vcdedit.specs.Machine.{Machine, StepOutcome, refused_outcome, first_machine, step_outcome, edit_outcome, undo_outcome, redo_outcome, IsStep, IsRun}
+use Rattle.vcdedit.specs.Machine.{Machine, StepOutcome, refused_outcome, first_machine, step_outcome, edit_outcome, undo_outcome, redo_outcome, IsStep, StepsLead}
 use Rattle.vcdedit.specs.Lent.{edit_without_address, step_without_address}
 use Rattle.vcdedit.specs.Script.{command_of_line}
 use Rattle.vcdedit.specs.Reply.{step_reply, edit_reply}
@@ -137,15 +137,15 @@ reply_is_answer m steps.Undo = reply_to_undo_is m.past m.now (length m.future) m
 reply_is_answer m steps.Redo = reply_to_redo_is m.future m.now (length m.past) m
 
 -- a line asks for at most one step, and leaves what comes of it
-pub command_is_run : (m : Machine) (r : Result Command LineError) (asked : List Step) (answers : List Answer) (n : Machine) → IsRun (machine_after_command m r) asked answers n →
-    IsRun m (steps_of_command r ++ asked) (map (λ step. (step_outcome m step).answer) (steps_of_command r) ++ answers) n
-unfolding IsRun
+pub command_is_run : (m : Machine) (r : Result Command LineError) (asked : List Step) (answers : List Answer) (n : Machine) → StepsLead (machine_after_command m r) asked answers n →
+    StepsLead m (steps_of_command r ++ asked) (map (λ step. (step_outcome m step).answer) (steps_of_command r) ++ answers) n
+unfolding StepsLead
 command_is_run m (Ok commands.Nothing) asked answers n h = h
 command_is_run m (Ok (commands.Step step)) asked answers n h = ((step_outcome m step).after, ample_step m step, h)
 command_is_run m (Err found) asked answers n h = h
 
-pub lines_are_run : (m : Machine) (lines : List (List ℕ)) → IsRun m (steps_of_lines m lines) (answers_of_lines m lines) (machine_after_lines m lines)
-unfolding IsRun steps_of_lines answers_of_lines machine_after_lines machine_after_line
+pub lines_are_run : (m : Machine) (lines : List (List ℕ)) → StepsLead m (steps_of_lines m lines) (answers_of_lines m lines) (machine_after_lines m lines)
+unfolding StepsLead steps_of_lines answers_of_lines machine_after_lines machine_after_line
 lines_are_run m [] = refl
 lines_are_run m (line ∷ lines) =
     let next : Machine = machine_after_line m line in

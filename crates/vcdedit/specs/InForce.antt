@@ -7,7 +7,7 @@ use Rattle.vcdedit.specs.declared.step.Step.TheVariants as steps
 use Rattle.vcdedit.specs.declared.step.Answer.{Answer}
 use Rattle.vcdedit.specs.declared.step.Answer.TheVariants.{Done, Refused}
 use Rattle.vcdedit.specs.Effect.{effect}
-use Rattle.vcdedit.specs.Machine.{Machine, first_machine, IsRun}
+use Rattle.vcdedit.specs.Machine.{Machine, first_machine, StepsLead}
 
 -- the edits in force, the last first, and those undone, the one undone last first
 pub record Tally : Type 0 where
@@ -52,4 +52,4 @@ pub record IsReplay (c : Contents) (edits_in_force : List Edit) (m : Machine) : 
 
 -- whatever steps are asked and however they are answered, the capture is the replay of the edits in force
 abbrev pub SessionIsReplay : Type 0
-SessionIsReplay = (c : Contents) (depth : ℕ) (asked : List Step) (answers : List Answer) (m : Machine) → IsRun (first_machine c depth) asked answers m → IsReplay c (edits_in_force_after asked answers) m
+SessionIsReplay = (c : Contents) (depth : ℕ) (asked : List Step) (answers : List Answer) (m : Machine) → StepsLead (first_machine c depth) asked answers m → IsReplay c (edits_in_force_after asked answers) m

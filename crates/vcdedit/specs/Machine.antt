@@ -100,8 +100,8 @@ IsStep m steps.Redo (Refused refusals.NothingToRedo) n = (m.future ≡ []) × (n
 IsStep m steps.Redo (Refused refusals.NoMemory) n = (m.future ≢ []) × (n ≡ m)
 
 -- the steps, with these answers, lead from m to n
-unfoldable pub IsRun : Machine → List Step → List Answer → Machine → Type 0
-IsRun m [] [] n = n ≡ m
-IsRun m [] (a ∷ answers) n = ⊥
-IsRun m (s ∷ asked) [] n = ⊥
-IsRun m (s ∷ asked) (a ∷ answers) n = (between : Machine) × IsStep m s a between × IsRun between asked answers n
+unfoldable pub StepsLead : Machine → List Step → List Answer → Machine → Type 0
+StepsLead m [] [] n = n ≡ m
+StepsLead m [] (a ∷ answers) n = ⊥
+StepsLead m (s ∷ asked) [] n = ⊥
+StepsLead m (s ∷ asked) (a ∷ answers) n = (between : Machine) × IsStep m s a between × StepsLead between asked answers n

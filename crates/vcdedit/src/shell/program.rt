@@ -21,14 +21,14 @@ const DEPTH: u64 = 100;
 
 /// Why the program stopped before its end.
 #[derive(Clone, Copy, Debug, PartialEq, Eq)]
-enum Stop {
+enum ProgramFault {
     Usage,
     Run(RunError),
 }
 
-impl From<RunError> for Stop {
-    fn from(error: RunError) -> Stop {
-        Stop::Run(error)
+impl From<RunError> for ProgramFault {
+    fn from(error: RunError) -> ProgramFault {
+        ProgramFault::Run(error)
     }
 }
 
@@ -47,28 +47,28 @@ pub fn status_of_program<R: Runtime + AllocGlobal, E: Sink>(rt: &R, errors: &mut
 {
     match run_words(rt) {
         Ok(summary) => status_when_done(&summary),
-        Err(Stop::Usage) => report_usage(errors),
-        Err(Stop::Run(error)) => report(&error, errors),
+        Err(ProgramFault::Usage) => report_usage(errors),
+        Err(ProgramFault::Run(error)) => report(&error, errors),
     }
 }
 
-fn run_words<R: Runtime + AllocGlobal>(rt: &R) -> Result<Summary, Stop> {
+fn run_words<R: Runtime + AllocGlobal>(rt: &R) -> Result<Summary, ProgramFault> {
     let words = command_line_words(rt)?;
     let Ok(options) = parse_words(words.as_slice()) else {
-        return Err(Stop::Usage);
+        return Err(ProgramFault::Usage);
     };
     Ok(run_options(rt, &options)?)
 }
 
 /// The words after the program's name. One that is no text is a fault of usage.
-fn command_line_words<R: Runtime + AllocGlobal>(rt: &R) -> Result<Vec<String>, Stop> {
+fn command_line_words<R: Runtime + AllocGlobal>(rt: &R) -> Result<Vec<String>, ProgramFault> {
     match env::args(rt) {
         Ok(words) => words
             .skip(1)
             .collect(rt.alloc())
-            .map_err(|_| Stop::Run(NO_MEMORY)),
-        Err(error) if error.kind() == ErrorKind::OutOfMemory => Err(Stop::Run(NO_MEMORY)),
-        Err(_) => Err(Stop::Usage),
+            .map_err(|_| ProgramFault::Run(NO_MEMORY)),
+        Err(error) if error.kind() == ErrorKind::OutOfMemory => Err(ProgramFault::Run(NO_MEMORY)),
+        Err(_) => Err(ProgramFault::Usage),
     }
 }
 
