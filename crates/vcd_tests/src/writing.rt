@@ -5,7 +5,7 @@ use crate::fixtures::loaded;
 use std::alloc::Global;
 use std::process::Abort;
 use std::test::Fail;
-use vcd_text::{WriteError, write};
+use vcd_text::{Fault, ReadError, WriteError, write};
 
 /// A capture as it is written.
 const TEXT: &str = "$timescale 1 ns $end
@@ -74,5 +74,15 @@ fn a_writer_that_takes_no_byte(rt: HostRuntime) -> Result<(), Fail> {
 fn faults_are_printed(rt: HostRuntime) -> Result<(), Fail> {
     let fault = WriteError::WriteFault { written: 3 };
     assert!(rt; format!(in rt.alloc(); "{fault}")?.as_str() == "WriteFault");
+    Ok(())
+}
+
+/// A fault of a file is printed by its name, with its line or without.
+#[test]
+fn faults_of_files_are_printed(rt: HostRuntime) -> Result<(), Fail> {
+    let fault = Fault::TimeBackwards;
+    assert!(rt; format!(in rt.alloc(); "{fault}")?.as_str() == "TimeBackwards");
+    let error = ReadError { line: 4, fault };
+    assert!(rt; format!(in rt.alloc(); "{error}")?.as_str() == "TimeBackwards");
     Ok(())
 }
