@@ -8,7 +8,7 @@ use Rattle.vcd_text.specs.Words.{PlacedWord, word_on, words_from, words_of, clos
 use Rattle.vcd_text.specs.Grammar.{nothing_told, told_after, word_texts, AllowsAll}
 use Rattle.vcd_text.proofs.OneAnswer.{accepted-not_refused}
 use Rattle.vcd_text.specs.Items.{Item, spellings, scope, upscope, variable, end_definitions, stamp, vector, bracket}
-use Rattle.vcd_text.specs.Faults.{FileFault, FrontFault, WordFault, fault_line, HasNoFrontFault, shown, too_early, declaration_due, code_due, among_declarations, among_changes, upscope_at_top, no_timescale, no_kind, no_variable, no_size, code_mixed, no_declaration, definitions_go_on, declaration_late, letter_alone, no_value, no_change, no_tick, tick_goes_back, letter_of_none, pair_of_none, value_too_long}
+use Rattle.vcd_text.specs.Faults.{FileFault, FrontFault, WordFault, fault_line, HasNoFrontFault, shown, too_early, declaration_due, code_due, among_declarations, among_changes, upscope_at_top, no_timescale, no_kind, no_variable, no_size, code_mixed, no_declaration, definitions_go_on, declaration_late, value_alone, no_value, no_change, no_tick, tick_goes_back, value_of_none, pair_of_none, value_too_long}
 
 -- one variable, and the end of the declarations
 abbrev one_variable : List Item
@@ -119,7 +119,7 @@ unknown_code : FileFault (codes "$enddefinitions $end 1\"\n") 1 UnknownCode
 unfolding words_from
 unknown_code =
     shows _ _ _ (end_definitions ∷ []) (word_on (codes "$enddefinitions") 1 ∷ word_on (codes "$end") 1 ∷ []) [] (word_on (codes "1\"") 1) [] refl refl (search arith)
-    (among_changes refl (letter_of_none 49 (codes "\"") refl refl refl (omega arith) refl refl)) refl
+    (among_changes refl (value_of_none 49 (codes "\"") refl refl refl (omega arith) refl refl)) refl
 
 -- a change of two words has the line of its first, also where `$end` stands in the place of the code
 unknown_code_of_vector : FileFault (codes "$enddefinitions $end\nb1\n$end\n") 2 UnknownCode
@@ -159,7 +159,7 @@ scope_among_changes =
     shows _ _ _ (end_definitions ∷ []) (word_on (codes "$enddefinitions") 1 ∷ word_on (codes "$end") 1 ∷ []) [] (word_on (codes "$scope") 2) (word_on (codes "module") 2 ∷ word_on (codes "top") 2 ∷ word_on (codes "$end") 2 ∷ []) refl refl (search arith)
     (among_changes refl (declaration_late refl refl refl)) refl
 
--- a value letter without a code, a change without digits, and a word that is no change
+-- a binary digit without a code, a change without digits, and a word that is no change
 abbrev bad_changes : (change : List ℕ) → List ℕ
 bad_changes change = codes "$var wire 1 ! a $end $enddefinitions $end\n" ++ change
 
@@ -167,7 +167,7 @@ lone_letter : FileFault (bad_changes (codes "1 !")) 2 BadChange
 unfolding words_from
 lone_letter =
     shows _ _ _ one_variable (take 8 (words_of (bad_changes []))) [] (word_on (codes "1") 2) (word_on (codes "!") 2 ∷ []) refl refl (search arith)
-    (among_changes refl (letter_alone 49 refl refl refl refl)) refl
+    (among_changes refl (value_alone 49 refl refl refl refl)) refl
 
 no_digit : FileFault (bad_changes (codes "b !")) 2 BadChange
 unfolding words_from
@@ -190,5 +190,5 @@ front_without_fault line fault =
       spelled = refl;
       allowed = search arith;
       tells = refl;
-      declared = refl;
+      definitions_ended = refl;
     })

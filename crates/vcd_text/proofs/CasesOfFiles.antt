@@ -38,7 +38,7 @@ pub one_scalar_means : FileMeans one_scalar one_scalar_contents 0
 unfolding words_from recorded_value changes_from digits
 one_scalar_means = record {
   told = told_after nothing_told one_scalar_items;
-  accepted = record { items = one_scalar_items; spelled = refl; allowed = search arith; tells = refl; declared = refl };
+  accepted = record { items = one_scalar_items; spelled = refl; allowed = search arith; tells = refl; definitions_ended = refl };
   means = refl;
   left_out = refl;
 }
@@ -72,7 +72,7 @@ one_vector_means : FileMeans one_vector one_vector_contents 0
 unfolding words_from recorded_value changes_from digits
 one_vector_means = record {
   told = told_after nothing_told one_vector_items;
-  accepted = record { items = one_vector_items; spelled = refl; allowed = search arith; tells = refl; declared = refl };
+  accepted = record { items = one_vector_items; spelled = refl; allowed = search arith; tells = refl; definitions_ended = refl };
   means = refl;
   left_out = refl;
 }
@@ -102,7 +102,7 @@ shared_code_means : FileMeans shared_code shared_code_contents 0
 unfolding words_from recorded_value changes_from digits
 shared_code_means = record {
   told = told_after nothing_told shared_code_items;
-  accepted = record { items = shared_code_items; spelled = refl; allowed = search arith; tells = refl; declared = refl };
+  accepted = record { items = shared_code_items; spelled = refl; allowed = search arith; tells = refl; definitions_ended = refl };
   means = refl;
   left_out = refl;
 }
@@ -130,7 +130,7 @@ skipped_and_comment_means : FileMeans skipped_and_comment skipped_and_comment_co
 unfolding words_from recorded_value changes_from digits
 skipped_and_comment_means = record {
   told = told_after nothing_told skipped_and_comment_items;
-  accepted = record { items = skipped_and_comment_items; spelled = refl; allowed = search arith; tells = refl; declared = refl };
+  accepted = record { items = skipped_and_comment_items; spelled = refl; allowed = search arith; tells = refl; definitions_ended = refl };
   means = refl;
   left_out = refl;
 }
@@ -156,7 +156,7 @@ last_counts_means : FileMeans last_counts last_counts_contents 1
 unfolding words_from recorded_value changes_from digits
 last_counts_means = record {
   told = told_after nothing_told last_counts_items;
-  accepted = record { items = last_counts_items; spelled = refl; allowed = search arith; tells = refl; declared = refl };
+  accepted = record { items = last_counts_items; spelled = refl; allowed = search arith; tells = refl; definitions_ended = refl };
   means = refl;
   left_out = refl;
 }

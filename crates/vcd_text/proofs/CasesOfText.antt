@@ -8,7 +8,7 @@ use Rattle.vcd_core.specs.declared.capture.ScopeName.{ScopeName}
 use Rattle.vcd_core.specs.declared.wave.Change.{Change}
 use Rattle.vcd_core.specs.Wave.{change, value_from}
 use Rattle.vcd_core.specs.Contents.{Contents, SignalContents}
-use Rattle.vcd_text.specs.Letters.{letters_read, short_form}
+use Rattle.vcd_text.specs.Letters.{letters_of_digits, short_form}
 use Rattle.vcd_text.specs.Text.{code_of, code_digits, signal_items, tick_items, items_of, text}
 
 -- a scope with one word for a name
@@ -20,7 +20,7 @@ top = scope (codes "module") (codes "top")
 
 -- from a tick on, the value that is written so in full
 abbrev pub from : ℕ → List ℕ → Change
-from tick letters = change tick (letters_read letters)
+from tick letters = change tick (letters_of_digits letters)
 
 -- a wire with one word for a name
 abbrev pub wire : List ScopeName → List ℕ → ℕ → List Change → SignalContents

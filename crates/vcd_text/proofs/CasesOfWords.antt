@@ -1,10 +1,10 @@
 -- Worked cases: the words of small files, each with its line.
 use Rattle.std.proofs.Common.{◌≡◌, refl}
 use Rattle.std.specs.Prelude.{[], ◌∷◌, codes}
-use Rattle.vcd_text.specs.Words.{word_on, words_from, words_of, closed_words, end_line}
+use Rattle.vcd_text.specs.Words.{word_on, words_from, words_of, closed_words, last_line}
 
 -- no word in an empty file, and its end is on line 1
-empty_file : (words_of [] ≡ []) × (end_line [] ≡ 1)
+empty_file : (words_of [] ≡ []) × (last_line [] ≡ 1)
 unfolding words_from
 empty_file = (refl, refl)
 
@@ -29,5 +29,5 @@ unfolding words_from
 last_word_is_closed = refl
 
 -- the end of a file lies behind all its line feeds
-end_of_file : (end_line (codes "#10\n#9") ≡ 2) × (end_line (codes "#10\n#9\n") ≡ 3)
+end_of_file : (last_line (codes "#10\n#9") ≡ 2) × (last_line (codes "#10\n#9\n") ≡ 3)
 end_of_file = (refl, refl)

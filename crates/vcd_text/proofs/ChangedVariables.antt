@@ -10,10 +10,10 @@ use Rattle.vcd_core.specs.Value.{all_x}
 use Rattle.vcd_core.specs.Wave.{value_at}
 use Rattle.vcd_text.specs.declared.fault.Fault.{Fault}
 use Rattle.vcd_text.specs.declared.fault.Fault.TheVariants as faults
-use Rattle.vcd_text.specs.Letters.{letters_read, extension}
-use Rattle.vcd_text.specs.Grammar.{VariableDeclaration, RecordedChange, Context, is_skipped, variable_of, takes_digits, recorded_changes, with_recorded_change}
+use Rattle.vcd_text.specs.Letters.{letters_of_digits, extension}
+use Rattle.vcd_text.specs.Grammar.{VariableDeclaration, RecordedChange, Context, is_skipped, variable_of, takes_binary_number, recorded_changes, with_recorded_change}
 use Rattle.vcd_text.specs.Meaning.{recorded_value}
-use Rattle.vcd_text.specs.inside.Variables.{declaration, owner_of, HasWave, Stands, HasFirst, Knows, Sets, RefusesDigits, no_value, too_long, TakesChange}
+use Rattle.vcd_text.specs.inside.Variables.{declaration, owner_of, HasWave, Stands, HasFirst, Knows, Sets, RefusesBinaryNumber, no_value, too_long, TakesChange}
 use Rattle.vcd_text.specs.declared.reading.variables.Owner.{Owner}
 use Rattle.vcd_text.specs.declared.reading.variables.Owner.TheVariants.{Skipped, Kept}
 use Rattle.vcd_text.specs.declared.reading.variables.Variable.{Variable}
@@ -93,7 +93,7 @@ module _ (old : Variables) (list : Vec Variable) (c : Context) (code digits : Li
 
     -- the record of the change
     change_record : RecordedChange
-    change_record = record { tick = c.tick; code = code; letters = letters_read digits }
+    change_record = record { tick = c.tick; code = code; letters = letters_of_digits digits }
 
     -- the wave of the code takes the value
     wave_changed : (key : List ℕ) (position size : ℕ) → code ≡ key → owner_of old key ≡ Some (Kept position) → HasWave old.kept.items position key size c.records c.tick
@@ -114,12 +114,12 @@ module _ (old : Variables) (list : Vec Variable) (c : Context) (code digits : Li
           values = λ t.
               ap (λ n. value_at n w.signal.wave.changes t) (sym new_size)
               ∙ sets.values t
-              ∙ ap (λ n. if nat_le c.tick t then extension n (letters_read digits) else value_at n v.signal.wave.changes t) old_size
-              ∙ ap (λ (u : Variable). if nat_le c.tick t then extension size (letters_read digits) else value_at size u.signal.wave.changes t) is
-              ∙ ap (λ x. if nat_le c.tick t then extension size (letters_read digits) else x) (wave.values t)
-              ∙ ap (λ b. if b && nat_le c.tick t then extension size (letters_read digits) else recorded_value size key t (all_x size) c.records)
+              ∙ ap (λ n. if nat_le c.tick t then extension n (letters_of_digits digits) else value_at n v.signal.wave.changes t) old_size
+              ∙ ap (λ (u : Variable). if nat_le c.tick t then extension size (letters_of_digits digits) else value_at size u.signal.wave.changes t) is
+              ∙ ap (λ x. if nat_le c.tick t then extension size (letters_of_digits digits) else x) (wave.values t)
+              ∙ ap (λ b. if b && nat_le c.tick t then extension size (letters_of_digits digits) else recorded_value size key t (all_x size) c.records)
               (sym (ap (bytes_eq code) (sym same) ∙ own_code code))
-              ∙ sym (value_with size key t (all_x size) c.records (record { tick = c.tick; code = code; letters = letters_read digits }));
+              ∙ sym (value_with size key t (all_x size) c.records (record { tick = c.tick; code = code; letters = letters_of_digits digits }));
         }
 
     -- that of another code stays
@@ -140,8 +140,8 @@ module _ (old : Variables) (list : Vec Variable) (c : Context) (code digits : Li
           ticks = wave.ticks;
           values = λ t.
               wave.values t
-              ∙ ap (λ b. if b && nat_le c.tick t then extension size (letters_read digits) else recorded_value size key t (all_x size) c.records) (sym other)
-              ∙ sym (value_with size key t (all_x size) c.records (record { tick = c.tick; code = code; letters = letters_read digits }));
+              ∙ ap (λ b. if b && nat_le c.tick t then extension size (letters_of_digits digits) else recorded_value size key t (all_x size) c.records) (sym other)
+              ∙ sym (value_with size key t (all_x size) c.records (record { tick = c.tick; code = code; letters = letters_of_digits digits }));
         }
 
     changed_variables : Variables
@@ -171,14 +171,14 @@ module _ (old : Variables) (list : Vec Variable) (c : Context) (code digits : Li
         ])
         (k.stand key)
 
-    records_are : recorded_changes c code (letters_read digits) (variable_of c code) ≡ change_record ∷ []
+    records_are : recorded_changes c code (letters_of_digits digits) (variable_of c code) ≡ change_record ∷ []
     unfolding change_record
     records_are =
-        ap (recorded_changes c code (letters_read digits)) own_wave.1
-        ∙ ap (λ b. if b then [] else record { tick = c.tick; code = code; letters = letters_read digits } ∷ []) own_wave.2
+        ap (recorded_changes c code (letters_of_digits digits)) own_wave.1
+        ∙ ap (λ b. if b then [] else record { tick = c.tick; code = code; letters = letters_of_digits digits } ∷ []) own_wave.2
 
     -- the variables hold the record of the change
-    pub changed_knows : Knows (record { kept = list; owners = old.owners; skipped = old.skipped }) (with_recorded_change c code (letters_read digits))
+    pub changed_knows : Knows (record { kept = list; owners = old.owners; skipped = old.skipped }) (with_recorded_change c code (letters_of_digits digits))
     unfolding changed_variables
     changed_knows = record {
       kept = k.kept ∙ sym (ap (map declaration) items ∙ same_declared old.kept.items first v w stood sets.same);
@@ -189,15 +189,15 @@ module _ (old : Variables) (list : Vec Variable) (c : Context) (code digits : Li
     }
 
     -- the digits are ones that its variable takes
-    pub changed_takes : IsSomeAnd (variable_of c code) (λ d. IsTrue (takes_digits d digits))
+    pub changed_takes : IsSomeAnd (variable_of c code) (λ d. IsTrue (takes_binary_number d digits))
     changed_takes =
         let fits : nat_le (length digits) own_wave.0.size ≡ true = le-leb (length digits) own_wave.0.size (omega (arith, sets.fits, sized)) in
-        subst (λ o. IsSomeAnd o (λ d. IsTrue (takes_digits d digits))) (sym own_wave.1)
+        subst (λ o. IsSomeAnd o (λ d. IsTrue (takes_binary_number d digits))) (sym own_wave.1)
         (λ i. own_wave.2 i || (sets.value i && fits i))
 
   -- what comes of the digits is what comes of the change
   pub changes : (result : Result (Unit {0}) Fault) → list.items ≡ set old.kept.items first w → OnOk result (Sets c.tick digits v w)
-      → IfErr result (λ fault. (fault ≡ faults.NoMemory) ⊎ RefusesDigits v.signal.wave.width digits fault)
+      → IfErr result (λ fault. (fault ≡ faults.NoMemory) ⊎ RefusesBinaryNumber v.signal.wave.width digits fault)
       → TakesChange c code digits result (record { kept = list; owners = old.owners; skipped = old.skipped })
   changes (Ok x) items sets refuses = (changed_takes items sets, changed_knows items sets)
   changes (Err fault) items sets refuses = elim refuses [

@@ -8,12 +8,12 @@ use Rattle.vcd_text.specs.declared.fault.Fault.TheVariants.{NoMemory, BadTime, T
 use Rattle.vcd_text.specs.Words.{PlacedWord, word_on}
 use Rattle.vcd_core.specs.Decimal.{number_of}
 use Rattle.vcd_core.specs.Word.{is_one_of, is_skipped_kind}
-use Rattle.vcd_text.specs.Letters.{is_among, is_letter}
-use Rattle.vcd_text.specs.Items.{Item, stamp, scalar, vector, real_or_string, bracket, spelling, is_command, dump_words, declaring_words, header_words, vector_letters, dropped_letters}
-use Rattle.vcd_text.specs.Grammar.{Context, VariableDeclaration, RecordedChange, Allows, told_after_item, word_texts, is_skipped, is_tick, is_value, takes_digits, variable_of}
+use Rattle.vcd_text.specs.Letters.{is_among, is_binary_digit}
+use Rattle.vcd_text.specs.Items.{Item, stamp, scalar, vector, real_or_string, bracket, spelling, is_command, dump_words, declaring_words, header_words, vector_prefixes, dropped_prefixes}
+use Rattle.vcd_text.specs.Grammar.{Context, VariableDeclaration, RecordedChange, Allows, told_after_item, word_texts, is_skipped, is_tick, is_binary_number, takes_binary_number, variable_of}
 use Rattle.vcd_core.specs.declared.value.TheConstants.{WIDTH_LIMIT}
-use Rattle.vcd_text.specs.Faults.{ChangeFault, no_tick, tick_goes_back, letter_alone, letter_of_none, pair_of_none, no_value, value_too_long, declaration_late, no_change, among_changes, WordFault, pair_letters}
-use Rattle.vcd_text.specs.inside.Variables.{Knows, DigitsFault, TakesChange}
+use Rattle.vcd_text.specs.Faults.{ChangeFault, no_tick, tick_goes_back, value_alone, value_of_none, pair_of_none, no_value, value_too_long, declaration_late, no_change, among_changes, WordFault, pair_prefixes}
+use Rattle.vcd_text.specs.inside.Variables.{Knows, BinaryNumberFault, TakesChange}
 use Rattle.vcd_text.specs.inside.Variables as variables
 use Rattle.vcd_text.specs.inside.Reading.{Agrees, AwaitsCode, IsBegun, At, goes_on, ends_item, TakesOrRefuses}
 use Rattle.vcd_text.specs.declared.reading.reader.Reader.{Reader}
@@ -133,10 +133,10 @@ passes_over m text line between changing command dump declaring c begun (agrees,
 
 -- ---- changes of one word
 
-pub no_code : (m new : Reader) (letter : ℕ) (code : List ℕ) (line : ℕ) → m.item ≡ items.Nothing → m.changing ≡ true → is_letter letter ≡ true
+pub no_code : (m new : Reader) (letter : ℕ) (code : List ℕ) (line : ℕ) → m.item ≡ items.Nothing → m.changing ≡ true → is_binary_digit letter ≡ true
     → length code ≡ 0 → TakesOrRefuses m (word_on (letter ∷ code) line) (Err BadChange) new
 no_code m new letter code line between changing is none =
-    shows m new (word_on (letter ∷ code) line) BadChange between changing (λ c agrees. letter_alone letter refl (ap (λ cs. letter ∷ cs) (nil_from_length code none)) is refl)
+    shows m new (word_on (letter ∷ code) line) BadChange between changing (λ c agrees. value_alone letter refl (ap (λ cs. letter ∷ cs) (nil_from_length code none)) is refl)
 
 among_neither : (xs ys : List ℕ) (b : ℕ) → is_among xs b ≡ false → is_among ys b ≡ false → is_among (xs ++ ys) b ≡ false
 among_neither [] ys b h k = k
@@ -145,19 +145,19 @@ among_neither (x ∷ xs) ys b h k =
     or_from (nat_eq b x) (is_among (xs ++ ys) b) p.0 (among_neither xs ys b p.1 k)
 
 pub begins_nothing : (m new : Reader) (first : ℕ) (text : List ℕ) (line : ℕ) → m.item ≡ items.Nothing → m.changing ≡ true
-    → is_among (codes "#$") first ≡ false → is_letter first ≡ false → is_among vector_letters first ≡ false → is_among dropped_letters first ≡ false
+    → is_among (codes "#$") first ≡ false → is_binary_digit first ≡ false → is_among vector_prefixes first ≡ false → is_among dropped_prefixes first ≡ false
     → TakesOrRefuses m (word_on (first ∷ text) line) (Err BadChange) new
 begins_nothing m new first text line between changing no_command no_letter no_vector no_dropped =
-    let other = among_neither (codes "#$") pair_letters first no_command (among_neither vector_letters dropped_letters first no_vector no_dropped) in
+    let other = among_neither (codes "#$") pair_prefixes first no_command (among_neither vector_prefixes dropped_prefixes first no_vector no_dropped) in
     shows m new (word_on (first ∷ text) line) BadChange between changing (λ c agrees. no_change first text refl refl no_letter other refl)
 
 -- some variable takes the digits
-taken_by_some : (o : Option VariableDeclaration) (digits : List ℕ) → IsSomeAnd o (λ d. IsTrue (takes_digits d digits)) → IsSome o
+taken_by_some : (o : Option VariableDeclaration) (digits : List ℕ) → IsSomeAnd o (λ d. IsTrue (takes_binary_number d digits)) → IsSome o
 taken_by_some None digits none = absurd none
 taken_by_some (Some d) digits takes = refl
 
 -- one letter is a value that is not too long
-one_letter : (letter : ℕ) → is_letter letter ≡ true → is_value (letter ∷ []) ≡ true
+one_letter : (letter : ℕ) → is_binary_digit letter ≡ true → is_binary_number (letter ∷ []) ≡ true
 one_letter letter is = λ i. is i && true
 
 -- a variable that is kept has a bit
@@ -167,14 +167,14 @@ fits_one d keeps small =
     let some : d.size ≡ 0 → ⊥ = eqb-false d.size 0 sized.0 in
     some (omega arith)
 
-bit_shows : (c : Context) (letter : ℕ) (code : List ℕ) (fault : Fault) → is_letter letter ≡ true → 0 < length code
-    → DigitsFault c code (letter ∷ []) fault → ChangeFault c [] (letter ∷ code) fault
-bit_shows c letter code fault is some (variables.unknown none which) = letter_of_none letter code refl refl is some none which
+bit_shows : (c : Context) (letter : ℕ) (code : List ℕ) (fault : Fault) → is_binary_digit letter ≡ true → 0 < length code
+    → BinaryNumberFault c code (letter ∷ []) fault → ChangeFault c [] (letter ∷ code) fault
+bit_shows c letter code fault is some (variables.unknown none which) = value_of_none letter code refl refl is some none which
 bit_shows c letter code fault is some (variables.no_value d found keeps isnt which) = not_both (one_letter letter is) isnt
 bit_shows c letter code fault is some (variables.too_long d found keeps value long which) = absurd (fits_one d keeps long)
 
 pub sets_bit : (m : Reader) (vs : Variables) (letter : ℕ) (code : List ℕ) (line : ℕ) (r : Result (Unit {0}) Fault)
-    → m.item ≡ items.Nothing → m.changing ≡ true → is_letter letter ≡ true → 0 < length code
+    → m.item ≡ items.Nothing → m.changing ≡ true → is_binary_digit letter ≡ true → 0 < length code
     → ((c : Context) → c.tick ≡ m.tick → Knows m.variables c → TakesChange c code (letter ∷ []) r vs)
     → TakesOrRefuses m (word_on (letter ∷ code) line) r (record m { variables = vs })
 sets_bit m vs letter code line (Ok x) between changing is some takes =
@@ -192,7 +192,7 @@ sets_bit m vs letter code line (Err fault) between changing is some takes = λ c
 -- ---- changes of two words
 
 pub begins_dropped : (m : Reader) (first : ℕ) (text : List ℕ) (line : ℕ) → m.item ≡ items.Nothing → m.changing ≡ true
-    → is_among dropped_letters first ≡ true → TakesOrRefuses m (word_on (first ∷ text) line) (Ok tt) (record m { item = items.Dropped; line = line })
+    → is_among dropped_prefixes first ≡ true → TakesOrRefuses m (word_on (first ∷ text) line) (Ok tt) (record m { item = items.Dropped; line = line })
 begins_dropped m first text line between changing is c begun (agrees, taken) =
     let none = none_begun m begun between taken in
     goes_on (
@@ -228,9 +228,9 @@ among_last : (xs ys : List ℕ) (b : ℕ) → is_among ys b ≡ true → is_amon
 among_last [] ys b h = h
 among_last (x ∷ xs) ys b h = or_right _ _ (among_last xs ys b h)
 
-vector_shows : (c : Context) (first : ℕ) (digits code : List ℕ) (fault : Fault) → is_among vector_letters first ≡ true
-    → DigitsFault c code digits fault → ChangeFault c ((first ∷ digits) ∷ []) code fault
-vector_shows c first digits code fault is (variables.unknown none which) = pair_of_none first digits refl (among_first vector_letters dropped_letters first is) none which
+vector_shows : (c : Context) (first : ℕ) (digits code : List ℕ) (fault : Fault) → is_among vector_prefixes first ≡ true
+    → BinaryNumberFault c code digits fault → ChangeFault c ((first ∷ digits) ∷ []) code fault
+vector_shows c first digits code fault is (variables.unknown none which) = pair_of_none first digits refl (among_first vector_prefixes dropped_prefixes first is) none which
 vector_shows c first digits code fault is (variables.no_value d found keeps isnt which) = no_value first digits d refl is found keeps isnt which
 vector_shows c first digits code fault is (variables.too_long d found keeps value long which) = value_too_long first digits d refl is found keeps value long which
 
@@ -238,27 +238,27 @@ pub ends_vector : (m : Reader) (vs : Variables) (code : List ℕ) (line : ℕ) (
     → ((c : Context) → c.tick ≡ m.tick → Knows m.variables c → TakesChange c code m.text.items r vs)
     → TakesOrRefuses m (word_on code line) r (record m { variables = vs; item = items.Nothing })
 ends_vector m vs code line (Ok x) item takes = λ c begun (agrees, taken).
-    let b : AwaitsCode m begun vector_letters m.text.items = subst (IsBegun m begun) item taken in
+    let b : AwaitsCode m begun vector_prefixes m.text.items = subst (IsBegun m begun) item taken in
     let change = takes c (sym agrees.tick) agrees.variables in
-    ends_item (vector b.letter m.text.items code) (texts_whole m begun vector_letters m.text.items code line b)
+    ends_item (vector b.letter m.text.items code) (texts_whole m begun vector_prefixes m.text.items code line b)
     (sym agrees.changing ∙ b.changes, b.among, change.0)
     (agrees_set m c vs (told_after_item c (vector b.letter m.text.items code)).records items.Nothing agrees b.changes change.1, refl)
 ends_vector m vs code line (Err fault) item takes = λ c begun (agrees, taken).
-    let b : AwaitsCode m begun vector_letters m.text.items = subst (IsBegun m begun) item taken in
+    let b : AwaitsCode m begun vector_prefixes m.text.items = subst (IsBegun m begun) item taken in
     elim (takes c (sym agrees.tick) agrees.variables) [
       | inl memory ↦ inl memory
       | inr row ↦ inr (among_changes (sym agrees.changing ∙ b.changes)
-          (subst (λ ts. ChangeFault c ts code fault) (sym (texts_begun m begun vector_letters m.text.items b)) (vector_shows c b.letter m.text.items code fault b.among row)))
+          (subst (λ ts. ChangeFault c ts code fault) (sym (texts_begun m begun vector_prefixes m.text.items b)) (vector_shows c b.letter m.text.items code fault b.among row)))
     ]
 
 pub ends_dropped : (m : Reader) (code : List ℕ) (line : ℕ) → m.item ≡ items.Dropped
     → ((c : Context) → Knows m.variables c → is_some (variable_of c code) ≡ true)
     → TakesOrRefuses m (word_on code line) (Ok tt) (record m { item = items.Nothing })
 ends_dropped m code line item declared c begun (agrees, taken) =
-    let at : (text : List ℕ) × AwaitsCode m begun dropped_letters text = subst (IsBegun m begun) item taken in
+    let at : (text : List ℕ) × AwaitsCode m begun dropped_prefixes text = subst (IsBegun m begun) item taken in
     let text = at.0 in
     let b = at.1 in
-    ends_item (real_or_string b.letter text code) (texts_whole m begun dropped_letters text code line b)
+    ends_item (real_or_string b.letter text code) (texts_whole m begun dropped_prefixes text code line b)
     (sym agrees.changing ∙ b.changes, b.among, declared c agrees.variables) (
       agrees_still m c items.Nothing m.line agrees,
       refl,
@@ -272,8 +272,8 @@ pub drops_unknown : (m new : Reader) (code : List ℕ) (line : ℕ) → m.item �
     → ((c : Context) → Knows m.variables c → is_some (variable_of c code) ≡ false)
     → TakesOrRefuses m (word_on code line) (Err UnknownCode) new
 drops_unknown m new code line item unknown c begun (agrees, taken) =
-    let at : (text : List ℕ) × AwaitsCode m begun dropped_letters text = subst (IsBegun m begun) item taken in
+    let at : (text : List ℕ) × AwaitsCode m begun dropped_prefixes text = subst (IsBegun m begun) item taken in
     let text = at.0 in
     let b = at.1 in
-    inr (among_changes (sym agrees.changing ∙ b.changes) (subst (λ ts. ChangeFault c ts code UnknownCode) (sym (texts_begun m begun dropped_letters text b))
-    (pair_of_none b.letter text refl (among_last vector_letters dropped_letters b.letter b.among) (none_is (variable_of c code) (unknown c agrees.variables)) refl)))
+    inr (among_changes (sym agrees.changing ∙ b.changes) (subst (λ ts. ChangeFault c ts code UnknownCode) (sym (texts_begun m begun dropped_prefixes text b))
+    (pair_of_none b.letter text refl (among_last vector_prefixes dropped_prefixes b.letter b.among) (none_is (variable_of c code) (unknown c agrees.variables)) refl)))

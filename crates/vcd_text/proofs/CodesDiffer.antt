@@ -5,7 +5,7 @@ use Rattle.std.proofs.lemmas.Bool.{and_from, and_parts, and_right, or_from, not_
 use Rattle.std.proofs.lemmas.Slice.Eq.{bytes_eq-Decides}
 use Rattle.vcd_core.specs.declared.capture.TheConstants.{SIGNAL_LIMIT}
 use Rattle.vcd_core.specs.Word.{is_white_space}
-use Rattle.vcd_text.specs.Items.{end_word, is_end}
+use Rattle.vcd_text.specs.Items.{end_word, is_end_word}
 use Rattle.vcd_text.specs.Text.{code_digits, code_of}
 use Rattle.vcd_text.proofs.Codes.{next_digit}
 use Rattle.vcd_text.proofs.WeakerTests.{all_weaker}
@@ -94,9 +94,9 @@ pub code_black : (k : ℕ) → list_all (λ b. not (is_white_space b)) (code_of 
 code_black k = all_weaker is_code_byte (λ b. not (is_white_space b)) printable_is_black (code_of k) (code_printable k)
 
 -- a code is not `$end`
-pub code_no_end : (k : ℕ) → k < SIGNAL_LIMIT → is_end (code_of k) ≡ false
+pub code_no_end : (k : ℕ) → k < SIGNAL_LIMIT → is_end_word (code_of k) ≡ false
 code_no_end k few =
     let short : length (code_of k) ≤ 3 = code_short k few in
-    false_from_ne_true (is_end (code_of k)) (λ same.
+    false_from_ne_true (is_end_word (code_of k)) (λ same.
     let long : length (code_of k) ≡ 4 = ap length ((bytes_eq-Decides (code_of k) end_word).0 same) in
     omega arith)

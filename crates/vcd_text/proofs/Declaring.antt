@@ -11,7 +11,7 @@ use Rattle.vcd_text.specs.declared.fault.Fault.{Fault}
 use Rattle.vcd_text.specs.declared.fault.Fault.TheVariants as faults
 use Rattle.vcd_text.specs.Words.{PlacedWord, word_on}
 use Rattle.vcd_core.specs.Decimal.{is_number}
-use Rattle.vcd_text.specs.Items.{Item, entry, timescale, scope, upscope, variable, end_definitions, other, spelling, end_word, is_end, has_no_end, header_word, is_other, timescale_of}
+use Rattle.vcd_text.specs.Items.{Item, entry, timescale, scope, upscope, variable, end_definitions, other, spelling, end_word, is_end_word, has_no_end_word, header_word, is_other, timescale_of}
 use Rattle.vcd_text.specs.Grammar.{Context, Allows, told_after_item, word_texts, has_good_size}
 use Rattle.vcd_text.specs.Faults.{WordFault, DeclarationFault, no_timescale, no_size, among_declarations}
 use Rattle.vcd_text.specs.inside.Variables.{Knows, Declares, VariableFault}
@@ -32,9 +32,9 @@ spelled_whole : (begun : List PlacedWord) (line : ℕ) (words : List (List ℕ))
 spelled_whole begun line words spelled = sym (texts_more begun (word_on end_word line) ∙ ap (λ ts. ts ++ end_word ∷ []) spelled)
 
 -- one word more, which is no `$end`
-no_end_more : (words : List (List ℕ)) (text : List ℕ) → IsTrue (has_no_end words) → IsFalse (is_end text) → IsTrue (has_no_end (words ++ text ∷ []))
+no_end_more : (words : List (List ℕ)) (text : List ℕ) → IsTrue (has_no_end_word words) → IsFalse (is_end_word text) → IsTrue (has_no_end_word (words ++ text ∷ []))
 no_end_more words text none isnt =
-    list_all-append (λ w. not (is_end w)) words (text ∷ []) ∙ (λ i. none i && (not (isnt i) && true))
+    list_all-append (λ w. not (is_end_word w)) words (text ∷ []) ∙ (λ i. none i && (not (isnt i) && true))
 
 -- ---- what is told stays known
 
@@ -111,7 +111,7 @@ closes_scope m new s is words pushed others line c begun at =
     let i : Item = scope s.kind s.words in
     subst (TakesWord c (begun ++ word_on end_word line ∷ [])) (sym others)
     (ends_here (record m { scopes = new.scopes; words = new.words; item = items.Nothing }) c begun line i (codes "$scope" ∷ s.kind ∷ s.words)
-    (b.spelled ∙ ap (λ ws. codes "$scope" ∷ ws) words) refl (sym a.changing ∙ b.declares, ap has_no_end (sym words) ∙ b.no_end)
+    (b.spelled ∙ ap (λ ws. codes "$scope" ∷ ws) words) refl (sym a.changing ∙ b.declares, ap has_no_end_word (sym words) ∙ b.no_end)
     (record {
       header = a.header;
       timescale = a.timescale;
@@ -240,9 +240,9 @@ shows_no_variable m new (Err e) fault variables scopes words inside spelled decl
     subst (λ f. (f ≡ faults.NoMemory) ⊎ WordFault c (word_texts begun) end_word f) (sym failed) (fault_shown m c begun fault declares b.0 b.1 d)
 
 -- the kind of a variable, where it is all that stands there
-one_word : (words : List (List ℕ)) → length words ≡ 1 → IsTrue (has_no_end words) → (kind : List ℕ) × (words ≡ kind ∷ []) × IsFalse (is_end kind)
+one_word : (words : List (List ℕ)) → length words ≡ 1 → IsTrue (has_no_end_word words) → (kind : List ℕ) × (words ≡ kind ∷ []) × IsFalse (is_end_word kind)
 one_word [] one none = absurd (omega arith)
-one_word (kind ∷ []) one none = (kind, refl, not_true (is_end kind) (and_parts _ _ none).0)
+one_word (kind ∷ []) one none = (kind, refl, not_true (is_end_word kind) (and_parts _ _ none).0)
   where
     not_true : (b : Bool) → not b ≡ true → b ≡ false
     not_true false h = refl
@@ -265,7 +265,7 @@ shows_no_size m text is one isnt c begun at =
 -- ---- a word that goes on
 
 -- a word of another command
-pub passes_over : (m : Reader) (text : List ℕ) → m.item ≡ items.Other → IsFalse (is_end text)
+pub passes_over : (m : Reader) (text : List ℕ) → m.item ≡ items.Other → IsFalse (is_end_word text)
     → (line : ℕ) (c : Context) (begun : List PlacedWord) → At m c begun → TakesWord c (begun ++ word_on text line ∷ []) m
 passes_over m text is isnt line c begun at =
     let b : PassesOver m begun = subst (IsBegun m begun) is at.1 in

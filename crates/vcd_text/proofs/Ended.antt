@@ -10,9 +10,9 @@ use Rattle.vcd_text.specs.declared.fault.Fault.{Fault}
 use Rattle.vcd_text.specs.Words.{PlacedWord}
 use Rattle.vcd_text.specs.Letters.{is_among}
 use Rattle.vcd_core.specs.Word.{is_one_of}
-use Rattle.vcd_text.specs.Items.{spellings, header_word, header_words, is_other, vector_letters, dropped_letters}
+use Rattle.vcd_text.specs.Items.{spellings, header_word, header_words, is_other, vector_prefixes, dropped_prefixes}
 use Rattle.vcd_text.specs.Grammar.{Context, Accepts, word_texts}
-use Rattle.vcd_text.specs.Faults.{ShowsFault, Stops, IsUnfinished, declaration_due, words_due, upscope_due, variable_due, definitions_due, code_due, other_due, pair_letters}
+use Rattle.vcd_text.specs.Faults.{ShowsFault, Stops, IsUnfinished, declaration_due, words_due, upscope_due, variable_due, definitions_due, code_due, other_due, pair_prefixes}
 use Rattle.vcd_text.specs.inside.OpenItems.{is_nothing}
 use Rattle.vcd_text.specs.inside.Reading.{Reads, Agrees, IsBegun, Collects, AwaitsCode, is_complete}
 use Rattle.vcd_text.specs.declared.reading.reader.Reader.{Reader}
@@ -47,7 +47,7 @@ not_nothing false h = refl
 not_nothing true h = absurd (false≢true (sym h))
 
 awaiting : (m : Reader) (c : Context) (begun : List PlacedWord) (letters text : List ℕ) → Agrees m c → AwaitsCode m begun letters text
-    → ((b : ℕ) → IsTrue (is_among letters b) → IsTrue (is_among pair_letters b)) → IsUnfinished c (word_texts begun)
+    → ((b : ℕ) → IsTrue (is_among letters b) → IsTrue (is_among pair_prefixes b)) → IsUnfinished c (word_texts begun)
 awaiting m c begun letters text agrees is more =
     code_due is.letter text (sym agrees.changing ∙ is.changes) (ap word_texts is.is ∙ ap (λ t. t ∷ []) is.spelled) (more is.letter is.among)
 
@@ -61,8 +61,8 @@ unfinished m c begun items.Upscope agrees is no_end = upscope_due (sym agrees.ch
 unfinished m c begun items.Variable agrees is no_end = variable_due m.words.items (sym agrees.changing ∙ is.0.declares) is.0.spelled is.0.no_end is.1
 unfinished m c begun items.EndDefinitions agrees is no_end = definitions_due (sym agrees.changing ∙ is.0) is.1
 unfinished m c begun items.Other agrees is no_end = other_due is.keyword is.words is.spelled (subst (λ b. IsTrue (is_other b is.keyword)) agrees.changing is.other) is.no_end
-unfinished m c begun items.Vector agrees is no_end = awaiting m c begun vector_letters m.text.items agrees is (among_more vector_letters dropped_letters)
-unfinished m c begun items.Dropped agrees (text, is) no_end = awaiting m c begun dropped_letters text agrees is (among_behind dropped_letters vector_letters)
+unfinished m c begun items.Vector agrees is no_end = awaiting m c begun vector_prefixes m.text.items agrees is (among_more vector_prefixes dropped_prefixes)
+unfinished m c begun items.Dropped agrees (text, is) no_end = awaiting m c begun dropped_prefixes text agrees is (among_behind dropped_prefixes vector_prefixes)
 
 texts_are : (m : Reader) (words : List PlacedWord) (r : Reads m words) → word_texts words ≡ spellings r.items ++ word_texts r.begun
 texts_are m words r = ap word_texts r.parts ∙ map-append (λ (w : PlacedWord). w.text) r.whole r.begun ∙ ap (λ ws. ws ++ word_texts r.begun) r.spelled
@@ -98,7 +98,7 @@ accepts m words r complete =
       spelled = texts_are m words r ∙ ap (λ ws. spellings r.items ++ word_texts ws) (nothing_begun m r.begun m.item r.at.1 parts.1) ∙ append-nil (spellings r.items);
       allowed = r.allowed;
       tells = r.tells;
-      declared = sym r.at.0.changing ∙ parts.0;
+      definitions_ended = sym r.at.0.changing ∙ parts.0;
     }
 
 -- words that have been taken show no fault

@@ -7,7 +7,7 @@ use Rattle.std.proofs.lemmas.Bool.{cases_Bool}
 use Rattle.vcd_core.specs.Contents.{Contents}
 use Rattle.vcd_text.specs.declared.fault.Fault.{Fault}
 use Rattle.vcd_text.specs.declared.fault.Fault.TheVariants.{Truncated}
-use Rattle.vcd_text.specs.Words.{PlacedWord, words_of, end_line}
+use Rattle.vcd_text.specs.Words.{PlacedWord, words_of, last_line}
 use Rattle.vcd_text.specs.Items.{Item, spelling, spellings}
 use Rattle.vcd_text.specs.Grammar.{Context, Allows, Accepts, told_after_item, nothing_told, word_texts}
 use Rattle.vcd_text.specs.Faults.{WordFault, IsUnfinished, declaration_due, fault_line, ShowsFault, Stops, FileFault, shown, too_early}
@@ -115,7 +115,7 @@ accepts_here words u none changing = is_accepted u.told (record {
   spelled = texts_are words u ∙ ap (λ ws. spellings u.items ++ ws) none ∙ append-nil (spellings u.items);
   allowed = u.leads.allowed;
   tells = u.leads.tells;
-  declared = changing;
+  definitions_ended = changing;
 })
 
 at_end : (words : List PlacedWord) (u : WordsSoFar words []) → IsOpen u.told (word_texts u.begun) → AnswerTo words
@@ -142,6 +142,6 @@ pub an_answer : (bytes : List ℕ) → ((c : Contents) × (n : ℕ) × FileMeans
 an_answer bytes =
     elim (answer_behind (words_of bytes) (words_of bytes) (words_are_words true 1 bytes) (nothing_taken (words_of bytes))) [
       | is_accepted told accepts ↦ inl (meaning told, skipped_count told, record { told = told; accepted = accepts; means = refl; left_out = refl })
-      | stops_early stops ↦ inr (end_line bytes, Truncated, too_early stops refl refl)
+      | stops_early stops ↦ inr (last_line bytes, Truncated, too_early stops refl refl)
       | is_refused line fault s ↦ inr (line, fault, shown s)
     ]

@@ -11,10 +11,10 @@ use Rattle.vcd_text.specs.declared.fault.Fault.{Fault}
 use Rattle.vcd_text.specs.declared.fault.Fault.TheVariants.{UnexpectedWord, BadTimescale, BadScope, UpscopeAtTop, BadVar, MixedCode, BadTime, TimeBackwards, BadChange, UnknownCode, ValueTooLong, TooManySignals}
 use Rattle.vcd_core.specs.Decimal.{is_number, number_of}
 use Rattle.vcd_core.specs.Word.{is_one_of}
-use Rattle.vcd_text.specs.Letters.{is_among, is_letter}
-use Rattle.vcd_text.specs.Items.{Item, entry, timescale, scope, upscope, variable, end_definitions, stamp, scalar, vector, real_or_string, bracket, other, spelling, end_word, is_end, has_no_end, dump_words, declaring_words, header_words, begins_declaration, is_other, timescale_of, vector_letters, dropped_letters}
-use Rattle.vcd_text.specs.Grammar.{Context, VariableDeclaration, Allows, is_skipped, has_good_size, declaration_of, variable_of, may_have_code, has_room, is_tick, is_value, takes_digits}
-use Rattle.vcd_text.specs.Faults.{DeclarationFault, ChangeFault, WordFault, IsUnfinished, pair_letters, no_declaration, no_timescale, no_kind, upscope_at_top, upscope_goes_on, no_size, no_variable, code_mixed, no_room, definitions_go_on, no_tick, tick_goes_back, letter_alone, letter_of_none, pair_of_none, no_value, value_too_long, declaration_late, no_change, among_declarations, among_changes, declaration_due, words_due, upscope_due, variable_due, definitions_due, code_due, other_due}
+use Rattle.vcd_text.specs.Letters.{is_among, is_binary_digit}
+use Rattle.vcd_text.specs.Items.{Item, entry, timescale, scope, upscope, variable, end_definitions, stamp, scalar, vector, real_or_string, bracket, other, spelling, end_word, is_end_word, has_no_end_word, dump_words, declaring_words, header_words, begins_declaration, is_other, timescale_of, vector_prefixes, dropped_prefixes}
+use Rattle.vcd_text.specs.Grammar.{Context, VariableDeclaration, Allows, is_skipped, has_good_size, declaration_of, variable_of, may_have_code, has_room, is_tick, is_binary_number, takes_binary_number}
+use Rattle.vcd_text.specs.Faults.{DeclarationFault, ChangeFault, WordFault, IsUnfinished, pair_prefixes, no_declaration, no_timescale, no_kind, upscope_at_top, upscope_goes_on, no_size, no_variable, code_mixed, no_room, definitions_go_on, no_tick, tick_goes_back, value_alone, value_of_none, pair_of_none, no_value, value_too_long, declaration_late, no_change, among_declarations, among_changes, declaration_due, words_due, upscope_due, variable_due, definitions_due, code_due, other_due}
 
 -- a fault stands at a place, counted from the front
 pub data Front : Type 0 where
@@ -27,28 +27,28 @@ pub data Front : Type 0 where
 
 abbrev pub closing : (List (List ℕ) → List (List ℕ) → Front) → List (List ℕ) → Front
 closing f [] = unfinished
-closing f (w ∷ ws) = cond (is_end w) (f [] ws) (closing (λ words. f (w ∷ words)) ws)
+closing f (w ∷ ws) = cond (is_end_word w) (f [] ws) (closing (λ words. f (w ∷ words)) ws)
 
-closing_end : (f : List (List ℕ) → List (List ℕ) → Front) (words rest : List (List ℕ)) → IsTrue (has_no_end words) → closing f (words ++ end_word ∷ rest) ≡ f words rest
+closing_end : (f : List (List ℕ) → List (List ℕ) → Front) (words rest : List (List ℕ)) → IsTrue (has_no_end_word words) → closing f (words ++ end_word ∷ rest) ≡ f words rest
 closing_end f [] rest h = refl
 closing_end f (w ∷ words) rest h =
     let p = and_parts _ _ h in
-    rw (not-true (is_end w) p.0) (closing_end (λ ws. f (w ∷ ws)) words rest p.1)
+    rw (not-true (is_end_word w) p.0) (closing_end (λ ws. f (w ∷ ws)) words rest p.1)
 
-closing_none : (f : List (List ℕ) → List (List ℕ) → Front) (words : List (List ℕ)) → IsTrue (has_no_end words) → closing f words ≡ unfinished
+closing_none : (f : List (List ℕ) → List (List ℕ) → Front) (words : List (List ℕ)) → IsTrue (has_no_end_word words) → closing f words ≡ unfinished
 closing_none f [] h = refl
 closing_none f (w ∷ words) h =
     let p = and_parts _ _ h in
-    rw (not-true (is_end w) p.0) (closing_none (λ ws. f (w ∷ ws)) words p.1)
+    rw (not-true (is_end_word w) p.0) (closing_none (λ ws. f (w ∷ ws)) words p.1)
 
-closing_at : (f : List (List ℕ) → List (List ℕ) → Front) (words rest : List (List ℕ)) → IsTrue (has_no_end words) → closing f ((words ++ end_word ∷ []) ++ rest) ≡ f words rest
+closing_at : (f : List (List ℕ) → List (List ℕ) → Front) (words rest : List (List ℕ)) → IsTrue (has_no_end_word words) → closing f ((words ++ end_word ∷ []) ++ rest) ≡ f words rest
 closing_at f words rest h = ap (closing f) (append_assoc words (end_word ∷ []) rest) ∙ closing_end f words rest h
 
 -- ---- declarations
 
 abbrev pub closing_next : Item → List (List ℕ) → Front
 closing_next i [] = unfinished
-closing_next i (w ∷ ws) = cond (is_end w) (whole i ws) (faulty 1 UnexpectedWord)
+closing_next i (w ∷ ws) = cond (is_end_word w) (whole i ws) (faulty 1 UnexpectedWord)
 
 abbrev pub timescale_front : Option Timescale → List (List ℕ) → List (List ℕ) → Front
 timescale_front None words rest = faulty (suc (length words)) BadTimescale
@@ -69,9 +69,9 @@ variable_told c (Some d) words rest =
 
 abbrev pub variable_front : Context → List (List ℕ) → Front
 variable_front c [] = unfinished
-variable_front c (kind ∷ []) = cond (is_end kind) (faulty 1 BadVar) unfinished
+variable_front c (kind ∷ []) = cond (is_end_word kind) (faulty 1 BadVar) unfinished
 variable_front c (kind ∷ size ∷ ws) =
-    cond (is_end kind) (faulty 1 BadVar)
+    cond (is_end_word kind) (faulty 1 BadVar)
     (cond (is_number size) (closing (λ words rest. variable_told c (declaration_of c words) words rest) (kind ∷ size ∷ ws)) (faulty 2 BadVar))
 
 -- the front of some words among the declarations, their first word apart
@@ -107,7 +107,7 @@ scalar_front c letter (b ∷ code) ws = known (variable_of c (b ∷ code)) (λ d
 abbrev pub vector_fits : Context → ℕ → List ℕ → List ℕ → List (List ℕ) → VariableDeclaration → Front
 vector_fits c first digits code ws d =
     cond (is_skipped d) (whole (vector first digits code) ws)
-    (cond (is_value digits) (cond (nat_lt d.size (length digits)) (faulty 0 ValueTooLong) (whole (vector first digits code) ws)) (faulty 0 BadChange))
+    (cond (is_binary_number digits) (cond (nat_lt d.size (length digits)) (faulty 0 ValueTooLong) (whole (vector first digits code) ws)) (faulty 0 BadChange))
 
 abbrev pub vector_front : Context → ℕ → List ℕ → List (List ℕ) → Front
 vector_front c first digits [] = unfinished
@@ -125,11 +125,11 @@ command_front w ws =
 abbrev pub change_front : Context → List ℕ → List (List ℕ) → Front
 change_front c [] ws = unfinished
 change_front c (first ∷ text) ws =
-    cond (is_letter first) (scalar_front c first text ws)
+    cond (is_binary_digit first) (scalar_front c first text ws)
     (cond (is_among (codes "#") first) (stamp_front c text ws)
     (cond (is_among (codes "$") first) (command_front (first ∷ text) ws)
-    (cond (is_among vector_letters first) (vector_front c first text ws)
-    (cond (is_among dropped_letters first) (dropped_front c first text ws)
+    (cond (is_among vector_prefixes first) (vector_front c first text ws)
+    (cond (is_among dropped_prefixes first) (dropped_front c first text ws)
     (faulty 0 BadChange)))))
 
 -- ---- the front of some words
@@ -176,9 +176,9 @@ known_some : (o : Option VariableDeclaration) (f : Front) → IsSome o → known
 known_some None f h = absurd (false≢true h)
 known_some (Some d) f h = refl
 
-sized : (c : Context) (kind size : List ℕ) (ws : List (List ℕ)) → is_end kind ≡ false → is_number size ≡ true
+sized : (c : Context) (kind size : List ℕ) (ws : List (List ℕ)) → is_end_word kind ≡ false → is_number size ≡ true
     → variable_front c (kind ∷ size ∷ ws) ≡ closing (λ words rest. variable_told c (declaration_of c words) words rest) (kind ∷ size ∷ ws)
-sized c kind size ws k s = on_false (is_end kind) _ _ k ∙ on_true (is_number size) _ _ s
+sized c kind size ws k s = on_false (is_end_word kind) _ _ k ∙ on_true (is_number size) _ _ s
 
 told_whole : (c : Context) (d : VariableDeclaration) (words rest : List (List ℕ)) → may_have_code (variable_of c d.code) d ≡ true → has_room c.declared d ≡ true
     → variable_told c (Some d) words rest ≡ whole (variable words) rest
@@ -189,32 +189,32 @@ told_some : (c : Context) (o : Option VariableDeclaration) (words rest : List (L
 told_some c None words rest h = absurd h
 told_some c (Some d) words rest h = told_whole c d words rest h.0 h.1
 
-variable_closing : (c : Context) (words rest : List (List ℕ)) → IsTrue (has_no_end words) → IsTrue (has_good_size words)
+variable_closing : (c : Context) (words rest : List (List ℕ)) → IsTrue (has_no_end_word words) → IsTrue (has_good_size words)
     → variable_front c (words ++ end_word ∷ rest) ≡ variable_told c (declaration_of c words) words rest
 variable_closing c [] [] n g = refl
 variable_closing c [] (r ∷ rest) n g = refl
-variable_closing c (kind ∷ []) rest n g = on_false (is_end kind) _ _ (not-true (is_end kind) (and_parts _ _ n).0)
+variable_closing c (kind ∷ []) rest n g = on_false (is_end_word kind) _ _ (not-true (is_end_word kind) (and_parts _ _ n).0)
 variable_closing c (kind ∷ size ∷ words) rest n g =
-    sized c kind size (words ++ end_word ∷ rest) (not-true (is_end kind) (and_parts _ _ n).0) g
+    sized c kind size (words ++ end_word ∷ rest) (not-true (is_end_word kind) (and_parts _ _ n).0) g
     ∙ closing_end (λ words rest. variable_told c (declaration_of c words) words rest) (kind ∷ size ∷ words) rest n
 
 stamp_whole : (c : Context) (digits : List ℕ) (ws : List (List ℕ)) → is_tick digits ≡ true → c.tick ≤ number_of digits → stamp_front c digits ws ≡ whole (stamp digits) ws
 stamp_whole c digits ws t le = on_true (is_tick digits) _ _ t ∙ on_false (nat_lt (number_of digits) c.tick) _ _ (le-ltb (number_of digits) c.tick le)
 
-vector_taken : (d : VariableDeclaration) (digits : List ℕ) (w : Front) → takes_digits d digits ≡ true
-    → cond (is_skipped d) w (cond (is_value digits) (cond (nat_lt d.size (length digits)) (faulty 0 ValueTooLong) w) (faulty 0 BadChange)) ≡ w
+vector_taken : (d : VariableDeclaration) (digits : List ℕ) (w : Front) → takes_binary_number d digits ≡ true
+    → cond (is_skipped d) w (cond (is_binary_number digits) (cond (nat_lt d.size (length digits)) (faulty 0 ValueTooLong) w) (faulty 0 BadChange)) ≡ w
 vector_taken d digits w h =
-    elim (or_cases (is_skipped d) (is_value digits && nat_le (length digits) d.size) h) [
+    elim (or_cases (is_skipped d) (is_binary_number digits && nat_le (length digits) d.size) h) [
       | inl e ↦ on_true (is_skipped d) _ _ e
       | inr e ↦ elim (cases_Bool (is_skipped d)) [
         | inl s ↦ on_true (is_skipped d) _ _ s
-        | inr s ↦ let p = and_parts (is_value digits) (nat_le (length digits) d.size) e in
-            on_false (is_skipped d) _ _ s ∙ on_true (is_value digits) _ _ p.0 ∙ on_false (nat_lt d.size (length digits)) _ _ (le-ltb d.size (length digits) (leb-true (length digits) d.size p.1))
+        | inr s ↦ let p = and_parts (is_binary_number digits) (nat_le (length digits) d.size) e in
+            on_false (is_skipped d) _ _ s ∙ on_true (is_binary_number digits) _ _ p.0 ∙ on_false (nat_lt d.size (length digits)) _ _ (le-ltb d.size (length digits) (leb-true (length digits) d.size p.1))
       ]
     ]
 
-vector_known : (o : Option VariableDeclaration) (digits : List ℕ) (w : Front) → IsSomeAnd o (λ d. IsTrue (takes_digits d digits))
-    → known o (λ d. cond (is_skipped d) w (cond (is_value digits) (cond (nat_lt d.size (length digits)) (faulty 0 ValueTooLong) w) (faulty 0 BadChange))) ≡ w
+vector_known : (o : Option VariableDeclaration) (digits : List ℕ) (w : Front) → IsSomeAnd o (λ d. IsTrue (takes_binary_number d digits))
+    → known o (λ d. cond (is_skipped d) w (cond (is_binary_number digits) (cond (nat_lt d.size (length digits)) (faulty 0 ValueTooLong) w) (faulty 0 BadChange))) ≡ w
 vector_known None digits w h = absurd h
 vector_known (Some d) digits w h = vector_taken d digits w h
 
@@ -249,11 +249,11 @@ whole_front c (variable words) rest a = front_at false c _ _ a.0 (ap (variable_f
 whole_front c end_definitions rest a = front_at false c _ _ a refl
 whole_front c (stamp digits) rest a = front_at true c _ _ a.0 (stamp_whole c digits rest a.1 a.2)
 whole_front c (scalar letter []) rest a = absurd (omega (arith, a.2))
-whole_front c (scalar letter (b ∷ code)) rest a = front_at true c _ _ a.0 (on_true (is_letter letter) _ _ a.1 ∙ known_some (variable_of c (b ∷ code)) _ a.3)
+whole_front c (scalar letter (b ∷ code)) rest a = front_at true c _ _ a.0 (on_true (is_binary_digit letter) _ _ a.1 ∙ known_some (variable_of c (b ∷ code)) _ a.3)
 whole_front c (vector first digits code) rest a =
-    front_at true c _ _ a.0 (by_among (λ b. change_front c (b ∷ digits) (code ∷ rest) ≡ vector_front c b digits (code ∷ rest)) vector_letters first a.1 (refl, (refl, tt)) ∙ vector_known (variable_of c code) digits _ a.2)
+    front_at true c _ _ a.0 (by_among (λ b. change_front c (b ∷ digits) (code ∷ rest) ≡ vector_front c b digits (code ∷ rest)) vector_prefixes first a.1 (refl, (refl, tt)) ∙ vector_known (variable_of c code) digits _ a.2)
 whole_front c (real_or_string first text code) rest a =
-    front_at true c _ _ a.0 (by_among (λ b. change_front c (b ∷ text) (code ∷ rest) ≡ dropped_front c b text (code ∷ rest)) dropped_letters first a.1 (refl, (refl, (refl, (refl, tt)))) ∙ known_some (variable_of c code) _ a.2)
+    front_at true c _ _ a.0 (by_among (λ b. change_front c (b ∷ text) (code ∷ rest) ≡ dropped_front c b text (code ∷ rest)) dropped_prefixes first a.1 (refl, (refl, (refl, (refl, tt)))) ∙ known_some (variable_of c code) _ a.2)
 whole_front c (bracket word) rest a =
     front_at true c _ _ a.0 (by_one_of (λ w. change_front c w rest ≡ whole (bracket w) rest) dump_words word a.1 (refl, (refl, (refl, (refl, (refl, tt))))))
 whole_front c (other word words) rest a = other_front c.changing c word _ a.0 ∙ closing_at _ words rest a.1
@@ -267,20 +267,20 @@ not_among (x ∷ xs) ys b h =
     let q = not_among xs ys b p.1 in
     (or_from (nat_eq b x) (is_among xs b) p.0 q.0, q.1)
 
-change_none : (c : Context) (first : ℕ) (text : List ℕ) (ws : List (List ℕ)) → IsFalse (is_letter first) → IsFalse (is_among (codes "#$" ++ pair_letters) first)
+change_none : (c : Context) (first : ℕ) (text : List ℕ) (ws : List (List ℕ)) → IsFalse (is_binary_digit first) → IsFalse (is_among (codes "#$" ++ pair_prefixes) first)
     → change_front c (first ∷ text) ws ≡ faulty 0 BadChange
 change_none c first text ws l n =
-    let a = not_among (codes "#") (codes "$" ++ pair_letters) first n in
-    let b = not_among (codes "$") pair_letters first a.1 in
-    let d = not_among vector_letters dropped_letters first b.1 in
-    on_false (is_letter first) _ _ l ∙ on_false (is_among (codes "#") first) _ _ a.0 ∙ on_false (is_among (codes "$") first) _ _ b.0
-    ∙ on_false (is_among vector_letters first) _ _ d.0 ∙ on_false (is_among dropped_letters first) _ _ d.1
+    let a = not_among (codes "#") (codes "$" ++ pair_prefixes) first n in
+    let b = not_among (codes "$") pair_prefixes first a.1 in
+    let d = not_among vector_prefixes dropped_prefixes first b.1 in
+    on_false (is_binary_digit first) _ _ l ∙ on_false (is_among (codes "#") first) _ _ a.0 ∙ on_false (is_among (codes "$") first) _ _ b.0
+    ∙ on_false (is_among vector_prefixes first) _ _ d.0 ∙ on_false (is_among dropped_prefixes first) _ _ d.1
 
-variable_open : (c : Context) (words : List (List ℕ)) → IsTrue (has_no_end words) → IsTrue (has_good_size words) → variable_front c words ≡ unfinished
+variable_open : (c : Context) (words : List (List ℕ)) → IsTrue (has_no_end_word words) → IsTrue (has_good_size words) → variable_front c words ≡ unfinished
 variable_open c [] n g = refl
-variable_open c (kind ∷ []) n g = on_false (is_end kind) _ _ (not-true (is_end kind) (and_parts _ _ n).0)
+variable_open c (kind ∷ []) n g = on_false (is_end_word kind) _ _ (not-true (is_end_word kind) (and_parts _ _ n).0)
 variable_open c (kind ∷ size ∷ words) n g =
-    sized c kind size words (not-true (is_end kind) (and_parts _ _ n).0) g ∙ closing_none (λ words rest. variable_told c (declaration_of c words) words rest) (kind ∷ size ∷ words) n
+    sized c kind size words (not-true (is_end_word kind) (and_parts _ _ n).0) g ∙ closing_none (λ words rest. variable_told c (declaration_of c words) words rest) (kind ∷ size ∷ words) n
 
 -- how far behind the first word of its item a fault is told
 abbrev pub place_of : Bool → List (List ℕ) → ℕ
@@ -294,34 +294,34 @@ declaration_faulty c begun word fault more (no_timescale words b w n t f) =
     rw (b, w, f) (closing_end _ words more n ∙ ap (λ o. timescale_front o words more) t)
 declaration_faulty c begun word fault more (no_kind b w f) = rw (b, w, f) refl
 declaration_faulty c begun word fault more (upscope_at_top b w s f) = rw (b, w, f) (ap (λ x. upscope_front x more) s)
-declaration_faulty c begun word fault more (upscope_goes_on b w s f) = rw (b, f) (upscope_some c.scopes (word ∷ more) s ∙ on_false (is_end word) _ _ w)
-declaration_faulty c begun word fault more (no_size kind b k n f) = rw (b, f) (on_false (is_end kind) _ _ k ∙ on_false (is_number word) _ _ n)
+declaration_faulty c begun word fault more (upscope_goes_on b w s f) = rw (b, f) (upscope_some c.scopes (word ∷ more) s ∙ on_false (is_end_word word) _ _ w)
+declaration_faulty c begun word fault more (no_size kind b k n f) = rw (b, f) (on_false (is_end_word kind) _ _ k ∙ on_false (is_number word) _ _ n)
 declaration_faulty c begun word fault more (no_variable words b w n g o f) =
     rw (b, w, f) (variable_closing c words more n g ∙ ap (λ p. variable_told c p words more) o)
 declaration_faulty c begun word fault more (code_mixed words d b w n g o m f) =
     rw (b, w, f) (variable_closing c words more n g ∙ ap (λ p. variable_told c p words more) o ∙ on_false (may_have_code (variable_of c d.code) d) _ _ m)
 declaration_faulty c begun word fault more (no_room words d b w n g o m r f) =
     rw (b, w, f) (variable_closing c words more n g ∙ ap (λ p. variable_told c p words more) o ∙ on_true (may_have_code (variable_of c d.code) d) _ _ m ∙ on_false (has_room c.declared d) _ _ r)
-declaration_faulty c begun word fault more (definitions_go_on b w f) = rw (b, f) (on_false (is_end word) _ _ w)
+declaration_faulty c begun word fault more (definitions_go_on b w f) = rw (b, f) (on_false (is_end_word word) _ _ w)
 
 change_faulty : (c : Context) (begun : List (List ℕ)) (word : List ℕ) (fault : Fault) (more : List (List ℕ)) → ChangeFault c begun word fault
     → front true c (begun ++ word ∷ more) ≡ faulty 0 fault
 change_faulty c begun word fault more (no_tick digits b w t f) = rw (b, w, f) (on_false (is_tick digits) _ _ t)
 change_faulty c begun word fault more (tick_goes_back digits b w t l f) =
     rw (b, w, f) (on_true (is_tick digits) _ _ t ∙ on_true (nat_lt (number_of digits) c.tick) _ _ (lt-ltb (number_of digits) c.tick l))
-change_faulty c begun word fault more (letter_alone letter b w h f) = rw (b, w, f) (on_true (is_letter letter) _ _ h)
-change_faulty c begun word fault more (letter_of_none letter [] b w h l n f) = absurd (omega (arith, l))
-change_faulty c begun word fault more (letter_of_none letter (x ∷ code) b w h l n f) =
-    rw (b, w, f) (on_true (is_letter letter) _ _ h ∙ ap (λ o. known o (λ d. whole (scalar letter (x ∷ code)) more)) n)
+change_faulty c begun word fault more (value_alone letter b w h f) = rw (b, w, f) (on_true (is_binary_digit letter) _ _ h)
+change_faulty c begun word fault more (value_of_none letter [] b w h l n f) = absurd (omega (arith, l))
+change_faulty c begun word fault more (value_of_none letter (x ∷ code) b w h l n f) =
+    rw (b, w, f) (on_true (is_binary_digit letter) _ _ h ∙ ap (λ o. known o (λ d. whole (scalar letter (x ∷ code)) more)) n)
 change_faulty c begun word fault more (pair_of_none first text b h n f) =
     let step : (g : VariableDeclaration → Front) → known (variable_of c word) g ≡ faulty 0 UnknownCode = λ g. ap (λ o. known o g) n in
-    rw (b, f) (by_among (λ x. change_front c (x ∷ text) (word ∷ more) ≡ faulty 0 UnknownCode) pair_letters first h (step _, (step _, (step _, (step _, (step _, (step _, tt)))))))
+    rw (b, f) (by_among (λ x. change_front c (x ∷ text) (word ∷ more) ≡ faulty 0 UnknownCode) pair_prefixes first h (step _, (step _, (step _, (step _, (step _, (step _, tt)))))))
 change_faulty c begun word fault more (no_value first digits d b h v s n f) =
-    rw (b, f) (by_among (λ x. change_front c (x ∷ digits) (word ∷ more) ≡ vector_front c x digits (word ∷ more)) vector_letters first h (refl, (refl, tt))
-    ∙ ap (λ o. known o (λ d. vector_fits c first digits word more d)) v ∙ on_false (is_skipped d) _ _ s ∙ on_false (is_value digits) _ _ n)
+    rw (b, f) (by_among (λ x. change_front c (x ∷ digits) (word ∷ more) ≡ vector_front c x digits (word ∷ more)) vector_prefixes first h (refl, (refl, tt))
+    ∙ ap (λ o. known o (λ d. vector_fits c first digits word more d)) v ∙ on_false (is_skipped d) _ _ s ∙ on_false (is_binary_number digits) _ _ n)
 change_faulty c begun word fault more (value_too_long first digits d b h v s n l f) =
-    rw (b, f) (by_among (λ x. change_front c (x ∷ digits) (word ∷ more) ≡ vector_front c x digits (word ∷ more)) vector_letters first h (refl, (refl, tt))
-    ∙ ap (λ o. known o (λ d. vector_fits c first digits word more d)) v ∙ on_false (is_skipped d) _ _ s ∙ on_true (is_value digits) _ _ n
+    rw (b, f) (by_among (λ x. change_front c (x ∷ digits) (word ∷ more) ≡ vector_front c x digits (word ∷ more)) vector_prefixes first h (refl, (refl, tt))
+    ∙ ap (λ o. known o (λ d. vector_fits c first digits word more d)) v ∙ on_false (is_skipped d) _ _ s ∙ on_true (is_binary_number digits) _ _ n
     ∙ on_true (nat_lt d.size (length digits)) _ _ (lt-ltb d.size (length digits) l))
 change_faulty c begun word fault more (declaration_late b w f) =
     rw (b, f) (by_one_of (λ x. change_front c x more ≡ faulty 0 UnexpectedWord) declaring_words word w (refl, (refl, (refl, (refl, (refl, tt))))))
@@ -343,5 +343,5 @@ unfinished_front c begun (upscope_due h b s) = rw b (front_at false c _ _ h (ups
 unfinished_front c begun (variable_due words h b n g) = rw b (front_at false c _ _ h (variable_open c words n g))
 unfinished_front c begun (definitions_due h b) = rw b (front_at false c _ _ h refl)
 unfinished_front c begun (code_due first text h b k) =
-    rw b (front_at true c _ _ h (by_among (λ x. change_front c (x ∷ text) [] ≡ unfinished) pair_letters first k (refl, (refl, (refl, (refl, (refl, (refl, tt))))))))
+    rw b (front_at true c _ _ h (by_among (λ x. change_front c (x ∷ text) [] ≡ unfinished) pair_prefixes first k (refl, (refl, (refl, (refl, (refl, (refl, tt))))))))
 unfinished_front c begun (other_due word words b k n) = rw b (other_front c.changing c word words k ∙ closing_none _ words n)

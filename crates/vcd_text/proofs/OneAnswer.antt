@@ -68,7 +68,7 @@ accepts_ends words told a = record {
   spelled = a.spelled ∙ sym (append-nil (spellings a.items));
   allowed = a.allowed;
   tells = a.tells;
-  shows = front_at true told [] ended a.declared refl;
+  shows = front_at true told [] ended a.definitions_ended refl;
   is_last = tt;
 }
 

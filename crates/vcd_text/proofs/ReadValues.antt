@@ -11,26 +11,26 @@ use Rattle.vcd_core.specs.declared.wave.Change.{Change}
 use Rattle.vcd_core.specs.Value.{all_x, same_letters, printed_letter}
 use Rattle.vcd_core.specs.Wave.{value_from, value_at, ChangesFrom, IsWave}
 use Rattle.vcd_core.specs.inside.ValueLaws.{same_letters-Decides}
-use Rattle.vcd_text.specs.Letters.{is_letter, letter_read, letters_read, printed_letters, pad_letter, extension, suffixes, short_form}
-use Rattle.vcd_text.specs.Grammar.{is_value}
+use Rattle.vcd_text.specs.Letters.{is_binary_digit, letter_of_digit, letters_of_digits, printed_letters, pad_letter, extension, suffixes, short_form}
+use Rattle.vcd_text.specs.Grammar.{is_binary_number}
 
 -- ---- letters
 
-pub letter_back : (b : Bit) → letter_read (printed_letter b) ≡ Some b
+pub letter_back : (b : Bit) → letter_of_digit (printed_letter b) ≡ Some b
 letter_back Zero = refl
 letter_back One = refl
 letter_back X = refl
 letter_back Z = refl
 
-pub letters_back : (s : List Bit) → letters_read (printed_letters s) ≡ s
+pub letters_back : (s : List Bit) → letters_of_digits (printed_letters s) ≡ s
 letters_back [] = refl
 letters_back (b ∷ s) = λ i. unwrap_or (letter_back b i) X ∷ letters_back s i
 
-all_letters : (s : List Bit) → list_all is_letter (printed_letters s) ≡ true
+all_letters : (s : List Bit) → list_all is_binary_digit (printed_letters s) ≡ true
 all_letters [] = refl
 all_letters (b ∷ s) = λ i. is_some (letter_back b i) && all_letters s i
 
-pub printed_is_value : (s : List Bit) → 0 < length s → is_value (printed_letters s) ≡ true
+pub printed_is_value : (s : List Bit) → 0 < length s → is_binary_number (printed_letters s) ≡ true
 printed_is_value s some = λ i. not (ne_eqb (length (printed_letters s)) 0 (omega (arith, length-map s printed_letter)) i) && all_letters s i
 
 -- ---- the short form

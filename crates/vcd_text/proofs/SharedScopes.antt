@@ -12,7 +12,7 @@ use Rattle.vcd_core.specs.declared.capture.Timescale.{Timescale}
 use Rattle.vcd_core.specs.declared.capture.ScopeName.{ScopeName}
 use Rattle.vcd_core.specs.Word.{is_word}
 use Rattle.vcd_core.specs.Sound.{is_sound_scope}
-use Rattle.vcd_text.specs.Items.{scope, upscope, is_end, has_no_end}
+use Rattle.vcd_text.specs.Items.{scope, upscope, is_end_word, has_no_end_word}
 use Rattle.vcd_text.specs.Grammar.{Context, VariableDeclaration}
 use Rattle.vcd_text.specs.Text.{same_scope, scope_items}
 use Rattle.vcd_text.proofs.Scopes.{all_closed}
@@ -50,8 +50,8 @@ later_scopes zero (s ∷ path) sound = sound
 later_scopes (suc n) (s ∷ path) sound = later_scopes n path (and_parts (is_sound_scope s) (list_all is_sound_scope path) sound).1
 
 -- words are not `$end`
-pub words_have_no_end : (ws : List (List ℕ)) → list_all is_word ws ≡ true → has_no_end ws ≡ true
-words_have_no_end ws words = all_weaker is_word (λ word. not (is_end word)) (λ w word. (and_parts _ (not (is_end w)) word).1) ws words
+pub words_have_no_end : (ws : List (List ℕ)) → list_all is_word ws ≡ true → has_no_end_word ws ≡ true
+words_have_no_end ws words = all_weaker is_word (λ word. not (is_end_word word)) (λ w word. (and_parts _ (not (is_end_word w)) word).1) ws words
 
 -- the scopes past the front of a path are closed, the innermost first
 scopes_closed : (h : List Header) (t : Option Timescale) (opened : List ScopeName) (ds : List VariableDeclaration) (n : ℕ) → n ≤ length opened

@@ -21,21 +21,21 @@ use Rattle.vcd_core.specs.Sound.{IsSound, IsSoundSignal, is_sound_header, is_sou
 use Rattle.vcd_core.proofs.Waves.{changes_rise, changes_end}
 use Rattle.vcd_text.specs.Words.{words_of, word_on}
 use Rattle.vcd_core.specs.Decimal.{is_number, number_of}
-use Rattle.vcd_text.specs.Letters.{extension, pad_letter, letters_read}
-use Rattle.vcd_text.specs.Items.{Item, entry, timescale, scope, upscope, variable, end_definitions, stamp, scalar, vector, real_or_string, bracket, other, spelling, spellings, header_word, end_word, is_end, has_no_end, timescales, unit_text}
-use Rattle.vcd_text.specs.Grammar.{Context, VariableDeclaration, RecordedChange, Accepts, Allows, AllowsAll, told_after, told_after_item, nothing_told, is_skipped, kept_variables, variable_of, may_have_code, has_room, recorded_changes, with_recorded_change, takes_digits, is_value}
+use Rattle.vcd_text.specs.Letters.{extension, pad_letter, letters_of_digits}
+use Rattle.vcd_text.specs.Items.{Item, entry, timescale, scope, upscope, variable, end_definitions, stamp, scalar, vector, real_or_string, bracket, other, spelling, spellings, header_word, end_word, is_end_word, has_no_end_word, timescales, unit_text}
+use Rattle.vcd_text.specs.Grammar.{Context, VariableDeclaration, RecordedChange, Accepts, Allows, AllowsAll, told_after, told_after_item, nothing_told, is_skipped, kept_variables, variable_of, may_have_code, has_room, recorded_changes, with_recorded_change, takes_binary_number, is_binary_number}
 use Rattle.vcd_text.proofs.WordLaws.{is_run_text, texts_are_runs, run_is_word}
 use Rattle.vcd_text.specs.Meaning.{meaning, declared_signal, recorded_value}
 
 -- ---- words
 
 -- words in front of an `$end` are words of names
-clean_words : (ws rest : List (List ℕ)) → list_all is_run_text (ws ++ rest) ≡ true → has_no_end ws ≡ true → list_all is_word ws ≡ true
+clean_words : (ws rest : List (List ℕ)) → list_all is_run_text (ws ++ rest) ≡ true → has_no_end_word ws ≡ true → list_all is_word ws ≡ true
 clean_words [] rest all none = refl
 clean_words (w ∷ ws) rest all none =
     let p = and_parts (is_run_text w) (list_all is_run_text (ws ++ rest)) all in
-    let q = and_parts (not (is_end w)) (has_no_end ws) none in
-    and_from (is_word w) (list_all is_word ws) (run_is_word w p.0 (not-true (is_end w) q.0)) (clean_words ws rest p.1 q.1)
+    let q = and_parts (not (is_end_word w)) (has_no_end_word ws) none in
+    and_from (is_word w) (list_all is_word ws) (run_is_word w p.0 (not-true (is_end_word w) q.0)) (clean_words ws rest p.1 q.1)
 
 -- ---- lists
 
@@ -116,11 +116,11 @@ some_kept None some = absurd (false≢true some)
 some_kept (Some e) some = λ keeps. (kept_is e keeps).1
 
 -- a variable takes digits that are no more than its bits
-some_taken : (digits : List ℕ) (o : Option VariableDeclaration) → IsSomeAnd o (λ e. IsTrue (takes_digits e digits)) → IsSomeAnd o (λ e. is_skipped e ≡ false → length (letters_read digits) ≤ e.size)
+some_taken : (digits : List ℕ) (o : Option VariableDeclaration) → IsSomeAnd o (λ e. IsTrue (takes_binary_number e digits)) → IsSomeAnd o (λ e. is_skipped e ≡ false → length (letters_of_digits digits) ≤ e.size)
 some_taken digits None some = absurd some
 some_taken digits (Some e) takes = λ keeps.
-    let here : (is_value digits && nat_le (length digits) e.size) ≡ true = ap (λ b. b || (is_value digits && nat_le (length digits) e.size)) (sym keeps) ∙ takes in
-    subst (λ n. n ≤ e.size) (sym (length-map digits _)) (leb-true (length digits) e.size (and_parts (is_value digits) _ here).1)
+    let here : (is_binary_number digits && nat_le (length digits) e.size) ≡ true = ap (λ b. b || (is_binary_number digits && nat_le (length digits) e.size)) (sym keeps) ∙ takes in
+    subst (λ n. n ≤ e.size) (sym (length-map digits _)) (leb-true (length digits) e.size (and_parts (is_binary_number digits) _ here).1)
 
 -- ---- one item
 
@@ -225,9 +225,9 @@ clean_item c end_definitions clean all allows = clean_beside c _ _ _ _ _ clean
 clean_item c (stamp digits) clean all allows = clean_beside c _ _ _ _ _ clean
     clean.header clean.timescale clean.scopes clean.silent (leb-true (number_of digits) END_LIMIT (and_parts (is_number digits) (nat_le (number_of digits) END_LIMIT) allows.1).1)
 clean_item c (scalar letter code) clean all allows =
-    clean_record c code (letters_read (letter ∷ [])) clean allows.0 (some_kept (variable_of c code) allows.3)
+    clean_record c code (letters_of_digits (letter ∷ [])) clean allows.0 (some_kept (variable_of c code) allows.3)
 clean_item c (vector first digits code) clean all allows =
-    clean_record c code (letters_read digits) clean allows.0 (some_taken digits (variable_of c code) allows.2)
+    clean_record c code (letters_of_digits digits) clean allows.0 (some_taken digits (variable_of c code) allows.2)
 clean_item c (real_or_string first text code) clean all allows = clean
 clean_item c (bracket word_on) clean all allows = clean
 clean_item c (other word_on words) clean all allows = clean

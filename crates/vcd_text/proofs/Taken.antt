@@ -8,9 +8,9 @@ use Rattle.vcd_text.specs.declared.fault.Fault.{Fault}
 use Rattle.vcd_text.specs.Words.{PlacedWord}
 use Rattle.vcd_text.specs.Letters.{is_among}
 use Rattle.vcd_core.specs.Word.{is_one_of}
-use Rattle.vcd_text.specs.Items.{Item, spelling, spellings, is_other, begins_declaration, declaring_words, dump_words, vector_letters}
+use Rattle.vcd_text.specs.Items.{Item, spelling, spellings, is_other, begins_declaration, declaring_words, dump_words, vector_prefixes}
 use Rattle.vcd_text.specs.Grammar.{Context, Allows, AllowsAll, told_after, told_after_item, nothing_told, word_texts}
-use Rattle.vcd_text.specs.Faults.{WordFault, among_declarations, among_changes, ChangeFault, no_tick, tick_goes_back, letter_alone, letter_of_none, pair_of_none, no_value, value_too_long, declaration_late, no_change, pair_letters, ShowsFault, fault_line}
+use Rattle.vcd_text.specs.Faults.{WordFault, among_declarations, among_changes, ChangeFault, no_tick, tick_goes_back, value_alone, value_of_none, pair_of_none, no_value, value_too_long, declaration_late, no_change, pair_prefixes, ShowsFault, fault_line}
 use Rattle.vcd_text.specs.inside.OpenItems.{shown_line}
 use Rattle.vcd_text.specs.inside.Reading.{Reads, TakesWord, goes_on, ends_item, Agrees, IsBegun, is_want_of_memory, error_at}
 use Rattle.vcd_text.specs.Refusals.{memory_error}
@@ -94,11 +94,11 @@ no_pair letters changing (b ∷ bs) words first text none is same among =
 passed_over : (c : Context) (keyword : List ℕ) (words : List (List ℕ)) (word : List ℕ) (fault : Fault) → IsTrue (is_other c.changing keyword) → ChangeFault c (keyword ∷ words) word fault → ⊥
 passed_over c keyword words word fault is (no_tick digits begun p q r) = absurd (cc)
 passed_over c keyword words word fault is (tick_goes_back digits begun p q r s) = absurd (cc)
-passed_over c keyword words word fault is (letter_alone letter begun p q r) = absurd (cc)
-passed_over c keyword words word fault is (letter_of_none letter code begun p q r s t) = absurd (cc)
-passed_over c keyword words word fault is (pair_of_none first text begun among p q) = no_pair pair_letters c.changing keyword words first text refl is begun among
-passed_over c keyword words word fault is (no_value first digits d begun among p q r s) = no_pair vector_letters c.changing keyword words first digits refl is begun among
-passed_over c keyword words word fault is (value_too_long first digits d begun among p q r s t) = no_pair vector_letters c.changing keyword words first digits refl is begun among
+passed_over c keyword words word fault is (value_alone letter begun p q r) = absurd (cc)
+passed_over c keyword words word fault is (value_of_none letter code begun p q r s t) = absurd (cc)
+passed_over c keyword words word fault is (pair_of_none first text begun among p q) = no_pair pair_prefixes c.changing keyword words first text refl is begun among
+passed_over c keyword words word fault is (no_value first digits d begun among p q r s) = no_pair vector_prefixes c.changing keyword words first digits refl is begun among
+passed_over c keyword words word fault is (value_too_long first digits d begun among p q r s t) = no_pair vector_prefixes c.changing keyword words first digits refl is begun among
 passed_over c keyword words word fault is (declaration_late begun p q) = absurd (cc)
 passed_over c keyword words word fault is (no_change first text begun p q r s) = absurd (cc)
 

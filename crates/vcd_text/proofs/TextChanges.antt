@@ -12,9 +12,9 @@ use Rattle.vcd_core.specs.Contents.{Contents, SignalContents, signal_value}
 use Rattle.vcd_core.specs.Sound.{IsSound, IsSoundSignal}
 use Rattle.vcd_core.specs.Value.{printed_letter}
 use Rattle.vcd_core.specs.Word.{is_one_of}
-use Rattle.vcd_text.specs.Letters.{letters_read, printed_letters, short_form}
+use Rattle.vcd_text.specs.Letters.{letters_of_digits, printed_letters, short_form}
 use Rattle.vcd_text.specs.Items.{Item, vector, bracket, dump_words, end_word}
-use Rattle.vcd_text.specs.Grammar.{RecordedChange, Context, is_skipped, takes_digits, recorded_changes, variable_of}
+use Rattle.vcd_text.specs.Grammar.{RecordedChange, Context, is_skipped, takes_binary_number, recorded_changes, variable_of}
 use Rattle.vcd_text.specs.Text.{all_values, code_of, differs_at, end_items, first_items, new_values, stamp_of, with_stamp, tick_items, value_item, value_items}
 use Rattle.vcd_text.proofs.CodesDiffer.{code_not_empty}
 use Rattle.vcd_text.proofs.Decimals.{decimal_is_number, number_of-decimal}
@@ -48,7 +48,7 @@ module _ (c : Contents) (p : ℕ × SignalContents) (placed : IsPlaced c p) (rec
       ∙ (λ i. cond (placed.kept i) [] (record { tick = t; code = code_of p.0; letters = short_form v } ∷ []))
 
   -- its variable takes the short form
-  takes_short : (v : List Bit) → 0 < length v → length v ≡ p.1.width → takes_digits (declared_as p.0 p.1) (printed_letters (short_form v)) ≡ true
+  takes_short : (v : List Bit) → 0 < length v → length v ≡ p.1.width → takes_binary_number (declared_as p.0 p.1) (printed_letters (short_form v)) ≡ true
   takes_short v some wide =
       let within = short_within v some in
       let fits : length (printed_letters (short_form v)) ≤ p.1.width = omega (arith, within.1, length-map (short_form v) printed_letter) in
@@ -57,8 +57,8 @@ module _ (c : Contents) (p : ℕ × SignalContents) (placed : IsPlaced c p) (rec
   vector_leads : (v : List Bit) → 0 < length v → length v ≡ p.1.width
       → Leads (told_at c records t) (vector 98 (printed_letters (short_form v)) (code_of p.0) ∷ []) (told_at c (records ++ record { tick = t; code = code_of p.0; letters = short_form v } ∷ []) t)
   vector_leads v some wide = record {
-    allowed = ((refl, refl, subst (λ o. IsSomeAnd o (λ d. IsTrue (takes_digits d (printed_letters (short_form v))))) (sym placed.found) (takes_short v some wide)), tt);
-    tells = λ i. told_at c (records ++ recorded_one (letters_read (printed_letters (short_form v))) v (letters_back (short_form v)) i) t;
+    allowed = ((refl, refl, subst (λ o. IsSomeAnd o (λ d. IsTrue (takes_binary_number d (printed_letters (short_form v))))) (sym placed.found) (takes_short v some wide)), tt);
+    tells = λ i. told_at c (records ++ recorded_one (letters_of_digits (printed_letters (short_form v))) v (letters_back (short_form v)) i) t;
   }
 
   value_leads_of : (v : List Bit) → length v ≡ p.1.width
@@ -66,7 +66,7 @@ module _ (c : Contents) (p : ℕ × SignalContents) (placed : IsPlaced c p) (rec
   value_leads_of [] wide = absurd (omega (arith, wide, placed.some))
   value_leads_of (b ∷ []) wide = record {
     allowed = ((refl, ap is_some (letter_back b), code_not_empty p.0, ap is_some placed.found), tt);
-    tells = λ i. told_at c (records ++ recorded_one (letters_read (printed_letter b ∷ [])) (b ∷ []) (letters_back (b ∷ []) ∙ sym (short_one b)) i) t;
+    tells = λ i. told_at c (records ++ recorded_one (letters_of_digits (printed_letter b ∷ [])) (b ∷ []) (letters_back (b ∷ []) ∙ sym (short_one b)) i) t;
   }
   value_leads_of (b ∷ d ∷ v) wide = vector_leads (b ∷ d ∷ v) (omega arith) wide
 

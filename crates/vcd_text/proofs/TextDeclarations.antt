@@ -21,7 +21,7 @@ use Rattle.vcd_core.specs.Word.{is_word}
 use Rattle.vcd_core.specs.Sound.{is_sound_header, is_sound_timescale, IsSoundSignal, IsSound}
 use Rattle.std.specs.Char.{is_ascii_digit}
 use Rattle.vcd_core.specs.Decimal.{number_of}
-use Rattle.vcd_text.specs.Items.{Item, entry, timescale, variable, end_definitions, unit_text, end_word, is_end, has_no_end, timescale_of}
+use Rattle.vcd_text.specs.Items.{Item, entry, timescale, variable, end_definitions, unit_text, end_word, is_end_word, has_no_end_word, timescale_of}
 use Rattle.vcd_text.specs.Grammar.{Context, VariableDeclaration, nothing_told, declaration_of, variable_of, may_have_code, has_room, is_skipped, kept_variables}
 use Rattle.vcd_text.specs.Text.{header_items, timescale_items, scope_items, code_of, variable_item, signal_items, first_items, tick_items, end_items, items_of}
 use Rattle.vcd_text.proofs.CodesDiffer.{codes_differ, code_no_end}
@@ -42,16 +42,16 @@ header_leads front (h ∷ hs) sound =
     (ap (λ l. declaring l None [] []) (append_assoc front (h ∷ []) hs)))
 
 -- digits are not `$end`
-digits_no_end : (w : List ℕ) → list_all is_ascii_digit w ≡ true → is_end w ≡ false
-digits_no_end w digits = false_from_ne_true (is_end w) (λ same.
+digits_no_end : (w : List ℕ) → list_all is_ascii_digit w ≡ true → is_end_word w ≡ false
+digits_no_end w digits = false_from_ne_true (is_end_word w) (λ same.
     let spelled : w ≡ end_word = (bytes_eq-Decides w end_word).0 same in
     let no : true ≡ false = sym digits ∙ ap (list_all is_ascii_digit) spelled in
     absurd (cc))
 
-decimal_no_end : (n : ℕ) → n < 2 ^ 64 → not (is_end (decimal n)) ≡ true
-decimal_no_end n small = not_from_false (is_end (decimal n)) (digits_no_end (decimal n) (decimal_digits n small))
+decimal_no_end : (n : ℕ) → n < 2 ^ 64 → not (is_end_word (decimal n)) ≡ true
+decimal_no_end n small = not_from_false (is_end_word (decimal n)) (digits_no_end (decimal n) (decimal_digits n small))
 
-unit_no_end : (unit : TimeUnit) → not (is_end (unit_text unit)) ≡ true
+unit_no_end : (unit : TimeUnit) → not (is_end_word (unit_text unit)) ≡ true
 unit_no_end Second = refl
 unit_no_end Millisecond = refl
 unit_no_end Microsecond = refl
@@ -64,9 +64,9 @@ timescale_leads h None sound = leads_none (declaring h None [] [])
 timescale_leads h (Some t) sound =
     let words : List (List ℕ) = decimal t.count ∷ unit_text t.unit ∷ [] in
     let read : timescale_of words ≡ Some t = timescale_read t sound in
-    let no_end : has_no_end words ≡ true =
-    and_from (not (is_end (decimal t.count))) (not (is_end (unit_text t.unit)) && true) (decimal_no_end t.count (count_small t.count (sound_count t sound)))
-    (and_from (not (is_end (unit_text t.unit))) true (unit_no_end t.unit) refl) in
+    let no_end : has_no_end_word words ≡ true =
+    and_from (not (is_end_word (decimal t.count))) (not (is_end_word (unit_text t.unit)) && true) (decimal_no_end t.count (count_small t.count (sound_count t sound)))
+    (and_from (not (is_end_word (unit_text t.unit))) true (unit_no_end t.unit) refl) in
     leads_one (declaring h None [] []) (declaring h (Some t) [] []) (timescale words) (refl, no_end, subst IsSome (sym read) refl) (ap (λ o. declaring h o [] []) read)
 
 -- ---- variables
@@ -92,13 +92,13 @@ words_declare c kind size code n [] named number = absurd (omega arith)
 words_declare c kind size code n (w ∷ ws) named number = ap (λ m. Some (record { scopes = c.scopes; kind = kind; size = m; code = code; words = w ∷ ws })) number
 
 -- no word of a variable is `$end`
-variable_no_end : (end k : ℕ) (s : SignalContents) → IsSoundSignal end s → k < SIGNAL_LIMIT → has_no_end (s.kind ∷ decimal s.width ∷ code_of k ∷ s.words) ≡ true
+variable_no_end : (end k : ℕ) (s : SignalContents) → IsSoundSignal end s → k < SIGNAL_LIMIT → has_no_end_word (s.kind ∷ decimal s.width ∷ code_of k ∷ s.words) ≡ true
 variable_no_end end k s sound few =
     let most : s.width ≤ WIDTH_LIMIT = sound.most in
-    let kind : not (is_end s.kind) ≡ true = (and_parts (not (is_end s.kind)) true (words_have_no_end (s.kind ∷ []) (and_from (is_word s.kind) true sound.kind refl))).0 in
-    and_from (not (is_end s.kind)) (has_no_end (decimal s.width ∷ code_of k ∷ s.words)) kind
-    (and_from (not (is_end (decimal s.width))) (has_no_end (code_of k ∷ s.words)) (decimal_no_end s.width (omega arith))
-    (and_from (not (is_end (code_of k))) (has_no_end s.words) (not_from_false (is_end (code_of k)) (code_no_end k few)) (words_have_no_end s.words sound.words)))
+    let kind : not (is_end_word s.kind) ≡ true = (and_parts (not (is_end_word s.kind)) true (words_have_no_end (s.kind ∷ []) (and_from (is_word s.kind) true sound.kind refl))).0 in
+    and_from (not (is_end_word s.kind)) (has_no_end_word (decimal s.width ∷ code_of k ∷ s.words)) kind
+    (and_from (not (is_end_word (decimal s.width))) (has_no_end_word (code_of k ∷ s.words)) (decimal_no_end s.width (omega arith))
+    (and_from (not (is_end_word (code_of k))) (has_no_end_word s.words) (not_from_false (is_end_word (code_of k)) (code_no_end k few)) (words_have_no_end s.words sound.words)))
 
 -- there is room behind fewer variables than there may be signals
 room_left : (ds : List VariableDeclaration) (d : VariableDeclaration) → length ds < SIGNAL_LIMIT → has_room ds d ≡ true

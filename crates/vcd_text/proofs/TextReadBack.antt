@@ -25,7 +25,7 @@ read_back c sound =
     let all = items_lead c sound in
     record {
       told = told_at c (records_of c) c.end;
-      accepted = record { items = items_of c; spelled = words_of_text c sound; allowed = all.allowed; tells = all.tells; declared = refl };
+      accepted = record { items = items_of c; spelled = words_of_text c sound; allowed = all.allowed; tells = all.tells; definitions_ended = refl };
       means = text_means c sound;
       left_out = text_skips_nothing c sound;
     }

@@ -6,7 +6,7 @@ use Rattle.std.proofs.lemmas.List.Elements.{All-nil, All-cons, All-head, All-tai
 use Rattle.std.proofs.lemmas.Bool.Decides.{Decides-eqb}
 use Rattle.std.proofs.lemmas.Bool.{ne_eqb}
 use Rattle.vcd_core.specs.Word.{is_word, is_white_space}
-use Rattle.vcd_text.specs.Items.{is_end}
+use Rattle.vcd_text.specs.Items.{is_end_word}
 use Rattle.vcd_text.specs.inside.Spaces.{begins_with_space}
 use Rattle.vcd_text.specs.Words.{line_behind, ends_before, with_longer_first, with_byte, PlacedWord, word_on, words_from}
 
@@ -138,8 +138,8 @@ pub texts_are_runs : (whole : Bool) (line : ℕ) (bytes : List ℕ) → list_all
 texts_are_runs whole line bytes = texts_pass (words_from whole line bytes) (words_are_words whole line bytes)
 
 -- a run that is not `$end` is a word that a header entry, a name or a kind may have
-pub run_is_word : (text : List ℕ) → is_run_text text ≡ true → is_end text ≡ false → is_word text ≡ true
-run_is_word text run other = ap (λ t. t && not (is_end text)) run ∙ ap not other
+pub run_is_word : (text : List ℕ) → is_run_text text ≡ true → is_end_word text ≡ false → is_word text ≡ true
+run_is_word text run other = ap (λ t. t && not (is_end_word text)) run ∙ ap not other
 
 -- they are no more than the bytes
 more_with_byte : (space last : Bool) (b line : ℕ) (ws : List PlacedWord) → length (with_byte space last b line ws) ≤ suc (length ws)

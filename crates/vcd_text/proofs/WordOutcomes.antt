@@ -9,10 +9,10 @@ use Rattle.vcd_core.specs.Word.{is_one_of}
 use Rattle.vcd_core.specs.Decimal.{is_number, number_of}
 use Rattle.vcd_text.specs.declared.fault.Fault.{Fault}
 use Rattle.vcd_text.specs.declared.fault.Fault.TheVariants.{UnexpectedWord, BadTimescale, BadScope, UpscopeAtTop, BadVar, MixedCode, BadTime, TimeBackwards, BadChange, UnknownCode, ValueTooLong, TooManySignals}
-use Rattle.vcd_text.specs.Letters.{is_among, is_letter}
-use Rattle.vcd_text.specs.Items.{Item, entry, timescale, scope, upscope, variable, end_definitions, stamp, scalar, vector, real_or_string, bracket, other, spelling, end_word, is_end, has_no_end, dump_words, declaring_words, header_words, begins_declaration, timescale_of, vector_letters, dropped_letters}
-use Rattle.vcd_text.specs.Grammar.{Context, VariableDeclaration, Allows, is_skipped, has_good_size, declaration_of, variable_of, may_have_code, has_room, is_tick, is_value, takes_digits}
-use Rattle.vcd_text.specs.Faults.{WordFault, IsUnfinished, pair_letters, no_declaration, no_timescale, no_kind, upscope_at_top, upscope_goes_on, no_size, no_variable, code_mixed, no_room, definitions_go_on, no_tick, tick_goes_back, letter_alone, letter_of_none, pair_of_none, no_value, value_too_long, declaration_late, no_change, among_declarations, among_changes, declaration_due, words_due, upscope_due, variable_due, definitions_due, code_due, other_due}
+use Rattle.vcd_text.specs.Letters.{is_among, is_binary_digit}
+use Rattle.vcd_text.specs.Items.{Item, entry, timescale, scope, upscope, variable, end_definitions, stamp, scalar, vector, real_or_string, bracket, other, spelling, end_word, is_end_word, has_no_end_word, dump_words, declaring_words, header_words, begins_declaration, timescale_of, vector_prefixes, dropped_prefixes}
+use Rattle.vcd_text.specs.Grammar.{Context, VariableDeclaration, Allows, is_skipped, has_good_size, declaration_of, variable_of, may_have_code, has_room, is_tick, is_binary_number, takes_binary_number}
+use Rattle.vcd_text.specs.Faults.{WordFault, IsUnfinished, pair_prefixes, no_declaration, no_timescale, no_kind, upscope_at_top, upscope_goes_on, no_size, no_variable, code_mixed, no_room, definitions_go_on, no_tick, tick_goes_back, value_alone, value_of_none, pair_of_none, no_value, value_too_long, declaration_late, no_change, among_declarations, among_changes, declaration_due, words_due, upscope_due, variable_due, definitions_due, code_due, other_due}
 use Rattle.vcd_text.proofs.OneOf.{by_among, by_one_of}
 
 -- no word of an item has come, or something is due behind these
@@ -39,12 +39,12 @@ cases_length [] = inl refl
 cases_length (x ∷ xs) = inr (omega arith)
 
 -- a word is `$end` or not
-by_end : (P : List ℕ → Type 0) (word : List ℕ) → P end_word → (IsFalse (is_end word) → P word) → P word
-by_end P word closes further = elim (cases_Bool (is_end word)) [ inl is ↦ subst P (sym ((bytes_eq-Decides word end_word).0 is)) closes | inr isnt ↦ further isnt ]
+by_end : (P : List ℕ → Type 0) (word : List ℕ) → P end_word → (IsFalse (is_end_word word) → P word) → P word
+by_end P word closes further = elim (cases_Bool (is_end_word word)) [ inl is ↦ subst P (sym ((bytes_eq-Decides word end_word).0 is)) closes | inr isnt ↦ further isnt ]
 
 -- one word more, which is no `$end`
-no_end_more : (words : List (List ℕ)) (word : List ℕ) → IsTrue (has_no_end words) → IsFalse (is_end word) → IsTrue (has_no_end (words ++ word ∷ []))
-no_end_more words word none isnt = list_all-append (λ w. not (is_end w)) words (word ∷ []) ∙ (λ i. none i && (not (isnt i) && true))
+no_end_more : (words : List (List ℕ)) (word : List ℕ) → IsTrue (has_no_end_word words) → IsFalse (is_end_word word) → IsTrue (has_no_end_word (words ++ word ∷ []))
+no_end_more words word none isnt = list_all-append (λ w. not (is_end_word w)) words (word ∷ []) ∙ (λ i. none i && (not (isnt i) && true))
 
 -- a value of which something holds
 some_has : {A : Type 0} (o : Option A) (P : A → Type 0) (x : A) → o ≡ Some x → P x → IsSomeAnd o P
@@ -113,44 +113,44 @@ command_word c text changing =
       ]
     ]
 
-letter_word : (c : Context) (letter : ℕ) (code : List ℕ) → IsTrue c.changing → IsTrue (is_letter letter) → WordOutcome c [] (letter ∷ code)
-letter_word c letter [] changing is = shows_fault BadChange (among_changes changing (letter_alone letter refl refl is refl))
+letter_word : (c : Context) (letter : ℕ) (code : List ℕ) → IsTrue c.changing → IsTrue (is_binary_digit letter) → WordOutcome c [] (letter ∷ code)
+letter_word c letter [] changing is = shows_fault BadChange (among_changes changing (value_alone letter refl refl is refl))
 letter_word c letter (b ∷ code) changing is =
     elim (cases_Option (variable_of c (b ∷ code))) [
-      | inl none ↦ shows_fault UnknownCode (among_changes changing (letter_of_none letter (b ∷ code) refl refl is (omega arith) none refl))
+      | inl none ↦ shows_fault UnknownCode (among_changes changing (value_of_none letter (b ∷ code) refl refl is (omega arith) none refl))
       | inr (d, found) ↦ ends_item (scalar letter (b ∷ code)) refl (changing, is, omega arith, is_some_by (variable_of c (b ∷ code)) d found)
     ]
 
 change_begins : (c : Context) (word : List ℕ) → IsTrue c.changing → 0 < length word → WordOutcome c [] word
 change_begins c [] changing some = absurd (omega arith)
 change_begins c (first ∷ text) changing some =
-    elim (cases_Bool (is_letter first)) [
+    elim (cases_Bool (is_binary_digit first)) [
       | inl letter ↦ letter_word c first text changing letter
       | inr no_letter ↦ elim (cases_Bool (is_among (codes "#$") first)) [
         | inl sign ↦ by_among (λ b. WordOutcome c [] (b ∷ text)) (codes "#$") first sign (stamp_word c text changing, (command_word c text changing, tt))
-        | inr no_sign ↦ elim (cases_Bool (is_among pair_letters first)) [
+        | inr no_sign ↦ elim (cases_Bool (is_among pair_prefixes first)) [
           | inl pair ↦ goes_on (code_due first text changing refl pair)
           | inr no_pair ↦ shows_fault BadChange (among_changes changing (no_change first text refl refl no_letter
-              (list_any-append (nat_eq first) (codes "#$") pair_letters ∙ or_from (is_among (codes "#$") first) (is_among pair_letters first) no_sign no_pair) refl))
+              (list_any-append (nat_eq first) (codes "#$") pair_prefixes ∙ or_from (is_among (codes "#$") first) (is_among pair_prefixes first) no_sign no_pair) refl))
         ]
       ]
     ]
 
 -- ---- words up to `$end`
 
-timescale_ends : (c : Context) (words : List (List ℕ)) → IsFalse c.changing → IsTrue (has_no_end words) → WordOutcome c (codes "$timescale" ∷ words) end_word
+timescale_ends : (c : Context) (words : List (List ℕ)) → IsFalse c.changing → IsTrue (has_no_end_word words) → WordOutcome c (codes "$timescale" ∷ words) end_word
 timescale_ends c words declares no_end =
     elim (cases_Option (timescale_of words)) [
       | inl none ↦ shows_fault BadTimescale (among_declarations declares (no_timescale words refl refl no_end none refl))
       | inr (t, found) ↦ ends_item (timescale words) refl (declares, no_end, is_some_by (timescale_of words) t found)
     ]
 
-scope_ends : (c : Context) (words : List (List ℕ)) → IsFalse c.changing → IsTrue (has_no_end words) → WordOutcome c (codes "$scope" ∷ words) end_word
+scope_ends : (c : Context) (words : List (List ℕ)) → IsFalse c.changing → IsTrue (has_no_end_word words) → WordOutcome c (codes "$scope" ∷ words) end_word
 scope_ends c [] declares no_end = shows_fault BadScope (among_declarations declares (no_kind refl refl refl))
 scope_ends c (kind ∷ words) declares no_end = ends_item (scope kind words) refl (declares, no_end)
 
 words_end : (c : Context) (keyword : List ℕ) (words : List (List ℕ)) → IsFalse c.changing
-    → IsTrue (is_one_of (codes "$timescale" ∷ codes "$scope" ∷ header_words) keyword) → IsTrue (has_no_end words) → WordOutcome c (keyword ∷ words) end_word
+    → IsTrue (is_one_of (codes "$timescale" ∷ codes "$scope" ∷ header_words) keyword) → IsTrue (has_no_end_word words) → WordOutcome c (keyword ∷ words) end_word
 words_end c keyword words declares is no_end =
     by_one_of (λ w. WordOutcome c (w ∷ words) end_word) (codes "$timescale" ∷ codes "$scope" ∷ header_words) keyword is (
       timescale_ends c words declares no_end,
@@ -166,7 +166,7 @@ words_end c keyword words declares is no_end =
       ),
     )
 
-declared_ends : (c : Context) (words : List (List ℕ)) (d : VariableDeclaration) → IsFalse c.changing → IsTrue (has_no_end words) → IsTrue (has_good_size words)
+declared_ends : (c : Context) (words : List (List ℕ)) (d : VariableDeclaration) → IsFalse c.changing → IsTrue (has_no_end_word words) → IsTrue (has_good_size words)
     → declaration_of c words ≡ Some d → WordOutcome c (codes "$var" ∷ words) end_word
 declared_ends c words d declares no_end good told =
     elim (cases_Bool (may_have_code (variable_of c d.code) d)) [
@@ -182,7 +182,7 @@ declared_ends c words d declares no_end good told =
       ]
     ]
 
-variable_ends : (c : Context) (words : List (List ℕ)) → IsFalse c.changing → IsTrue (has_no_end words) → IsTrue (has_good_size words) → WordOutcome c (codes "$var" ∷ words) end_word
+variable_ends : (c : Context) (words : List (List ℕ)) → IsFalse c.changing → IsTrue (has_no_end_word words) → IsTrue (has_good_size words) → WordOutcome c (codes "$var" ∷ words) end_word
 variable_ends c words declares no_end good =
     elim (cases_Option (declaration_of c words)) [
       | inl none ↦ shows_fault BadVar (among_declarations declares (no_variable words refl refl no_end good none refl))
@@ -190,12 +190,12 @@ variable_ends c words declares no_end good =
     ]
 
 -- the second word of a variable is its size
-variable_continues : (c : Context) (words : List (List ℕ)) (word : List ℕ) → IsFalse c.changing → IsTrue (has_no_end words) → IsTrue (has_good_size words) → IsFalse (is_end word)
+variable_continues : (c : Context) (words : List (List ℕ)) (word : List ℕ) → IsFalse c.changing → IsTrue (has_no_end_word words) → IsTrue (has_good_size words) → IsFalse (is_end_word word)
     → WordOutcome c (codes "$var" ∷ words) word
 variable_continues c [] word declares no_end good isnt = goes_on (variable_due (word ∷ []) declares refl (no_end_more [] word no_end isnt) refl)
 variable_continues c (kind ∷ []) word declares no_end good isnt =
     elim (cases_Bool (is_number word)) [
-      | inr no_number ↦ shows_fault BadVar (among_declarations declares (no_size kind refl (not-true (is_end kind) (and_parts _ _ no_end).0) no_number refl))
+      | inr no_number ↦ shows_fault BadVar (among_declarations declares (no_size kind refl (not-true (is_end_word kind) (and_parts _ _ no_end).0) no_number refl))
       | inl number ↦ goes_on (variable_due (kind ∷ word ∷ []) declares refl (no_end_more (kind ∷ []) word no_end isnt) number)
     ]
 variable_continues c (kind ∷ size ∷ words) word declares no_end good isnt =
@@ -203,14 +203,14 @@ variable_continues c (kind ∷ size ∷ words) word declares no_end good isnt =
 
 -- ---- the code of a change of two words
 
-vector_ends : (c : Context) (first : ℕ) (digits code : List ℕ) (d : VariableDeclaration) → IsTrue c.changing → IsTrue (is_among pair_letters first) → IsTrue (is_among vector_letters first)
+vector_ends : (c : Context) (first : ℕ) (digits code : List ℕ) (d : VariableDeclaration) → IsTrue c.changing → IsTrue (is_among pair_prefixes first) → IsTrue (is_among vector_prefixes first)
     → variable_of c code ≡ Some d → WordOutcome c ((first ∷ digits) ∷ []) code
 vector_ends c first digits code d changing pair is found =
-    let taken : IsTrue (takes_digits d digits) → WordOutcome c ((first ∷ digits) ∷ []) code =
-    λ takes. ends_item (vector first digits code) refl (changing, is, some_has (variable_of c code) (λ d. IsTrue (takes_digits d digits)) d found takes) in
+    let taken : IsTrue (takes_binary_number d digits) → WordOutcome c ((first ∷ digits) ∷ []) code =
+    λ takes. ends_item (vector first digits code) refl (changing, is, some_has (variable_of c code) (λ d. IsTrue (takes_binary_number d digits)) d found takes) in
     elim (cases_Bool (is_skipped d)) [
       | inl skipped ↦ taken (or_left (is_skipped d) _ skipped)
-      | inr kept ↦ elim (cases_Bool (is_value digits)) [
+      | inr kept ↦ elim (cases_Bool (is_binary_number digits)) [
         | inr isnt ↦ shows_fault BadChange (among_changes changing (no_value first digits d refl is found kept isnt refl))
         | inl value ↦ elim (cases_lt d.size (length digits)) [
           | inl long ↦ shows_fault ValueTooLong (among_changes changing (value_too_long first digits d refl is found kept value long refl))
@@ -220,11 +220,11 @@ vector_ends c first digits code d changing pair is found =
       ]
     ]
 
-pair_ends : (c : Context) (first : ℕ) (text code : List ℕ) → IsTrue c.changing → IsTrue (is_among pair_letters first) → WordOutcome c ((first ∷ text) ∷ []) code
+pair_ends : (c : Context) (first : ℕ) (text code : List ℕ) → IsTrue c.changing → IsTrue (is_among pair_prefixes first) → WordOutcome c ((first ∷ text) ∷ []) code
 pair_ends c first text code changing pair =
     elim (cases_Option (variable_of c code)) [
       | inl none ↦ shows_fault UnknownCode (among_changes changing (pair_of_none first text refl pair none refl))
-      | inr (d, found) ↦ elim (or_cases (is_among vector_letters first) (is_among dropped_letters first) (sym (list_any-append (nat_eq first) vector_letters dropped_letters) ∙ pair)) [
+      | inr (d, found) ↦ elim (or_cases (is_among vector_prefixes first) (is_among dropped_prefixes first) (sym (list_any-append (nat_eq first) vector_prefixes dropped_prefixes) ∙ pair)) [
         | inl letter ↦ vector_ends c first text code d changing pair letter found
         | inr letter ↦ ends_item (real_or_string first text code) refl (changing, letter, is_some_by (variable_of c code) d found)
       ]

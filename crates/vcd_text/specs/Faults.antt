@@ -2,12 +2,12 @@
 use Rattle.std.specs.Prelude.{◌≡◌, ℕ, ◌<◌, Bool, true, false, List, [], ◌∷◌, ◌++◌, length, Some, None, IsTrue, IsFalse, codes}
 use Rattle.vcd_text.specs.declared.fault.Fault.{Fault}
 use Rattle.vcd_text.specs.declared.fault.Fault.TheVariants.{Truncated, UnexpectedWord, BadTimescale, BadScope, UpscopeAtTop, BadVar, MixedCode, BadTime, TimeBackwards, BadChange, UnknownCode, ValueTooLong, TooManySignals}
-use Rattle.vcd_text.specs.Words.{PlacedWord, words_of, closed_words, end_line}
+use Rattle.vcd_text.specs.Words.{PlacedWord, words_of, closed_words, last_line}
 use Rattle.vcd_core.specs.Decimal.{is_number, number_of}
 use Rattle.vcd_core.specs.Word.{is_one_of}
-use Rattle.vcd_text.specs.Letters.{is_among, is_letter}
-use Rattle.vcd_text.specs.Items.{Item, spellings, end_word, is_end, has_no_end, declaring_words, header_words, begins_declaration, is_other, timescale_of, vector_letters, dropped_letters}
-use Rattle.vcd_text.specs.Grammar.{Context, VariableDeclaration, is_skipped, has_good_size, declaration_of, variable_of, may_have_code, has_room, is_tick, is_value, nothing_told, word_texts, AllowsAll, told_after}
+use Rattle.vcd_text.specs.Letters.{is_among, is_binary_digit}
+use Rattle.vcd_text.specs.Items.{Item, spellings, end_word, is_end_word, has_no_end_word, declaring_words, header_words, begins_declaration, is_other, timescale_of, vector_prefixes, dropped_prefixes}
+use Rattle.vcd_text.specs.Grammar.{Context, VariableDeclaration, is_skipped, has_good_size, declaration_of, variable_of, may_have_code, has_room, is_tick, is_binary_number, nothing_told, word_texts, AllowsAll, told_after}
 
 -- ---- the rows: the words `begun` of an item that is not whole show no fault, and the word behind them shows this one
 
@@ -18,7 +18,7 @@ pub data DeclarationFault (c : Context) (begun : List (List ℕ)) (word : List �
       → fault ≡ UnexpectedWord → DeclarationFault c begun word fault
   -- at its `$end`: a `$timescale` that is none
   no_timescale : (words : List (List ℕ)) → begun ≡ codes "$timescale" ∷ words → word ≡ end_word
-      → IsTrue (has_no_end words) → timescale_of words ≡ None
+      → IsTrue (has_no_end_word words) → timescale_of words ≡ None
       → fault ≡ BadTimescale → DeclarationFault c begun word fault
   -- `$end` in the place of a scope's kind
   no_kind : begun ≡ codes "$scope" ∷ [] → word ≡ end_word
@@ -27,32 +27,32 @@ pub data DeclarationFault (c : Context) (begun : List (List ℕ)) (word : List �
   upscope_at_top : begun ≡ [] → word ≡ codes "$upscope" → c.scopes ≡ []
       → fault ≡ UpscopeAtTop → DeclarationFault c begun word fault
   -- another word than `$end` behind `$upscope`
-  upscope_goes_on : begun ≡ codes "$upscope" ∷ [] → IsFalse (is_end word) → 0 < length c.scopes
+  upscope_goes_on : begun ≡ codes "$upscope" ∷ [] → IsFalse (is_end_word word) → 0 < length c.scopes
       → fault ≡ UnexpectedWord → DeclarationFault c begun word fault
   -- a size that is no decimal number
-  no_size : (kind : List ℕ) → begun ≡ codes "$var" ∷ kind ∷ [] → IsFalse (is_end kind) → IsFalse (is_number word)
+  no_size : (kind : List ℕ) → begun ≡ codes "$var" ∷ kind ∷ [] → IsFalse (is_end_word kind) → IsFalse (is_number word)
       → fault ≡ BadVar → DeclarationFault c begun word fault
   -- `$end` in the place of a variable's kind, size, code or name
   no_variable : (words : List (List ℕ)) → begun ≡ codes "$var" ∷ words → word ≡ end_word
-      → IsTrue (has_no_end words) → IsTrue (has_good_size words) → declaration_of c words ≡ None
+      → IsTrue (has_no_end_word words) → IsTrue (has_good_size words) → declaration_of c words ≡ None
       → fault ≡ BadVar → DeclarationFault c begun word fault
   -- at its `$end`: a variable that does not agree with the one that has its code
   code_mixed : (words : List (List ℕ)) (d : VariableDeclaration) → begun ≡ codes "$var" ∷ words → word ≡ end_word
-      → IsTrue (has_no_end words) → IsTrue (has_good_size words) → declaration_of c words ≡ Some d
+      → IsTrue (has_no_end_word words) → IsTrue (has_good_size words) → declaration_of c words ≡ Some d
       → IsFalse (may_have_code (variable_of c d.code) d)
       → fault ≡ MixedCode → DeclarationFault c begun word fault
   -- at its `$end`: one signal too many
   no_room : (words : List (List ℕ)) (d : VariableDeclaration) → begun ≡ codes "$var" ∷ words → word ≡ end_word
-      → IsTrue (has_no_end words) → IsTrue (has_good_size words) → declaration_of c words ≡ Some d
+      → IsTrue (has_no_end_word words) → IsTrue (has_good_size words) → declaration_of c words ≡ Some d
       → IsTrue (may_have_code (variable_of c d.code) d) → IsFalse (has_room c.declared d)
       → fault ≡ TooManySignals → DeclarationFault c begun word fault
   -- another word than `$end` behind `$enddefinitions`
-  definitions_go_on : begun ≡ codes "$enddefinitions" ∷ [] → IsFalse (is_end word)
+  definitions_go_on : begun ≡ codes "$enddefinitions" ∷ [] → IsFalse (is_end_word word)
       → fault ≡ UnexpectedWord → DeclarationFault c begun word fault
 
--- the letters with which a change of two words begins
-abbrev pub pair_letters : List ℕ
-pair_letters = vector_letters ++ dropped_letters
+-- the bytes with which a change of two words begins
+abbrev pub pair_prefixes : List ℕ
+pair_prefixes = vector_prefixes ++ dropped_prefixes
 
 -- among the changes
 pub data ChangeFault (c : Context) (begun : List (List ℕ)) (word : List ℕ) (fault : Fault) : Type 0 where
@@ -62,31 +62,31 @@ pub data ChangeFault (c : Context) (begun : List (List ℕ)) (word : List ℕ) (
   -- a stamp below the one before it
   tick_goes_back : (digits : List ℕ) → begun ≡ [] → word ≡ 35 ∷ digits → IsTrue (is_tick digits) → number_of digits < c.tick
       → fault ≡ TimeBackwards → ChangeFault c begun word fault
-  -- a value letter without a code
-  letter_alone : (letter : ℕ) → begun ≡ [] → word ≡ letter ∷ [] → IsTrue (is_letter letter)
+  -- a binary digit without a code
+  value_alone : (digit : ℕ) → begun ≡ [] → word ≡ digit ∷ [] → IsTrue (is_binary_digit digit)
       → fault ≡ BadChange → ChangeFault c begun word fault
-  -- a value letter with a code that was not declared
-  letter_of_none : (letter : ℕ) (code : List ℕ) → begun ≡ [] → word ≡ letter ∷ code → IsTrue (is_letter letter)
+  -- a binary digit with a code that was not declared
+  value_of_none : (digit : ℕ) (code : List ℕ) → begun ≡ [] → word ≡ digit ∷ code → IsTrue (is_binary_digit digit)
       → 0 < length code → variable_of c code ≡ None
       → fault ≡ UnknownCode → ChangeFault c begun word fault
   -- a change of two words with a code that was not declared
-  pair_of_none : (first : ℕ) (text : List ℕ) → begun ≡ (first ∷ text) ∷ [] → IsTrue (is_among pair_letters first)
+  pair_of_none : (first : ℕ) (text : List ℕ) → begun ≡ (first ∷ text) ∷ [] → IsTrue (is_among pair_prefixes first)
       → variable_of c word ≡ None
       → fault ≡ UnknownCode → ChangeFault c begun word fault
-  -- no digit, or one that is no value letter, for a variable that is kept
-  no_value : (first : ℕ) (digits : List ℕ) (d : VariableDeclaration) → begun ≡ (first ∷ digits) ∷ [] → IsTrue (is_among vector_letters first)
-      → variable_of c word ≡ Some d → IsFalse (is_skipped d) → IsFalse (is_value digits)
+  -- no digit, or one that is no binary digit, for a variable that is kept
+  no_value : (first : ℕ) (digits : List ℕ) (d : VariableDeclaration) → begun ≡ (first ∷ digits) ∷ [] → IsTrue (is_among vector_prefixes first)
+      → variable_of c word ≡ Some d → IsFalse (is_skipped d) → IsFalse (is_binary_number digits)
       → fault ≡ BadChange → ChangeFault c begun word fault
   -- more digits than the variable has bits
-  value_too_long : (first : ℕ) (digits : List ℕ) (d : VariableDeclaration) → begun ≡ (first ∷ digits) ∷ [] → IsTrue (is_among vector_letters first)
-      → variable_of c word ≡ Some d → IsFalse (is_skipped d) → IsTrue (is_value digits) → d.size < length digits
+  value_too_long : (first : ℕ) (digits : List ℕ) (d : VariableDeclaration) → begun ≡ (first ∷ digits) ∷ [] → IsTrue (is_among vector_prefixes first)
+      → variable_of c word ≡ Some d → IsFalse (is_skipped d) → IsTrue (is_binary_number digits) → d.size < length digits
       → fault ≡ ValueTooLong → ChangeFault c begun word fault
   -- a word of the declarations
   declaration_late : begun ≡ [] → IsTrue (is_one_of declaring_words word)
       → fault ≡ UnexpectedWord → ChangeFault c begun word fault
   -- a word that begins no change
   no_change : (first : ℕ) (text : List ℕ) → begun ≡ [] → word ≡ first ∷ text
-      → IsFalse (is_letter first) → IsFalse (is_among (codes "#$" ++ pair_letters) first)
+      → IsFalse (is_binary_digit first) → IsFalse (is_among (codes "#$" ++ pair_prefixes) first)
       → fault ≡ BadChange → ChangeFault c begun word fault
 
 -- among the declarations or the changes, whichever a file has come to
@@ -100,19 +100,19 @@ pub data IsUnfinished (c : Context) (begun : List (List ℕ)) : Type 0 where
   declaration_due : IsFalse c.changing → begun ≡ [] → IsUnfinished c begun
   -- words up to the `$end` of a header entry, a timescale or a scope
   words_due : (word : List ℕ) (words : List (List ℕ)) → IsFalse c.changing → begun ≡ word ∷ words
-      → IsTrue (is_one_of (codes "$timescale" ∷ codes "$scope" ∷ header_words) word) → IsTrue (has_no_end words) → IsUnfinished c begun
+      → IsTrue (is_one_of (codes "$timescale" ∷ codes "$scope" ∷ header_words) word) → IsTrue (has_no_end_word words) → IsUnfinished c begun
   -- the `$end` of `$upscope`
   upscope_due : IsFalse c.changing → begun ≡ codes "$upscope" ∷ [] → 0 < length c.scopes → IsUnfinished c begun
   -- words up to the `$end` of a `$var`
   variable_due : (words : List (List ℕ)) → IsFalse c.changing → begun ≡ codes "$var" ∷ words
-      → IsTrue (has_no_end words) → IsTrue (has_good_size words) → IsUnfinished c begun
+      → IsTrue (has_no_end_word words) → IsTrue (has_good_size words) → IsUnfinished c begun
   -- the `$end` of `$enddefinitions`
   definitions_due : IsFalse c.changing → begun ≡ codes "$enddefinitions" ∷ [] → IsUnfinished c begun
   -- the code of a change of two words
-  code_due : (first : ℕ) (text : List ℕ) → IsTrue c.changing → begun ≡ (first ∷ text) ∷ [] → IsTrue (is_among pair_letters first) → IsUnfinished c begun
+  code_due : (first : ℕ) (text : List ℕ) → IsTrue c.changing → begun ≡ (first ∷ text) ∷ [] → IsTrue (is_among pair_prefixes first) → IsUnfinished c begun
   -- words up to the `$end` of any other command
   other_due : (word : List ℕ) (words : List (List ℕ)) → begun ≡ word ∷ words
-      → IsTrue (is_other c.changing word) → IsTrue (has_no_end words) → IsUnfinished c begun
+      → IsTrue (is_other c.changing word) → IsTrue (has_no_end_word words) → IsUnfinished c begun
 
 -- ---- files
 
@@ -146,7 +146,7 @@ pub record Stops (words : List PlacedWord) : Type 0 where
 -- the file has this fault, with this line: a word shows it, or the end comes too early
 pub data FileFault (bytes : List ℕ) (line : ℕ) (fault : Fault) : Type 0 where
   shown : ShowsFault (words_of bytes) line fault → FileFault bytes line fault
-  too_early : Stops (words_of bytes) → line ≡ end_line bytes → fault ≡ Truncated → FileFault bytes line fault
+  too_early : Stops (words_of bytes) → line ≡ last_line bytes → fault ≡ Truncated → FileFault bytes line fault
 
 -- a closed word of this front of a file shows this fault, with this line, whatever follows the front
 abbrev pub FrontFault : List ℕ → ℕ → Fault → Type 0

@@ -10,8 +10,8 @@ use Rattle.vcd_core.specs.declared.capture.TheConstants.{END_LIMIT, SIGNAL_LIMIT
 use Rattle.vcd_core.specs.Word.{is_skipped_kind, is_one_of}
 use Rattle.vcd_text.specs.Words.{PlacedWord}
 use Rattle.vcd_core.specs.Decimal.{is_number, number_of}
-use Rattle.vcd_text.specs.Letters.{is_among, is_letter, letters_read}
-use Rattle.vcd_text.specs.Items.{Item, entry, timescale, scope, upscope, variable, end_definitions, stamp, scalar, vector, real_or_string, bracket, other, spellings, has_no_end, dump_words, is_other, timescale_of, vector_letters, dropped_letters}
+use Rattle.vcd_text.specs.Letters.{is_among, is_binary_digit, letters_of_digits}
+use Rattle.vcd_text.specs.Items.{Item, entry, timescale, scope, upscope, variable, end_definitions, stamp, scalar, vector, real_or_string, bracket, other, spellings, has_no_end_word, dump_words, is_other, timescale_of, vector_prefixes, dropped_prefixes}
 
 -- ---- what a file tells
 
@@ -90,33 +90,33 @@ has_room declared d = is_skipped d || nat_lt (length (kept_variables declared)) 
 abbrev pub is_tick : List ℕ → Bool
 is_tick digits = is_number digits && nat_le (number_of digits) END_LIMIT
 
--- whether a text is one or more value letters
-abbrev pub is_value : List ℕ → Bool
-is_value digits = not (length digits == 0) && list_all is_letter digits
+-- whether a text is a binary number: one or more binary digits, and nothing else
+abbrev pub is_binary_number : List ℕ → Bool
+is_binary_number digits = not (length digits == 0) && list_all is_binary_digit digits
 
 -- whether a variable takes these digits: a skipped one any, another one a value that is not too long
-abbrev pub takes_digits : VariableDeclaration → List ℕ → Bool
-takes_digits d digits = is_skipped d || (is_value digits && nat_le (length digits) d.size)
+abbrev pub takes_binary_number : VariableDeclaration → List ℕ → Bool
+takes_binary_number d digits = is_skipped d || (is_binary_number digits && nat_le (length digits) d.size)
 
 -- ---- what an item asks for
 
 -- behind what has been told an item gets what it asks for
 abbrev pub Allows : Context → Item → Type 0
-Allows c (entry kind words) = IsFalse c.changing × IsTrue (has_no_end words)
-Allows c (timescale words) = IsFalse c.changing × IsTrue (has_no_end words) × IsSome (timescale_of words)
-Allows c (scope kind words) = IsFalse c.changing × IsTrue (has_no_end (kind ∷ words))
+Allows c (entry kind words) = IsFalse c.changing × IsTrue (has_no_end_word words)
+Allows c (timescale words) = IsFalse c.changing × IsTrue (has_no_end_word words) × IsSome (timescale_of words)
+Allows c (scope kind words) = IsFalse c.changing × IsTrue (has_no_end_word (kind ∷ words))
 Allows c upscope = IsFalse c.changing × (0 < length c.scopes)
 Allows c (variable words) =
-    IsFalse c.changing × IsTrue (has_no_end words) × IsTrue (has_good_size words)
+    IsFalse c.changing × IsTrue (has_no_end_word words) × IsTrue (has_good_size words)
     × IsSomeAnd (declaration_of c words) (λ d. IsTrue (may_have_code (variable_of c d.code) d) × IsTrue (has_room c.declared d))
 Allows c end_definitions = IsFalse c.changing
 Allows c (stamp digits) = IsTrue c.changing × IsTrue (is_tick digits) × (c.tick ≤ number_of digits)
-Allows c (scalar letter code) = IsTrue c.changing × IsTrue (is_letter letter) × (0 < length code) × IsSome (variable_of c code)
+Allows c (scalar digit code) = IsTrue c.changing × IsTrue (is_binary_digit digit) × (0 < length code) × IsSome (variable_of c code)
 Allows c (vector first digits code) =
-    IsTrue c.changing × IsTrue (is_among vector_letters first) × IsSomeAnd (variable_of c code) (λ d. IsTrue (takes_digits d digits))
-Allows c (real_or_string first text code) = IsTrue c.changing × IsTrue (is_among dropped_letters first) × IsSome (variable_of c code)
+    IsTrue c.changing × IsTrue (is_among vector_prefixes first) × IsSomeAnd (variable_of c code) (λ d. IsTrue (takes_binary_number d digits))
+Allows c (real_or_string first text code) = IsTrue c.changing × IsTrue (is_among dropped_prefixes first) × IsSome (variable_of c code)
 Allows c (bracket word) = IsTrue c.changing × IsTrue (is_one_of dump_words word)
-Allows c (other word words) = IsTrue (is_other c.changing word) × IsTrue (has_no_end words)
+Allows c (other word words) = IsTrue (is_other c.changing word) × IsTrue (has_no_end_word words)
 
 -- ---- what an item adds
 
@@ -138,8 +138,8 @@ told_after_item c upscope = record c { scopes = take (length c.scopes - 1) c.sco
 told_after_item c (variable words) = record c { declared = c.declared ++ option_to_list (declaration_of c words) }
 told_after_item c end_definitions = record c { changing = true }
 told_after_item c (stamp digits) = record c { tick = number_of digits }
-told_after_item c (scalar letter code) = with_recorded_change c code (letters_read (letter ∷ []))
-told_after_item c (vector first digits code) = with_recorded_change c code (letters_read digits)
+told_after_item c (scalar digit code) = with_recorded_change c code (letters_of_digits (digit ∷ []))
+told_after_item c (vector first digits code) = with_recorded_change c code (letters_of_digits digits)
 told_after_item c (real_or_string first text code) = c
 told_after_item c (bracket word) = c
 told_after_item c (other word words) = c
@@ -166,4 +166,4 @@ pub record Accepts (words : List PlacedWord) (told : Context) : Type 0 where
   pub spelled : word_texts words ≡ spellings items
   pub allowed : AllowsAll nothing_told items
   pub tells : told_after nothing_told items ≡ told
-  pub declared : IsTrue told.changing
+  pub definitions_ended : IsTrue told.changing

@@ -15,12 +15,12 @@ abbrev pub end_word : List ℕ
 end_word = codes "$end"
 
 -- whether a word is `$end`
-abbrev pub is_end : List ℕ → Bool
-is_end word = bytes_eq word end_word
+abbrev pub is_end_word : List ℕ → Bool
+is_end_word word = bytes_eq word end_word
 
 -- whether none of the words is `$end`
-abbrev pub has_no_end : List (List ℕ) → Bool
-has_no_end words = list_all (λ word. not (is_end word)) words
+abbrev pub has_no_end_word : List (List ℕ) → Bool
+has_no_end_word words = list_all (λ word. not (is_end_word word)) words
 
 -- the words of the changes alone: the brackets of a dump, `$end` being the closing one
 abbrev pub dump_words : List (List ℕ)
@@ -54,17 +54,17 @@ abbrev pub is_other : (changing : Bool) → List ℕ → Bool
 is_other changing word =
     begins_declaration word && not (is_one_of declaring_words word) && (changing || not (is_one_of header_words word))
 
--- the letters with which a change of several bits begins
-abbrev pub vector_letters : List ℕ
-vector_letters = codes "bB"
+-- the bytes with which a change of several bits begins
+abbrev pub vector_prefixes : List ℕ
+vector_prefixes = codes "bB"
 
 -- those of changes of real numbers and strings
-abbrev pub dropped_letters : List ℕ
-dropped_letters = codes "rRsS"
+abbrev pub dropped_prefixes : List ℕ
+dropped_prefixes = codes "rRsS"
 
 -- ---- timescales
 
--- the letters of a unit of time
+-- a unit of time as it is spelled
 abbrev pub unit_text : TimeUnit → List ℕ
 unit_text Second = codes "s"
 unit_text Millisecond = codes "ms"
@@ -103,9 +103,9 @@ pub data Item : Type 0 where
   end_definitions : Item
   -- one word: `#` and the digits of a tick
   stamp : (digits : List ℕ) → Item
-  -- one word: a value letter and the code
-  scalar : (letter : ℕ) → (code : List ℕ) → Item
-  -- two words: `b` or `B` and value letters, and the code
+  -- one word: a binary digit and the code
+  scalar : (digit : ℕ) → (code : List ℕ) → Item
+  -- two words: `b` or `B` and binary digits, and the code
   vector : (first : ℕ) → (digits code : List ℕ) → Item
   -- two words: `r`, `R`, `s` or `S` and anything, and the code
   real_or_string : (first : ℕ) → (text code : List ℕ) → Item
@@ -123,7 +123,7 @@ spelling upscope = codes "$upscope" ∷ end_word ∷ []
 spelling (variable words) = codes "$var" ∷ words ++ end_word ∷ []
 spelling end_definitions = codes "$enddefinitions" ∷ end_word ∷ []
 spelling (stamp digits) = (35 ∷ digits) ∷ []
-spelling (scalar letter code) = (letter ∷ code) ∷ []
+spelling (scalar digit code) = (digit ∷ code) ∷ []
 spelling (vector first digits code) = (first ∷ digits) ∷ code ∷ []
 spelling (real_or_string first text code) = (first ∷ text) ∷ code ∷ []
 spelling (bracket word) = word ∷ []

@@ -1,4 +1,4 @@
--- Letters of values, their extension and their short form (IEEE 1364-2005, 18.2).
+-- Binary digits, the letters that they write, their extension and their short form (IEEE 1364-2005, 18.2).
 use Rattle.std.specs.Prelude.{ℕ, ◌-◌, Bool, if◌then◌else◌, List, [], ◌∷◌, ◌++◌, nat_eq, length, map, replicate, find, Option, Some, None, is_some, unwrap_or, codes}
 use Rattle.std.specs.List.{list_any}
 use Rattle.vcd_core.specs.declared.bit.Bit.{Bit}
@@ -9,28 +9,28 @@ use Rattle.vcd_core.specs.Value.{same_letters, printed_letter}
 abbrev pub is_among : List ℕ → ℕ → Bool
 is_among bytes b = list_any (nat_eq b) bytes
 
--- what a value letter is read as: 0 1 x X z Z by IEEE 1364-2005, 18.2; the others are the project's own, for files of VHDL simulators
-abbrev pub letter_read : ℕ → Option Bit
-letter_read b =
+-- the letter that a binary digit writes: 0 1 x X z Z by IEEE 1364-2005, 18.2; the others are the project's own, for files of VHDL simulators
+abbrev pub letter_of_digit : ℕ → Option Bit
+letter_of_digit b =
     if is_among (codes "0lL") b then Some Zero
     else (if is_among (codes "1hH") b then Some One
     else (if is_among (codes "xXuUwW-") b then Some X
     else (if is_among (codes "zZ") b then Some Z
     else None)))
 
--- whether a byte is a value letter
-abbrev pub is_letter : ℕ → Bool
-is_letter b = is_some (letter_read b)
+-- whether a byte is a binary digit
+abbrev pub is_binary_digit : ℕ → Bool
+is_binary_digit b = is_some (letter_of_digit b)
 
--- the letters that a text of value letters is read as
-abbrev pub letters_read : List ℕ → List Bit
-letters_read text = map (λ b. unwrap_or (letter_read b) X) text
+-- the letters that binary digits write
+abbrev pub letters_of_digits : List ℕ → List Bit
+letters_of_digits digits = map (λ b. unwrap_or (letter_of_digit b) X) digits
 
 -- letters as they are printed
 abbrev pub printed_letters : List Bit → List ℕ
 printed_letters letters = map printed_letter letters
 
--- what is put on the left of a text: 0 where its leftmost letter is 0 or 1, else that letter (18.2); no text that is read is empty
+-- what is put on the left of letters: 0 where the leftmost is 0 or 1, else the leftmost (18.2); no list that is read is empty
 abbrev pub pad_letter : List Bit → Bit
 pad_letter [] = X
 pad_letter (Zero ∷ s) = Zero
@@ -38,7 +38,7 @@ pad_letter (One ∷ s) = Zero
 pad_letter (X ∷ s) = X
 pad_letter (Z ∷ s) = Z
 
--- a text extended on the left to a width (18.2)
+-- letters extended on the left to a width (18.2)
 abbrev pub extension : ℕ → List Bit → List Bit
 extension width s = replicate (width - length s) (pad_letter s) ++ s
 

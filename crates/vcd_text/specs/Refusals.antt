@@ -4,7 +4,7 @@ use Rattle.vcd_text.specs.declared.reading.TheConstants.{FILE_LIMIT}
 use Rattle.vcd_text.specs.declared.fault.Fault.{Fault}
 use Rattle.vcd_text.specs.declared.fault.Fault.TheVariants as faults
 use Rattle.vcd_text.specs.declared.fault.ReadError.{ReadError}
-use Rattle.vcd_text.specs.Words.{end_line}
+use Rattle.vcd_text.specs.Words.{last_line}
 use Rattle.vcd_text.specs.Faults.{FileFault, FrontFault, HasNoFrontFault}
 
 -- the answer where memory runs out: no line
@@ -14,7 +14,7 @@ memory_error = record { line = 0; fault = faults.NoMemory }
 -- only this front of a file is known, for this reason: a fault of its closed words, or the reason itself, at the line that the front ends on
 pub data IsFrontAnswer (front : List ℕ) (reason : Fault) (e : ReadError) : Type 0 where
   shown : FrontFault front e.line e.fault → IsFrontAnswer front reason e
-  no_fault : HasNoFrontFault front → e ≡ record { line = end_line front; fault = reason } → IsFrontAnswer front reason e
+  no_fault : HasNoFrontFault front → e ≡ record { line = last_line front; fault = reason } → IsFrontAnswer front reason e
 
 -- the answer to a file, of a reader that has failed or not, with these bytes left where it tells them
 pub data IsRefusal (file : List ℕ) (failed : Bool) (left : Option (List ℕ)) (e : ReadError) : Type 0 where

@@ -45,5 +45,5 @@ abbrev pub closed_words : List ℕ → List PlacedWord
 closed_words bytes = words_from false 1 bytes
 
 -- the line of the end of a file: 1 plus all its line feeds
-abbrev pub end_line : List ℕ → ℕ
-end_line bytes = 1 + count_by (λ b. b == 10) bytes
+abbrev pub last_line : List ℕ → ℕ
+last_line bytes = 1 + count_by (λ b. b == 10) bytes

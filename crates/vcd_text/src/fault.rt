@@ -36,7 +36,7 @@ pub enum Fault {
     BadTime,
     /// A time stamp below the one before it.
     TimeBackwards,
-    /// A change that is none, or without its code, or with a letter that is no value.
+    /// A change that is none, or without its code, or with a byte that is no binary digit.
     BadChange,
     /// A change of a code that no `$var` declared.
     UnknownCode,

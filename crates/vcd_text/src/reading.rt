@@ -7,7 +7,7 @@ ghost use Rattle.std.specs.Prelude.{◌≡◌, ◌⊎◌, ◌<◌, ◌≤◌, �
 ghost use Rattle.std.specs.Io.KnownBytes.{IsAtEnd};
 ghost use Rattle.vcd_core.specs.Contents.{contents};
 ghost use Rattle.vcd_core.specs.Sound.{IsSound};
-ghost use Rattle.vcd_text.specs.Words.{end_line};
+ghost use Rattle.vcd_text.specs.Words.{last_line};
 ghost use Rattle.vcd_text.specs.Meaning.{FileMeans};
 ghost use Rattle.vcd_text.specs.Faults.{FileFault};
 ghost use Rattle.vcd_text.specs.Refusals.{memory_error, IsFrontAnswer, IsRefusal};
@@ -18,7 +18,7 @@ mod copies;
 mod decimal;
 mod declarations;
 mod keywords;
-mod letters;
+mod binary_number;
 mod reader;
 mod timescale;
 mod variables;
@@ -119,7 +119,7 @@ fn read_words(reader: &mut Reader, alloc: Global, all: Words) -> Result<(), Read
 
 /// A fault at the line on which the bytes end.
 fn error_at_end(bytes: &[u8], fault: Fault) -> ReadError
-    ensures line { result.line ≡ end_line bytes.now }
+    ensures line { result.line ≡ last_line bytes.now }
     ensures fault { result.fault ≡ fault }
 {
     let feeds = bytes.iter().filter(|byte| **byte == b'\n').count();

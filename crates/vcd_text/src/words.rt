@@ -34,11 +34,11 @@ impl<'a> Model for Words<'a> {
 
     ghost Value = { List PlacedWord };
 
-    ghost use Rattle.vcd_text.specs.inside.WordWalk.{words_left, HasRoom};
+    ghost use Rattle.vcd_text.specs.inside.WordWalk.{words_left, LinesFit};
 
     ghost view = { words_left };
 
-    ghost invariant = { HasRoom };
+    ghost invariant = { LinesFit };
 }
 
 impl<'a> Words<'a> {

@@ -27,7 +27,7 @@ $upscope $end|$enddefinitions $end|#0|$dumpvars|1!|1\"|$end|#3|0!|0\"|
 0: $var\x0bwire\x0c01\r!\ta|$end $enddefinitions\t$end|\
 #00000000000000000000000000000000000000000000005\x0b1!\x0c#4000000000000000000\r \
 => $var wire 1 ! a $end|$enddefinitions $end|#0|$dumpvars|x!|$end|#5|1!|#4000000000000000000|
--- each value letter, and one letter for a wider variable
+-- each binary digit, and one digit for a wider variable
 0: $var reg 15 v v $end $var integer 3 ! i [2:0] $end $enddefinitions $end|\
 b01xXzZlLhHuUwW- v #1 z! 1v #2 B1|! L! #3 h! #4 b01 ! -v #5 B110 ! Zv \
 => $var reg 15 ! v $end|$var integer 3 \" i [2:0] $end|$enddefinitions $end|#0|$dumpvars|\

@@ -9,7 +9,7 @@ use Rattle.vcd_text.specs.Words.{PlacedWord, words_of}
 use Rattle.vcd_text.specs.Meaning.{FileMeans}
 use Rattle.vcd_text.specs.inside.OpenItems.{is_nothing}
 use Rattle.vcd_text.specs.Letters.{is_among}
-use Rattle.vcd_text.specs.Items.{Item, spelling, spellings, has_no_end, header_word, is_other, vector_letters, dropped_letters}
+use Rattle.vcd_text.specs.Items.{Item, spelling, spellings, has_no_end_word, header_word, is_other, vector_prefixes, dropped_prefixes}
 use Rattle.vcd_text.specs.Grammar.{Context, Allows, AllowsAll, told_after, told_after_item, nothing_told, word_texts, has_good_size}
 use Rattle.vcd_text.specs.Faults.{WordFault, ShowsFault}
 use Rattle.vcd_text.specs.Refusals.{memory_error}
@@ -34,7 +34,7 @@ pub record Agrees (m : Reader) (c : Context) : Type 0 where
 pub record Collects (m : Reader) (begun : List PlacedWord) (keyword : List ℕ) : Type 0 where
   pub declares : IsFalse m.changing
   pub spelled : word_texts begun ≡ keyword ∷ m.words.items
-  pub no_end : IsTrue (has_no_end m.words.items)
+  pub no_end : IsTrue (has_no_end_word m.words.items)
 
 -- another command is open
 pub record PassesOver (m : Reader) (begun : List PlacedWord) : Type 0 where
@@ -42,7 +42,7 @@ pub record PassesOver (m : Reader) (begun : List PlacedWord) : Type 0 where
   pub words : List (List ℕ)
   pub spelled : word_texts begun ≡ keyword ∷ words
   pub other : IsTrue (is_other m.changing keyword)
-  pub no_end : IsTrue (has_no_end words)
+  pub no_end : IsTrue (has_no_end_word words)
 
 -- a change of two words is open, the first of which has one of these letters and then this text
 pub record AwaitsCode (m : Reader) (begun : List PlacedWord) (letters text : List ℕ) : Type 0 where
@@ -64,8 +64,8 @@ IsBegun m begun items.Upscope = IsFalse m.changing × (word_texts begun ≡ code
 IsBegun m begun items.Variable = Collects m begun (codes "$var") × IsTrue (has_good_size m.words.items)
 IsBegun m begun items.EndDefinitions = IsFalse m.changing × (word_texts begun ≡ codes "$enddefinitions" ∷ [])
 IsBegun m begun items.Other = PassesOver m begun
-IsBegun m begun items.Vector = AwaitsCode m begun vector_letters m.text.items
-IsBegun m begun items.Dropped = (text : List ℕ) × AwaitsCode m begun dropped_letters text
+IsBegun m begun items.Vector = AwaitsCode m begun vector_prefixes m.text.items
+IsBegun m begun items.Dropped = (text : List ℕ) × AwaitsCode m begun dropped_prefixes text
 
 -- behind whole items that have told this, these words of an open item have been taken
 abbrev pub At : Reader → Context → List PlacedWord → Type 0

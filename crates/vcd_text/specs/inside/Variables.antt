@@ -9,9 +9,9 @@ use Rattle.vcd_core.specs.Contents.{signal_contents}
 use Rattle.vcd_core.specs.declared.capture.Signal.{Signal}
 use Rattle.vcd_text.specs.declared.fault.Fault.{Fault}
 use Rattle.vcd_text.specs.declared.fault.Fault.TheVariants as faults
-use Rattle.vcd_text.specs.Letters.{letters_read, extension}
+use Rattle.vcd_text.specs.Letters.{letters_of_digits, extension}
 use Rattle.vcd_text.specs.Items.{variable}
-use Rattle.vcd_text.specs.Grammar.{VariableDeclaration, RecordedChange, Context, is_skipped, kept_variables, declaration_of, variable_of, may_have_code, has_room, is_value, takes_digits, told_after_item, with_recorded_change}
+use Rattle.vcd_text.specs.Grammar.{VariableDeclaration, RecordedChange, Context, is_skipped, kept_variables, declaration_of, variable_of, may_have_code, has_room, is_binary_number, takes_binary_number, told_after_item, with_recorded_change}
 use Rattle.vcd_text.specs.Meaning.{recorded_value}
 use Rattle.vcd_text.specs.declared.reading.variables.Owner.{Owner}
 use Rattle.vcd_text.specs.declared.reading.variables.Owner.TheVariants.{Skipped, Kept}
@@ -99,34 +99,34 @@ Declares c words (Err fault) new = (fault ≡ faults.NoMemory) ⊎ VariableFault
 
 -- from the tick on a variable has the value of the digits
 pub record Sets (tick : ℕ) (digits : List ℕ) (old new : Variable) : Type 0 where
-  pub value : IsTrue (is_value digits)
+  pub value : IsTrue (is_binary_number digits)
   pub fits : length digits ≤ old.signal.wave.width
   pub same : declaration new ≡ declaration old
   pub same_first : new.first ≡ old.first
   pub ticks : All (λ (change : Change). change.tick ≤ tick) new.signal.wave.changes
   pub values : (t : ℕ) → value_at new.signal.wave.width new.signal.wave.changes t
-      ≡ (if nat_le tick t then extension old.signal.wave.width (letters_read digits) else value_at old.signal.wave.width old.signal.wave.changes t)
+      ≡ (if nat_le tick t then extension old.signal.wave.width (letters_of_digits digits) else value_at old.signal.wave.width old.signal.wave.changes t)
 
 -- a variable of this width does not take the digits
-abbrev pub RefusesDigits : (width : ℕ) → List ℕ → Fault → Type 0
-RefusesDigits width digits fault =
-    (IsFalse (is_value digits) × (fault ≡ faults.BadChange)) ⊎ (IsTrue (is_value digits) × (width < length digits) × (fault ≡ faults.ValueTooLong))
+abbrev pub RefusesBinaryNumber : (width : ℕ) → List ℕ → Fault → Type 0
+RefusesBinaryNumber width digits fault =
+    (IsFalse (is_binary_number digits) × (fault ≡ faults.BadChange)) ⊎ (IsTrue (is_binary_number digits) × (width < length digits) × (fault ≡ faults.ValueTooLong))
 
 -- ---- what comes of a change with these digits
 
 -- the code is none, or its variable does not take the digits
-pub data DigitsFault (c : Context) (code digits : List ℕ) (fault : Fault) : Type 0 where
-  unknown : variable_of c code ≡ None → fault ≡ faults.UnknownCode → DigitsFault c code digits fault
-  no_value : (d : VariableDeclaration) → variable_of c code ≡ Some d → IsFalse (is_skipped d) → IsFalse (is_value digits)
-      → fault ≡ faults.BadChange → DigitsFault c code digits fault
-  too_long : (d : VariableDeclaration) → variable_of c code ≡ Some d → IsFalse (is_skipped d) → IsTrue (is_value digits) → d.size < length digits
-      → fault ≡ faults.ValueTooLong → DigitsFault c code digits fault
+pub data BinaryNumberFault (c : Context) (code digits : List ℕ) (fault : Fault) : Type 0 where
+  unknown : variable_of c code ≡ None → fault ≡ faults.UnknownCode → BinaryNumberFault c code digits fault
+  no_value : (d : VariableDeclaration) → variable_of c code ≡ Some d → IsFalse (is_skipped d) → IsFalse (is_binary_number digits)
+      → fault ≡ faults.BadChange → BinaryNumberFault c code digits fault
+  too_long : (d : VariableDeclaration) → variable_of c code ≡ Some d → IsFalse (is_skipped d) → IsTrue (is_binary_number digits) → d.size < length digits
+      → fault ≡ faults.ValueTooLong → BinaryNumberFault c code digits fault
 
 -- what comes of the change: it is recorded, or shows a fault, or memory runs out
 abbrev pub TakesChange : Context → (code digits : List ℕ) → Result (Unit {0}) Fault → Variables → Type 0
 TakesChange c code digits (Ok x) new =
-    IsSomeAnd (variable_of c code) (λ d. IsTrue (takes_digits d digits)) × Knows new (with_recorded_change c code (letters_read digits))
-TakesChange c code digits (Err fault) new = (fault ≡ faults.NoMemory) ⊎ DigitsFault c code digits fault
+    IsSomeAnd (variable_of c code) (λ d. IsTrue (takes_binary_number d digits)) × Knows new (with_recorded_change c code (letters_of_digits digits))
+TakesChange c code digits (Err fault) new = (fault ≡ faults.NoMemory) ⊎ BinaryNumberFault c code digits fault
 
 -- ---- what comes of the variables at the end
 

@@ -8,5 +8,5 @@ abbrev pub words_left : Inside → List PlacedWord
 words_left w = words_from w.whole (w.passed + 1) w.rest.now
 
 -- each byte that is left may be a line feed, and none makes the count too great
-abbrev pub HasRoom : Inside → Type 0
-HasRoom w = w.passed + length {A = ℕ} w.rest.now < 2 ^ 64
+abbrev pub LinesFit : Inside → Type 0
+LinesFit w = w.passed + length {A = ℕ} w.rest.now < 2 ^ 64

@@ -5,19 +5,19 @@
 
 ghost use Rattle.std.specs.Prelude.{◌≡◌, ◌<◌, ◌∷◌, ℕ, List, true, false, length, Ok, codes};
 ghost use Rattle.vcd_text.specs.Words.{word_on};
-ghost use Rattle.vcd_text.specs.Letters.{is_among, is_letter as letter_test};
-ghost use Rattle.vcd_text.specs.Items.{is_command, vector_letters, dropped_letters};
+ghost use Rattle.vcd_text.specs.Letters.{is_among, is_binary_digit as digit_test};
+ghost use Rattle.vcd_text.specs.Items.{is_command, vector_prefixes, dropped_prefixes};
 ghost use Rattle.vcd_text.specs.inside.Reading.{IsUnderway, TakesOrRefuses};
 ghost use Rattle.vcd_text.specs.declared.reading.reader.OpenItem.TheVariants as items;
 
 use crate::fault::Fault;
 use crate::reading::decimal::tick_of;
 use crate::reading::keywords::{is_declaring, is_dump_word};
-use crate::reading::letters::is_letter;
+use crate::reading::binary_number::is_binary_digit;
 use crate::reading::reader::{OpenItem, Reader};
 
 impl Reader {
-    /// Takes a word between two changes, which stands on this line. By its first letter it is a stamp, a
+    /// Takes a word between two changes, which stands on this line. By its first byte it is a stamp, a
     /// command, or the first word of a change of a value; any other word is `BadChange`.
     pub fn begin_change(&mut self, text: &[u8], line: u64) -> Result<(), Fault>
         requires between { self.old.item ≡ items.Nothing }
@@ -70,7 +70,7 @@ impl Reader {
         Ok(())
     }
 
-    /// Takes the first word of a change of a value: this letter, and the rest.
+    /// Takes the first word of a change of a value: this byte, and the rest.
     fn begin_value(&mut self, first: u8, rest: &[u8], line: u64) -> Result<(), Fault>
         requires between { self.old.item ≡ items.Nothing }
         requires changing { self.old.changing ≡ true }
@@ -78,11 +78,11 @@ impl Reader {
         requires value { is_among (codes "#$") first ≡ false }
         ensures { TakesOrRefuses self.old (word_on (first ∷ rest.now) line) result self.new }
     {
-        if is_letter(first) {
+        if is_binary_digit(first) {
             self.set_bit(first, rest)
-        } else if is_vector_letter(first) {
+        } else if is_vector_prefix(first) {
             self.begin_vector(rest, line)
-        } else if is_dropped_letter(first) {
+        } else if is_dropped_prefix(first) {
             self.begin_dropped(line);
             Ok(())
         } else {
@@ -90,20 +90,20 @@ impl Reader {
         }
     }
 
-    /// Sets a code to the value that a letter stands for: `BadChange` where there is no code, `UnknownCode`
+    /// Sets a code to the value that a binary digit writes: `BadChange` where there is no code, `UnknownCode`
     /// where it was not declared.
-    fn set_bit(&mut self, letter: u8, code: &[u8]) -> Result<(), Fault>
+    fn set_bit(&mut self, digit: u8, code: &[u8]) -> Result<(), Fault>
         requires between { self.old.item ≡ items.Nothing }
         requires changing { self.old.changing ≡ true }
         requires reading { IsUnderway self.old }
-        requires letter { letter_test letter ≡ true }
+        requires digit { digit_test digit ≡ true }
         ensures { (line : ℕ) →
-            TakesOrRefuses self.old (word_on (letter ∷ code.now) line) result self.new }
+            TakesOrRefuses self.old (word_on (digit ∷ code.now) line) result self.new }
     {
         if code.is_empty() {
             return Err(Fault::BadChange);
         }
-        let digits = [letter];
+        let digits = [digit];
         self.variables.change(code, self.tick, digits.as_slice())
     }
 
@@ -111,7 +111,7 @@ impl Reader {
     fn begin_vector(&mut self, digits: &[u8], line: u64) -> Result<(), Fault>
         requires between { self.old.item ≡ items.Nothing }
         requires changing { self.old.changing ≡ true }
-        ensures { (first : ℕ) → is_among vector_letters first ≡ true →
+        ensures { (first : ℕ) → is_among vector_prefixes first ≡ true →
             TakesOrRefuses self.old (word_on (first ∷ digits.now) line) result self.new }
     {
         self.text.clear();
@@ -125,7 +125,7 @@ impl Reader {
     fn begin_dropped(&mut self, line: u64)
         requires between { self.old.item ≡ items.Nothing }
         requires changing { self.old.changing ≡ true }
-        ensures { (first : ℕ) (text : List ℕ) → is_among dropped_letters first ≡ true →
+        ensures { (first : ℕ) (text : List ℕ) → is_among dropped_prefixes first ≡ true →
             TakesOrRefuses self.old (word_on (first ∷ text) line) (Ok result) self.new }
     {
         self.item = OpenItem::Dropped;
@@ -157,16 +157,16 @@ impl Reader {
     }
 }
 
-/// Whether a change of several bits begins with this letter.
-fn is_vector_letter(letter: u8) -> bool
-    ensures { result ≡ is_among vector_letters letter }
+/// Whether a change of several bits begins with this byte.
+fn is_vector_prefix(byte: u8) -> bool
+    ensures { result ≡ is_among vector_prefixes byte }
 {
-    letter == b'b' || letter == b'B'
+    byte == b'b' || byte == b'B'
 }
 
-/// Whether a change of a real number or a string begins with this letter.
-fn is_dropped_letter(letter: u8) -> bool
-    ensures { result ≡ is_among dropped_letters letter }
+/// Whether a change of a real number or a string begins with this byte.
+fn is_dropped_prefix(byte: u8) -> bool
+    ensures { result ≡ is_among dropped_prefixes byte }
 {
-    letter == b'r' || letter == b'R' || letter == b's' || letter == b'S'
+    byte == b'r' || byte == b'R' || byte == b's' || byte == b'S'
 }

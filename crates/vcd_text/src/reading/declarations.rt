@@ -3,7 +3,7 @@
 ghost use Rattle.std.specs.Prelude.{◌≡◌, ◌∷◌, ◌++◌, ℕ, [], true, false, IsFalse, MatchOption, OnOk};
 ghost use Rattle.vcd_text.specs.Words.{word_on};
 ghost use Rattle.vcd_core.specs.Word.{is_one_of};
-ghost use Rattle.vcd_text.specs.Items.{end_word, is_end, declaring_words, header_words, begins_declaration};
+ghost use Rattle.vcd_text.specs.Items.{end_word, is_end_word, declaring_words, header_words, begins_declaration};
 ghost use Rattle.vcd_text.specs.inside.Reading.{IsUnderway, TakesOrRefuses};
 ghost use Rattle.vcd_text.specs.inside.OpenItems.{is_inside};
 ghost use Rattle.vcd_text.specs.inside.Opening.{Opens, keeps_words};
@@ -44,7 +44,7 @@ impl Reader {
     /// `UnexpectedWord` behind `$upscope` and `$enddefinitions`; `BadVar` for a size that is no decimal number.
     pub fn go_on(&mut self, alloc: Global, text: &[u8]) -> Result<(), Fault>
         requires inside { is_inside self.old.item ≡ true }
-        requires word { is_end text.now ≡ false }
+        requires word { is_end_word text.now ≡ false }
         ensures { (line : ℕ) → TakesOrRefuses self.old (word_on text.now line) result self.new }
     {
         match self.item {
@@ -58,7 +58,7 @@ impl Reader {
     /// Keeps a word of a header entry, a timescale or a scope.
     fn keep_word(&mut self, alloc: Global, text: &[u8]) -> Result<(), Fault>
         requires keeps { keeps_words self.old.item ≡ true }
-        requires word { is_end text.now ≡ false }
+        requires word { is_end_word text.now ≡ false }
         ensures { (line : ℕ) → TakesOrRefuses self.old (word_on text.now line) result self.new }
     {
         push_copy(alloc, &mut self.words, text)?;
@@ -68,7 +68,7 @@ impl Reader {
     /// Keeps a word of a variable. The second is its size.
     fn go_on_variable(&mut self, alloc: Global, text: &[u8]) -> Result<(), Fault>
         requires item { self.old.item ≡ items.Variable }
-        requires word { is_end text.now ≡ false }
+        requires word { is_end_word text.now ≡ false }
         ensures { (line : ℕ) → TakesOrRefuses self.old (word_on text.now line) result self.new }
     {
         if self.words.len() == 1 && size_of(text).is_none() {

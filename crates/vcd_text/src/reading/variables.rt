@@ -8,14 +8,14 @@ ghost use Rattle.vcd_core.specs.declared.value.TheConstants.{WIDTH_LIMIT};
 ghost use Rattle.vcd_core.specs.Word.{is_skipped_kind as skips_kind};
 ghost use Rattle.vcd_text.specs.Grammar.{Context, VariableDeclaration, variable_of, has_good_size, is_skipped};
 ghost use Rattle.vcd_text.specs.Meaning.{meaning};
-ghost use Rattle.vcd_text.specs.inside.Variables.{owner_of, declaration_by, Knows, Declares, DeclaresAs, TakesChange, Sets, RefusesDigits, Finishes};
+ghost use Rattle.vcd_text.specs.inside.Variables.{owner_of, declaration_by, Knows, Declares, DeclaresAs, TakesChange, Sets, RefusesBinaryNumber, Finishes};
 ghost use Rattle.vcd_text.specs.declared.fault.Fault.TheVariants.{NoMemory as NoMemoryFault, TooManySignals};
 ghost use Rattle.vcd_text.specs.declared.reading.variables.Owner.TheVariants.{Kept as KeptAt};
 
 use crate::fault::Fault;
 use crate::reading::copies::{copy_scopes, copy_word, copy_words};
 use crate::reading::decimal::size_of;
-use crate::reading::letters::{DigitsError, read_value};
+use crate::reading::binary_number::{BinaryNumberError, read_value};
 use indexmap::IndexMap;
 use std::alloc::Global;
 use vcd_core::{
@@ -39,12 +39,12 @@ impl Variable {
         requires late { All (λ change. change.tick ≤ tick) self.old.signal.wave.changes }
         ensures sets { OnOk result (Sets tick digits.now self.old self.new) }
         ensures refuses { IfErr result (λ fault. (fault ≡ NoMemoryFault) ⊎
-            RefusesDigits self.old.signal.wave.width digits.now fault) }
+            RefusesBinaryNumber self.old.signal.wave.width digits.now fault) }
     {
         let value = match read_value(self.signal.wave.width(), digits) {
             Ok(value) => value,
-            Err(DigitsError::NoValue) => return Err(Fault::BadChange),
-            Err(DigitsError::TooLong) => return Err(Fault::ValueTooLong),
+            Err(BinaryNumberError::NoValue) => return Err(Fault::BadChange),
+            Err(BinaryNumberError::TooLong) => return Err(Fault::ValueTooLong),
         };
         self.signal.wave.push(tick, value)?;
         Ok(())

@@ -1,27 +1,27 @@
-//! The values that a file writes by letters (IEEE 1364-2005, 18.2).
+//! The values that a file writes by binary digits (IEEE 1364-2005, 18.2).
 
 ghost use Rattle.std.specs.Prelude.{◌≡◌, ◌≤◌, true, false, length, unwrap_or, MatchOption, MatchResult};
 ghost use Rattle.std.specs.List.{list_all};
 ghost use Rattle.vcd_core.specs.declared.bit.Bit.TheVariants.{X};
-ghost use Rattle.vcd_text.specs.Letters.{letter_read, is_letter as letter_test, letters_read, pad_letter, extension};
+ghost use Rattle.vcd_text.specs.Letters.{letter_of_digit, is_binary_digit as digit_test, letters_of_digits, pad_letter, extension};
 ghost use Rattle.vcd_text.specs.inside.ValueDigits.{WritesValue, WritesNoValue};
 
 use vcd_core::{Bit, Value, WIDTH_LIMIT};
 
 /// Why digits write no value of a width.
 #[derive(Clone, Copy, Debug, PartialEq, Eq)]
-pub enum DigitsError {
-    /// There are none, or one is no value letter.
+pub enum BinaryNumberError {
+    /// There are none, or one is no binary digit.
     NoValue,
-    /// They are value letters, but more than the width.
+    /// They are binary digits, but more than the width.
     TooLong,
 }
 
-/// What a value letter stands for; none for any other byte.
-pub fn bit_of(letter: u8) -> Option<Bit>
-    ensures { result ≡ letter_read letter }
+/// The letter that a binary digit writes; none for any other byte.
+pub fn bit_of(digit: u8) -> Option<Bit>
+    ensures { result ≡ letter_of_digit digit }
 {
-    match letter {
+    match digit {
         b'0' | b'l' | b'L' => Some(Bit::Zero),
         b'1' | b'h' | b'H' => Some(Bit::One),
         b'x' | b'X' | b'u' | b'U' | b'w' | b'W' | b'-' => Some(Bit::X),
@@ -32,47 +32,47 @@ pub fn bit_of(letter: u8) -> Option<Bit>
 
 /// The value of `width` bits that the digits write, extended on the left. It takes a step a digit, and no
 /// memory.
-pub fn read_value(width: u64, digits: &[u8]) -> Result<Value, DigitsError>
+pub fn read_value(width: u64, digits: &[u8]) -> Result<Value, BinaryNumberError>
     requires least { 1 ≤ width }
     requires most { width ≤ WIDTH_LIMIT }
     ensures { MatchResult result (λ value. WritesValue width digits.now value)
         (λ error. WritesNoValue width digits.now error) }
 {
     if digits.is_empty() {
-        return Err(DigitsError::NoValue);
+        return Err(BinaryNumberError::NoValue);
     }
     if digits.len() as u64 > width {
-        return Err(if are_letters(digits) {
-            DigitsError::TooLong
+        return Err(if are_binary_digits(digits) {
+            BinaryNumberError::TooLong
         } else {
-            DigitsError::NoValue
+            BinaryNumberError::NoValue
         });
     }
-    extended_value(width, digits).ok_or(DigitsError::NoValue)
+    extended_value(width, digits).ok_or(BinaryNumberError::NoValue)
 }
 
-/// Whether all bytes are value letters.
-fn are_letters(bytes: &[u8]) -> bool
-    ensures { result ≡ list_all letter_test bytes.now }
+/// Whether all bytes are binary digits.
+fn are_binary_digits(bytes: &[u8]) -> bool
+    ensures { result ≡ list_all digit_test bytes.now }
 {
-    bytes.iter().all(|byte| is_letter(*byte))
+    bytes.iter().all(|byte| is_binary_digit(*byte))
 }
 
-/// Whether a byte is a value letter.
-pub fn is_letter(byte: u8) -> bool
-    ensures { result ≡ letter_test byte }
+/// Whether a byte is a binary digit.
+pub fn is_binary_digit(byte: u8) -> bool
+    ensures { result ≡ digit_test byte }
 {
     bit_of(byte).is_some()
 }
 
-/// The digits as letters, with those that are wanting on the left; none where one is no value letter.
+/// The digits as letters, with those that are wanting on the left; none where one is no binary digit.
 fn extended_value(width: u64, digits: &[u8]) -> Option<Value>
     requires least { 1 ≤ width }
     requires most { width ≤ WIDTH_LIMIT }
     requires fits { length digits.now ≤ width }
-    ensures { MatchOption result (list_all letter_test digits.now ≡ false) (λ value.
-        (list_all letter_test digits.now ≡ true) ×
-        (value ≡ extension width (letters_read digits.now))) }
+    ensures { MatchOption result (list_all digit_test digits.now ≡ false) (λ value.
+        (list_all digit_test digits.now ≡ true) ×
+        (value ≡ extension width (letters_of_digits digits.now))) }
 {
     let mut value = Value::filled(width, pad_of(digits));
     let mut left = digits.len() as u64;
@@ -86,7 +86,7 @@ fn extended_value(width: u64, digits: &[u8]) -> Option<Value>
 
 /// The letter that is put on the left of digits.
 fn pad_of(digits: &[u8]) -> Bit
-    ensures { result ≡ pad_letter (letters_read digits.now) }
+    ensures { result ≡ pad_letter (letters_of_digits digits.now) }
 {
     match digits {
         [first, ..] => match bit_or_x(*first) {
@@ -98,7 +98,7 @@ fn pad_of(digits: &[u8]) -> Bit
 }
 
 fn bit_or_x(digit: u8) -> Bit
-    ensures { result ≡ unwrap_or (letter_read digit) X }
+    ensures { result ≡ unwrap_or (letter_of_digit digit) X }
 {
     bit_of(digit).unwrap_or(Bit::X)
 }
