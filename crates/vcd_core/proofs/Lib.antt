@@ -9,3 +9,4 @@ pub mod ValueLemmas
 pub mod Waves
 pub mod Pushes
 pub mod Splices
+pub mod Searches

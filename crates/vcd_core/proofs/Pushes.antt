@@ -288,9 +288,9 @@ upto_last floor before (c ∷ rest) last rise =
     rise_to_last floor before (c ∷ rest) last rise = omega (arith, rise.0, rise_to_last (c.tick + 1) c.value rest last rise.3)
 
 -- so the last tick tells whether all are up to the end
-pub upto_from_last : (width end : ℕ) (cs rest : List Change) (last : Change) → IsWave width cs → cs ≡ rest ++ last ∷ [] → last.tick ≤ end → AllUpTo end cs
-upto_from_last width end cs rest last is split le =
-    subst (AllUpTo end) (sym split) (upto_lower last.tick end _ le (upto_last 0 (all_x width) rest last (subst (ChangesFrom 0 (all_x width)) split is.rise)))
+pub upto_from_last : (floor : ℕ) (before : List Bit) (end : ℕ) (cs rest : List Change) (last : Change) → ChangesFrom floor before cs → cs ≡ rest ++ last ∷ [] → last.tick ≤ end → AllUpTo end cs
+upto_from_last floor before end cs rest last rise split le =
+    subst (AllUpTo end) (sym split) (upto_lower last.tick end _ le (upto_last floor before rest last (subst (ChangesFrom floor before) split rise)))
 
 pub last_upto : (end : ℕ) (cs rest : List Change) (last : Change) → cs ≡ rest ++ last ∷ [] → AllUpTo end cs → last.tick ≤ end
 last_upto end cs rest last split upto = reach rest (subst (AllUpTo end) split upto)

@@ -8,6 +8,7 @@
 mod bit;
 mod capture;
 mod change_list;
+mod copies;
 mod decimal;
 mod device;
 mod edges;
@@ -16,6 +17,7 @@ mod laws;
 mod memory;
 mod names;
 mod planes;
+mod searching;
 mod seq;
 mod soundness;
 mod splicing;
@@ -28,6 +30,8 @@ pub use capture::{
     Capture, END_LIMIT, Header, HeaderKind, SIGNAL_LIMIT, ScopeName, ScopePath, Signal, TimeUnit,
     Timescale, Word,
 };
+pub use change_list::{ends_by, value_at_end};
+pub use copies::{copy_scopes, copy_word, copy_words};
 pub use decimal::number_up_to;
 pub use device::{
     DeviceFault, FromRead, Incomplete, ShortWrite, Sink, Source, ToWrite, read_whole, write_all,
@@ -41,6 +45,7 @@ pub use laws::{
 };
 pub use memory::NoMemory;
 pub use seq::Seq;
+pub use splicing::moved_change;
 pub use value::{Value, WIDTH_LIMIT};
 pub use wave::{Change, Wave};
 pub use word::{is_skipped_kind, is_white_space, is_word};

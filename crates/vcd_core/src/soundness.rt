@@ -7,63 +7,56 @@ ghost use Rattle.vcd_core.specs.Wave.{IsWave, AllUpTo};
 ghost use Rattle.vcd_core.specs.Sound.{is_sound_header, is_sound_scope, is_sound_timescale, IsSoundSignal, IsSound};
 
 use crate::capture::{Capture, END_LIMIT, Header, SIGNAL_LIMIT, ScopeName, Signal, Timescale};
+use crate::change_list::ends_by;
 use crate::value::WIDTH_LIMIT;
-use crate::wave::{Change, Wave};
+use crate::wave::Wave;
 use crate::word::{are_words, is_skipped_kind, is_word};
 
-fn is_header_sound(header: &Header) -> bool
-    ensures { result ≡ is_sound_header header.now }
-{
-    are_words(header.words.as_slice())
-}
-
-fn is_scope_sound(scope: &ScopeName) -> bool
-    ensures { result ≡ is_sound_scope scope.now }
-{
-    is_word(scope.kind.as_slice()) && are_words(scope.words.as_slice())
-}
-
-fn is_timescale_sound(timescale: Option<Timescale>) -> bool
-    ensures { IsTrue result ↔ IfSome timescale (λ t. IsTrue (is_sound_timescale t)) }
-{
-    match timescale {
-        Some(timescale) => matches!(timescale.count, 1 | 10 | 100),
-        None => true,
+impl Header {
+    fn is_sound(&self) -> bool
+        ensures { result ≡ is_sound_header self.now }
+    {
+        are_words(self.words.as_slice())
     }
 }
 
-/// Whether no change is past `end`: the last one tells.
-fn ends_by(changes: &[Change], end: u64) -> bool
-    requires { (width : ℕ) × IsWave width changes.now }
-    ensures { IsTrue result ↔ AllUpTo end changes.now }
-{
-    match changes.split_last() {
-        Some((last, _)) => last.tick <= end,
-        None => true,
+impl Timescale {
+    fn is_sound(self) -> bool
+        ensures { result ≡ is_sound_timescale self }
+    {
+        matches!(self.count, 1 | 10 | 100)
     }
 }
 
-fn are_headers_sound(header: &[Header]) -> bool
-    ensures { result ≡ list_all is_sound_header header.now }
-{
-    header.iter().all(|entry| is_header_sound(entry))
+impl ScopeName {
+    fn is_sound(&self) -> bool
+        ensures { result ≡ is_sound_scope self.now }
+    {
+        is_word(self.kind.as_slice()) && are_words(self.words.as_slice())
+    }
+}
+
+impl Signal {
+    /// Whether a file whose last tick is `end` can say this signal: its words and scopes are sound,
+    /// it has a name, its kind is one that is kept, and no change is past the end.
+    ///
+    /// It takes no memory; its time grows with the words and the scopes, not with the changes.
+    pub fn is_sound(&self, end: u64) -> bool
+        ensures { IsTrue result ↔ IsSoundSignal end (signal_contents self.now) }
+    {
+        is_word(self.kind.as_slice())
+            && !is_skipped_kind(self.kind.as_slice())
+            && !self.words.is_empty()
+            && are_words(self.words.as_slice())
+            && are_scopes_sound(self.scopes.as_slice())
+            && is_wave_sound(&self.wave, end)
+    }
 }
 
 fn are_scopes_sound(scopes: &[ScopeName]) -> bool
     ensures { result ≡ list_all is_sound_scope scopes.now }
 {
-    scopes.iter().all(|scope| is_scope_sound(scope))
-}
-
-fn is_signal_sound(signal: &Signal, end: u64) -> bool
-    ensures { IsTrue result ↔ IsSoundSignal end (signal_contents signal.now) }
-{
-    is_word(signal.kind.as_slice())
-        && !is_skipped_kind(signal.kind.as_slice())
-        && !signal.words.is_empty()
-        && are_words(signal.words.as_slice())
-        && are_scopes_sound(signal.scopes.as_slice())
-        && is_wave_sound(&signal.wave, end)
+    scopes.iter().all(|scope| scope.is_sound())
 }
 
 fn is_wave_sound(wave: &Wave, end: u64) -> bool
@@ -80,7 +73,7 @@ fn is_wave_sound(wave: &Wave, end: u64) -> bool
 fn are_signals_sound(signals: &[Signal], end: u64) -> bool
     ensures { IsTrue result ↔ All (IsSoundSignal end) (map signal_contents signals.now) }
 {
-    signals.iter().all(|signal| is_signal_sound(signal, end))
+    signals.iter().all(|signal| signal.is_sound(end))
 }
 
 impl Capture {
@@ -94,10 +87,30 @@ impl Capture {
     pub fn is_sound(&self) -> bool
         ensures { IsTrue result ↔ IsSound (contents self.now) }
     {
-        are_headers_sound(self.header.as_slice())
-            && is_timescale_sound(self.timescale)
+        self.is_header_sound()
+            && self.is_timescale_sound()
             && self.end <= END_LIMIT
             && self.signals.len() <= SIGNAL_LIMIT
             && are_signals_sound(self.signals.as_slice(), self.end)
+    }
+
+    /// Whether a file can say the header entries: their words are words, in the sense of
+    /// [`is_word`].
+    pub fn is_header_sound(&self) -> bool
+        ensures { result ≡ list_all is_sound_header self.now.header }
+    {
+        self.header.as_slice().iter().all(|entry| entry.is_sound())
+    }
+
+    /// Whether a file can say the timescale, where there is one: a tick is 1, 10 or 100 of the unit
+    /// (IEEE 1364-2005, 18.2).
+    pub fn is_timescale_sound(&self) -> bool
+        ensures { IsTrue result
+            ↔ IfSome self.now.timescale (λ t. IsTrue (is_sound_timescale t)) }
+    {
+        match self.timescale {
+            Some(timescale) => timescale.is_sound(),
+            None => true,
+        }
     }
 }

@@ -27,10 +27,10 @@ fn rotate_tail(list: &mut [Change], at: usize, count: usize)
     tail.rotate_left(count);
 }
 
-/// The change `by` ticks later.
-fn later(change: Change, by: i64) -> Change
-    requires { TickFits by change }
-    ensures { result ≡ moved_change by change }
+/// The change `by` ticks later, or earlier where `by` is negative.
+pub fn moved_change(change: &Change, by: i64) -> Change
+    requires { TickFits by change.now }
+    ensures { result ≡ moved_change by change.now }
 {
     let tick = change.tick.checked_add_signed(by).unwrap();
     Change {
@@ -46,7 +46,7 @@ fn move_ticks(changes: &mut [Change], by: i64)
 {
     for change in changes.iter_mut() {
         // A function of the item, so that the loop is a `map` to the prover.
-        let next = later(*change, by);
+        let next = moved_change(change, by);
         *change = next;
     }
 }

@@ -4,6 +4,7 @@ ghost use Rattle.vcd_core.specs.Splice.{TicksFit, spliced_changes};
 
 use crate::change_list::{push_change, value_at_end};
 use crate::memory::NoMemory;
+use crate::searching::count_near;
 use crate::splicing::splice_changes;
 use crate::value::{Value, WIDTH_LIMIT};
 use std::alloc::Global;
@@ -92,6 +93,16 @@ impl Wave {
         ensures { result ≡ count_by (λ c. nat_lt c.tick tick) self.now.changes }
     {
         self.changes.partition_point(|change| change.tick < tick)
+    }
+
+    /// How many changes have a tick at most `tick`, whatever `near` is: a number of changes that
+    /// the answer is expected to be near, as that of an earlier search.
+    ///
+    /// It goes from there by steps that double, then by halves: the logarithm of the distance.
+    pub fn count_near(&self, near: usize, tick: u64) -> usize
+        ensures { result ≡ count_by (λ c. nat_le c.tick tick) self.now.changes }
+    {
+        count_near(self.changes.as_slice(), near, tick)
     }
 
     /// Sets the value from `tick` on, at the end of the list: a value equal to the one before adds

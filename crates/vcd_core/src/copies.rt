@@ -1,0 +1,46 @@
+//! Copies of words and scopes.
+
+ghost use Rattle.std.specs.Prelude.{◌≡◌, IfOk};
+
+use crate::capture::{ScopeName, ScopePath, Word};
+use crate::memory::NoMemory;
+use crate::seq::Seq;
+use std::alloc::Global;
+
+/// A word of these bytes, in memory of its own.
+pub fn copy_word(alloc: Global, text: &[u8]) -> Result<Word, NoMemory>
+    ensures { IfOk result (λ word. word ≡ text.now) }
+{
+    Ok(Seq::from_vec(text.to_vec(alloc)?))
+}
+
+/// A copy of each word, in memory of its own.
+pub fn copy_words(alloc: Global, words: &[Word]) -> Result<Seq<Word>, NoMemory>
+    ensures { IfOk result (λ copies. copies ≡ words.now) }
+{
+    let mut copies = Vec::new(alloc);
+    for word in words {
+        copies.push(copy_word(alloc, word.as_slice())?)?;
+    }
+    Ok(Seq::from_vec(copies))
+}
+
+/// A path of copies of these scopes, outermost first, in memory of its own.
+pub fn copy_scopes(alloc: Global, scopes: &[ScopeName]) -> Result<ScopePath, NoMemory>
+    ensures { IfOk result (λ copies. copies ≡ scopes.now) }
+{
+    let mut copies = Vec::new(alloc);
+    for scope in scopes {
+        copies.push(copy_scope(alloc, scope)?)?;
+    }
+    Ok(ScopePath::from_vec(copies))
+}
+
+fn copy_scope(alloc: Global, scope: &ScopeName) -> Result<ScopeName, NoMemory>
+    ensures { IfOk result (λ copy. copy ≡ scope.now) }
+{
+    Ok(ScopeName {
+        kind: copy_word(alloc, scope.kind.as_slice())?,
+        words: copy_words(alloc, scope.words.as_slice())?,
+    })
+}

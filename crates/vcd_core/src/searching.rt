@@ -1,0 +1,53 @@
+//! A search for a tick among changes that sets out from a place near it.
+
+ghost use Rattle.std.specs.Prelude.{◌≡◌, ℕ, ◌<◌, ◌≤◌, nat_le, length, take, drop, count_by, All};
+ghost use Rattle.vcd_core.specs.Wave.{IsWave};
+
+use crate::wave::Change;
+
+/// How many changes have a tick at most `tick`, whatever `near` is.
+pub(crate) fn count_near(changes: &[Change], near: usize, tick: u64) -> usize
+    requires { (width : ℕ) × IsWave width changes.now }
+    ensures { result ≡ count_by (λ c. nat_le c.tick tick) changes.now }
+{
+    let near = near.min(changes.len());
+    let from = place_before(changes, near, tick);
+    let to = place_behind(changes, near, tick);
+    from + changes[from..to].partition_point(|change| change.tick <= tick)
+}
+
+/// A place before which no change is later than `tick`: `near`, or one before it, by steps that
+/// double.
+fn place_before(changes: &[Change], near: usize, tick: u64) -> usize
+    requires form { (width : ℕ) × IsWave width changes.now }
+    requires within { near ≤ length changes.now }
+    ensures within { result ≤ near }
+    ensures early { All (λ c. c.tick ≤ tick) (take result changes.now) }
+{
+    let mut place = near;
+    let mut step = 1usize;
+    while place > 0 && changes[place - 1].tick > tick {
+        place = place.saturating_sub(step);
+        step = step.saturating_mul(2);
+    }
+    place
+}
+
+/// A place from which on each change is later than `tick`: `near`, or one behind it, by steps that
+/// double.
+fn place_behind(changes: &[Change], near: usize, tick: u64) -> usize
+    requires form { (width : ℕ) × IsWave width changes.now }
+    requires within { near ≤ length changes.now }
+    ensures from { near ≤ result }
+    ensures within { result ≤ length changes.now }
+    ensures late { All (λ c. tick < c.tick) (drop result changes.now) }
+{
+    let count = changes.len();
+    let mut place = near;
+    let mut step = 1usize;
+    while place < count && changes[place].tick <= tick {
+        place = place.saturating_add(step).min(count);
+        step = step.saturating_mul(2);
+    }
+    place
+}
