@@ -1,5 +1,5 @@
 -- A line of one bit as a function of the tick, and an annotation of it: what the three decoders share.
-use Rattle.std.specs.Prelude.{ℕ, zero, suc, Bool, true, false}
+use Rattle.std.specs.Prelude.{ℕ, zero, suc, ◌+◌, ◌*◌, ◌||◌, Bool, true, false, not, if◌then◌else◌, List, [], ◌∷◌}
 use Rattle.vcd_core.specs.declared.bit.Bit.{Bit}
 use Rattle.vcd_core.specs.declared.bit.Bit.TheVariants.{Zero, One, X, Z}
 use Rattle.vcd_core.specs.WaveView.{WaveView}
@@ -30,6 +30,15 @@ is_one Zero = false
 is_one One = true
 is_one X = false
 is_one Z = false
+
+-- whether a letter is neither
+abbrev pub is_unclear : Bit → Bool
+is_unclear b = not (is_zero b || is_one b)
+
+-- the number that letters make, the least significant first
+abbrev pub number_of : List Bit → ℕ
+number_of [] = 0
+number_of (b ∷ bs) = (if is_one b then 1 else 0) + 2 * number_of bs
 
 -- an annotation: from the tick `start` to the tick `end`, both included
 abbrev pub note : ℕ → ℕ → Kind → Annotation

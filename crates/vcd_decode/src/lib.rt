@@ -8,6 +8,8 @@ mod i2c_bytes;
 mod setup_error;
 mod spi_words;
 mod uart_frames;
+mod uart_setup;
 
 pub use annotation::{Annotation, Direction, Kind, LineData};
 pub use setup_error::SetupError;
+pub use uart_setup::{Parity, RATIO_LIMIT, Uart};
