@@ -1,3 +1,6 @@
 pub mod CasesOfUart
 pub mod CasesOfSpi
 pub mod CasesOfI2c
+pub mod LineLetters
+pub mod Falls
+pub mod SampleTicks

@@ -28,9 +28,13 @@ checked_bits u = u.data_bits + parity_bits u.parity
 abbrev pub last_bit : UartSetup → ℕ
 last_bit u = checked_bits u + u.stop_bits
 
--- the tick at which a bit of the frame that begins at `start` is sampled: its middle, rounded down
-unfoldable pub sample_tick : UartSetup → ℕ → ℕ → ℕ
-sample_tick u start bit = start + (2 * bit + 1) * u.numerator / (2 * u.denominator)
+-- how many ticks behind the beginning of a frame a bit is sampled: in its middle, rounded down
+unfoldable pub sample_offset : UartSetup → ℕ → ℕ
+sample_offset u bit = (2 * bit + 1) * u.numerator / (2 * u.denominator)
+
+-- the tick at which a bit of the frame that begins at `start` is sampled
+abbrev pub sample_tick : UartSetup → ℕ → ℕ → ℕ
+sample_tick u start bit = start + sample_offset u bit
 
 -- ---- what a frame says
 

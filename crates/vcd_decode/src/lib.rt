@@ -5,6 +5,7 @@
 
 mod annotation;
 mod i2c_bytes;
+mod letters;
 mod setup_error;
 mod spi_words;
 mod uart_frames;
@@ -12,4 +13,5 @@ mod uart_setup;
 
 pub use annotation::{Annotation, Direction, Kind, LineData};
 pub use setup_error::SetupError;
+pub use uart_frames::uart;
 pub use uart_setup::{Parity, RATIO_LIMIT, Uart};

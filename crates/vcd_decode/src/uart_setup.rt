@@ -1,6 +1,6 @@
 //! How the frames of an asynchronous serial line are made.
 
-ghost use Rattle.std.specs.Prelude.{◌≡◌, IfOk};
+ghost use Rattle.std.specs.Prelude.{◌≡◌, ◌≤◌, IfOk};
 ghost use Rattle.vcd_decode.specs.UartSetup.{uart_setup, uart_fault, is_between, TellsSetupFault};
 
 use crate::setup_error::SetupError;
@@ -8,6 +8,9 @@ use std::marker::Model;
 
 /// The greatest number in the ratio that says how many ticks a bit lasts.
 pub const RATIO_LIMIT: u64 = 1_000_000_000;
+
+/// How many bits the longest frame has behind its start bit: nine of data, one of parity, two stop bits.
+pub const FRAME_BITS: usize = 12;
 
 /// The parity bit of a frame: with it the number of ones among the data bits and itself is even, or
 /// odd.
@@ -57,6 +60,8 @@ impl Model for Uart {
 }
 
 impl Uart {
+    ghost use Rattle.vcd_decode.specs.Uart.{checked_bits, last_bit, sample_offset, is_parity_wrong};
+
     /// Bits of `numerator / denominator` ticks, so many data bits, this parity bit, so many stop bits.
     ///
     /// The first fault is answered: `BadRatio` where a number of the ratio is outside 1 to
@@ -93,6 +98,51 @@ impl Uart {
             parity,
             stop_bits,
         })
+    }
+
+    /// How many data bits a frame has.
+    pub(crate) fn data_bits(&self) -> usize
+        ensures count { result ≡ self.now.data_bits }
+        ensures most { result ≤ 9 }
+    {
+        self.data_bits as usize
+    }
+
+    /// How many bits stand before the stop bits, the start bit aside.
+    pub(crate) fn checked_bits(&self) -> usize
+        ensures { result ≡ checked_bits self.now }
+    {
+        match self.parity {
+            Parity::None => self.data_bits(),
+            Parity::Even | Parity::Odd => self.data_bits() + 1,
+        }
+    }
+
+    /// The last bit of a frame, the start bit being bit 0.
+    pub(crate) fn last_bit(&self) -> usize
+        ensures count { result ≡ last_bit self.now }
+        ensures most { result ≤ FRAME_BITS }
+    {
+        self.checked_bits() + self.stop_bits as usize
+    }
+
+    /// How many ticks behind the beginning of a frame a bit is sampled.
+    pub(crate) fn sample_offset(&self, bit: usize) -> u64
+        requires { bit ≤ FRAME_BITS }
+        ensures { result ≡ sample_offset self.now bit }
+    {
+        (2 * bit as u64 + 1) * self.numerator / (2 * self.denominator)
+    }
+
+    /// Whether so many ones among the data and the parity bit are wrong.
+    pub(crate) fn is_parity_wrong(&self, ones: usize) -> bool
+        ensures { result ≡ is_parity_wrong self.now.parity ones }
+    {
+        match self.parity {
+            Parity::None => false,
+            Parity::Even => ones % 2 == 1,
+            Parity::Odd => ones % 2 == 0,
+        }
     }
 }
 
