@@ -1,8 +1,9 @@
 -- The falls of a line, by its changes.
-use Rattle.std.proofs.Common.{◌≡◌, ℕ, zero, suc, ◌+◌, ◌<◌, ◌≤◌, Bool, true, false, cond, ◌&&◌, not, nat_le, nat_lt, if◌then◌else◌, Option, None, List, [], ◌∷◌, ◌++◌, refl, sym, ap, subst, ◌∙◌, inl, inr, arith, add-one}
+use Rattle.std.proofs.Common.{◌≡◌, ℕ, zero, suc, ◌+◌, ◌<◌, ◌≤◌, Bool, true, false, cond, ◌&&◌, nat_lt, if◌then◌else◌, Option, None, List, [], ◌∷◌, ◌++◌, length, get_or, drop, drop-cons, append_assoc, append-nil, refl, sym, ap, subst, ◌∙◌, inl, inr, arith, add-one}
 use Rattle.std.specs.List.{filter, range_with_len}
 use Rattle.std.specs.Option.{option_to_list, option_map_or}
 use Rattle.std.proofs.lemmas.Bool.{cases_eq, cases_lt, lt-leb, le-leb, lt-ltb, le-ltb}
+use Rattle.std.proofs.lemmas.List.{drop_all}
 use Rattle.vcd_core.specs.declared.bit.Bit.{Bit}
 use Rattle.vcd_core.specs.declared.bit.Bit.TheVariants.{Zero, One, X, Z}
 use Rattle.vcd_core.specs.declared.wave.Change.{Change}
@@ -12,7 +13,8 @@ use Rattle.vcd_core.specs.WaveView.{WaveView}
 use Rattle.vcd_core.proofs.Waves.{value_past, value_early}
 use Rattle.vcd_decode.specs.declared.annotation.Annotation.{Annotation}
 use Rattle.vcd_decode.specs.Lines.{line_of, letter_before, is_zero, is_one}
-use Rattle.vcd_decode.specs.Uart.{is_fall, falls, frames}
+use Rattle.vcd_decode.specs.UartSetup.{UartSetup}
+use Rattle.vcd_decode.specs.Uart.{is_fall, falls, frames, begun_frame, uart_annotations}
 
 -- the letter of a change
 abbrev pub letter_of : Change → Bit
@@ -46,17 +48,17 @@ falls_from before t (suc n) end (c ∷ cs) f all (from, other, wide, rest) (with
     elim (cases_eq t c.tick) [
       | inl at ↦
           let value : value_from before (c ∷ cs) t ≡ c.value =
-              value_past before c cs t (omega arith) ∙ value_early c.value c.value cs (c.tick + 1) t rest (omega arith) in
+          value_past before c cs t (omega arith) ∙ value_early c.value c.value cs (c.tick + 1) t rest (omega arith) in
           let here : f t ≡ letter_of c = same t (omega arith) ∙ ap (λ (v : List Bit). letter_at v 0) value in
           let fall : is_fall f t ≡ is_one (letter_at before 0) && is_zero (letter_of c) = λ i. is_one (start i) && is_zero (here i) in
           let rest_at : ChangesFrom (t + 1) c.value cs = subst (λ u. ChangesFrom (u + 1) c.value cs) (sym at) rest in
           let later = falls_from c.value (t + 1) n end cs f (omega arith) rest_at upto
-              (λ s from'. same s (omega arith) ∙ ap (λ (v : List Bit). letter_at v 0) (value_past before c cs s (omega arith)))
-              (ap (letter_before f) (add-one t) ∙ here) in
+          (λ s from'. same s (omega arith) ∙ ap (λ (v : List Bit). letter_at v 0) (value_past before c cs s (omega arith)))
+          (ap (letter_before f) (add-one t) ∙ here) in
           λ i. cond (fall i) (at i ∷ later i) (later i)
       | inr apart ↦
           let value : value_from before (c ∷ cs) t ≡ before =
-              value_early before before (c ∷ cs) c.tick t (omega arith, other, wide, rest) (omega arith) in
+          value_early before before (c ∷ cs) c.tick t (omega arith, other, wide, rest) (omega arith) in
           let here : f t ≡ letter_at before 0 = same t (omega arith) ∙ ap (λ (v : List Bit). letter_at v 0) value in
           let none : is_fall f t ≡ false = (λ i. is_one (start i) && is_zero (here i)) ∙ never_both (letter_at before 0) in
           rw none (falls_from before (t + 1) n end (c ∷ cs) f (omega arith) (omega arith, other, wide, rest) (within, upto)
@@ -110,3 +112,39 @@ one_change begun taken before c cs frame is = rw is (choose (is_one before && is
         ≡ option_to_list (if b then begun c.tick else None) ++ frames begun (option_map_or (λ a. a.end) (if b then begun c.tick else None) taken) (fall_ticks (letter_of c) cs)
     choose true e = begins begun taken c.tick (fall_ticks (letter_of c) cs) (is_one before && is_zero (letter_of c)) e
     choose false e = passed begun taken c.tick (fall_ticks (letter_of c) cs) (is_one before && is_zero (letter_of c)) e
+
+-- ---- the walk over the changes
+
+-- one change more: the frames found and those to come stay all frames
+pub walked : (begun : ℕ → Option Annotation) (taken last : ℕ) (before letter : Bit) (changes : List Change) (i : ℕ) (c : Change) (frame : Option Annotation)
+    → (found later all : List Annotation) → i < length changes → c ≡ get_or changes i c → letter ≡ letter_of c
+    → frame ≡ (if is_one before && is_zero letter && nat_lt taken c.tick then begun c.tick else None)
+    → later ≡ found ++ option_to_list frame → last ≡ option_map_or (λ a. a.end) frame taken
+    → found ++ frames begun taken (fall_ticks before (drop i changes)) ≡ all
+    → later ++ frames begun last (fall_ticks letter (drop (i + 1) changes)) ≡ all
+walked begun taken last before letter changes i c frame found later all within at is_letter is_frame is_later is_last told =
+    let rest = drop (i + 1) changes in
+    let list : drop i changes ≡ c ∷ rest = drop-cons changes i c within ∙ (λ j. sym at j ∷ drop (sym (add-one i) j) changes) in
+    let frame_by : frame ≡ (if is_one before && is_zero (letter_of c) && nat_lt taken c.tick then begun c.tick else None) =
+    is_frame ∙ ap (λ l. if is_one before && is_zero l && nat_lt taken c.tick then begun c.tick else None) is_letter in
+    (λ j. is_later j ++ frames begun (is_last j) (fall_ticks (is_letter j) rest))
+    ∙ append_assoc found (option_to_list frame) (frames begun (option_map_or (λ a. a.end) frame taken) (fall_ticks (letter_of c) rest))
+    ∙ ap (λ l. found ++ l) (sym (one_change begun taken before c rest frame frame_by))
+    ∙ ap (λ cs. found ++ frames begun taken (fall_ticks before cs)) (sym list)
+    ∙ told
+
+-- at the end all are found
+pub all_walked : (begun : ℕ → Option Annotation) (taken : ℕ) (before : Bit) (changes : List Change) (i : ℕ) (found all : List Annotation) → length changes ≤ i
+    → found ++ frames begun taken (fall_ticks before (drop i changes)) ≡ all → found ≡ all
+unfolding fall_ticks frames
+all_walked begun taken before changes i found all past told =
+    sym (append-nil found) ∙ ap (λ cs. found ++ frames begun taken (fall_ticks before cs)) (sym (drop_all i changes past)) ∙ told
+
+-- all frames are those that the falls begin
+pub frames_by_changes : (wave : WaveView) (changes : List Change) (end : ℕ) (u : UartSetup) → wave.width ≡ 1 → changes ≡ wave.changes
+    → IsWave wave.width changes → AllUpTo end wave.changes
+    → frames (begun_frame (line_of wave) end u) 0 (fall_ticks X changes) ≡ uart_annotations (line_of wave) end u
+unfolding uart_annotations
+frames_by_changes wave changes end u one same is upto =
+    ap (λ cs. frames (begun_frame (line_of wave) end u) 0 (fall_ticks X cs)) same
+    ∙ ap (frames (begun_frame (line_of wave) end u) 0) (sym (falls_are wave end one (subst (IsWave wave.width) same is) upto))

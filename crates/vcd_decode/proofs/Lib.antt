@@ -4,3 +4,4 @@ pub mod CasesOfI2c
 pub mod LineLetters
 pub mod Falls
 pub mod SampleTicks
+pub mod BegunFrames

@@ -1,14 +1,14 @@
 -- The letter of a line of one bit, by the changes up to a tick.
-use Rattle.std.proofs.Common.{◌≡◌, ℕ, zero, suc, ◌+◌, ◌-◌, ◌<◌, ◌≤◌, Bool, true, false, cond, nat_le, count_by, List, [], ◌∷◌, length, take, get_or, refl, sym, ap, ◌∙◌, inl, inr, arith}
+use Rattle.std.proofs.Common.{◌≡◌, ℕ, zero, suc, ◌+◌, ◌-◌, ◌<◌, ◌≤◌, Bool, cond, nat_le, count_by, List, [], ◌∷◌, length, take, get_or, refl, sym, ap, ◌∙◌, inl, inr, arith}
 use Rattle.std.proofs.lemmas.Bool.{cases_lt, lt-leb, le-leb}
-use Rattle.std.proofs.lemmas.List.{length-replicate, length-take, get_or-take}
+use Rattle.std.proofs.lemmas.List.{length-replicate, get_or-take}
 use Rattle.std.proofs.lemmas.List.Sums.{sum_by-cons}
 use Rattle.vcd_core.specs.declared.bit.Bit.{Bit}
 use Rattle.vcd_core.specs.declared.wave.Change.{Change}
 use Rattle.vcd_core.specs.declared.bit.Bit.TheVariants.{X}
 use Rattle.vcd_core.specs.Value.{all_x, letter_at}
 use Rattle.vcd_core.specs.WaveView.{WaveView}
-use Rattle.vcd_core.specs.Wave.{value_from, last_value, ChangesFrom, IsWave}
+use Rattle.vcd_core.specs.Wave.{value_from, last_value, ChangesFrom, IsWave, AllUpTo}
 use Rattle.vcd_core.proofs.Waves.{value_past, value_skip, value_early}
 use Rattle.vcd_core.proofs.Pushes.{last_value-none}
 use Rattle.vcd_decode.specs.Lines.{line_of}
@@ -35,7 +35,7 @@ value_counted (c ∷ cs) t floor before kept rise =
           value_skip before c cs t early ∙ value_early before c.value cs (c.tick + 1) t rise.3 (omega arith) ∙ ap (λ n. last_value before (take n (c ∷ cs))) (sym none)
       | inr past ↦
           let one : count_by (is_up_to t) (c ∷ cs) ≡ suc (count_by (is_up_to t) cs) =
-              sum_by-cons (λ x. cond (is_up_to t x) 1 0) c cs ∙ (λ i. cond (le-leb c.tick t past i) 1 0 + count_by (is_up_to t) cs) ∙ omega arith in
+          sum_by-cons (λ x. cond (is_up_to t x) 1 0) c cs ∙ (λ i. cond (le-leb c.tick t past i) 1 0 + count_by (is_up_to t) cs) ∙ omega arith in
           value_past before c cs t past ∙ value_counted cs t (c.tick + 1) c.value c.value rise.3 ∙ ap (λ n. last_value before (take n (c ∷ cs))) (sym one)
     ]
 
@@ -65,12 +65,12 @@ pub letter_counted : (wave : WaveView) (changes : List Change) (t n : ℕ) (c : 
 letter_counted wave changes t n c same is counted some at =
     let x = all_x wave.width in
     let value : value_from x wave.changes t ≡ c.value =
-        ap (λ cs. value_from x cs t) (sym same)
-        ∙ value_counted changes t 0 x x is.rise
-        ∙ ap (λ cs. last_value x (take (count_by (is_up_to t) cs) changes)) same
-        ∙ ap (λ m. last_value x (take m changes)) (sym counted)
-        ∙ last_at x (take n changes) (length (take n changes) - 1) c (omega arith)
-        ∙ ap (λ (d : Change). d.value) (sym at) in
+    ap (λ cs. value_from x cs t) (sym same)
+    ∙ value_counted changes t 0 x x is.rise
+    ∙ ap (λ cs. last_value x (take (count_by (is_up_to t) cs) changes)) same
+    ∙ ap (λ m. last_value x (take m changes)) (sym counted)
+    ∙ last_at x (take n changes) (length (take n changes) - 1) c (omega arith)
+    ∙ ap (λ (d : Change). d.value) (sym at) in
     ap (λ (v : List Bit). letter_at v 0) (sym value)
 
 -- and x where there is none
@@ -79,11 +79,11 @@ pub no_letter_counted : (wave : WaveView) (changes : List Change) (t n : ℕ) �
 no_letter_counted wave changes t n one same is counted none =
     let x = all_x wave.width in
     let value : value_from x wave.changes t ≡ x =
-        ap (λ cs. value_from x cs t) (sym same)
-        ∙ value_counted changes t 0 x x is.rise
-        ∙ ap (λ cs. last_value x (take (count_by (is_up_to t) cs) changes)) same
-        ∙ ap (λ m. last_value x (take m changes)) (sym counted)
-        ∙ sym (last_value-none x (take n changes) (omega arith)) in
+    ap (λ cs. value_from x cs t) (sym same)
+    ∙ value_counted changes t 0 x x is.rise
+    ∙ ap (λ cs. last_value x (take (count_by (is_up_to t) cs) changes)) same
+    ∙ ap (λ m. last_value x (take m changes)) (sym counted)
+    ∙ sym (last_value-none x (take n changes) (omega arith)) in
     sym (ap (λ (v : List Bit). letter_at v 0) value ∙ ap (λ w. letter_at (all_x w) 0) one)
 
 -- an item of the list has one letter
@@ -92,4 +92,19 @@ pub one_letter : (wave : WaveView) (changes : List Change) (n i : ℕ) (c : Chan
 one_letter wave changes n i c one is early within at =
     let there : c ≡ get_or changes i c = at ∙ get_or-take n changes i c early in
     let wide : length c.value ≡ 1 = ap (λ (d : Change). length d.value) there ∙ one_bit_at wave.width changes i c is one within in
+    omega arith
+
+-- the tick of an item is not past the end
+pub up_to_at : (end : ℕ) (cs : List Change) (i : ℕ) (c : Change) → AllUpTo end cs → i < length cs → c ≡ get_or cs i c → c.tick ≤ end
+up_to_at end cs i c upto within at = omega (arith, item cs i upto within, ap (λ (d : Change). d.tick) at)
+  where
+    item : (list : List Change) (k : ℕ) → AllUpTo end list → k < length list → (get_or list k c).tick ≤ end
+    item [] k all less = absurd (omega arith)
+    item (d ∷ ds) zero (first, rest) less = first
+    item (d ∷ ds) (suc k) (first, rest) less = item ds k rest (omega arith)
+
+-- an item has one letter
+pub letter_at_item : (width : ℕ) (cs : List Change) (i : ℕ) (c : Change) → width ≡ 1 → IsWave width cs → i < length cs → c ≡ get_or cs i c → 0 < length c.value
+letter_at_item width cs i c one is within at =
+    let wide : length c.value ≡ 1 = ap (λ (d : Change). length d.value) at ∙ one_bit_at width cs i c is one within in
     omega arith

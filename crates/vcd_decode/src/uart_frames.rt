@@ -21,12 +21,7 @@ use vcd_core::{Bit, NoMemory, Wave};
 ///
 /// Costs a step for each change, and for each sample a search by halves among the changes of its frame; the
 /// memory is that of the annotations.
-pub fn uart(
-    alloc: Global,
-    wave: &Wave,
-    end: u64,
-    setup: &Uart,
-) -> Result<Vec<Annotation>, NoMemory>
+pub fn uart(alloc: Global, wave: &Wave, end: u64, setup: &Uart) -> Result<Vec<Annotation>, NoMemory>
     requires one_bit { wave.now.width ≡ 1 }
     requires within { AllUpTo end wave.now.changes }
     ensures { IfOk result (λ found.
@@ -35,7 +30,8 @@ pub fn uart(
     let mut found = Vec::new(alloc);
     let mut before = Bit::X;
     let mut taken = 0;
-    for (place, change) in wave.changes().iter().enumerate() {
+    let changes = wave.changes();
+    for (place, change) in changes.iter().enumerate() {
         let letter = change.value.bit(0);
         let frame = if begins_frame(before, letter, taken, change.tick) {
             begun_frame(wave, place, end, setup, change.tick)
@@ -67,18 +63,16 @@ fn push_frame(
 }
 
 /// What a fall at the tick `start` begins; the change at `near` stands there.
-fn begun_frame(
-    wave: &Wave,
-    near: usize,
-    end: u64,
-    setup: &Uart,
-    start: u64,
-) -> Option<Annotation>
+fn begun_frame(wave: &Wave, near: usize, end: u64, setup: &Uart, start: u64) -> Option<Annotation>
     requires one_bit { wave.now.width ≡ 1 }
     requires within { start ≤ end }
     ensures { result ≡ begun_by_fall (line_of wave.now) end setup.now start }
 {
-    let cut_off = Annotation { start, end, kind: Kind::Partial };
+    let cut_off = Annotation {
+        start,
+        end,
+        kind: Kind::Partial,
+    };
     let left = end - start;
     let first = setup.sample_offset(0);
     if left < first {
@@ -92,7 +86,11 @@ fn begun_frame(
         return Some(cut_off);
     }
     let kind = kind_at(wave, near, setup, start);
-    Some(Annotation { start, end: start + last, kind })
+    Some(Annotation {
+        start,
+        end: start + last,
+        kind,
+    })
 }
 
 /// What the frame that begins at the tick `start` says.

@@ -1,8 +1,7 @@
-use Rattle.std.proofs.Common.{◌∙◌, sym, ap, arith, rules, subst}
+use Rattle.std.proofs.Common.{◌∙◌, sym, ap, arith, rules}
 use Rattle.std.specs.List.{count_by}
 use Rattle.std.proofs.lemmas.List.Sorted.{IsPartitionPoint-from_clause, IsPartitionedBy-leb}
 use Rattle.vcd_core.specs.declared.wave.Change.{Change}
-use Rattle.vcd_core.specs.Wave.{IsWave}
 use Rattle.vcd_core.proofs.Pushes.{ticks_do_not_fall, count_is, no_change}
 use Rattle.vcd_decode.proofs.LineLetters.{is_up_to}
 use Rattle.vcd_decode.proofs.uart_frames.count_near.Goals as goal
