@@ -144,19 +144,12 @@ fn begins_frame(before: Bit, letter: Bit, taken: u64, tick: u64) -> bool
     is_one(before) && is_zero(letter) && taken < tick
 }
 
-/// How many changes have a tick at most `tick`.
-fn count_near(wave: &Wave, _near: usize, tick: u64) -> usize
-    ensures { result ≡ count_by (λ c. nat_le c.tick tick) wave.now.changes }
-{
-    wave.changes().partition_point(|change| change.tick <= tick)
-}
-
 /// The letter of a wave of one bit at a tick, looked for from the change at `near` on.
 fn letter_near(wave: &Wave, near: usize, tick: u64) -> Bit
     requires { wave.now.width ≡ 1 }
     ensures { result ≡ line_of wave.now tick }
 {
-    match &wave.changes()[..count_near(wave, near, tick)] {
+    match &wave.changes()[..wave.count_near(near, tick)] {
         [.., change] => change.value.bit(0),
         [] => Bit::X,
     }
