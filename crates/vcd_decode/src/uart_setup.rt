@@ -1,0 +1,154 @@
+//! How the frames of an asynchronous serial line are made.
+
+ghost use Rattle.std.specs.Prelude.{◌≡◌, ◌≤◌, IfOk};
+ghost use Rattle.vcd_decode.specs.UartSetup.{uart_setup, uart_fault, is_between, TellsSetupFault};
+
+use crate::setup_error::SetupError;
+use std::marker::Model;
+
+/// The greatest number in the ratio that says how many ticks a bit lasts.
+pub const RATIO_LIMIT: u64 = 1_000_000_000;
+
+/// How many bits the longest frame has behind its start bit: nine of data, one of parity, two stop bits.
+pub const FRAME_BITS: usize = 12;
+
+/// The parity bit of a frame: with it the number of ones among the data bits and itself is even, or
+/// odd.
+#[derive(Clone, Copy, Debug, PartialEq, Eq)]
+pub enum Parity {
+    None,
+    Even,
+    Odd,
+}
+
+/// How the frames of an asynchronous serial line are made: a start bit, 5 to 9 data bits, a parity bit
+/// where there is one, and 1 or 2 stop bits, each of which lasts `numerator / denominator` ticks, at
+/// least two.
+///
+/// Contracts see these numbers.
+#[derive(Clone, Copy, Debug, PartialEq, Eq)]
+pub struct Uart {
+    numerator: u64,
+    denominator: u64,
+    data_bits: u64,
+    parity: Parity,
+    stop_bits: u64,
+}
+
+impl Model for Uart {
+    ghost use Rattle.vcd_decode.specs.UartSetup.{UartSetup, IsUartSetup};
+
+    ghost Value = { UartSetup };
+
+    ghost view = { λ u. record {
+      numerator = u.numerator;
+      denominator = u.denominator;
+      data_bits = u.data_bits;
+      parity = u.parity;
+      stop_bits = u.stop_bits;
+    } };
+
+    ghost invariant = { λ u. IsUartSetup u.numerator u.denominator u.data_bits u.stop_bits };
+
+    ghost inverse = { λ s. record {
+      numerator = s.numerator;
+      denominator = s.denominator;
+      data_bits = s.data_bits;
+      parity = s.parity;
+      stop_bits = s.stop_bits;
+    } };
+}
+
+impl Uart {
+    ghost use Rattle.vcd_decode.specs.Uart.{checked_bits, last_bit, sample_offset, is_parity_wrong};
+
+    /// Bits of `numerator / denominator` ticks, so many data bits, this parity bit, so many stop bits.
+    ///
+    /// The first fault is answered: `BadRatio` where a number of the ratio is outside 1 to
+    /// [`RATIO_LIMIT`], `BitTooShort` where a bit lasts fewer than two ticks, `BadData` where there
+    /// are not 5 to 9 data bits, `BadStop` where there are not 1 or 2 stop bits.
+    pub fn new(
+        numerator: u64,
+        denominator: u64,
+        data_bits: u64,
+        parity: Parity,
+        stop_bits: u64,
+    ) -> Result<Uart, SetupError>
+        ensures setup { IfOk result (λ u.
+            u ≡ uart_setup numerator denominator data_bits parity stop_bits) }
+        ensures fault { TellsSetupFault result
+            (uart_fault (uart_setup numerator denominator data_bits parity stop_bits)) }
+    {
+        if !is_ratio_number(numerator) || !is_ratio_number(denominator) {
+            return Err(SetupError::BadRatio);
+        }
+        if numerator < 2 * denominator {
+            return Err(SetupError::BitTooShort);
+        }
+        if data_bits < 5 || 9 < data_bits {
+            return Err(SetupError::BadData);
+        }
+        if stop_bits < 1 || 2 < stop_bits {
+            return Err(SetupError::BadStop);
+        }
+        Ok(Uart {
+            numerator,
+            denominator,
+            data_bits,
+            parity,
+            stop_bits,
+        })
+    }
+
+    /// How many data bits a frame has.
+    pub(crate) fn data_bits(&self) -> usize
+        ensures count { result ≡ self.now.data_bits }
+        ensures most { result ≤ 9 }
+    {
+        self.data_bits as usize
+    }
+
+    /// How many bits stand before the stop bits, the start bit aside.
+    pub(crate) fn checked_bits(&self) -> usize
+        ensures { result ≡ checked_bits self.now }
+    {
+        match self.parity {
+            Parity::None => self.data_bits(),
+            Parity::Even | Parity::Odd => self.data_bits() + 1,
+        }
+    }
+
+    /// The last bit of a frame, the start bit being bit 0.
+    pub(crate) fn last_bit(&self) -> usize
+        ensures count { result ≡ last_bit self.now }
+        ensures most { result ≤ FRAME_BITS }
+    {
+        self.checked_bits() + self.stop_bits as usize
+    }
+
+    /// How many ticks behind the beginning of a frame a bit is sampled.
+    pub(crate) fn sample_offset(&self, bit: usize) -> u64
+        requires { bit ≤ FRAME_BITS }
+        ensures { result ≡ sample_offset self.now bit }
+    {
+        (2 * bit as u64 + 1) * self.numerator / (2 * self.denominator)
+    }
+
+    /// Whether so many ones among the data and the parity bit are wrong.
+    pub(crate) fn is_parity_wrong(&self, ones: usize) -> bool
+        ensures { result ≡ is_parity_wrong self.now.parity ones }
+    {
+        match self.parity {
+            Parity::None => false,
+            Parity::Even => ones % 2 == 1,
+            Parity::Odd => ones % 2 == 0,
+        }
+    }
+}
+
+/// Whether a number may stand in the ratio.
+fn is_ratio_number(number: u64) -> bool
+    ensures { result ≡ is_between 1 RATIO_LIMIT number }
+{
+    1 <= number && number <= RATIO_LIMIT
+}
