@@ -1,0 +1,1 @@
+-- Worked cases of an I2C bus.

@@ -1,0 +1,1 @@
+-- Worked cases of a UART line.

@@ -1,0 +1,3 @@
+pub mod CasesOfUart
+pub mod CasesOfSpi
+pub mod CasesOfI2c

@@ -1,0 +1,1 @@
+-- The conditions and bytes of an I2C bus (UM10204, 3.1).

@@ -1,0 +1,7 @@
+-- The definitions that contracts cite. Those that a reader need not believe stand in `inside`.
+pub mod SetupErrorNames
+pub mod Lines
+pub mod Uart
+pub mod Spi
+pub mod I2c
+pub mod inside

@@ -1,0 +1,13 @@
+-- The names of the faults of a setup: the project's own.
+use Rattle.std.specs.Prelude.{ℕ, List, codes}
+use Rattle.vcd_decode.specs.declared.setup_error.SetupError.{SetupError}
+use Rattle.vcd_decode.specs.declared.setup_error.SetupError.TheVariants.{BadRatio, BitTooShort, BadData, BadStop, BadMode, BadBits}
+
+-- the name that is printed for a setup that is refused
+abbrev pub setup_error_name : SetupError → List ℕ
+setup_error_name BadRatio = codes "BadRatio"
+setup_error_name BitTooShort = codes "BitTooShort"
+setup_error_name BadData = codes "BadData"
+setup_error_name BadStop = codes "BadStop"
+setup_error_name BadMode = codes "BadMode"
+setup_error_name BadBits = codes "BadBits"

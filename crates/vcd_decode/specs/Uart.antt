@@ -1,0 +1,1 @@
+-- The frames of an asynchronous serial line.

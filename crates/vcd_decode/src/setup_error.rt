@@ -1,0 +1,48 @@
+//! Why a decoder cannot be set up.
+
+ghost use Rattle.std.specs.Prelude.{◌≡◌};
+ghost use Rattle.vcd_decode.specs.SetupErrorNames.{setup_error_name};
+
+use std::fmt;
+use thiserror::Error;
+
+/// Why a decoder cannot be set up: the first four of UART, the other two of SPI, each decided in this order.
+///
+/// The names are the project's own.
+#[derive(Clone, Copy, Debug, PartialEq, Eq, Error)]
+pub enum SetupError {
+    /// A number of the ratio that gives a bit's length is outside 1 to 1,000,000,000.
+    BadRatio,
+    /// A bit lasts fewer than two ticks.
+    BitTooShort,
+    /// The number of data bits is outside 5 to 9.
+    BadData,
+    /// The number of stop bits is neither 1 nor 2.
+    BadStop,
+    /// The mode is above 3.
+    BadMode,
+    /// The number of bits of a word is outside 1 to 32.
+    BadBits,
+}
+
+impl SetupError {
+    /// The fault's name, as it is printed. It takes no memory.
+    pub fn name(&self) -> &'static str
+        ensures { result.now ≡ setup_error_name self.now }
+    {
+        match self {
+            SetupError::BadRatio => "BadRatio",
+            SetupError::BitTooShort => "BitTooShort",
+            SetupError::BadData => "BadData",
+            SetupError::BadStop => "BadStop",
+            SetupError::BadMode => "BadMode",
+            SetupError::BadBits => "BadBits",
+        }
+    }
+}
+
+impl fmt::Display for SetupError {
+    fn fmt<W: fmt::Write>(&self, f: &mut fmt::Formatter<W>) -> fmt::Result {
+        f.write_str(self.name())
+    }
+}

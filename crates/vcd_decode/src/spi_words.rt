@@ -1,0 +1,1 @@
+//! Words of a serial peripheral interface.
