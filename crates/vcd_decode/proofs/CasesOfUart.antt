@@ -1,3 +1,4 @@
+<<<<<<< HEAD
 -- Worked cases: what frames small captures of a UART line hold.
 use Rattle.std.proofs.Common.{◌≡◌, refl}
 use Rattle.std.specs.Prelude.{ℕ, ◌+◌, ◌-◌, ◌*◌, ◌/◌, List, [], ◌∷◌, map, Some}
@@ -197,3 +198,6 @@ bad_stop = refl
 
 sound : uart_fault (uart_setup 4 2 9 Odd 2) ≡ no_fault.None
 sound = refl
+=======
+-- Worked cases of a UART line.
+>>>>>>> 3107f289940a1830f24091a810f581f387ef9b74

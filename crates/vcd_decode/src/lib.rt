@@ -5,6 +5,7 @@
 
 mod annotation;
 mod i2c_bytes;
+<<<<<<< HEAD
 mod letters;
 mod setup_error;
 mod spi_words;
@@ -15,3 +16,11 @@ pub use annotation::{Annotation, Direction, Kind, LineData};
 pub use setup_error::SetupError;
 pub use uart_frames::uart;
 pub use uart_setup::{Parity, RATIO_LIMIT, Uart};
+=======
+mod setup_error;
+mod spi_words;
+mod uart_frames;
+
+pub use annotation::{Annotation, Direction, Kind, LineData};
+pub use setup_error::SetupError;
+>>>>>>> 3107f289940a1830f24091a810f581f387ef9b74
