@@ -345,3 +345,7 @@ module _ (width end : ℕ) (cs : List Change) (p : PieceView) (is : IsWave width
 -- a test that fails, where what stands would pass it
 pub refused : (r : Bool) (S : Type 0) → r ≡ false → (S → r ≡ true) → (IsTrue false → S) × (S → IsTrue false)
 refused r S fails passes = ((λ t. absurd (false≢true t)), (λ s. absurd (both_ways r fails (passes s))))
+
+-- the same, where the test itself is the answer
+pub failed : (r : Bool) (S : Type 0) → r ≡ false → (S → r ≡ true) → (IsTrue r → S) × (S → IsTrue r)
+failed r S fails passes = ((λ t. absurd (both_ways r fails t)), passes)

@@ -37,7 +37,7 @@ fits_at_end : (e : Option ℕ) (c : Contents) (p : PieceView) → PieceFits c p 
 fits_at_end None c p fits = fits
 fits_at_end (Some e) c p fits = record { signal = fits.signal; ordered = fits.ordered; within = fits.within; ticks = fits.ticks }
 
-end_kept : (c : Contents) (ps : List PieceView) → (with_pieces c ps).end ≡ c.end
+pub end_kept : (c : Contents) (ps : List PieceView) → (with_pieces c ps).end ≡ c.end
 unfolding with_pieces
 end_kept c [] = refl
 end_kept c (p ∷ ps) = end_kept (with_piece c p) ps
@@ -80,7 +80,7 @@ may_move_back : (c d : Contents) (k : ℕ) (o : Option SignalContents) → MayMo
 may_move_back c d k (Some s) may is = omega (arith, may, ap length is, length-insert c.signals k s may)
 may_move_back c d k None may is = omega (arith, may, ap length is, length-remove c.signals k may)
 
-move_of_end : (e : Option ℕ) (c : Contents) → (with_end e c).signals ≡ c.signals
+pub move_of_end : (e : Option ℕ) (c : Contents) → (with_end e c).signals ≡ c.signals
 move_of_end None c = refl
 move_of_end (Some e) c = refl
 
@@ -117,7 +117,7 @@ no_pieces_back c ps [] lead none = refl
 no_pieces_back c [] (q ∷ qs) lead none = absurd lead
 no_pieces_back c (p ∷ ps) (q ∷ qs) lead none = absurd (cc)
 
-none_put : (c : Contents) (ps : List PieceView) → ps ≡ [] → with_pieces c ps ≡ c
+pub none_put : (c : Contents) (ps : List PieceView) → ps ≡ [] → with_pieces c ps ≡ c
 unfolding with_pieces
 none_put c [] none = refl
 none_put c (p ∷ ps) none = absurd (cc)
@@ -129,16 +129,16 @@ Some≢None : {X : Type 0} (x : X) → Some x ≢ None
 Some≢None x same = absurd (cc)
 
 -- a record of these parts
-abbrev parts : List PieceView → Option (ℕ × List ℕ) → Option (ℕ × Option SignalContents) → Option ℕ → RecordView
+abbrev pub parts : List PieceView → Option (ℕ × List ℕ) → Option (ℕ × Option SignalContents) → Option ℕ → RecordView
 parts ps w m e = record { pieces = ps; word = w; signal = m; other_end = e }
 
-no_pieces_at_word : (ps : List PieceView) (w : ℕ × List ℕ) (m : Option (ℕ × Option SignalContents)) (e : Option ℕ) → IsOneStep (parts ps (Some w) m e) → ps ≡ []
+pub no_pieces_at_word : (ps : List PieceView) (w : ℕ × List ℕ) (m : Option (ℕ × Option SignalContents)) (e : Option ℕ) → IsOneStep (parts ps (Some w) m e) → ps ≡ []
 no_pieces_at_word ps w m e one = one.word_alone (Some≢None w)
 
-no_pieces_at_move : (ps : List PieceView) (w : Option (ℕ × List ℕ)) (m : ℕ × Option SignalContents) (e : Option ℕ) → IsOneStep (parts ps w (Some m) e) → ps ≡ []
+pub no_pieces_at_move : (ps : List PieceView) (w : Option (ℕ × List ℕ)) (m : ℕ × Option SignalContents) (e : Option ℕ) → IsOneStep (parts ps w (Some m) e) → ps ≡ []
 no_pieces_at_move ps w m e one = (one.signal_alone (Some≢None m)).0
 
-no_word_at_move : (ps : List PieceView) (w : ℕ × List ℕ) (m : ℕ × Option SignalContents) (e : Option ℕ) → IsOneStep (parts ps (Some w) (Some m) e) → ⊥
+pub no_word_at_move : (ps : List PieceView) (w : ℕ × List ℕ) (m : ℕ × Option SignalContents) (e : Option ℕ) → IsOneStep (parts ps (Some w) (Some m) e) → ⊥
 no_word_at_move ps w m e one = Some≢None w (one.signal_alone (Some≢None m)).1
 
 leads_back : (c : Contents) (ps qs : List PieceView) (w : Option (ℕ × List ℕ)) (m : Option (ℕ × Option SignalContents)) (e : Option ℕ)

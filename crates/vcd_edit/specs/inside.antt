@@ -8,3 +8,4 @@ pub mod Trims
 pub mod Exchanges
 pub mod Opposites
 pub mod Seams
+pub mod Fitting

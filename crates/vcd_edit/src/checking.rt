@@ -11,6 +11,7 @@ mod operands;
 
 use crate::edit::Edit;
 use crate::fault::EditError;
+pub(crate) use names::behind_first;
 use names::{check_derive, check_rename};
 use vcd_core::{Capture, Value};
 

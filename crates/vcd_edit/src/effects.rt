@@ -6,7 +6,6 @@ ghost use Rattle.vcd_core.specs.Sound.{IsSound};
 ghost use Rattle.vcd_edit.specs.Allowed.{edit_fault};
 ghost use Rattle.vcd_edit.specs.inside.Plans.{IsPlan};
 
-mod copies;
 mod cut;
 mod deglitch;
 mod derive;

@@ -9,6 +9,7 @@ mod checking;
 mod edit;
 mod effects;
 mod fault;
+mod fitting;
 mod laws;
 mod pieces;
 mod record;

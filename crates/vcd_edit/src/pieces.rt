@@ -5,5 +5,6 @@ mod growth;
 mod splicing;
 mod trimming;
 
+pub(crate) use fitting::piece_stands;
 pub(crate) use growth::reserve_all;
 pub(crate) use splicing::put_pieces;

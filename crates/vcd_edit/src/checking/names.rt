@@ -46,7 +46,7 @@ fn is_name_taken(signals: &[Signal], signal: usize, word: &[u8]) -> bool
 }
 
 /// The words of a name but the first.
-fn behind_first(words: &[Word]) -> &[Word]
+pub(crate) fn behind_first(words: &[Word]) -> &[Word]
     ensures { result.now ≡ drop 1 words.now }
 {
     match words {

@@ -13,12 +13,13 @@ ghost use Rattle.vcd_edit.specs.inside.Plans.{IsPlan};
 ghost use Rattle.vcd_edit.specs.declared.edit.Edit.TheVariants as edits;
 
 use crate::edit::Rule;
-use crate::effects::copies::{copy_scopes, copy_word};
 use crate::effects::making::signal_there;
 use crate::effects::operators::{and, not, or, xor};
 use crate::record::Record;
 use std::alloc::Global;
-use vcd_core::{Bit, Capture, Edges, NoMemory, Seq, Signal, Value, Wave, Word};
+use vcd_core::{
+    Bit, Capture, Edges, NoMemory, Seq, Signal, Value, Wave, Word, copy_scopes, copy_word,
+};
 
 /// The record that puts the new signal in behind the last.
 pub(crate) fn plan(

@@ -8,19 +8,7 @@ ghost use Rattle.vcd_edit.specs.inside.Seams.{floor_after, value_behind, may_fol
 ghost use Rattle.vcd_edit.specs.inside.Records.{piece_view};
 
 use crate::record::Piece;
-use vcd_core::{Bit, Change, Value, WIDTH_LIMIT, Wave};
-
-/// The value behind the changes: all x where there are none.
-fn value_behind(before: &[Change], width: u64) -> Value
-    requires least { 1 ≤ width }
-    requires most { width ≤ WIDTH_LIMIT }
-    ensures { result ≡ value_behind width before.now }
-{
-    match before.split_last() {
-        Some((last, _)) => last.value,
-        None => Value::filled(width, Bit::X),
-    }
-}
+use vcd_core::{Change, WIDTH_LIMIT, Wave, ends_by, moved_change, value_at_end};
 
 /// Whether a tick is free behind the changes.
 fn is_free(before: &[Change], tick: u64) -> bool
@@ -39,7 +27,7 @@ fn may_follow(before: &[Change], width: u64, change: &Change) -> bool
     ensures { result
         ≡ may_follow (floor_after 0 before.now) (value_behind width before.now) change.now }
 {
-    let last = value_behind(before, width);
+    let last = value_at_end(before, width);
     is_free(before, change.tick) && change.value != last && change.value.width() == last.width()
 }
 
@@ -95,18 +83,6 @@ fn all_move_to(changes: &[Change], by: i64, end: u64) -> bool
     moves_to(changes[0].tick, by, end) && moves_to(changes[count - 1].tick, by, end)
 }
 
-/// The change `by` ticks later.
-fn moved_change(change: &Change, by: i64) -> Change
-    requires { TickFits by change.now }
-    ensures { result ≡ moved_change by change.now }
-{
-    let tick = change.tick.checked_add_signed(by).unwrap();
-    Change {
-        tick,
-        value: change.value,
-    }
-}
-
 /// Whether the first of the later changes, once moved, may stand right behind the changes before it.
 fn may_come_next(before: &[Change], width: u64, later: &[Change], by: i64) -> bool
     requires least { 1 ≤ width }
@@ -119,18 +95,6 @@ fn may_come_next(before: &[Change], width: u64, later: &[Change], by: i64) -> bo
         return true;
     }
     may_follow(before, width, &moved_change(&later[0], by))
-}
-
-/// Whether no change is past the end: the last one tells.
-fn ends_by(changes: &[Change], end: u64) -> bool
-    requires { (floor : ℕ) × (before : List BitLetter) × ChangesFrom floor before changes.now }
-    ensures { IsTrue result ↔ AllUpTo end changes.now }
-{
-    let count = changes.len();
-    if count == 0 {
-        return true;
-    }
-    changes[count - 1].tick <= end
 }
 
 /// Whether the piece's part stands within the changes of the wave, and what the piece makes of them is a wave

@@ -1,0 +1,116 @@
+//! Whether a record fits a capture.
+
+ghost use Rattle.std.specs.Prelude.{◌≡◌, ◌↔◌, ℕ, ◌<◌, ◌≤◌, All, IsTrue, Option, Some, None, map, length};
+ghost use Rattle.vcd_core.specs.Contents.{Contents, contents, signal_contents};
+ghost use Rattle.vcd_core.specs.Sound.{IsSoundSignal};
+ghost use Rattle.std.specs.List.{insert, remove};
+ghost use Rattle.vcd_edit.specs.Back.{with_first_word, with_moved_signal, MayMoveSignal, Fits, IsOneStep};
+ghost use Rattle.vcd_edit.specs.inside.Records.{piece_view, word_view, contents_of_signal, moved_signal_view, record_view};
+ghost use Rattle.vcd_edit.specs.inside.Fitting.{AreSoundSignals, PartsFit, IsSoundFrame};
+
+mod names;
+mod pieces;
+
+use crate::record::{Piece, Record};
+use names::{are_others_sound, are_sound, is_sound_with_word};
+use pieces::pieces_fit;
+use vcd_core::{Capture, END_LIMIT, SIGNAL_LIMIT, Signal};
+
+/// Whether a word may be the first of the name of the signal at a position, and all signals are then sound
+/// up to an end.
+fn word_fits(signal: usize, word: &[u8], signals: &[Signal], end: u64) -> bool
+    ensures { (c : Contents) → c.signals ≡ map signal_contents signals.now
+        → IsTrue result ↔ ((signal < length c.signals)
+        × AreSoundSignals end (with_first_word (Some (signal, word.now)) c).signals) }
+{
+    if signal >= signals.len() || signals.len() > SIGNAL_LIMIT {
+        return false;
+    }
+    is_sound_with_word(&signals[signal], word, end) && are_others_sound(signals, signal, end)
+}
+
+/// Whether a signal may be put in at a position, and all signals are then sound up to an end.
+fn may_be_put_in(at: usize, signal: &Signal, signals: &[Signal], end: u64) -> bool
+    ensures { IsTrue result ↔ ((at ≤ length signals.now) × AreSoundSignals end
+        (insert (map signal_contents signals.now) at (signal_contents signal.now))) }
+{
+    if at > signals.len() || signals.len() >= SIGNAL_LIMIT {
+        return false;
+    }
+    signal.is_sound(end) && are_sound(signals, end)
+}
+
+/// Whether the signal at a position may be taken out, and all others are sound up to an end.
+fn may_be_taken_out(at: usize, signals: &[Signal], end: u64) -> bool
+    ensures { IsTrue result ↔ ((at < length signals.now) × AreSoundSignals end
+        (remove (map signal_contents signals.now) at)) }
+{
+    if at >= signals.len() || signals.len() - 1 > SIGNAL_LIMIT {
+        return false;
+    }
+    are_others_sound(signals, at, end)
+}
+
+/// Whether a signal may be put in at a position, or the one there taken out where there is none to put in.
+fn move_fits(at: usize, signal: &Option<Signal>, signals: &[Signal], end: u64) -> bool
+    ensures { (c : Contents) → c.signals ≡ map signal_contents signals.now
+        → IsTrue result ↔ (MayMoveSignal c at (contents_of_signal signal.now)
+        × AreSoundSignals end (with_moved_signal (Some (at, contents_of_signal signal.now)) c).signals) }
+{
+    match signal {
+        Some(signal) => may_be_put_in(at, signal, signals, end),
+        None => may_be_taken_out(at, signals, end),
+    }
+}
+
+/// Whether the parts of a record stand within a capture, and the signals that it makes are sound up to an
+/// end. A record has pieces, or a word, or a signal to put in or take out.
+fn parts_fit(
+    pieces: &[Piece],
+    word: &Option<(usize, Vec<u8>)>,
+    signal: &Option<(usize, Option<Signal>)>,
+    signals: &[Signal],
+    end: u64,
+) -> bool
+    requires { (other_end : Option ℕ) × IsOneStep (record_view pieces.now word.now signal.now other_end) }
+    ensures { (c : Contents) (other_end : Option ℕ) → c.signals ≡ map signal_contents signals.now
+        → IsTrue result ↔ PartsFit end (record_view pieces.now word.now signal.now other_end) c }
+{
+    match signal {
+        Some((at, signal)) => move_fits(*at, signal, signals, end),
+        None => match word {
+            Some((signal, word)) => word_fits(*signal, word.as_slice(), signals, end),
+            None => pieces_fit(pieces, signals, end),
+        },
+    }
+}
+
+/// Whether a capture is sound but for its signals and its end, and so is another end.
+fn is_frame_sound(capture: &Capture, end: u64) -> bool
+    ensures { IsTrue result ↔ IsSoundFrame end (contents capture.now) }
+{
+    capture.is_header_sound() && capture.is_timescale_sound() && end <= END_LIMIT
+}
+
+impl Record {
+    /// Whether the record fits a capture: its parts stand within it, and the capture that it leads to is
+    /// sound.
+    ///
+    /// It takes no memory. Its time grows with the words and the signals of the capture and with the changes in the
+    /// pieces, not with those of the waves.
+    pub fn fits(&self, capture: &Capture) -> bool
+        ensures { IsTrue result ↔ Fits self.now (contents capture.now) }
+    {
+        let end = self.other_end.unwrap_or(capture.end());
+        if !is_frame_sound(capture, end) {
+            return false;
+        }
+        parts_fit(
+            self.pieces.as_slice(),
+            &self.word,
+            &self.signal,
+            capture.signals(),
+            end,
+        )
+    }
+}

@@ -1,0 +1,86 @@
+//! Whether the names of signals are such as a file can say.
+
+ghost use Rattle.std.specs.Prelude.{◌≡◌, ◌↔◌, IsTrue, All, map, drop, ◌<◌, ◌≤◌, length};
+ghost use Rattle.std.specs.List.{list_all, remove};
+ghost use Rattle.vcd_core.specs.Contents.{signal_contents};
+ghost use Rattle.vcd_core.specs.Word.{is_word as word_test};
+ghost use Rattle.vcd_core.specs.Sound.{is_sound_scope, IsSoundSignal};
+ghost use Rattle.vcd_core.specs.Wave.{IsWave, AllUpTo};
+ghost use Rattle.vcd_edit.specs.Effect.{renamed_signal};
+ghost use Rattle.vcd_edit.specs.inside.Fitting.{HasSoundNames, IsFormedSignal};
+
+use crate::checking::behind_first;
+use vcd_core::{ScopeName, Signal, WIDTH_LIMIT, Wave, Word, ends_by, is_skipped_kind, is_word};
+
+fn are_words(words: &[Word]) -> bool
+    ensures { result ≡ list_all word_test words.now }
+{
+    words.iter().all(|word| is_word(word.as_slice()))
+}
+
+fn is_scope_sound(scope: &ScopeName) -> bool
+    ensures { result ≡ is_sound_scope scope.now }
+{
+    is_word(scope.kind.as_slice()) && are_words(scope.words.as_slice())
+}
+
+fn are_scopes_sound(scopes: &[ScopeName]) -> bool
+    ensures { result ≡ list_all is_sound_scope scopes.now }
+{
+    scopes.iter().all(|scope| is_scope_sound(scope))
+}
+
+/// Whether all of a signal but its changes is sound.
+pub(crate) fn has_sound_names(signal: &Signal) -> bool
+    ensures sound { IsTrue result → IsFormedSignal (signal_contents signal.now) }
+    ensures names { HasSoundNames (signal_contents signal.now) → IsTrue result }
+{
+    // Its clauses bound the width.
+    let _width = signal.wave.width();
+    let _changes = signal.wave.changes();
+    is_word(signal.kind.as_slice())
+        && !is_skipped_kind(signal.kind.as_slice())
+        && !signal.words.is_empty()
+        && are_words(signal.words.as_slice())
+        && are_scopes_sound(signal.scopes.as_slice())
+}
+
+/// Whether each signal is sound up to an end.
+pub(crate) fn are_sound(signals: &[Signal], end: u64) -> bool
+    ensures { IsTrue result ↔ All (IsSoundSignal end) (map signal_contents signals.now) }
+{
+    signals.iter().all(|signal| signal.is_sound(end))
+}
+
+/// The same of each but the one at a position.
+pub(crate) fn are_others_sound(signals: &[Signal], at: usize, end: u64) -> bool
+    requires { at < length signals.now }
+    ensures { IsTrue result
+        ↔ All (IsSoundSignal end) (remove (map signal_contents signals.now) at) }
+{
+    are_sound(&signals[..at], end) && are_sound(&signals[at + 1..], end)
+}
+
+/// Whether a signal with another first word of its name is sound up to an end.
+pub(crate) fn is_sound_with_word(signal: &Signal, word: &[u8], end: u64) -> bool
+    ensures { IsTrue result
+        ↔ IsSoundSignal end (renamed_signal word.now (signal_contents signal.now)) }
+{
+    is_word(word)
+        && are_words(behind_first(signal.words.as_slice()))
+        && is_word(signal.kind.as_slice())
+        && !is_skipped_kind(signal.kind.as_slice())
+        && are_scopes_sound(signal.scopes.as_slice())
+        && is_wave_sound(&signal.wave, end)
+}
+
+fn is_wave_sound(wave: &Wave, end: u64) -> bool
+    ensures ends { IsTrue result ↔ AllUpTo end wave.now.changes }
+    ensures least { 1 ≤ wave.now.width }
+    ensures most { wave.now.width ≤ WIDTH_LIMIT }
+    ensures form { IsWave wave.now.width wave.now.changes }
+{
+    // Its clauses bound the width.
+    let _width = wave.width();
+    ends_by(wave.changes(), end)
+}

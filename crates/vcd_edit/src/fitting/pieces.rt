@@ -1,0 +1,98 @@
+//! Whether the pieces of a record fit a capture.
+
+ghost use Rattle.std.specs.Prelude.{◌≡◌, ◌↔◌, ℕ, ◌<◌, ◌≤◌, All, IsTrue, Some, None, map, length, slice_index_or};
+ghost use Rattle.std.specs.List.{sum_by};
+ghost use Rattle.vcd_core.specs.Contents.{Contents, SignalContents, contents, signal_contents, no_signal};
+ghost use Rattle.vcd_edit.specs.Back.{with_pieces, PieceFits, AreApart};
+ghost use Rattle.vcd_edit.specs.inside.Records.{piece_view};
+ghost use Rattle.vcd_edit.specs.inside.Fitting.{HasSoundNames, IsFormedSignal, lateness as lateness_of, StandsIn, AreSoundSignals};
+
+use crate::fitting::names::has_sound_names;
+use crate::pieces::piece_stands;
+use crate::record::Piece;
+use vcd_core::{SIGNAL_LIMIT, Signal, Wave, ends_by};
+
+/// The same of each signal.
+fn have_sound_names(signals: &[Signal]) -> bool
+    ensures sound { IsTrue result → All IsFormedSignal (map signal_contents signals.now) }
+    ensures names { All HasSoundNames (map signal_contents signals.now) → IsTrue result }
+{
+    for signal in signals {
+        if !has_sound_names(signal) {
+            return false;
+        }
+    }
+    true
+}
+
+/// 1 where a wave has a change past the end, else 0.
+fn lateness(wave: &Wave, end: u64) -> usize
+    ensures is { result ≡ lateness_of end wave.now.changes }
+    ensures most { result ≤ 1 }
+{
+    if ends_by(wave.changes(), end) { 0 } else { 1 }
+}
+
+/// How many signals have a change past the end.
+fn late_signals(signals: &[Signal], end: u64) -> usize
+    ensures { result
+        ≡ sum_by (λ (s : SignalContents). lateness_of end s.changes) (map signal_contents signals.now) }
+{
+    let mut count = 0;
+    for signal in signals {
+        count += lateness(&signal.wave, end);
+    }
+    count
+}
+
+/// Whether a piece is for one of the signals, and leads to a wave up to the end.
+fn stands_in(piece: &Piece, signals: &[Signal], end: u64) -> bool
+    ensures { IsTrue result ↔ StandsIn end (map signal_contents signals.now) (piece_view piece.now) }
+{
+    match signals.get(piece.signal) {
+        Some(signal) => piece_stands(piece, &signal.wave, end),
+        None => false,
+    }
+}
+
+/// The same of each piece.
+fn stand_in(pieces: &[Piece], signals: &[Signal], end: u64) -> bool
+    ensures { IsTrue result
+        ↔ All (StandsIn end (map signal_contents signals.now)) (map piece_view pieces.now) }
+{
+    pieces.iter().all(|piece| stands_in(piece, signals, end))
+}
+
+/// How many pieces are for signals that have a change past the end.
+fn late_pieces(pieces: &[Piece], signals: &[Signal], end: u64) -> usize
+    requires { All (λ p. p.signal < length signals.now) pieces.now }
+    ensures { result
+        ≡ sum_by (λ (p : Piece). lateness_of end
+        (slice_index_or (map signal_contents signals.now) p.signal no_signal).changes) pieces.now }
+{
+    let mut count = 0;
+    for piece in pieces {
+        count += lateness(&signals[piece.signal].wave, end);
+    }
+    count
+}
+
+/// Whether pieces fit signals and lead to sound ones up to the end. Each signal has one piece at most, so
+/// none that ends too late is without a piece where as many pieces as signals are for such ones.
+pub(crate) fn pieces_fit(pieces: &[Piece], signals: &[Signal], end: u64) -> bool
+    requires apart { AreApart (map piece_view pieces.now) }
+    ensures { (c : Contents) → c.signals ≡ map signal_contents signals.now
+        → IsTrue result ↔ (All (PieceFits c) (map piece_view pieces.now)
+        × AreSoundSignals end (with_pieces c (map piece_view pieces.now)).signals) }
+{
+    if signals.len() > SIGNAL_LIMIT {
+        return false;
+    }
+    if !have_sound_names(signals) {
+        return false;
+    }
+    if !stand_in(pieces, signals, end) {
+        return false;
+    }
+    late_signals(signals, end) == late_pieces(pieces, signals, end)
+}
