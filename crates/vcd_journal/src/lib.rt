@@ -11,8 +11,6 @@ mod rings;
 mod running;
 mod session;
 mod step;
-#[cfg(test)]
-mod tests;
 
 pub use laws::{history_is_bounded, session_is_replay};
 pub use running::run;

@@ -33,7 +33,14 @@ pub fn push_newest(ring: &mut Ring, newest: Record, depth: usize)
     ensures capacity { ring.new.capacity ≡ ring.old.capacity }
 {
     let _oldest = ring.push_front(newest);
-    ring.truncate_back(depth);
+    keep_newest(ring, depth);
+}
+
+/// Drops all records but the newest `count`.
+pub fn keep_newest(ring: &mut Ring, count: usize)
+    ensures { ring.new ≡ buffer (take count ring.old.items) ring.old.capacity }
+{
+    ring.truncate_back(count);
 }
 
 /// Gives a ring room for so many records. One that has it stays as it is, and takes no memory.

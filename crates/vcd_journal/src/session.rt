@@ -6,12 +6,15 @@ ghost use Rattle.vcd_core.specs.Sound.{IsSound};
 ghost use Rattle.vcd_journal.specs.Machine.{first_machine, is_depth as depth_test, IsStepCall};
 ghost use Rattle.vcd_journal.specs.declared.step.Step.TheVariants as steps;
 
-use crate::rings::{Ring, empty_rings, enlarge, follow_newest, push_newest};
+use crate::rings::{Ring, empty_rings, enlarge, follow_newest, keep_newest, push_newest};
 use crate::step::{DEPTH_LIMIT, Step, StepError};
 use std::alloc::Global;
 use std::marker::Model;
 use vcd_core::{Capture, NoMemory};
 use vcd_edit::Edit;
+
+#[cfg(test)]
+mod tests;
 
 /// A capture under edit, with a bounded history.
 ///
@@ -147,7 +150,7 @@ impl Session {
         }
         enlarge(&mut self.past, depth as usize)?;
         enlarge(&mut self.future, depth as usize)?;
-        self.past.truncate_back(depth as usize - kept);
+        keep_newest(&mut self.past, depth as usize - kept);
         self.depth = depth;
         Ok(())
     }

@@ -15,6 +15,7 @@ pub const DEPTH_LIMIT: u64 = 1_000;
 /// What a session is asked to do.
 #[derive(Clone, Copy, Debug, PartialEq)]
 pub enum Step<'a> {
+    /// The capture is edited.
     Edit(Edit<'a>),
     /// The last edit that can be taken back is taken back.
     Undo,
@@ -86,6 +87,8 @@ impl From<NoMemory> for StepError {
 /// What a session answers to a step.
 #[derive(Clone, Copy, Debug, PartialEq, Eq)]
 pub enum Answer {
+    /// The step is made.
     Done,
+    /// The step is refused, and nothing has changed.
     Refused(StepError),
 }

@@ -46,7 +46,7 @@ invariant_of-self-2 c =
     let held = c.self.invariant in
     let valid : is_depth c.args.depth ≡ true = sym c.if-not-is_depth.ensures in
     let kept = length-take (c.args.depth - c.len-kept.result) old.past.items in
-    rw (c.truncate_back.ensures) (record {
+    rw (c.keep_newest.ensures) (record {
       sound = held.sound;
       past_fits = rw (c.in_ok-enlarge.ensures.items) (AllRecordsFit_take (contents old.capture) (c.args.depth - c.len-kept.result) old.past.items held.past_fits);
       future_fits = rw (c.in_ok-enlarge-2.ensures.items) held.future_fits;
@@ -62,5 +62,5 @@ returns-clause-step c =
     let valid : is_depth c.args.depth ≡ true = sym c.if-not-is_depth.ensures in
     let count = length_reached_captures (contents old.capture) old.future.items in
     let most : length (reached_captures (contents old.capture) old.future.items) ≤ c.args.depth = omega (arith, count, c.len-kept.ensures.len) in
-    rw (← c.self.view_is, c.truncate_back.ensures, c.in_ok-enlarge.ensures.items, c.in_ok-enlarge-2.ensures.items, c.len-kept.ensures.len)
+    rw (← c.self.view_is, c.keep_newest.ensures, c.in_ok-enlarge.ensures.items, c.in_ok-enlarge-2.ensures.items, c.len-kept.ensures.len)
     (depth_accepted c.args.depth _ _ valid most (machine_of_depth (contents old.capture) old.past.items old.future.items old.depth c.args.depth))
