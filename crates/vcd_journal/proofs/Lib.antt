@@ -1,0 +1,5 @@
+pub mod Replay
+pub mod Bounds
+pub mod Steps
+pub mod Histories
+pub mod CasesOfHistory

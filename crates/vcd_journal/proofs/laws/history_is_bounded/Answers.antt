@@ -1,0 +1,5 @@
+use Rattle.vcd_journal.proofs.Bounds.{history_is_bounded}
+use Rattle.vcd_journal.proofs.laws.history_is_bounded.Goals as goal
+
+pub returns : goal.returns
+returns c = history_is_bounded

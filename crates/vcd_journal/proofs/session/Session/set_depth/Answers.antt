@@ -1,0 +1,66 @@
+use Rattle.std.proofs.Common.{◌≡◌, ◌<◌, ◌≤◌, ◌-◌, true, length, refl, sym, arith}
+use Rattle.std.proofs.lemmas.List.{length-take}
+use Rattle.std.proofs.lemmas.Result.{err_from_is_err_and}
+use Rattle.vcd_core.specs.Contents.{contents}
+use Rattle.vcd_journal.specs.Machine.{is_depth}
+use Rattle.vcd_journal.specs.inside.Histories.{reached_captures}
+use Rattle.vcd_journal.proofs.Steps.{depth_within, depth_too_small, depth_starved, depth_accepted}
+use Rattle.vcd_journal.proofs.Histories.{length_reached_captures, AllRecordsFit_take, same_machine, machine_of_depth}
+use Rattle.vcd_journal.proofs.session.Session.set_depth.Goals as goal
+
+pub returns-then-depth-kept-clause-step : goal.returns-then-depth-kept-clause-step
+returns-then-depth-kept-clause-step c =
+    let old = c.self.inside in
+    let valid : is_depth c.args.depth ≡ true = sym c.if-not-is_depth.ensures in
+    let count = length_reached_captures (contents old.capture) old.future.items in
+    let less : c.args.depth < length (reached_captures (contents old.capture) old.future.items) = omega (arith, count, c.len-kept.ensures.len) in
+    rw (← c.self.view_is) (depth_too_small c.args.depth _ _ valid less refl)
+
+pub returns-in_err-enlarge-clause-step : goal.returns-in_err-enlarge-clause-step
+returns-in_err-enlarge-clause-step c =
+    let refused = err_from_is_err_and c.from_residual.result c.from_residual.ensures.1 in
+    let old = c.self.inside in
+    let valid : is_depth c.args.depth ≡ true = sym c.if-not-is_depth.ensures in
+    let count = length_reached_captures (contents old.capture) old.future.items in
+    let most : length (reached_captures (contents old.capture) old.future.items) ≤ c.args.depth = omega (arith, count, c.len-kept.ensures.len) in
+    let greater : old.depth < c.args.depth = omega (arith, c.self.invariant.past_room, c.in_err-enlarge.ensures.wants) in
+    rw (refused.1, refused.2, ← c.self.view_is)
+    (depth_starved c.args.depth _ _ valid most greater
+    (same_machine (contents old.capture) _ old.past.items _ old.future.items _ old.depth refl c.in_err-enlarge.ensures.items refl))
+
+pub returns-in_err-enlarge-2-clause-step : goal.returns-in_err-enlarge-2-clause-step
+returns-in_err-enlarge-2-clause-step c =
+    let refused = err_from_is_err_and c.from_residual-in_err-enlarge-2.result c.from_residual-in_err-enlarge-2.ensures.1 in
+    let old = c.self.inside in
+    let valid : is_depth c.args.depth ≡ true = sym c.if-not-is_depth.ensures in
+    let count = length_reached_captures (contents old.capture) old.future.items in
+    let most : length (reached_captures (contents old.capture) old.future.items) ≤ c.args.depth = omega (arith, count, c.len-kept.ensures.len) in
+    let greater : old.depth < c.args.depth = omega (arith, c.self.invariant.future_room, c.in_err-enlarge-2.ensures.wants) in
+    rw (refused.1, refused.2, ← c.self.view_is)
+    (depth_starved c.args.depth _ _ valid most greater
+    (same_machine (contents old.capture) _ old.past.items _ old.future.items _ old.depth refl c.in_ok-enlarge.ensures.items c.in_err-enlarge-2.ensures.items))
+
+pub invariant_of-self-2 : goal.invariant_of-self-2
+invariant_of-self-2 c =
+    let old = c.self.inside in
+    let held = c.self.invariant in
+    let valid : is_depth c.args.depth ≡ true = sym c.if-not-is_depth.ensures in
+    let kept = length-take (c.args.depth - c.len-kept.result) old.past.items in
+    rw (c.keep_newest.ensures) (record {
+      sound = held.sound;
+      past_fits = rw (c.in_ok-enlarge.ensures.items) (AllRecordsFit_take (contents old.capture) (c.args.depth - c.len-kept.result) old.past.items held.past_fits);
+      future_fits = rw (c.in_ok-enlarge-2.ensures.items) held.future_fits;
+      few = rw (c.in_ok-enlarge.ensures.items, c.in_ok-enlarge-2.ensures.items) (omega (arith, kept, c.len-kept.ensures.len));
+      most = depth_within c.args.depth valid;
+      past_room = c.in_ok-enlarge.ensures.room;
+      future_room = c.in_ok-enlarge-2.ensures.room;
+    })
+
+pub returns-clause-step : goal.returns-clause-step
+returns-clause-step c =
+    let old = c.self.inside in
+    let valid : is_depth c.args.depth ≡ true = sym c.if-not-is_depth.ensures in
+    let count = length_reached_captures (contents old.capture) old.future.items in
+    let most : length (reached_captures (contents old.capture) old.future.items) ≤ c.args.depth = omega (arith, count, c.len-kept.ensures.len) in
+    rw (← c.self.view_is, c.keep_newest.ensures, c.in_ok-enlarge.ensures.items, c.in_ok-enlarge-2.ensures.items, c.len-kept.ensures.len)
+    (depth_accepted c.args.depth _ _ valid most (machine_of_depth (contents old.capture) old.past.items old.future.items old.depth c.args.depth))

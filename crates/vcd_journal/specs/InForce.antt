@@ -1,0 +1,62 @@
+-- Which edits are in force, and what they make of a capture: the project's own.
+use Rattle.std.specs.Prelude.{◌≡◌, List, [], ◌∷◌, length, take}
+use Rattle.vcd_core.specs.Contents.{Contents}
+use Rattle.vcd_edit.specs.declared.edit.Edit.{Edit}
+use Rattle.vcd_edit.specs.Effect.{effect}
+use Rattle.vcd_journal.specs.declared.step.Step.{Step}
+use Rattle.vcd_journal.specs.declared.step.Step.TheVariants as steps
+use Rattle.vcd_journal.specs.declared.step.Answer.{Answer}
+use Rattle.vcd_journal.specs.declared.step.Answer.TheVariants.{Done}
+use Rattle.vcd_journal.specs.Machine.{Machine}
+
+-- the edits in force, the last first, and those undone, the one undone last first
+pub record Tally : Type 0 where
+  pub edits_in_force : List Edit
+  pub undone_edits : List Edit
+
+-- an accepted undo: the last edit in force is undone
+abbrev pub tally_after_undo : List Edit → List Edit → Tally
+tally_after_undo [] undone_edits = record { edits_in_force = []; undone_edits = undone_edits }
+tally_after_undo (e ∷ es) undone_edits = record { edits_in_force = es; undone_edits = e ∷ undone_edits }
+
+-- an accepted redo: the edit that was undone last is in force again
+abbrev pub tally_after_redo : List Edit → List Edit → Tally
+tally_after_redo edits_in_force [] = record { edits_in_force = edits_in_force; undone_edits = [] }
+tally_after_redo edits_in_force (e ∷ es) = record { edits_in_force = e ∷ edits_in_force; undone_edits = es }
+
+-- an accepted edit is in force and leaves none undone; a depth and a refused step count for nothing
+abbrev pub tally_after : Tally → Step → Answer → Tally
+tally_after t (steps.Edit e) Done = record { edits_in_force = e ∷ t.edits_in_force; undone_edits = [] }
+tally_after t steps.Undo Done = tally_after_undo t.edits_in_force t.undone_edits
+tally_after t steps.Redo Done = tally_after_redo t.edits_in_force t.undone_edits
+tally_after t s a = t
+
+-- the tally after steps with their answers
+unfoldable pub tally_after_all : Tally → List Step → List Answer → Tally
+tally_after_all t (s ∷ asked) (a ∷ answers) = tally_after_all (tally_after t s a) asked answers
+tally_after_all t asked answers = t
+
+-- the tally of steps with their answers, from the first one on
+abbrev pub tally_of_steps : List Step → List Answer → Tally
+tally_of_steps asked answers = tally_after_all (record { edits_in_force = []; undone_edits = [] }) asked answers
+
+-- edits made one after another, the last of them being the first of the list
+unfoldable pub replay : Contents → List Edit → Contents
+replay c [] = c
+replay c (e ∷ es) = effect e (replay c es)
+
+-- the replays of the edits without the last, without the last two, and so on down to none
+unfoldable pub earlier_replays : Contents → List Edit → List Contents
+earlier_replays c [] = []
+earlier_replays c (e ∷ es) = replay c es ∷ earlier_replays c es
+
+-- the replays with the first of the undone edits again, with the first two, and so on
+unfoldable pub later_replays : Contents → List Edit → List Edit → List Contents
+later_replays c es [] = []
+later_replays c es (u ∷ undone_edits) = replay c (u ∷ es) ∷ later_replays c (u ∷ es) undone_edits
+
+-- the capture is the replay of the edits in force; each one of the past, as far as it is held, that of those before it; each one of the future that with the undone ones again
+pub record IsReplay (c : Contents) (t : Tally) (m : Machine) : Type 0 where
+  pub now : m.now ≡ replay c t.edits_in_force
+  pub past : m.past ≡ take (length m.past) (earlier_replays c t.edits_in_force)
+  pub future : m.future ≡ later_replays c t.edits_in_force t.undone_edits

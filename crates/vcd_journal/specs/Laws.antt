@@ -1,0 +1,15 @@
+-- Laws of the history: the project's own.
+use Rattle.std.specs.Prelude.{ℕ, ◌+◌, ◌≤◌, List, length}
+use Rattle.vcd_core.specs.Contents.{Contents}
+use Rattle.vcd_journal.specs.declared.step.Step.{Step}
+use Rattle.vcd_journal.specs.declared.step.Answer.{Answer}
+use Rattle.vcd_journal.specs.Machine.{Machine, first_machine, StepsLead}
+use Rattle.vcd_journal.specs.InForce.{IsReplay, tally_of_steps}
+
+-- whatever steps are asked and however they are answered, what the machine holds are replays of the edits in force
+abbrev pub SessionIsReplay : Type 0
+SessionIsReplay = (c : Contents) (depth : ℕ) (asked : List Step) (answers : List Answer) (m : Machine) → StepsLead (first_machine c depth) asked answers m → IsReplay c (tally_of_steps asked answers) m
+
+-- and it holds at most as many captures as its depth, past and future together
+abbrev pub HistoryIsBounded : Type 0
+HistoryIsBounded = (c : Contents) (depth : ℕ) (asked : List Step) (answers : List Answer) (m : Machine) → StepsLead (first_machine c depth) asked answers m → length m.past + length m.future ≤ m.depth

@@ -1,0 +1,35 @@
+-- What the records of a session stand for: the project's own.
+use Rattle.std.specs.Prelude.{◌≡◌, ℕ, suc, ◌+◌, ◌≤◌, List, [], ◌∷◌, length}
+use Rattle.circular_buffer.specs.Buffer.{Buffer}
+use Rattle.vcd_core.specs.Contents.{Contents}
+use Rattle.vcd_core.specs.Sound.{IsSound}
+use Rattle.vcd_edit.specs.RecordView.{RecordView}
+use Rattle.vcd_edit.specs.Back.{back, Fits}
+use Rattle.vcd_journal.specs.declared.step.TheConstants.{DEPTH_LIMIT}
+
+-- the captures that records lead to, one after another
+abbrev pub reached_captures : Contents → List RecordView → List Contents
+reached_captures c [] = []
+reached_captures c (r ∷ rs) = back r c ∷ reached_captures (back r c) rs
+
+-- each record fits the capture that those before it lead to
+abbrev pub AllRecordsFit : Contents → List RecordView → Type 0
+AllRecordsFit c [] = Unit {0}
+AllRecordsFit c (r ∷ rs) = Fits r c × AllRecordsFit (back r c) rs
+
+-- the records of two rings lead back and forth from a sound capture, are few enough, and the rings have room
+pub record IsHistory (c : Contents) (past future : Buffer RecordView) (depth : ℕ) : Type 0 where
+  pub sound : IsSound c
+  pub past_fits : AllRecordsFit c past.items
+  pub future_fits : AllRecordsFit c future.items
+  pub few : length past.items + length future.items ≤ depth
+  pub most : depth ≤ DEPTH_LIMIT
+  pub past_room : depth ≤ past.capacity
+  pub future_room : depth ≤ future.capacity
+
+-- the first record of a ring leads from c to d, and the others stay
+pub record IsWay (c : Contents) (before : List RecordView) (d : Contents) (after : List RecordView) : Type 0 where
+  pub captures : reached_captures c before ≡ d ∷ reached_captures d after
+  pub fit : AllRecordsFit c before
+  pub rest_fit : AllRecordsFit d after
+  pub count : length before ≡ suc (length after)

@@ -1,0 +1,98 @@
+//! The two histories as rings of records, the newest record first.
+//!
+//! The functions take a session's fields, not the session: so the prover knows what became of each.
+
+ghost use Rattle.std.specs.Prelude.{◌≡◌, ◌≤◌, ◌<◌, [], ◌∷◌, IfOk, OnOk, OnErr, length, take};
+ghost use Rattle.circular_buffer.specs.Buffer.{buffer};
+ghost use Rattle.vcd_core.specs.Contents.{contents};
+ghost use Rattle.vcd_core.specs.Sound.{IsSound};
+ghost use Rattle.vcd_journal.specs.inside.Histories.{AllRecordsFit, IsWay};
+
+use circular_buffer::HeapCircularBuffer;
+use std::alloc::Global;
+use vcd_core::{Capture, NoMemory};
+use vcd_edit::{Record, revert};
+
+/// The records of one history, the newest first.
+pub type Ring = HeapCircularBuffer<Record>;
+
+/// Two rings without a record, each with room for so many.
+pub fn empty_rings(alloc: Global, capacity: usize) -> Result<(Ring, Ring), NoMemory>
+    ensures { IfOk result (λ r. (r.0 ≡ buffer [] capacity) × (r.1 ≡ buffer [] capacity)) }
+{
+    let past = HeapCircularBuffer::with_capacity(alloc, capacity)?;
+    let future = HeapCircularBuffer::with_capacity(alloc, capacity)?;
+    Ok((past, future))
+}
+
+/// Puts a record in front, and keeps the newest `depth` of all. The ring may have more room than
+/// that.
+pub fn push_newest(ring: &mut Ring, newest: Record, depth: usize)
+    requires { depth ≤ ring.old.capacity }
+    ensures items { ring.new.items ≡ take depth (newest ∷ ring.old.items) }
+    ensures capacity { ring.new.capacity ≡ ring.old.capacity }
+{
+    let _oldest = ring.push_front(newest);
+    keep_newest(ring, depth);
+}
+
+/// Drops all records but the newest `count`.
+pub fn keep_newest(ring: &mut Ring, count: usize)
+    ensures { ring.new ≡ buffer (take count ring.old.items) ring.old.capacity }
+{
+    ring.truncate_back(count);
+}
+
+/// Gives a ring room for so many records. One that has it stays as it is, and takes no memory.
+pub fn enlarge(ring: &mut Ring, capacity: usize) -> Result<(), NoMemory>
+    ensures items { ring.new.items ≡ ring.old.items }
+    ensures room { OnOk result (capacity ≤ ring.new.capacity) }
+    ensures most { ring.old.capacity ≤ ring.new.capacity }
+    ensures wants { OnErr result (ring.old.capacity < capacity) }
+{
+    if capacity <= ring.capacity() {
+        return Ok(());
+    }
+    ring.resize(capacity)?;
+    Ok(())
+}
+
+/// The capture becomes what the newest record of `from` leads to. That record goes, and the one
+/// that leads back becomes the newest of `to`. Where memory is refused, all is as before.
+pub fn follow_newest(
+    alloc: Global,
+    capture: &mut Capture,
+    from: &mut Ring,
+    to: &mut Ring,
+) -> Result<(), NoMemory>
+    requires some { 0 < length from.old.items }
+    requires within { length from.old.items ≤ from.old.capacity }
+    requires room { length to.old.items < to.old.capacity }
+    requires sound { IsSound (contents capture.old) }
+    requires fit { AllRecordsFit (contents capture.old) from.old.items }
+    requires behind_fit { AllRecordsFit (contents capture.old) to.old.items }
+    ensures ahead { OnOk result (IsWay (contents capture.old) from.old.items
+        (contents capture.new) from.new.items) }
+    ensures behind { OnOk result (IsWay (contents capture.new) to.new.items
+        (contents capture.old) to.old.items) }
+    ensures sound { IsSound (contents capture.new) }
+    ensures from_room { from.new.capacity ≡ from.old.capacity }
+    ensures to_room { to.new.capacity ≡ to.old.capacity }
+    ensures unchanged { OnErr result ((contents capture.new ≡ contents capture.old)
+        × (from.new ≡ from.old) × (to.new ≡ to.old)) }
+{
+    let Some(way) = from.pop_front() else {
+        unreachable!()
+    };
+    match revert(alloc, capture, way) {
+        Ok(record) => {
+            let _none = to.push_front(record);
+            Ok(())
+        }
+        Err(kept) => {
+            // there is room, since the record was just taken out
+            let _none = from.push_front(kept.held);
+            Err(NoMemory)
+        }
+    }
+}

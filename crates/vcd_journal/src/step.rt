@@ -1,0 +1,94 @@
+//! The steps of a session, and what it answers to them.
+
+ghost use Rattle.std.specs.Prelude.{◌≡◌};
+ghost use Rattle.vcd_journal.specs.RefusalNames.{step_error_name};
+
+use std::fmt;
+use thiserror::Error;
+use vcd_core::NoMemory;
+use vcd_edit::{Edit, EditError};
+
+/// The most steps that a session may hold, those that can be taken back and those that can be made
+/// again together.
+pub const DEPTH_LIMIT: u64 = 1_000;
+
+/// What a session is asked to do.
+#[derive(Clone, Copy, Debug, PartialEq)]
+pub enum Step<'a> {
+    /// The capture is edited.
+    Edit(Edit<'a>),
+    /// The last edit that can be taken back is taken back.
+    Undo,
+    /// The edit that was undone last is made again.
+    Redo,
+    /// From now on at most so many steps are held, from 1 to [`DEPTH_LIMIT`].
+    Depth(u64),
+}
+
+/// Why a step is refused.
+#[derive(Clone, Copy, Debug, PartialEq, Eq, Error)]
+pub enum StepError {
+    /// The edit is refused.
+    Edit(EditError),
+    /// No edit is held that could be taken back.
+    NothingToUndo,
+    /// No edit is held that could be made again.
+    NothingToRedo,
+    /// The depth is not from 1 to [`DEPTH_LIMIT`].
+    BadDepth,
+    /// More edits are held that could be made again.
+    DepthTooSmall,
+    /// Memory was refused for an undo, a redo or a greater depth.
+    NoMemory,
+}
+
+impl StepError {
+    /// The name that the tool prints. It takes no memory.
+    pub fn name(&self) -> &'static str
+        ensures { result.now ≡ step_error_name self.now }
+    {
+        match self {
+            StepError::Edit(fault) => fault.name(),
+            StepError::NothingToUndo => "NothingToUndo",
+            StepError::NothingToRedo => "NothingToRedo",
+            StepError::BadDepth => "BadDepth",
+            StepError::DepthTooSmall => "DepthTooSmall",
+            StepError::NoMemory => "NoMemory",
+        }
+    }
+}
+
+impl fmt::Display for StepError {
+    fn fmt<W: fmt::Write>(&self, f: &mut fmt::Formatter<W>) -> fmt::Result {
+        f.write_str(self.name())
+    }
+}
+
+impl From<EditError> for StepError {
+    ghost use Rattle.vcd_journal.specs.declared.step.StepError.TheVariants as refusals;
+
+    ghost from_gives = { λ fault e. e ≡ refusals.Edit fault };
+
+    fn from(fault: EditError) -> StepError {
+        StepError::Edit(fault)
+    }
+}
+
+impl From<NoMemory> for StepError {
+    ghost use Rattle.vcd_journal.specs.declared.step.StepError.TheVariants as refusals;
+
+    ghost from_gives = { λ _ e. e ≡ refusals.NoMemory };
+
+    fn from(_refused: NoMemory) -> StepError {
+        StepError::NoMemory
+    }
+}
+
+/// What a session answers to a step.
+#[derive(Clone, Copy, Debug, PartialEq, Eq)]
+pub enum Answer {
+    /// The step is made.
+    Done,
+    /// The step is refused, and nothing has changed.
+    Refused(StepError),
+}
