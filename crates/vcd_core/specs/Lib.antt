@@ -13,4 +13,5 @@ pub mod Names
 pub mod FullName
 pub mod Device
 pub mod Edges
+pub mod BitEdges
 pub mod inside

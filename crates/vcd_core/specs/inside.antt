@@ -4,3 +4,4 @@ pub mod PlaneLaws
 pub mod ValueLaws
 pub mod NameParts
 pub mod EdgeWalk
+pub mod BitEdgeWalk

@@ -1,6 +1,6 @@
-ghost use Rattle.std.specs.Prelude.{◌≡◌, ℕ, [], ◌∷◌, map};
+ghost use Rattle.std.specs.Prelude.{◌≡◌, ℕ, [], ◌∷◌, map, None};
 ghost use Rattle.std.specs.Option.{option_copied};
-ghost use Rattle.vcd_core.specs.inside.EdgeWalk.{earlier_tick, next_tick_of, trace_left};
+ghost use Rattle.vcd_core.specs.inside.EdgeWalk.{earlier_tick, next_tick};
 
 use crate::bit::Bit;
 use crate::value::Value;
@@ -27,7 +27,7 @@ struct Trace<'a> {
 
 impl<'a> Trace<'a> {
     ghost use Rattle.vcd_core.specs.Edges.{trace_of};
-    ghost use Rattle.vcd_core.specs.inside.EdgeWalk.{trace_left, trace_after, next_tick, Rises};
+    ghost use Rattle.vcd_core.specs.inside.EdgeWalk.{trace_left, trace_after, Rises};
 
     /// A whole wave.
     fn new(wave: Option<&'a Wave>) -> Trace<'a>
@@ -43,16 +43,6 @@ impl<'a> Trace<'a> {
                 value: None,
                 rest: &[],
             },
-        }
-    }
-
-    /// The tick of its next change.
-    fn next_tick(&self) -> Option<u64>
-        ensures { result ≡ next_tick self.now.rest.now }
-    {
-        match self.rest {
-            [change, ..] => Some(change.tick),
-            [] => None,
         }
     }
 
@@ -134,7 +124,7 @@ impl<'a> Iterator for Edges<'a> {
     ghost remaining = { item_count (λ left. left) };
 
     fn next(&mut self) -> Option<Edge> {
-        let tick = next_of(&self.a, &self.b, &self.c, &self.d)?;
+        let tick = next_of(self.a.rest, self.b.rest, self.c.rest, self.d.rest)?;
         let before = [self.a.value, self.b.value, self.c.value, self.d.value];
         self.a = self.a.after(tick);
         self.b = self.b.after(tick);
@@ -145,15 +135,25 @@ impl<'a> Iterator for Edges<'a> {
     }
 }
 
-/// The tick of the next change of the waves.
-fn next_of(a: &Trace, b: &Trace, c: &Trace, d: &Trace) -> Option<u64>
-    ensures { result ≡ next_tick_of
-        (trace_left a.now ∷ trace_left b.now ∷ trace_left c.now ∷ trace_left d.now ∷ []) }
+/// The tick of the next change of four waves, each given by its changes to come.
+pub(crate) fn next_of(a: &[Change], b: &[Change], c: &[Change], d: &[Change]) -> Option<u64>
+    ensures { result ≡ earlier_tick (next_tick a.now) (earlier_tick (next_tick b.now)
+        (earlier_tick (next_tick c.now) (earlier_tick (next_tick d.now) None))) }
 {
-    // From the last wave to the first, as `next_tick_of` goes over the list, down to its end.
-    let last = earlier(d.next_tick(), None);
-    let later = earlier(c.next_tick(), last);
-    earlier(a.next_tick(), earlier(b.next_tick(), later))
+    // From the last wave to the first, as `next_tick_of` goes over a list, down to its end.
+    let last = earlier(first_tick(d), None);
+    let later = earlier(first_tick(c), last);
+    earlier(first_tick(a), earlier(first_tick(b), later))
+}
+
+/// The tick of the first change.
+fn first_tick(changes: &[Change]) -> Option<u64>
+    ensures { result ≡ next_tick changes.now }
+{
+    match changes {
+        [change, ..] => Some(change.tick),
+        [] => None,
+    }
 }
 
 /// The lesser of two ticks that may be absent.

@@ -6,6 +6,7 @@
 #![tactic(auto)]
 
 mod bit;
+mod bit_edges;
 mod capture;
 mod change_list;
 mod copies;
@@ -26,6 +27,7 @@ mod wave;
 mod word;
 
 pub use bit::Bit;
+pub use bit_edges::{BitEdge, BitEdges};
 pub use capture::{
     Capture, END_LIMIT, Header, HeaderKind, SIGNAL_LIMIT, ScopeName, ScopePath, Signal, TimeUnit,
     Timescale, Word,
