@@ -5,3 +5,5 @@ pub mod LineLetters
 pub mod Falls
 pub mod SampleTicks
 pub mod BegunFrames
+pub mod Groups
+pub mod EdgeTicks

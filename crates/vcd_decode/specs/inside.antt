@@ -1,1 +1,2 @@
 -- Stepping stones: definitions that only contracts of private functions and proofs cite. A reader need not believe them.
+pub mod LineEdges
