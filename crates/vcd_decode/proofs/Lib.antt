@@ -7,3 +7,5 @@ pub mod SampleTicks
 pub mod BegunFrames
 pub mod Groups
 pub mod EdgeTicks
+pub mod SpiGroups
+pub mod SpiSteps

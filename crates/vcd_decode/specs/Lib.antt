@@ -3,6 +3,7 @@ pub mod SetupErrorNames
 pub mod Lines
 pub mod UartSetup
 pub mod Uart
+pub mod SpiSetup
 pub mod Groups
 pub mod Spi
 pub mod I2c
