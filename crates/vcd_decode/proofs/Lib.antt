@@ -9,3 +9,6 @@ pub mod Groups
 pub mod EdgeTicks
 pub mod SpiGroups
 pub mod SpiSteps
+pub mod PartBytes
+pub mod BusWalks
+pub mod BusEdges

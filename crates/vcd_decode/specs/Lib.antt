@@ -6,5 +6,7 @@ pub mod Uart
 pub mod SpiSetup
 pub mod Groups
 pub mod Spi
+pub mod BusEvents
+pub mod BusBytes
 pub mod I2c
 pub mod inside

@@ -3,3 +3,4 @@ pub mod LineEdges
 pub mod SpiClock
 pub mod SpiGroup
 pub mod SpiWalk
+pub mod BusWalk

@@ -4,7 +4,7 @@
 #![tactic(auto)]
 
 mod annotation;
-mod i2c_bytes;
+mod i2c_bus;
 mod letters;
 mod setup_error;
 mod spi_group;
@@ -14,6 +14,7 @@ mod uart_frames;
 mod uart_setup;
 
 pub use annotation::{Annotation, Direction, Kind, LineData};
+pub use i2c_bus::i2c;
 pub use setup_error::SetupError;
 pub use spi_setup::{BitOrder, GREATEST_MODE, Spi, WORD_BITS_LIMIT};
 pub use spi_words::spi;
