@@ -1,4 +1,3 @@
-<<<<<<< HEAD
 -- Worked cases: what frames small captures of a UART line hold.
 use Rattle.std.proofs.Common.{◌≡◌, refl}
 use Rattle.std.specs.Prelude.{ℕ, ◌+◌, ◌-◌, ◌*◌, ◌/◌, List, [], ◌∷◌, map, Some}
@@ -198,6 +197,3 @@ bad_stop = refl
 
 sound : uart_fault (uart_setup 4 2 9 Odd 2) ≡ no_fault.None
 sound = refl
-=======
--- Worked cases of a UART line.
->>>>>>> 3107f289940a1830f24091a810f581f387ef9b74

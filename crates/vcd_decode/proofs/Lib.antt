@@ -1,10 +1,14 @@
 pub mod CasesOfUart
 pub mod CasesOfSpi
 pub mod CasesOfI2c
-<<<<<<< HEAD
 pub mod LineLetters
 pub mod Falls
 pub mod SampleTicks
 pub mod BegunFrames
-=======
->>>>>>> 3107f289940a1830f24091a810f581f387ef9b74
+pub mod Groups
+pub mod EdgeTicks
+pub mod SpiGroups
+pub mod SpiSteps
+pub mod PartBytes
+pub mod BusWalks
+pub mod BusEdges

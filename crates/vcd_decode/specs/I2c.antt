@@ -1,1 +1,82 @@
--- The conditions and bytes of an I2C bus (UM10204, 3.1).
+-- The annotations of an I2C bus (UM10204, 3.1); how rests and unclear levels are shown is the project's own.
+use Rattle.std.specs.Prelude.{ℕ, ◌-◌, ◌==◌, ◌&&◌, nat_le, Bool, true, false, if◌then◌else◌, Option, Some, None, List, [], ◌∷◌, ◌++◌, length, take, drop, map, slice_index}
+use Rattle.std.specs.Option.{option_or, option_flatten}
+use Rattle.vcd_core.specs.declared.bit.Bit.{Bit}
+use Rattle.vcd_decode.specs.declared.annotation.Annotation.{Annotation}
+use Rattle.vcd_decode.specs.declared.annotation.Kind.{Kind}
+use Rattle.vcd_decode.specs.declared.annotation.Kind.TheVariants as kinds
+use Rattle.vcd_decode.specs.declared.i2c_bus.events.BusBit.{BusBit}
+use Rattle.vcd_decode.specs.declared.i2c_bus.events.BusEvent.{BusEvent}
+use Rattle.vcd_decode.specs.declared.i2c_bus.events.BusEvent.TheVariants as events
+use Rattle.vcd_decode.specs.declared.i2c_bus.bytes.ByteRole.{ByteRole}
+use Rattle.vcd_decode.specs.declared.i2c_bus.bytes.ByteRole.TheVariants as roles
+use Rattle.vcd_decode.specs.Lines.{note}
+use Rattle.vcd_decode.specs.Groups.{groups_of}
+use Rattle.vcd_decode.specs.BusEvents.{bus_events}
+use Rattle.vcd_decode.specs.BusBytes.{number_of_bits, byte_kind, role_after, acknowledge_kind, ten_bit_address}
+
+-- ---- the bits from a START to the next condition
+
+-- the ticks of bits
+abbrev pub ticks_of : List BusBit → List ℕ
+ticks_of bits = map (λ b. b.tick) bits
+
+-- an annotation from the first to the last tick of bits
+abbrev pub bits_note : List BusBit → Kind → Annotation
+bits_note bits kind = note (slice_index (ticks_of bits) 0) (slice_index (ticks_of bits) (length bits - 1)) kind
+
+-- the byte of a nine and its acknowledge
+abbrev pub byte_notes : ByteRole → List BusBit → List Annotation
+byte_notes role nine =
+    bits_note (take 8 nine) (byte_kind role (number_of_bits (take 8 nine)))
+    ∷ bits_note (drop 8 nine) (acknowledge_kind (number_of_bits (drop 8 nine))) ∷ []
+
+-- a rest: at least two bits that a condition ends, the rise of SCL before that condition among them
+abbrev pub rest_notes : Bool → List BusBit → List Annotation
+rest_notes ended rest = if ended && nat_le 2 (length rest) then bits_note rest (kinds.PartialOf (length rest)) ∷ [] else []
+
+-- the bits of a stretch, cut into nines: a byte and its acknowledge each, and a rest
+unfoldable pub nines_notes : Bool → ByteRole → List (List BusBit) → List Annotation
+nines_notes ended role [] = []
+nines_notes ended role (nine ∷ nines) =
+    if length nine == 9 then byte_notes role nine ++ nines_notes ended (role_after role (number_of_bits (take 8 nine))) nines
+    else rest_notes ended nine
+
+-- ---- a whole bus
+
+-- the bits up to the next condition
+unfoldable pub bits_until : List BusEvent → List BusBit
+bits_until [] = []
+bits_until (events.Bit b ∷ es) = b ∷ bits_until es
+bits_until (events.Start t ∷ es) = []
+bits_until (events.Stop t ∷ es) = []
+
+-- whether there is a next condition
+unfoldable pub has_condition : List BusEvent → Bool
+has_condition [] = false
+has_condition (events.Bit b ∷ es) = has_condition es
+has_condition (events.Start t ∷ es) = true
+has_condition (events.Stop t ∷ es) = true
+
+-- the address of ten bits that annotations show
+unfoldable pub address_given : List Annotation → Option ℕ
+address_given [] = None
+address_given (a ∷ others) = option_or (ten_bit_address a.kind) (address_given others)
+
+-- a START is a repeated one where the last condition was a START
+abbrev pub start_kind : Option (Option ℕ) → Kind
+start_kind None = kinds.Start
+start_kind (Some given) = kinds.RepeatedStart
+
+-- the annotations of conditions and bits, where the last condition before them was a START (with the address of ten bits that was given since) or none
+unfoldable pub events_notes : Option (Option ℕ) → List BusEvent → List Annotation
+events_notes last [] = []
+events_notes last (events.Bit b ∷ es) = events_notes last es
+events_notes last (events.Stop t ∷ es) = note t t kinds.Stop ∷ events_notes None es
+events_notes last (events.Start t ∷ es) =
+    let shown = nines_notes (has_condition es) (roles.Address (option_flatten last)) (groups_of 9 (bits_until es)) in
+    note t t (start_kind last) ∷ shown ++ events_notes (Some (address_given shown)) es
+
+-- the annotations of the lines SCL and SDA at the ticks 0 to `end`
+abbrev pub i2c_annotations : (ℕ → Bit) → (ℕ → Bit) → ℕ → List Annotation
+i2c_annotations scl sda end = events_notes None (bus_events scl sda end)

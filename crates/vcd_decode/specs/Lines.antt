@@ -1,9 +1,5 @@
 -- A line of one bit as a function of the tick, and an annotation of it: what the three decoders share.
-<<<<<<< HEAD
 use Rattle.std.specs.Prelude.{ℕ, zero, suc, ◌+◌, ◌*◌, ◌||◌, Bool, true, false, not, if◌then◌else◌, List, [], ◌∷◌}
-=======
-use Rattle.std.specs.Prelude.{ℕ, zero, suc, Bool, true, false}
->>>>>>> 3107f289940a1830f24091a810f581f387ef9b74
 use Rattle.vcd_core.specs.declared.bit.Bit.{Bit}
 use Rattle.vcd_core.specs.declared.bit.Bit.TheVariants.{Zero, One, X, Z}
 use Rattle.vcd_core.specs.WaveView.{WaveView}
@@ -35,7 +31,6 @@ is_one One = true
 is_one X = false
 is_one Z = false
 
-<<<<<<< HEAD
 -- whether a letter is neither
 abbrev pub is_unclear : Bit → Bool
 is_unclear b = not (is_zero b || is_one b)
@@ -45,8 +40,6 @@ abbrev pub number_of : List Bit → ℕ
 number_of [] = 0
 number_of (b ∷ bs) = (if is_one b then 1 else 0) + 2 * number_of bs
 
-=======
->>>>>>> 3107f289940a1830f24091a810f581f387ef9b74
 -- an annotation: from the tick `start` to the tick `end`, both included
 abbrev pub note : ℕ → ℕ → Kind → Annotation
 note start end kind = record { start = start; end = end; kind = kind }

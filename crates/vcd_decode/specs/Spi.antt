@@ -1,1 +1,74 @@
--- The words of a serial peripheral interface.
+-- The words of a serial peripheral interface. At which edge a mode samples is the field's common rule (clock polarity and
+-- phase, 0 to 3); how ticks are parted and cut into words is the project's own.
+use Rattle.std.specs.Prelude.{ℕ, suc, ◌-◌, ◌==◌, ◌&&◌, ◌||◌, nat_lt, Bool, true, not, if◌then◌else◌, Option, Some, None, List, map, filter, length, reverse, slice_index}
+use Rattle.std.specs.List.{flat_map, list_any, range_with_len, slice_split}
+use Rattle.vcd_core.specs.declared.bit.Bit.{Bit}
+use Rattle.vcd_decode.specs.declared.annotation.Annotation.{Annotation}
+use Rattle.vcd_decode.specs.declared.annotation.Kind.TheVariants.{Word, PartialOf}
+use Rattle.vcd_decode.specs.declared.annotation.LineData.{LineData}
+use Rattle.vcd_decode.specs.declared.annotation.LineData.TheVariants.{Absent, Unknown, Number}
+use Rattle.vcd_decode.specs.declared.spi_setup.BitOrder.{BitOrder}
+use Rattle.vcd_decode.specs.declared.spi_setup.BitOrder.TheVariants.{Msb, Lsb}
+use Rattle.vcd_decode.specs.SpiSetup.{SpiSetup}
+use Rattle.vcd_decode.specs.Groups.{groups_of}
+use Rattle.vcd_decode.specs.Lines.{letter_before, is_zero, is_one, is_unclear, number_of, note}
+
+-- ---- the sampling ticks
+
+-- whether a mode samples where its clock rises; the others sample where it falls
+abbrev pub samples_rise : ℕ → Bool
+samples_rise mode = mode == 0 || mode == 3
+
+-- whether a clock that goes from one letter to another is sampled there
+abbrev pub is_sampled : Bool → Bit → Bit → Bool
+is_sampled rise before at = if rise then is_zero before && is_one at else is_one before && is_zero at
+
+-- whether the clock has the mode's edge at a tick
+abbrev pub has_edge : ℕ → (ℕ → Bit) → ℕ → Bool
+has_edge mode clk t = is_sampled (samples_rise mode) (letter_before clk t) (clk t)
+
+-- whether the chip is selected at a tick: always where there is no such line
+abbrev pub is_selected : Option (ℕ → Bit) → ℕ → Bool
+is_selected None t = true
+is_selected (Some cs) t = is_zero (cs t)
+
+-- the ticks 0 to `end` parted wherever the chip is not selected, and of each part those that are sampled
+abbrev pub segments : SpiSetup → (ℕ → Bit) → Option (ℕ → Bit) → ℕ → List (List ℕ)
+segments u clk cs end = map (filter (has_edge u.mode clk)) (slice_split (λ t. not (is_selected cs t)) (range_with_len 0 (suc end)))
+
+-- ---- words
+
+-- the number that letters make in the order in which they come
+abbrev pub ordered_number : BitOrder → List Bit → ℕ
+ordered_number Msb letters = number_of (reverse letters)
+ordered_number Lsb letters = number_of letters
+
+-- what letters of a data line make: nothing known where one is neither 0 nor 1
+abbrev pub data_of : BitOrder → List Bit → LineData
+data_of order letters = if list_any is_unclear letters then Unknown else Number (ordered_number order letters)
+
+-- what a data line shows at some ticks
+abbrev pub line_data : BitOrder → Option (ℕ → Bit) → List ℕ → LineData
+line_data order None ticks = Absent
+line_data order (Some f) ticks = data_of order (map f ticks)
+
+-- the first and the last of some ticks
+abbrev pub first_tick : List ℕ → ℕ
+first_tick ticks = slice_index ticks 0
+
+abbrev pub last_tick : List ℕ → ℕ
+last_tick ticks = slice_index ticks (length ticks - 1)
+
+-- what a group of a segment tells: a word, or how many bits of one
+abbrev pub group_told : SpiSetup → Option (ℕ → Bit) → Option (ℕ → Bit) → List ℕ → Annotation
+group_told u mosi miso ticks = note (first_tick ticks) (last_tick ticks)
+    (if nat_lt (length ticks) u.bits then PartialOf (length ticks)
+    else Word (line_data u.order mosi ticks) (line_data u.order miso ticks))
+
+-- and what a segment tells
+abbrev pub segment_told : SpiSetup → Option (ℕ → Bit) → Option (ℕ → Bit) → List ℕ → List Annotation
+segment_told u mosi miso ticks = map (group_told u mosi miso) (groups_of u.bits ticks)
+
+-- the annotations of lines that have these letters at each tick, up to the capture's end
+unfoldable pub spi_annotations : SpiSetup → (ℕ → Bit) → Option (ℕ → Bit) → Option (ℕ → Bit) → Option (ℕ → Bit) → ℕ → List Annotation
+spi_annotations u clk mosi miso cs end = flat_map (segment_told u mosi miso) (segments u clk cs end)

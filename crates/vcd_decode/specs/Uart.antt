@@ -1,4 +1,3 @@
-<<<<<<< HEAD
 -- The frames of an asynchronous serial line. A frame is a start bit 0, data bits with the least significant first, a
 -- parity bit where there is one, and stop bits 1 (ISO 1177); when it begins and where it is sampled is the project's own.
 use Rattle.std.specs.Prelude.{ℕ, suc, ◌+◌, ◌*◌, ◌/◌, ◌%◌, ◌==◌, ◌&&◌, nat_lt, nat_le, Bool, false, not, if◌then◌else◌, Option, Some, None, List, [], ◌∷◌, ◌++◌, map, filter, take, drop, count_by}
@@ -86,6 +85,3 @@ frames begun taken (start ∷ starts) =
 -- the annotations of a line that has this letter at each tick, up to the capture's end
 unfoldable pub uart_annotations : (ℕ → Bit) → ℕ → UartSetup → List Annotation
 uart_annotations f end u = frames (begun_frame f end u) 0 (falls f end)
-=======
--- The frames of an asynchronous serial line.
->>>>>>> 3107f289940a1830f24091a810f581f387ef9b74

@@ -4,23 +4,19 @@
 #![tactic(auto)]
 
 mod annotation;
-mod i2c_bytes;
-<<<<<<< HEAD
+mod i2c_bus;
 mod letters;
 mod setup_error;
+mod spi_group;
+mod spi_setup;
 mod spi_words;
 mod uart_frames;
 mod uart_setup;
 
 pub use annotation::{Annotation, Direction, Kind, LineData};
+pub use i2c_bus::i2c;
 pub use setup_error::SetupError;
+pub use spi_setup::{BitOrder, GREATEST_MODE, Spi, WORD_BITS_LIMIT};
+pub use spi_words::spi;
 pub use uart_frames::uart;
 pub use uart_setup::{Parity, RATIO_LIMIT, Uart};
-=======
-mod setup_error;
-mod spi_words;
-mod uart_frames;
-
-pub use annotation::{Annotation, Direction, Kind, LineData};
-pub use setup_error::SetupError;
->>>>>>> 3107f289940a1830f24091a810f581f387ef9b74

@@ -1,1 +1,132 @@
 //! Words of a serial peripheral interface.
+
+ghost use Rattle.std.specs.Prelude.{◌≡◌, ◌++◌, [], ◌∷◌, Some, IfOk, OnOk};
+ghost use Rattle.std.specs.Option.{option_copied, option_map};
+ghost use Rattle.vcd_core.specs.Edges.{EachUpTo};
+ghost use Rattle.vcd_core.specs.BitEdges.{EachOneBit};
+ghost use Rattle.vcd_decode.specs.Lines.{line_of};
+ghost use Rattle.vcd_decode.specs.Spi.{spi_annotations};
+ghost use Rattle.vcd_decode.specs.inside.SpiWalk.{selects, deselects, is_sampling, IsOpen, rest_told, edge_told, edge_group, bit_told, bit_group};
+
+use crate::annotation::Annotation;
+use crate::spi_group::Group;
+use crate::spi_setup::Spi;
+use std::alloc::Global;
+use vcd_core::{Bit, BitEdge, BitEdges, NoMemory, Wave};
+
+/// The words of a serial peripheral interface up to the tick `end`: the clock `clk`, the data lines
+/// `mosi` and `miso`, and the chip select `cs`, which is active at 0.
+///
+/// A bit is read at each edge of the clock that the mode reads at, where the chip is selected or
+/// there is no such line. Bits between which the chip is selected no more are parts of different
+/// words. A data line with an x or z among the bits of a word is unknown there.
+///
+/// One walk over the changes of the four waves, a constant number of steps and at most one
+/// annotation for each.
+pub fn spi<'a>(
+    alloc: Global,
+    clk: &'a Wave,
+    mosi: Option<&'a Wave>,
+    miso: Option<&'a Wave>,
+    cs: Option<&'a Wave>,
+    end: u64,
+    setup: &Spi,
+) -> Result<Vec<Annotation>, NoMemory>
+    requires one_bit { EachOneBit (Some clk.now ∷ option_copied mosi
+        ∷ option_copied miso ∷ option_copied cs ∷ []) }
+    requires ended { EachUpTo end (Some clk.now ∷ option_copied mosi
+        ∷ option_copied miso ∷ option_copied cs ∷ []) }
+    ensures { IfOk result (λ found. found.items ≡ spi_annotations setup.now (line_of clk.now)
+        (option_map line_of (option_copied mosi.entry))
+        (option_map line_of (option_copied miso.entry))
+        (option_map line_of (option_copied cs.entry)) end) }
+{
+    // The call tells the proof that a word has a bit.
+    let _bits = setup.bits();
+    let edges = BitEdges::new(Some(clk), mosi, miso, cs);
+    let mut found = Vec::new(alloc);
+    let mut group = Group::new(mosi.is_some(), miso.is_some());
+    for edge in edges {
+        group = take_edge(&mut found, setup, &group, &edge)?;
+    }
+    tell_rest(&mut found, &group)?;
+    Ok(found)
+}
+
+/// Tells what an edge ends, and answers the group of bits after it.
+fn take_edge(
+    found: &mut Vec<Annotation>,
+    setup: &Spi,
+    group: &Group,
+    edge: &BitEdge,
+) -> Result<Group, NoMemory>
+    requires { IsOpen setup.now group.now }
+    ensures told { OnOk result (found.new.items
+        ≡ found.old.items ++ edge_told setup.now group.now edge.now) }
+    ensures group { IfOk result (λ g. g ≡ edge_group setup.now group.now edge.now) }
+{
+    if is_deselection(edge) {
+        tell_rest(found, group)?;
+        return Ok(group.emptied());
+    }
+    take_bit(found, setup, group, edge)
+}
+
+/// The same where the chip stays as it is.
+fn take_bit(
+    found: &mut Vec<Annotation>,
+    setup: &Spi,
+    group: &Group,
+    edge: &BitEdge,
+) -> Result<Group, NoMemory>
+    requires { IsOpen setup.now group.now }
+    ensures told { OnOk result (found.new.items
+        ≡ found.old.items ++ bit_told setup.now group.now edge.now) }
+    ensures group { IfOk result (λ g. g ≡ bit_group setup.now group.now edge.now) }
+{
+    if !is_sample(setup, edge) {
+        return Ok(*group);
+    }
+    let bits = setup.bits();
+    let longer = group.with_edge(setup.order(), edge);
+    if longer.count < bits {
+        return Ok(longer);
+    }
+    found.push(longer.word())?;
+    Ok(longer.emptied())
+}
+
+/// Tells how many bits there are of a word that is not ended, if any.
+fn tell_rest(found: &mut Vec<Annotation>, group: &Group) -> Result<(), NoMemory>
+    ensures { OnOk result (found.new.items ≡ found.old.items ++ rest_told group.now) }
+{
+    if group.count == 0 {
+        return Ok(());
+    }
+    found.push(group.rest())?;
+    Ok(())
+}
+
+/// Whether the chip is selected no more from an edge on.
+fn is_deselection(edge: &BitEdge) -> bool
+    ensures { result ≡ deselects edge.now }
+{
+    is_selected(edge.before[3]) & !is_selected(edge.at[3])
+}
+
+/// Whether the data lines are read at an edge.
+fn is_sample(setup: &Spi, edge: &BitEdge) -> bool
+    ensures { result ≡ is_sampling setup.now edge.now }
+{
+    is_selected(edge.at[3]) & setup.reads_at(edge.before[0], edge.at[0])
+}
+
+/// Whether the chip is selected, by the bit of its line.
+fn is_selected(cs: Option<Bit>) -> bool
+    ensures { result ≡ selects cs }
+{
+    match cs {
+        Some(Bit::Zero) | None => true,
+        Some(_) => false,
+    }
+}

@@ -1,0 +1,55 @@
+-- The events at the edges of two lines are those at all ticks.
+use Rattle.std.proofs.Common.{◌≡◌, ℕ, suc, Option, Some, None, List, [], ◌∷◌, ◌++◌, refl, sym, ap, ◌∙◌, option_to_list}
+use Rattle.std.specs.List.{filter_map, flat_map, cons_option, range_with_len}
+use Rattle.vcd_core.specs.declared.bit.Bit.{Bit}
+use Rattle.vcd_core.specs.declared.bit.Bit.TheVariants.{Zero, One, X, Z}
+use Rattle.vcd_core.specs.BitEdges.{bit_edges_of}
+use Rattle.vcd_core.specs.WaveView.{WaveView}
+use Rattle.vcd_decode.specs.Lines.{line_of, letter_before}
+use Rattle.vcd_decode.specs.BusEvents.{bus_event, bus_event_at, bus_events}
+use Rattle.vcd_decode.specs.inside.BusWalk.{levels_of, edge_event, edge_events}
+use Rattle.vcd_decode.specs.inside.LineEdges.{lines_of, line_edge}
+use Rattle.vcd_decode.proofs.EdgeTicks.{over_edges}
+
+-- where no level changes, nothing happens
+nothing_happens : (t : ℕ) (scl sda : Bit) → bus_event t (record { scl = scl; sda = sda }) (record { scl = scl; sda = sda }) ≡ None
+nothing_happens t Zero Zero = refl
+nothing_happens t Zero One = refl
+nothing_happens t Zero X = refl
+nothing_happens t Zero Z = refl
+nothing_happens t One Zero = refl
+nothing_happens t One One = refl
+nothing_happens t One X = refl
+nothing_happens t One Z = refl
+nothing_happens t X Zero = refl
+nothing_happens t X One = refl
+nothing_happens t X X = refl
+nothing_happens t X Z = refl
+nothing_happens t Z Zero = refl
+nothing_happens t Z One = refl
+nothing_happens t Z X = refl
+nothing_happens t Z Z = refl
+
+as_lists : {A B : Type 0} (f : A → Option B) (xs : List A) → filter_map f xs ≡ flat_map (λ x. option_to_list (f x)) xs
+as_lists f [] = refl
+as_lists f (x ∷ xs) = choose (f x) (as_lists f xs)
+  where
+    choose : (o : Option _) → filter_map f xs ≡ flat_map (λ y. option_to_list (f y)) xs → cons_option o (filter_map f xs) ≡ option_to_list o ++ flat_map (λ y. option_to_list (f y)) xs
+    choose None others = others
+    choose (Some y) others = ap (λ ys. y ∷ ys) others
+
+module _ (scl sda : WaveView) where
+  abbrev pub both : List (Option WaveView)
+  both = Some scl ∷ Some sda ∷ None ∷ None ∷ []
+
+  still : (t : ℕ) → (line_edge (lines_of both) t).at ≡ (line_edge (lines_of both) t).before → option_to_list (edge_event (line_edge (lines_of both) t)) ≡ []
+  still t same =
+      ap (λ (letters : List (Option Bit)). option_to_list (bus_event t (levels_of (line_edge (lines_of both) t).before) (levels_of letters))) same
+      ∙ ap option_to_list (nothing_happens t (letter_before (line_of scl) t) (letter_before (line_of sda) t))
+
+  pub events_are : (end : ℕ) → edge_events (bit_edges_of both end) ≡ bus_events (line_of scl) (line_of sda) end
+  unfolding bus_events
+  events_are end =
+      as_lists edge_event (bit_edges_of both end)
+      ∙ over_edges both (λ e. option_to_list (edge_event e)) still end
+      ∙ sym (as_lists (bus_event_at (line_of scl) (line_of sda)) (range_with_len 0 (suc end)))

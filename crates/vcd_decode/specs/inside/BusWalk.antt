@@ -1,0 +1,116 @@
+-- How the events of an I2C bus are walked, one at a time: what is kept between two of them, and the annotations that one brings.
+use Rattle.std.specs.Prelude.{ℕ, ◌+◌, ◌^◌, ◌<◌, ◌≤◌, ◌==◌, nat_le, if◌then◌else◌, Option, Some, None, IfSome, List, [], ◌∷◌, ◌++◌, fold, filter_map}
+use Rattle.std.specs.Option.{option_or}
+use Rattle.vcd_core.specs.declared.bit.Bit.{Bit}
+use Rattle.vcd_core.specs.declared.bit.Bit.TheVariants.{X}
+use Rattle.vcd_core.specs.declared.bit_edges.BitEdge.{BitEdge}
+use Rattle.vcd_decode.specs.declared.annotation.Annotation.{Annotation}
+use Rattle.vcd_decode.specs.declared.annotation.Kind.{Kind}
+use Rattle.vcd_decode.specs.declared.annotation.Kind.TheVariants as kinds
+use Rattle.vcd_decode.specs.declared.i2c_bus.events.BusLevels.{BusLevels}
+use Rattle.vcd_decode.specs.declared.i2c_bus.events.BusBit.{BusBit}
+use Rattle.vcd_decode.specs.declared.i2c_bus.events.BusEvent.{BusEvent}
+use Rattle.vcd_decode.specs.declared.i2c_bus.events.BusEvent.TheVariants as events
+use Rattle.vcd_decode.specs.declared.i2c_bus.bytes.ByteRole.TheVariants as roles
+use Rattle.vcd_decode.specs.declared.i2c_bus.bytes.PartByte.{PartByte}
+use Rattle.vcd_decode.specs.declared.i2c_bus.transfer.Transfer.{Transfer}
+use Rattle.vcd_decode.specs.Lines.{note}
+use Rattle.vcd_decode.specs.BusEvents.{bus_event}
+use Rattle.vcd_decode.specs.BusBytes.{number_with, byte_kind, role_after, acknowledge_kind, ten_bit_address}
+
+-- ---- the bits at hand
+
+abbrev pub no_bits : PartByte
+no_bits = record { count = 0; first = 0; last = 0; number = Some 0 }
+
+-- with one more bit
+abbrev pub part_with : PartByte → BusBit → PartByte
+part_with p b = record { count = p.count + 1; first = if p.count == 0 then b.tick else p.first; last = b.tick; number = number_with p.number b }
+
+-- what is kept of bits
+abbrev pub part_of : List BusBit → PartByte
+part_of bits = fold part_with no_bits bits
+
+-- at most eight bits, with a number of so many
+abbrev pub IsPart : PartByte → Type 0
+IsPart p = (p.count ≤ 8) × IfSome p.number (λ n. n < 2 ^ p.count)
+
+-- ---- what stands since the last START, none after a STOP
+
+abbrev pub IsBus : Option Transfer → Type 0
+IsBus bus = IfSome bus (λ t. IsPart t.part)
+
+-- the address of ten bits that was given since
+abbrev pub given_by : Option Transfer → Option ℕ
+given_by None = None
+given_by (Some t) = t.given
+
+-- a transfer that begins
+abbrev pub new_transfer : Option Transfer → Transfer
+new_transfer bus = record { role = roles.Address (given_by bus); part = no_bits; given = None }
+
+-- the kind of a START
+abbrev pub start_of : Option Transfer → Kind
+start_of None = kinds.Start
+start_of (Some t) = kinds.RepeatedStart
+
+-- the bits at hand where a condition comes
+abbrev pub left_notes : Option Transfer → List Annotation
+left_notes None = []
+left_notes (Some t) = if nat_le 2 t.part.count then note t.part.first t.part.last (kinds.PartialOf t.part.count) ∷ [] else []
+
+-- ---- one bit
+
+-- the byte at hand and the acknowledge
+abbrev pub whole_notes : Transfer → BusBit → List Annotation
+whole_notes t b =
+    note t.part.first t.part.last (byte_kind t.role t.part.number)
+    ∷ note b.tick b.tick (acknowledge_kind (number_with (Some 0) b)) ∷ []
+
+-- behind them
+abbrev pub transfer_after_byte : Transfer → Transfer
+transfer_after_byte t = record {
+  role = role_after t.role t.part.number;
+  part = no_bits;
+  given = option_or t.given (ten_bit_address (byte_kind t.role t.part.number));
+}
+
+abbrev pub bit_notes : Transfer → BusBit → List Annotation
+bit_notes t b = if t.part.count == 8 then whole_notes t b else []
+
+abbrev pub transfer_after_bit : Transfer → BusBit → Transfer
+transfer_after_bit t b = if t.part.count == 8 then transfer_after_byte t else record t { part = part_with t.part b }
+
+-- ---- any event
+
+abbrev pub event_notes : Option Transfer → BusEvent → List Annotation
+event_notes bus (events.Start t) = left_notes bus ++ note t t (start_of bus) ∷ []
+event_notes bus (events.Stop t) = left_notes bus ++ note t t kinds.Stop ∷ []
+event_notes None (events.Bit b) = []
+event_notes (Some t) (events.Bit b) = bit_notes t b
+
+abbrev pub bus_after : Option Transfer → BusEvent → Option Transfer
+bus_after bus (events.Start t) = Some (new_transfer bus)
+bus_after bus (events.Stop t) = None
+bus_after None (events.Bit b) = None
+bus_after (Some t) (events.Bit b) = Some (transfer_after_bit t b)
+
+-- what a list of events brings
+unfoldable pub walk_notes : Option Transfer → List BusEvent → List Annotation
+walk_notes bus [] = []
+walk_notes bus (e ∷ es) = event_notes bus e ++ walk_notes (bus_after bus e) es
+
+-- ---- edges
+
+-- the levels of the first two lines of an edge
+abbrev pub levels_of : List (Option Bit) → BusLevels
+levels_of (Some scl ∷ Some sda ∷ others) = record { scl = scl; sda = sda }
+levels_of others = record { scl = X; sda = X }
+
+-- what an edge tells
+abbrev pub edge_event : BitEdge → Option BusEvent
+edge_event e = bus_event e.tick (levels_of e.before) (levels_of e.at)
+
+-- what edges tell
+abbrev pub edge_events : List BitEdge → List BusEvent
+edge_events edges = filter_map edge_event edges

@@ -1,0 +1,80 @@
+-- The bits of a word of SPI that have come so far, and one more.
+use Rattle.std.specs.Prelude.{ℕ, ◌+◌, ◌*◌, ◌^◌, ◌==◌, ◌<◌, Bool, true, false, if◌then◌else◌, Option, Some, None, List, slice_index_or}
+use Rattle.vcd_core.specs.declared.bit.Bit.{Bit}
+use Rattle.vcd_core.specs.declared.bit.Bit.TheVariants.{Zero, One, X, Z}
+use Rattle.vcd_core.specs.declared.bit_edges.BitEdge.{BitEdge}
+use Rattle.vcd_decode.specs.declared.annotation.Annotation.{Annotation}
+use Rattle.vcd_decode.specs.declared.annotation.Kind.TheVariants.{Word, PartialOf}
+use Rattle.vcd_decode.specs.declared.annotation.LineData.{LineData}
+use Rattle.vcd_decode.specs.declared.annotation.LineData.TheVariants.{Absent, Unknown, Number}
+use Rattle.vcd_decode.specs.declared.spi_setup.BitOrder.{BitOrder}
+use Rattle.vcd_decode.specs.declared.spi_setup.BitOrder.TheVariants.{Msb, Lsb}
+use Rattle.vcd_decode.specs.declared.spi_group.Group.{Group}
+use Rattle.vcd_decode.specs.Lines.{note}
+
+-- the bit of a line at an edge
+abbrev pub bit_of : List (Option Bit) → ℕ → Option Bit
+bit_of bits k = slice_index_or bits k None
+
+-- ---- the group that is not full yet
+
+-- 0 or 1 as a number
+abbrev pub digit_of : Bit → Option ℕ
+digit_of Zero = Some 0
+digit_of One = Some 1
+digit_of X = None
+digit_of Z = None
+
+-- a number of so many bits with one more
+abbrev pub longer_number : BitOrder → ℕ → ℕ → ℕ → ℕ
+longer_number Msb count number digit = 2 * number + digit
+longer_number Lsb count number digit = number + digit * 2 ^ count
+
+abbrev pub number_after : BitOrder → ℕ → ℕ → Option ℕ → LineData
+number_after order count number None = Unknown
+number_after order count number (Some digit) = Number (longer_number order count number digit)
+
+-- what a data line shows with one more bit, none where it is absent
+abbrev pub data_after : BitOrder → ℕ → LineData → Option Bit → LineData
+data_after order count Absent bit = Absent
+data_after order count Unknown bit = Unknown
+data_after order count (Number n) None = Number n
+data_after order count (Number n) (Some b) = number_after order count n (digit_of b)
+
+-- what it shows before the first bit
+abbrev pub data_before : LineData → LineData
+data_before Absent = Absent
+data_before Unknown = Number 0
+data_before (Number n) = Number 0
+
+-- what a data line shows before the first bit
+abbrev pub first_data : Bool → LineData
+first_data false = Absent
+first_data true = Number 0
+
+-- a number of so many bits fits them
+abbrev pub DataFits : ℕ → LineData → Type 0
+DataFits count Absent = Unit {0}
+DataFits count Unknown = Unit {0}
+DataFits count (Number n) = n < 2 ^ count
+
+-- the group before its first bit
+abbrev pub group_before : Group → Group
+group_before g = record { start = 0; last = 0; count = 0; mosi = data_before g.mosi; miso = data_before g.miso }
+
+-- the group with the bits of an edge
+abbrev pub group_after : BitOrder → Group → BitEdge → Group
+group_after order g e = record {
+  start = if g.count == 0 then e.tick else g.start;
+  last = e.tick;
+  count = g.count + 1;
+  mosi = data_after order g.count g.mosi (bit_of e.at 1);
+  miso = data_after order g.count g.miso (bit_of e.at 2);
+}
+
+-- a whole word, and the bits of one that is not ended
+abbrev pub word_note : Group → Annotation
+word_note g = note g.start g.last (Word g.mosi g.miso)
+
+abbrev pub rest_note : Group → Annotation
+rest_note g = note g.start g.last (PartialOf g.count)

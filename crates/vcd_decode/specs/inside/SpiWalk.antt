@@ -1,0 +1,90 @@
+-- How edges are walked for words of SPI: what each tells, and the group of bits after it.
+use Rattle.std.specs.Prelude.{ℕ, ◌≡◌, ◌+◌, ◌==◌, ◌<◌, ◌&&◌, nat_lt, Bool, true, not, if◌then◌else◌, Option, Some, None, List, [], ◌∷◌, ◌++◌, length}
+use Rattle.std.specs.List.{flat_map, AllByRecursion}
+use Rattle.vcd_core.specs.declared.bit.Bit.{Bit}
+use Rattle.vcd_core.specs.declared.bit_edges.BitEdge.{BitEdge}
+use Rattle.vcd_decode.specs.declared.annotation.Annotation.{Annotation}
+use Rattle.vcd_decode.specs.declared.spi_group.Group.{Group}
+use Rattle.vcd_decode.specs.SpiSetup.{SpiSetup}
+use Rattle.vcd_decode.specs.Lines.{is_zero}
+use Rattle.vcd_decode.specs.Spi.{line_data, first_tick, last_tick, segment_told}
+use Rattle.vcd_decode.specs.inside.LineEdges.{line_edge}
+use Rattle.vcd_decode.specs.inside.SpiClock.{samples}
+use Rattle.vcd_decode.specs.inside.SpiGroup.{bit_of, DataFits, group_before, group_after, word_note, rest_note}
+
+-- ---- what an edge is
+
+-- whether the chip is selected by the bit of its line
+abbrev pub selects : Option Bit → Bool
+selects None = true
+selects (Some b) = is_zero b
+
+-- whether the chip is selected no more
+abbrev pub deselects : BitEdge → Bool
+deselects e = selects (bit_of e.before 3) && not (selects (bit_of e.at 3))
+
+-- whether the data lines are sampled
+abbrev pub is_sampling : SpiSetup → BitEdge → Bool
+is_sampling u e = selects (bit_of e.at 3) && samples u.mode (bit_of e.before 0) (bit_of e.at 0)
+
+-- ---- what an edge tells, and the group after it
+
+-- the group has room for one more bit
+pub record IsOpen (u : SpiSetup) (g : Group) : Type 0 where
+  pub count : g.count < u.bits
+  pub mosi : DataFits g.count g.mosi
+  pub miso : DataFits g.count g.miso
+
+-- what a group tells that is not ended
+abbrev pub rest_told : Group → List Annotation
+rest_told g = if g.count == 0 then [] else rest_note g ∷ []
+
+-- what an edge tells where the chip stays as it is, and the group after it
+abbrev pub bit_told : SpiSetup → Group → BitEdge → List Annotation
+bit_told u g e =
+    if not (is_sampling u e) then []
+    else (if nat_lt (g.count + 1) u.bits then []
+    else word_note (group_after u.order g e) ∷ [])
+
+abbrev pub bit_group : SpiSetup → Group → BitEdge → Group
+bit_group u g e =
+    if not (is_sampling u e) then g
+    else (if nat_lt (g.count + 1) u.bits then group_after u.order g e
+    else group_before (group_after u.order g e))
+
+-- the same of any edge
+abbrev pub edge_told : SpiSetup → Group → BitEdge → List Annotation
+edge_told u g e = if deselects e then rest_told g else bit_told u g e
+
+abbrev pub edge_group : SpiSetup → Group → BitEdge → Group
+edge_group u g e = if deselects e then group_before g else bit_group u g e
+
+-- ---- the same by ticks
+
+-- the group of some ticks
+abbrev pub group_of : SpiSetup → Option (ℕ → Bit) → Option (ℕ → Bit) → List ℕ → Group
+group_of u mosi miso ticks = record {
+  start = first_tick ticks;
+  last = last_tick ticks;
+  count = length ticks;
+  mosi = line_data u.order mosi ticks;
+  miso = line_data u.order miso ticks;
+}
+
+-- what an edge is: a sampling tick, or none where the chip is selected no more
+unfoldable pub edge_marks : SpiSetup → BitEdge → List (Option ℕ)
+edge_marks u e = if deselects e then None ∷ [] else (if is_sampling u e then Some e.tick ∷ [] else [])
+
+-- what marks tell, behind some ticks of the segment
+unfoldable pub marks_told : SpiSetup → Option (ℕ → Bit) → Option (ℕ → Bit) → List ℕ → List (Option ℕ) → List Annotation
+marks_told u mosi miso ticks [] = segment_told u mosi miso ticks
+marks_told u mosi miso ticks (None ∷ marks) = segment_told u mosi miso ticks ++ marks_told u mosi miso [] marks
+marks_told u mosi miso ticks (Some t ∷ marks) = marks_told u mosi miso (ticks ++ t ∷ []) marks
+
+-- what is told and what is left tell all: the group is that of the ticks of a segment that are no whole word yet
+pub record SpiSoFar (u : SpiSetup) (clk : ℕ → Bit) (mosi miso cs : Option (ℕ → Bit)) (all found : List Annotation) (group : Group) (left : List BitEdge) : Type 0 where
+  pub ticks : List ℕ
+  pub short : length ticks < u.bits
+  pub is_group : group ≡ group_of u mosi miso ticks
+  pub each : AllByRecursion (λ e. e ≡ line_edge (Some clk ∷ mosi ∷ miso ∷ cs ∷ []) e.tick) left
+  pub rest : found ++ marks_told u mosi miso ticks (flat_map (edge_marks u) left) ≡ all

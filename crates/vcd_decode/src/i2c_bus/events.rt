@@ -1,0 +1,82 @@
+//! What the two lines of a bus do: conditions and bits.
+
+ghost use Rattle.std.specs.Prelude.{◌≡◌};
+ghost use Rattle.vcd_decode.specs.BusEvents as spec;
+
+use vcd_core::Bit;
+
+/// The levels of the two lines at one tick.
+#[derive(Clone, Copy)]
+pub(super) struct BusLevels {
+    pub(super) scl: Bit,
+    pub(super) sda: Bit,
+}
+
+/// A bit: the tick at which SCL rises, and the level of SDA there.
+#[derive(Clone, Copy)]
+pub(super) struct BusBit {
+    pub(super) tick: u64,
+    pub(super) level: Bit,
+}
+
+/// What the lines do at a tick.
+#[derive(Clone, Copy)]
+pub(super) enum BusEvent {
+    Start(u64),
+    Stop(u64),
+    Bit(BusBit),
+}
+
+/// Whether a level is high: 1, or z, where a resistor pulls the line up.
+pub(super) fn is_high(level: Bit) -> bool
+    ensures { result ≡ spec.is_high level }
+{
+    matches!(level, Bit::One | Bit::Z)
+}
+
+/// Whether it is low: 0. The level x is neither.
+pub(super) fn is_low(level: Bit) -> bool
+    ensures { result ≡ spec.is_low level }
+{
+    matches!(level, Bit::Zero)
+}
+
+/// What the lines do at a tick, by their levels just before it and at it.
+pub(super) fn bus_event(tick: u64, before: BusLevels, at: BusLevels) -> Option<BusEvent>
+    ensures { result ≡ spec.bus_event tick before at }
+{
+    if is_start(before, at) {
+        return Some(BusEvent::Start(tick));
+    }
+    if is_stop(before, at) {
+        return Some(BusEvent::Stop(tick));
+    }
+    if !is_bit(before, at) {
+        return None;
+    }
+    Some(BusEvent::Bit(BusBit {
+        tick,
+        level: at.sda,
+    }))
+}
+
+/// A START condition: SDA falls while SCL stays high.
+fn is_start(before: BusLevels, at: BusLevels) -> bool
+    ensures { result ≡ spec.is_start before at }
+{
+    is_high(before.scl) && is_high(at.scl) && is_high(before.sda) && is_low(at.sda)
+}
+
+/// A STOP condition: SDA rises while SCL stays high.
+fn is_stop(before: BusLevels, at: BusLevels) -> bool
+    ensures { result ≡ spec.is_stop before at }
+{
+    is_high(before.scl) && is_high(at.scl) && is_low(before.sda) && is_high(at.sda)
+}
+
+/// A bit: SCL rises.
+fn is_bit(before: BusLevels, at: BusLevels) -> bool
+    ensures { result ≡ spec.is_bit before at }
+{
+    is_low(before.scl) && is_high(at.scl)
+}

@@ -1,0 +1,150 @@
+//! A bus between two events, and the annotations that an event brings.
+
+ghost use Rattle.std.specs.Prelude.{◌≡◌, ◌++◌, ◌∷◌, [], ◌<◌, IfOk, OnOk};
+ghost use Rattle.vcd_decode.specs.Lines.{note};
+ghost use Rattle.vcd_decode.specs.inside.BusWalk as walk;
+
+use crate::annotation::{Annotation, Kind};
+use crate::i2c_bus::bytes::{
+    ByteRole, PartByte, acknowledge_kind, byte_kind, number_with, role_after, ten_bit_address,
+};
+use crate::i2c_bus::events::{BusBit, BusEvent};
+use vcd_core::NoMemory;
+
+/// What stands since the last START, where no STOP came behind it.
+#[derive(Clone, Copy)]
+pub(super) struct Transfer {
+    /// What the byte at hand is.
+    pub(super) role: ByteRole,
+    /// The bits at hand, at most eight.
+    pub(super) part: PartByte,
+    /// The address of ten bits that was given since the START.
+    pub(super) given: Option<u16>,
+}
+
+/// Appends what an event brings, and answers the transfer behind it.
+pub(super) fn follow(
+    found: &mut Vec<Annotation>,
+    bus: Option<Transfer>,
+    event: BusEvent,
+) -> Result<Option<Transfer>, NoMemory>
+    requires part { walk.IsBus bus }
+    ensures notes { OnOk result
+        (found.new.items ≡ found.old.items ++ walk.event_notes bus event) }
+    ensures bus { IfOk result (λ next. next ≡ walk.bus_after bus event) }
+    ensures part { IfOk result walk.IsBus }
+{
+    match event {
+        BusEvent::Start(tick) => {
+            append_left(found, bus)?;
+            append(found, tick, tick, start_of(bus))?;
+            Ok(Some(new_transfer(bus)))
+        }
+        BusEvent::Stop(tick) => {
+            append_left(found, bus)?;
+            append(found, tick, tick, Kind::Stop)?;
+            Ok(None)
+        }
+        BusEvent::Bit(bit) => follow_bit(found, bus, bit),
+    }
+}
+
+/// Appends what a bit brings.
+fn follow_bit(
+    found: &mut Vec<Annotation>,
+    bus: Option<Transfer>,
+    bit: BusBit,
+) -> Result<Option<Transfer>, NoMemory>
+    requires part { walk.IsBus bus }
+    ensures notes { OnOk result
+        (found.new.items ≡ found.old.items ++ walk.event_notes bus (BusEvent.Bit bit)) }
+    ensures bus { IfOk result (λ next. next ≡ walk.bus_after bus (BusEvent.Bit bit)) }
+    ensures part { IfOk result walk.IsBus }
+{
+    let Some(transfer) = bus else {
+        return Ok(None);
+    };
+    if transfer.part.count < 8 {
+        return Ok(Some(with_bit(transfer, bit)));
+    }
+    Ok(Some(end_byte(found, transfer, bit)?))
+}
+
+/// One more bit of the byte at hand.
+fn with_bit(transfer: Transfer, bit: BusBit) -> Transfer
+    requires part { walk.IsPart transfer.part }
+    requires few { transfer.part.count < 8 }
+    ensures bits { result ≡ record transfer { part = walk.part_with transfer.part bit } }
+    ensures part { walk.IsPart result.part }
+{
+    Transfer {
+        role: transfer.role,
+        part: transfer.part.with(bit),
+        given: transfer.given,
+    }
+}
+
+/// Appends the byte at hand and its acknowledge.
+fn end_byte(
+    found: &mut Vec<Annotation>,
+    transfer: Transfer,
+    bit: BusBit,
+) -> Result<Transfer, NoMemory>
+    ensures notes { OnOk result
+        (found.new.items ≡ found.old.items ++ walk.whole_notes transfer bit) }
+    ensures bus { IfOk result (λ next. next ≡ walk.transfer_after_byte transfer) }
+{
+    let part = transfer.part;
+    let kind = byte_kind(transfer.role, part.number);
+    append(found, part.first, part.last, kind)?;
+    let acknowledge = acknowledge_kind(number_with(Some(0), bit));
+    append(found, bit.tick, bit.tick, acknowledge)?;
+    Ok(Transfer {
+        role: role_after(transfer.role, part.number),
+        part: PartByte::new(),
+        given: transfer.given.or(ten_bit_address(kind)),
+    })
+}
+
+/// Appends the bits at hand where a condition comes: one alone is the rise of SCL before it.
+fn append_left(found: &mut Vec<Annotation>, bus: Option<Transfer>) -> Result<(), NoMemory>
+    ensures { OnOk result (found.new.items ≡ found.old.items ++ walk.left_notes bus) }
+{
+    let Some(transfer) = bus else {
+        return Ok(());
+    };
+    let part = transfer.part;
+    if part.count < 2 {
+        return Ok(());
+    }
+    append(found, part.first, part.last, Kind::PartialOf(part.count))
+}
+
+fn append(found: &mut Vec<Annotation>, start: u64, end: u64, kind: Kind) -> Result<(), NoMemory>
+    ensures { OnOk result (found.new.items ≡ found.old.items ++ note start end kind ∷ []) }
+{
+    found.push(Annotation { start, end, kind })?;
+    Ok(())
+}
+
+/// The transfer that a START begins.
+fn new_transfer(bus: Option<Transfer>) -> Transfer
+    ensures bits { result ≡ walk.new_transfer bus }
+    ensures part { walk.IsPart result.part }
+{
+    Transfer {
+        role: ByteRole::Address(bus.and_then(|transfer| transfer.given)),
+        part: PartByte::new(),
+        given: None,
+    }
+}
+
+/// The kind of a START: a repeated one where the last condition was a START.
+fn start_of(bus: Option<Transfer>) -> Kind
+    ensures { result ≡ walk.start_of bus }
+{
+    match bus {
+        Some(_) => Kind::RepeatedStart,
+        None => Kind::Start,
+    }
+}

@@ -1,1 +1,0 @@
-//! Bytes and conditions of an I2C bus (UM10204, 3.1).

@@ -1,0 +1,158 @@
+//! The bits of a word of SPI that have come so far.
+
+ghost use Rattle.std.specs.Prelude.{◌≡◌, ◌<◌, ◌==◌, ◌^◌};
+ghost use Rattle.vcd_decode.specs.inside.SpiGroup.{digit_of, longer_number, data_after, data_before, first_data, DataFits, group_before, group_after, word_note, rest_note};
+
+use crate::annotation::{Annotation, Kind, LineData};
+use crate::spi_setup::{BitOrder, WORD_BITS_LIMIT};
+use vcd_core::{Bit, BitEdge};
+
+/// The bits since the last word: the ticks of the first and the last, how many they are, and what
+/// they make on each data line.
+#[derive(Clone, Copy)]
+pub(crate) struct Group {
+    start: u64,
+    last: u64,
+    pub(crate) count: u64,
+    mosi: LineData,
+    miso: LineData,
+}
+
+impl Group {
+    /// No bits yet, of the data lines that are there.
+    pub(crate) fn new(mosi: bool, miso: bool) -> Group
+        ensures { result ≡ record {
+          start = 0;
+          last = 0;
+          count = 0;
+          mosi = first_data mosi;
+          miso = first_data miso;
+        } }
+    {
+        Group {
+            start: 0,
+            last: 0,
+            count: 0,
+            mosi: first_of(mosi),
+            miso: first_of(miso),
+        }
+    }
+
+    /// No bits yet, of the same data lines.
+    pub(crate) fn emptied(&self) -> Group
+        ensures { result ≡ group_before self.now }
+    {
+        Group {
+            start: 0,
+            last: 0,
+            count: 0,
+            mosi: emptied(self.mosi),
+            miso: emptied(self.miso),
+        }
+    }
+
+    /// With the bits that the data lines have at an edge.
+    pub(crate) fn with_edge(&self, order: BitOrder, edge: &BitEdge) -> Group
+        requires count { self.now.count < WORD_BITS_LIMIT }
+        requires mosi { DataFits self.now.count self.now.mosi }
+        requires miso { DataFits self.now.count self.now.miso }
+        ensures { result ≡ group_after order self.now edge.now }
+    {
+        Group {
+            start: if self.count == 0 {
+                edge.tick
+            } else {
+                self.start
+            },
+            last: edge.tick,
+            count: self.count + 1,
+            mosi: with_bit(order, self.count, self.mosi, edge.at[1]),
+            miso: with_bit(order, self.count, self.miso, edge.at[2]),
+        }
+    }
+
+    /// The word that the bits are.
+    pub(crate) fn word(&self) -> Annotation
+        ensures { result ≡ word_note self.now }
+    {
+        Annotation {
+            start: self.start,
+            end: self.last,
+            kind: Kind::Word {
+                mosi: self.mosi,
+                miso: self.miso,
+            },
+        }
+    }
+
+    /// The bits of a word that is not ended.
+    pub(crate) fn rest(&self) -> Annotation
+        ensures { result ≡ rest_note self.now }
+    {
+        Annotation {
+            start: self.start,
+            end: self.last,
+            kind: Kind::PartialOf(self.count),
+        }
+    }
+}
+
+/// What a data line shows before its first bit.
+fn first_of(is_there: bool) -> LineData
+    ensures { result ≡ first_data is_there }
+{
+    if is_there {
+        LineData::Number(0)
+    } else {
+        LineData::Absent
+    }
+}
+
+/// The same, of a line that has shown something.
+fn emptied(shown: LineData) -> LineData
+    ensures { result ≡ data_before shown }
+{
+    match shown {
+        LineData::Absent => LineData::Absent,
+        _ => LineData::Number(0),
+    }
+}
+
+/// What a data line shows with one more bit behind the `count` that it has shown.
+fn with_bit(order: BitOrder, count: u64, shown: LineData, bit: Option<Bit>) -> LineData
+    requires count { count < WORD_BITS_LIMIT }
+    requires fits { DataFits count shown }
+    ensures { result ≡ data_after order count shown bit }
+{
+    match (shown, bit) {
+        (LineData::Number(number), Some(bit)) => match digit(bit) {
+            Some(digit) => LineData::Number(longer(order, count, number, digit)),
+            None => LineData::Unknown,
+        },
+        (shown, _) => shown,
+    }
+}
+
+/// 0 or 1 as a number.
+fn digit(bit: Bit) -> Option<u32>
+    ensures { result ≡ digit_of bit }
+{
+    match bit {
+        Bit::Zero => Some(0),
+        Bit::One => Some(1),
+        Bit::X | Bit::Z => None,
+    }
+}
+
+/// The number of `count` bits with one more.
+fn longer(order: BitOrder, count: u64, number: u32, digit: u32) -> u32
+    requires count { count < WORD_BITS_LIMIT }
+    requires fits { number < 2 ^ count }
+    requires digit { digit < 2 }
+    ensures { result ≡ longer_number order count number digit }
+{
+    match order {
+        BitOrder::Msb => 2 * number + digit,
+        BitOrder::Lsb => number + (digit << count),
+    }
+}

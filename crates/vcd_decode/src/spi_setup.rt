@@ -1,0 +1,127 @@
+//! How a serial peripheral interface sends.
+
+ghost use Rattle.std.specs.Prelude.{◌≡◌, ◌≤◌, IfOk};
+ghost use Rattle.vcd_decode.specs.SpiSetup.{spi_setup, spi_fault};
+ghost use Rattle.vcd_decode.specs.UartSetup.{TellsSetupFault};
+ghost use Rattle.vcd_decode.specs.Lines.{is_zero as zero_test, is_one as one_test};
+ghost use Rattle.vcd_decode.specs.inside.SpiClock.{passes};
+
+use crate::setup_error::SetupError;
+use std::marker::Model;
+use vcd_core::Bit;
+
+/// The greatest mode: two polarities and two phases of the clock.
+pub const GREATEST_MODE: u64 = 3;
+
+/// The greatest number of bits of a word.
+pub const WORD_BITS_LIMIT: u64 = 32;
+
+/// Which bit of a word comes first on the line.
+#[derive(Clone, Copy, Debug, PartialEq, Eq)]
+pub enum BitOrder {
+    /// The most significant one.
+    Msb,
+    /// The least significant one.
+    Lsb,
+}
+
+/// How a serial peripheral interface sends: at which edge of the clock a bit is read, how many bits
+/// a word has, and which of them comes first.
+///
+/// The modes 0 and 3 read where the clock rises, 1 and 2 where it falls. Contracts see the three
+/// numbers.
+#[derive(Clone, Copy)]
+pub struct Spi {
+    mode: u64,
+    bits: u64,
+    order: BitOrder,
+}
+
+impl Model for Spi {
+    ghost use Rattle.std.specs.Prelude.{◌≤◌};
+    ghost use Rattle.vcd_decode.specs.SpiSetup.{SpiSetup};
+    ghost use Rattle.vcd_decode.specs.declared.spi_setup.TheConstants.{WORD_BITS_LIMIT};
+
+    ghost Value = { SpiSetup };
+
+    ghost view = { λ s. record { mode = s.mode; bits = s.bits; order = s.order } };
+
+    ghost invariant = { λ s. (1 ≤ s.bits) × (s.bits ≤ WORD_BITS_LIMIT) };
+
+    ghost inverse = { λ s. record { mode = s.mode; bits = s.bits; order = s.order } };
+}
+
+impl Spi {
+    ghost use Rattle.vcd_decode.specs.Spi.{samples_rise};
+    ghost use Rattle.vcd_decode.specs.inside.SpiClock.{samples};
+
+    /// A setup of a mode, the number of bits of a word and their order.
+    ///
+    /// `BadMode` above 3, else `BadBits` where the bits are not 1 to 32. It takes no memory.
+    pub fn new(mode: u64, bits: u64, order: BitOrder) -> Result<Spi, SetupError>
+        ensures setup { IfOk result (λ s. s ≡ spi_setup mode bits order) }
+        ensures fault { TellsSetupFault result (spi_fault (spi_setup mode bits order)) }
+    {
+        if mode > GREATEST_MODE {
+            return Err(SetupError::BadMode);
+        }
+        if bits < 1 || bits > WORD_BITS_LIMIT {
+            return Err(SetupError::BadBits);
+        }
+        Ok(Spi { mode, bits, order })
+    }
+
+    /// How many bits a word has.
+    pub fn bits(&self) -> u64
+        ensures bits { result ≡ self.now.bits }
+        ensures least { 1 ≤ result }
+        ensures most { result ≤ WORD_BITS_LIMIT }
+    {
+        self.bits
+    }
+
+    /// Which bit of a word comes first.
+    pub fn order(&self) -> BitOrder
+        ensures { result ≡ self.now.order }
+    {
+        self.order
+    }
+
+    /// Whether bits are read where the clock goes from one bit to another.
+    pub(crate) fn reads_at(&self, before: Option<Bit>, at: Option<Bit>) -> bool
+        ensures { result ≡ samples self.now.mode before at }
+    {
+        if self.reads_where_it_rises() {
+            is_zero(before) & is_one(at)
+        } else {
+            is_one(before) & is_zero(at)
+        }
+    }
+
+    /// Whether bits are read where the clock rises.
+    fn reads_where_it_rises(&self) -> bool
+        ensures { result ≡ samples_rise self.now.mode }
+    {
+        (self.mode == 0) | (self.mode == 3)
+    }
+}
+
+/// Whether the bit is there and 0.
+fn is_zero(bit: Option<Bit>) -> bool
+    ensures { result ≡ passes zero_test bit }
+{
+    match bit {
+        Some(Bit::Zero) => true,
+        _ => false,
+    }
+}
+
+/// Whether the bit is there and 1.
+fn is_one(bit: Option<Bit>) -> bool
+    ensures { result ≡ passes one_test bit }
+{
+    match bit {
+        Some(Bit::One) => true,
+        _ => false,
+    }
+}
