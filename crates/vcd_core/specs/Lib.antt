@@ -5,6 +5,7 @@ pub mod Value
 pub mod Wave
 pub mod Splice
 pub mod Contents
+pub mod TimeUnits
 pub mod Word
 pub mod Decimal
 pub mod Sound

@@ -41,6 +41,25 @@ pub enum TimeUnit {
     Femtosecond,
 }
 
+impl TimeUnit {
+    ghost use Rattle.std.specs.Prelude.{◌≡◌};
+    ghost use Rattle.vcd_core.specs.TimeUnits.{unit_text};
+
+    /// The unit as it is spelled in a file: `s`, `ms`, `us`, `ns`, `ps` or `fs`.
+    pub fn symbol(self) -> &'static str
+        ensures { result.now ≡ unit_text self }
+    {
+        match self {
+            TimeUnit::Second => "s",
+            TimeUnit::Millisecond => "ms",
+            TimeUnit::Microsecond => "us",
+            TimeUnit::Nanosecond => "ns",
+            TimeUnit::Picosecond => "ps",
+            TimeUnit::Femtosecond => "fs",
+        }
+    }
+}
+
 /// How long a tick is: `count` is 1, 10 or 100 (IEEE 1364-2005, 18.2).
 #[derive(Clone, Copy, Debug, PartialEq, Eq)]
 pub struct Timescale {

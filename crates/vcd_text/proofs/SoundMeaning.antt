@@ -22,7 +22,8 @@ use Rattle.vcd_core.proofs.Waves.{changes_rise, changes_end}
 use Rattle.vcd_text.specs.Words.{words_of, word_on}
 use Rattle.vcd_core.specs.Decimal.{is_number, number_of}
 use Rattle.vcd_text.specs.Letters.{extension, pad_letter, letters_of_digits}
-use Rattle.vcd_text.specs.Items.{Item, entry, timescale, scope, upscope, variable, end_definitions, stamp, scalar, vector, real_or_string, bracket, other, spelling, spellings, header_word, end_word, is_end_word, has_no_end_word, timescales, unit_text}
+use Rattle.vcd_text.specs.Items.{Item, entry, timescale, scope, upscope, variable, end_definitions, stamp, scalar, vector, real_or_string, bracket, other, spelling, spellings, header_word, end_word, is_end_word, has_no_end_word, timescales}
+use Rattle.vcd_core.specs.TimeUnits.{unit_text}
 use Rattle.vcd_text.specs.Grammar.{Context, VariableDeclaration, RecordedChange, Accepts, Allows, AllowsAll, told_after, told_after_item, nothing_told, is_skipped, kept_variables, variable_of, may_have_code, has_room, recorded_changes, with_recorded_change, takes_binary_number, is_binary_number}
 use Rattle.vcd_text.proofs.WordLaws.{is_run_text, texts_are_runs, run_is_word}
 use Rattle.vcd_text.specs.Meaning.{meaning, declared_signal, recorded_value}

@@ -7,7 +7,8 @@ use Rattle.vcd_core.specs.declared.capture.Timescale.{Timescale}
 use Rattle.vcd_core.specs.declared.capture.TimeUnit.{TimeUnit}
 use Rattle.vcd_core.specs.declared.capture.TimeUnit.TheVariants.{Second, Millisecond, Microsecond, Nanosecond, Picosecond, Femtosecond}
 use Rattle.vcd_core.specs.Sound.{is_sound_timescale}
-use Rattle.vcd_text.specs.Items.{unit_text, timescales, timescale_of}
+use Rattle.vcd_core.specs.TimeUnits.{unit_text}
+use Rattle.vcd_text.specs.Items.{timescales, timescale_of}
 
 -- how many of a unit a tick may be (IEEE 1364-2005, 18.2)
 abbrev pub IsCount : ℕ → Type 0

@@ -22,7 +22,8 @@ use Rattle.vcd_text.specs.Words.{words_of}
 use Rattle.std.specs.Char.{is_ascii_digit}
 use Rattle.vcd_core.specs.Value.{printed_letter}
 use Rattle.vcd_text.specs.Letters.{printed_letters, short_form}
-use Rattle.vcd_text.specs.Items.{Item, entry, timescale, scope, upscope, vector, bracket, end_definitions, header_word, unit_text, end_word, spellings}
+use Rattle.vcd_text.specs.Items.{Item, entry, timescale, scope, upscope, vector, bracket, end_definitions, header_word, end_word, spellings}
+use Rattle.vcd_core.specs.TimeUnits.{unit_text}
 use Rattle.vcd_text.specs.Grammar.{word_texts}
 use Rattle.vcd_text.specs.Text.{header_items, timescale_items, same_scope, scope_items, code_of, variable_item, signal_items, value_item, differs_at, value_items, all_values, new_values, stamp_of, with_stamp, first_items, tick_items, end_items, items_of, text}
 use Rattle.vcd_text.proofs.CodesDiffer.{code_black, code_not_empty}

@@ -21,7 +21,8 @@ use Rattle.vcd_core.specs.Word.{is_word}
 use Rattle.vcd_core.specs.Sound.{is_sound_header, is_sound_timescale, IsSoundSignal, IsSound}
 use Rattle.std.specs.Char.{is_ascii_digit}
 use Rattle.vcd_core.specs.Decimal.{number_of}
-use Rattle.vcd_text.specs.Items.{Item, entry, timescale, variable, end_definitions, unit_text, end_word, is_end_word, has_no_end_word, timescale_of}
+use Rattle.vcd_text.specs.Items.{Item, entry, timescale, variable, end_definitions, end_word, is_end_word, has_no_end_word, timescale_of}
+use Rattle.vcd_core.specs.TimeUnits.{unit_text}
 use Rattle.vcd_text.specs.Grammar.{Context, VariableDeclaration, nothing_told, declaration_of, variable_of, may_have_code, has_room, is_skipped, kept_variables}
 use Rattle.vcd_text.specs.Text.{header_items, timescale_items, scope_items, code_of, variable_item, signal_items, first_items, tick_items, end_items, items_of}
 use Rattle.vcd_text.proofs.CodesDiffer.{codes_differ, code_no_end}

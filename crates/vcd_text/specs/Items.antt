@@ -2,6 +2,7 @@
 use Rattle.std.specs.Prelude.{ℕ, Bool, false, not, ◌&&◌, ◌||◌, ◌==◌, List, [], ◌∷◌, ◌++◌, map, find, Option, codes, decimal, bytes_eq}
 use Rattle.std.specs.List.{list_all, flat_map, concat}
 use Rattle.vcd_core.specs.Word.{is_one_of}
+use Rattle.vcd_core.specs.TimeUnits.{unit_text}
 use Rattle.vcd_core.specs.declared.capture.HeaderKind.{HeaderKind}
 use Rattle.vcd_core.specs.declared.capture.HeaderKind.TheVariants.{Date, Version, Comment}
 use Rattle.vcd_core.specs.declared.capture.Timescale.{Timescale}
@@ -63,15 +64,6 @@ abbrev pub dropped_prefixes : List ℕ
 dropped_prefixes = codes "rRsS"
 
 -- ---- timescales
-
--- a unit of time as it is spelled
-abbrev pub unit_text : TimeUnit → List ℕ
-unit_text Second = codes "s"
-unit_text Millisecond = codes "ms"
-unit_text Microsecond = codes "us"
-unit_text Nanosecond = codes "ns"
-unit_text Picosecond = codes "ps"
-unit_text Femtosecond = codes "fs"
 
 -- 1, 10 and 100 of a unit
 abbrev pub unit_timescales : TimeUnit → List Timescale

@@ -11,7 +11,8 @@ use Rattle.vcd_core.specs.declared.capture.ScopeName.{ScopeName}
 use Rattle.vcd_core.specs.Value.{same_letters, printed_letter}
 use Rattle.vcd_core.specs.Contents.{Contents, SignalContents, signal_value}
 use Rattle.vcd_text.specs.Letters.{printed_letters, short_form}
-use Rattle.vcd_text.specs.Items.{Item, entry, timescale, scope, upscope, variable, end_definitions, stamp, scalar, vector, bracket, spelling, end_word, unit_text}
+use Rattle.vcd_text.specs.Items.{Item, entry, timescale, scope, upscope, variable, end_definitions, stamp, scalar, vector, bracket, spelling, end_word}
+use Rattle.vcd_core.specs.TimeUnits.{unit_text}
 
 -- the line of an item: its words with one space (32) between them, and a line feed (10)
 abbrev pub item_line : Item → List ℕ

@@ -4,7 +4,8 @@ use Rattle.std.specs.Option.{option_map}
 use Rattle.vcd_core.specs.declared.capture.Timescale.{Timescale}
 use Rattle.vcd_core.specs.declared.capture.TimeUnit.{TimeUnit}
 use Rattle.vcd_core.specs.declared.capture.TimeUnit.TheVariants.{Second, Millisecond, Microsecond, Nanosecond, Picosecond, Femtosecond}
-use Rattle.vcd_text.specs.Items.{unit_text, timescales}
+use Rattle.vcd_core.specs.TimeUnits.{unit_text}
+use Rattle.vcd_text.specs.Items.{timescales}
 
 -- the timescale that a text spells, if it is one
 abbrev pub timescale_spelled : List ℕ → Option Timescale

@@ -6,14 +6,14 @@ ghost use Rattle.std.specs.Cmp.Lexicographic.{pointwise};
 ghost use Rattle.std.specs.Str.{bytes_eq};
 ghost use Rattle.vcd_core.specs.Contents.{signal_contents};
 ghost use Rattle.vcd_core.specs.declared.capture.TheConstants.{SIGNAL_LIMIT};
-ghost use Rattle.vcd_text.specs.Items.{entry, header_word, scope, unit_text, upscope};
+ghost use Rattle.vcd_text.specs.Items.{entry, header_word, scope, upscope};
 ghost use Rattle.vcd_text.specs.inside.SpacedWords.{spaced_words};
 ghost use Rattle.vcd_text.specs.Text.{code_of, header_items, item_line, same_scope, scope_items, signal_items, timescale_items, variable_item};
 
 use super::codes::append_code;
 use super::lines::{append_end, append_word, append_words};
 use itoa::Buffer;
-use vcd_core::{Header, HeaderKind, NoMemory, ScopeName, Signal, TimeUnit, Timescale, Word};
+use vcd_core::{Header, HeaderKind, NoMemory, ScopeName, Signal, Timescale, Word};
 
 /// Appends a line for each header entry.
 pub fn append_header(out: &mut Vec<u8>, header: &[Header]) -> Result<(), NoMemory>
@@ -54,23 +54,10 @@ pub fn append_timescale(out: &mut Vec<u8>, timescale: Option<Timescale>) -> Resu
     if let Some(timescale) = timescale {
         out.extend_from_slice(b"$timescale")?;
         append_word(out, Buffer::new().format(timescale.count).as_bytes())?;
-        append_word(out, unit_name(timescale.unit).as_bytes())?;
+        append_word(out, timescale.unit.symbol().as_bytes())?;
         append_end(out)?;
     }
     Ok(())
-}
-
-fn unit_name(unit: TimeUnit) -> &'static str
-    ensures { result.now ≡ unit_text unit }
-{
-    match unit {
-        TimeUnit::Second => "s",
-        TimeUnit::Millisecond => "ms",
-        TimeUnit::Microsecond => "us",
-        TimeUnit::Nanosecond => "ns",
-        TimeUnit::Picosecond => "ps",
-        TimeUnit::Femtosecond => "fs",
-    }
 }
 
 /// Appends the declarations of all signals, with the scopes that are opened and closed between them.

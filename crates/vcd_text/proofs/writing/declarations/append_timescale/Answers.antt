@@ -3,7 +3,7 @@ use Rattle.std.proofs.Common.{[], ◌∷◌, ◌++◌, sym, ap, ◌∙◌, codes
 use Rattle.std.specs.Prelude.{decimal}
 use Rattle.std.specs.List.{flat_map}
 use Rattle.std.proofs.lemmas.List.{append-nil}
-use Rattle.vcd_text.specs.Items.{unit_text}
+use Rattle.vcd_core.specs.TimeUnits.{unit_text}
 use Rattle.vcd_text.specs.Text.{item_line, timescale_items}
 use Rattle.vcd_text.specs.inside.SpacedWords.{spaced_words}
 use Rattle.vcd_text.proofs.TextLines.{whole_line, more_words}
@@ -16,7 +16,7 @@ returns-in_ok-append_end c =
     let begun = c.extend_from_slice.new.self.items in
     let first = c.in_ok-append_word.ensures ∙ ap (λ l. begun ++ spaced_words (l ∷ [])) (c.as_bytes.ensures.value ∙ c.format.ensures.text) in
     let second = c.in_ok-append_word-2.ensures
-    ∙ ap (λ l. c.append_word.new.out.items ++ spaced_words (l ∷ [])) (c.as_bytes-in-Some.ensures.value ∙ c.unit_name.ensures) in
+    ∙ ap (λ l. c.append_word.new.out.items ++ spaced_words (l ∷ [])) (c.as_bytes-in-Some.ensures.value ∙ c.symbol.ensures) in
     whole_line c.args.out.now.items begun _ _ (codes "$timescale") (count ∷ unit ∷ [])
     c.in_ok-extend_from_slice.ensures.items
     (more_words begun c.append_word.new.out.items _ (count ∷ []) (unit ∷ []) first second)
