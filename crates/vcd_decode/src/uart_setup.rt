@@ -100,8 +100,8 @@ impl Uart {
         })
     }
 
-    /// How many data bits a frame has.
-    pub(crate) fn data_bits(&self) -> usize
+    /// How many data bits a frame has: 5 to 9.
+    pub fn data_bits(&self) -> usize
         ensures count { result ≡ self.now.data_bits }
         ensures most { result ≤ 9 }
     {
