@@ -39,17 +39,17 @@ as_lists f (x ∷ xs) = choose (f x) (as_lists f xs)
     choose (Some y) others = ap (λ ys. y ∷ ys) others
 
 module _ (scl sda : WaveView) where
-  abbrev pub both : List (Option WaveView)
-  both = Some scl ∷ Some sda ∷ None ∷ None ∷ []
+  abbrev pub bus_waves : List (Option WaveView)
+  bus_waves = Some scl ∷ Some sda ∷ None ∷ None ∷ []
 
-  still : (t : ℕ) → (line_edge (lines_of both) t).at ≡ (line_edge (lines_of both) t).before → option_to_list (edge_event (line_edge (lines_of both) t)) ≡ []
+  still : (t : ℕ) → (line_edge (lines_of bus_waves) t).at ≡ (line_edge (lines_of bus_waves) t).before → option_to_list (edge_event (line_edge (lines_of bus_waves) t)) ≡ []
   still t same =
-      ap (λ (letters : List (Option Bit)). option_to_list (bus_event t (levels_of (line_edge (lines_of both) t).before) (levels_of letters))) same
+      ap (λ (letters : List (Option Bit)). option_to_list (bus_event t (levels_of (line_edge (lines_of bus_waves) t).before) (levels_of letters))) same
       ∙ ap option_to_list (nothing_happens t (letter_before (line_of scl) t) (letter_before (line_of sda) t))
 
-  pub events_are : (end : ℕ) → edge_events (bit_edges_of both end) ≡ bus_events (line_of scl) (line_of sda) end
+  pub events_are : (end : ℕ) → edge_events (bit_edges_of bus_waves end) ≡ bus_events (line_of scl) (line_of sda) end
   unfolding bus_events
   events_are end =
-      as_lists edge_event (bit_edges_of both end)
-      ∙ over_edges both (λ e. option_to_list (edge_event e)) still end
+      as_lists edge_event (bit_edges_of bus_waves end)
+      ∙ over_edges bus_waves (λ e. option_to_list (edge_event e)) still end
       ∙ sym (as_lists (bus_event_at (line_of scl) (line_of sda)) (range_with_len 0 (suc end)))

@@ -18,15 +18,15 @@ use Rattle.vcd_decode.specs.declared.i2c_bus.bytes.PartByte.{PartByte}
 use Rattle.vcd_decode.specs.declared.i2c_bus.transfer.Transfer.{Transfer}
 use Rattle.vcd_decode.specs.Lines.{note}
 use Rattle.vcd_decode.specs.BusBytes.{number_with, number_of_bits, byte_kind, role_after, acknowledge_kind, ten_bit_address}
-use Rattle.vcd_decode.specs.I2c.{bits_note, byte_notes, rest_notes, nines_notes, bits_until, has_condition, address_given, events_notes}
+use Rattle.vcd_decode.specs.I2c.{bits_note, byte_notes, rest_notes, nines_notes, bits_until, has_condition, shown_address, events_notes}
 use Rattle.vcd_decode.specs.inside.BusWalk.{no_bits, part_with, part_of, left_notes, whole_notes, transfer_after_byte, event_notes, bus_after, walk_notes}
 use Rattle.vcd_decode.specs.Groups.{groups_of}
 use Rattle.vcd_decode.proofs.Groups.{groups_none, groups_short, groups_whole}
 use Rattle.vcd_decode.proofs.PartBytes.{part_count, part_first, part_last, part_number}
 
 -- a transfer of these parts
-abbrev pub standing : ByteRole → PartByte → Option ℕ → Transfer
-standing role part given = record { role = role; part = part; given = given }
+abbrev pub transfer_of : ByteRole → PartByte → Option ℕ → Transfer
+transfer_of role part given = record { role = role; part = part; address = given }
 
 test_other : (m n : ℕ) → m ≢ n → (m == n) ≡ false
 test_other m n other = choose (m == n) refl
@@ -46,7 +46,7 @@ rest_alone ended role (b ∷ g) few =
     ap (nines_notes ended role) (groups_short 9 (b ∷ g) (omega arith) (omega arith)) ∙ rw short refl
 
 -- what a condition leaves of them
-left_is : (role : ByteRole) (g : List BusBit) (given : Option ℕ) → left_notes (Some (standing role (part_of g) given)) ≡ rest_notes true g
+left_is : (role : ByteRole) (g : List BusBit) (given : Option ℕ) → left_notes (Some (transfer_of role (part_of g) given)) ≡ rest_notes true g
 left_is role [] given = refl
 left_is role (b ∷ g) given =
     let count = part_count (b ∷ g) in
@@ -55,18 +55,18 @@ left_is role (b ∷ g) given =
     λ i. if nat_le 2 (count i) then note (first i) (last i) (kinds.PartialOf (count i)) ∷ [] else []
 
 -- which shows no address
-none_given : (g : List BusBit) → address_given (rest_notes true g) ≡ None
-unfolding address_given
+none_given : (g : List BusBit) → shown_address (rest_notes true g) ≡ None
+unfolding shown_address
 none_given g = choose (nat_le 2 (length g))
   where
-    choose : (e : Bool) → address_given (if e then bits_note g (kinds.PartialOf (length g)) ∷ [] else []) ≡ None
+    choose : (e : Bool) → shown_address (if e then bits_note g (kinds.PartialOf (length g)) ∷ [] else []) ≡ None
     choose true = refl
     choose false = refl
 
 -- ---- a whole byte
 
 -- eight bits at hand and the ninth
-whole_is : (role : ByteRole) (g : List BusBit) (given : Option ℕ) (b : BusBit) → length g ≡ 8 → byte_notes role (g ++ b ∷ []) ≡ whole_notes (standing role (part_of g) given) b
+whole_is : (role : ByteRole) (g : List BusBit) (given : Option ℕ) (b : BusBit) → length g ≡ 8 → byte_notes role (g ++ b ∷ []) ≡ whole_notes (transfer_of role (part_of g) given) b
 whole_is role [] given b eight = absurd (omega arith)
 whole_is role (a ∷ g) given b eight =
     let front = take_at (a ∷ g) (b ∷ []) 8 eight in
@@ -91,11 +91,11 @@ or_none None = refl
 or_none (Some x) = refl
 
 -- the address that the whole bits show, with the one that came before
-given_past : (t : Transfer) (b : BusBit) (others : List Annotation) → option_or t.given (address_given (whole_notes t b ++ others)) ≡ option_or (transfer_after_byte t).given (address_given others)
-unfolding address_given
+given_past : (t : Transfer) (b : BusBit) (others : List Annotation) → option_or t.address (shown_address (whole_notes t b ++ others)) ≡ option_or (transfer_after_byte t).address (shown_address others)
+unfolding shown_address
 given_past t b others =
-    ap (λ (o : Option ℕ). option_or t.given (option_or (ten_bit_address (byte_kind t.role t.part.number)) (option_or o (address_given others)))) (acknowledge_none (number_with (Some 0) b))
-    ∙ or_assoc t.given (ten_bit_address (byte_kind t.role t.part.number)) (address_given others)
+    ap (λ (o : Option ℕ). option_or t.address (option_or (ten_bit_address (byte_kind t.role t.part.number)) (option_or o (shown_address others)))) (acknowledge_none (number_with (Some 0) b))
+    ∙ or_assoc t.address (ten_bit_address (byte_kind t.role t.part.number)) (shown_address others)
 
 -- the annotations of bits at hand and those to come up to the next condition
 abbrev stretch : List BusEvent → ByteRole → List BusBit → List Annotation
@@ -103,7 +103,7 @@ stretch es role g = nines_notes (has_condition es) role (groups_of 9 (g ++ bits_
 
 -- a full nine and what is behind it
 stretch_past : (es : List BusEvent) (role : ByteRole) (g : List BusBit) (given : Option ℕ) (b : BusBit) → length g ≡ 8
-    → nines_notes (has_condition es) role (groups_of 9 (g ++ b ∷ bits_until es)) ≡ whole_notes (standing role (part_of g) given) b ++ stretch es (role_after role (part_of g).number) []
+    → nines_notes (has_condition es) role (groups_of 9 (g ++ b ∷ bits_until es)) ≡ whole_notes (transfer_of role (part_of g) given) b ++ stretch es (role_after role (part_of g).number) []
 unfolding nines_notes
 stretch_past es role g given b eight =
     let nine : length (g ++ b ∷ []) ≡ 9 = length_push g b ∙ omega arith in
@@ -117,20 +117,20 @@ stretch_past es role g given b eight =
 
 -- ---- all events
 
-abbrev Free : List BusEvent → Type 0
-Free es = walk_notes None es ≡ events_notes None es
+abbrev WalksFree : List BusEvent → Type 0
+WalksFree es = walk_notes None es ≡ events_notes None es
 
-abbrev Held : List BusEvent → Type 0
-Held es = (role : ByteRole) (g : List BusBit) (given : Option ℕ) → length g ≤ 8
-    → walk_notes (Some (standing role (part_of g) given)) es ≡ stretch es role g ++ events_notes (Some (option_or given (address_given (stretch es role g)))) es
+abbrev WalksTransfer : List BusEvent → Type 0
+WalksTransfer es = (role : ByteRole) (g : List BusBit) (given : Option ℕ) → length g ≤ 8
+    → walk_notes (Some (transfer_of role (part_of g) given)) es ≡ stretch es role g ++ events_notes (Some (option_or given (shown_address (stretch es role g)))) es
 
 -- a condition comes: the bits at hand are a rest
 at_condition : (c : BusEvent) (es : List BusEvent) (role : ByteRole) (g : List BusBit) (given : Option ℕ) → length g ≤ 8 → bits_until (c ∷ es) ≡ [] → has_condition (c ∷ es) ≡ true
-    → (left_notes (Some (standing role (part_of g) given)) ≡ stretch (c ∷ es) role g) × (option_or given (address_given (stretch (c ∷ es) role g)) ≡ given)
+    → (left_notes (Some (transfer_of role (part_of g) given)) ≡ stretch (c ∷ es) role g) × (option_or given (shown_address (stretch (c ∷ es) role g)) ≡ given)
 at_condition c es role g given few none ended =
     let all : stretch (c ∷ es) role g ≡ rest_notes true g =
     (λ i. nines_notes (ended i) role (groups_of 9 (g ++ none i))) ∙ ap (λ (bs : List BusBit). nines_notes true role (groups_of 9 bs)) (append-nil g) ∙ rest_alone true role g few in
-    (left_is role g given ∙ sym all, ap (λ (shown : List Annotation). option_or given (address_given shown)) all ∙ ap (option_or given) (none_given g) ∙ or_none given)
+    (left_is role g given ∙ sym all, ap (λ (shown : List Annotation). option_or given (shown_address shown)) all ∙ ap (option_or given) (none_given g) ∙ or_none given)
 
 -- a bit that ends a byte, and one that does not
 bit_whole : (t : Transfer) (b : BusBit) (es : List BusEvent) → (t.part.count == 8) ≡ true → walk_notes (Some t) (events.Bit b ∷ es) ≡ whole_notes t b ++ walk_notes (Some (transfer_after_byte t)) es
@@ -141,76 +141,76 @@ bit_more : (t : Transfer) (b : BusBit) (es : List BusEvent) → (t.part.count ==
 unfolding walk_notes
 bit_more t b es is = λ i. (if is i then whole_notes t b else []) ++ walk_notes (Some (if is i then transfer_after_byte t else record t { part = part_with t.part b })) es
 
-held_byte : (b : BusBit) (es : List BusEvent) (role : ByteRole) (g : List BusBit) (given : Option ℕ) → Held es → length g ≡ 8
-    → walk_notes (Some (standing role (part_of g) given)) (events.Bit b ∷ es)
-    ≡ stretch (events.Bit b ∷ es) role g ++ events_notes (Some (option_or given (address_given (stretch (events.Bit b ∷ es) role g)))) (events.Bit b ∷ es)
+held_byte : (b : BusBit) (es : List BusEvent) (role : ByteRole) (g : List BusBit) (given : Option ℕ) → WalksTransfer es → length g ≡ 8
+    → walk_notes (Some (transfer_of role (part_of g) given)) (events.Bit b ∷ es)
+    ≡ stretch (events.Bit b ∷ es) role g ++ events_notes (Some (option_or given (shown_address (stretch (events.Bit b ∷ es) role g)))) (events.Bit b ∷ es)
 unfolding bits_until has_condition events_notes
 held_byte b es role g given later eight =
-    let t : Transfer = standing role (part_of g) given in
+    let t : Transfer = transfer_of role (part_of g) given in
     let count : (t.part.count == 8) ≡ true = (Decides-eqb t.part.count 8).1 (part_count g ∙ eight) in
     let whole : List Annotation = whole_notes t b in
     let next : ByteRole = role_after role (part_of g).number in
     let rest : List Annotation = stretch es next [] in
-    let given_then : Option ℕ = (transfer_after_byte t).given in
+    let given_then : Option ℕ = (transfer_after_byte t).address in
     let past = stretch_past es role g given b eight in
     bit_whole t b es count
     ∙ ap (λ (notes : List Annotation). whole ++ notes) (later next [] given_then (omega arith))
-    ∙ sym (append_assoc whole rest (events_notes (Some (option_or given_then (address_given rest))) es))
+    ∙ sym (append_assoc whole rest (events_notes (Some (option_or given_then (shown_address rest))) es))
     ∙ ap (λ (o : Option ℕ). (whole ++ rest) ++ events_notes (Some o) es) (sym (given_past t b rest))
-    ∙ sym (λ i. past i ++ events_notes (Some (option_or given (address_given (past i)))) es)
+    ∙ sym (λ i. past i ++ events_notes (Some (option_or given (shown_address (past i)))) es)
 
-held_bit : (b : BusBit) (es : List BusEvent) (role : ByteRole) (g : List BusBit) (given : Option ℕ) → Held es → length g < 8
-    → walk_notes (Some (standing role (part_of g) given)) (events.Bit b ∷ es)
-    ≡ stretch (events.Bit b ∷ es) role g ++ events_notes (Some (option_or given (address_given (stretch (events.Bit b ∷ es) role g)))) (events.Bit b ∷ es)
+held_bit : (b : BusBit) (es : List BusEvent) (role : ByteRole) (g : List BusBit) (given : Option ℕ) → WalksTransfer es → length g < 8
+    → walk_notes (Some (transfer_of role (part_of g) given)) (events.Bit b ∷ es)
+    ≡ stretch (events.Bit b ∷ es) role g ++ events_notes (Some (option_or given (shown_address (stretch (events.Bit b ∷ es) role g)))) (events.Bit b ∷ es)
 unfolding bits_until has_condition events_notes
 held_bit b es role g given later few =
-    let t : Transfer = standing role (part_of g) given in
+    let t : Transfer = transfer_of role (part_of g) given in
     let count : (t.part.count == 8) ≡ false = test_other t.part.count 8 (λ eight. omega (arith, part_count g)) in
     let more : part_with (part_of g) b ≡ part_of (g ++ b ∷ []) = sym (fold-append part_with no_bits g (b ∷ [])) in
     let longer = append_assoc g (b ∷ []) (bits_until es) in
     bit_more t b es count
-    ∙ ap (λ (p : PartByte). walk_notes (Some (standing role p given)) es) more
+    ∙ ap (λ (p : PartByte). walk_notes (Some (transfer_of role p given)) es) more
     ∙ later role (g ++ b ∷ []) given (omega (arith, length_push g b))
-    ∙ (λ i. nines_notes (has_condition es) role (groups_of 9 (longer i)) ++ events_notes (Some (option_or given (address_given (nines_notes (has_condition es) role (groups_of 9 (longer i)))))) es)
+    ∙ (λ i. nines_notes (has_condition es) role (groups_of 9 (longer i)) ++ events_notes (Some (option_or given (shown_address (nines_notes (has_condition es) role (groups_of 9 (longer i)))))) es)
 
-held_start : (t : ℕ) (es : List BusEvent) (role : ByteRole) (g : List BusBit) (given : Option ℕ) → Held es → length g ≤ 8
-    → walk_notes (Some (standing role (part_of g) given)) (events.Start t ∷ es)
-    ≡ stretch (events.Start t ∷ es) role g ++ events_notes (Some (option_or given (address_given (stretch (events.Start t ∷ es) role g)))) (events.Start t ∷ es)
+held_start : (t : ℕ) (es : List BusEvent) (role : ByteRole) (g : List BusBit) (given : Option ℕ) → WalksTransfer es → length g ≤ 8
+    → walk_notes (Some (transfer_of role (part_of g) given)) (events.Start t ∷ es)
+    ≡ stretch (events.Start t ∷ es) role g ++ events_notes (Some (option_or given (shown_address (stretch (events.Start t ∷ es) role g)))) (events.Start t ∷ es)
 unfolding walk_notes bits_until has_condition events_notes
 held_start t es role g given later few =
     let here = at_condition (events.Start t) es role g given few refl refl in
-    let rest : List Annotation = left_notes (Some (standing role (part_of g) given)) in
+    let rest : List Annotation = left_notes (Some (transfer_of role (part_of g) given)) in
     let shown : List Annotation = stretch es (roles.Address given) [] in
-    let others : List Annotation = shown ++ events_notes (Some (address_given shown)) es in
+    let others : List Annotation = shown ++ events_notes (Some (shown_address shown)) es in
     let start : List Annotation = note t t kinds.RepeatedStart ∷ [] in
     let old = sym here.1 in
     ap (λ (notes : List Annotation). (rest ++ start) ++ notes) (later (roles.Address given) [] None (omega arith))
     ∙ append_assoc rest start others
     ∙ (λ i. here.0 i ++ events_notes (Some (old i)) (events.Start t ∷ es))
 
-held_stop : (t : ℕ) (es : List BusEvent) (role : ByteRole) (g : List BusBit) (given : Option ℕ) → Free es → length g ≤ 8
-    → walk_notes (Some (standing role (part_of g) given)) (events.Stop t ∷ es)
-    ≡ stretch (events.Stop t ∷ es) role g ++ events_notes (Some (option_or given (address_given (stretch (events.Stop t ∷ es) role g)))) (events.Stop t ∷ es)
+held_stop : (t : ℕ) (es : List BusEvent) (role : ByteRole) (g : List BusBit) (given : Option ℕ) → WalksFree es → length g ≤ 8
+    → walk_notes (Some (transfer_of role (part_of g) given)) (events.Stop t ∷ es)
+    ≡ stretch (events.Stop t ∷ es) role g ++ events_notes (Some (option_or given (shown_address (stretch (events.Stop t ∷ es) role g)))) (events.Stop t ∷ es)
 unfolding walk_notes bits_until has_condition events_notes
 held_stop t es role g given later few =
     let here = at_condition (events.Stop t) es role g given few refl refl in
-    let rest : List Annotation = left_notes (Some (standing role (part_of g) given)) in
+    let rest : List Annotation = left_notes (Some (transfer_of role (part_of g) given)) in
     let stop : List Annotation = note t t kinds.Stop ∷ [] in
     let old = sym here.1 in
     ap (λ (notes : List Annotation). (rest ++ stop) ++ notes) later
     ∙ append_assoc rest stop (events_notes None es)
     ∙ (λ i. here.0 i ++ events_notes (Some (old i)) (events.Stop t ∷ es))
 
-held_none : Held []
+held_none : WalksTransfer []
 unfolding walk_notes bits_until has_condition events_notes
 held_none role g given few =
     sym (append-nil (stretch [] role g) ∙ ap (λ (bs : List BusBit). nines_notes false role (groups_of 9 bs)) (append-nil g) ∙ rest_alone false role g few)
 
-held_start_free : (t : ℕ) (es : List BusEvent) → Held es → Free (events.Start t ∷ es)
+held_start_free : (t : ℕ) (es : List BusEvent) → WalksTransfer es → WalksFree (events.Start t ∷ es)
 unfolding walk_notes events_notes
 held_start_free t es later = ap (λ (notes : List Annotation). note t t kinds.Start ∷ notes) (later (roles.Address None) [] None (omega arith))
 
-walked : (es : List BusEvent) → Free es × Held es
+walked : (es : List BusEvent) → WalksFree es × WalksTransfer es
 unfolding walk_notes events_notes
 walked [] = (refl, held_none)
 walked (events.Bit b ∷ es) =
@@ -233,12 +233,12 @@ pub walk_is : (es : List BusEvent) → walk_notes None es ≡ events_notes None 
 walk_is es = (walked es).0
 
 -- what an event brings, and then those behind it
-pub followed : (r : Result (Option Transfer) NoMemory) (old new : List Annotation) (bus : Option Transfer) (told : Option BusEvent) (e : BusEvent) → told ≡ Some e
+pub event_taken : (r : Result (Option Transfer) NoMemory) (old new : List Annotation) (bus : Option Transfer) (told : Option BusEvent) (e : BusEvent) → told ≡ Some e
     → OnOk r (new ≡ old ++ event_notes bus e) → IfOk r (λ next. next ≡ bus_after bus e)
     → IfOk r (λ next. (es : List BusEvent) → new ++ walk_notes next es ≡ old ++ walk_notes bus (cons_option told es))
 unfolding walk_notes
-followed (Err fault) old new bus told e is notes after = tt
-followed (Ok next) old new bus told e is notes after = λ es.
+event_taken (Err fault) old new bus told e is notes after = tt
+event_taken (Ok next) old new bus told e is notes after = λ es.
     (λ i. notes i ++ walk_notes (after i) es)
     ∙ append_assoc old (event_notes bus e) (walk_notes (bus_after bus e) es)
     ∙ ap (λ (o : Option BusEvent). old ++ walk_notes bus (cons_option o es)) (sym is)

@@ -8,12 +8,13 @@ use Rattle.vcd_decode.specs.declared.annotation.Direction.TheVariants.{Write, Re
 use Rattle.vcd_decode.specs.declared.i2c_bus.events.BusBit.{BusBit}
 use Rattle.vcd_decode.specs.declared.i2c_bus.bytes.ByteRole.{ByteRole}
 use Rattle.vcd_decode.specs.declared.i2c_bus.bytes.ByteRole.TheVariants as roles
-use Rattle.vcd_decode.specs.BusEvents.{is_high, is_low}
+use Rattle.vcd_decode.specs.Lines.{is_zero}
+use Rattle.vcd_decode.specs.BusEvents.{is_line_high}
 
 -- a number with one more bit behind it; none where the bit is neither high nor low
 abbrev pub number_with : Option ℕ → BusBit → Option ℕ
 number_with None b = None
-number_with (Some n) b = if is_high b.level then Some (2 * n + 1) else (if is_low b.level then Some (2 * n) else None)
+number_with (Some n) b = if is_line_high b.level then Some (2 * n + 1) else (if is_zero b.level then Some (2 * n) else None)
 
 -- the number that bits make, the most significant first
 abbrev pub number_of_bits : List BusBit → Option ℕ

@@ -3,36 +3,29 @@ use Rattle.std.specs.Prelude.{ℕ, suc, Bool, true, false, ◌&&◌, if◌then�
 use Rattle.std.specs.List.{range_with_len}
 use Rattle.vcd_core.specs.declared.bit.Bit.{Bit}
 use Rattle.vcd_core.specs.declared.bit.Bit.TheVariants.{Zero, One, X, Z}
-use Rattle.vcd_decode.specs.Lines.{letter_before}
+use Rattle.vcd_decode.specs.Lines.{letter_before, is_zero}
 use Rattle.vcd_decode.specs.declared.i2c_bus.events.BusLevels.{BusLevels}
 use Rattle.vcd_decode.specs.declared.i2c_bus.events.BusEvent.{BusEvent}
 use Rattle.vcd_decode.specs.declared.i2c_bus.events.BusEvent.TheVariants as events
 
--- whether a level is high: 1, or z, since nothing drives the line and a resistor pulls it up
-abbrev pub is_high : Bit → Bool
-is_high Zero = false
-is_high One = true
-is_high X = false
-is_high Z = true
-
--- whether it is low: 0; x is neither
-abbrev pub is_low : Bit → Bool
-is_low Zero = true
-is_low One = false
-is_low X = false
-is_low Z = false
+-- whether a level is high: 1, or z, where nothing drives the line and a resistor pulls it up. It is low where it is 0; x is neither
+abbrev pub is_line_high : Bit → Bool
+is_line_high Zero = false
+is_line_high One = true
+is_line_high X = false
+is_line_high Z = true
 
 -- a START condition: SDA goes from high to low while SCL stays high
 abbrev pub is_start : BusLevels → BusLevels → Bool
-is_start before at = is_high before.scl && is_high at.scl && is_high before.sda && is_low at.sda
+is_start before at = is_line_high before.scl && is_line_high at.scl && is_line_high before.sda && is_zero at.sda
 
 -- a STOP condition: SDA goes from low to high while SCL stays high
 abbrev pub is_stop : BusLevels → BusLevels → Bool
-is_stop before at = is_high before.scl && is_high at.scl && is_low before.sda && is_high at.sda
+is_stop before at = is_line_high before.scl && is_line_high at.scl && is_zero before.sda && is_line_high at.sda
 
 -- a bit: SCL goes from low to high
 abbrev pub is_bit : BusLevels → BusLevels → Bool
-is_bit before at = is_low before.scl && is_high at.scl
+is_bit before at = is_zero before.scl && is_line_high at.scl
 
 -- what the lines do at a tick, by their levels just before it and at it; the level of a bit is that of SDA
 abbrev pub bus_event : ℕ → BusLevels → BusLevels → Option BusEvent

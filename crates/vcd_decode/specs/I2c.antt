@@ -59,23 +59,23 @@ has_condition (events.Start t ∷ es) = true
 has_condition (events.Stop t ∷ es) = true
 
 -- the address of ten bits that annotations show
-unfoldable pub address_given : List Annotation → Option ℕ
-address_given [] = None
-address_given (a ∷ others) = option_or (ten_bit_address a.kind) (address_given others)
+unfoldable pub shown_address : List Annotation → Option ℕ
+shown_address [] = None
+shown_address (a ∷ others) = option_or (ten_bit_address a.kind) (shown_address others)
 
 -- a START is a repeated one where the last condition was a START
 abbrev pub start_kind : Option (Option ℕ) → Kind
 start_kind None = kinds.Start
 start_kind (Some given) = kinds.RepeatedStart
 
--- the annotations of conditions and bits, where the last condition before them was a START (with the address of ten bits that was given since) or none
+-- the annotations of conditions and bits, where the last condition before them was a START (with the address of ten bits that came since) or none
 unfoldable pub events_notes : Option (Option ℕ) → List BusEvent → List Annotation
 events_notes last [] = []
 events_notes last (events.Bit b ∷ es) = events_notes last es
 events_notes last (events.Stop t ∷ es) = note t t kinds.Stop ∷ events_notes None es
 events_notes last (events.Start t ∷ es) =
     let shown = nines_notes (has_condition es) (roles.Address (option_flatten last)) (groups_of 9 (bits_until es)) in
-    note t t (start_kind last) ∷ shown ++ events_notes (Some (address_given shown)) es
+    note t t (start_kind last) ∷ shown ++ events_notes (Some (shown_address shown)) es
 
 -- the annotations of the lines SCL and SDA at the ticks 0 to `end`
 abbrev pub i2c_annotations : (ℕ → Bit) → (ℕ → Bit) → ℕ → List Annotation

@@ -3,6 +3,8 @@
 mod bytes;
 mod decoding;
 mod events;
+#[cfg(test)]
+mod tests;
 mod transfer;
 
 pub use decoding::i2c;

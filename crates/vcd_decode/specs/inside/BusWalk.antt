@@ -40,14 +40,14 @@ IsPart p = (p.count ≤ 8) × IfSome p.number (λ n. n < 2 ^ p.count)
 abbrev pub IsBus : Option Transfer → Type 0
 IsBus bus = IfSome bus (λ t. IsPart t.part)
 
--- the address of ten bits that was given since
-abbrev pub given_by : Option Transfer → Option ℕ
-given_by None = None
-given_by (Some t) = t.given
+-- the address of ten bits that came since
+abbrev pub bus_address : Option Transfer → Option ℕ
+bus_address None = None
+bus_address (Some t) = t.address
 
 -- a transfer that begins
 abbrev pub new_transfer : Option Transfer → Transfer
-new_transfer bus = record { role = roles.Address (given_by bus); part = no_bits; given = None }
+new_transfer bus = record { role = roles.Address (bus_address bus); part = no_bits; address = None }
 
 -- the kind of a START
 abbrev pub start_of : Option Transfer → Kind
@@ -72,7 +72,7 @@ abbrev pub transfer_after_byte : Transfer → Transfer
 transfer_after_byte t = record {
   role = role_after t.role t.part.number;
   part = no_bits;
-  given = option_or t.given (ten_bit_address (byte_kind t.role t.part.number));
+  address = option_or t.address (ten_bit_address (byte_kind t.role t.part.number));
 }
 
 abbrev pub bit_notes : Transfer → BusBit → List Annotation

@@ -5,7 +5,8 @@ ghost use Rattle.vcd_decode.specs.BusBytes as spec;
 ghost use Rattle.vcd_decode.specs.inside.BusWalk.{no_bits, part_with, IsPart};
 
 use crate::annotation::{Direction, Kind};
-use crate::i2c_bus::events::{BusBit, is_high, is_low};
+use crate::i2c_bus::events::{BusBit, is_line_high};
+use crate::letters::is_zero;
 
 /// What a byte is.
 #[derive(Clone, Copy)]
@@ -69,10 +70,10 @@ pub(super) fn number_with(number: Option<u8>, bit: BusBit) -> Option<u8>
     ensures { result ≡ spec.number_with number bit }
 {
     let number = number?;
-    if is_high(bit.level) {
+    if is_line_high(bit.level) {
         return Some(2 * number + 1);
     }
-    if is_low(bit.level) {
+    if is_zero(bit.level) {
         return Some(2 * number);
     }
     None

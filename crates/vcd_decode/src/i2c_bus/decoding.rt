@@ -10,14 +10,20 @@ ghost use Rattle.vcd_decode.specs.inside.BusWalk as walk;
 
 use crate::annotation::Annotation;
 use crate::i2c_bus::events::{BusLevels, bus_event};
-use crate::i2c_bus::transfer::{Transfer, follow};
+use crate::i2c_bus::transfer::{Transfer, take_event};
 use std::alloc::Global;
 use vcd_core::{Bit, BitEdge, BitEdges, NoMemory, Wave};
 
-/// What an I2C bus carries on its lines SCL and SDA from tick 0 to the tick `end`: conditions, addresses
-/// of seven and of ten bits, data and acknowledges (UM10204, 3.1), in the order of the bits.
+/// What an I2C bus carries on its lines `scl` and `sda` up to the tick `end` (UM10204, 3.1): START and
+/// STOP conditions at their ticks, and each byte of seven or ten address bits or of data from its first
+/// to its eighth bit, with the acknowledge behind it. A line that is z is high.
 ///
-/// One pass over the changes of both lines; the annotations are the only memory.
+/// A byte or an acknowledge with an x is `Unknown`. Bits that a condition cuts off are `PartialOf`, where
+/// there are two at least: SCL rises once before each condition. Those that the capture's end cuts off
+/// are not told.
+///
+/// One walk over the changes of both lines, a constant number of steps and at most two annotations for
+/// each; the memory is that of the annotations.
 pub fn i2c<'a>(
     alloc: Global,
     scl: &'a Wave,
@@ -42,13 +48,13 @@ fn annotations_of(alloc: Global, edges: BitEdges) -> Result<Vec<Annotation>, NoM
     let mut found = Vec::new(alloc);
     let mut bus = None;
     for edge in edges {
-        bus = follow_edge(&mut found, bus, edge)?;
+        bus = take_edge(&mut found, bus, edge)?;
     }
     Ok(found)
 }
 
 /// Appends what an edge brings, and answers the transfer behind it.
-fn follow_edge(
+fn take_edge(
     found: &mut Vec<Annotation>,
     bus: Option<Transfer>,
     edge: BitEdge,
@@ -61,7 +67,7 @@ fn follow_edge(
 {
     let before = levels_of(edge.before);
     match bus_event(edge.tick, before, levels_of(edge.at)) {
-        Some(event) => follow(found, bus, event),
+        Some(event) => take_event(found, bus, event),
         None => Ok(bus),
     }
 }

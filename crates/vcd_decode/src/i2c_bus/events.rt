@@ -3,6 +3,7 @@
 ghost use Rattle.std.specs.Prelude.{◌≡◌};
 ghost use Rattle.vcd_decode.specs.BusEvents as spec;
 
+use crate::letters::is_zero;
 use vcd_core::Bit;
 
 /// The levels of the two lines at one tick.
@@ -27,18 +28,11 @@ pub(super) enum BusEvent {
     Bit(BusBit),
 }
 
-/// Whether a level is high: 1, or z, where a resistor pulls the line up.
-pub(super) fn is_high(level: Bit) -> bool
-    ensures { result ≡ spec.is_high level }
+/// Whether a level is high: 1, or z, where a resistor pulls the line up. It is low where it is 0.
+pub(super) fn is_line_high(level: Bit) -> bool
+    ensures { result ≡ spec.is_line_high level }
 {
     matches!(level, Bit::One | Bit::Z)
-}
-
-/// Whether it is low: 0. The level x is neither.
-pub(super) fn is_low(level: Bit) -> bool
-    ensures { result ≡ spec.is_low level }
-{
-    matches!(level, Bit::Zero)
 }
 
 /// What the lines do at a tick, by their levels just before it and at it.
@@ -64,19 +58,19 @@ pub(super) fn bus_event(tick: u64, before: BusLevels, at: BusLevels) -> Option<B
 fn is_start(before: BusLevels, at: BusLevels) -> bool
     ensures { result ≡ spec.is_start before at }
 {
-    is_high(before.scl) && is_high(at.scl) && is_high(before.sda) && is_low(at.sda)
+    is_line_high(before.scl) && is_line_high(at.scl) && is_line_high(before.sda) && is_zero(at.sda)
 }
 
 /// A STOP condition: SDA rises while SCL stays high.
 fn is_stop(before: BusLevels, at: BusLevels) -> bool
     ensures { result ≡ spec.is_stop before at }
 {
-    is_high(before.scl) && is_high(at.scl) && is_low(before.sda) && is_high(at.sda)
+    is_line_high(before.scl) && is_line_high(at.scl) && is_zero(before.sda) && is_line_high(at.sda)
 }
 
 /// A bit: SCL rises.
 fn is_bit(before: BusLevels, at: BusLevels) -> bool
     ensures { result ≡ spec.is_bit before at }
 {
-    is_low(before.scl) && is_high(at.scl)
+    is_zero(before.scl) && is_line_high(at.scl)
 }

@@ -18,12 +18,12 @@ pub(super) struct Transfer {
     pub(super) role: ByteRole,
     /// The bits at hand, at most eight.
     pub(super) part: PartByte,
-    /// The address of ten bits that was given since the START.
-    pub(super) given: Option<u16>,
+    /// The address of ten bits that came since the START.
+    pub(super) address: Option<u16>,
 }
 
 /// Appends what an event brings, and answers the transfer behind it.
-pub(super) fn follow(
+pub(super) fn take_event(
     found: &mut Vec<Annotation>,
     bus: Option<Transfer>,
     event: BusEvent,
@@ -36,21 +36,21 @@ pub(super) fn follow(
 {
     match event {
         BusEvent::Start(tick) => {
-            append_left(found, bus)?;
-            append(found, tick, tick, start_of(bus))?;
+            append_rest(found, bus)?;
+            append_annotation(found, tick, tick, start_of(bus))?;
             Ok(Some(new_transfer(bus)))
         }
         BusEvent::Stop(tick) => {
-            append_left(found, bus)?;
-            append(found, tick, tick, Kind::Stop)?;
+            append_rest(found, bus)?;
+            append_annotation(found, tick, tick, Kind::Stop)?;
             Ok(None)
         }
-        BusEvent::Bit(bit) => follow_bit(found, bus, bit),
+        BusEvent::Bit(bit) => take_bit(found, bus, bit),
     }
 }
 
 /// Appends what a bit brings.
-fn follow_bit(
+fn take_bit(
     found: &mut Vec<Annotation>,
     bus: Option<Transfer>,
     bit: BusBit,
@@ -65,13 +65,13 @@ fn follow_bit(
         return Ok(None);
     };
     if transfer.part.count < 8 {
-        return Ok(Some(with_bit(transfer, bit)));
+        return Ok(Some(transfer_with_bit(transfer, bit)));
     }
     Ok(Some(end_byte(found, transfer, bit)?))
 }
 
 /// One more bit of the byte at hand.
-fn with_bit(transfer: Transfer, bit: BusBit) -> Transfer
+fn transfer_with_bit(transfer: Transfer, bit: BusBit) -> Transfer
     requires part { walk.IsPart transfer.part }
     requires few { transfer.part.count < 8 }
     ensures bits { result ≡ record transfer { part = walk.part_with transfer.part bit } }
@@ -80,7 +80,7 @@ fn with_bit(transfer: Transfer, bit: BusBit) -> Transfer
     Transfer {
         role: transfer.role,
         part: transfer.part.with(bit),
-        given: transfer.given,
+        address: transfer.address,
     }
 }
 
@@ -96,18 +96,18 @@ fn end_byte(
 {
     let part = transfer.part;
     let kind = byte_kind(transfer.role, part.number);
-    append(found, part.first, part.last, kind)?;
+    append_annotation(found, part.first, part.last, kind)?;
     let acknowledge = acknowledge_kind(number_with(Some(0), bit));
-    append(found, bit.tick, bit.tick, acknowledge)?;
+    append_annotation(found, bit.tick, bit.tick, acknowledge)?;
     Ok(Transfer {
         role: role_after(transfer.role, part.number),
         part: PartByte::new(),
-        given: transfer.given.or(ten_bit_address(kind)),
+        address: transfer.address.or(ten_bit_address(kind)),
     })
 }
 
 /// Appends the bits at hand where a condition comes: one alone is the rise of SCL before it.
-fn append_left(found: &mut Vec<Annotation>, bus: Option<Transfer>) -> Result<(), NoMemory>
+fn append_rest(found: &mut Vec<Annotation>, bus: Option<Transfer>) -> Result<(), NoMemory>
     ensures { OnOk result (found.new.items ≡ found.old.items ++ walk.left_notes bus) }
 {
     let Some(transfer) = bus else {
@@ -117,10 +117,15 @@ fn append_left(found: &mut Vec<Annotation>, bus: Option<Transfer>) -> Result<(),
     if part.count < 2 {
         return Ok(());
     }
-    append(found, part.first, part.last, Kind::PartialOf(part.count))
+    append_annotation(found, part.first, part.last, Kind::PartialOf(part.count))
 }
 
-fn append(found: &mut Vec<Annotation>, start: u64, end: u64, kind: Kind) -> Result<(), NoMemory>
+fn append_annotation(
+    found: &mut Vec<Annotation>,
+    start: u64,
+    end: u64,
+    kind: Kind,
+) -> Result<(), NoMemory>
     ensures { OnOk result (found.new.items ≡ found.old.items ++ note start end kind ∷ []) }
 {
     found.push(Annotation { start, end, kind })?;
@@ -133,9 +138,9 @@ fn new_transfer(bus: Option<Transfer>) -> Transfer
     ensures part { walk.IsPart result.part }
 {
     Transfer {
-        role: ByteRole::Address(bus.and_then(|transfer| transfer.given)),
+        role: ByteRole::Address(bus.and_then(|transfer| transfer.address)),
         part: PartByte::new(),
-        given: None,
+        address: None,
     }
 }
 
