@@ -10,6 +10,8 @@ mod setup_error;
 mod spi_group;
 mod spi_setup;
 mod spi_words;
+#[cfg(test)]
+mod tests;
 mod uart_frames;
 mod uart_setup;
 
