@@ -16,7 +16,7 @@ use Rattle.vcd_decode.specs.declared.spi_setup.BitOrder.{BitOrder}
 use Rattle.vcd_decode.specs.declared.spi_setup.BitOrder.TheVariants.{Msb, Lsb}
 use Rattle.vcd_decode.specs.SpiSetup.{SpiSetup}
 use Rattle.vcd_decode.specs.Lines.{line_of, is_one, is_unclear, number_of}
-use Rattle.vcd_decode.specs.Spi.{ordered_number, data_of, line_data, first_tick, last_tick, group_told, segment_told}
+use Rattle.vcd_decode.specs.Spi.{ordered_number, data_of, line_data, group_start, group_end, group_told, segment_told}
 use Rattle.vcd_decode.specs.inside.SpiGroup.{longer_number, data_after, data_before, first_data, DataFits, group_before, word_note, rest_note}
 use Rattle.vcd_decode.specs.inside.SpiWalk.{rest_told, group_of}
 use Rattle.vcd_decode.proofs.Groups.{groups_none, groups_short}
@@ -119,14 +119,14 @@ not_none x xs = choose (length (x ∷ xs) == 0) refl
     choose false is = refl
     choose true is = let none : length (x ∷ xs) ≡ 0 = (Decides-eqb (length (x ∷ xs)) 0).0 is in absurd (omega arith)
 
-first_last : (ts : List ℕ) (t : ℕ) → (if length ts == 0 then t else first_tick ts) ≡ first_tick (ts ++ t ∷ [])
+first_last : (ts : List ℕ) (t : ℕ) → (if length ts == 0 then t else group_start ts) ≡ group_start (ts ++ t ∷ [])
 first_last [] t = refl
 first_last (s ∷ ts) t = ap (λ b. if b then t else s) (not_none s ts)
 
 pub length_last : (ts : List ℕ) (t : ℕ) → length ts + 1 ≡ length (ts ++ t ∷ [])
 length_last ts t = sym (length-append ts (t ∷ []))
 
-last_last : (ts : List ℕ) (t : ℕ) → t ≡ last_tick (ts ++ t ∷ [])
+last_last : (ts : List ℕ) (t : ℕ) → t ≡ group_end (ts ++ t ∷ [])
 last_last ts t =
     sym (get_or-append_seam ts t [] 0) ∙ ap (λ n. get_or (ts ++ t ∷ []) n 0) {x = length ts} {y = length (ts ++ t ∷ []) - 1} (omega (arith, length_last ts t))
 
@@ -135,7 +135,7 @@ last_last ts t =
 module _ (u : SpiSetup) (mosi miso : Option (ℕ → Bit)) where
   -- with one more tick
   pub group_last : (ts : List ℕ) (t : ℕ) → record {
-    start = if length ts == 0 then t else first_tick ts;
+    start = if length ts == 0 then t else group_start ts;
     last = t;
     count = length ts + 1;
     mosi = data_after u.order (length ts) (line_data u.order mosi ts) (option_map (λ f. f t) mosi);

@@ -13,11 +13,11 @@ use Rattle.vcd_decode.specs.declared.annotation.Annotation.{Annotation}
 use Rattle.vcd_decode.specs.declared.spi_group.Group.{Group}
 use Rattle.vcd_decode.specs.SpiSetup.{SpiSetup}
 use Rattle.vcd_decode.specs.Lines.{line_of, letter_before, is_zero, is_one}
-use Rattle.vcd_decode.specs.Spi.{samples_rise, has_edge, is_selected, line_data, first_tick, group_told, segment_told, spi_annotations}
+use Rattle.vcd_decode.specs.Spi.{samples_rise, has_edge, is_selected, line_data, group_start, group_told, segment_told, spi_annotations}
 use Rattle.vcd_decode.specs.inside.LineEdges.{lines_of, line_edge}
 use Rattle.vcd_decode.specs.inside.SpiClock.{passes, samples}
-use Rattle.vcd_decode.specs.inside.SpiGroup.{bit_of, first_data, data_after, group_before, group_after, word_note}
-use Rattle.vcd_decode.specs.inside.SpiWalk.{selects, deselects, is_sampling, rest_told, edge_told, edge_group, group_of, edge_marks, marks_told, IsOpen, SpiSoFar}
+use Rattle.vcd_decode.specs.inside.SpiGroup.{line_bit, first_data, data_after, group_before, group_after, word_note}
+use Rattle.vcd_decode.specs.inside.SpiWalk.{selects, deselects, is_sampling, rest_told, edge_told, edge_group, group_of, edge_marks, marks_told, IsUnfinished, SpiSoFar}
 use Rattle.vcd_decode.proofs.Groups.{groups_none, groups_whole}
 use Rattle.vcd_decode.proofs.EdgeTicks.{each_edge, over_edges}
 use Rattle.vcd_decode.proofs.SpiGroups.{group_last, group_none, length_last, line_first, line_fits, rest_is, word_is}
@@ -91,10 +91,10 @@ module _ (u : SpiSetup) (some : 0 < u.bits) (mosi miso : Option (ℕ → Bit)) w
 
     longer_is : (e : BitEdge) (ts : List ℕ) → e ≡ line_edge lines e.tick → group_after u.order (group_of u mosi miso ts) e ≡ group_of u mosi miso (ts ++ e.tick ∷ [])
     longer_is e ts is =
-        let out : bit_of e.at 1 ≡ option_map (λ f. f e.tick) mosi = ap (λ (x : BitEdge). bit_of x.at 1) is in
-        let back : bit_of e.at 2 ≡ option_map (λ f. f e.tick) miso = ap (λ (x : BitEdge). bit_of x.at 2) is in
+        let out : line_bit e.at 1 ≡ option_map (λ f. f e.tick) mosi = ap (λ (x : BitEdge). line_bit x.at 1) is in
+        let back : line_bit e.at 2 ≡ option_map (λ f. f e.tick) miso = ap (λ (x : BitEdge). line_bit x.at 2) is in
         (λ i. record {
-          start = if length ts == 0 then e.tick else first_tick ts;
+          start = if length ts == 0 then e.tick else group_start ts;
           last = e.tick;
           count = length ts + 1;
           mosi = data_after u.order (length ts) (line_data u.order mosi ts) (out i);
@@ -140,11 +140,11 @@ module _ (u : SpiSetup) (some : 0 < u.bits) (mosi miso : Option (ℕ → Bit)) w
         ∙ so_far.rest
 
     -- the group has room for one more bit
-    pub so_far_open : (all found : List Annotation) (g : Group) (left : List BitEdge) → SoFar all found g left → IsOpen u g
+    pub so_far_open : (all found : List Annotation) (g : Group) (left : List BitEdge) → SoFar all found g left → IsUnfinished u g
     so_far_open all found g left so_far =
         let ts = so_far.ticks in
-        let open_there : IsOpen u (group_of u mosi miso ts) = record { count = so_far.short; mosi = line_fits u.order mosi ts; miso = line_fits u.order miso ts } in
-        subst (IsOpen u) (sym so_far.is_group) open_there
+        let open_there : IsUnfinished u (group_of u mosi miso ts) = record { count = so_far.short; mosi = line_fits u.order mosi ts; miso = line_fits u.order miso ts } in
+        subst (IsUnfinished u) (sym so_far.is_group) open_there
 
     -- ---- the marks of all ticks
 
@@ -235,9 +235,9 @@ module _ (u : SpiSetup) (some : 0 < u.bits) (mosi miso : Option (ℕ → Bit)) w
 still : (u : SpiSetup) (e : BitEdge) → e.at ≡ e.before → edge_marks u e ≡ []
 unfolding edge_marks
 still u e same =
-    let unread : samples u.mode (bit_of e.before 0) (bit_of e.before 0) ≡ false = no_edge (samples_rise u.mode) (bit_of e.before 0) in
+    let unread : samples u.mode (line_bit e.before 0) (line_bit e.before 0) ≡ false = no_edge (samples_rise u.mode) (line_bit e.before 0) in
     ap (λ bits. edge_marks u (record { tick = e.tick; before = e.before; at = bits })) same
-    ∙ nothing (selects (bit_of e.before 3)) (samples u.mode (bit_of e.before 0) (bit_of e.before 0)) unread
+    ∙ nothing (selects (line_bit e.before 3)) (samples u.mode (line_bit e.before 0) (line_bit e.before 0)) unread
   where
     no_edge : (rise : Bool) (b : Option Bit) → (if rise then passes is_zero b && passes is_one b else passes is_one b && passes is_zero b) ≡ false
     no_edge true None = refl

@@ -53,15 +53,15 @@ line_data order None ticks = Absent
 line_data order (Some f) ticks = data_of order (map f ticks)
 
 -- the first and the last of some ticks
-abbrev pub first_tick : List ℕ → ℕ
-first_tick ticks = slice_index ticks 0
+abbrev pub group_start : List ℕ → ℕ
+group_start ticks = slice_index ticks 0
 
-abbrev pub last_tick : List ℕ → ℕ
-last_tick ticks = slice_index ticks (length ticks - 1)
+abbrev pub group_end : List ℕ → ℕ
+group_end ticks = slice_index ticks (length ticks - 1)
 
 -- what a group of a segment tells: a word, or how many bits of one
 abbrev pub group_told : SpiSetup → Option (ℕ → Bit) → Option (ℕ → Bit) → List ℕ → Annotation
-group_told u mosi miso ticks = note (first_tick ticks) (last_tick ticks)
+group_told u mosi miso ticks = note (group_start ticks) (group_end ticks)
     (if nat_lt (length ticks) u.bits then PartialOf (length ticks)
     else Word (line_data u.order mosi ticks) (line_data u.order miso ticks))
 

@@ -1,5 +1,5 @@
 -- How a serial peripheral interface sends, and which fault such a setup has: the project's own.
-use Rattle.std.specs.Prelude.{ℕ, ◌≡◌, ◌&&◌, not, nat_le, if◌then◌else◌, Option, Some, None, Result, MatchResult}
+use Rattle.std.specs.Prelude.{ℕ, not, nat_le, if◌then◌else◌, Option, Some, None}
 use Rattle.vcd_decode.specs.declared.setup_error.SetupError.{SetupError}
 use Rattle.vcd_decode.specs.declared.setup_error.SetupError.TheVariants.{BadMode, BadBits}
 use Rattle.vcd_decode.specs.declared.spi_setup.BitOrder.{BitOrder}

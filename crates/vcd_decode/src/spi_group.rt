@@ -33,8 +33,8 @@ impl Group {
             start: 0,
             last: 0,
             count: 0,
-            mosi: first_of(mosi),
-            miso: first_of(miso),
+            mosi: data_at_start(mosi),
+            miso: data_at_start(miso),
         }
     }
 
@@ -66,8 +66,8 @@ impl Group {
             },
             last: edge.tick,
             count: self.count + 1,
-            mosi: with_bit(order, self.count, self.mosi, edge.at[1]),
-            miso: with_bit(order, self.count, self.miso, edge.at[2]),
+            mosi: with_next_bit(order, self.count, self.mosi, edge.at[1]),
+            miso: with_next_bit(order, self.count, self.miso, edge.at[2]),
         }
     }
 
@@ -98,7 +98,7 @@ impl Group {
 }
 
 /// What a data line shows before its first bit.
-fn first_of(is_there: bool) -> LineData
+fn data_at_start(is_there: bool) -> LineData
     ensures { result ≡ first_data is_there }
 {
     if is_there {
@@ -119,7 +119,7 @@ fn emptied(shown: LineData) -> LineData
 }
 
 /// What a data line shows with one more bit behind the `count` that it has shown.
-fn with_bit(order: BitOrder, count: u64, shown: LineData, bit: Option<Bit>) -> LineData
+fn with_next_bit(order: BitOrder, count: u64, shown: LineData, bit: Option<Bit>) -> LineData
     requires count { count < WORD_BITS_LIMIT }
     requires fits { DataFits count shown }
     ensures { result ≡ data_after order count shown bit }

@@ -6,6 +6,7 @@ ghost use Rattle.vcd_decode.specs.UartSetup.{TellsSetupFault};
 ghost use Rattle.vcd_decode.specs.Lines.{is_zero as zero_test, is_one as one_test};
 ghost use Rattle.vcd_decode.specs.inside.SpiClock.{passes};
 
+use crate::letters::{is_one, is_zero};
 use crate::setup_error::SetupError;
 use std::marker::Model;
 use vcd_core::Bit;
@@ -92,9 +93,9 @@ impl Spi {
         ensures { result ≡ samples self.now.mode before at }
     {
         if self.reads_where_it_rises() {
-            is_zero(before) & is_one(at)
+            shows_zero(before) & shows_one(at)
         } else {
-            is_one(before) & is_zero(at)
+            shows_one(before) & shows_zero(at)
         }
     }
 
@@ -107,21 +108,21 @@ impl Spi {
 }
 
 /// Whether the bit is there and 0.
-fn is_zero(bit: Option<Bit>) -> bool
+fn shows_zero(bit: Option<Bit>) -> bool
     ensures { result ≡ passes zero_test bit }
 {
     match bit {
-        Some(Bit::Zero) => true,
-        _ => false,
+        Some(bit) => is_zero(bit),
+        None => false,
     }
 }
 
 /// Whether the bit is there and 1.
-fn is_one(bit: Option<Bit>) -> bool
+fn shows_one(bit: Option<Bit>) -> bool
     ensures { result ≡ passes one_test bit }
 {
     match bit {
-        Some(Bit::One) => true,
-        _ => false,
+        Some(bit) => is_one(bit),
+        None => false,
     }
 }

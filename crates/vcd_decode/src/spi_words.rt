@@ -6,9 +6,10 @@ ghost use Rattle.vcd_core.specs.Edges.{EachUpTo};
 ghost use Rattle.vcd_core.specs.BitEdges.{EachOneBit};
 ghost use Rattle.vcd_decode.specs.Lines.{line_of};
 ghost use Rattle.vcd_decode.specs.Spi.{spi_annotations};
-ghost use Rattle.vcd_decode.specs.inside.SpiWalk.{selects, deselects, is_sampling, IsOpen, rest_told, edge_told, edge_group, bit_told, bit_group};
+ghost use Rattle.vcd_decode.specs.inside.SpiWalk.{selects, deselects, is_sampling, IsUnfinished, rest_told, edge_told, edge_group, bit_told, bit_group};
 
 use crate::annotation::Annotation;
+use crate::letters::is_zero;
 use crate::spi_group::Group;
 use crate::spi_setup::Spi;
 use std::alloc::Global;
@@ -60,7 +61,7 @@ fn take_edge(
     group: &Group,
     edge: &BitEdge,
 ) -> Result<Group, NoMemory>
-    requires { IsOpen setup.now group.now }
+    requires { IsUnfinished setup.now group.now }
     ensures told { OnOk result (found.new.items
         ≡ found.old.items ++ edge_told setup.now group.now edge.now) }
     ensures group { IfOk result (λ g. g ≡ edge_group setup.now group.now edge.now) }
@@ -79,7 +80,7 @@ fn take_bit(
     group: &Group,
     edge: &BitEdge,
 ) -> Result<Group, NoMemory>
-    requires { IsOpen setup.now group.now }
+    requires { IsUnfinished setup.now group.now }
     ensures told { OnOk result (found.new.items
         ≡ found.old.items ++ bit_told setup.now group.now edge.now) }
     ensures group { IfOk result (λ g. g ≡ bit_group setup.now group.now edge.now) }
@@ -126,7 +127,7 @@ fn is_selected(cs: Option<Bit>) -> bool
     ensures { result ≡ selects cs }
 {
     match cs {
-        Some(Bit::Zero) | None => true,
-        Some(_) => false,
+        Some(bit) => is_zero(bit),
+        None => true,
     }
 }

@@ -13,8 +13,8 @@ use Rattle.vcd_decode.specs.declared.spi_group.Group.{Group}
 use Rattle.vcd_decode.specs.Lines.{note}
 
 -- the bit of a line at an edge
-abbrev pub bit_of : List (Option Bit) → ℕ → Option Bit
-bit_of bits k = slice_index_or bits k None
+abbrev pub line_bit : List (Option Bit) → ℕ → Option Bit
+line_bit bits k = slice_index_or bits k None
 
 -- ---- the group that is not full yet
 
@@ -68,8 +68,8 @@ group_after order g e = record {
   start = if g.count == 0 then e.tick else g.start;
   last = e.tick;
   count = g.count + 1;
-  mosi = data_after order g.count g.mosi (bit_of e.at 1);
-  miso = data_after order g.count g.miso (bit_of e.at 2);
+  mosi = data_after order g.count g.mosi (line_bit e.at 1);
+  miso = data_after order g.count g.miso (line_bit e.at 2);
 }
 
 -- a whole word, and the bits of one that is not ended

@@ -7,10 +7,10 @@ use Rattle.vcd_decode.specs.declared.annotation.Annotation.{Annotation}
 use Rattle.vcd_decode.specs.declared.spi_group.Group.{Group}
 use Rattle.vcd_decode.specs.SpiSetup.{SpiSetup}
 use Rattle.vcd_decode.specs.Lines.{is_zero}
-use Rattle.vcd_decode.specs.Spi.{line_data, first_tick, last_tick, segment_told}
+use Rattle.vcd_decode.specs.Spi.{line_data, group_start, group_end, segment_told}
 use Rattle.vcd_decode.specs.inside.LineEdges.{line_edge}
 use Rattle.vcd_decode.specs.inside.SpiClock.{samples}
-use Rattle.vcd_decode.specs.inside.SpiGroup.{bit_of, DataFits, group_before, group_after, word_note, rest_note}
+use Rattle.vcd_decode.specs.inside.SpiGroup.{line_bit, DataFits, group_before, group_after, word_note, rest_note}
 
 -- ---- what an edge is
 
@@ -21,16 +21,16 @@ selects (Some b) = is_zero b
 
 -- whether the chip is selected no more
 abbrev pub deselects : BitEdge → Bool
-deselects e = selects (bit_of e.before 3) && not (selects (bit_of e.at 3))
+deselects e = selects (line_bit e.before 3) && not (selects (line_bit e.at 3))
 
 -- whether the data lines are sampled
 abbrev pub is_sampling : SpiSetup → BitEdge → Bool
-is_sampling u e = selects (bit_of e.at 3) && samples u.mode (bit_of e.before 0) (bit_of e.at 0)
+is_sampling u e = selects (line_bit e.at 3) && samples u.mode (line_bit e.before 0) (line_bit e.at 0)
 
 -- ---- what an edge tells, and the group after it
 
 -- the group has room for one more bit
-pub record IsOpen (u : SpiSetup) (g : Group) : Type 0 where
+pub record IsUnfinished (u : SpiSetup) (g : Group) : Type 0 where
   pub count : g.count < u.bits
   pub mosi : DataFits g.count g.mosi
   pub miso : DataFits g.count g.miso
@@ -64,8 +64,8 @@ edge_group u g e = if deselects e then group_before g else bit_group u g e
 -- the group of some ticks
 abbrev pub group_of : SpiSetup → Option (ℕ → Bit) → Option (ℕ → Bit) → List ℕ → Group
 group_of u mosi miso ticks = record {
-  start = first_tick ticks;
-  last = last_tick ticks;
+  start = group_start ticks;
+  last = group_end ticks;
   count = length ticks;
   mosi = line_data u.order mosi ticks;
   miso = line_data u.order miso ticks;
