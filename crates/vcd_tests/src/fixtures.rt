@@ -65,6 +65,14 @@ pub fn file_of(alloc: Global, row: &str) -> Result<Vec<u8>, Fail> {
     Ok(file)
 }
 
+/// Appends a text so many times.
+pub fn append_copies(file: &mut Vec<u8>, text: &[u8], count: usize) -> Result<(), Fail> {
+    for _ in 0..count {
+        file.extend_from_slice(text)?;
+    }
+    Ok(())
+}
+
 /// What is read of a file in memory.
 pub fn loaded(alloc: Global, file: &[u8]) -> Result<Loaded, ReadError>
     ensures { IfOk result (λ loaded. IsSound (contents loaded.capture)) }

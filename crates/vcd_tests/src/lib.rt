@@ -1,4 +1,4 @@
-//! Tests of `vcd_core` and `vcd_text` over their public calls: worked values from outside, devices that give
+//! Tests of `vcd_core`, `vcd_text` and `vcd_edit` over their public calls: worked values from outside, devices that give
 //! little or fail, hostile files, and each call that takes memory once where there is plenty.
 //!
 //! What a clause says is proved and not tested. A table is one text, of which each line is a row.
@@ -10,6 +10,8 @@ mod captures;
 mod devices;
 #[cfg(test)]
 mod edges;
+#[cfg(test)]
+mod editing;
 #[cfg(test)]
 mod fake_devices;
 #[cfg(test)]

@@ -1,9 +1,8 @@
 //! Files with long words, deep scopes and codes of any byte.
 
-use super::limits::append_copies;
 use super::{check_answer_to, check_rewritten};
 use crate::fake_devices::FakeReader;
-use crate::fixtures::{changes_in_text, loaded};
+use crate::fixtures::{append_copies, changes_in_text, loaded};
 use std::alloc::Global;
 use std::process::Abort;
 use std::test::Fail;

@@ -2,7 +2,7 @@
 
 use super::{check_answer, check_answer_to, check_rewritten, rewritten};
 use crate::fake_devices::FakeReader;
-use crate::fixtures::{changes_in_text, file_of, loaded};
+use crate::fixtures::{append_copies, changes_in_text, file_of, loaded};
 use std::alloc::Global;
 use std::process::Abort;
 use std::test::Fail;
@@ -40,14 +40,6 @@ fn a_tick_past_the_greatest(rt: HostRuntime) -> Result<(), Fail> {
     let tick = END_LIMIT + 1;
     let file = format!(in rt.alloc(); "$enddefinitions $end #{END_LIMIT}\n#{tick}")?;
     check_answer(&rt, rt.alloc(), file.as_bytes(), false, "2 BadTime")
-}
-
-/// Appends a text so many times.
-pub fn append_copies(file: &mut Vec<u8>, text: &[u8], count: usize) -> Result<(), Fail> {
-    for _ in 0..count {
-        file.extend_from_slice(text)?;
-    }
-    Ok(())
 }
 
 /// A code for a number: six digits, the lowest first.

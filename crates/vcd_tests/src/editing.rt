@@ -1,0 +1,101 @@
+//! Edits and what takes them back, through the public calls.
+
+ghost use Rattle.vcd_core.specs.Contents.{contents};
+ghost use Rattle.vcd_core.specs.Sound.{IsSound};
+
+mod long_wave;
+mod refusals;
+mod worked;
+
+use crate::fixtures::bit_of_letter;
+use std::alloc::Global;
+use std::test::Fail;
+use vcd_core::{Capture, ToWrite, Value};
+use vcd_edit::{Edit, Rule};
+use vcd_text::write;
+
+/// The text of a capture, which says all that it holds.
+fn text_of(alloc: Global, capture: &Capture) -> Result<Vec<u8>, Fail>
+    requires { IsSound (contents capture.now) }
+{
+    let mut sink = ToWrite::new(Vec::new(alloc));
+    write(alloc, capture, &mut sink)?;
+    Ok(sink.into_inner())
+}
+
+fn word_at<'a>(words: &[&'a str], k: usize) -> Result<&'a str, Fail> {
+    match words.get(k) {
+        Some(word) => Ok(*word),
+        None => Err(Fail::from("a row without a word")),
+    }
+}
+
+fn position(words: &[&str], k: usize) -> Result<usize, Fail> {
+    Ok(word_at(words, k)?.parse::<usize>()?)
+}
+
+fn number(words: &[&str], k: usize) -> Result<u64, Fail> {
+    Ok(word_at(words, k)?.parse::<u64>()?)
+}
+
+/// The rule that words ask for from the third on, as `derive y and 0 1`.
+fn rule_of(words: &[&str]) -> Result<Rule, Fail> {
+    let name = word_at(words, 2)?;
+    let a = position(words, 3)?;
+    if name == "not" {
+        return Ok(Rule::Not(a));
+    }
+    if name == "and" {
+        return Ok(Rule::And(a, position(words, 4)?));
+    }
+    if name == "or" {
+        return Ok(Rule::Or(a, position(words, 4)?));
+    }
+    if name == "xor" {
+        return Ok(Rule::Xor(a, position(words, 4)?));
+    }
+    Ok(Rule::BitOf(a, number(words, 4)?))
+}
+
+/// The edit that words ask for, as `force 0 2 9 z`, with a value of one bit.
+fn edit_of<'a>(words: &[&'a str]) -> Result<Edit<'a>, Fail> {
+    let name = word_at(words, 0)?;
+    if name == "derive" {
+        let rule = rule_of(words)?;
+        let word = word_at(words, 1)?.as_bytes();
+        return Ok(Edit::Derive { word, rule });
+    }
+    if name == "cut" {
+        let from = number(words, 1)?;
+        let to = number(words, 2)?;
+        return Ok(Edit::Cut { from, to });
+    }
+    edit_of_signal(name, position(words, 1)?, words)
+}
+
+fn edit_of_signal<'a>(name: &str, signal: usize, words: &[&'a str]) -> Result<Edit<'a>, Fail> {
+    if name == "remove" {
+        return Ok(Edit::Remove { signal });
+    }
+    if name == "invert" {
+        return Ok(Edit::Invert { signal });
+    }
+    if name == "rename" {
+        let word = word_at(words, 2)?.as_bytes();
+        return Ok(Edit::Rename { signal, word });
+    }
+    if name == "shift" {
+        let by = word_at(words, 2)?.parse::<i64>()?;
+        return Ok(Edit::Shift { signal, by });
+    }
+    if name == "deglitch" {
+        let ticks = number(words, 2)?;
+        return Ok(Edit::Deglitch { signal, ticks });
+    }
+    Ok(Edit::Force {
+        signal,
+        from: number(words, 2)?,
+        to: number(words, 3)?,
+        value: Value::filled(1, bit_of_letter(word_at(words, 4)?)),
+    })
+}

@@ -1,0 +1,169 @@
+//! What edits make of small captures, how much their records store, and the way back.
+
+use super::{edit_of, number, position, text_of};
+use crate::fixtures::{changes_in_text, loaded};
+use std::alloc::Global;
+use std::process::Abort;
+use std::test::Fail;
+use vcd_core::Capture;
+use vcd_edit::{Edit, apply, revert};
+
+/// A row is the edit; then of the capture after it a position and the end, and how many changes the record may
+/// hold at most, and that of its undo; then the changes of the signal at the position.
+const TWO: &str = "\
+$var wire 1 ! a $end $var wire 1 \" b $end $enddefinitions $end
+#0 0! 1\" #3 1! #5 x\" #8";
+
+const EDITS_OF_TWO: &str = "\
+rename 0 c:0 8 0 0:0@0 1@3
+remove 0:0 8 2 0:1@0 x@5
+invert 1:1 8 1 1:0@0 x@5
+shift 0 0:0 8 0 0:0@0 1@3
+shift 0 2:0 8 0 0:0@2 1@5
+shift 0 7:0 8 2 1:0@7
+shift 0 -2:0 8 0 0:0@0 1@1
+shift 0 -4:0 8 2 1:1@0
+shift 0 9223372036854775807:0 8 2 0:
+shift 0 -9223372036854775808:0 8 2 1:1@0
+cut 0 3:0 5 1 0:1@0
+cut 5 8:1 5 0 0:1@0 x@5
+cut 0 8:0 0 4 1:1@0
+force 0 2 9 z:0 8 1 1:0@0 z@2
+force 0 3 5 0:0 8 1 1:0@0 1@5
+force 0 8 9 z:0 8 0 1:0@0 1@3 z@8
+force 0 3 5 1:0 8 0 0:0@0 1@3
+derive y and 0 1:2 8 0 3:0@0 1@3 x@5
+derive n xor 0 1:2 8 0 3:1@0 0@3 x@5
+derive o or 0 1:2 8 0 1:1@0
+derive m not 1:2 8 0 2:0@0 x@5";
+
+/// One wave that is z at first, and others with pulses.
+const FROM_Z: &str = "$var wire 1 ! a $end $enddefinitions $end #0 z! #4 1! #8";
+
+const EDITS_FROM_Z: &str = "invert 0:0 8 2 1:0@4";
+
+const PULSE: &str = "$var wire 1 ! a $end $enddefinitions $end #0 0! #3 1! #7 0! #10";
+
+const EDITS_OF_PULSE: &str = "\
+cut 3 7:0 6 2 0:0@0
+cut 2 5:0 7 1 1:0@0 1@2 0@4
+cut 3 10:0 3 2 0:0@0";
+
+const GLITCH: &str = "\
+$var wire 1 ! a $end $enddefinitions $end
+#0 0! #5 1! #6 0! #7 1! #20 0! #30";
+
+const EDITS_OF_GLITCH: &str = "\
+deglitch 0 3:0 30 2 0:0@0 1@7 0@20
+deglitch 0 18446744073709551615:0 30 4 0:0@0";
+
+/// Three signals, of which the middle one is taken out; and two that share a code, of which one is inverted.
+const THREE: &str = "\
+$var wire 1 ! a $end $var wire 1 \" b $end $var wire 1 # c $end $enddefinitions $end
+#0 0! 1\" z# #4";
+
+const EDITS_OF_THREE: &str = "remove 1:1 4 1 0:z@0";
+
+const SHARED: &str = "\
+$var wire 1 % a $end $var wire 1 % b $end $enddefinitions $end #0 1% #3 0%";
+
+const EDITS_OF_SHARED: &str = "\
+invert 0:0 3 2 2:0@0 1@3
+invert 0:1 3 2 2:1@0 0@3";
+
+/// Operands of two scopes, x and z among their values, and the bits of a vector.
+const SCOPES: &str = "\
+$scope module top $end $var wire 1 ! a $end
+$scope module sub $end $var wire 1 \" b $end $var wire 4 # v $end $upscope $end
+$upscope $end $enddefinitions $end
+#0 0! z\" b10xz # #2 1! #4 z! #6 x! #9";
+
+const EDITS_OF_SCOPES: &str = "\
+derive y and 0 1:3 9 0 2:0@0 x@2
+derive y or 1 0:3 9 0 2:1@2 x@4
+derive y xor 0 1:3 9 0 0:
+derive y not 1:3 9 0 0:
+derive y bit 2 0:3 9 0 1:z@0
+derive y bit 2 3:3 9 0 1:1@0
+cut 0 9:0 0 4 0:";
+
+/// Stops where the capture after an edit is another than its row says.
+fn check_after(
+    rt: &impl Abort,
+    alloc: Global,
+    capture: &Capture,
+    numbers: &[&str],
+    changes: &str,
+) -> Result<(), Fail> {
+    let signal = position(numbers, 0)?;
+    assert!(rt; capture.end() == number(numbers, 1)?);
+    assert!(rt; signal < capture.signals().len());
+    let wanted = changes_in_text(alloc, changes)?;
+    assert!(rt; capture.signals()[signal].wave.changes() == wanted.as_slice());
+    Ok(())
+}
+
+/// Stops where an edit makes another capture, a record holds more than it may, or the way back does not lead to
+/// the capture as it was.
+fn check_edit(
+    rt: &impl Abort,
+    alloc: Global,
+    file: &str,
+    edit: &Edit,
+    numbers: &[&str],
+    changes: &str,
+) -> Result<(), Fail> {
+    let mut capture = loaded(alloc, file.as_bytes())?.capture;
+    let before = text_of(alloc, &capture)?;
+    let way = apply(alloc, &mut capture, edit)?;
+    check_after(rt, alloc, &capture, numbers, changes)?;
+    assert!(rt; way.fits(&capture));
+    assert!(rt; way.stored() <= number(numbers, 2)? as u128);
+    let Ok(forth) = revert(alloc, &mut capture, way) else {
+        return Err(Fail::from("refused with ample memory"));
+    };
+    assert!(rt; forth.fits(&capture));
+    assert!(rt; forth.stored() <= number(numbers, 3)? as u128);
+    assert!(rt; text_of(alloc, &capture)?.as_slice() == before.as_slice());
+    Ok(())
+}
+
+fn check_row(rt: &impl Abort, alloc: Global, file: &str, row: &str) -> Result<(), Fail> {
+    let (edit, after) = row.split_once(':').ok_or("no capture after it")?;
+    let (numbers, changes) = after.split_once(':').ok_or("no changes")?;
+    let words: Vec<&str> = edit.split(' ').collect(alloc)?;
+    let numbers: Vec<&str> = numbers.split(' ').collect(alloc)?;
+    let edit = edit_of(words.as_slice())?;
+    check_edit(rt, alloc, file, &edit, numbers.as_slice(), changes)
+}
+
+#[test]
+fn edits_and_the_ways_back(rt: HostRuntime) -> Result<(), Fail> {
+    let tables = [
+        (TWO, EDITS_OF_TWO),
+        (FROM_Z, EDITS_FROM_Z),
+        (PULSE, EDITS_OF_PULSE),
+        (GLITCH, EDITS_OF_GLITCH),
+        (THREE, EDITS_OF_THREE),
+        (SHARED, EDITS_OF_SHARED),
+        (SCOPES, EDITS_OF_SCOPES),
+    ];
+    for (file, rows) in tables {
+        for row in rows.lines() {
+            check_row(&rt, rt.alloc(), file, row)?;
+        }
+    }
+    Ok(())
+}
+
+/// A derived signal stands in the scopes of the first operand, and its record fits no capture without it.
+#[test]
+fn the_scopes_of_a_derived_signal(rt: HostRuntime) -> Result<(), Fail> {
+    let without = loaded(rt.alloc(), SCOPES.as_bytes())?.capture;
+    let mut capture = loaded(rt.alloc(), SCOPES.as_bytes())?.capture;
+    let edit = edit_of(&["derive", "y", "or", "1", "0"])?;
+    let way = apply(rt.alloc(), &mut capture, &edit)?;
+    assert!(rt; capture.find(b"top.sub.y") == Some(3));
+    assert!(rt; way.fits(&capture) && !way.fits(&without));
+    Ok(())
+}
