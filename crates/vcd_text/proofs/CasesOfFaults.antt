@@ -1,7 +1,8 @@
 -- Worked cases: files that are refused, with fault and line.
 use Rattle.std.proofs.Common.{◌≡◌, refl, arith}
-use Rattle.std.specs.Prelude.{ℕ, List, ◌++◌, [], ◌∷◌, take, drop, codes}
+use Rattle.std.specs.Prelude.{ℕ, ◌+◌, List, ◌++◌, [], ◌∷◌, take, drop, codes, decimal}
 use Rattle.std.specs.Fmt.{digits}
+use Rattle.vcd_core.specs.declared.capture.TheConstants.{END_LIMIT}
 use Rattle.vcd_text.specs.declared.fault.Fault.{Fault}
 use Rattle.vcd_text.specs.declared.fault.Fault.TheVariants.{Truncated, UnexpectedWord, BadChange, BadTimescale, BadScope, UpscopeAtTop, BadVar, MixedCode, BadTime, TimeBackwards, UnknownCode, ValueTooLong}
 use Rattle.vcd_text.specs.Words.{PlacedWord, word_on, words_from, words_of, closed_words}
@@ -64,14 +65,17 @@ unfolding words_from
 nothing = too_early (record { items = []; begun = []; spelled = refl; allowed = tt; unfinished = declaration_due refl refl }) refl refl
 
 -- a tick one past the greatest
+abbrev past_greatest : List ℕ
+past_greatest = decimal (END_LIMIT + 1)
+
 abbrev late_tick : List ℕ
-late_tick = codes "$var wire 1 ! a $end\n$enddefinitions $end\n#9223372036854775808\n#9\n"
+late_tick = codes "$var wire 1 ! a $end\n$enddefinitions $end\n#" ++ past_greatest ++ codes "\n#9\n"
 
 tick_too_great : FileFault late_tick 3 BadTime
-unfolding words_from
+unfolding words_from digits
 tick_too_great =
-    shows _ _ _ one_variable (take 8 (words_of late_tick)) [] (word_on (codes "#9223372036854775808") 3) (word_on (codes "#9") 4 ∷ []) refl refl (search arith)
-    (among_changes refl (no_tick (codes "9223372036854775808") refl refl refl refl)) refl
+    shows _ _ _ one_variable (take 8 (words_of late_tick)) [] (word_on (codes "#" ++ past_greatest) 3) (word_on (codes "#9") 4 ∷ []) refl refl (search arith)
+    (among_changes refl (no_tick past_greatest refl refl refl refl)) refl
 
 -- files of one line
 two_nanoseconds : FileFault (codes "$timescale 2 ns $end\n") 1 BadTimescale

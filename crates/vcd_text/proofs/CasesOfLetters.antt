@@ -1,6 +1,8 @@
 -- Worked cases: extension and short form of values, and decimal numbers.
 use Rattle.std.proofs.Common.{◌≡◌, refl}
-use Rattle.std.specs.Prelude.{[], ◌∷◌, true, false, map, codes}
+use Rattle.std.specs.Prelude.{◌+◌, [], ◌∷◌, true, false, map, codes, decimal}
+use Rattle.std.specs.Fmt.{digits}
+use Rattle.vcd_core.specs.declared.capture.TheConstants.{END_LIMIT}
 use Rattle.vcd_core.specs.Decimal.{is_number, number_of}
 use Rattle.vcd_text.specs.Letters.{is_binary_digit, letters_of_digits, printed_letters, extension, short_form}
 
@@ -26,6 +28,7 @@ unfolding short_form
 short_forms = (refl, refl, refl, refl, refl, refl, refl)
 
 -- leading zeros are accepted; an empty text, a sign and another letter are not
-numbers : (is_number (codes "0012") ≡ true) × (number_of (codes "0012") ≡ 12) × (number_of (codes "9223372036854775808") ≡ 9223372036854775808)
+numbers : (is_number (codes "0012") ≡ true) × (number_of (codes "0012") ≡ 12) × (number_of (decimal (END_LIMIT + 1)) ≡ END_LIMIT + 1)
     × (is_number (codes "") ≡ false) × (is_number (codes "+1") ≡ false) × (is_number (codes "1_0") ≡ false)
+unfolding digits
 numbers = (refl, refl, refl, refl, refl, refl)

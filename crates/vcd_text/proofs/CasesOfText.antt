@@ -1,10 +1,11 @@
 -- Worked cases: the text of small captures, byte for byte, and the codes of signals.
 use Rattle.std.proofs.Common.{◌≡◌, refl}
-use Rattle.std.specs.Prelude.{ℕ, List, [], ◌∷◌, ◌++◌, Some, None, codes}
+use Rattle.std.specs.Prelude.{ℕ, ◌-◌, List, [], ◌∷◌, ◌++◌, Some, None, codes}
 use Rattle.std.specs.Fmt.{digits}
 use Rattle.vcd_core.specs.declared.capture.HeaderKind.TheVariants.{Date, Version, Comment}
 use Rattle.vcd_core.specs.declared.capture.TimeUnit.TheVariants.{Nanosecond, Femtosecond}
 use Rattle.vcd_core.specs.declared.capture.ScopeName.{ScopeName}
+use Rattle.vcd_core.specs.declared.capture.TheConstants.{SIGNAL_LIMIT}
 use Rattle.vcd_core.specs.declared.wave.Change.{Change}
 use Rattle.vcd_core.specs.Wave.{change, value_from}
 use Rattle.vcd_core.specs.Contents.{Contents, SignalContents}
@@ -103,8 +104,8 @@ text_of_scopes : text (capture 0 (
 unfolding text items_of signal_items code_digits tick_items value_from short_form digits
 text_of_scopes = refl
 
--- after `~` come the codes of two bytes, the lowest digit first
+-- after `~` come the codes of two bytes, the lowest digit first; that of the last signal there may be has three
 codes_of_signals : (code_of 0 ≡ codes "!") × (code_of 93 ≡ codes "~") × (code_of 94 ≡ codes "!!") × (code_of 95 ≡ codes "\"!")
-    × (code_of 8929 ≡ codes "~~") × (code_of 8930 ≡ codes "!!!") × (code_of 65535 ≡ codes "2G'")
+    × (code_of 8929 ≡ codes "~~") × (code_of 8930 ≡ codes "!!!") × (code_of (SIGNAL_LIMIT - 1) ≡ codes "2G'")
 unfolding code_digits
 codes_of_signals = (refl, refl, refl, refl, refl, refl, refl)

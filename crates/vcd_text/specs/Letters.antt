@@ -1,6 +1,6 @@
 -- Binary digits, the letters that they write, their extension and their short form (IEEE 1364-2005, 18.2).
-use Rattle.std.specs.Prelude.{ℕ, ◌-◌, Bool, if◌then◌else◌, List, [], ◌∷◌, ◌++◌, nat_eq, length, map, replicate, find, Option, Some, None, is_some, unwrap_or, codes}
-use Rattle.std.specs.List.{list_any}
+use Rattle.std.specs.Prelude.{ℕ, ◌-◌, ◌==◌, ◌&&◌, not, nat_le, Bool, if◌then◌else◌, List, [], ◌∷◌, ◌++◌, nat_eq, length, map, replicate, find, Option, Some, None, is_some, unwrap_or, codes}
+use Rattle.std.specs.List.{list_any, list_all}
 use Rattle.vcd_core.specs.declared.bit.Bit.{Bit}
 use Rattle.vcd_core.specs.declared.bit.Bit.TheVariants.{Zero, One, X, Z}
 use Rattle.vcd_core.specs.Value.{same_letters, printed_letter}
@@ -41,6 +41,12 @@ pad_letter (Z ∷ s) = Z
 -- letters extended on the left to a width (18.2)
 abbrev pub extension : ℕ → List Bit → List Bit
 extension width s = replicate (width - length s) (pad_letter s) ++ s
+
+-- the value of a width that binary digits write, extended on the left; none where there is no digit, a byte is none, or there are more than the width
+abbrev pub value_of_digits : ℕ → List ℕ → Option (List Bit)
+value_of_digits width digits =
+    if not (length digits == 0) && list_all is_binary_digit digits && nat_le (length digits) width
+    then Some (extension width (letters_of_digits digits)) else None
 
 -- the non-empty suffixes of a list, the shortest first
 abbrev pub suffixes : List Bit → List (List Bit)

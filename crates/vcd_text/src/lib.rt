@@ -17,6 +17,6 @@ pub use laws::{
     front_fault_stays, front_has_one_fault, has_an_answer, has_one_answer,
     nothing_else_is_read_back, text_is_read_back,
 };
-pub use reading::{FILE_LIMIT, Loaded, read};
+pub use reading::{FILE_LIMIT, Loaded, read, value_of_digits};
 pub use words::{PlacedWord, Words};
 pub use writing::{text_of, write};

@@ -13,12 +13,12 @@ ghost use Rattle.vcd_text.specs.Faults.{FileFault};
 ghost use Rattle.vcd_text.specs.Refusals.{memory_error, IsFrontAnswer, IsRefusal};
 ghost use Rattle.vcd_text.specs.inside.Reading.{Reads, ReadsAll};
 
+mod binary_number;
 mod changes;
 mod copies;
 mod decimal;
 mod declarations;
 mod keywords;
-mod binary_number;
 mod reader;
 mod timescale;
 mod variables;
@@ -26,6 +26,7 @@ mod variables;
 use crate::fault::{Fault, ReadError};
 use crate::reading::reader::Reader;
 use crate::words::Words;
+pub use binary_number::value_of_digits;
 use std::alloc::Global;
 use vcd_core::{Capture, Incomplete, Source, read_whole};
 

@@ -9,3 +9,4 @@ pub mod ScriptLines
 pub mod Answered
 pub mod LinesLeft
 pub mod RunParts
+pub mod CommandWords

@@ -12,4 +12,7 @@ pub mod Laws
 pub mod Report
 pub mod RunFaults
 pub mod RunEnds
+pub mod CommandLine
+pub mod Opening
+pub mod ProgramEnds
 pub mod inside

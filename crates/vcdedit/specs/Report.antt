@@ -1,5 +1,5 @@
 -- What the program says of a run that failed: the project's own names, statuses and lines.
-use Rattle.std.specs.Prelude.{ℕ, List, ◌++◌, codes, decimal}
+use Rattle.std.specs.Prelude.{ℕ, ◌==◌, if◌then◌else◌, List, ◌++◌, codes, decimal}
 use Rattle.vcd_text.specs.FaultNames.{fault_name, write_error_name}
 use Rattle.vcd_text.specs.declared.fault.Fault.{Fault}
 use Rattle.vcd_text.specs.declared.fault.Fault.TheVariants as faults
@@ -16,6 +16,10 @@ run_error_name run_errors.ScriptReadFault = codes "ScriptReadFault"
 run_error_name (run_errors.NoMemory line) = codes "NoMemory"
 run_error_name (run_errors.ReplyFault written) = codes "ReplyFault"
 run_error_name (run_errors.Write e) = write_error_name e
+
+-- the exit status of a run that came to its end: 1 where lines of the script were refused
+abbrev pub done_status : ℕ → ℕ
+done_status refused = if refused == 0 then 0 else 1
 
 -- the exit status for a fault of the capture: 3 for what is wrong in it, 4 where it can't be read, 5 for want of memory
 abbrev pub capture_status : Fault → ℕ

@@ -106,7 +106,7 @@ fn the_most_signals(rt: HostRuntime) -> Result<(), Fail> {
 }
 
 /// Positions, and the codes of the signals there in what is written.
-const CODES: &str = "0 !\n93 ~\n94 !!\n95 \"!\n8929 ~~\n8930 !!!\n65535 2G'";
+const CODES: &str = "0 !\n93 ~\n94 !!\n95 \"!\n8929 ~~\n8930 !!!";
 
 /// Stops where a line does not declare the code of a row.
 fn check_code(rt: &impl Abort, alloc: Global, lines: &[&[u8]], row: &str) -> Result<(), Fail> {
@@ -125,6 +125,8 @@ fn codes_of_the_most_signals(rt: HostRuntime) -> Result<(), Fail> {
     for row in CODES.lines() {
         check_code(&rt, rt.alloc(), lines.as_slice(), row)?;
     }
+    let last = format!(in rt.alloc(); "{} 2G'", SIGNAL_LIMIT - 1)?;
+    check_code(&rt, rt.alloc(), lines.as_slice(), last.as_str())?;
     Ok(())
 }
 

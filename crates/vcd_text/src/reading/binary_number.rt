@@ -3,7 +3,7 @@
 ghost use Rattle.std.specs.Prelude.{◌≡◌, ◌≤◌, true, false, length, unwrap_or, MatchOption, MatchResult};
 ghost use Rattle.std.specs.List.{list_all};
 ghost use Rattle.vcd_core.specs.declared.bit.Bit.TheVariants.{X};
-ghost use Rattle.vcd_text.specs.Letters.{letter_of_digit, is_binary_digit as digit_test, letters_of_digits, pad_letter, extension};
+ghost use Rattle.vcd_text.specs.Letters.{letter_of_digit, is_binary_digit as digit_test, letters_of_digits, value_of_digits as digits_value, pad_letter, extension};
 ghost use Rattle.vcd_text.specs.inside.ValueDigits.{WritesValue, WritesNoValue};
 
 use vcd_core::{Bit, Value, WIDTH_LIMIT};
@@ -49,6 +49,21 @@ pub fn read_value(width: u64, digits: &[u8]) -> Result<Value, BinaryNumberError>
         });
     }
     extended_value(width, digits).ok_or(BinaryNumberError::NoValue)
+}
+
+/// The value of `width` bits that the binary digits write, extended on the left (IEEE 1364-2005, 18.2); none where
+/// there is no digit, a byte is none, or there are more than `width`. It takes a step a digit, and no memory.
+pub fn value_of_digits(width: u64, digits: &[u8]) -> Option<Value>
+    requires least { 1 ≤ width }
+    requires most { width ≤ WIDTH_LIMIT }
+    ensures { result ≡ digits_value width digits.now }
+{
+    match read_value(width, digits) {
+        Ok(value) => Some(value),
+        // each fault by its name, since only so what it says of the digits is known
+        Err(BinaryNumberError::NoValue) => None,
+        Err(BinaryNumberError::TooLong) => None,
+    }
 }
 
 /// Whether all bytes are binary digits.

@@ -1,6 +1,6 @@
 //! The run: a capture and a script in, replies and a capture out.
 
-ghost use Rattle.std.specs.Prelude.{◌≡◌, ◌≤◌, false, OnOk, IfOk, IfErr, IfSome};
+ghost use Rattle.std.specs.Prelude.{◌≡◌, ◌≤◌, false, None, OnOk, IfOk, IfErr, IfSome};
 ghost use Rattle.std.specs.Option.{ForSome};
 ghost use Rattle.std.specs.Io.KnownBytes.{Appends};
 ghost use Rattle.vcd_core.specs.Contents.{contents};
@@ -57,6 +57,7 @@ pub fn run<R: Source, S: Source, P: Sink, W: Sink>(
         (IfOutput out.entry out.exit (λ _ new. W.has_failed new ≡ false)) }
     ensures no_output { IfErr result (λ e. IsBeforeOutput e →
         OutputKeeps W.taken out.entry out.exit) }
+    ensures none_given { out.entry ≡ None → IfErr result IsBeforeOutput }
 {
     let script_run = run_script(alloc, capture_reader, script_reader, replies, depth)?;
     let summary = Summary {

@@ -1,5 +1,7 @@
 //! A file that is made when it is first written.
 
+ghost use Rattle.std.specs.Prelude.{◌≡◌, None, IsSome, IsOk, OnOk, OnErr};
+
 use std::io::Write;
 use std::rt::Files;
 use std::{fs, io};
@@ -16,7 +18,10 @@ pub struct LateFile<'a, R: Files> {
 
 impl<'a, R: Files> LateFile<'a, R> {
     /// A writer to the file at `path`. It touches no file yet and takes no memory.
-    pub fn new(files: &'a R, path: &'a str) -> LateFile<'a, R> {
+    pub fn new(files: &'a R, path: &'a str) -> LateFile<'a, R>
+        ensures unopened { result.file ≡ None }
+        ensures path { result.path.now ≡ path.now }
+    {
         LateFile {
             files,
             path,
@@ -24,17 +29,27 @@ impl<'a, R: Files> LateFile<'a, R> {
         }
     }
 
-    fn open_file(&mut self) -> io::Result<&mut R::File> {
+    /// Creates or empties the file, unless it is open.
+    fn open_file(&mut self) -> io::Result<()>
+        ensures open { OnOk result (IsSome self.new.file) }
+        ensures stays { IsSome self.old.file → self.new.file ≡ self.old.file }
+        ensures unopened { OnErr result (self.new.file ≡ None) }
+        ensures path { self.new.path ≡ self.old.path }
+    {
         if self.file.is_none() {
             self.file = Some(fs::create(self.files, self.path)?);
         }
-        Ok(self.file.as_mut().unwrap())
+        Ok(())
     }
 }
 
 impl<R: Files> Write for LateFile<'_, R> {
     fn write(&mut self, buf: &[u8]) -> io::Result<usize> {
-        self.open_file()?.write(buf)
+        self.open_file()?;
+        match &mut self.file {
+            Some(file) => file.write(buf),
+            None => unreachable!(),
+        }
     }
 
     fn flush(&mut self) -> io::Result<()> {

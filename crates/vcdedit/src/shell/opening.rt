@@ -1,5 +1,8 @@
 //! The inputs that the command line names.
 
+ghost use Rattle.std.specs.Prelude.{◌≡◌, None, IsOk, IfOk};
+ghost use Rattle.vcdedit.specs.Opening.{IsStandard, CaptureComesFrom, ScriptComesFrom};
+
 use std::io::{Input, Read};
 use std::rt::Files;
 use std::{fs, io};
@@ -14,6 +17,10 @@ pub enum Origin<S, F> {
 }
 
 impl<S: Read, F: Read> Read for Origin<S, F> {
+    ghost use Rattle.vcdedit.specs.Opening.{bytes_to_come};
+
+    ghost remaining = { bytes_to_come S.remaining F.remaining };
+
     fn read(&mut self, buf: &mut [u8]) -> io::Result<usize> {
         match self {
             Origin::Standard(reader) => reader.read(buf),
@@ -23,14 +30,16 @@ impl<S: Read, F: Read> Read for Origin<S, F> {
     }
 }
 
-/// Opens the capture: the file at `path`, or else standard input.
+/// Opens the capture: the file at `path`, or else standard input, for which `-` stands too.
 pub fn open_capture<R: Files + Input>(
     rt: &R,
     path: Option<&str>,
-) -> io::Result<Origin<R::Reader, R::File>> {
+) -> io::Result<Origin<R::Reader, R::File>>
+    ensures { IfOk result (CaptureComesFrom path.entry) }
+{
     match path {
-        Some(path) => Ok(Origin::File(fs::open(rt, path)?)),
-        None => open_standard(rt.reader()),
+        Some(path) if path != "-" => Ok(Origin::File(fs::open(rt, path)?)),
+        _ => open_standard(rt.reader()),
     }
 }
 
@@ -38,7 +47,10 @@ pub fn open_capture<R: Files + Input>(
 pub fn open_script<R: Files + Input>(
     rt: &R,
     path: Option<&str>,
-) -> io::Result<Origin<R::Reader, R::File>> {
+) -> io::Result<Origin<R::Reader, R::File>>
+    ensures origin { IfOk result (ScriptComesFrom path.entry) }
+    ensures none { path.entry ≡ None → IsOk result }
+{
     match path {
         Some(path) => Ok(Origin::File(fs::open(rt, path)?)),
         None => Ok(Origin::Nothing),
@@ -47,7 +59,9 @@ pub fn open_script<R: Files + Input>(
 
 /// A read of no byte fails where standard input is closed. Without it, the next file that is opened would
 /// stand in its place.
-fn open_standard<S: Read + Drop, F>(mut reader: S) -> io::Result<Origin<S, F>> {
+fn open_standard<S: Read + Drop, F>(mut reader: S) -> io::Result<Origin<S, F>>
+    ensures { IfOk result IsStandard }
+{
     let _ = reader.read(&mut [])?;
     Ok(Origin::Standard(reader))
 }

@@ -1,8 +1,8 @@
 //! What the program says of a run: its exit status, and the line on standard error.
 
-ghost use Rattle.std.specs.Prelude.{◌≡◌, ◌==◌, if◌then◌else◌, false, true, OnOk, OnErr};
+ghost use Rattle.std.specs.Prelude.{◌≡◌, ◌≤◌, false, true, OnOk, OnErr};
 ghost use Rattle.std.specs.Io.KnownBytes.{Appends};
-ghost use Rattle.vcdedit.specs.Report.{capture_line, capture_status, error_line, numbered_line, error_status, usage_line};
+ghost use Rattle.vcdedit.specs.Report.{capture_line, capture_status, done_status, error_line, numbered_line, error_status, usage_line};
 
 use crate::running::{RunError, Summary};
 use itoa::Buffer;
@@ -13,6 +13,7 @@ use vcd_text::{Fault, ReadError, WriteError};
 /// over. It takes no memory.
 pub fn report<W: Sink>(error: &RunError, writer: &mut W) -> u8
     requires { W.has_failed writer.old ≡ false }
+    ensures most { result ≤ 5 }
     ensures status { result ≡ error_status error.now }
     ensures line { W.has_failed writer.new ≡ false →
         Appends (W.taken writer.old) (W.taken writer.new) (error_line error.now) }
@@ -35,13 +36,14 @@ pub fn report_usage<W: Sink>(writer: &mut W) -> u8
 
 /// The exit status of a run that reached its end: 1 where a line of the script was refused.
 pub fn status_when_done(summary: &Summary) -> u8
-    ensures { result ≡ (if summary.now.refused == 0 then 0 else 1) }
+    ensures { result ≡ done_status summary.now.refused }
 {
     if summary.refused == 0 { 0 } else { 1 }
 }
 
 fn error_status(error: &RunError) -> u8
-    ensures { result ≡ error_status error.now }
+    ensures most { result ≤ 5 }
+    ensures status { result ≡ error_status error.now }
 {
     match error {
         RunError::Capture(error) => capture_status(error.fault),
@@ -53,7 +55,8 @@ fn error_status(error: &RunError) -> u8
 }
 
 fn capture_status(fault: Fault) -> u8
-    ensures { result ≡ capture_status fault }
+    ensures most { result ≤ 5 }
+    ensures status { result ≡ capture_status fault }
 {
     match fault {
         Fault::ReadFault => 4,
