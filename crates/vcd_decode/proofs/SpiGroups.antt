@@ -15,7 +15,7 @@ use Rattle.vcd_decode.specs.declared.annotation.LineData.TheVariants.{Unknown, N
 use Rattle.vcd_decode.specs.declared.spi_setup.BitOrder.{BitOrder}
 use Rattle.vcd_decode.specs.declared.spi_setup.BitOrder.TheVariants.{Msb, Lsb}
 use Rattle.vcd_decode.specs.SpiSetup.{SpiSetup}
-use Rattle.vcd_decode.specs.Lines.{line_of, is_one, is_unclear, number_of}
+use Rattle.vcd_decode.specs.Lines.{line_of, is_one, is_unclear, number_from_letters}
 use Rattle.vcd_decode.specs.Spi.{ordered_number, data_of, line_data, group_start, group_end, group_told, segment_told}
 use Rattle.vcd_decode.specs.inside.SpiGroup.{longer_number, data_after, data_before, first_data, DataFits, group_before, word_note, rest_note}
 use Rattle.vcd_decode.specs.inside.SpiWalk.{rest_told, group_of}
@@ -32,11 +32,11 @@ digit_small One = omega arith
 digit_small X = omega arith
 digit_small Z = omega arith
 
-number_below : (bs : List Bit) → number_of bs < 2 ^ length bs
+number_below : (bs : List Bit) → number_from_letters bs < 2 ^ length bs
 number_below [] = omega arith
 number_below (b ∷ bs) = omega (arith, number_below bs, digit_small b, pow-suc 2 (length bs))
 
-number_last : (bs : List Bit) (b : Bit) → number_of (bs ++ b ∷ []) ≡ number_of bs + digit b * 2 ^ length bs
+number_last : (bs : List Bit) (b : Bit) → number_from_letters (bs ++ b ∷ []) ≡ number_from_letters bs + digit b * 2 ^ length bs
 number_last [] b = omega arith
 number_last (c ∷ bs) b =
     let doubled : digit b * 2 ^ length (c ∷ bs) ≡ digit b * (2 ^ length bs * 2) = ap (λ n. digit b * n) (pow-suc 2 (length bs)) in
@@ -47,7 +47,7 @@ ordered_below Msb bs = omega (arith, number_below (reverse bs), ap (λ n. 2 ^ n)
 ordered_below Lsb bs = number_below bs
 
 ordered_last : (order : BitOrder) (bs : List Bit) (b : Bit) → ordered_number order (bs ++ b ∷ []) ≡ longer_number order (length bs) (ordered_number order bs) (digit b)
-ordered_last Msb bs b = ap number_of (reverse-append bs (b ∷ [])) ∙ (omega arith)
+ordered_last Msb bs b = ap number_from_letters (reverse-append bs (b ∷ [])) ∙ (omega arith)
 ordered_last Lsb bs b = number_last bs b
 
 -- ---- a data line

@@ -36,9 +36,9 @@ abbrev pub is_unclear : Bit → Bool
 is_unclear b = not (is_zero b || is_one b)
 
 -- the number that letters make, the least significant first
-abbrev pub number_of : List Bit → ℕ
-number_of [] = 0
-number_of (b ∷ bs) = (if is_one b then 1 else 0) + 2 * number_of bs
+abbrev pub number_from_letters : List Bit → ℕ
+number_from_letters [] = 0
+number_from_letters (b ∷ bs) = (if is_one b then 1 else 0) + 2 * number_from_letters bs
 
 -- an annotation: from the tick `start` to the tick `end`, both included
 abbrev pub note : ℕ → ℕ → Kind → Annotation

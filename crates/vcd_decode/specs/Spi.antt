@@ -11,7 +11,7 @@ use Rattle.vcd_decode.specs.declared.spi_setup.BitOrder.{BitOrder}
 use Rattle.vcd_decode.specs.declared.spi_setup.BitOrder.TheVariants.{Msb, Lsb}
 use Rattle.vcd_decode.specs.SpiSetup.{SpiSetup}
 use Rattle.vcd_decode.specs.Groups.{groups_of}
-use Rattle.vcd_decode.specs.Lines.{letter_before, is_zero, is_one, is_unclear, number_of, note}
+use Rattle.vcd_decode.specs.Lines.{letter_before, is_zero, is_one, is_unclear, number_from_letters, note}
 
 -- ---- the sampling ticks
 
@@ -40,8 +40,8 @@ segments u clk cs end = map (filter (has_edge u.mode clk)) (slice_split (λ t. n
 
 -- the number that letters make in the order in which they come
 abbrev pub ordered_number : BitOrder → List Bit → ℕ
-ordered_number Msb letters = number_of (reverse letters)
-ordered_number Lsb letters = number_of letters
+ordered_number Msb letters = number_from_letters (reverse letters)
+ordered_number Lsb letters = number_from_letters letters
 
 -- what letters of a data line make: nothing known where one is neither 0 nor 1
 abbrev pub data_of : BitOrder → List Bit → LineData

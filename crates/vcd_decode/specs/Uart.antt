@@ -10,7 +10,7 @@ use Rattle.vcd_decode.specs.declared.annotation.Kind.TheVariants.{Byte, ParityEr
 use Rattle.vcd_decode.specs.declared.uart_setup.Parity.{Parity}
 use Rattle.vcd_decode.specs.declared.uart_setup.Parity.TheVariants as parities
 use Rattle.vcd_decode.specs.UartSetup.{UartSetup}
-use Rattle.vcd_decode.specs.Lines.{letter_before, is_zero, is_one, is_unclear, number_of, note}
+use Rattle.vcd_decode.specs.Lines.{letter_before, is_zero, is_one, is_unclear, number_from_letters, note}
 
 -- ---- where a frame is sampled
 
@@ -53,8 +53,8 @@ abbrev pub frame_kind : UartSetup → List Bit → Kind
 frame_kind u letters =
     if list_any is_unclear letters then Unknown
     else (if list_any is_zero (drop (checked_bits u) letters) then FrameError
-    else (if is_parity_wrong u.parity (count_by is_one (take (checked_bits u) letters)) then ParityError (number_of (take u.data_bits letters))
-    else Byte (number_of (take u.data_bits letters))))
+    else (if is_parity_wrong u.parity (count_by is_one (take (checked_bits u) letters)) then ParityError (number_from_letters (take u.data_bits letters))
+    else Byte (number_from_letters (take u.data_bits letters))))
 
 -- what a fall at the tick `start` begins: nothing where the line is not 0 in the middle of the start bit; a frame
 -- that is not sampled up to the capture's end is cut off there
