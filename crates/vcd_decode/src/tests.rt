@@ -1,6 +1,6 @@
 //! That annotations come where there is memory, and what a fault of a setup prints: no clause says these.
 
-use crate::{Annotation, Kind, Parity, SetupError, Uart, uart};
+use crate::{Annotation, BitOrder, Kind, LineData, Parity, SetupError, Spi, Uart, spi, uart};
 use std::test::Fail;
 use vcd_core::{Bit, Value, Wave, ends_by};
 
@@ -19,6 +19,28 @@ fn a_frame_is_found(rt: HostRuntime) -> Result<(), Fail> {
         kind: Kind::Byte(0x1f),
     };
     assert!(rt; found.as_slice() == [frame].as_slice());
+    Ok(())
+}
+
+#[test]
+fn a_word_is_found(rt: HostRuntime) -> Result<(), Fail> {
+    let mut clock = Wave::new(rt.alloc(), 1);
+    clock.push(0, Value::filled(1, Bit::Zero))?;
+    clock.push(10, Value::filled(1, Bit::One))?;
+    clock.push(15, Value::filled(1, Bit::Zero))?;
+    clock.push(20, Value::filled(1, Bit::One))?;
+    assert!(rt; ends_by(clock.changes(), 30));
+    let setup = Spi::new(0, 2, BitOrder::Msb)?;
+    let found = spi(rt.alloc(), &clock, Some(&clock), None, None, 30, &setup)?;
+    let word = Annotation {
+        start: 10,
+        end: 20,
+        kind: Kind::Word {
+            mosi: LineData::Number(3),
+            miso: LineData::Absent,
+        },
+    };
+    assert!(rt; found.as_slice() == [word].as_slice());
     Ok(())
 }
 
