@@ -36,7 +36,7 @@ unfoldable pub tally_after_all : Tally → List Step → List Answer → Tally
 tally_after_all t (s ∷ asked) (a ∷ answers) = tally_after_all (tally_after t s a) asked answers
 tally_after_all t asked answers = t
 
--- the tally of steps with their answers, from the first one on
+-- the tally after steps with their answers, where there was none before
 abbrev pub tally_of_steps : List Step → List Answer → Tally
 tally_of_steps asked answers = tally_after_all (record { edits_in_force = []; undone_edits = [] }) asked answers
 
@@ -55,7 +55,7 @@ unfoldable pub later_replays : Contents → List Edit → List Edit → List Con
 later_replays c es [] = []
 later_replays c es (u ∷ undone_edits) = replay c (u ∷ es) ∷ later_replays c (u ∷ es) undone_edits
 
--- the capture is the replay of the edits in force; each one of the past, as far as it is held, that of those before it; each one of the future that with the undone ones again
+-- the capture is the replay of the edits in force; those of the past, as far as they are held, are the replays of all but the last, of all but the last two, and so on; those of the future are the replays with the undone edits made again, one after another
 pub record IsReplay (c : Contents) (t : Tally) (m : Machine) : Type 0 where
   pub now : m.now ≡ replay c t.edits_in_force
   pub past : m.past ≡ take (length m.past) (earlier_replays c t.edits_in_force)

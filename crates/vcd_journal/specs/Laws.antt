@@ -10,6 +10,6 @@ use Rattle.vcd_journal.specs.InForce.{IsReplay, tally_of_steps}
 abbrev pub SessionIsReplay : Type 0
 SessionIsReplay = (c : Contents) (depth : ℕ) (asked : List Step) (answers : List Answer) (m : Machine) → StepsLead (first_machine c depth) asked answers m → IsReplay c (tally_of_steps asked answers) m
 
--- and it holds at most as many captures as its depth, past and future together
+-- whatever steps are asked and however they are answered, past and future together hold at most as many captures as the depth
 abbrev pub HistoryIsBounded : Type 0
 HistoryIsBounded = (c : Contents) (depth : ℕ) (asked : List Step) (answers : List Answer) (m : Machine) → StepsLead (first_machine c depth) asked answers m → length m.past + length m.future ≤ m.depth

@@ -27,25 +27,25 @@ first_machine c depth = record { past = []; now = c; future = []; depth = depth 
 
 -- ---- accepted steps
 
--- an edit: the capture joins the past, of which the newest `depth` are kept; nothing is left to redo
+-- an accepted edit: the capture joins the past, of which the newest `depth` are kept; nothing is left to redo
 abbrev pub machine_after_edit : Edit → Machine → Machine
 machine_after_edit e m = record { past = take m.depth (m.now ∷ m.past); now = effect e m.now; future = []; depth = m.depth }
 
--- an undo, where `back` is the newest of the past and `older` the others
+-- an accepted undo, where `back` is the newest of the past and `older` the others
 abbrev pub machine_after_undo : Contents → List Contents → Machine → Machine
 machine_after_undo back older m = record { past = older; now = back; future = m.now ∷ m.future; depth = m.depth }
 
--- a redo, where `next` is the first of the future and `later` the others
+-- an accepted redo, where `next` is the first of the future and `later` the others
 abbrev pub machine_after_redo : Contents → List Contents → Machine → Machine
 machine_after_redo next later m = record { past = m.now ∷ m.past; now = next; future = later; depth = m.depth }
 
--- another depth: of the past the newest are kept, as many as it leaves beside the future
+-- an accepted depth: of the past the newest are kept, as many as there is room for beside the future
 abbrev pub machine_after_depth : ℕ → Machine → Machine
 machine_after_depth depth m = record { past = take (depth - length m.future) m.past; now = m.now; future = m.future; depth = depth }
 
 -- ---- what comes of a step
 
--- the answer, and the machine after it
+-- what comes of a step: the answer, and the machine after it
 pub record StepOutcome : Type 0 where
   pub answer : Answer
   pub after : Machine
@@ -73,11 +73,11 @@ abbrev pub redo_outcome : List Contents → Machine → StepOutcome
 redo_outcome [] m = refused_outcome refusals.NothingToRedo m
 redo_outcome (next ∷ later) m = accepted_outcome (machine_after_redo next later m)
 
--- whether a number may be a depth
+-- whether a session may have this depth
 abbrev pub is_depth : ℕ → Bool
 is_depth depth = nat_le 1 depth && nat_le depth DEPTH_LIMIT
 
--- a depth is refused where it may be none, and then where the future is longer
+-- a depth is refused where a session may not have it, then where the future is longer
 abbrev pub depth_outcome : ℕ → Machine → StepOutcome
 depth_outcome depth m = if not (is_depth depth) then refused_outcome refusals.BadDepth m
     else (if nat_lt depth (length m.future) then refused_outcome refusals.DepthTooSmall m
@@ -92,7 +92,7 @@ step_outcome m (steps.Depth depth) = depth_outcome depth m
 
 -- ---- what may come of a step
 
--- whether a step may want memory: any but a depth that is not greater
+-- whether a step may want memory: each may, but a depth only where it is greater
 abbrev pub may_want_memory : Machine → Step → Bool
 may_want_memory m (steps.Depth depth) = nat_lt m.depth depth
 may_want_memory m s = true
@@ -109,11 +109,11 @@ pub record IsMemoryRefusal (m : Machine) (s : Step) (a : Answer) (n : Machine) :
   pub answer : a ≡ memory_refusal s
   pub unchanged : n ≡ m
 
--- a step on the machine m may have the answer a and lead to n: as where there is memory, or as where it is refused
+-- the answer that a step may have on the machine m, and the machine n after it: what comes of it where there is memory, or a refusal for want of memory
 abbrev pub IsStep : Machine → Step → Answer → Machine → Type 0
 IsStep m s a n = (record { answer = a; after = n } ≡ step_outcome m s) ⊎ IsMemoryRefusal m s a n
 
--- a call makes this step: the answer is `Done` where it gives Ok, and else its error
+-- a call makes this step: the answer is `Done` where the call gives Ok, and else the refusal that it gives
 abbrev pub IsStepCall : {T : Type 0} → Machine → Step → Result T StepError → Machine → Type 0
 IsStepCall m s result n = MatchResult result (λ _. IsStep m s Done n) (λ refusal. IsStep m s (Refused refusal) n)
 

@@ -19,7 +19,7 @@ mod tests;
 /// A capture under edit, with a bounded history.
 ///
 /// It holds a record for each step that can be taken back or made again, and no capture but the one
-/// now. A record holds the changes that its step touched, and nothing else of a wave.
+/// now. A record holds at most as many changes as its step touched.
 ///
 /// A refused step changes nothing: contents, both histories and the depth are as before. Contracts
 /// see a session as the captures that it can go back and on to.
