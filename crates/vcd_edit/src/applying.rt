@@ -18,9 +18,6 @@ use crate::reverting::exchange;
 use std::alloc::Global;
 use vcd_core::Capture;
 
-#[cfg(test)]
-mod tests;
-
 /// Makes an edit of a capture, and gives the record that takes it back.
 ///
 /// An edit that has a fault, as [`check`] tells it, is refused by it, without memory; want of memory comes

@@ -6,6 +6,9 @@ ghost use Rattle.vcd_edit.specs.inside.Records.{moved_signal_view};
 use std::marker::Model;
 use vcd_core::{Change, Signal};
 
+#[cfg(test)]
+mod tests;
+
 /// A part of a signal's changes that gives way to others: those at positions `from` up to before `to` become
 /// `changes`, and the later ones move by `by` ticks.
 #[derive(Drop)]
