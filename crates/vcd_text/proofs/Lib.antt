@@ -26,7 +26,6 @@ pub mod Values
 pub mod Scopes
 pub mod Walks
 pub mod Near
-pub mod PlacedLetters
 pub mod Sorting
 pub mod Counts
 pub mod Listing
@@ -40,7 +39,7 @@ pub mod Knows
 pub mod Declaring
 pub mod DeclaredCount
 pub mod Numbers
-pub mod Extensions
+pub mod LetterWords
 pub mod Changing
 pub mod CodesDiffer
 pub mod Decimals
