@@ -1,6 +1,8 @@
-//! Decoders of serial protocols: what frames, words and bytes lines of one bit carry, exact at every tick.
+//! Decoders of serial protocols: what frames, words and bytes lines of one bit carry, exact at every
+//! tick.
 //!
-//! A decoder answers the list of its [`Annotation`]s: for a UART line [`Uart`] says how its frames are made.
+//! A decoder answers the list of its [`Annotation`]s: [`uart`] for a line whose frames are made as a
+//! [`Uart`] says, [`spi`] for lines whose words are sent as a [`Spi`] says, and [`i2c`] for a bus.
 #![tactic(auto)]
 
 mod annotation;

@@ -31,7 +31,7 @@ pub enum BitOrder {
 ///
 /// The modes 0 and 3 read where the clock rises, 1 and 2 where it falls. Contracts see the three
 /// numbers.
-#[derive(Clone, Copy)]
+#[derive(Clone, Copy, Debug, PartialEq, Eq)]
 pub struct Spi {
     mode: u64,
     bits: u64,
