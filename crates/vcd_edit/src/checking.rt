@@ -83,7 +83,8 @@ fn check_force(
     to: u64,
     value: Value,
 ) -> Result<(), EditError>
-    ensures { TellsFault result (edit_fault (edits.Force signal from to value) (contents capture.now)) }
+    ensures { TellsFault result
+        (edit_fault (edits.Force signal from to value) (contents capture.now)) }
 {
     let signals = capture.signals();
     if signal >= signals.len() {

@@ -55,7 +55,8 @@ fn may_be_taken_out(at: usize, signals: &[Signal], end: u64) -> bool
 fn move_fits(at: usize, signal: &Option<Signal>, signals: &[Signal], end: u64) -> bool
     ensures { (c : Contents) → c.signals ≡ map signal_contents signals.now
         → IsTrue result ↔ (MayMoveSignal c at (contents_of_signal signal.now)
-        × AreSoundSignals end (with_moved_signal (Some (at, contents_of_signal signal.now)) c).signals) }
+        × AreSoundSignals end
+        (with_moved_signal (Some (at, contents_of_signal signal.now)) c).signals) }
 {
     match signal {
         Some(signal) => may_be_put_in(at, signal, signals, end),
@@ -72,7 +73,8 @@ fn parts_fit(
     signals: &[Signal],
     end: u64,
 ) -> bool
-    requires { (other_end : Option ℕ) × IsOneStep (record_view pieces.now word.now signal.now other_end) }
+    requires { (other_end : Option ℕ)
+        × IsOneStep (record_view pieces.now word.now signal.now other_end) }
     ensures { (c : Contents) (other_end : Option ℕ) → c.signals ≡ map signal_contents signals.now
         → IsTrue result ↔ PartsFit end (record_view pieces.now word.now signal.now other_end) c }
 {
@@ -96,8 +98,8 @@ impl Record {
     /// Whether the record fits a capture: its parts stand within it, and the capture that it leads to is
     /// sound.
     ///
-    /// It takes no memory. Its time grows with the words and the signals of the capture and with the changes in the
-    /// pieces, not with those of the waves.
+    /// It takes no memory. Its time grows with the words and the signals of the capture and with the
+    /// changes in the pieces, not with those of the waves.
     pub fn fits(&self, capture: &Capture) -> bool
         ensures { IsTrue result ↔ Fits self.now (contents capture.now) }
     {

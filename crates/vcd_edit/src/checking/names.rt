@@ -16,7 +16,8 @@ use vcd_core::{Capture, FullName, SIGNAL_LIMIT, Signal, Word, is_word};
 
 #[tactic(auto, unfolding(crate::specs::Allowed::edit_fault))]
 pub(crate) fn check_rename(capture: &Capture, signal: usize, word: &[u8]) -> Result<(), EditError>
-    ensures { TellsFault result (edit_fault (edits.Rename signal word.entry) (contents capture.now)) }
+    ensures { TellsFault result
+        (edit_fault (edits.Rename signal word.entry) (contents capture.now)) }
 {
     let signals = capture.signals();
     if signal >= signals.len() {

@@ -36,7 +36,8 @@ fn lateness(wave: &Wave, end: u64) -> usize
 /// How many signals have a change past the end.
 fn late_signals(signals: &[Signal], end: u64) -> usize
     ensures { result
-        ≡ sum_by (λ (s : SignalContents). lateness_of end s.changes) (map signal_contents signals.now) }
+        ≡ sum_by (λ (s : SignalContents). lateness_of end s.changes)
+        (map signal_contents signals.now) }
 {
     let mut count = 0;
     for signal in signals {
@@ -47,7 +48,8 @@ fn late_signals(signals: &[Signal], end: u64) -> usize
 
 /// Whether a piece is for one of the signals, and leads to a wave up to the end.
 fn stands_in(piece: &Piece, signals: &[Signal], end: u64) -> bool
-    ensures { IsTrue result ↔ StandsIn end (map signal_contents signals.now) (piece_view piece.now) }
+    ensures { IsTrue result
+        ↔ StandsIn end (map signal_contents signals.now) (piece_view piece.now) }
 {
     match signals.get(piece.signal) {
         Some(signal) => piece_stands(piece, &signal.wave, end),
