@@ -14,7 +14,6 @@ ghost use Rattle.vcd_text.specs.Refusals.{memory_error, IsFrontAnswer, IsRefusal
 ghost use Rattle.vcd_text.specs.inside.Reading.{Reads, ReadsAll};
 
 mod changes;
-mod copies;
 mod decimal;
 mod declarations;
 mod keywords;

@@ -13,13 +13,13 @@ ghost use Rattle.vcd_text.specs.declared.fault.Fault.TheVariants.{NoMemory as No
 ghost use Rattle.vcd_text.specs.declared.reading.variables.Owner.TheVariants.{Kept as KeptAt};
 
 use crate::fault::Fault;
-use crate::reading::copies::{copy_scopes, copy_word, copy_words};
 use crate::reading::decimal::size_of;
 use crate::reading::letters::{DigitsError, read_value};
 use indexmap::IndexMap;
 use std::alloc::Global;
 use vcd_core::{
-    NoMemory, SIGNAL_LIMIT, ScopeName, ScopePath, Signal, WIDTH_LIMIT, Wave, Word, is_skipped_kind,
+    NoMemory, SIGNAL_LIMIT, ScopeName, Signal, WIDTH_LIMIT, Wave, Word, copy_scopes, copy_word,
+    copy_words, is_skipped_kind,
 };
 
 /// A variable that is kept: its code, and the signal that it becomes.
@@ -286,7 +286,7 @@ fn silent_signal(
     ensures silent { IfOk result (λ signal. signal.wave.changes ≡ []) }
 {
     Ok(Signal {
-        scopes: ScopePath::from_vec(copy_scopes(alloc, scopes)?),
+        scopes: copy_scopes(alloc, scopes)?,
         kind: copy_word(alloc, kind.as_slice())?,
         words: copy_words(alloc, name)?,
         wave: Wave::new(alloc, width),
