@@ -1,61 +1,119 @@
--- One bit of a plane, after a write to one of its words.
-use Rattle.std.proofs.Common.{◌≡◌, ◌≢◌, ℕ, ◌+◌, ◌-◌, ◌*◌, ◌/◌, ◌%◌, ◌^◌, ◌<◌, ◌≤◌, min, List, length, replicate, get_or, sym, ap, ◌∙◌, arith, inl, inr}
+-- The bits of two planes, after writes to their words.
+use Rattle.std.proofs.Common.{◌≡◌, ◌≢◌, ℕ, zero, suc, ◌+◌, ◌-◌, ◌*◌, ◌/◌, ◌%◌, ◌^◌, ◌<◌, ◌≤◌, min, List, length, replicate, get_or, sym, ap, ◌∙◌, arith, inl, inr}
 use Rattle.std.proofs.Math.ListN.{set}
 use Rattle.std.specs.Int.{bit_at}
-use Rattle.std.proofs.lemmas.Nat.Bits.{bit_at_ones, bit_at_ones_above, bit_at-zero}
-use Rattle.std.proofs.lemmas.List.{get_or-set_same, get_or-set_other, get_or-replicate, length-replicate}
+use Rattle.std.specs.Int.Bits.{bit_and}
+use Rattle.std.proofs.lemmas.Nat.Bits.{bit_at_ones, bit_at_ones_above, bit_at-zero, bit_at-lt, bit_at_and}
+use Rattle.std.proofs.lemmas.List.{get_or-set_same, get_or-set_other, get_or-replicate, length-replicate, length-set}
 use Rattle.std.proofs.lemmas.Bool.{cases_lt, cases_eq}
-use Rattle.vcd_core.specs.inside.Planes.{plane_bit, IsPlane}
+use Rattle.vcd_core.specs.Words.{row_bit}
+use Rattle.vcd_core.specs.inside.Planes.{plane_bit, ArePlanes}
 
 -- the bits of the word that was written
-pub plane_bit-set_same : (words : List ℕ) (j x k : ℕ) → j < length words → k / 64 ≡ j → plane_bit (set words j x) k ≡ bit_at x (k % 64)
+pub plane_bit-set_same : (words : List ℕ) (plane j x k : ℕ) → j < length words → 2 * (k / 64) + plane ≡ j → plane_bit plane (set words j x) k ≡ bit_at x (k % 64)
 unfolding plane_bit
-plane_bit-set_same words j x k within here = ap (λ i. bit_at (get_or (set words j x) i 0) (k % 64)) here ∙ ap (λ w. bit_at w (k % 64)) (get_or-set_same words j x 0 within)
+plane_bit-set_same words plane j x k within here = ap (λ i. bit_at (get_or (set words j x) i 0) (k % 64)) here ∙ ap (λ w. bit_at w (k % 64)) (get_or-set_same words j x 0 within)
 
 -- the bits of the other words
-pub plane_bit-set_other : (words : List ℕ) (j x k : ℕ) → k / 64 ≢ j → plane_bit (set words j x) k ≡ plane_bit words k
+pub plane_bit-set_other : (words : List ℕ) (plane j x k : ℕ) → 2 * (k / 64) + plane ≢ j → plane_bit plane (set words j x) k ≡ plane_bit plane words k
 unfolding plane_bit
-plane_bit-set_other words j x k elsewhere = ap (λ w. bit_at w (k % 64)) (get_or-set_other words j (k / 64) x 0 elsewhere)
+plane_bit-set_other words plane j x k elsewhere = ap (λ w. bit_at w (k % 64)) (get_or-set_other words j (2 * (k / 64) + plane) x 0 elsewhere)
 
 -- where the new word differs from the old one in one bit alone, so does the plane
-pub plane_bit-write : (words : List ℕ) (k x : ℕ) → k / 64 < length words
-    → ((i : ℕ) → i < 64 → i ≢ k % 64 → bit_at x i ≡ bit_at (get_or words (k / 64) 0) i)
-    → (i : ℕ) → i ≢ k → plane_bit (set words (k / 64) x) i ≡ plane_bit words i
+pub plane_bit-write : (words : List ℕ) (plane k x : ℕ) → 2 * (k / 64) + plane < length words
+    → ((i : ℕ) → i < 64 → i ≢ k % 64 → bit_at x i ≡ bit_at (get_or words (2 * (k / 64) + plane) 0) i)
+    → (i : ℕ) → i ≢ k → plane_bit plane (set words (2 * (k / 64) + plane) x) i ≡ plane_bit plane words i
 unfolding plane_bit
-plane_bit-write words k x within others i apart =
+plane_bit-write words plane k x within others i apart =
     elim (cases_eq (i / 64) (k / 64)) [
       | inl here ↦
           let low : i % 64 < 64 = omega arith in
           let differs : i % 64 ≢ k % 64 = omega arith in
-          plane_bit-set_same words (k / 64) x i within here ∙ others (i % 64) low differs ∙ ap (λ j. bit_at (get_or words j 0) (i % 64)) (sym here)
-      | inr elsewhere ↦ plane_bit-set_other words (k / 64) x i elsewhere
+          let place : 2 * (i / 64) + plane ≡ 2 * (k / 64) + plane = omega arith in
+          plane_bit-set_same words plane (2 * (k / 64) + plane) x i within place ∙ others (i % 64) low differs ∙ ap (λ j. bit_at (get_or words j 0) (i % 64)) (sym place)
+      | inr elsewhere ↦ let differs : 2 * (i / 64) + plane ≢ 2 * (k / 64) + plane = omega arith in plane_bit-set_other words plane (2 * (k / 64) + plane) x i differs
     ]
 
--- the bits below a multiple of 64 are those of the words before it
-pub bits_filled : (words : List ℕ) (j width k : ℕ) → j < length words → k < 64 * (j + 1) → k < width
-    → (k < 64 * j → plane_bit words k ≡ 1) → plane_bit (set words j (2 ^ min (width - 64 * j) 64 - 1)) k ≡ 1
-bits_filled words j width k within below inside before =
-    elim (cases_lt k (64 * j)) [
-      | inl earlier ↦ let elsewhere : k / 64 ≢ j = omega arith in plane_bit-set_other words j _ k elsewhere ∙ before earlier
-      | inr here ↦ plane_bit-set_same words j _ k within (omega arith) ∙ bit_at_ones (min (width - 64 * j) 64) (k % 64) (omega arith)
-    ]
+-- the other plane stays
+pub plane_bit-other_plane : (words : List ℕ) (plane other k x i : ℕ) → plane < 2 → other < 2 → other ≢ plane
+    → plane_bit other (set words (2 * (k / 64) + plane) x) i ≡ plane_bit other words i
+plane_bit-other_plane words plane other k x i which which' differ =
+    let elsewhere : 2 * (i / 64) + other ≢ 2 * (k / 64) + plane = omega arith in
+    plane_bit-set_other words other (2 * (k / 64) + plane) x i elsewhere
 
-pub bits_clear : (words : List ℕ) (j width k : ℕ) → j < length words → k < 64 * (j + 1) → width ≤ k
-    → (k < 64 * j → plane_bit words k ≡ 0) → plane_bit (set words j (2 ^ min (width - 64 * j) 64 - 1)) k ≡ 0
-bits_clear words j width k within below outside before =
-    elim (cases_lt k (64 * j)) [
-      | inl earlier ↦ let elsewhere : k / 64 ≢ j = omega arith in plane_bit-set_other words j _ k elsewhere ∙ before earlier
-      | inr here ↦ plane_bit-set_same words j _ k within (omega arith) ∙ bit_at_ones_above (min (width - 64 * j) 64) (k % 64) (omega arith)
-    ]
+-- ---- a word of each plane
 
--- a plane of zeros has no bit set
-pub plane_bit-replicate : (n k : ℕ) → k < 64 * n → plane_bit (replicate n 0) k ≡ 0
+-- the lowest `left` bits of a word
+pub masked : (w left i : ℕ) → i < left → i < 64 → bit_at (bit_and w (2 ^ min left 64 - 1)) i ≡ bit_at w i
+masked w left i below inside =
+    let one : bit_at (2 ^ min left 64 - 1) i ≡ 1 = bit_at_ones (min left 64) i (omega arith) in
+    let small : bit_at w i < 2 = bit_at-lt w i in
+    bit_at_and w (2 ^ min left 64 - 1) i ∙ ap (min (bit_at w i)) one ∙ omega (arith, small)
+
+pub masked_above : (w left i : ℕ) → left ≤ i → i < 64 → bit_at (bit_and w (2 ^ min left 64 - 1)) i ≡ 0
+masked_above w left i above inside =
+    let none : bit_at (2 ^ min left 64 - 1) i ≡ 0 = bit_at_ones_above (min left 64) i (omega arith) in
+    bit_at_and w (2 ^ min left 64 - 1) i ∙ ap (min (bit_at w i)) none ∙ omega arith
+
+-- the words at j of both planes are written
+abbrev pub both_set : List ℕ → ℕ → ℕ → ℕ → List ℕ
+both_set words j low high = set (set words (2 * j) low) (2 * j + 1) high
+
+module _ (words : List ℕ) (j low high : ℕ) (within : 2 * j + 1 < length words) where
+  pub low_set : (k : ℕ) → k / 64 ≡ j → plane_bit 0 (both_set words j low high) k ≡ bit_at low (k % 64)
+  low_set k here =
+      let elsewhere : 2 * (k / 64) + 0 ≢ 2 * j + 1 = omega arith in
+      plane_bit-set_other (set words (2 * j) low) 0 (2 * j + 1) high k elsewhere ∙ plane_bit-set_same words 0 (2 * j) low k (omega arith) (omega arith)
+
+  pub high_set : (k : ℕ) → k / 64 ≡ j → plane_bit 1 (both_set words j low high) k ≡ bit_at high (k % 64)
+  high_set k here = plane_bit-set_same (set words (2 * j) low) 1 (2 * j + 1) high k (omega (arith, length-set words (2 * j) low)) (omega arith)
+
+  pub others_kept : (plane k : ℕ) → plane < 2 → k / 64 ≢ j → plane_bit plane (both_set words j low high) k ≡ plane_bit plane words k
+  others_kept plane k which elsewhere =
+      let first : 2 * (k / 64) + plane ≢ 2 * j + 1 = omega arith in
+      let second : 2 * (k / 64) + plane ≢ 2 * j = omega arith in
+      plane_bit-set_other (set words (2 * j) low) plane (2 * j + 1) high k first ∙ plane_bit-set_other words plane (2 * j) low k second
+
+-- the first words of both planes hold the bits of two rows that are below the width
+pub record HoldsRows (n width j : ℕ) (words lows highs : List ℕ) : Type 0 where
+  pub low : (k : ℕ) → k < 64 * j → k < width → plane_bit 0 words k ≡ row_bit lows k
+  pub high : (k : ℕ) → k < 64 * j → k < width → plane_bit 1 words k ≡ row_bit highs k
+  pub clear : (plane k : ℕ) → plane < 2 → width ≤ k → k < 64 * n → plane_bit plane words k ≡ 0
+
+-- and one word more
+pub one_more : (n width j left : ℕ) (words low high : List ℕ) → length words ≡ 2 * n → j < n → left ≡ width - 64 * j
+    → HoldsRows n width j words low high
+    → HoldsRows n width (j + 1) (both_set words j (bit_and (get_or low j 0) (2 ^ min left 64 - 1)) (bit_and (get_or high j 0) (2 ^ min left 64 - 1))) low high
+unfolding row_bit
+one_more n width j left words low high sized within is holds =
+    let inside : 2 * j + 1 < length words = omega arith in
+    let a = bit_and (get_or low j 0) (2 ^ min left 64 - 1) in
+    let b = bit_and (get_or high j 0) (2 ^ min left 64 - 1) in
+    record {
+      low = λ k below in_width. elim (cases_eq (k / 64) j) [
+        | inl here ↦ low_set words j a b inside k here ∙ masked (get_or low j 0) left (k % 64) (omega arith) (omega arith) ∙ ap (λ i. bit_at (get_or low i 0) (k % 64)) (sym here)
+        | inr elsewhere ↦ others_kept words j a b inside 0 k (omega arith) elsewhere ∙ holds.low k (omega arith) in_width
+      ];
+      high = λ k below in_width. elim (cases_eq (k / 64) j) [
+        | inl here ↦ high_set words j a b inside k here ∙ masked (get_or high j 0) left (k % 64) (omega arith) (omega arith) ∙ ap (λ i. bit_at (get_or high i 0) (k % 64)) (sym here)
+        | inr elsewhere ↦ others_kept words j a b inside 1 k (omega arith) elsewhere ∙ holds.high k (omega arith) in_width
+      ];
+      clear = λ plane k which out below. elim (cases_eq (k / 64) j) [
+        | inl here ↦ cleared plane k which here out
+        | inr elsewhere ↦ others_kept words j a b inside plane k which elsewhere ∙ holds.clear plane k which out below
+      ];
+    }
+  where
+    cleared : (plane k : ℕ) → plane < 2 → k / 64 ≡ j → width ≤ k → plane_bit plane (both_set words j (bit_and (get_or low j 0) (2 ^ min left 64 - 1)) (bit_and (get_or high j 0) (2 ^ min left 64 - 1))) k ≡ 0
+    cleared zero k which here out = low_set words j _ _ (omega arith) k here ∙ masked_above (get_or low j 0) left (k % 64) (omega arith) (omega arith)
+    cleared (suc zero) k which here out = high_set words j _ _ (omega arith) k here ∙ masked_above (get_or high j 0) left (k % 64) (omega arith) (omega arith)
+    cleared (suc (suc _)) k which here out = absurd (omega arith)
+
+-- planes of zeros hold none
+pub none_held : (n width : ℕ) (low high : List ℕ) → HoldsRows n width 0 (replicate (2 * n) 0) low high
 unfolding plane_bit
-plane_bit-replicate n k within = ap (λ w. bit_at w (k % 64)) (get_or-replicate n (k / 64) 0 0 (omega arith)) ∙ bit_at-zero (k % 64)
-
-pub clear_plane : (n width : ℕ) → IsPlane n width (replicate n 0)
-clear_plane n width = record {
-  sized = length-replicate n 0;
-  small = λ k d within. let here : k < n = omega (arith, length-replicate {A = ℕ} n 0) in rw get_or-replicate (omega arith);
-  clear = λ k _ within. plane_bit-replicate n k within;
+none_held n width low high = record {
+  low = λ k below _. absurd (omega arith);
+  high = λ k below _. absurd (omega arith);
+  clear = λ plane k which _ below. ap (λ w. bit_at w (k % 64)) (get_or-replicate (2 * n) (2 * (k / 64) + plane) 0 0 (omega arith)) ∙ bit_at-zero (k % 64);
 }

@@ -1,7 +1,7 @@
 //! What a wave does with its list of changes.
 
-ghost use Rattle.std.specs.Prelude.{◌≡◌, ◌≢◌, ℕ, List, ◌<◌, ◌≤◌, ◌↔◌, IsTrue, All, IsOk, OnOk, OnErr, vec_len, vec_capacity};
-ghost use Rattle.vcd_core.specs.Value.{all_x};
+ghost use Rattle.std.specs.Prelude.{◌≡◌, ◌≢◌, ℕ, List, ◌<◌, ◌≤◌, ◌↔◌, IsTrue, length, All, IsOk, OnOk, OnErr, vec_len, vec_capacity};
+ghost use Rattle.vcd_core.specs.Value.{all_x, same_letters};
 ghost use Rattle.vcd_core.specs.Wave.{last_value, ChangesFrom, IsWave, AllUpTo, changes_before, changes_after_push};
 ghost use Rattle.vcd_core.specs.declared.bit.Bit.{Bit as BitLetter};
 
@@ -46,6 +46,17 @@ fn pop_at(changes: &mut Vec<Change>, tick: u64)
     }
 }
 
+/// Whether the value after all changes is this one, that before the first being all x.
+fn has_last_value(changes: &[Change], value: &Value) -> bool
+    ensures { result
+        ≡ same_letters value.now (last_value (all_x (length value.now)) changes.now) }
+{
+    match changes.split_last() {
+        Some((last, _)) => *value == last.value,
+        None => value.is_all_x(),
+    }
+}
+
 /// Makes `value` the value from `tick` on, by the end of the list alone.
 pub(crate) fn push_change(
     changes: &mut Vec<Change>,
@@ -53,8 +64,7 @@ pub(crate) fn push_change(
     tick: u64,
     value: Value,
 ) -> Result<(), NoMemory>
-    requires least { 1 ≤ width }
-    requires most { width ≤ WIDTH_LIMIT }
+    requires wide { length value ≡ width }
     requires form { IsWave width changes.old.items }
     requires late { All (λ c. c.tick ≤ tick) changes.old.items }
     ensures pushed { OnOk result
@@ -67,7 +77,7 @@ pub(crate) fn push_change(
     ensures capacity { vec_capacity changes.old ≤ vec_capacity changes.new }
 {
     pop_at(changes, tick);
-    if value != value_at_end(changes.as_slice(), width) {
+    if !has_last_value(changes.as_slice(), &value) {
         changes.push(Change { tick, value })?;
     }
     Ok(())

@@ -1,7 +1,9 @@
-//! The two planes of bits that hold a value, in words of 64 bits.
+//! The two planes of bits that hold a value, in words of 64 bits that belong to the two in turn.
 
-ghost use Rattle.std.specs.Prelude.{◌≡◌, ◌==◌, ℕ, ◌+◌, ◌-◌, ◌*◌, ◌/◌, ◌^◌, ◌<◌, ◌≤◌, ◌≢◌, ◌↔◌, min, length, All, IsTrue, if◌then◌else◌};
-ghost use Rattle.vcd_core.specs.inside.Planes.{plane_bit as bit_of_plane, letter_of, low_of, high_of, IsPlane};
+ghost use Rattle.std.specs.Prelude.{◌≡◌, ◌==◌, ℕ, ◌+◌, ◌-◌, ◌*◌, ◌/◌, ◌%◌, ◌^◌, ◌<◌, ◌≤◌, ◌≢◌, ◌↔◌, min, length, replicate, slice_index, All, IsTrue, if◌then◌else◌};
+ghost use Rattle.std.specs.Int.{bit_at};
+ghost use Rattle.vcd_core.specs.Words.{row_bit, letter_of, low_of, high_of};
+ghost use Rattle.vcd_core.specs.inside.Planes.{plane_bit as bit_of_plane, ArePlanes};
 
 use crate::bit::Bit;
 use crate::value::WORDS;
@@ -40,12 +42,30 @@ pub(crate) fn letter(low: bool, high: bool) -> Bit
     }
 }
 
-/// Whether bit `k` of the plane is set.
-pub(crate) fn plane_bit(words: &[u64], k: u64) -> bool
-    requires { k / 64 < length words.now }
-    ensures { bit_of_plane words.now k ≡ (if result then 1 else 0) }
+/// How many words of a plane the bits of a width take.
+pub(crate) fn words_in(width: u64) -> usize
+    requires { width ≤ 64 * WORDS }
+    ensures fits { width ≤ 64 * result }
+    ensures least { 64 * result < width + 64 }
+    ensures most { result ≤ WORDS }
 {
-    (words[(k / 64) as usize] >> (k % 64)) & 1 == 1
+    ((width + 63) / 64) as usize
+}
+
+/// Whether bit `k` of the low plane (0) or the high plane (1) is set.
+pub(crate) fn plane_bit(words: &[u64], plane: usize, k: u64) -> bool
+    requires { 2 * (k / 64) + plane < length words.now }
+    ensures { bit_of_plane plane words.now k ≡ (if result then 1 else 0) }
+{
+    (words[2 * (k / 64) as usize + plane] >> (k % 64)) & 1 == 1
+}
+
+/// Word `k` of the low plane (0) or the high plane (1).
+pub(crate) fn plane_word(words: &[u64], plane: usize, k: usize) -> u64
+    requires { 2 * k + plane < length words.now }
+    ensures { result ≡ slice_index words.now (2 * k + plane) }
+{
+    words[2 * k + plane]
 }
 
 /// `count` ones, at most 64, at the low end of a word.
@@ -60,64 +80,69 @@ fn ones(count: u64) -> u64
 }
 
 /// A word is below 2 ^ 64: said of a slice that was written through a loan.
-fn words_fit(words: &[u64])
+pub(crate) fn words_fit(words: &[u64])
     ensures { All (λ w. w < 2 ^ 64) words.now }
 {}
 
-/// Sets the bits below `width`, and clears the others.
-fn fill_ones(words: &mut [u64], width: u64)
-    requires { width ≤ 64 * length words.old }
-    ensures below { (k : ℕ) → k < width → bit_of_plane words.new k ≡ 1 }
-    ensures plane { IsPlane (length words.old) width words.new }
+/// Writes the bits of two rows that are below `width` into planes of zeros, a word at a time.
+fn write_rows(words: &mut [u64], width: u64, low: &[u64], high: &[u64])
+    requires sized { length words.old ≡ 2 * WORDS }
+    requires zeros { words.old ≡ replicate (2 * WORDS) 0 }
+    requires most { width ≤ 64 * WORDS }
+    requires low { width ≤ 64 * length low.now }
+    requires high { width ≤ 64 * length high.now }
+    ensures low { (k : ℕ) → k < width → bit_of_plane 0 words.new k ≡ row_bit low.now k }
+    ensures high { (k : ℕ) → k < width → bit_of_plane 1 words.new k ≡ row_bit high.now k }
+    ensures planes { ArePlanes WORDS width words.new }
 {
     let mut left = width;
-    for word in words.iter_mut() {
-        *word = ones(left);
+    for j in 0..words_in(width) {
+        let mask = ones(left);
+        words[2 * j] = low[j] & mask;
+        words[2 * j + 1] = high[j] & mask;
         left = left.saturating_sub(64);
     }
     // Its clause is what is known of a word after the loop.
     words_fit(words);
 }
 
-/// The plane whose bits below `width` are all set, or all clear.
-pub(crate) fn filled_plane(set: bool, width: u64) -> [u64; WORDS]
-    requires { width ≤ 64 * WORDS }
-    ensures below { (k : ℕ) → k < width → bit_of_plane result k ≡ (if set then 1 else 0) }
-    ensures plane { IsPlane WORDS width result }
+/// The planes of the bits of two rows that are below `width`. Only the words in use are computed.
+pub(crate) fn planes_of_rows(width: u64, low: &[u64], high: &[u64]) -> [u64; 2 * WORDS]
+    requires most { width ≤ 64 * WORDS }
+    requires low { width ≤ 64 * length low.now }
+    requires high { width ≤ 64 * length high.now }
+    ensures low { (k : ℕ) → k < width → bit_of_plane 0 result k ≡ row_bit low.now k }
+    ensures high { (k : ℕ) → k < width → bit_of_plane 1 result k ≡ row_bit high.now k }
+    ensures planes { ArePlanes WORDS width result }
 {
-    let mut words = [0; WORDS];
-    if set {
-        fill_ones(&mut words, width);
-    }
+    let mut words = [0; 2 * WORDS];
+    write_rows(&mut words, width, low, high);
     words
 }
 
-/// Sets or clears bit `k`.
-fn write_plane_bit(words: &mut [u64], k: u64, set: bool)
-    requires { k / 64 < length words.old }
-    ensures at { bit_of_plane words.new k ≡ (if set then 1 else 0) }
-    ensures others { (i : ℕ) → i ≢ k → bit_of_plane words.new i ≡ bit_of_plane words.old i }
+/// The word whose bits are all set, or all clear.
+pub(crate) fn repeated(set: bool) -> u64
+    ensures { (i : ℕ) → i < 64 → bit_at result i ≡ (if set then 1 else 0) }
+{
+    if set { u64::MAX } else { 0 }
+}
+
+/// Sets or clears bit `k` of the low plane (0) or the high plane (1).
+pub(crate) fn write_plane_bit(words: &mut [u64], plane: usize, k: u64, set: bool)
+    requires plane { plane < 2 }
+    requires within { 2 * (k / 64) + plane < length words.old }
+    ensures at { bit_of_plane plane words.new k ≡ (if set then 1 else 0) }
+    ensures others { (i : ℕ) → i ≢ k →
+        bit_of_plane plane words.new i ≡ bit_of_plane plane words.old i }
+    ensures other_plane { (other i : ℕ) → other < 2 → other ≢ plane →
+        bit_of_plane other words.new i ≡ bit_of_plane other words.old i }
+    ensures sized { length words.new ≡ length words.old }
 {
     let mask = 1 << (k % 64);
-    let word = &mut words[(k / 64) as usize];
+    let word = &mut words[2 * (k / 64) as usize + plane];
     if set {
         *word |= mask;
     } else {
         *word &= !mask;
     }
-}
-
-/// The plane with bit `k` set or cleared.
-pub(crate) fn with_plane_bit(words: [u64; WORDS], k: u64, set: bool) -> [u64; WORDS]
-    requires { k < 64 * WORDS }
-    ensures at { bit_of_plane result k ≡ (if set then 1 else 0) }
-    ensures others { (i : ℕ) → i ≢ k → bit_of_plane result i ≡ bit_of_plane words i }
-    ensures plane { (width : ℕ) → k < width →
-        IsPlane WORDS width words → IsPlane WORDS width result }
-{
-    let mut changed = words;
-    write_plane_bit(&mut changed, k, set);
-    // Its clause is what is known of a word after the call.
-    words_fit(&changed);
-    changed
 }

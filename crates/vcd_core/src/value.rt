@@ -1,27 +1,31 @@
-ghost use Rattle.std.specs.Prelude.{◌≡◌, ℕ, ◌-◌, ◌<◌, ◌≤◌, ◌↔◌, length, replicate, slice_set, IsTrue};
-ghost use Rattle.vcd_core.specs.Value.{letter_at};
+ghost use Rattle.std.specs.Prelude.{◌≡◌, ℕ, ◌+◌, ◌-◌, ◌*◌, ◌<◌, ◌≤◌, ◌↔◌, length, replicate, slice_set, IsTrue};
+ghost use Rattle.std.specs.Int.{bit_at};
+ghost use Rattle.vcd_core.specs.Value.{letter_at, all_x, same_letters};
+ghost use Rattle.vcd_core.specs.Words.{letters_of, low_bit, high_bit};
 
 use crate::bit::Bit;
-use crate::planes::{filled_plane, letter, plane_bit, with_plane_bit};
+use crate::planes::{
+    letter, plane_bit, plane_word, planes_of_rows, repeated, words_fit, words_in, write_plane_bit,
+};
 use std::fmt;
 use std::marker::Model;
 
 /// How many words of 64 bits a plane of a value has.
-pub const WORDS: usize = 2;
+pub const WORDS: usize = 16;
 
 /// The greatest width of a value, in bits.
-pub const WIDTH_LIMIT: u64 = 128;
+pub const WIDTH_LIMIT: u64 = 1024;
 
 /// A four-state value of 1 to [`WIDTH_LIMIT`] bits (IEEE 1364-2005, 18.2).
 ///
 /// Contracts see the list of its letters, most significant first. Bit `k` counts from 0 at the
 /// least significant end. Two planes of bits tell the letters apart: 0 is 00, 1 is 01, z is 10 and
-/// x is 11, the high plane's bit first.
+/// x is 11, the high plane's bit first. Words of the low and the high plane stand in turn, so that
+/// a value of up to 64 bits has both of its words side by side.
 #[derive(Clone, Copy)]
 pub struct Value {
     width: u64,
-    low: [u64; WORDS],
-    high: [u64; WORDS],
+    planes: [u64; 2 * WORDS],
 }
 
 impl Model for Value {
@@ -49,10 +53,25 @@ impl Value {
         requires most { width ≤ WIDTH_LIMIT }
         ensures { result ≡ replicate width bit }
     {
+        let low = [repeated(bit.is_low()); WORDS];
+        let high = [repeated(bit.is_high()); WORDS];
+        Value::from_words(width, &low, &high)
+    }
+
+    /// The value of `width` bits whose low and high bits two rows of words hold, bit 0 the lowest
+    /// of the first word. What the rows hold from `width` on is not looked at.
+    ///
+    /// A step for each 64 bits.
+    pub fn from_words(width: u64, low: &[u64], high: &[u64]) -> Value
+        requires least { 1 ≤ width }
+        requires most { width ≤ WIDTH_LIMIT }
+        requires low { width ≤ 64 * length low.now }
+        requires high { width ≤ 64 * length high.now }
+        ensures { result ≡ letters_of width low.now high.now }
+    {
         Value {
             width,
-            low: filled_plane(bit.is_low(), width),
-            high: filled_plane(bit.is_high(), width),
+            planes: planes_of_rows(width, low, high),
         }
     }
 
@@ -70,7 +89,7 @@ impl Value {
         requires { k < length self }
         ensures { result ≡ letter_at self k }
     {
-        letter(plane_bit(&self.low, k), plane_bit(&self.high, k))
+        letter(plane_bit(&self.planes, 0, k), plane_bit(&self.planes, 1, k))
     }
 
     /// The value with bit `k` changed to `bit`.
@@ -78,11 +97,38 @@ impl Value {
         requires { k < length self }
         ensures { result ≡ slice_set self (length self - 1 - k) bit }
     {
+        let mut planes = self.planes;
+        write_plane_bit(&mut planes, 0, k, bit.is_low());
+        write_plane_bit(&mut planes, 1, k, bit.is_high());
+        // Its clause is what is known of a word after the calls.
+        words_fit(&planes);
         Value {
             width: self.width,
-            low: with_plane_bit(self.low, k, bit.is_low()),
-            high: with_plane_bit(self.high, k, bit.is_high()),
+            planes,
         }
+    }
+
+    /// The low bits of the letters from bit `64 * k` on, the lowest first; 0 past the width.
+    pub fn word_low(&self, k: usize) -> u64
+        requires { 64 * k < length self.now }
+        ensures { (i : ℕ) → i < 64 → bit_at result i ≡ low_bit self.now (64 * k + i) }
+    {
+        plane_word(&self.planes, 0, k)
+    }
+
+    /// The high bits of the letters from bit `64 * k` on, the lowest first; 0 past the width.
+    pub fn word_high(&self, k: usize) -> u64
+        requires { 64 * k < length self.now }
+        ensures { (i : ℕ) → i < 64 → bit_at result i ≡ high_bit self.now (64 * k + i) }
+    {
+        plane_word(&self.planes, 1, k)
+    }
+
+    /// Whether each bit is x.
+    pub fn is_all_x(&self) -> bool
+        ensures { result ≡ same_letters self.now (all_x (length self.now)) }
+    {
+        *self == Value::filled(self.width, Bit::X)
     }
 }
 
@@ -94,11 +140,11 @@ impl PartialEq for Value {
 
     ghost laws = { same_letters-equiv };
 
-    /// Whether the letters are the same: a comparison of whole words.
+    /// Whether the letters are the same: a comparison of the words in use.
     fn eq(&self, other: &Value) -> bool {
-        let low = self.low == other.low;
-        let high = self.high == other.high;
-        (self.width == other.width) & low & high
+        let used = 2 * words_in(self.width);
+        let same = self.planes[..used] == other.planes[..used];
+        (self.width == other.width) & same
     }
 }
 

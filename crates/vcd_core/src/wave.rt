@@ -1,5 +1,6 @@
-ghost use Rattle.std.specs.Prelude.{◌≡◌, ℕ, ◌+◌, ◌-◌, ◌<◌, ◌≤◌, if◌then◌else◌, nat_lt, nat_le, [], length, drop, slice_range, count_by, IsOk, OnOk, OnErr, All, Any, vec_len, vec_capacity};
+ghost use Rattle.std.specs.Prelude.{◌≡◌, ℕ, ◌+◌, ◌-◌, ◌<◌, ◌≤◌, if◌then◌else◌, nat_lt, nat_le, max, [], ◌∷◌, length, drop, slice_range, count_by, IsOk, OnOk, OnErr, All, Any, vec_len, vec_capacity};
 ghost use Rattle.vcd_core.specs.Wave.{value_at, IsWave, changes_after_push};
+ghost use Rattle.vcd_core.specs.Words.{letters_of};
 ghost use Rattle.vcd_core.specs.Splice.{TicksFit, spliced_changes};
 
 use crate::change_list::{push_change, value_at_end};
@@ -133,6 +134,33 @@ impl Wave {
         Ok(())
     }
 
+    /// Does what [`Wave::push`] does with the value whose low and high bits these two words hold,
+    /// bit 0 the lowest. What they hold from the width on is not looked at.
+    pub fn push_word(&mut self, tick: u64, low: u64, high: u64) -> Result<(), NoMemory>
+        requires width { self.old.width ≤ 64 }
+        requires late { All (λ c. c.tick ≤ tick) self.old.changes }
+
+        ensures changes { let value = letters_of self.old.width (low ∷ []) (high ∷ []) in OnOk result
+            (self.new.changes ≡ changes_after_push self.old.width self.old.changes tick value) }
+        ensures values { let value = letters_of self.old.width (low ∷ []) (high ∷ []) in
+            OnOk result ((t : ℕ) → value_at self.new.width self.new.changes t
+            ≡ (if nat_le tick t then value else value_at self.old.width self.old.changes t)) }
+        ensures last { OnOk result (All (λ c. c.tick ≤ tick) self.new.changes) }
+        ensures width { self.new.width ≡ self.old.width }
+        ensures refused { OnErr result (self.new.changes ≡ self.old.changes) }
+
+        // It succeeds where there is room for one change, or where none is added.
+        ensures in_place { 0 < self.old.room → IsOk result }
+        ensures replaces { Any (λ c. c.tick ≡ tick) self.old.changes → IsOk result }
+        ensures adds_none { let value = letters_of self.old.width (low ∷ []) (high ∷ []) in
+            value_at self.old.width self.old.changes tick ≡ value → IsOk result }
+        ensures room { length self.old.changes + self.old.room
+            ≤ length self.new.changes + self.new.room }
+    {
+        let value = Value::from_words(self.width, &[low], &[high]);
+        self.push(tick, value)
+    }
+
     /// Makes room for `more` changes. The wave stays as it is, also where the memory is refused.
     ///
     /// It takes no memory where that room is there already.
@@ -144,6 +172,21 @@ impl Wave {
         ensures never_less { self.old.room ≤ self.new.room }
     {
         self.changes.reserve(more)?;
+        Ok(())
+    }
+
+    /// Makes room for `more` changes, and no more room than that where memory is taken. The wave
+    /// stays as it is, also where the memory is refused.
+    ///
+    /// It takes no memory where that room is there already.
+    pub fn reserve_exact(&mut self, more: usize) -> Result<(), NoMemory>
+        ensures width { self.new.width ≡ self.old.width }
+        ensures changes { self.new.changes ≡ self.old.changes }
+        ensures room { OnOk result (self.new.room ≡ max self.old.room more) }
+        ensures in_place { more ≤ self.old.room → IsOk result }
+        ensures never_less { self.old.room ≤ self.new.room }
+    {
+        self.changes.reserve_exact(more)?;
         Ok(())
     }
 

@@ -40,7 +40,7 @@ pub mod Knows
 pub mod Declaring
 pub mod DeclaredCount
 pub mod Numbers
-pub mod Extensions
+pub mod LetterWords
 pub mod Changing
 pub mod CodesDiffer
 pub mod Decimals

@@ -8,4 +8,5 @@ pub mod Reading
 pub mod SpacedWords
 pub mod Transitions
 pub mod ValueDigits
+pub mod LetterWords
 pub mod WordWalk

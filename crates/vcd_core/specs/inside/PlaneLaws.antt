@@ -1,5 +1,5 @@
 -- A value is the planes of its letters: what its model needs to give its fields back.
-use Rattle.std.proofs.Common.{◌≡◌, ℕ, zero, suc, ◌+◌, ◌-◌, ◌*◌, ◌/◌, ◌%◌, ◌^◌, ◌<◌, ◌≤◌, nat_lt, true, false, if◌then◌else◌, List, length, get_or, refl, sym, ap, pow-suc, ◌∙◌, arith, inl, inr}
+use Rattle.std.proofs.Common.{◌≡◌, ℕ, zero, suc, ◌+◌, ◌-◌, ◌*◌, ◌/◌, ◌%◌, ◌^◌, ◌<◌, ◌≤◌, nat_lt, nat_eq, true, false, if◌then◌else◌, List, length, get_or, refl, sym, ap, pow-suc, ◌∙◌, arith, inl, inr}
 use Rattle.std.specs.Int.{bit_at}
 use Rattle.std.proofs.lemmas.Nat.Bits.{bit_at-lt, bit_at_cat_low, bit_at_cat_high, same_from_bits_below, bit_at_lowest}
 use Rattle.std.proofs.lemmas.List.FromFn.{get_or-map-range_with_len, length-map-range_with_len}
@@ -10,7 +10,8 @@ use Rattle.vcd_core.specs.declared.bit.Bit.TheVariants.{Zero, One, X, Z}
 use Rattle.vcd_core.specs.declared.value.TheConstants.{WORDS}
 use Rattle.vcd_core.specs.declared.value.Value.TheInside.{Inside}
 use Rattle.vcd_core.specs.Value.{letter_at}
-use Rattle.vcd_core.specs.inside.Planes.{plane_bit, letter_of, low_of, high_of, letters_of, view_value, number, bit_below, plane_of, value_of, IsPlane, IsValue}
+use Rattle.vcd_core.specs.Words.{letter_of, low_of, high_of}
+use Rattle.vcd_core.specs.inside.Planes.{plane_bit, letters_in, view_value, number, bit_in, bit_below, planes_of, value_of, ArePlanes, IsValue}
 
 bit_times-≤ : (b m : ℕ) → b < 2 → b * m ≤ m
 bit_times-≤ zero m small = omega arith
@@ -61,53 +62,62 @@ high_of-letter_of zero (suc high) small = omega arith
 high_of-letter_of (suc _) zero small = refl
 high_of-letter_of (suc _) (suc high) small = omega arith
 
-pub length-letters_of : (width : ℕ) (low high : List ℕ) → length (letters_of width low high) ≡ width
-unfolding letters_of
-length-letters_of width low high = length-map-range_with_len _ 0 width
+bit_in-lt : (plane : ℕ) (b : Bit) → bit_in plane b < 2
+bit_in-lt zero b = low_of-lt b
+bit_in-lt (suc _) b = high_of-lt b
+
+-- the bit of a letter in the plane that it came from
+pub bit_in-letter_of : (plane low high : ℕ) → low < 2 → high < 2 → plane < 2 → (bit : ℕ) → (plane ≡ 0 → bit ≡ low) → (plane ≡ 1 → bit ≡ high) → bit_in plane (letter_of low high) ≡ bit
+bit_in-letter_of zero low high small_low small_high plane bit first second = low_of-letter_of low high small_low ∙ sym (first refl)
+bit_in-letter_of (suc zero) low high small_low small_high plane bit first second = high_of-letter_of low high small_high ∙ sym (second refl)
+bit_in-letter_of (suc (suc _)) low high small_low small_high plane bit first second = absurd (omega arith)
+
+pub length-letters_in : (width : ℕ) (words : List ℕ) → length (letters_in width words) ≡ width
+unfolding letters_in
+length-letters_in width words = length-map-range_with_len _ 0 width
 
 -- the letter at bit k is that of the planes' bits k
-pub letter_at-letters_of : (width : ℕ) (low high : List ℕ) (k : ℕ) → k < width → letter_at (letters_of width low high) k ≡ letter_of (plane_bit low k) (plane_bit high k)
-unfolding letters_of
-letter_at-letters_of width low high k within =
-    let place : length (letters_of width low high) - 1 - k ≡ width - 1 - k = ap (λ n. n - 1 - k) (length-letters_of width low high) in
+pub letter_at-letters_in : (width : ℕ) (words : List ℕ) (k : ℕ) → k < width → letter_at (letters_in width words) k ≡ letter_of (plane_bit 0 words k) (plane_bit 1 words k)
+unfolding letters_in
+letter_at-letters_in width words k within =
+    let place : length (letters_in width words) - 1 - k ≡ width - 1 - k = ap (λ n. n - 1 - k) (length-letters_in width words) in
     let back : width - 1 - (width - 1 - k) ≡ k = omega arith in
-    ap (λ i. get_or (letters_of width low high) i X) place
-    ∙ get_or-map-range_with_len (λ i. letter_of (plane_bit low (width - 1 - i)) (plane_bit high (width - 1 - i))) 0 width (width - 1 - k) (width - 1 - k) X (omega arith) (omega arith)
-    ∙ ap (λ i. letter_of (plane_bit low i) (plane_bit high i)) back
+    ap (λ i. get_or (letters_in width words) i X) place
+    ∙ get_or-map-range_with_len (λ i. letter_of (plane_bit 0 words (width - 1 - i)) (plane_bit 1 words (width - 1 - i))) 0 width (width - 1 - k) (width - 1 - k) X (omega arith) (omega arith)
+    ∙ ap (λ i. letter_of (plane_bit 0 words i) (plane_bit 1 words i)) back
 
--- a plane is the bits of the letters, where f gives back the plane's bit of each
-plane_is : (n width : ℕ) (words : List ℕ) (f : Bit → ℕ) (v : List Bit)
-    → IsPlane n width words → length v ≡ width → ((b : Bit) → f b < 2) → ((k : ℕ) → k < width → f (letter_at v k) ≡ plane_bit words k) → plane_of n f v ≡ words
-unfolding plane_of bit_below plane_bit
-plane_is n width words f v plane long small same =
-    let bit : ℕ → ℕ → ℕ = λ j i. bit_below f v (64 * j + i) in
-    let bits : (j i : ℕ) → bit j i < 2 = λ j i. bit_below-lt (64 * j + i) in
-    let long_plane : length (plane_of n f v) ≡ n = length-map-range_with_len _ 0 n in
-    same_number_lists _ _ (long_plane ∙ sym plane.sized) (λ j within.
-    let below : j < n = omega arith in
-    get_or-map-range_with_len (λ j. number (bit j) 64) 0 n j j 0 below (omega arith)
-    ∙ same_from_bits_below 64 _ _ (number-lt (bit j) 64 (bits j)) (plane.small j 0 (omega (arith, plane.sized))) (λ i inside.
-    let quotient : (64 * j + i) / 64 ≡ j = omega arith in
-    let rest : (64 * j + i) % 64 ≡ i = omega arith in
-    let here : plane_bit words (64 * j + i) ≡ bit_at (get_or words j 0) i = (λ p. bit_at (get_or words (quotient p) 0) (rest p)) in
-    bit_at-number (bit j) 64 i (bits j) inside ∙ at_bit (64 * j + i) (omega arith) ∙ here))
+-- the planes are the bits of the letters
+planes_are : (n width : ℕ) (words : List ℕ) (v : List Bit) → ArePlanes n width words → length v ≡ width
+    → ((plane k : ℕ) → plane < 2 → k < width → bit_in plane (letter_at v k) ≡ plane_bit plane words k) → planes_of n v ≡ words
+unfolding planes_of bit_below plane_bit
+planes_are n width words v planes long same =
+    let bit : ℕ → ℕ → ℕ = λ j i. bit_below (j % 2) v (64 * (j / 2) + i) in
+    let bits : (j i : ℕ) → bit j i < 2 = λ j i. bit_below-lt (j % 2) (64 * (j / 2) + i) in
+    let long_planes : length (planes_of n v) ≡ 2 * n = length-map-range_with_len _ 0 (2 * n) in
+    same_number_lists _ _ (long_planes ∙ sym planes.sized) (λ j within.
+    let below : j < 2 * n = omega arith in
+    get_or-map-range_with_len (λ j. number (bit j) 64) 0 (2 * n) j j 0 below (omega arith)
+    ∙ same_from_bits_below 64 _ _ (number-lt (bit j) 64 (bits j)) (planes.small j 0 (omega (arith, planes.sized))) (λ i inside.
+    let place : 2 * ((64 * (j / 2) + i) / 64) + j % 2 ≡ j = omega arith in
+    let rest : (64 * (j / 2) + i) % 64 ≡ i = omega arith in
+    let here : plane_bit (j % 2) words (64 * (j / 2) + i) ≡ bit_at (get_or words j 0) i = (λ p. bit_at (get_or words (place p) 0) (rest p)) in
+    bit_at-number (bit j) 64 i (bits j) inside ∙ at_bit (j % 2) (64 * (j / 2) + i) (omega arith) (omega arith) ∙ here))
   where
-    bit_below-lt : (k : ℕ) → bit_below f v k < 2
-    bit_below-lt k = elim (nat_lt k (length v)) as (λ b. (if b then f (letter_at v k) else 0) < 2) [ true ↦ small _ | false ↦ omega arith ]
+    bit_below-lt : (plane k : ℕ) → bit_below plane v k < 2
+    bit_below-lt plane k = elim (nat_lt k (length v)) as (λ b. (if b then bit_in plane (letter_at v k) else 0) < 2) [ true ↦ bit_in-lt plane _ | false ↦ omega arith ]
 
-    at_bit : (k : ℕ) → k < 64 * n → bit_below f v k ≡ plane_bit words k
-    at_bit k inside = elim (cases_lt k (length v)) [
-      | inl below ↦ rw (lt-ltb k (length v) below) (same k (omega arith))
-      | inr from ↦ rw (le-ltb k (length v) from) (sym (plane.clear k (omega arith) inside))
+    at_bit : (plane k : ℕ) → plane < 2 → k < 64 * n → bit_below plane v k ≡ plane_bit plane words k
+    at_bit plane k which inside = elim (cases_lt k (length v)) [
+      | inl below ↦ rw (lt-ltb k (length v) below) (same plane k which (omega arith))
+      | inr from ↦ rw (le-ltb k (length v) from) (sym (planes.clear plane k which (omega arith) inside))
     ]
 
 -- a value is given back by its letters
 pub value_of-view_value : (v : Inside) → IsValue v → value_of (view_value v) ≡ v
 unfolding value_of view_value plane_bit
 value_of-view_value v is =
-    let long = length-letters_of v.width v.low v.high in
-    let low = plane_is WORDS v.width v.low low_of (view_value v) is.low long low_of-lt
-    (λ k within. ap low_of (letter_at-letters_of v.width v.low v.high k within) ∙ low_of-letter_of _ _ (bit_at-lt _ _)) in
-    let high = plane_is WORDS v.width v.high high_of (view_value v) is.high long high_of-lt
-    (λ k within. ap high_of (letter_at-letters_of v.width v.low v.high k within) ∙ high_of-letter_of _ _ (bit_at-lt _ _)) in
-    λ p. record { width = long p; low = low p; high = high p }
+    let long = length-letters_in v.width v.planes in
+    let planes = planes_are WORDS v.width v.planes (view_value v) is.planes long
+    (λ plane k which within. ap (bit_in plane) (letter_at-letters_in v.width v.planes k within)
+    ∙ bit_in-letter_of plane _ _ (bit_at-lt _ _) (bit_at-lt _ _) which (plane_bit plane v.planes k) (ap (λ p. plane_bit p v.planes k)) (ap (λ p. plane_bit p v.planes k))) in
+    λ p. record { width = long p; planes = planes p }

@@ -1,12 +1,14 @@
 //! The values that a file writes by letters (IEEE 1364-2005, 18.2).
 
-ghost use Rattle.std.specs.Prelude.{◌≡◌, ◌≤◌, true, false, length, unwrap_or, MatchOption, MatchResult};
+ghost use Rattle.std.specs.Prelude.{◌≡◌, ◌<◌, ◌≤◌, ◌+◌, ℕ, true, false, if◌then◌else◌, length, unwrap_or, MatchOption, MatchResult};
 ghost use Rattle.std.specs.List.{list_all};
+ghost use Rattle.std.specs.Int.{bit_at};
 ghost use Rattle.vcd_core.specs.declared.bit.Bit.TheVariants.{X};
 ghost use Rattle.vcd_text.specs.Letters.{letter_read, is_letter as letter_test, letters_read, pad_letter, extension};
 ghost use Rattle.vcd_text.specs.inside.ValueDigits.{WritesValue, WritesNoValue};
+ghost use Rattle.vcd_text.specs.inside.LetterWords.{digits_of, HoldsLetters};
 
-use vcd_core::{Bit, Value, WIDTH_LIMIT};
+use vcd_core::{Bit, Value, WIDTH_LIMIT, WORDS, repeated, words_in};
 
 /// Why digits write no value of a width.
 #[derive(Clone, Copy, Debug, PartialEq, Eq)]
@@ -30,8 +32,8 @@ pub fn bit_of(letter: u8) -> Option<Bit>
     }
 }
 
-/// The value of `width` bits that the digits write, extended on the left. It takes a step a digit, and no
-/// memory.
+/// The value of `width` bits that the digits write, extended on the left. It takes a step a digit and one for
+/// each 64 bits, and no memory.
 pub fn read_value(width: u64, digits: &[u8]) -> Result<Value, DigitsError>
     requires least { 1 ≤ width }
     requires most { width ≤ WIDTH_LIMIT }
@@ -65,7 +67,8 @@ pub fn is_letter(byte: u8) -> bool
     bit_of(byte).is_some()
 }
 
-/// The digits as letters, with those that are wanting on the left; none where one is no value letter.
+/// The digits as letters, with those that are wanting on the left, a word of 64 at a time; none where one is no
+/// value letter.
 fn extended_value(width: u64, digits: &[u8]) -> Option<Value>
     requires least { 1 ≤ width }
     requires most { width ≤ WIDTH_LIMIT }
@@ -74,14 +77,56 @@ fn extended_value(width: u64, digits: &[u8]) -> Option<Value>
         (list_all letter_test digits.now ≡ true) ×
         (value ≡ extension width (letters_read digits.now))) }
 {
-    let mut value = Value::filled(width, pad_of(digits));
-    let mut left = digits.len() as u64;
+    let pad = pad_of(digits);
+    let mut low = [0; WORDS];
+    let mut high = [0; WORDS];
+    for k in 0..words_in(width) {
+        let word = word_read(pad, digits_of_word(digits, k))?;
+        low[k] = word.low;
+        high[k] = word.high;
+    }
+    Some(Value::from_words(width, &low, &high))
+}
+
+/// The digits of the 64 letters from bit `64 * k` on, of which there may be fewer.
+fn digits_of_word(digits: &[u8], k: usize) -> &[u8]
+    requires { k < WORDS }
+    ensures { result.now ≡ digits_of digits.now k }
+{
+    let end = digits.len().saturating_sub(64 * k);
+    &digits[end.saturating_sub(64)..end]
+}
+
+/// The low and the high bits of 64 letters, the last of them lowest.
+#[derive(Clone, Copy)]
+struct LetterWord {
+    low: u64,
+    high: u64,
+}
+
+/// The letters of at most 64 digits, behind as many `pad` as are wanting; none where one is no value letter.
+fn word_read(pad: Bit, digits: &[u8]) -> Option<LetterWord>
+    requires { length digits.now ≤ 64 }
+    ensures { MatchOption result (list_all letter_test digits.now ≡ false) (λ word.
+        (list_all letter_test digits.now ≡ true) ×
+        HoldsLetters pad (letters_read digits.now) word.low word.high) }
+{
+    let mut low = repeated(pad.is_low());
+    let mut high = repeated(pad.is_high());
     for digit in digits {
         let letter = bit_of(*digit)?;
-        left -= 1;
-        value = value.with_bit(left, letter);
+        low = with_lowest(low, letter.is_low());
+        high = with_lowest(high, letter.is_high());
     }
-    Some(value)
+    Some(LetterWord { low, high })
+}
+
+/// The word with another bit below the others, of which the highest is lost.
+fn with_lowest(word: u64, set: bool) -> u64
+    ensures first { bit_at result 0 ≡ (if set then 1 else 0) }
+    ensures rest { (i : ℕ) → i + 1 < 64 → bit_at result (i + 1) ≡ bit_at word i }
+{
+    (word << 1) | u64::from(set)
 }
 
 /// The letter that is put on the left of digits.

@@ -1,0 +1,19 @@
+-- Letters that are read 64 at a time, from the last.
+use Rattle.std.specs.Prelude.{ℕ, ◌≡◌, ◌-◌, ◌*◌, ◌<◌, if◌then◌else◌, nat_lt, List, length, slice_range}
+use Rattle.std.specs.Int.{bit_at}
+use Rattle.vcd_core.specs.declared.bit.Bit.{Bit}
+use Rattle.vcd_core.specs.Value.{letter_at}
+use Rattle.vcd_core.specs.Words.{low_of, high_of}
+
+-- the digits of the 64 letters from bit 64 * k on
+abbrev pub digits_of : List ℕ → ℕ → List ℕ
+digits_of digits k = let end = length digits - 64 * k in slice_range digits (end - 64) end
+
+-- the letter at bit k of a text, with this letter in the place of those that are wanting on the left
+abbrev pub letter_or : Bit → List Bit → ℕ → Bit
+letter_or pad s k = if nat_lt k (length s) then letter_at s k else pad
+
+-- two words hold the low and the high bits of the letters
+pub record HoldsLetters (pad : Bit) (s : List Bit) (lows highs : ℕ) : Type 0 where
+  pub low : (i : ℕ) → i < 64 → bit_at lows i ≡ low_of (letter_or pad s i)
+  pub high : (i : ℕ) → i < 64 → bit_at highs i ≡ high_of (letter_or pad s i)
