@@ -44,8 +44,9 @@ pub use laws::{
     splice_back_is_allowed, values_of_changes,
 };
 pub use memory::NoMemory;
+pub use planes::{repeated, words_in};
 pub use seq::Seq;
 pub use splicing::moved_change;
-pub use value::{Value, WIDTH_LIMIT};
+pub use value::{Value, WIDTH_LIMIT, WORDS};
 pub use wave::{Change, Wave};
 pub use word::{is_skipped_kind, is_white_space, is_word};

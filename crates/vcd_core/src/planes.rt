@@ -9,8 +9,8 @@ use crate::bit::Bit;
 use crate::value::WORDS;
 
 impl Bit {
-    /// Whether the letter's bit in the low plane is set.
-    pub(crate) fn is_low(self) -> bool
+    /// Whether the letter's low bit is set: those of 1 and x.
+    pub fn is_low(self) -> bool
         ensures { low_of self ≡ (if result then 1 else 0) }
     {
         match self {
@@ -19,8 +19,8 @@ impl Bit {
         }
     }
 
-    /// Whether the letter's bit in the high plane is set.
-    pub(crate) fn is_high(self) -> bool
+    /// Whether the letter's high bit is set: those of x and z.
+    pub fn is_high(self) -> bool
         ensures { high_of self ≡ (if result then 1 else 0) }
     {
         match self {
@@ -42,8 +42,8 @@ pub(crate) fn letter(low: bool, high: bool) -> Bit
     }
 }
 
-/// How many words of a plane the bits of a width take.
-pub(crate) fn words_in(width: u64) -> usize
+/// How many words of 64 bits a width takes.
+pub fn words_in(width: u64) -> usize
     requires { width ≤ 64 * WORDS }
     ensures fits { width ≤ 64 * result }
     ensures least { 64 * result < width + 64 }
@@ -120,8 +120,8 @@ pub(crate) fn planes_of_rows(width: u64, low: &[u64], high: &[u64]) -> [u64; 2 *
     words
 }
 
-/// The word whose bits are all set, or all clear.
-pub(crate) fn repeated(set: bool) -> u64
+/// The word whose 64 bits are all set, or all clear.
+pub fn repeated(set: bool) -> u64
     ensures { (i : ℕ) → i < 64 → bit_at result i ≡ (if set then 1 else 0) }
 {
     if set { u64::MAX } else { 0 }
