@@ -42,6 +42,14 @@ other_letter pad s b i =
       | inr past ↦ past_text pad (s ++ b ∷ []) (i + 1) (omega (arith, long)) ∙ sym (past_text pad s i past)
     ]
 
+-- words of one letter hold no others
+pub none_held : (pad : Bit) (low high : ℕ) → ((i : ℕ) → i < 64 → bit_at low i ≡ low_of pad) → ((i : ℕ) → i < 64 → bit_at high i ≡ high_of pad)
+    → HoldsLetters pad [] low high
+none_held pad low high lows highs = record {
+  low = λ i inside. lows i inside ∙ sym (ap low_of (past_text pad [] i (omega arith)));
+  high = λ i inside. highs i inside ∙ sym (ap high_of (past_text pad [] i (omega arith)));
+}
+
 -- words whose lowest bit is a letter's, and whose others are those of words that hold letters
 pub holds_more : (pad : Bit) (s : List Bit) (b : Bit) (low high low' high' : ℕ) → HoldsLetters pad s low high
     → bit_at low' 0 ≡ low_of b → ((i : ℕ) → i + 1 < 64 → bit_at low' (i + 1) ≡ bit_at low i)

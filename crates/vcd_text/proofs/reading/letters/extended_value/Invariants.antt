@@ -1,12 +1,15 @@
-use Rattle.std.proofs.Common.{◌≡◌, ◌+◌, true, length, take}
+-- The letters of the words so far stand in the rows.
+use Rattle.std.proofs.Common.{◌≡◌, ◌-◌, ◌*◌, true, drop, length}
 use Rattle.std.specs.List.{list_all}
-use Rattle.vcd_text.specs.Letters.{is_letter}
-use Rattle.vcd_text.proofs.Extensions.{part_written}
+use Rattle.vcd_core.specs.declared.value.TheConstants.{WORDS}
+use Rattle.vcd_text.specs.Letters.{is_letter, letters_read}
+use Rattle.vcd_text.proofs.LetterWords.{RowsHold}
 use Rattle.vcd_text.proofs.reading.letters.extended_value.Given as goal
 
-abbrev pub invariant-loop-digit : goal.invariant-loop-digit
-invariant-loop-digit l = record {
-  written : l.value ≡ part_written l.width l.digits l.digit-index l.left;
-  letters : list_all is_letter (take l.digit-index l.digits) ≡ true;
-  counted : l.digit-index + l.left ≡ length l.digits;
+abbrev pub invariant-loop-k : goal.invariant-loop-k
+invariant-loop-k l = record {
+  rows : RowsHold l.pad (letters_read l.digits) l.k l.low l.high;
+  letters : list_all is_letter (drop (length l.digits - 64 * l.k) l.digits) ≡ true;
+  sized : length l.low ≡ WORDS;
+  sized_high : length l.high ≡ WORDS;
 }
