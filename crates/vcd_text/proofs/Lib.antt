@@ -26,7 +26,6 @@ pub mod Values
 pub mod Scopes
 pub mod Walks
 pub mod Near
-pub mod PlacedLetters
 pub mod Sorting
 pub mod Counts
 pub mod Listing

@@ -1,13 +1,13 @@
 //! Values as they are printed: one letter, or `b` and the short form.
 
-ghost use Rattle.std.specs.Prelude.{◌≡◌, ℕ, List, ◌<◌, ◌≤◌, ◌++◌, ◌∷◌, [], length, drop, slice_range, OnOk};
+ghost use Rattle.std.specs.Prelude.{◌≡◌, ℕ, List, ◌<◌, ◌≤◌, ◌++◌, ◌∷◌, [], length, drop, OnOk};
 ghost use Rattle.vcd_core.specs.Value.{same_letter};
 ghost use Rattle.vcd_core.specs.declared.capture.TheConstants.{SIGNAL_LIMIT};
 ghost use Rattle.vcd_text.specs.Letters.{pad_letter, printed_letters, short_form};
 ghost use Rattle.vcd_text.specs.Text.{code_of, item_line, value_item};
 
 use super::codes::append_code;
-use vcd_core::{Bit, NoMemory, Value, WIDTH_LIMIT};
+use vcd_core::{Bit, NoMemory, Value};
 
 /// Appends the line that gives a value to the signal at `position`. It looks at each bit twice at most.
 pub fn append_value(out: &mut Vec<u8>, position: usize, value: Value) -> Result<(), NoMemory>
@@ -31,38 +31,36 @@ fn append_digits(out: &mut Vec<u8>, value: Value) -> Result<(), NoMemory>
         return Ok(());
     }
     out.push(b'b')?;
-    append_short(out, value)?;
+    append_short(out, &value)?;
     out.push(b' ')?;
     Ok(())
 }
 
 /// Appends the letters of the shortest text whose extension is the value (IEEE 1364-2005, 18.2).
-fn append_short(out: &mut Vec<u8>, value: Value) -> Result<(), NoMemory>
-    ensures { OnOk result (out.new.items ≡ out.old.items ++ printed_letters (short_form value)) }
+fn append_short(out: &mut Vec<u8>, value: &Value) -> Result<(), NoMemory>
+    ensures { OnOk result (out.new.items ≡
+        out.old.items ++ printed_letters (short_form value.now)) }
 {
-    let spare = spare_letters(value);
-    let letters = letters_from(value, spare);
-    out.extend_from_slice(&letters[spare as usize..value.width() as usize])?;
+    append_letters_from(out, value, spare_letters(value))
+}
+
+/// Appends the letters of a value from the one at `first` on, counted from the most significant.
+fn append_letters_from(out: &mut Vec<u8>, value: &Value, first: u64) -> Result<(), NoMemory>
+    requires { first ≤ length value.now }
+    ensures { OnOk result (out.new.items ≡
+        out.old.items ++ printed_letters (drop first value.now)) }
+{
+    let width = value.width();
+    for k in first..width {
+        out.push(value.bit(width - 1 - k).letter())?;
+    }
     Ok(())
 }
 
-/// The letters of a value as they are printed, from the one at `first` on, each at its place.
-fn letters_from(value: Value, first: u64) -> [u8; WIDTH_LIMIT as usize]
-    requires { first ≤ length value }
-    ensures { slice_range result first (length value) ≡ printed_letters (drop first value) }
-{
-    let width = value.width();
-    let mut letters = [0; WIDTH_LIMIT as usize];
-    for k in first..width {
-        letters[k as usize] = value.bit(width - 1 - k).letter();
-    }
-    letters
-}
-
 /// How many letters at the front the short form leaves out: those that the extension puts there again.
-fn spare_letters(value: Value) -> u64
-    ensures within { result < length value }
-    ensures rest { drop result value ≡ short_form value }
+fn spare_letters(value: &Value) -> u64
+    ensures within { result < length value.now }
+    ensures rest { drop result value.now ≡ short_form value.now }
 {
     let last = value.width() - 1;
     for k in 0..last {
