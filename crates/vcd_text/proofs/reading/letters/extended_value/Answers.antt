@@ -40,8 +40,8 @@ returns c =
     let long : length (letters_read digits) ≤ c.args.width = omega (arith, c.requires.fits, length-map digits (λ b. unwrap_or (letter_read b) X)) in (
       sym (ap (λ n. list_all is_letter (drop n digits)) none) ∙ c.loop-k.invariant.letters,
       c.from_words.ensures
-      ∙ rows_are_extension c.args.width c.loop-k.k (letters_read digits) c.loop-k.low c.loop-k.high long (omega (arith, c.words_in-k-end.ensures.fits, c.loop-k-test.false))
-      (subst (λ pad. RowsHold pad (letters_read digits) c.loop-k.k c.loop-k.low c.loop-k.high) c.pad_of-pad.ensures c.loop-k.invariant.rows),
+          ∙ rows_are_extension c.args.width c.loop-k.k (letters_read digits) c.loop-k.low c.loop-k.high long (omega (arith, c.words_in-k-end.ensures.fits, c.loop-k-test.false))
+          (subst (λ pad. RowsHold pad (letters_read digits) c.loop-k.k c.loop-k.low c.loop-k.high) c.pad_of-pad.ensures c.loop-k.invariant.rows),
     )
 
 pub returns-in_err-word : goal.returns-in_err-word
