@@ -54,6 +54,16 @@ fn changes_before_a_tick_are_counted(rt: HostRuntime) -> Result<(), Fail> {
     assert!(rt; wave.count_until(0) == 0);
     assert!(rt; wave.count_until(5) == 1);
     assert!(rt; wave.count_until(6) == 2);
+    assert!(rt; wave.count_near(0, 9) == 3);
+    assert!(rt; wave.count_near(1000, 4) == 1);
+    Ok(())
+}
+
+#[test]
+fn a_value_is_pushed_by_its_words(rt: HostRuntime) -> Result<(), Fail> {
+    let mut wave = Wave::new(rt.alloc(), 4);
+    wave.push_word(2, 0b0011, 0b1010)?;
+    assert!(rt; format!(in rt.alloc(); "{:?}", wave.at(2))?.as_str() == "z0x1");
     Ok(())
 }
 
@@ -72,6 +82,7 @@ fn the_greatest_tick_of_the_widest_wave(rt: HostRuntime) -> Result<(), Fail> {
 fn room_is_made(rt: HostRuntime) -> Result<(), Fail> {
     let mut wave = wave_of(rt.alloc(), "1@3 0@5")?;
     assert!(rt; wave.reserve(1000) == Ok(()));
+    assert!(rt; wave.reserve_exact(2000) == Ok(()));
     assert!(rt; wave.changes().len() == 2);
     Ok(())
 }
