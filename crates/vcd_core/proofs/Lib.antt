@@ -10,3 +10,4 @@ pub mod Waves
 pub mod Pushes
 pub mod Splices
 pub mod Searches
+pub mod Shifts

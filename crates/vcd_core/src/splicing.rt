@@ -139,7 +139,100 @@ fn exchange(changes: &mut Vec<Change>, from: usize, to: usize, piece: &mut Vec<C
     }
 }
 
-/// A splice of two lists, with the room for both.
+/// The changes from `to` on come down to `from`, each moved by `by` ticks as it is copied; what stands
+/// behind them is left over.
+fn pull_down(changes: &mut [Change], from: usize, to: usize, by: i64)
+    requires ordered { from ≤ to }
+    requires within { to ≤ length changes.old }
+    requires fit { TicksFit by (drop to changes.old) }
+    ensures front { take (length changes.old - (to - from)) changes.new
+        ≡ take from changes.old ++ map (moved_change by) (drop to changes.old) }
+    ensures len { length changes.new ≡ length changes.old }
+{
+    let gap = to - from;
+    for i in to..changes.len() {
+        // A function of the item, so that the loop is a `map` to the prover.
+        let next = moved_change(&changes[i], by);
+        changes[i - gap] = next;
+    }
+}
+
+/// The changes from `from` on, as far as the last `gap`, go up by `gap` places, each moved by `by` ticks as it
+/// is copied; what stood in the gap is left over.
+fn push_up(changes: &mut [Change], from: usize, gap: usize, by: i64)
+    requires within { from + gap ≤ length changes.old }
+    requires fit { TicksFit by (drop from (take (length changes.old - gap) changes.old)) }
+    ensures { changes.new ≡ take (from + gap) changes.old
+        ++ map (moved_change by) (drop from (take (length changes.old - gap) changes.old)) }
+{
+    let mut left = changes.len() - gap;
+    while left > from {
+        left -= 1;
+        let next = moved_change(&changes[left], by);
+        changes[left + gap] = next;
+    }
+}
+
+/// The changes at positions `from` up to before `to` go into the piece, which is empty, and the later
+/// ones come down with their new ticks.
+fn take_out(changes: &mut Vec<Change>, from: usize, to: usize, piece: &mut Vec<Change>, by: i64)
+    requires ordered { from ≤ to }
+    requires within { to ≤ vec_len changes.old }
+    requires empty { vec_len piece.old ≡ 0 }
+    requires piece_room { to - from ≤ vec_capacity piece.old }
+    requires fit { TicksFit by (drop to changes.old.items) }
+    ensures changes { changes.new.items ≡ take from changes.old.items
+        ++ map (moved_change by) (drop to changes.old.items) }
+    ensures piece { piece.new.items ≡ slice_range changes.old.items from to }
+    ensures capacity { vec_capacity changes.new ≡ vec_capacity changes.old }
+    ensures piece_capacity { vec_capacity piece.old ≤ vec_capacity piece.new }
+{
+    let kept = changes.len() - (to - from);
+    piece.extend_from_slice(&changes[from..to]).unwrap();
+    pull_down(changes.as_mut_slice(), from, to, by);
+    changes.truncate(kept);
+}
+
+/// The changes of the piece go into the list at `from`, and the later ones go up with their new ticks.
+fn put_in(changes: &mut Vec<Change>, from: usize, piece: &mut Vec<Change>, by: i64)
+    requires within { from ≤ vec_len changes.old }
+    requires room { vec_len changes.old + vec_len piece.old ≤ vec_capacity changes.old }
+    requires fit { TicksFit by (drop from changes.old.items) }
+    ensures changes { changes.new.items ≡ take from changes.old.items ++ piece.old.items
+        ++ map (moved_change by) (drop from changes.old.items) }
+    ensures piece { vec_len piece.new ≡ 0 }
+    ensures capacity { vec_capacity changes.old ≤ vec_capacity changes.new }
+    ensures piece_capacity { vec_capacity piece.new ≡ vec_capacity piece.old }
+{
+    let gap = piece.len();
+    changes.extend_from_slice(piece.as_slice()).unwrap();
+    push_up(changes.as_mut_slice(), from, gap, by);
+    swap_fronts(changes, from, piece, gap);
+    piece.truncate(0);
+}
+
+/// A splice of a piece and a part of which neither is empty: both change places, then the later
+/// changes move.
+fn splice_both(changes: &mut Vec<Change>, from: usize, to: usize, piece: &mut Vec<Change>, by: i64)
+    requires ordered { from ≤ to }
+    requires within { to ≤ vec_len changes.old }
+    requires room { vec_len changes.old + vec_len piece.old
+        ≤ vec_capacity changes.old + (to - from) }
+    requires piece_room { to - from ≤ vec_capacity piece.old }
+    requires fit { TicksFit by (drop to changes.old.items) }
+    ensures changes { changes.new.items
+        ≡ spliced_changes changes.old.items from to piece.old.items by }
+    ensures piece { piece.new.items ≡ slice_range changes.old.items from to }
+    ensures capacity { vec_capacity changes.old ≤ vec_capacity changes.new }
+    ensures piece_capacity { vec_capacity piece.old ≤ vec_capacity piece.new }
+{
+    let seam = from + piece.len();
+    exchange(changes, from, to, piece);
+    move_tail(changes.as_mut_slice(), seam, by);
+}
+
+/// A splice of two lists, with the room for both. Where the piece or the part is empty, each later
+/// change is copied once.
 pub(crate) fn splice_changes(
     changes: &mut Vec<Change>,
     from: usize,
@@ -159,7 +252,13 @@ pub(crate) fn splice_changes(
     ensures capacity { vec_capacity changes.old ≤ vec_capacity changes.new }
     ensures piece_capacity { vec_capacity piece.old ≤ vec_capacity piece.new }
 {
-    let seam = from + piece.len();
-    exchange(changes, from, to, piece);
-    move_tail(changes.as_mut_slice(), seam, by);
+    if piece.is_empty() {
+        take_out(changes, from, to, piece, by);
+        return;
+    }
+    if from == to {
+        put_in(changes, from, piece, by);
+        return;
+    }
+    splice_both(changes, from, to, piece, by);
 }

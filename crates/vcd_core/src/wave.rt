@@ -193,8 +193,9 @@ impl Wave {
     /// The changes at positions `from` up to before `to` and the contents of `piece` change places,
     /// and the later changes move by `by` ticks.
     ///
-    /// It takes no memory, so each list has the room for what the other gives. Each change is moved
-    /// a bounded number of times: the cost is the piece and the changes from `from` on.
+    /// It takes no memory, so each list has the room for what the other gives. The cost is the piece
+    /// and the changes from `from` on; where the piece or the range is empty, each later change is
+    /// copied once.
     pub fn splice(&mut self, from: usize, to: usize, piece: &mut Vec<Change>, by: i64)
         requires ordered { from ≤ to }
         requires within { to ≤ length self.old.changes }

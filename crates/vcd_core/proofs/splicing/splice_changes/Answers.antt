@@ -1,19 +1,22 @@
-use Rattle.std.proofs.Common.{w64, arith, ◌∙◌, ◌+◌}
+use Rattle.std.proofs.Common.{rules, w64, ℤ, ◌≡◌, ◌++◌, length, take, drop, map, ap, ◌∙◌}
 use Rattle.std.proofs.lemmas.Int.{to_z-of_z}
-use Rattle.vcd_core.proofs.Splices.{tail_fits, spliced_is, whole_list, length_kept}
+use Rattle.vcd_core.specs.Splice.{moved_change, spliced_changes}
+use Rattle.vcd_core.proofs.Shifts.{empty_piece}
 use Rattle.vcd_core.proofs.splicing.splice_changes.Goals as goal
 
-pub move_tail-requires-clause-fit : goal.move_tail-requires-clause-fit
-move_tail-requires-clause-fit c =
-    tail_fits c.args.changes.now.items c.args.piece.now.items c.as_mut_slice.result.now c.args.from c.args.to (c.args.from + c.len.result) c.args.by _
-    (to_z-of_z w64 c.args.by c.ranges.by) (omega arith) c.requires.ordered (omega arith)
-    (c.as_mut_slice.ensures.value ∙ c.exchange.ensures.changes) c.requires.fit
+pub returns-then-is_empty-clause-changes : goal.returns-then-is_empty-clause-changes
+unfolding spliced_changes
+returns-then-is_empty-clause-changes c =
+    let xs = c.args.changes.now.items in
+    let none : length c.args.piece.now.items ≡ 0 = search rules in
+    c.take_out.ensures.changes ∙ ap (λ (by : ℤ). take c.args.from xs ++ map (moved_change by) (drop c.args.to xs)) (to_z-of_z w64 c.args.by c.ranges.by)
+    ∙ empty_piece (take c.args.from xs) c.args.piece.now.items _ none
 
-pub returns-clause-changes : goal.returns-clause-changes
-returns-clause-changes c =
-    let list = c.as_mut_slice.result.now in
-    let long = length_kept _ list c.move_tail.new.changes (c.args.from + c.len.result) c.move_tail.ensures in
-    whole_list c.exchange.new.changes.len c.move_tail.new.changes c.exchange.new.changes.items (omega (arith, long, c.as_mut_slice.ensures.len))
-    ∙ spliced_is c.args.changes.now.items c.args.piece.now.items list c.args.from c.args.to (c.args.from + c.len.result) c.args.by _
-    (to_z-of_z w64 c.args.by c.ranges.by) (omega arith) c.requires.ordered (omega arith)
-    (c.as_mut_slice.ensures.value ∙ c.exchange.ensures.changes) c.move_tail.new.changes c.move_tail.ensures
+pub returns-then-from-to-clause-changes : goal.returns-then-from-to-clause-changes
+unfolding spliced_changes
+returns-then-from-to-clause-changes c =
+    let xs = c.args.changes.now.items in
+    let piece = c.args.piece.now.items in
+    c.put_in.ensures.changes
+    ∙ ap (λ (by : ℤ). take c.args.from xs ++ piece ++ map (moved_change by) (drop c.args.from xs)) (to_z-of_z w64 c.args.by c.ranges.by)
+    ∙ ap (λ n. take c.args.from xs ++ piece ++ map (moved_change c.args.by) (drop n xs)) c.if-from-to.true
