@@ -14,7 +14,7 @@ ghost use Rattle.vcd_text.specs.declared.reading.variables.Owner.TheVariants.{Ke
 
 use crate::fault::Fault;
 use crate::reading::decimal::size_of;
-use crate::reading::letters::{DigitsError, read_value};
+use crate::reading::letters::{DigitsError, read_value, read_word};
 use indexmap::IndexMap;
 use std::alloc::Global;
 use vcd_core::{
@@ -41,12 +41,32 @@ impl Variable {
         ensures refuses { IfErr result (λ fault. (fault ≡ NoMemoryFault) ⊎
             RefusesDigits self.old.signal.wave.width digits.now fault) }
     {
+        if self.signal.wave.width() <= 64 {
+            return self.set_word(tick, digits);
+        }
         let value = match read_value(self.signal.wave.width(), digits) {
             Ok(value) => value,
             Err(DigitsError::NoValue) => return Err(Fault::BadChange),
             Err(DigitsError::TooLong) => return Err(Fault::ValueTooLong),
         };
         self.signal.wave.push(tick, value)?;
+        Ok(())
+    }
+
+    /// Sets the value of a variable of at most 64 bits, by words alone.
+    fn set_word(&mut self, tick: u64, digits: &[u8]) -> Result<(), Fault>
+        requires narrow { self.old.signal.wave.width ≤ 64 }
+        requires late { All (λ change. change.tick ≤ tick) self.old.signal.wave.changes }
+        ensures sets { OnOk result (Sets tick digits.now self.old self.new) }
+        ensures refuses { IfErr result (λ fault. (fault ≡ NoMemoryFault) ⊎
+            RefusesDigits self.old.signal.wave.width digits.now fault) }
+    {
+        let word = match read_word(self.signal.wave.width(), digits) {
+            Ok(word) => word,
+            Err(DigitsError::NoValue) => return Err(Fault::BadChange),
+            Err(DigitsError::TooLong) => return Err(Fault::ValueTooLong),
+        };
+        self.signal.wave.push_word(tick, word.low, word.high)?;
         Ok(())
     }
 }
