@@ -1,11 +1,12 @@
-use Rattle.std.proofs.Common.{◌≡◌, ◌≤◌, ℕ, List, [], ◌∷◌, Option, Some, None, length, subst, arith}
+use Rattle.std.proofs.Common.{◌≡◌, ◌≤◌, true, false, ℕ, List, [], ◌∷◌, Option, Some, None, length, subst, arith}
 use Rattle.std.specs.Prelude.{MatchOption, unwrap_or}
+use Rattle.std.specs.List.{list_all}
 use Rattle.std.proofs.lemmas.List.{length-map}
 use Rattle.vcd_core.specs.declared.bit.Bit.{Bit}
 use Rattle.vcd_core.specs.declared.bit.Bit.TheVariants.{X}
 use Rattle.vcd_core.specs.Words.{letters_of}
 use Rattle.vcd_text.specs.declared.reading.letters.LetterWord.{LetterWord}
-use Rattle.vcd_text.specs.Letters.{letter_read, letters_read, pad_letter, extension}
+use Rattle.vcd_text.specs.Letters.{is_letter, letter_read, letters_read, pad_letter, extension}
 use Rattle.vcd_text.specs.inside.LetterWords.{HoldsLetters}
 use Rattle.vcd_text.proofs.LetterWords.{word_is_extension}
 use Rattle.vcd_text.proofs.reading.letters.extended_word.Goals as goal
@@ -22,4 +23,4 @@ pub returns : goal.returns
 returns c =
     let digits = c.args.digits.now in
     let long : length (letters_read digits) ≤ c.args.width = omega (arith, c.requires.fits, length-map digits (λ b. unwrap_or (letter_read b) X)) in
-    of_the_word c.args.width (letters_read digits) _ _ _ _ long c.requires.narrow c.pad_of.ensures c.word_read.ensures
+    of_the_word c.args.width (letters_read digits) c.pad_of.result (list_all is_letter digits ≡ false) (list_all is_letter digits ≡ true) c.word_read.result long c.requires.narrow c.pad_of.ensures c.word_read.ensures
