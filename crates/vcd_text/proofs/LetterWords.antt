@@ -186,3 +186,17 @@ rows_are_extension width count s lows highs fits covers rows =
     letter_at-letters_of width lows highs i inside
     ∙ (λ p. letter_of (rows.low i (omega arith) p) (rows.high i (omega arith) p))
     ∙ letter_of-letter (letter_or pad s i) ∙ sym (extension_letter width s i fits inside))
+
+-- a word that holds all letters is the extension, where the width is at most 64
+pub word_is_extension : (width : ℕ) (s : List Bit) (low high : ℕ) → length s ≤ width → width ≤ 64
+    → HoldsLetters (pad_letter s) s low high → letters_of width (low ∷ []) (high ∷ []) ≡ extension width s
+unfolding row_bit
+word_is_extension width s low high fits narrow holds =
+    let bit : (w i : ℕ) → i < 64 * 1 → row_bit (w ∷ []) i ≡ bit_at w i = λ w i inside.
+    let none : i / 64 ≡ 0 = omega arith in
+    let same : i % 64 ≡ i = omega arith in
+    (λ p. bit_at (get_or (w ∷ []) (none p) 0) (same p)) in
+    rows_are_extension width 1 s (low ∷ []) (high ∷ []) fits (omega arith) (record {
+      low = λ i inside. bit low i inside ∙ holds.low i (omega arith);
+      high = λ i inside. bit high i inside ∙ holds.high i (omega arith);
+    })

@@ -15,7 +15,6 @@ ghost use Rattle.vcd_text.specs.inside.Reading.{Reads, ReadsAll};
 
 mod binary_number;
 mod changes;
-mod copies;
 mod decimal;
 mod declarations;
 mod keywords;

@@ -1,9 +1,10 @@
 //! The values that a file writes by binary digits (IEEE 1364-2005, 18.2).
 
-ghost use Rattle.std.specs.Prelude.{◌≡◌, ◌<◌, ◌≤◌, ◌+◌, ℕ, true, false, if◌then◌else◌, length, unwrap_or, MatchOption, MatchResult};
+ghost use Rattle.std.specs.Prelude.{◌≡◌, ◌<◌, ◌≤◌, ◌+◌, ℕ, true, false, if◌then◌else◌, [], ◌∷◌, length, unwrap_or, MatchOption, MatchResult};
 ghost use Rattle.std.specs.List.{list_all};
 ghost use Rattle.std.specs.Int.{bit_at};
 ghost use Rattle.vcd_core.specs.declared.bit.Bit.TheVariants.{X};
+ghost use Rattle.vcd_core.specs.Words.{letters_of};
 ghost use Rattle.vcd_text.specs.Letters.{letter_of_digit, is_binary_digit as digit_test, letters_of_digits, value_of_digits as digits_value, pad_letter, extension};
 ghost use Rattle.vcd_text.specs.inside.ValueDigits.{WritesValue, WritesNoValue};
 ghost use Rattle.vcd_text.specs.inside.LetterWords.{digits_of, HoldsLetters};
@@ -40,17 +41,49 @@ pub fn read_value(width: u64, digits: &[u8]) -> Result<Value, BinaryNumberError>
     ensures { MatchResult result (λ value. WritesValue width digits.now value)
         (λ error. WritesNoValue width digits.now error) }
 {
+    refuse_count(width, digits)?;
+    extended_value(width, digits).ok_or(BinaryNumberError::NoValue)
+}
+
+/// The value of `width` bits, at most 64, that the digits write, extended on the left, by its two words. It takes
+/// a step a digit, and no memory.
+pub fn read_word(width: u64, digits: &[u8]) -> Result<LetterWord, BinaryNumberError>
+    requires { width ≤ 64 }
+    ensures { MatchResult result
+        (λ word. WritesValue width digits.now (letters_of width (word.low ∷ []) (word.high ∷ [])))
+        (λ error. WritesNoValue width digits.now error) }
+{
+    refuse_count(width, digits)?;
+    extended_word(width, digits).ok_or(BinaryNumberError::NoValue)
+}
+
+/// The digits as letters, with those that are wanting on the left; none where one is no binary digit.
+fn extended_word(width: u64, digits: &[u8]) -> Option<LetterWord>
+    requires narrow { width ≤ 64 }
+    requires fits { length digits.now ≤ width }
+    ensures { MatchOption result (list_all digit_test digits.now ≡ false) (λ word.
+        (list_all digit_test digits.now ≡ true) ×
+        (letters_of width (word.low ∷ []) (word.high ∷ [])
+        ≡ extension width (letters_of_digits digits.now))) }
+{
+    word_read(pad_of(digits), digits)
+}
+
+/// Refuses digits that are none, or more than the width.
+fn refuse_count(width: u64, digits: &[u8]) -> Result<(), BinaryNumberError>
+    ensures { MatchResult result (λ _. (0 < length digits.now) × (length digits.now ≤ width))
+        (λ error. WritesNoValue width digits.now error) }
+{
     if digits.is_empty() {
         return Err(BinaryNumberError::NoValue);
     }
-    if digits.len() as u64 > width {
-        return Err(if are_binary_digits(digits) {
-            BinaryNumberError::TooLong
-        } else {
-            BinaryNumberError::NoValue
-        });
+    if digits.len() as u64 <= width {
+        return Ok(());
     }
-    extended_value(width, digits).ok_or(BinaryNumberError::NoValue)
+    if are_binary_digits(digits) {
+        return Err(BinaryNumberError::TooLong);
+    }
+    Err(BinaryNumberError::NoValue)
 }
 
 /// The value of `width` bits that the binary digits write, extended on the left (IEEE 1364-2005, 18.2); none where
@@ -115,9 +148,9 @@ fn digits_of_word(digits: &[u8], k: usize) -> &[u8]
 
 /// The low and the high bits of 64 letters, the last of them lowest.
 #[derive(Clone, Copy)]
-struct LetterWord {
-    low: u64,
-    high: u64,
+pub struct LetterWord {
+    pub low: u64,
+    pub high: u64,
 }
 
 /// The letters of at most 64 digits, behind as many `pad` as are wanting; none where one is no binary digit.

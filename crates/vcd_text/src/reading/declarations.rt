@@ -10,14 +10,13 @@ ghost use Rattle.vcd_text.specs.inside.Opening.{Opens, keeps_words};
 ghost use Rattle.vcd_text.specs.declared.reading.reader.OpenItem.TheVariants as items;
 
 use crate::fault::Fault;
-use crate::reading::copies::copy_word;
 use crate::reading::decimal::size_of;
 use crate::reading::keywords::{is_command, is_dump_word};
 use crate::reading::reader::{OpenItem, Reader};
 use crate::reading::timescale::timescale_in;
 use std::alloc::Global;
 use std::mem::replace;
-use vcd_core::{Header, HeaderKind, NoMemory, ScopeName, Seq, Word};
+use vcd_core::{Header, HeaderKind, NoMemory, ScopeName, Seq, Word, copy_word};
 
 impl Reader {
     /// Begins a declaration, or a command that is passed over.

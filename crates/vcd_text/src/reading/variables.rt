@@ -13,13 +13,13 @@ ghost use Rattle.vcd_text.specs.declared.fault.Fault.TheVariants.{NoMemory as No
 ghost use Rattle.vcd_text.specs.declared.reading.variables.Owner.TheVariants.{Kept as KeptAt};
 
 use crate::fault::Fault;
-use crate::reading::copies::{copy_scopes, copy_word, copy_words};
+use crate::reading::binary_number::{BinaryNumberError, read_value, read_word};
 use crate::reading::decimal::size_of;
-use crate::reading::binary_number::{BinaryNumberError, read_value};
 use indexmap::IndexMap;
 use std::alloc::Global;
 use vcd_core::{
-    NoMemory, SIGNAL_LIMIT, ScopeName, ScopePath, Signal, WIDTH_LIMIT, Wave, Word, is_skipped_kind,
+    NoMemory, SIGNAL_LIMIT, ScopeName, Signal, WIDTH_LIMIT, Wave, Word, copy_scopes, copy_word,
+    copy_words, is_skipped_kind,
 };
 
 /// A variable that is kept: its code, and the signal that it becomes.
@@ -41,12 +41,32 @@ impl Variable {
         ensures refuses { IfErr result (λ fault. (fault ≡ NoMemoryFault) ⊎
             RefusesBinaryNumber self.old.signal.wave.width digits.now fault) }
     {
+        if self.signal.wave.width() <= 64 {
+            return self.set_word(tick, digits);
+        }
         let value = match read_value(self.signal.wave.width(), digits) {
             Ok(value) => value,
             Err(BinaryNumberError::NoValue) => return Err(Fault::BadChange),
             Err(BinaryNumberError::TooLong) => return Err(Fault::ValueTooLong),
         };
         self.signal.wave.push(tick, value)?;
+        Ok(())
+    }
+
+    /// Sets the value of a variable of at most 64 bits, by words alone.
+    fn set_word(&mut self, tick: u64, digits: &[u8]) -> Result<(), Fault>
+        requires narrow { self.old.signal.wave.width ≤ 64 }
+        requires late { All (λ change. change.tick ≤ tick) self.old.signal.wave.changes }
+        ensures sets { OnOk result (Sets tick digits.now self.old self.new) }
+        ensures refuses { IfErr result (λ fault. (fault ≡ NoMemoryFault) ⊎
+            RefusesBinaryNumber self.old.signal.wave.width digits.now fault) }
+    {
+        let word = match read_word(self.signal.wave.width(), digits) {
+            Ok(word) => word,
+            Err(BinaryNumberError::NoValue) => return Err(Fault::BadChange),
+            Err(BinaryNumberError::TooLong) => return Err(Fault::ValueTooLong),
+        };
+        self.signal.wave.push_word(tick, word.low, word.high)?;
         Ok(())
     }
 }
@@ -286,7 +306,7 @@ fn silent_signal(
     ensures silent { IfOk result (λ signal. signal.wave.changes ≡ []) }
 {
     Ok(Signal {
-        scopes: ScopePath::from_vec(copy_scopes(alloc, scopes)?),
+        scopes: copy_scopes(alloc, scopes)?,
         kind: copy_word(alloc, kind.as_slice())?,
         words: copy_words(alloc, name)?,
         wave: Wave::new(alloc, width),
