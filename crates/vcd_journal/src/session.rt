@@ -13,6 +13,9 @@ use std::marker::Model;
 use vcd_core::{Capture, NoMemory};
 use vcd_edit::Edit;
 
+#[cfg(test)]
+mod tests;
+
 /// A capture under edit, with a bounded history.
 ///
 /// It holds a record for each step that can be taken back or made again, and no capture but the one
