@@ -52,10 +52,11 @@ abbrev pub line_data : BitOrder → Option (ℕ → Bit) → List ℕ → LineDa
 line_data order None ticks = Absent
 line_data order (Some f) ticks = data_of order (map f ticks)
 
--- the first and the last of some ticks
+-- the first of some ticks
 abbrev pub group_start : List ℕ → ℕ
 group_start ticks = slice_index ticks 0
 
+-- and the last
 abbrev pub group_end : List ℕ → ℕ
 group_end ticks = slice_index ticks (length ticks - 1)
 
