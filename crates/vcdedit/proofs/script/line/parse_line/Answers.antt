@@ -2,7 +2,8 @@ use Rattle.std.proofs.Common.{◌≡◌, ◌∷◌, sym, ap, subst, ◌∙◌}
 use Rattle.vcd_core.specs.Contents.{contents}
 use Rattle.vcd_text.specs.Grammar.{word_texts}
 use Rattle.vcd_text.specs.Words.{words_of}
-use Rattle.vcdedit.specs.Script.{command_of_line, command_of_words}
+use Rattle.vcdedit.specs.Script.{command_of_line}
+use Rattle.vcdedit.specs.ScriptCommands.{command_of_words}
 use Rattle.vcdedit.specs.inside.Commands.{ReadsAs}
 use Rattle.vcdedit.proofs.script.line.parse_line.Goals as goal
 
