@@ -1,5 +1,5 @@
 -- The signal that a name stands for is one of the capture's.
-use Rattle.std.proofs.Common.{◌≡◌, ◌<◌, ℕ, Bool, true, false, ◌&&◌, cond, ltb, List, Option, Some, None, Result, Ok, Err, length, map, refl, sym, ap, subst, arith}
+use Rattle.std.proofs.Common.{◌≡◌, ◌<◌, ℕ, Bool, true, false, ◌&&◌, cond, ltb, List, Option, Some, None, Result, length, map, refl, sym, subst, arith}
 use Rattle.std.specs.Prelude.{IfOk}
 use Rattle.std.specs.List.{position}
 use Rattle.std.specs.Option.{ok_or}

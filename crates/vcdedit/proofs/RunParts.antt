@@ -1,5 +1,5 @@
 -- The parts of a run, put together.
-use Rattle.std.proofs.Common.{◌≡◌, ◌≤◌, ◌⊎◌, inl, inr, Result, Ok, Err, ℕ, List, length, Option, Some, None, refl, sym, ap}
+use Rattle.std.proofs.Common.{◌≡◌, ◌⊎◌, inl, inr, Result, Ok, Err, ℕ, List, Option, Some, None, refl, sym, ap}
 use Rattle.std.specs.Prelude.{IfSome, IfErr, IsErrAnd}
 use Rattle.std.specs.Io.KnownBytes.{Appends}
 use Rattle.vcd_core.specs.Contents.{Contents}
@@ -51,13 +51,6 @@ if_run_writes (Some f) (Some s) depth count took_replies now said ran follows =
       record { contents = ran.contents; skipped = ran.skipped; means = ran.means; run = refl },
       follows written ran.replies (ap text ran.after) (sym ran.refused),
     )
-
--- what is said of what the run writes may say less
-pub if_run_writes_weaker : (file script : Option (List ℕ)) (depth : ℕ) (said less : RunOutcome → Type 0) → ((written : RunOutcome) → said written → less written) →
-    IfRunWrites file script depth said → IfRunWrites file script depth less
-if_run_writes_weaker None script depth said less follows holds = tt
-if_run_writes_weaker (Some f) None depth said less follows holds = tt
-if_run_writes_weaker (Some f) (Some s) depth said less follows holds = (holds.0, holds.1, follows holds.0 holds.2)
 
 -- and the output
 pub run_reaches_end : (file script : Option (List ℕ)) (depth count : ℕ) (took_replies took_output : List ℕ → Type 0) (now : Contents) →

@@ -10,14 +10,14 @@ use Rattle.vcd_journal.specs.declared.step.Step.TheVariants as steps
 use Rattle.vcd_journal.specs.declared.step.StepError.TheVariants as refusals
 use Rattle.vcd_journal.specs.declared.step.Answer.{Answer}
 use Rattle.vcd_journal.specs.RefusalNames.{step_error_name}
-use Rattle.vcd_journal.specs.Machine.{Machine, first_machine, step_outcome, edit_outcome, undo_outcome, redo_outcome, depth_outcome, is_depth, accepted_outcome, refused_outcome, machine_after_depth, StepsLead}
+use Rattle.vcd_journal.specs.Machine.{Machine, first_machine, step_outcome, edit_outcome, undo_outcome, redo_outcome, is_depth, accepted_outcome, refused_outcome, machine_after_depth, StepsLead}
 use Rattle.vcd_journal.proofs.Steps.{ample_step}
 use Rattle.vcd_journal.proofs.Replay.{session_is_replay}
 use Rattle.vcdedit.specs.declared.script.command.Command.{Command}
 use Rattle.vcdedit.specs.declared.script.command.Command.TheVariants as commands
 use Rattle.vcdedit.specs.declared.script.line_error.LineError.{LineError}
 use Rattle.vcdedit.specs.Script.{command_of_line}
-use Rattle.vcdedit.specs.Reply.{ok_reply, step_reply, edit_reply, depth_reply}
+use Rattle.vcdedit.specs.Reply.{ok_reply, step_reply, edit_reply}
 use Rattle.vcdedit.specs.Run.{machine_after_line, machine_after_lines, machine_after_command}
 use Rattle.vcdedit.specs.Laws.{steps_of_command, steps_of_lines, answers_of_lines, RunIsReplay, ReplyIsAnswer, answer_reply}
 

@@ -1,4 +1,4 @@
-use Rattle.std.proofs.Common.{◌≡◌, ◌∙◌, ap, ℕ, Option}
+use Rattle.std.proofs.Common.{◌∙◌, ap, ℕ, Option}
 use Rattle.std.specs.Option.{ok_or}
 use Rattle.vcdedit.specs.declared.script.line_error.LineError.TheVariants.{NoSuchName}
 use Rattle.vcdedit.proofs.NamedSignals.{named_within}
