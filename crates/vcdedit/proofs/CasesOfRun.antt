@@ -8,8 +8,8 @@ use Rattle.vcd_core.specs.Contents.{Contents}
 use Rattle.vcd_text.specs.Words.{words_from}
 use Rattle.vcd_text.specs.Letters.{short_form}
 use Rattle.vcd_text.specs.Text.{code_digits, signal_items, tick_items, items_of, text}
-use Rattle.vcdedit.specs.Effect.{effect}
-use Rattle.vcdedit.specs.Allowed.{edit_fault}
+use Rattle.vcd_edit.specs.Effect.{effect}
+use Rattle.vcd_edit.specs.Allowed.{edit_fault}
 use Rattle.vcdedit.specs.Script.{script_lines, command_of_line}
 use Rattle.vcdedit.specs.Reply.{line_reply}
 use Rattle.vcdedit.specs.Run.{machine_after_line, machine_after_lines, replies_text, refusal_count, run_outcome, RunWrites}

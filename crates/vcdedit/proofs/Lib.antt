@@ -1,9 +1,8 @@
-pub mod CasesOfSession
 pub mod CasesOfRun
-pub mod Replay
 pub mod Steps
-pub mod Histories
-pub mod Renames
+pub mod ScriptNumbers
+pub mod NamedSignals
+pub mod CasesOfLines
 pub mod Lines
 pub mod ScriptLines
 pub mod Answered

@@ -1,14 +1,13 @@
 -- The parts of a run, put together.
-use Rattle.std.proofs.Common.{◌≡◌, ◌≤◌, ◌⊎◌, inl, inr, Result, Ok, Err, ℕ, List, length, Option, Some, None, refl, sym, ap}
+use Rattle.std.proofs.Common.{◌≡◌, ◌⊎◌, inl, inr, Result, Ok, Err, ℕ, List, Option, Some, None, refl, sym, ap}
 use Rattle.std.specs.Prelude.{IfSome, IfErr, IsErrAnd}
 use Rattle.std.specs.Io.KnownBytes.{Appends}
 use Rattle.vcd_core.specs.Contents.{Contents}
 use Rattle.vcd_text.specs.Meaning.{FileMeans}
 use Rattle.vcd_text.specs.Text.{text}
-use Rattle.vcdedit.specs.Machine.{Machine}
+use Rattle.vcd_journal.specs.Machine.{Machine, first_machine}
 use Rattle.vcdedit.specs.Script.{script_lines}
 use Rattle.vcdedit.specs.Run.{run_outcome, RunOutcome}
-use Rattle.vcdedit.specs.inside.History.{History, first_history}
 use Rattle.vcdedit.specs.inside.RunLines.{RunsLines}
 use Rattle.vcd_text.specs.declared.fault.WriteError.{WriteError}
 use Rattle.vcdedit.specs.declared.running.run_error.RunError.{RunError}
@@ -18,8 +17,8 @@ use Rattle.vcdedit.specs.inside.ScriptRuns.{ScriptGives}
 use Rattle.vcdedit.specs.RunEnds.{IfRunWrites, RunReachesEnd, RunStopsAtOutput}
 
 -- the lines of the script, run from the capture that the file means
-pub script_gives : (file script : List ℕ) (depth skipped : ℕ) (c : Contents) (new : History) (count : ℕ) (before after : Option (List ℕ)) →
-    FileMeans file c skipped → RunsLines (script_lines script) (first_history c depth) new count before after → ScriptGives file script depth count (Appends before after) new.now
+pub script_gives : (file script : List ℕ) (depth skipped : ℕ) (c : Contents) (new : Machine) (count : ℕ) (before after : Option (List ℕ)) →
+    FileMeans file c skipped → RunsLines (script_lines script) (first_machine c depth) new count before after → ScriptGives file script depth count (Appends before after) new.now
 script_gives file script depth skipped c new count before after means ran =
     let here = ran.2 skipped in
     record {
@@ -32,8 +31,8 @@ script_gives file script depth skipped c new count before after means ran =
     }
 
 -- the same where a device may not tell its bytes
-pub script_gives_where_told : (coming script_coming : Option (List ℕ)) (script : List ℕ) (depth skipped : ℕ) (c : Contents) (new : History) (count : ℕ) (before after : Option (List ℕ)) →
-    IfSome coming (λ f. FileMeans f c skipped) → IfSome script_coming (λ s. script ≡ s) → RunsLines (script_lines script) (first_history c depth) new count before after →
+pub script_gives_where_told : (coming script_coming : Option (List ℕ)) (script : List ℕ) (depth skipped : ℕ) (c : Contents) (new : Machine) (count : ℕ) (before after : Option (List ℕ)) →
+    IfSome coming (λ f. FileMeans f c skipped) → IfSome script_coming (λ s. script ≡ s) → RunsLines (script_lines script) (first_machine c depth) new count before after →
     IfSome coming (λ f. IfSome script_coming (λ s. ScriptGives f s depth count (Appends before after) new.now))
 script_gives_where_told None script_coming script depth skipped c new count before after means is ran = tt
 script_gives_where_told (Some f) None script depth skipped c new count before after means is ran = tt

@@ -1,10 +1,8 @@
--- The definitions of vcdedit, from an edit to a whole run and what is reported of it.
-pub mod Effect
-pub mod Allowed
-pub mod Machine
-pub mod InForce
+-- The definitions of vcdedit, from a line of a script to a whole run and what is reported of it.
 pub mod RefusalNames
 pub mod Lent
+pub mod ScriptWords
+pub mod ScriptCommands
 pub mod Script
 pub mod Reply
 pub mod Run

@@ -1,25 +1,28 @@
 -- What the tool answers to a line of a script: the project's own.
-use Rattle.std.specs.Prelude.{ℕ, zero, suc, Bool, List, [], ◌∷◌, ◌++◌, Option, Some, None, Result, Ok, Err, is_err, codes}
+use Rattle.std.specs.Prelude.{ℕ, zero, suc, Bool, not, nat_lt, if◌then◌else◌, List, [], ◌∷◌, ◌++◌, Option, Some, None, Result, Ok, Err, is_err, codes}
 use Rattle.std.specs.List.{flat_map}
 use Rattle.std.specs.Fmt.{decimal}
 use Rattle.vcd_core.specs.Contents.{Contents}
-use Rattle.vcdedit.specs.declared.edit_error.EditError.{EditError}
-use Rattle.vcdedit.specs.declared.step.Step.{Step}
-use Rattle.vcdedit.specs.declared.step.Step.TheVariants as steps
-use Rattle.vcdedit.specs.declared.step.StepError.{StepError}
-use Rattle.vcdedit.specs.declared.step.StepError.TheVariants as refusals
+use Rattle.vcd_edit.specs.declared.fault.EditError.{EditError}
+use Rattle.vcd_journal.specs.declared.step.Step.{Step}
+use Rattle.vcd_journal.specs.declared.step.Step.TheVariants as steps
+use Rattle.vcd_journal.specs.declared.step.StepError.{StepError}
+use Rattle.vcd_journal.specs.declared.step.StepError.TheVariants as refusals
 use Rattle.vcdedit.specs.declared.script.command.Command.{Command}
 use Rattle.vcdedit.specs.declared.script.command.Command.TheVariants as commands
 use Rattle.vcdedit.specs.declared.script.line_error.LineError.{LineError}
-use Rattle.vcdedit.specs.RefusalNames.{edit_error_name, step_error_name, line_error_name}
-use Rattle.vcdedit.specs.Allowed.{edit_fault}
+use Rattle.vcd_edit.specs.FaultNames.{edit_error_name}
+use Rattle.vcd_journal.specs.RefusalNames.{step_error_name}
+use Rattle.vcd_journal.specs.Machine.{is_depth}
+use Rattle.vcdedit.specs.RefusalNames.{line_error_name}
+use Rattle.vcd_edit.specs.Allowed.{edit_fault}
 use Rattle.vcdedit.specs.Script.{command_of_line}
 
 -- the lines of an answer, or the name of the fault for which the line is refused
 abbrev pub LineReply : Type 0
 LineReply = Result (List (List ℕ)) (List ℕ)
 
--- what is said to an accepted edit, undo or redo
+-- what is said to an accepted step
 abbrev pub ok_reply : LineReply
 ok_reply = Ok (codes "ok" ∷ [])
 
@@ -33,11 +36,18 @@ abbrev pub history_reply : ℕ → StepError → LineReply
 history_reply zero refusal = Err (step_error_name refusal)
 history_reply (suc held) refusal = ok_reply
 
+-- another depth of the history, where so many edits can be redone
+abbrev pub depth_reply : (depth redoable : ℕ) → LineReply
+depth_reply depth redoable = if not (is_depth depth) then Err (step_error_name refusals.BadDepth)
+    else (if nat_lt depth redoable then Err (step_error_name refusals.DepthTooSmall)
+    else ok_reply)
+
 -- a step on a capture, where so many edits can be undone and so many redone
 abbrev pub step_reply : Step → Contents → (undoable redoable : ℕ) → LineReply
 step_reply (steps.Edit e) c undoable redoable = edit_reply (edit_fault e c)
 step_reply steps.Undo c undoable redoable = history_reply undoable refusals.NothingToUndo
 step_reply steps.Redo c undoable redoable = history_reply redoable refusals.NothingToRedo
+step_reply (steps.Depth depth) c undoable redoable = depth_reply depth redoable
 
 -- a line that asks for this, or is no command
 abbrev pub command_reply : Result Command LineError → Contents → (skipped undoable redoable : ℕ) → LineReply

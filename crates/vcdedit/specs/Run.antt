@@ -6,7 +6,7 @@ use Rattle.vcdedit.specs.declared.script.command.Command.TheVariants as commands
 use Rattle.vcdedit.specs.declared.script.line_error.LineError.{LineError}
 use Rattle.vcd_text.specs.Meaning.{FileMeans}
 use Rattle.vcd_text.specs.Text.{text}
-use Rattle.vcdedit.specs.Machine.{Machine, first_machine, step_outcome}
+use Rattle.vcd_journal.specs.Machine.{Machine, first_machine, step_outcome}
 use Rattle.vcdedit.specs.Script.{script_lines, command_of_line}
 use Rattle.vcdedit.specs.Reply.{line_reply_text, is_line_refused}
 

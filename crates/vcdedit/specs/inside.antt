@@ -1,5 +1,4 @@
 -- Stepping stones: definitions that only contracts of private functions and proofs cite. A reader need not believe them.
-pub mod History
 pub mod Replies
 pub mod ScriptParts
 pub mod Commands

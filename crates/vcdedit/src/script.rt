@@ -1,8 +1,13 @@
 //! A script: its lines, and what each of them asks for.
 
 mod command;
+mod derivations;
+mod edits;
+mod keyword;
 mod line;
 mod line_error;
+mod line_words;
+mod numbers;
 mod splitting;
 
 pub use command::Command;

@@ -2,7 +2,7 @@
 use Rattle.std.specs.Prelude.{◌≡◌, ℕ, List}
 use Rattle.vcd_core.specs.Contents.{Contents}
 use Rattle.vcd_text.specs.Meaning.{FileMeans}
-use Rattle.vcdedit.specs.Machine.{first_machine}
+use Rattle.vcd_journal.specs.Machine.{first_machine}
 use Rattle.vcdedit.specs.Script.{script_lines}
 use Rattle.vcdedit.specs.Run.{machine_after_lines, replies_text, refusal_count}
 

@@ -1,18 +1,15 @@
 //! What a line of the script does to a session, and what is said to it.
 
-ghost use Rattle.std.specs.Prelude.{IfOk};
-ghost use Rattle.vcdedit.specs.inside.Answering.{IsNoRedo, AnswersStep, AnswersLine};
+ghost use Rattle.std.specs.Prelude.{◌≡◌, false, Err, IfOk};
+ghost use Rattle.vcd_journal.specs.RefusalNames.{step_error_name};
+ghost use Rattle.vcdedit.specs.inside.Answering.{AnswersStep, AnswersLine, is_no_memory as wants_memory};
 ghost use Rattle.vcdedit.specs.inside.Replies.{reply_meaning};
-ghost use Rattle.vcdedit.specs.declared.edit.Edit.TheVariants as edits;
-ghost use Rattle.vcdedit.specs.declared.step.Step.TheVariants as steps;
 
-use crate::edit::Edit;
-use crate::edit_error::EditError;
 use crate::replies::Reply;
 use crate::script::{Command, parse_line};
-use crate::session::Session;
-use crate::step::{Step, StepError};
 use std::alloc::AllocError;
+use vcd_edit::EditError;
+use vcd_journal::{Session, Step, StepError};
 
 /// Does what a line asks for, on the capture that then stands, and gives what is said to it.
 ///
@@ -23,52 +20,44 @@ pub fn answer_line(session: &mut Session, line: &[u8]) -> Result<Reply, AllocErr
 {
     match parse_line(line, session.capture()) {
         Ok(Command::Nothing) => Ok(Reply::Nothing),
-        Ok(Command::Step(step)) => answer_step(session, step),
+        Ok(Command::Step(step)) => answer_step(session, &step),
         Err(fault) => Ok(Reply::Refused(fault.name())),
     }
 }
 
-fn answer_step(session: &mut Session, step: Step) -> Result<Reply, AllocError>
-    requires { IsNoRedo step }
+/// Makes a step, and gives what is said to it.
+fn answer_step(session: &mut Session, step: &Step) -> Result<Reply, AllocError>
     ensures { IfOk result (λ reply.
-        AnswersStep step.entry session.old session.new (reply_meaning reply)) }
+        AnswersStep step.now session.old session.new (reply_meaning reply)) }
 {
-    match step {
-        Step::Edit(edit) => answer_edit(session, edit),
-        Step::Undo => Ok(answer_undo(session)),
-        Step::Redo => unreachable!(),
-    }
-}
-
-fn answer_edit(session: &mut Session, edit: Edit) -> Result<Reply, AllocError>
-    ensures { IfOk result (λ reply.
-        AnswersStep (steps.Edit edit.entry) session.old session.new (reply_meaning reply)) }
-{
-    match edit {
-        Edit::Rename { signal, word } => answer_rename(session, signal, word),
-    }
-}
-
-fn answer_rename(session: &mut Session, signal: usize, word: &[u8]) -> Result<Reply, AllocError>
-    ensures { IfOk result (λ reply.
-        AnswersStep (steps.Edit (edits.Rename signal word.entry))
-        session.old session.new (reply_meaning reply)) }
-{
-    match session.rename(signal, word) {
+    match session.make_step(step) {
         Ok(()) => Ok(Reply::Accepted),
-        // nested, since only so the last arm knows that the fault is not `NoMemory`
-        Err(fault) => match fault {
-            EditError::NoMemory => Err(AllocError),
-            _ => Ok(Reply::Refused(fault.name())),
-        },
+        Err(refusal) => refusal_reply(refusal),
     }
 }
 
-fn answer_undo(session: &mut Session) -> Reply
-    ensures { AnswersStep steps.Undo session.old session.new (reply_meaning result) }
+/// What is said to a refused step, unless memory was refused.
+fn refusal_reply(refusal: StepError) -> Result<Reply, AllocError>
+    ensures named { IfOk result (λ reply. reply_meaning reply ≡ Err (step_error_name refusal)) }
+    ensures memory { IfOk result (λ _. wants_memory refusal ≡ false) }
 {
-    match session.undo() {
-        Ok(()) => Reply::Accepted,
-        Err(_) => Reply::Refused(StepError::NothingToUndo.name()),
+    if is_no_memory(refusal) {
+        return Err(AllocError);
+    }
+    Ok(Reply::Refused(refusal.name()))
+}
+
+/// Whether a step is refused for want of memory.
+fn is_no_memory(refusal: StepError) -> bool
+    ensures { result ≡ wants_memory refusal }
+{
+    match refusal {
+        StepError::NoMemory => true,
+        // nested, since only so the last arm knows that the fault is not `NoMemory`
+        StepError::Edit(fault) => match fault {
+            EditError::NoMemory => true,
+            _ => false,
+        },
+        _ => false,
     }
 }

@@ -7,15 +7,15 @@ ghost use Rattle.vcd_core.specs.Contents.{contents};
 ghost use Rattle.vcd_core.specs.Sound.{IsSound};
 ghost use Rattle.vcdedit.specs.RunFaults.{IfOutputError, IsBeforeOutput};
 ghost use Rattle.vcdedit.specs.RunEnds.{LeavesCaptureReader, LeavesScriptReader, LeavesReplyWriter, RunReachesEnd, RunStopsAtOutput, IfOutput, OutputTakes, OutputKeeps, OutputStops};
-ghost use Rattle.vcdedit.specs.inside.History.{first_history};
+ghost use Rattle.vcd_journal.specs.Machine.{first_machine};
 ghost use Rattle.vcdedit.specs.inside.ScriptRuns.{ScriptGives};
 
 use crate::running::inputs::read_inputs;
 use crate::running::run_lines::run_lines;
 use crate::running::{RunError, Summary};
-use crate::session::{DEPTH_LIMIT, Session};
 use std::alloc::Global;
 use vcd_core::{Capture, Sink, Source};
+use vcd_journal::{DEPTH_LIMIT, Session};
 use vcd_text::write;
 
 /// Reads the capture, then the whole script, runs its lines in order and flushes the replies, then writes
@@ -118,7 +118,7 @@ fn begin_session(alloc: Global, capture: Capture, depth: u64) -> Result<Session,
     requires least { 1 ≤ depth }
     requires most { depth ≤ DEPTH_LIMIT }
     requires sound { IsSound (contents capture) }
-    ensures new { IfOk result (λ session. session ≡ first_history (contents capture) depth) }
+    ensures new { IfOk result (λ session. session ≡ first_machine (contents capture) depth) }
     ensures fault { IfErr result (λ e. e ≡ RunError.NoMemory 0) }
 {
     match Session::new(alloc, capture, depth) {

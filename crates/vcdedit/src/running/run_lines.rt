@@ -10,9 +10,9 @@ ghost use Rattle.vcdedit.specs.inside.RunLines.{TellsLine, RunsLines, IsLineFaul
 use crate::replies::{Reply, answer_line};
 use crate::running::RunError;
 use crate::script::split_line;
-use crate::session::Session;
 use std::alloc::Global;
 use vcd_core::{Sink, write_all};
+use vcd_journal::Session;
 
 /// What came of a line.
 #[derive(Clone, Copy)]

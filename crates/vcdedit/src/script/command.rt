@@ -1,9 +1,9 @@
 //! What a line of a script may ask for.
 
-use crate::step::Step;
+use vcd_journal::Step;
 
 /// What a line of the script asks for.
-#[derive(Clone, Copy, Debug, PartialEq, Eq)]
+#[derive(Clone, Copy, Debug, PartialEq)]
 pub enum Command<'a> {
     /// The line is empty or a comment.
     Nothing,

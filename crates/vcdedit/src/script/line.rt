@@ -1,34 +1,42 @@
 //! What a line of the script asks for.
 
-ghost use Rattle.std.specs.Prelude.{◌≡◌, ◌∷◌, [], MatchOption};
+ghost use Rattle.std.specs.Prelude.{◌≡◌, ◌∷◌};
 ghost use Rattle.vcd_core.specs.Contents.{contents};
 ghost use Rattle.vcd_text.specs.Grammar.{word_texts};
-ghost use Rattle.vcdedit.specs.Script.{command_of_line, command_of_words, rename_command, undo_command, is_comment as comment_test};
+ghost use Rattle.vcdedit.specs.Script.{command_of_line};
+ghost use Rattle.vcdedit.specs.ScriptCommands.{command_of_words, command_of, depth_command, no_word, step_command, is_comment as comment_test};
 ghost use Rattle.vcdedit.specs.inside.Commands.{ReadsAs};
+ghost use Rattle.vcd_journal.specs.declared.step.Step.TheVariants as steps;
 
-use crate::edit::Edit;
+use crate::script::derivations::parse_derive;
+use crate::script::edits::{
+    parse_cut, parse_deglitch, parse_force, parse_invert, parse_remove, parse_rename, parse_shift,
+};
+use crate::script::keyword::{Keyword, keyword_of};
+use crate::script::line_words::{next_text, take_none, take_one};
+use crate::script::numbers::number_of_word;
 use crate::script::{Command, LineError};
-use crate::step::Step;
 use vcd_core::Capture;
+use vcd_journal::Step;
 use vcd_text::Words;
 
 /// Reads a line of the script, on the capture that then stands. It takes no memory.
 ///
-/// The faults in the order in which they count: the first word names no command, the command takes another
-/// number of words, no signal has a name.
+/// The faults in the order in which they count: the first word names no command; the command takes another
+/// number of words; then from left to right each word that is not what its place asks for.
 #[tactic(auto, unfolding(crate::specs::Script::command_of_line))]
 pub fn parse_line<'a>(line: &'a [u8], capture: &Capture) -> Result<Command<'a>, LineError>
     ensures { ReadsAs (command_of_line (contents capture.now) line.now) result }
 {
     let mut words = Words::new(line);
     match next_text(&mut words) {
-        Some(first) => parse_command(first, &mut words, capture),
+        Some(first) => parse_words(first, &mut words, capture),
         None => Ok(Command::Nothing),
     }
 }
 
 /// Reads the words behind the first.
-fn parse_command<'a>(
+fn parse_words<'a>(
     first: &[u8],
     words: &mut Words<'a>,
     capture: &Capture,
@@ -39,49 +47,55 @@ fn parse_command<'a>(
     if is_comment(first) {
         return Ok(Command::Nothing);
     }
-    if first == b"rename".as_slice() {
-        return parse_rename(words, capture);
-    }
-    if first == b"undo".as_slice() {
-        return parse_undo(words);
-    }
-    Err(LineError::UnknownCommand)
+    let keyword = keyword_of(first).ok_or(LineError::UnknownCommand)?;
+    parse_command(keyword, words, capture)
 }
 
-/// Reads `NAME WORD`.
-fn parse_rename<'a>(words: &mut Words<'a>, capture: &Capture) -> Result<Command<'a>, LineError>
-    ensures { ReadsAs (rename_command (contents capture.now) (word_texts words.old)) result }
+/// Reads the words behind a keyword.
+fn parse_command<'a>(
+    keyword: Keyword,
+    words: &mut Words<'a>,
+    capture: &Capture,
+) -> Result<Command<'a>, LineError>
+    ensures { ReadsAs (command_of (contents capture.now) keyword (word_texts words.old)) result }
 {
-    let name = next_text(words).ok_or(LineError::WrongCount)?;
-    let word = next_text(words).ok_or(LineError::WrongCount)?;
-    if next_text(words).is_some() {
-        return Err(LineError::WrongCount);
-    }
-    match capture.find(name) {
-        Some(signal) => Ok(Command::Step(Step::Edit(Edit::Rename { signal, word }))),
-        None => Err(LineError::NoSuchName),
+    match keyword {
+        Keyword::Rename => parse_rename(words, capture),
+        Keyword::Remove => parse_remove(words, capture),
+        Keyword::Invert => parse_invert(words, capture),
+        Keyword::Shift => parse_shift(words, capture),
+        Keyword::Cut => parse_cut(words),
+        Keyword::Deglitch => parse_deglitch(words, capture),
+        Keyword::Force => parse_force(words, capture),
+        Keyword::Derive => parse_derive(words, capture),
+        Keyword::Undo => parse_undo(words),
+        Keyword::Redo => parse_redo(words),
+        Keyword::Depth => parse_depth(words),
     }
 }
 
-/// Reads that nothing follows.
+/// Reads that nothing follows `undo`.
 fn parse_undo<'a>(words: &mut Words<'a>) -> Result<Command<'a>, LineError>
-    ensures { ReadsAs (undo_command (word_texts words.old)) result }
+    ensures { ReadsAs (no_word (word_texts words.old) (step_command steps.Undo)) result }
 {
-    match next_text(words) {
-        Some(_) => Err(LineError::WrongCount),
-        None => Ok(Command::Step(Step::Undo)),
-    }
+    take_none(words)?;
+    Ok(Command::Step(Step::Undo))
 }
 
-/// The next word.
-fn next_text<'a>(words: &mut Words<'a>) -> Option<&'a [u8]>
-    ensures { MatchOption result (word_texts words.old ≡ [])
-        (λ text. word_texts words.old ≡ text.now ∷ word_texts words.new) }
+/// Reads that nothing follows `redo`.
+fn parse_redo<'a>(words: &mut Words<'a>) -> Result<Command<'a>, LineError>
+    ensures { ReadsAs (no_word (word_texts words.old) (step_command steps.Redo)) result }
 {
-    match words.next_word() {
-        Some(word) => Some(word.text),
-        None => None,
-    }
+    take_none(words)?;
+    Ok(Command::Step(Step::Redo))
+}
+
+/// Reads `N`, the new depth of the history.
+fn parse_depth<'a>(words: &mut Words<'a>) -> Result<Command<'a>, LineError>
+    ensures { ReadsAs (depth_command (word_texts words.old)) result }
+{
+    let depth = number_of_word(take_one(words)?)?;
+    Ok(Command::Step(Step::Depth(depth)))
 }
 
 fn is_comment(word: &[u8]) -> bool

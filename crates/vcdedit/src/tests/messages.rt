@@ -1,10 +1,12 @@
 //! A message is the fault's name.
 
-use crate::{EditError, LineError, RunError, StepError};
+use crate::{LineError, RunError};
 use std::alloc::Global;
 use std::fmt::Display;
 use std::process::Abort;
 use std::test::Fail;
+use vcd_edit::EditError;
+use vcd_journal::StepError;
 use vcd_text::{Fault, ReadError, WriteError};
 
 fn check_message(

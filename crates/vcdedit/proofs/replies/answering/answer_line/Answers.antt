@@ -1,12 +1,9 @@
 use Rattle.std.proofs.Common.{Err, List, ℕ, sym, subst, refl}
-use Rattle.vcd_core.specs.Contents.{contents}
+use Rattle.std.proofs.lemmas.Result.{IfOk-weaker}
 use Rattle.vcdedit.specs.inside.Answering.{AnswersStep, AnswersLine}
 use Rattle.vcdedit.specs.inside.Replies.{reply_meaning}
-use Rattle.vcdedit.proofs.Answered.{no_redo, line_nothing, line_steps, line_refused, at_each_ok}
+use Rattle.vcdedit.proofs.Answered.{line_nothing, line_steps, line_refused}
 use Rattle.vcdedit.proofs.replies.answering.answer_line.Goals as goal
-
-pub answer_step-requires : goal.answer_step-requires
-answer_step-requires c = no_redo (contents c.capture.result.now) c.args.line.now c.in-Ok-Step.step (rw (c.in-Ok-Step.field-0-is) at c.in-Ok-Step.ensures)
 
 pub returns-in-Ok-Nothing : goal.returns-in-Ok-Nothing
 returns-in-Ok-Nothing c =
@@ -18,7 +15,7 @@ returns-in-Ok-Step c =
     let old = c.args.session.now in
     let new = c.answer_step.new.session in
     let read = rw (c.capture.ensures.now, c.in-Ok-Step.field-0-is) at c.in-Ok-Step.ensures in
-    at_each_ok c.answer_step.result (λ reply. AnswersStep c.in-Ok-Step.step old new (reply_meaning reply)) (λ reply. AnswersLine c.args.line.now old new (reply_meaning reply))
+    IfOk-weaker c.answer_step.result (λ reply. AnswersStep c.in-Ok-Step.step old new (reply_meaning reply)) (λ reply. AnswersLine c.args.line.now old new (reply_meaning reply))
     (λ reply. line_steps c.args.line.now c.in-Ok-Step.step old new (reply_meaning reply) read) c.answer_step.ensures
 
 pub returns-in-Err : goal.returns-in-Err

@@ -1,5 +1,5 @@
 -- What the words ask for is what those behind the option and its path ask for.
-use Rattle.std.proofs.Common.{◌≡◌, List, ℕ, Option, Some, None, sym, subst}
+use Rattle.std.proofs.Common.{◌≡◌, Option, Some, None, sym, subst}
 use Rattle.std.specs.Prelude.{IfOk, OnErr}
 use Rattle.vcdedit.specs.CommandLine.{OptionPaths, options_in}
 use Rattle.vcdedit.proofs.CommandWords.{behind_pair}

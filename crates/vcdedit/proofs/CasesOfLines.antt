@@ -1,0 +1,80 @@
+-- Worked cases: what lines of a script ask for, and why they are no command.
+use Rattle.std.proofs.Common.{◌≡◌, refl}
+use Rattle.std.specs.Prelude.{ℕ, pos, negsuc, List, [], ◌∷◌, Result, Ok, Err, codes}
+use Rattle.vcd_core.specs.declared.bit.Bit.TheVariants.{Zero, X}
+use Rattle.vcd_core.specs.Names.{name_in, lookup}
+use Rattle.vcd_edit.specs.declared.edit.Edit.TheVariants.{Rename, Remove, Invert, Shift, Cut, Deglitch, Force}
+use Rattle.vcd_edit.specs.declared.edit.Rule.TheVariants.{Not, And, Or, Xor, BitOf}
+use Rattle.vcd_journal.specs.declared.step.Step.TheVariants as steps
+use Rattle.vcd_text.specs.Words.{words_from}
+use Rattle.vcdedit.specs.declared.script.command.Command.{Command}
+use Rattle.vcdedit.specs.declared.script.command.Command.TheVariants as commands
+use Rattle.vcdedit.specs.declared.script.line_error.LineError.{LineError}
+use Rattle.vcdedit.specs.declared.script.line_error.LineError.TheVariants.{UnknownCommand, WrongCount, BadNumber, NoSuchName, BadValueText, BadOption}
+use Rattle.vcdedit.specs.Lent.{lent_bytes}
+use Rattle.vcdedit.specs.ScriptCommands.{edit_command, step_command, derive_by}
+use Rattle.vcdedit.specs.Script.{command_of_line}
+use Rattle.vcdedit.proofs.CasesOfRun.{two_signals}
+
+-- what a line asks for on a scalar `top.a` and a vector `top.v` of four bits
+abbrev asked : List ℕ → Result Command LineError
+asked line = command_of_line two_signals line
+
+edits_of_one_signal : (asked (codes "rename top.a b") ≡ edit_command (Rename 0 (lent_bytes (codes "b"))))
+    × (asked (codes " remove\t@1") ≡ edit_command (Remove 1))
+    × (asked (codes "invert top.v") ≡ edit_command (Invert 1))
+    × (asked (codes "shift top.a 2") ≡ edit_command (Shift 0 (pos 2)))
+    × (asked (codes "shift top.a +2") ≡ edit_command (Shift 0 (pos 2)))
+    × (asked (codes "shift top.a -2") ≡ edit_command (Shift 0 (negsuc 1)))
+    × (asked (codes "deglitch top.a 007") ≡ edit_command (Deglitch 0 7))
+    × (asked (codes "force top.v 3 5 x0") ≡ edit_command (Force 1 3 5 (X ∷ X ∷ X ∷ Zero ∷ [])))
+unfolding command_of_line words_from lookup name_in
+edits_of_one_signal = (refl, refl, refl, refl, refl, refl, refl, refl)
+
+other_steps : (asked (codes "cut 3 7") ≡ edit_command (Cut 3 7))
+    × (asked (codes "derive n not top.a") ≡ derive_by (codes "n") (Not 0))
+    × (asked (codes "derive n and top.a top.v") ≡ derive_by (codes "n") (And 0 1))
+    × (asked (codes "derive n or @1 @0") ≡ derive_by (codes "n") (Or 1 0))
+    × (asked (codes "derive n xor top.a top.a") ≡ derive_by (codes "n") (Xor 0 0))
+    × (asked (codes "derive n bit top.v 3") ≡ derive_by (codes "n") (BitOf 1 3))
+    × (asked (codes "undo") ≡ step_command steps.Undo)
+    × (asked (codes "redo") ≡ step_command steps.Redo)
+    × (asked (codes "depth 12") ≡ step_command (steps.Depth 12))
+    × (asked (codes "# undo") ≡ Ok commands.Nothing)
+unfolding command_of_line words_from lookup name_in
+other_steps = (refl, refl, refl, refl, refl, refl, refl, refl, refl, refl)
+
+-- the name of the command, the number of words, and then the words from left to right
+first_faults : (asked (codes "Undo") ≡ Err UnknownCommand)
+    × (asked (codes "cut x") ≡ Err WrongCount)
+    × (asked (codes "redo now") ≡ Err WrongCount)
+    × (asked (codes "shift top.q x") ≡ Err NoSuchName)
+    × (asked (codes "shift top.a x") ≡ Err BadNumber)
+    × (asked (codes "force top.a 0 y q") ≡ Err BadNumber)
+    × (asked (codes "force top.a 0 1 q") ≡ Err BadValueText)
+    × (asked (codes "force top.v 0 1 00000") ≡ Err BadValueText)
+unfolding command_of_line words_from lookup name_in
+first_faults = (refl, refl, refl, refl, refl, refl, refl, refl)
+
+-- numbers of 64 bits, and distances of 63 bits and a sign
+greatest_numbers : (asked (codes "cut 0 18446744073709551615") ≡ edit_command (Cut 0 18446744073709551615))
+    × (asked (codes "cut 0 18446744073709551616") ≡ Err BadNumber)
+    × (asked (codes "cut 0 +1") ≡ Err BadNumber)
+    × (asked (codes "shift top.a 9223372036854775807") ≡ edit_command (Shift 0 (pos 9223372036854775807)))
+    × (asked (codes "shift top.a 9223372036854775808") ≡ Err BadNumber)
+    × (asked (codes "shift top.a -9223372036854775808") ≡ edit_command (Shift 0 (negsuc 9223372036854775807)))
+    × (asked (codes "shift top.a -9223372036854775809") ≡ Err BadNumber)
+    × (asked (codes "shift top.a -") ≡ Err BadNumber)
+unfolding command_of_line words_from lookup name_in
+greatest_numbers = (refl, refl, refl, refl, refl, refl, refl, refl)
+
+-- `derive` wants its rule before anything else
+faults_of_derive : (asked (codes "derive") ≡ Err WrongCount)
+    × (asked (codes "derive x") ≡ Err WrongCount)
+    × (asked (codes "derive x bogus") ≡ Err BadOption)
+    × (asked (codes "derive x not") ≡ Err WrongCount)
+    × (asked (codes "derive x and top.a") ≡ Err WrongCount)
+    × (asked (codes "derive x bit top.q y") ≡ Err NoSuchName)
+    × (asked (codes "derive x bit top.a y") ≡ Err BadNumber)
+unfolding command_of_line words_from lookup name_in
+faults_of_derive = (refl, refl, refl, refl, refl, refl, refl)

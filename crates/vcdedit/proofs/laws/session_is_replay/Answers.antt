@@ -1,5 +1,0 @@
-use Rattle.vcdedit.proofs.Replay.{session_is_replay}
-use Rattle.vcdedit.proofs.laws.session_is_replay.Goals as goal
-
-pub returns : goal.returns
-returns c = session_is_replay

@@ -1,0 +1,213 @@
+-- What the words of a line ask for: the project's own.
+use Rattle.std.specs.Prelude.{ℕ, Bool, false, ◌==◌, if◌then◌else◌, List, [], ◌∷◌, Option, find, option_map, Result, Ok, Err, codes}
+use Rattle.std.specs.Option.{ok_or, option_or}
+use Rattle.std.specs.Str.{bytes_eq}
+use Rattle.vcd_core.specs.Contents.{Contents, signal_at}
+use Rattle.vcd_edit.specs.declared.edit.Edit.{Edit}
+use Rattle.vcd_edit.specs.declared.edit.Edit.TheVariants.{Rename, Remove, Invert, Shift, Cut, Deglitch, Force, Derive}
+use Rattle.vcd_edit.specs.declared.edit.Rule.{Rule}
+use Rattle.vcd_edit.specs.declared.edit.Rule.TheVariants.{Not, And, Or, Xor, BitOf}
+use Rattle.vcd_journal.specs.declared.step.Step.{Step}
+use Rattle.vcd_journal.specs.declared.step.Step.TheVariants as steps
+use Rattle.vcdedit.specs.declared.script.command.Command.{Command}
+use Rattle.vcdedit.specs.declared.script.command.Command.TheVariants as commands
+use Rattle.vcdedit.specs.declared.script.keyword.Keyword.{Keyword}
+use Rattle.vcdedit.specs.declared.script.keyword.Keyword.TheVariants as keywords
+use Rattle.vcdedit.specs.declared.script.line_error.LineError.{LineError}
+use Rattle.vcdedit.specs.declared.script.line_error.LineError.TheVariants.{UnknownCommand, WrongCount, BadOption}
+use Rattle.vcdedit.specs.Lent.{lent_bytes}
+use Rattle.vcdedit.specs.ScriptWords.{signal_of_name, number_of_word, distance_of_word, value_of_word}
+
+-- ---- the first word
+
+-- the keyword of a word in a table
+abbrev pub keyword_in : List (List ℕ × Keyword) → List ℕ → Option Keyword
+keyword_in table word = option_map (λ row. row.1) (find (λ row. bytes_eq word row.0) table)
+
+-- the commands that edit
+abbrev pub edit_keywords : List (List ℕ × Keyword)
+edit_keywords =
+    (codes "rename", keywords.Rename)
+    ∷ (codes "remove", keywords.Remove)
+    ∷ (codes "invert", keywords.Invert)
+    ∷ (codes "shift", keywords.Shift)
+    ∷ (codes "cut", keywords.Cut)
+    ∷ (codes "deglitch", keywords.Deglitch)
+    ∷ (codes "force", keywords.Force)
+    ∷ (codes "derive", keywords.Derive)
+    ∷ []
+
+-- the commands on the history
+abbrev pub history_keywords : List (List ℕ × Keyword)
+history_keywords =
+    (codes "undo", keywords.Undo)
+    ∷ (codes "redo", keywords.Redo)
+    ∷ (codes "depth", keywords.Depth)
+    ∷ []
+
+-- the command that a word names
+abbrev pub keyword_of : List ℕ → Option Keyword
+keyword_of word = option_or (keyword_in edit_keywords word) (keyword_in history_keywords word)
+
+-- whether a word begins with `#` (35)
+abbrev pub is_comment : List ℕ → Bool
+is_comment [] = false
+is_comment (b ∷ bs) = b == 35
+
+-- ---- the words behind it
+
+-- what is read on, or the first fault
+infixl 10 ◌>>=◌
+abbrev pub ◌>>=◌ : {A B : Type 0} → Result A LineError → (A → Result B LineError) → Result B LineError
+(Ok x) >>= f = f x
+(Err fault) >>= f = Err fault
+
+-- what no word asks for; any is one too many
+abbrev pub no_word : List (List ℕ) → Result Command LineError → Result Command LineError
+no_word [] asked = asked
+no_word (word ∷ words) asked = Err WrongCount
+
+-- what just one word asks for
+abbrev pub one_word : List (List ℕ) → (List ℕ → Result Command LineError) → Result Command LineError
+one_word (first ∷ []) asked = asked first
+one_word words asked = Err WrongCount
+
+-- what just two words ask for
+abbrev pub two_words : List (List ℕ) → (List ℕ → List ℕ → Result Command LineError) → Result Command LineError
+two_words (first ∷ second ∷ []) asked = asked first second
+two_words words asked = Err WrongCount
+
+-- what just four words ask for
+abbrev pub four_words : List (List ℕ) → (List ℕ → List ℕ → List ℕ → List ℕ → Result Command LineError) → Result Command LineError
+four_words (first ∷ second ∷ third ∷ fourth ∷ []) asked = asked first second third fourth
+four_words words asked = Err WrongCount
+
+-- a line asks for this step
+abbrev pub step_command : Step → Result Command LineError
+step_command step = Ok (commands.Step step)
+
+-- a line asks for this edit
+abbrev pub edit_command : Edit → Result Command LineError
+edit_command e = step_command (steps.Edit e)
+
+-- ---- edits of a signal
+
+-- `rename NAME WORD`
+abbrev pub rename_command : Contents → List (List ℕ) → Result Command LineError
+rename_command c arguments = two_words arguments (λ name word. do
+  k ← signal_of_name c name
+  edit_command (Rename k (lent_bytes word)))
+
+-- `remove NAME`
+abbrev pub remove_command : Contents → List (List ℕ) → Result Command LineError
+remove_command c arguments = one_word arguments (λ name. do
+  k ← signal_of_name c name
+  edit_command (Remove k))
+
+-- `invert NAME`
+abbrev pub invert_command : Contents → List (List ℕ) → Result Command LineError
+invert_command c arguments = one_word arguments (λ name. do
+  k ← signal_of_name c name
+  edit_command (Invert k))
+
+-- `shift NAME BY`
+abbrev pub shift_command : Contents → List (List ℕ) → Result Command LineError
+shift_command c arguments = two_words arguments (λ name by. do
+  k ← signal_of_name c name
+  distance ← distance_of_word by
+  edit_command (Shift k distance))
+
+-- `cut FROM TO`
+abbrev pub cut_command : List (List ℕ) → Result Command LineError
+cut_command arguments = two_words arguments (λ from to. do
+  first ← number_of_word from
+  last ← number_of_word to
+  edit_command (Cut first last))
+
+-- `deglitch NAME TICKS`
+abbrev pub deglitch_command : Contents → List (List ℕ) → Result Command LineError
+deglitch_command c arguments = two_words arguments (λ name ticks. do
+  k ← signal_of_name c name
+  count ← number_of_word ticks
+  edit_command (Deglitch k count))
+
+-- `force NAME FROM TO VALUE`
+abbrev pub force_command : Contents → List (List ℕ) → Result Command LineError
+force_command c arguments = four_words arguments (λ name from to value. do
+  k ← signal_of_name c name
+  first ← number_of_word from
+  last ← number_of_word to
+  letters ← value_of_word (signal_at c k).width value
+  edit_command (Force k first last letters))
+
+-- ---- derived signals
+
+-- `derive WORD RULE ..` with this rule
+abbrev pub derive_by : List ℕ → Rule → Result Command LineError
+derive_by word rule = edit_command (Derive (lent_bytes word) rule)
+
+-- `derive WORD not A`
+abbrev pub not_command : Contents → List ℕ → List (List ℕ) → Result Command LineError
+not_command c word operands = one_word operands (λ a. do
+  k ← signal_of_name c a
+  derive_by word (Not k))
+
+-- `derive WORD RULE A B`
+abbrev pub pair_command : Contents → (ℕ → ℕ → Rule) → List ℕ → List (List ℕ) → Result Command LineError
+pair_command c rule word operands = two_words operands (λ a b. do
+  j ← signal_of_name c a
+  k ← signal_of_name c b
+  derive_by word (rule j k))
+
+-- `derive WORD bit A K`
+abbrev pub bit_command : Contents → List ℕ → List (List ℕ) → Result Command LineError
+bit_command c word operands = two_words operands (λ a bit. do
+  j ← signal_of_name c a
+  k ← number_of_word bit
+  derive_by word (BitOf j k))
+
+-- `derive WORD RULE ..`
+abbrev pub rule_command : Contents → (word rule : List ℕ) → List (List ℕ) → Result Command LineError
+rule_command c word rule operands =
+    if bytes_eq rule (codes "not") then not_command c word operands
+    else (if bytes_eq rule (codes "and") then pair_command c And word operands
+    else (if bytes_eq rule (codes "or") then pair_command c Or word operands
+    else (if bytes_eq rule (codes "xor") then pair_command c Xor word operands
+    else (if bytes_eq rule (codes "bit") then bit_command c word operands
+    else Err BadOption))))
+
+-- `derive WORD RULE ..`, of which at least the rule must be there
+abbrev pub derive_command : Contents → List (List ℕ) → Result Command LineError
+derive_command c (word ∷ rule ∷ operands) = rule_command c word rule operands
+derive_command c arguments = Err WrongCount
+
+-- ---- all commands
+
+-- `depth N`
+abbrev pub depth_command : List (List ℕ) → Result Command LineError
+depth_command arguments = one_word arguments (λ count. do
+  depth ← number_of_word count
+  step_command (steps.Depth depth))
+
+-- what the words behind a keyword ask for
+abbrev pub command_of : Contents → Keyword → List (List ℕ) → Result Command LineError
+command_of c keywords.Rename arguments = rename_command c arguments
+command_of c keywords.Remove arguments = remove_command c arguments
+command_of c keywords.Invert arguments = invert_command c arguments
+command_of c keywords.Shift arguments = shift_command c arguments
+command_of c keywords.Cut arguments = cut_command arguments
+command_of c keywords.Deglitch arguments = deglitch_command c arguments
+command_of c keywords.Force arguments = force_command c arguments
+command_of c keywords.Derive arguments = derive_command c arguments
+command_of c keywords.Undo arguments = no_word arguments (step_command steps.Undo)
+command_of c keywords.Redo arguments = no_word arguments (step_command steps.Redo)
+command_of c keywords.Depth arguments = depth_command arguments
+
+-- what the words of a line ask for on a capture, or why they are no command
+abbrev pub command_of_words : Contents → List (List ℕ) → Result Command LineError
+command_of_words c [] = Ok commands.Nothing
+command_of_words c (first ∷ arguments) =
+    if is_comment first then Ok commands.Nothing
+    else (do
+      keyword ← ok_or (keyword_of first) UnknownCommand
+      command_of c keyword arguments)

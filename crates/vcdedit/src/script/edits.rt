@@ -1,0 +1,108 @@
+//! The lines that edit signals and time.
+
+ghost use Rattle.std.specs.Prelude.{◌≡◌, ◌<◌, length, IfOk};
+ghost use Rattle.vcd_core.specs.Contents.{contents, signal_at};
+ghost use Rattle.vcd_text.specs.Grammar.{word_texts};
+ghost use Rattle.vcdedit.specs.ScriptCommands.{rename_command, remove_command, invert_command, shift_command, cut_command, deglitch_command, force_command};
+ghost use Rattle.vcdedit.specs.ScriptWords.{signal_of_name, value_of_word as value_read};
+ghost use Rattle.vcdedit.specs.inside.Commands.{ReadsAs};
+
+use crate::script::line_words::{take_four, take_one, take_two};
+use crate::script::numbers::{distance_of_word, number_of_word};
+use crate::script::{Command, LineError};
+use vcd_core::{Capture, Value};
+use vcd_edit::Edit;
+use vcd_journal::Step;
+use vcd_text::{Words, value_of_digits};
+
+/// Reads `NAME WORD`.
+pub fn parse_rename<'a>(words: &mut Words<'a>, capture: &Capture) -> Result<Command<'a>, LineError>
+    ensures { ReadsAs (rename_command (contents capture.now) (word_texts words.old)) result }
+{
+    let (name, word) = take_two(words)?;
+    let signal = find_signal(capture, name)?;
+    Ok(Command::Step(Step::Edit(Edit::Rename { signal, word })))
+}
+
+/// Reads `NAME` of a signal to remove.
+pub fn parse_remove<'a>(words: &mut Words<'a>, capture: &Capture) -> Result<Command<'a>, LineError>
+    ensures { ReadsAs (remove_command (contents capture.now) (word_texts words.old)) result }
+{
+    let signal = find_signal(capture, take_one(words)?)?;
+    Ok(Command::Step(Step::Edit(Edit::Remove { signal })))
+}
+
+/// Reads `NAME` of a signal to invert.
+pub fn parse_invert<'a>(words: &mut Words<'a>, capture: &Capture) -> Result<Command<'a>, LineError>
+    ensures { ReadsAs (invert_command (contents capture.now) (word_texts words.old)) result }
+{
+    let signal = find_signal(capture, take_one(words)?)?;
+    Ok(Command::Step(Step::Edit(Edit::Invert { signal })))
+}
+
+/// Reads `NAME BY`.
+pub fn parse_shift<'a>(words: &mut Words<'a>, capture: &Capture) -> Result<Command<'a>, LineError>
+    ensures { ReadsAs (shift_command (contents capture.now) (word_texts words.old)) result }
+{
+    let (name, by) = take_two(words)?;
+    let signal = find_signal(capture, name)?;
+    let by = distance_of_word(by)?;
+    Ok(Command::Step(Step::Edit(Edit::Shift { signal, by })))
+}
+
+/// Reads `FROM TO`.
+pub fn parse_cut<'a>(words: &mut Words<'a>) -> Result<Command<'a>, LineError>
+    ensures { ReadsAs (cut_command (word_texts words.old)) result }
+{
+    let (from, to) = take_two(words)?;
+    let from = number_of_word(from)?;
+    let to = number_of_word(to)?;
+    Ok(Command::Step(Step::Edit(Edit::Cut { from, to })))
+}
+
+/// Reads `NAME TICKS`.
+pub fn parse_deglitch<'a>(
+    words: &mut Words<'a>,
+    capture: &Capture,
+) -> Result<Command<'a>, LineError>
+    ensures { ReadsAs (deglitch_command (contents capture.now) (word_texts words.old)) result }
+{
+    let (name, ticks) = take_two(words)?;
+    let signal = find_signal(capture, name)?;
+    let ticks = number_of_word(ticks)?;
+    Ok(Command::Step(Step::Edit(Edit::Deglitch { signal, ticks })))
+}
+
+/// Reads `NAME FROM TO VALUE`.
+pub fn parse_force<'a>(words: &mut Words<'a>, capture: &Capture) -> Result<Command<'a>, LineError>
+    ensures { ReadsAs (force_command (contents capture.now) (word_texts words.old)) result }
+{
+    let all = take_four(words)?;
+    let signal = find_signal(capture, all.first)?;
+    let from = number_of_word(all.second)?;
+    let to = number_of_word(all.third)?;
+    let value = value_of_word(capture, signal, all.fourth)?;
+    Ok(Command::Step(Step::Edit(Edit::Force {
+        signal,
+        from,
+        to,
+        value,
+    })))
+}
+
+/// The position of the signal that a word names.
+pub fn find_signal(capture: &Capture, name: &[u8]) -> Result<usize, LineError>
+    ensures named { result ≡ signal_of_name (contents capture.now) name.now }
+    ensures within { IfOk result (λ k. k < length capture.now.signals) }
+{
+    capture.find(name).ok_or(LineError::NoSuchName)
+}
+
+/// The value that a word writes for a signal.
+fn value_of_word(capture: &Capture, signal: usize, word: &[u8]) -> Result<Value, LineError>
+    requires { signal < length capture.now.signals }
+    ensures { result ≡ value_read (signal_at (contents capture.now) signal).width word.now }
+{
+    let width = capture.signals()[signal].wave.width();
+    value_of_digits(width, word).ok_or(LineError::BadValueText)
+}

@@ -1,0 +1,74 @@
+//! The first words of lines.
+
+ghost use Rattle.std.specs.Prelude.{◌≡◌};
+ghost use Rattle.vcdedit.specs.ScriptCommands.{keyword_in, edit_keywords, history_keywords, keyword_of as keyword_named};
+
+/// What the first word of a line names: a command.
+#[derive(Clone, Copy, Debug, PartialEq, Eq)]
+pub enum Keyword {
+    Rename,
+    Remove,
+    Invert,
+    Shift,
+    Cut,
+    Deglitch,
+    Force,
+    Derive,
+    Undo,
+    Redo,
+    Depth,
+}
+
+/// The command that a word names.
+pub fn keyword_of(word: &[u8]) -> Option<Keyword>
+    ensures { result ≡ keyword_named word.now }
+{
+    edit_keyword(word).or(history_keyword(word))
+}
+
+/// The command that edits and has this name.
+fn edit_keyword(word: &[u8]) -> Option<Keyword>
+    ensures { result ≡ keyword_in edit_keywords word.now }
+{
+    if word == b"rename".as_slice() {
+        return Some(Keyword::Rename);
+    }
+    if word == b"remove".as_slice() {
+        return Some(Keyword::Remove);
+    }
+    if word == b"invert".as_slice() {
+        return Some(Keyword::Invert);
+    }
+    if word == b"shift".as_slice() {
+        return Some(Keyword::Shift);
+    }
+    if word == b"cut".as_slice() {
+        return Some(Keyword::Cut);
+    }
+    if word == b"deglitch".as_slice() {
+        return Some(Keyword::Deglitch);
+    }
+    if word == b"force".as_slice() {
+        return Some(Keyword::Force);
+    }
+    if word == b"derive".as_slice() {
+        return Some(Keyword::Derive);
+    }
+    None
+}
+
+/// The command on the history that has this name.
+fn history_keyword(word: &[u8]) -> Option<Keyword>
+    ensures { result ≡ keyword_in history_keywords word.now }
+{
+    if word == b"undo".as_slice() {
+        return Some(Keyword::Undo);
+    }
+    if word == b"redo".as_slice() {
+        return Some(Keyword::Redo);
+    }
+    if word == b"depth".as_slice() {
+        return Some(Keyword::Depth);
+    }
+    None
+}

@@ -1,0 +1,93 @@
+//! The words behind the first of a line: how many there are.
+
+ghost use Rattle.std.specs.Prelude.{◌≡◌, ◌∷◌, [], List, ℕ, Result, Err, IfOk, OnOk, IfErr, MatchOption};
+ghost use Rattle.vcd_text.specs.Grammar.{word_texts};
+ghost use Rattle.vcdedit.specs.ScriptCommands.{no_word, one_word, two_words, four_words};
+ghost use Rattle.vcdedit.specs.declared.script.command.Command.{Command as LineCommand};
+ghost use Rattle.vcdedit.specs.declared.script.line_error.LineError.{LineError as LineFault};
+
+use crate::script::LineError;
+use vcd_text::Words;
+
+/// The next word.
+pub fn next_text<'a>(words: &mut Words<'a>) -> Option<&'a [u8]>
+    ensures { MatchOption result (word_texts words.old ≡ [])
+        (λ text. word_texts words.old ≡ text.now ∷ word_texts words.new) }
+{
+    match words.next_word() {
+        Some(word) => Some(word.text),
+        None => None,
+    }
+}
+
+/// Sees that no word is left.
+pub fn take_none<'a>(words: &mut Words<'a>) -> Result<(), LineError>
+    ensures none { OnOk result (word_texts words.old ≡ []) }
+    ensures others { IfErr result (λ e. (asked : Result LineCommand LineFault) →
+        no_word (word_texts words.old) asked ≡ Err e) }
+{
+    match next_text(words) {
+        Some(_) => Err(LineError::WrongCount),
+        None => Ok(()),
+    }
+}
+
+/// The one word that is left.
+pub fn take_one<'a>(words: &mut Words<'a>) -> Result<&'a [u8], LineError>
+    ensures one { IfOk result (λ first. word_texts words.old ≡ first.now ∷ []) }
+    ensures others { IfErr result (λ e. (asked : List ℕ → Result LineCommand LineFault) →
+        one_word (word_texts words.old) asked ≡ Err e) }
+{
+    let first = next_text(words).ok_or(LineError::WrongCount)?;
+    if next_text(words).is_some() {
+        return Err(LineError::WrongCount);
+    }
+    Ok(first)
+}
+
+/// The two words that are left.
+pub fn take_two<'a>(words: &mut Words<'a>) -> Result<(&'a [u8], &'a [u8]), LineError>
+    ensures two { IfOk result (λ both.
+        word_texts words.old ≡ both.0.now ∷ both.1.now ∷ []) }
+    ensures others { IfErr result (λ e. (asked : List ℕ → List ℕ → Result LineCommand LineFault) →
+        two_words (word_texts words.old) asked ≡ Err e) }
+{
+    let first = next_text(words).ok_or(LineError::WrongCount)?;
+    let second = next_text(words).ok_or(LineError::WrongCount)?;
+    if next_text(words).is_some() {
+        return Err(LineError::WrongCount);
+    }
+    Ok((first, second))
+}
+
+/// Four words.
+#[derive(Clone, Copy)]
+pub struct FourWords<'a> {
+    pub first: &'a [u8],
+    pub second: &'a [u8],
+    pub third: &'a [u8],
+    pub fourth: &'a [u8],
+}
+
+/// The four words that are left.
+pub fn take_four<'a>(words: &mut Words<'a>) -> Result<FourWords<'a>, LineError>
+    ensures four { IfOk result (λ all. word_texts words.old ≡
+        all.first.now ∷ all.second.now ∷ all.third.now ∷ all.fourth.now ∷ []) }
+    ensures others { IfErr result (λ e.
+        (asked : List ℕ → List ℕ → List ℕ → List ℕ → Result LineCommand LineFault) →
+        four_words (word_texts words.old) asked ≡ Err e) }
+{
+    let first = next_text(words).ok_or(LineError::WrongCount)?;
+    let second = next_text(words).ok_or(LineError::WrongCount)?;
+    let third = next_text(words).ok_or(LineError::WrongCount)?;
+    let fourth = next_text(words).ok_or(LineError::WrongCount)?;
+    if next_text(words).is_some() {
+        return Err(LineError::WrongCount);
+    }
+    Ok(FourWords {
+        first,
+        second,
+        third,
+        fourth,
+    })
+}

@@ -1,0 +1,68 @@
+//! Numbers as words write them.
+
+ghost use Rattle.std.specs.Prelude.{◌≡◌, ◌^◌, ◌+◌, ◌-◌, ◌*◌, ◌<◌, ◌≤◌, ℕ, min, nat_lt, if◌then◌else◌, Some, None};
+ghost use Rattle.std.specs.Char.{is_ascii_digit};
+ghost use Rattle.std.specs.List.{list_all};
+ghost use Rattle.vcd_core.specs.Decimal.{number_of};
+ghost use Rattle.vcdedit.specs.ScriptWords.{number_of_word as number_read, distance_of_word as distance_read, distance_forth as forth, distance_back as back};
+
+use crate::script::LineError;
+use vcd_core::number_up_to;
+
+/// The greatest distance back in time, in ticks.
+const MOST_BACK: u64 = 1 << 63;
+
+/// The number that a word writes: a decimal number of 64 bits.
+pub fn number_of_word(word: &[u8]) -> Result<u64, LineError>
+    ensures { result ≡ number_read word.now }
+{
+    let (last, front) = word.split_last().ok_or(LineError::BadNumber)?;
+    if !last.is_ascii_digit() {
+        return Err(LineError::BadNumber);
+    }
+    let tens = tens_of(front).ok_or(LineError::BadNumber)?;
+    with_ones(tens, u64::from(*last - b'0')).ok_or(LineError::BadNumber)
+}
+
+/// The number that the digits but the last write, where `u64::MAX` stands for every greater one.
+fn tens_of(digits: &[u8]) -> Option<u64>
+    ensures { result ≡ (if list_all is_ascii_digit digits.now
+        then Some (min (number_of digits.now) (2 ^ 64 - 1)) else None) }
+{
+    if digits.is_empty() {
+        return Some(0);
+    }
+    number_up_to(digits, u64::MAX)
+}
+
+/// The number with one more digit, where it has 64 bits.
+fn with_ones(tens: u64, ones: u64) -> Option<u64>
+    ensures { result ≡ (if nat_lt (tens * 10 + ones) (2 ^ 64) then Some (tens * 10 + ones) else None) }
+{
+    tens.checked_mul(10)?.checked_add(ones)
+}
+
+/// The distance that a word writes: a decimal number, behind `-`, `+` or neither, that an `i64` can hold.
+pub fn distance_of_word(word: &[u8]) -> Result<i64, LineError>
+    ensures { result ≡ distance_read word.now }
+{
+    match word {
+        [b'-', digits @ ..] => distance_back(digits),
+        [b'+', digits @ ..] => distance_forth(digits),
+        _ => distance_forth(word),
+    }
+}
+
+fn distance_forth(digits: &[u8]) -> Result<i64, LineError>
+    ensures { result ≡ forth digits.now }
+{
+    let ticks = number_up_to(digits, MOST_BACK).ok_or(LineError::BadNumber)?;
+    0i64.checked_add_unsigned(ticks).ok_or(LineError::BadNumber)
+}
+
+fn distance_back(digits: &[u8]) -> Result<i64, LineError>
+    ensures { result ≡ back digits.now }
+{
+    let ticks = number_up_to(digits, MOST_BACK + 1).ok_or(LineError::BadNumber)?;
+    0i64.checked_sub_unsigned(ticks).ok_or(LineError::BadNumber)
+}
