@@ -4,10 +4,10 @@ use Rattle.std.proofs.Math.ListN.{set}
 use Rattle.std.specs.Int.{bit_at}
 use Rattle.std.specs.Int.Bits.{bit_and}
 use Rattle.std.proofs.lemmas.Nat.Bits.{bit_at_ones, bit_at_ones_above, bit_at-zero, bit_at-lt, bit_at_and}
-use Rattle.std.proofs.lemmas.List.{get_or-set_same, get_or-set_other, get_or-replicate, length-replicate, length-set}
-use Rattle.std.proofs.lemmas.Bool.{cases_lt, cases_eq}
+use Rattle.std.proofs.lemmas.List.{get_or-set_same, get_or-set_other, get_or-replicate, length-set}
+use Rattle.std.proofs.lemmas.Bool.{cases_eq}
 use Rattle.vcd_core.specs.Words.{row_bit}
-use Rattle.vcd_core.specs.inside.Planes.{plane_bit, ArePlanes}
+use Rattle.vcd_core.specs.inside.Planes.{plane_bit}
 
 -- the bits of the word that was written
 pub plane_bit-set_same : (words : List ℕ) (plane j x k : ℕ) → j < length words → 2 * (k / 64) + plane ≡ j → plane_bit plane (set words j x) k ≡ bit_at x (k % 64)

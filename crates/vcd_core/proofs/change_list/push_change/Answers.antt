@@ -1,4 +1,4 @@
-use Rattle.std.proofs.Common.{◌∙◌, ◌≡◌, sym, ap, ℕ, Bool, true, false, not, length, List, refl}
+use Rattle.std.proofs.Common.{◌∙◌, ◌≡◌, sym, ap, ℕ, Bool, true, false, length, List}
 use Rattle.vcd_core.specs.declared.bit.Bit.{Bit}
 use Rattle.vcd_core.specs.declared.wave.Change.{Change}
 use Rattle.vcd_core.specs.inside.ValueLaws.{same_letters-Decides}

@@ -1,6 +1,6 @@
-use Rattle.std.proofs.Common.{◌≡◌, ◌*◌, length, sym, subst, arith}
+use Rattle.std.proofs.Common.{arith}
 use Rattle.vcd_core.specs.declared.value.TheConstants.{WORDS}
-use Rattle.vcd_core.proofs.PlaneBits.{HoldsRows, none_held, one_more}
+use Rattle.vcd_core.proofs.PlaneBits.{none_held, one_more}
 use Rattle.vcd_core.proofs.planes.write_rows.Goals as goal
 
 pub loop-j-init : goal.loop-j-init

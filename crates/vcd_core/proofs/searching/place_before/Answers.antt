@@ -1,4 +1,4 @@
-use Rattle.std.proofs.Common.{◌-◌, arith}
+use Rattle.std.proofs.Common.{arith}
 use Rattle.vcd_core.proofs.Searches.{early_before}
 use Rattle.vcd_core.proofs.searching.place_before.Goals as goal
 

@@ -1,4 +1,3 @@
-use Rattle.std.proofs.Common.{arith}
 use Rattle.vcd_core.proofs.Searches.{late_from}
 use Rattle.vcd_core.proofs.searching.place_behind.Goals as goal
 

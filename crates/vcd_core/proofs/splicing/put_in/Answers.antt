@@ -1,4 +1,4 @@
-use Rattle.std.proofs.Common.{rules, w64, ℤ, ◌≡◌, ◌++◌, length, take, drop, map, ap, ◌∙◌, arith}
+use Rattle.std.proofs.Common.{rules, w64, ℤ, ◌≡◌, ◌++◌, take, drop, map, ap, ◌∙◌, arith}
 use Rattle.std.proofs.lemmas.Int.{to_z-of_z}
 use Rattle.vcd_core.specs.Splice.{moved_change}
 use Rattle.vcd_core.proofs.Splices.{whole_list}
