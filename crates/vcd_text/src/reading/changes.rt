@@ -11,9 +11,9 @@ ghost use Rattle.vcd_text.specs.inside.Reading.{IsUnderway, TakesOrRefuses};
 ghost use Rattle.vcd_text.specs.declared.reading.reader.OpenItem.TheVariants as items;
 
 use crate::fault::Fault;
+use crate::reading::binary_number::is_binary_digit;
 use crate::reading::decimal::tick_of;
 use crate::reading::keywords::{is_declaring, is_dump_word};
-use crate::reading::binary_number::is_binary_digit;
 use crate::reading::reader::{OpenItem, Reader};
 
 impl Reader {

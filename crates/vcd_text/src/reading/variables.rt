@@ -13,9 +13,9 @@ ghost use Rattle.vcd_text.specs.declared.fault.Fault.TheVariants.{NoMemory as No
 ghost use Rattle.vcd_text.specs.declared.reading.variables.Owner.TheVariants.{Kept as KeptAt};
 
 use crate::fault::Fault;
+use crate::reading::binary_number::{BinaryNumberError, read_value};
 use crate::reading::copies::{copy_scopes, copy_word, copy_words};
 use crate::reading::decimal::size_of;
-use crate::reading::binary_number::{BinaryNumberError, read_value};
 use indexmap::IndexMap;
 use std::alloc::Global;
 use vcd_core::{
