@@ -23,76 +23,76 @@ fn text_of(alloc: Global, capture: &Capture) -> Result<Vec<u8>, Fail>
     Ok(sink.into_inner())
 }
 
-fn word_at<'a>(words: &[&'a str], k: usize) -> Result<&'a str, Fail> {
+fn word_at<'a>(words: &[&'a str], k: usize) -> Option<&'a str> {
     match words.get(k) {
-        Some(word) => Ok(*word),
-        None => Err(Fail::from("a row without a word")),
+        Some(word) => Some(*word),
+        None => None,
     }
 }
 
-fn position(words: &[&str], k: usize) -> Result<usize, Fail> {
-    Ok(word_at(words, k)?.parse::<usize>()?)
+fn position(words: &[&str], k: usize) -> Option<usize> {
+    word_at(words, k)?.parse::<usize>().ok()
 }
 
-fn number(words: &[&str], k: usize) -> Result<u64, Fail> {
-    Ok(word_at(words, k)?.parse::<u64>()?)
+fn number(words: &[&str], k: usize) -> Option<u64> {
+    word_at(words, k)?.parse::<u64>().ok()
 }
 
 /// The rule that words ask for from the third on, as `derive y and 0 1`.
-fn rule_of(words: &[&str]) -> Result<Rule, Fail> {
+fn rule_of(words: &[&str]) -> Option<Rule> {
     let name = word_at(words, 2)?;
     let a = position(words, 3)?;
     if name == "not" {
-        return Ok(Rule::Not(a));
+        return Some(Rule::Not(a));
     }
     if name == "and" {
-        return Ok(Rule::And(a, position(words, 4)?));
+        return Some(Rule::And(a, position(words, 4)?));
     }
     if name == "or" {
-        return Ok(Rule::Or(a, position(words, 4)?));
+        return Some(Rule::Or(a, position(words, 4)?));
     }
     if name == "xor" {
-        return Ok(Rule::Xor(a, position(words, 4)?));
+        return Some(Rule::Xor(a, position(words, 4)?));
     }
-    Ok(Rule::BitOf(a, number(words, 4)?))
+    Some(Rule::BitOf(a, number(words, 4)?))
 }
 
 /// The edit that words ask for, as `force 0 2 9 z`, with a value of one bit.
-fn edit_of<'a>(words: &[&'a str]) -> Result<Edit<'a>, Fail> {
+fn edit_of<'a>(words: &[&'a str]) -> Option<Edit<'a>> {
     let name = word_at(words, 0)?;
     if name == "derive" {
         let rule = rule_of(words)?;
         let word = word_at(words, 1)?.as_bytes();
-        return Ok(Edit::Derive { word, rule });
+        return Some(Edit::Derive { word, rule });
     }
     if name == "cut" {
         let from = number(words, 1)?;
         let to = number(words, 2)?;
-        return Ok(Edit::Cut { from, to });
+        return Some(Edit::Cut { from, to });
     }
     edit_of_signal(name, position(words, 1)?, words)
 }
 
-fn edit_of_signal<'a>(name: &str, signal: usize, words: &[&'a str]) -> Result<Edit<'a>, Fail> {
+fn edit_of_signal<'a>(name: &str, signal: usize, words: &[&'a str]) -> Option<Edit<'a>> {
     if name == "remove" {
-        return Ok(Edit::Remove { signal });
+        return Some(Edit::Remove { signal });
     }
     if name == "invert" {
-        return Ok(Edit::Invert { signal });
+        return Some(Edit::Invert { signal });
     }
     if name == "rename" {
         let word = word_at(words, 2)?.as_bytes();
-        return Ok(Edit::Rename { signal, word });
+        return Some(Edit::Rename { signal, word });
     }
     if name == "shift" {
-        let by = word_at(words, 2)?.parse::<i64>()?;
-        return Ok(Edit::Shift { signal, by });
+        let by = word_at(words, 2)?.parse::<i64>().ok()?;
+        return Some(Edit::Shift { signal, by });
     }
     if name == "deglitch" {
         let ticks = number(words, 2)?;
-        return Ok(Edit::Deglitch { signal, ticks });
+        return Some(Edit::Deglitch { signal, ticks });
     }
-    Ok(Edit::Force {
+    Some(Edit::Force {
         signal,
         from: number(words, 2)?,
         to: number(words, 3)?,

@@ -39,7 +39,9 @@ derive a not 0:NameTaken";
 fn check_refused(rt: &impl Abort, alloc: Global, file: &[u8], row: &str) -> Result<(), Fail> {
     let (edit, name) = row.split_once(':').ok_or("no fault")?;
     let words: Vec<&str> = edit.split(' ').collect(alloc)?;
-    let edit = edit_of(words.as_slice())?;
+    let Some(edit) = edit_of(words.as_slice()) else {
+        return Err(Fail::from("no edit"));
+    };
     let mut capture = loaded(alloc, file)?.capture;
     let before = text_of(alloc, &capture)?;
     let Err(fault) = check(&capture, &edit) else {

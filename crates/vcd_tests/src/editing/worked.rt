@@ -6,7 +6,7 @@ use std::alloc::Global;
 use std::process::Abort;
 use std::test::Fail;
 use vcd_core::Capture;
-use vcd_edit::{Edit, apply, revert};
+use vcd_edit::{Edit, Rule, apply, revert};
 
 /// A row is the edit; then of the capture after it a position and the end, and how many changes the record may
 /// hold at most, and that of its undo; then the changes of the signal at the position.
@@ -95,8 +95,8 @@ fn check_after(
     numbers: &[&str],
     changes: &str,
 ) -> Result<(), Fail> {
-    let signal = position(numbers, 0)?;
-    assert!(rt; capture.end() == number(numbers, 1)?);
+    let signal = position(numbers, 0).ok_or("no position")?;
+    assert!(rt; capture.end() == number(numbers, 1).ok_or("no number")?);
     assert!(rt; signal < capture.signals().len());
     let wanted = changes_in_text(alloc, changes)?;
     assert!(rt; capture.signals()[signal].wave.changes() == wanted.as_slice());
@@ -118,12 +118,12 @@ fn check_edit(
     let way = apply(alloc, &mut capture, edit)?;
     check_after(rt, alloc, &capture, numbers, changes)?;
     assert!(rt; way.fits(&capture));
-    assert!(rt; way.stored() <= number(numbers, 2)? as u128);
+    assert!(rt; way.stored() <= number(numbers, 2).ok_or("no number")? as u128);
     let Ok(forth) = revert(alloc, &mut capture, way) else {
         return Err(Fail::from("refused with ample memory"));
     };
     assert!(rt; forth.fits(&capture));
-    assert!(rt; forth.stored() <= number(numbers, 3)? as u128);
+    assert!(rt; forth.stored() <= number(numbers, 3).ok_or("no number")? as u128);
     assert!(rt; text_of(alloc, &capture)?.as_slice() == before.as_slice());
     Ok(())
 }
@@ -133,7 +133,9 @@ fn check_row(rt: &impl Abort, alloc: Global, file: &str, row: &str) -> Result<()
     let (numbers, changes) = after.split_once(':').ok_or("no changes")?;
     let words: Vec<&str> = edit.split(' ').collect(alloc)?;
     let numbers: Vec<&str> = numbers.split(' ').collect(alloc)?;
-    let edit = edit_of(words.as_slice())?;
+    let Some(edit) = edit_of(words.as_slice()) else {
+        return Err(Fail::from("no edit"));
+    };
     check_edit(rt, alloc, file, &edit, numbers.as_slice(), changes)
 }
 
@@ -161,7 +163,9 @@ fn edits_and_the_ways_back(rt: HostRuntime) -> Result<(), Fail> {
 fn the_scopes_of_a_derived_signal(rt: HostRuntime) -> Result<(), Fail> {
     let without = loaded(rt.alloc(), SCOPES.as_bytes())?.capture;
     let mut capture = loaded(rt.alloc(), SCOPES.as_bytes())?.capture;
-    let edit = edit_of(&["derive", "y", "or", "1", "0"])?;
+    let word = b"y".as_slice();
+    let rule = Rule::Or(1, 0);
+    let edit = Edit::Derive { word, rule };
     let way = apply(rt.alloc(), &mut capture, &edit)?;
     assert!(rt; capture.find(b"top.sub.y") == Some(3));
     assert!(rt; way.fits(&capture) && !way.fits(&without));
