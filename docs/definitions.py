@@ -6,6 +6,7 @@
 What stands before the first crate is kept, but for the numbers in its table. Files keep the order that they have in
 the document; new ones come last. A definition or file without a comment is named, and the status is then 1.
 """
+import itertools
 import pathlib
 import re
 import sys
@@ -29,11 +30,12 @@ def path_of(name):
 def rows_of(path):
     """What the file is about, and each definition with its comment."""
     lines = path.read_text().splitlines()
-    about = lines[0].removeprefix("--").strip() if lines and lines[0].startswith("--") else ""
+    head = list(itertools.takewhile(lambda line: line.startswith("--"), lines))
+    about = " ".join(line.removeprefix("--").strip() for line in head)
     if not about:
         missing.append(str(path))
     rows, comment = [], []
-    for line in lines[1:]:
+    for line in lines[len(head):]:
         if line.startswith("-- ----"):
             comment = []
         elif line.lstrip().startswith("--"):
