@@ -6,7 +6,7 @@ use Rattle.std.specs.Int.Bits.{bit_and}
 use Rattle.std.proofs.lemmas.Nat.Bits.{bit_at_ones, bit_at_ones_above, bit_at-zero, bit_at-lt, bit_at_and}
 use Rattle.std.proofs.lemmas.List.{get_or-set_same, get_or-set_other, get_or-replicate, length-set}
 use Rattle.std.proofs.lemmas.Bool.{cases_eq}
-use Rattle.vcd_core.specs.Words.{row_bit}
+use Rattle.vcd_core.specs.WordRows.{row_bit}
 use Rattle.vcd_core.specs.inside.Planes.{plane_bit}
 
 -- the bits of the word that was written

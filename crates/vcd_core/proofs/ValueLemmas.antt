@@ -10,7 +10,7 @@ use Rattle.vcd_core.specs.declared.bit.Bit.{Bit}
 use Rattle.vcd_core.specs.declared.bit.Bit.TheVariants.{Zero, One, X, Z}
 use Rattle.vcd_core.specs.declared.value.Value.TheInside.{Inside}
 use Rattle.vcd_core.specs.Value.{letter_at}
-use Rattle.vcd_core.specs.Words.{row_bit, letter_of, low_of, high_of, letters_of}
+use Rattle.vcd_core.specs.WordRows.{row_bit, letter_of, low_of, high_of, letters_of}
 use Rattle.vcd_core.specs.inside.Planes.{plane_bit, letters_in, view_value, bit_in, IsValue}
 use Rattle.vcd_core.specs.inside.PlaneLaws.{letter_at-letters_in, length-letters_in, bit_in-letter_of}
 

@@ -2,7 +2,7 @@
 pub mod Lending
 pub mod WaveView
 pub mod Value
-pub mod Words
+pub mod WordRows
 pub mod Wave
 pub mod Splice
 pub mod Contents

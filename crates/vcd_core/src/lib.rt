@@ -48,7 +48,8 @@ pub use laws::{
 pub use memory::NoMemory;
 pub use planes::{repeated, words_in};
 pub use seq::Seq;
+pub use soundness::{are_scopes_sound, is_wave_sound};
 pub use splicing::moved_change;
 pub use value::{Value, WIDTH_LIMIT, WORDS};
 pub use wave::{Change, Wave};
-pub use word::{is_skipped_kind, is_white_space, is_word};
+pub use word::{are_words, is_skipped_kind, is_white_space, is_word};

@@ -2,7 +2,7 @@
 
 ghost use Rattle.std.specs.Prelude.{◌≡◌, ◌==◌, ℕ, ◌+◌, ◌-◌, ◌*◌, ◌/◌, ◌%◌, ◌^◌, ◌<◌, ◌≤◌, ◌≢◌, ◌↔◌, min, length, replicate, slice_index, All, IsTrue, if◌then◌else◌};
 ghost use Rattle.std.specs.Int.{bit_at};
-ghost use Rattle.vcd_core.specs.Words.{row_bit, letter_of, low_of, high_of};
+ghost use Rattle.vcd_core.specs.WordRows.{row_bit, letter_of, low_of, high_of};
 ghost use Rattle.vcd_core.specs.inside.Planes.{plane_bit as bit_of_plane, ArePlanes};
 
 use crate::bit::Bit;

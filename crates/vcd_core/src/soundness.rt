@@ -53,13 +53,16 @@ impl Signal {
     }
 }
 
-fn are_scopes_sound(scopes: &[ScopeName]) -> bool
+/// Whether a file can say each of these scopes: its kind and the words of its name are words, in the sense of
+/// [`is_word`].
+pub fn are_scopes_sound(scopes: &[ScopeName]) -> bool
     ensures { result ≡ list_all is_sound_scope scopes.now }
 {
     scopes.iter().all(|scope| scope.is_sound())
 }
 
-fn is_wave_sound(wave: &Wave, end: u64) -> bool
+/// Whether no change of a wave is past the end. Its width and its form are those of a file's, as of any wave.
+pub fn is_wave_sound(wave: &Wave, end: u64) -> bool
     ensures ends { IsTrue result ↔ AllUpTo end wave.now.changes }
     ensures least { 1 ≤ wave.now.width }
     ensures most { wave.now.width ≤ WIDTH_LIMIT }

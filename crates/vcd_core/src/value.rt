@@ -1,7 +1,7 @@
 ghost use Rattle.std.specs.Prelude.{◌≡◌, ℕ, ◌+◌, ◌-◌, ◌*◌, ◌<◌, ◌≤◌, ◌↔◌, length, replicate, slice_set, IsTrue};
 ghost use Rattle.std.specs.Int.{bit_at};
 ghost use Rattle.vcd_core.specs.Value.{letter_at, all_x, same_letters};
-ghost use Rattle.vcd_core.specs.Words.{letters_of, low_bit, high_bit};
+ghost use Rattle.vcd_core.specs.WordRows.{letters_of, low_bit, high_bit};
 
 use crate::bit::Bit;
 use crate::planes::{

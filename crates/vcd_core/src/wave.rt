@@ -1,6 +1,6 @@
 ghost use Rattle.std.specs.Prelude.{◌≡◌, ℕ, ◌+◌, ◌-◌, ◌<◌, ◌≤◌, if◌then◌else◌, nat_lt, nat_le, max, [], ◌∷◌, length, drop, slice_range, count_by, IsOk, OnOk, OnErr, All, Any, vec_len, vec_capacity};
 ghost use Rattle.vcd_core.specs.Wave.{value_at, IsWave, changes_after_push};
-ghost use Rattle.vcd_core.specs.Words.{letters_of};
+ghost use Rattle.vcd_core.specs.WordRows.{letters_of};
 ghost use Rattle.vcd_core.specs.Splice.{TicksFit, spliced_changes};
 
 use crate::change_list::{push_change, value_at_end};

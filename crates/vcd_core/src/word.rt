@@ -30,7 +30,7 @@ fn is_black(bytes: &[u8]) -> bool
 }
 
 /// Whether each is a word, in the sense of [`is_word`].
-pub(crate) fn are_words(words: &[Word]) -> bool
+pub fn are_words(words: &[Word]) -> bool
     ensures { result ≡ list_all word_test words.now }
 {
     words.iter().all(|word| is_word(word.as_slice()))

@@ -17,7 +17,7 @@ use Rattle.vcd_decode.specs.Spi.{samples_rise, has_edge, is_selected, line_data,
 use Rattle.vcd_decode.specs.inside.LineEdges.{lines_of, line_edge}
 use Rattle.vcd_decode.specs.inside.SpiClock.{passes, samples}
 use Rattle.vcd_decode.specs.inside.SpiGroup.{line_bit, first_data, data_after, group_before, group_after, word_note}
-use Rattle.vcd_decode.specs.inside.SpiWalk.{selects, deselects, is_sampling, rest_told, edge_told, edge_group, group_of, edge_marks, marks_told, IsUnfinished, SpiSoFar}
+use Rattle.vcd_decode.specs.inside.SpiWalk.{selects, deselects, is_sampling, rest_told, edge_told, edge_group, group_of, edge_marks, marks_told, HasRoomForBit, SpiSoFar}
 use Rattle.vcd_decode.proofs.Groups.{groups_none, groups_whole}
 use Rattle.vcd_decode.proofs.EdgeTicks.{each_edge, over_edges}
 use Rattle.vcd_decode.proofs.SpiGroups.{group_last, group_none, length_last, line_first, line_fits, rest_is, word_is}
@@ -140,11 +140,11 @@ module _ (u : SpiSetup) (some : 0 < u.bits) (mosi miso : Option (ℕ → Bit)) w
         ∙ so_far.rest
 
     -- the group has room for one more bit
-    pub so_far_open : (all found : List Annotation) (g : Group) (left : List BitEdge) → SoFar all found g left → IsUnfinished u g
+    pub so_far_open : (all found : List Annotation) (g : Group) (left : List BitEdge) → SoFar all found g left → HasRoomForBit u g
     so_far_open all found g left so_far =
         let ts = so_far.ticks in
-        let open_there : IsUnfinished u (group_of u mosi miso ts) = record { count = so_far.short; mosi = line_fits u.order mosi ts; miso = line_fits u.order miso ts } in
-        subst (IsUnfinished u) (sym so_far.is_group) open_there
+        let open_there : HasRoomForBit u (group_of u mosi miso ts) = record { count = so_far.short; mosi = line_fits u.order mosi ts; miso = line_fits u.order miso ts } in
+        subst (HasRoomForBit u) (sym so_far.is_group) open_there
 
     -- ---- the marks of all ticks
 

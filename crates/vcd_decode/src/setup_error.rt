@@ -11,7 +11,7 @@ use thiserror::Error;
 /// The names are the project's own.
 #[derive(Clone, Copy, Debug, PartialEq, Eq, Error)]
 pub enum SetupError {
-    /// A number of the ratio that gives a bit's length is outside 1 to 1,000,000,000.
+    /// A number of the ratio that gives a bit's length is outside 1 to `RATIO_LIMIT`.
     BadRatio,
     /// A bit lasts fewer than two ticks.
     BitTooShort,
@@ -19,9 +19,9 @@ pub enum SetupError {
     BadData,
     /// The number of stop bits is neither 1 nor 2.
     BadStop,
-    /// The mode is above 3.
+    /// The mode is above `GREATEST_MODE`.
     BadMode,
-    /// The number of bits of a word is outside 1 to 32.
+    /// The number of bits of a word is outside 1 to `WORD_BITS_LIMIT`.
     BadBits,
 }
 

@@ -6,7 +6,7 @@ ghost use Rattle.vcd_core.specs.Edges.{EachUpTo};
 ghost use Rattle.vcd_core.specs.BitEdges.{EachOneBit};
 ghost use Rattle.vcd_decode.specs.Lines.{line_of};
 ghost use Rattle.vcd_decode.specs.Spi.{spi_annotations};
-ghost use Rattle.vcd_decode.specs.inside.SpiWalk.{selects, deselects, is_sampling, IsUnfinished, rest_told, edge_told, edge_group, bit_told, bit_group};
+ghost use Rattle.vcd_decode.specs.inside.SpiWalk.{selects, deselects, is_sampling, HasRoomForBit, rest_told, edge_told, edge_group, bit_told, bit_group};
 
 use crate::annotation::Annotation;
 use crate::letters::is_zero;
@@ -48,20 +48,20 @@ pub fn spi<'a>(
     let mut found = Vec::new(alloc);
     let mut group = Group::new(mosi.is_some(), miso.is_some());
     for edge in edges {
-        group = take_edge(&mut found, setup, &group, &edge)?;
+        group = take_clock_edge(&mut found, setup, &group, &edge)?;
     }
     tell_rest(&mut found, &group)?;
     Ok(found)
 }
 
 /// Tells what an edge ends, and answers the group of bits after it.
-fn take_edge(
+fn take_clock_edge(
     found: &mut Vec<Annotation>,
     setup: &Spi,
     group: &Group,
     edge: &BitEdge,
 ) -> Result<Group, NoMemory>
-    requires { IsUnfinished setup.now group.now }
+    requires { HasRoomForBit setup.now group.now }
     ensures told { OnOk result (found.new.items
         ≡ found.old.items ++ edge_told setup.now group.now edge.now) }
     ensures group { IfOk result (λ g. g ≡ edge_group setup.now group.now edge.now) }
@@ -70,17 +70,17 @@ fn take_edge(
         tell_rest(found, group)?;
         return Ok(group.emptied());
     }
-    take_bit(found, setup, group, edge)
+    take_sample(found, setup, group, edge)
 }
 
 /// The same where the chip stays as it is.
-fn take_bit(
+fn take_sample(
     found: &mut Vec<Annotation>,
     setup: &Spi,
     group: &Group,
     edge: &BitEdge,
 ) -> Result<Group, NoMemory>
-    requires { IsUnfinished setup.now group.now }
+    requires { HasRoomForBit setup.now group.now }
     ensures told { OnOk result (found.new.items
         ≡ found.old.items ++ bit_told setup.now group.now edge.now) }
     ensures group { IfOk result (λ g. g ≡ bit_group setup.now group.now edge.now) }

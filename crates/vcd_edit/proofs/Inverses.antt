@@ -12,7 +12,7 @@ use Rattle.vcd_core.specs.Contents.{Contents, SignalContents, signal_at}
 use Rattle.vcd_edit.specs.declared.edit.Edit.TheVariants.{Invert}
 use Rattle.vcd_edit.specs.Operators.{not_bit}
 use Rattle.vcd_edit.specs.Effect.{inverse_value, with_wave, effect}
-use Rattle.vcd_edit.specs.inside.Thinned.{thinned, with_value}
+use Rattle.vcd_edit.specs.inside.Thinned.{thinned_list, with_value}
 use Rattle.vcd_edit.proofs.PieceLists.{element_here}
 use Rattle.vcd_edit.proofs.ThinnedLists.{thinned_is, wave_rises, mapped_rise, mapped_upto, mapped_value}
 
@@ -45,14 +45,14 @@ bit_more value inverse next place k at bit negated within here is read told same
 -- ---- the changes of a wave, one after another
 
 -- the last change put, where the rest is still to come
-pub thinned_more : (before last : List Bit) (c : Change) (out more rest all : List Change) → out ++ thinned last (c ∷ rest) ≡ all → more ≡ out ++ unless_same (same_letters c.value last) c []
-    → more ++ thinned c.value rest ≡ all
-unfolding thinned
+pub thinned_more : (before last : List Bit) (c : Change) (out more rest all : List Change) → out ++ thinned_list last (c ∷ rest) ≡ all → more ≡ out ++ unless_same (same_letters c.value last) c []
+    → more ++ thinned_list c.value rest ≡ all
+unfolding thinned_list
 thinned_more before last c out more rest all was put =
-    ap (λ (cs : List Change). cs ++ thinned c.value rest) put ∙ append_assoc out (unless_same (same_letters c.value last) c []) (thinned c.value rest)
+    ap (λ (cs : List Change). cs ++ thinned_list c.value rest) put ∙ append_assoc out (unless_same (same_letters c.value last) c []) (thinned_list c.value rest)
     ∙ ap (λ (cs : List Change). out ++ cs) (joined (same_letters c.value last)) ∙ was
   where
-    joined : (b : Bool) → unless_same b c [] ++ thinned c.value rest ≡ unless_same b c (thinned c.value rest)
+    joined : (b : Bool) → unless_same b c [] ++ thinned_list c.value rest ≡ unless_same b c (thinned_list c.value rest)
     joined true = refl
     joined false = refl
 
@@ -63,24 +63,24 @@ left h cs i c within at =
     ap (map (with_value h)) (drop-cons cs i c within ∙ ap (λ (d : Change). d ∷ drop (suc i) cs) (sym at)) ∙ ap (λ n. with_value h c ∷ map (with_value h) (drop n cs)) {x = suc i} {y = i + 1} (omega arith)
 
 pub inverse_more : (before last value : List Bit) (cs : List Change) (i : ℕ) (c : Change) (out more : List Change) → i < length cs → c ≡ get_or cs i c → value ≡ map not_bit c.value
-    → out ++ thinned last (map (with_value (map not_bit)) (drop i cs)) ≡ thinned before (map (with_value (map not_bit)) cs)
+    → out ++ thinned_list last (map (with_value (map not_bit)) (drop i cs)) ≡ thinned_list before (map (with_value (map not_bit)) cs)
     → more ≡ out ++ unless_same (same_letters value last) (change c.tick value) []
-    → more ++ thinned value (map (with_value (map not_bit)) (drop (i + 1) cs)) ≡ thinned before (map (with_value (map not_bit)) cs)
+    → more ++ thinned_list value (map (with_value (map not_bit)) (drop (i + 1) cs)) ≡ thinned_list before (map (with_value (map not_bit)) cs)
 inverse_more before last value cs i c out more within at is was put =
-    ap (λ v. more ++ thinned v (map (with_value (map not_bit)) (drop (i + 1) cs))) is
-    ∙ thinned_more before last (with_value (map not_bit) c) out more (map (with_value (map not_bit)) (drop (i + 1) cs)) (thinned before (map (with_value (map not_bit)) cs))
-    (ap (λ (rest : List Change). out ++ thinned last rest) (sym (left (map not_bit) cs i c within at)) ∙ was)
+    ap (λ v. more ++ thinned_list v (map (with_value (map not_bit)) (drop (i + 1) cs))) is
+    ∙ thinned_more before last (with_value (map not_bit) c) out more (map (with_value (map not_bit)) (drop (i + 1) cs)) (thinned_list before (map (with_value (map not_bit)) cs))
+    (ap (λ (rest : List Change). out ++ thinned_list last rest) (sym (left (map not_bit) cs i c within at)) ∙ was)
     (put ∙ ap (λ v. out ++ unless_same (same_letters v last) (change c.tick v) []) is)
 
 -- none is left
 pub inverse_done : (before last : List Bit) (cs : List Change) (i : ℕ) (out : List Change) → length cs ≤ i
-    → out ++ thinned last (map (with_value (map not_bit)) (drop i cs)) ≡ thinned before (map (with_value (map not_bit)) cs) → out ≡ thinned before (map (with_value (map not_bit)) cs)
-unfolding thinned
+    → out ++ thinned_list last (map (with_value (map not_bit)) (drop i cs)) ≡ thinned_list before (map (with_value (map not_bit)) cs) → out ≡ thinned_list before (map (with_value (map not_bit)) cs)
+unfolding thinned_list
 inverse_done before last cs i out past all =
-    sym (append-nil out) ∙ ap (λ (rest : List Change). out ++ thinned last (map (with_value (map not_bit)) rest)) (sym (drop_all i cs past)) ∙ all
+    sym (append-nil out) ∙ ap (λ (rest : List Change). out ++ thinned_list last (map (with_value (map not_bit)) rest)) (sym (drop_all i cs past)) ∙ all
 
-pub inverse_none : (before : List Bit) (cs out : List Change) → out ≡ [] → out ++ thinned before (map (with_value (map not_bit)) (drop 0 cs)) ≡ thinned before (map (with_value (map not_bit)) cs)
-inverse_none before cs out empty = ap (λ (l : List Change). l ++ thinned before (map (with_value (map not_bit)) cs)) empty
+pub inverse_none : (before : List Bit) (cs out : List Change) → out ≡ [] → out ++ thinned_list before (map (with_value (map not_bit)) (drop 0 cs)) ≡ thinned_list before (map (with_value (map not_bit)) cs)
+inverse_none before cs out empty = ap (λ (l : List Change). l ++ thinned_list before (map (with_value (map not_bit)) cs)) empty
 
 -- ---- the whole signal
 
@@ -90,7 +90,7 @@ inverse_of_x (suc width) = ap (λ (v : List Bit). X ∷ v) (inverse_of_x width)
 
 -- the changes to inverse values, those that change nothing left out
 pub inverse_changes : (end : ℕ) (s : SignalContents) → IsWave s.width s.changes → AllUpTo end s.changes
-    → thinned (all_x s.width) (map (with_value (map not_bit)) s.changes) ≡ changes_of s.width end (inverse_value s)
+    → thinned_list (all_x s.width) (map (with_value (map not_bit)) s.changes) ≡ changes_of s.width end (inverse_value s)
 inverse_changes end s is upto =
     thinned_is s.width end (map (with_value (map not_bit)) s.changes) (inverse_value s)
     (mapped_rise s.width 0 (map not_bit) s.changes (λ v. length-map v not_bit) (wave_rises s.width 0 (all_x s.width) s.changes (length-replicate s.width X) is.rise))

@@ -13,7 +13,7 @@ use Rattle.vcd_core.specs.Contents.{Contents, SignalContents, signal_at, signal_
 use Rattle.vcd_core.proofs.Waves.{value_past, value_early}
 use Rattle.vcd_edit.specs.declared.edit.Edit.TheVariants.{Deglitch}
 use Rattle.vcd_edit.specs.Effect.{run_start, run_end, is_steady, steady_value, with_wave, effect}
-use Rattle.vcd_edit.specs.inside.Thinned.{TicksRise, thinned, begins_steady, steady_changes}
+use Rattle.vcd_edit.specs.inside.Thinned.{TicksRise, thinned_list, begins_steady, steady_changes}
 use Rattle.vcd_edit.proofs.Inverses.{thinned_more}
 use Rattle.vcd_edit.proofs.ThinnedLists.{rise_lower, early_value, wave_rises, thinned_is}
 
@@ -202,7 +202,7 @@ steady_values n end width (c ∷ cs) (from, other, wide, rest) (here, upto) t to
 
 -- the changes without the glitches
 pub steady_are : (n end : ℕ) (s : SignalContents) → IsWave s.width s.changes → AllUpTo end s.changes
-    → thinned (all_x s.width) (steady_changes n s.changes) ≡ changes_of s.width end (steady_value n end (signal_value s))
+    → thinned_list (all_x s.width) (steady_changes n s.changes) ≡ changes_of s.width end (steady_value n end (signal_value s))
 steady_are n end s is upto =
     thinned_is s.width end (steady_changes n s.changes) (steady_value n end (signal_value s))
     (steady_rise n s.width 0 s.changes (wave_rises s.width 0 (all_x s.width) s.changes (length-replicate s.width X) is.rise))
@@ -223,9 +223,9 @@ pub steady_keep : (n : ℕ) (c : Change) (cs : List Change) → begins_steady n 
 unfolding steady_changes
 steady_keep n c cs kept = ap (λ q. if q then c ∷ steady_changes n cs else steady_changes n cs) kept
 
-pub steady_done : (n : ℕ) (last : List Bit) (cs out all : List Change) → cs ≡ [] → out ++ thinned last (steady_changes n cs) ≡ all → out ≡ all
-unfolding steady_changes thinned
-steady_done n last cs out all none is = sym (append-nil out) ∙ ap (λ (l : List Change). out ++ thinned last (steady_changes n l)) (sym none) ∙ is
+pub steady_done : (n : ℕ) (last : List Bit) (cs out all : List Change) → cs ≡ [] → out ++ thinned_list last (steady_changes n cs) ≡ all → out ≡ all
+unfolding steady_changes thinned_list
+steady_done n last cs out all none is = sym (append-nil out) ∙ ap (λ (l : List Change). out ++ thinned_list last (steady_changes n l)) (sym none) ∙ is
 
 -- the changes behind the first
 abbrev pub behind_first : List Change → List Change
@@ -235,16 +235,16 @@ first_and_others : (left : List Change) (c : Change) → 1 ≤ length left → c
 first_and_others [] c some at = absurd (omega arith)
 first_and_others (x ∷ xs) c some at = λ i. sym at i ∷ sym (take_all (length (x ∷ xs) - 1) xs (omega arith)) i
 
-module _ (n : ℕ) (last : List Bit) (left out all : List Change) (c : Change) (some : 1 ≤ length left) (at : c ≡ get_or left 0 c) (was : out ++ thinned last (steady_changes n left) ≡ all) where
-  pub glitch_left_out : begins_steady n c (behind_first left) ≡ false → out ++ thinned last (steady_changes n (behind_first left)) ≡ all
+module _ (n : ℕ) (last : List Bit) (left out all : List Change) (c : Change) (some : 1 ≤ length left) (at : c ≡ get_or left 0 c) (was : out ++ thinned_list last (steady_changes n left) ≡ all) where
+  pub glitch_left_out : begins_steady n c (behind_first left) ≡ false → out ++ thinned_list last (steady_changes n (behind_first left)) ≡ all
   glitch_left_out short =
-      ap (λ (cs : List Change). out ++ thinned last cs) (sym (ap (steady_changes n) (first_and_others left c some at) ∙ steady_skip n c (behind_first left) short)) ∙ was
+      ap (λ (cs : List Change). out ++ thinned_list last cs) (sym (ap (steady_changes n) (first_and_others left c some at) ∙ steady_skip n c (behind_first left) short)) ∙ was
 
   pub steady_listed : begins_steady n c (behind_first left) ≡ true → (more : List Change) → more ≡ out ++ unless_same (same_letters c.value last) (change c.tick c.value) []
-      → more ++ thinned c.value (steady_changes n (behind_first left)) ≡ all
+      → more ++ thinned_list c.value (steady_changes n (behind_first left)) ≡ all
   steady_listed long more put =
       thinned_more [] last c out more (steady_changes n (behind_first left)) all
-      (ap (λ (cs : List Change). out ++ thinned last cs) (sym (ap (steady_changes n) (first_and_others left c some at) ∙ steady_keep n c (behind_first left) long)) ∙ was) put
+      (ap (λ (cs : List Change). out ++ thinned_list last cs) (sym (ap (steady_changes n) (first_and_others left c some at) ∙ steady_keep n c (behind_first left) long)) ∙ was) put
 
 pub none_left : (left : List Change) → length left < 1 → left ≡ []
 none_left [] none = refl

@@ -8,7 +8,7 @@ use Rattle.vcd_core.specs.declared.wave.Change.{Change}
 use Rattle.vcd_core.specs.Value.{all_x}
 use Rattle.vcd_core.specs.Wave.{value_from, changes_of, ChangesFrom, AllUpTo}
 use Rattle.vcd_core.proofs.Waves.{put_cases, value_past, value_skip, value_early, lower_floor, wave_is}
-use Rattle.vcd_edit.specs.inside.Thinned.{TicksRise, thinned, with_value}
+use Rattle.vcd_edit.specs.inside.Thinned.{TicksRise, thinned_list, with_value}
 
 pub rise_lower : (width low high : ℕ) (cs : List Change) → low ≤ high → TicksRise width high cs → TicksRise width low cs
 rise_lower width low high [] le rise = tt
@@ -21,48 +21,48 @@ early_value width v [] floor t rise early = refl
 early_value width v (c ∷ cs) floor t (from, wide, rest) early =
     value_skip v c cs t (omega arith) ∙ early_value width v cs (c.tick + 1) t rest (omega arith)
 
-thinned_rise : (width floor : ℕ) (before : List Bit) (cs : List Change) → length before ≡ width → TicksRise width floor cs → ChangesFrom floor before (thinned before cs)
-unfolding thinned
+thinned_rise : (width floor : ℕ) (before : List Bit) (cs : List Change) → length before ≡ width → TicksRise width floor cs → ChangesFrom floor before (thinned_list before cs)
+unfolding thinned_list
 thinned_rise width floor before [] long rise = tt
 thinned_rise width floor before (c ∷ cs) long (from, wide, rest) =
     let tail = thinned_rise width (c.tick + 1) c.value cs wide rest in
-    put_cases (λ l. ChangesFrom floor before l) c.value before c (thinned c.value cs)
-    (λ equal. lower_floor floor (c.tick + 1) before (thinned c.value cs) (omega arith) (subst (λ v. ChangesFrom (c.tick + 1) v (thinned c.value cs)) equal tail))
+    put_cases (λ l. ChangesFrom floor before l) c.value before c (thinned_list c.value cs)
+    (λ equal. lower_floor floor (c.tick + 1) before (thinned_list c.value cs) (omega arith) (subst (λ v. ChangesFrom (c.tick + 1) v (thinned_list c.value cs)) equal tail))
     (λ other. (from, other, wide ∙ sym long, tail))
 
-thinned_upto : (end : ℕ) (before : List Bit) (cs : List Change) → AllUpTo end cs → AllUpTo end (thinned before cs)
-unfolding thinned
+thinned_upto : (end : ℕ) (before : List Bit) (cs : List Change) → AllUpTo end cs → AllUpTo end (thinned_list before cs)
+unfolding thinned_list
 thinned_upto end before [] upto = tt
 thinned_upto end before (c ∷ cs) (here, upto) =
     let tail = thinned_upto end c.value cs upto in
-    put_cases (λ l. AllUpTo end l) c.value before c (thinned c.value cs) (λ _. tail) (λ _. (here, tail))
+    put_cases (λ l. AllUpTo end l) c.value before c (thinned_list c.value cs) (λ _. tail) (λ _. (here, tail))
 
 -- and the values are the same
 thinned_value : (width floor : ℕ) (before : List Bit) (cs : List Change) (t : ℕ) → length before ≡ width → TicksRise width floor cs
-    → value_from before (thinned before cs) t ≡ value_from before cs t
-unfolding thinned value_from
+    → value_from before (thinned_list before cs) t ≡ value_from before cs t
+unfolding thinned_list value_from
 thinned_value width floor before [] t long rise = refl
 thinned_value width floor before (c ∷ cs) t long (from, wide, rest) =
     let tail = thinned_value width (c.tick + 1) c.value cs t wide rest in
     elim (cases_lt t c.tick) [
       | inl early ↦
-          put_cases (λ l. value_from before l t ≡ value_from before (c ∷ cs) t) c.value before c (thinned c.value cs)
-          (λ equal. value_early before c.value (thinned c.value cs) (c.tick + 1) t (thinned_rise width (c.tick + 1) c.value cs wide rest) (omega arith)
+          put_cases (λ l. value_from before l t ≡ value_from before (c ∷ cs) t) c.value before c (thinned_list c.value cs)
+          (λ equal. value_early before c.value (thinned_list c.value cs) (c.tick + 1) t (thinned_rise width (c.tick + 1) c.value cs wide rest) (omega arith)
           ∙ sym (early_value width before (c ∷ cs) c.tick t (omega arith, wide, rest) early))
-          (λ other. value_skip before c (thinned c.value cs) t early ∙ value_early before c.value (thinned c.value cs) (c.tick + 1) t (thinned_rise width (c.tick + 1) c.value cs wide rest) (omega arith)
+          (λ other. value_skip before c (thinned_list c.value cs) t early ∙ value_early before c.value (thinned_list c.value cs) (c.tick + 1) t (thinned_rise width (c.tick + 1) c.value cs wide rest) (omega arith)
           ∙ sym (early_value width before (c ∷ cs) c.tick t (omega arith, wide, rest) early))
       | inr late ↦
-          put_cases (λ l. value_from before l t ≡ value_from before (c ∷ cs) t) c.value before c (thinned c.value cs)
-          (λ equal. subst (λ v. value_from v (thinned c.value cs) t ≡ value_from c.value cs t) equal tail ∙ sym (value_past before c cs t late))
-          (λ other. value_past before c (thinned c.value cs) t late ∙ tail ∙ sym (value_past before c cs t late))
+          put_cases (λ l. value_from before l t ≡ value_from before (c ∷ cs) t) c.value before c (thinned_list c.value cs)
+          (λ equal. subst (λ v. value_from v (thinned_list c.value cs) t ≡ value_from c.value cs t) equal tail ∙ sym (value_past before c cs t late))
+          (λ other. value_past before c (thinned_list c.value cs) t late ∙ tail ∙ sym (value_past before c cs t late))
     ]
 
 -- such a list is that of the changes of the function whose values it has
 pub thinned_is : (width end : ℕ) (cs : List Change) (f : ℕ → List Bit) → TicksRise width 0 cs → AllUpTo end cs → ((t : ℕ) → t ≤ end → value_from (all_x width) cs t ≡ f t)
-    → thinned (all_x width) cs ≡ changes_of width end f
+    → thinned_list (all_x width) cs ≡ changes_of width end f
 thinned_is width end cs f rise upto same =
     let long = length-replicate width X in
-    wave_is width end (thinned (all_x width) cs) f (record { rise = thinned_rise width 0 (all_x width) cs long rise }) (thinned_upto end (all_x width) cs upto)
+    wave_is width end (thinned_list (all_x width) cs) f (record { rise = thinned_rise width 0 (all_x width) cs long rise }) (thinned_upto end (all_x width) cs upto)
     (λ t to. thinned_value width 0 (all_x width) cs t long rise ∙ same t to)
 
 -- the changes of a wave rise

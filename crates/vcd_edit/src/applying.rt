@@ -14,7 +14,7 @@ use crate::edit::Edit;
 use crate::effects::plan;
 use crate::fault::EditError;
 use crate::record::Record;
-use crate::reverting::exchange;
+use crate::reverting::exchange_record;
 use std::alloc::Global;
 use vcd_core::Capture;
 
@@ -42,7 +42,7 @@ pub fn apply(alloc: Global, capture: &mut Capture, edit: &Edit) -> Result<Record
 {
     check(capture, edit)?;
     let way = plan(alloc, capture, edit)?;
-    match exchange(alloc, capture, way) {
+    match exchange_record(alloc, capture, way) {
         Ok(record) => Ok(record),
         Err(_) => Err(EditError::NoMemory),
     }

@@ -23,7 +23,11 @@ pub struct Kept {
 
 /// The capture becomes what the record makes of it, and the parts that gave way become the record that goes
 /// the other way. Every growth comes before the first change.
-pub(crate) fn exchange(alloc: Global, capture: &mut Capture, way: Record) -> Result<Record, Kept>
+pub(crate) fn exchange_record(
+    alloc: Global,
+    capture: &mut Capture,
+    way: Record,
+) -> Result<Record, Kept>
     requires fits { Fits way (contents capture.old) }
     requires sound { IsSound (contents capture.old) }
     ensures back { OnOk result (contents capture.new ≡ back way (contents capture.old)) }
@@ -94,5 +98,5 @@ pub fn revert(alloc: Global, capture: &mut Capture, way: Record) -> Result<Recor
     ensures unchanged { OnErr result (contents capture.new ≡ contents capture.old) }
     ensures never { way.pieces ≡ [] → way.signal ≡ None → IsOk result }
 {
-    exchange(alloc, capture, way)
+    exchange_record(alloc, capture, way)
 }

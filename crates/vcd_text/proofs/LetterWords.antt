@@ -10,7 +10,7 @@ use Rattle.std.proofs.lemmas.List.Folds.{drop_split, list_all-append}
 use Rattle.vcd_core.specs.declared.bit.Bit.{Bit}
 use Rattle.vcd_core.specs.declared.bit.Bit.TheVariants.{X}
 use Rattle.vcd_core.specs.Value.{letter_at}
-use Rattle.vcd_core.specs.Words.{row_bit, letter_of, low_of, high_of, letters_of}
+use Rattle.vcd_core.specs.WordRows.{row_bit, letter_of, low_of, high_of, letters_of}
 use Rattle.vcd_core.proofs.ValueLemmas.{same_letter_at, length-letters_of, letter_at-letters_of, letter_of-letter}
 use Rattle.vcd_text.specs.Letters.{is_binary_digit, letter_of_digit, letters_of_digits, pad_letter, extension}
 use Rattle.vcd_text.specs.inside.LetterWords.{digits_of, letter_or, HoldsLetters}

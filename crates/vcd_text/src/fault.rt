@@ -32,7 +32,7 @@ pub enum Fault {
     /// A code of two kept variables of two sizes, or of one that is kept and one that is skipped. Variables
     /// that are skipped may share a code whatever their kinds and sizes.
     MixedCode,
-    /// A time stamp that is no decimal number, or above the greatest tick, 2^63 - 1.
+    /// A time stamp that is no decimal number, or above the greatest tick, `END_LIMIT`.
     BadTime,
     /// A time stamp below the one before it.
     TimeBackwards,
@@ -44,7 +44,7 @@ pub enum Fault {
     ValueTooLong,
     /// More kept variables than a capture may have signals.
     TooManySignals,
-    /// The file has more than 4 GiB.
+    /// The file has more than `FILE_LIMIT` bytes.
     TooLarge,
     /// The reader failed.
     ReadFault,

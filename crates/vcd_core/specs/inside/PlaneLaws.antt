@@ -10,7 +10,7 @@ use Rattle.vcd_core.specs.declared.bit.Bit.TheVariants.{Zero, One, X, Z}
 use Rattle.vcd_core.specs.declared.value.TheConstants.{WORDS}
 use Rattle.vcd_core.specs.declared.value.Value.TheInside.{Inside}
 use Rattle.vcd_core.specs.Value.{letter_at}
-use Rattle.vcd_core.specs.Words.{letter_of, low_of, high_of}
+use Rattle.vcd_core.specs.WordRows.{letter_of, low_of, high_of}
 use Rattle.vcd_core.specs.inside.Planes.{plane_bit, letters_in, view_value, number, bit_in, bit_below, planes_of, value_of, ArePlanes, IsValue}
 
 bit_times-≤ : (b m : ℕ) → b < 2 → b * m ≤ m

@@ -6,7 +6,7 @@ use Rattle.vcd_core.specs.declared.bit.Bit.{Bit}
 use Rattle.vcd_core.specs.declared.value.TheConstants.{WORDS, WIDTH_LIMIT}
 use Rattle.vcd_core.specs.declared.value.Value.TheInside.{Inside}
 use Rattle.vcd_core.specs.Value.{letter_at}
-use Rattle.vcd_core.specs.Words.{letter_of, low_of, high_of}
+use Rattle.vcd_core.specs.WordRows.{letter_of, low_of, high_of}
 
 -- bit k of the low plane (0) or the high plane (1) among words that belong to the two in turn
 unfoldable pub plane_bit : ℕ → List ℕ → ℕ → ℕ

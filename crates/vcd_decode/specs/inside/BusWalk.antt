@@ -20,6 +20,7 @@ use Rattle.vcd_decode.specs.BusBytes.{number_with, byte_kind, role_after, acknow
 
 -- ---- the bits at hand
 
+-- no bit of a byte yet
 abbrev pub no_bits : PartByte
 no_bits = record { count = 0; first = 0; last = 0; number = Some 0 }
 
@@ -37,6 +38,7 @@ IsPart p = (p.count ≤ 8) × IfSome p.number (λ n. n < 2 ^ p.count)
 
 -- ---- what stands since the last START, none after a STOP
 
+-- the transfer that is under way, if one is, is sound
 abbrev pub IsBus : Option Transfer → Type 0
 IsBus bus = IfSome bus (λ t. IsPart t.part)
 
@@ -75,20 +77,24 @@ transfer_after_byte t = record {
   address = option_or t.address (ten_bit_address (byte_kind t.role t.part.number));
 }
 
+-- what a bit of a transfer tells
 abbrev pub bit_notes : Transfer → BusBit → List Annotation
 bit_notes t b = if t.part.count == 8 then whole_notes t b else []
 
+-- the transfer after a bit of it
 abbrev pub transfer_after_bit : Transfer → BusBit → Transfer
 transfer_after_bit t b = if t.part.count == 8 then transfer_after_byte t else record t { part = part_with t.part b }
 
 -- ---- any event
 
+-- what an event on the bus tells
 abbrev pub event_notes : Option Transfer → BusEvent → List Annotation
 event_notes bus (events.Start t) = left_notes bus ++ note t t (start_of bus) ∷ []
 event_notes bus (events.Stop t) = left_notes bus ++ note t t kinds.Stop ∷ []
 event_notes None (events.Bit b) = []
 event_notes (Some t) (events.Bit b) = bit_notes t b
 
+-- the transfer that is under way after an event, if one is
 abbrev pub bus_after : Option Transfer → BusEvent → Option Transfer
 bus_after bus (events.Start t) = Some (new_transfer bus)
 bus_after bus (events.Stop t) = None

@@ -30,6 +30,7 @@ abbrev pub longer_number : BitOrder → ℕ → ℕ → ℕ → ℕ
 longer_number Msb count number digit = 2 * number + digit
 longer_number Lsb count number digit = number + digit * 2 ^ count
 
+-- the data of a line after one bit more, behind so many bits that made this number
 abbrev pub number_after : BitOrder → ℕ → ℕ → Option ℕ → LineData
 number_after order count number None = Unknown
 number_after order count number (Some digit) = Number (longer_number order count number digit)
@@ -76,5 +77,6 @@ group_after order g e = record {
 abbrev pub word_note : Group → Annotation
 word_note g = note g.start g.last (Word g.mosi g.miso)
 
+-- the annotation of a group that is not whole
 abbrev pub rest_note : Group → Annotation
 rest_note g = note g.start g.last (PartialOf g.count)

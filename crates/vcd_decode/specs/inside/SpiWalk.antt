@@ -30,7 +30,7 @@ is_sampling u e = selects (line_bit e.at 3) && samples u.mode (line_bit e.before
 -- ---- what an edge tells, and the group after it
 
 -- the group has room for one more bit
-pub record IsUnfinished (u : SpiSetup) (g : Group) : Type 0 where
+pub record HasRoomForBit (u : SpiSetup) (g : Group) : Type 0 where
   pub count : g.count < u.bits
   pub mosi : DataFits g.count g.mosi
   pub miso : DataFits g.count g.miso
@@ -39,13 +39,14 @@ pub record IsUnfinished (u : SpiSetup) (g : Group) : Type 0 where
 abbrev pub rest_told : Group → List Annotation
 rest_told g = if g.count == 0 then [] else rest_note g ∷ []
 
--- what an edge tells where the chip stays as it is, and the group after it
+-- what an edge tells where the chip stays as it is
 abbrev pub bit_told : SpiSetup → Group → BitEdge → List Annotation
 bit_told u g e =
     if not (is_sampling u e) then []
     else (if nat_lt (g.count + 1) u.bits then []
     else word_note (group_after u.order g e) ∷ [])
 
+-- the group after such an edge
 abbrev pub bit_group : SpiSetup → Group → BitEdge → Group
 bit_group u g e =
     if not (is_sampling u e) then g
@@ -56,6 +57,7 @@ bit_group u g e =
 abbrev pub edge_told : SpiSetup → Group → BitEdge → List Annotation
 edge_told u g e = if deselects e then rest_told g else bit_told u g e
 
+-- the group after any edge
 abbrev pub edge_group : SpiSetup → Group → BitEdge → Group
 edge_group u g e = if deselects e then group_before g else bit_group u g e
 

@@ -48,13 +48,13 @@ fn annotations_of(alloc: Global, edges: BitEdges) -> Result<Vec<Annotation>, NoM
     let mut found = Vec::new(alloc);
     let mut bus = None;
     for edge in edges {
-        bus = take_edge(&mut found, bus, edge)?;
+        bus = take_line_edge(&mut found, bus, edge)?;
     }
     Ok(found)
 }
 
 /// Appends what an edge brings, and answers the transfer behind it.
-fn take_edge(
+fn take_line_edge(
     found: &mut Vec<Annotation>,
     bus: Option<Transfer>,
     edge: BitEdge,

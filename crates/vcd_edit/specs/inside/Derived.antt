@@ -33,6 +33,7 @@ abbrev pub edge_bit : Rule → List (Option (List Bit)) → Bit
 edge_bit rule (Some v ∷ Some w ∷ others) = operator_bit rule v w
 edge_bit rule values = X
 
+-- the change of the derived signal at an edge of its operands
 abbrev pub edge_change : Rule → Edge → Change
 edge_change rule e = change e.tick (edge_bit rule e.at ∷ [])
 

@@ -11,9 +11,9 @@ TicksRise width floor [] = Unit {0}
 TicksRise width floor (c ∷ cs) = (floor ≤ c.tick) × (length c.value ≡ width) × TicksRise width (c.tick + 1) cs
 
 -- each change whose value is another than the one before it
-unfoldable pub thinned : List Bit → List Change → List Change
-thinned before [] = []
-thinned before (c ∷ cs) = unless_same (same_letters c.value before) c (thinned c.value cs)
+unfoldable pub thinned_list : List Bit → List Change → List Change
+thinned_list before [] = []
+thinned_list before (c ∷ cs) = unless_same (same_letters c.value before) c (thinned_list c.value cs)
 
 -- a change to another value
 abbrev pub with_value : (List Bit → List Bit) → Change → Change

@@ -4,7 +4,7 @@ ghost use Rattle.std.specs.Prelude.{◌≡◌, None, IfOk};
 ghost use Rattle.vcd_core.specs.Contents.{contents};
 ghost use Rattle.vcd_core.specs.Sound.{IsSound};
 ghost use Rattle.vcd_edit.specs.Allowed.{edit_fault};
-ghost use Rattle.vcd_edit.specs.inside.Thinned.{thinned, begins_steady as steady_test, steady_changes};
+ghost use Rattle.vcd_edit.specs.inside.Thinned.{thinned_list, begins_steady as steady_test, steady_changes};
 ghost use Rattle.vcd_edit.specs.inside.Plans.{IsPlan};
 ghost use Rattle.vcd_edit.specs.declared.edit.Edit.TheVariants as edits;
 
@@ -36,7 +36,7 @@ fn without_glitches(
     before: Value,
     ticks: u64,
 ) -> Result<Vec<Change>, NoMemory>
-    ensures { IfOk result (λ kept. kept.items ≡ thinned before (steady_changes ticks changes.now)) }
+    ensures { IfOk result (λ kept. kept.items ≡ thinned_list before (steady_changes ticks changes.now)) }
 {
     let mut kept = Vec::new(alloc);
     let mut last = before;

@@ -80,14 +80,14 @@ fn derived_wave<'a>(
         (value_at last.now.width last.now.changes t) ∷ []))) }
 {
     let edges = Edges::new(Some(first), Some(last), None, None);
-    let wave = wave_of(alloc, edges, rule)?;
+    let wave = wave_by_rule(alloc, edges, rule)?;
     // The call tells the proof that the list has the form of a wave's.
     let _changes = wave.changes();
     Ok(wave)
 }
 
 /// The wave that has the rule's bit at each edge.
-fn wave_of(alloc: Global, edges: Edges, rule: Rule) -> Result<Wave, NoMemory>
+fn wave_by_rule(alloc: Global, edges: Edges, rule: Rule) -> Result<Wave, NoMemory>
     requires { TicksRise 1 0 (map (edge_change rule) edges) }
     ensures { IfOk result (IsMade (map (edge_change rule) edges.entry) []) }
 {
@@ -113,19 +113,19 @@ fn edge_bit(rule: Rule, values: [Option<Value>; 4]) -> Bit
 fn operate(rule: Rule, first: Value, last: Value) -> Bit
     ensures { result ≡ operator_bit rule first last }
 {
-    let a = bit_of(first, 0);
-    let b = bit_of(last, 0);
+    let a = value_bit(first, 0);
+    let b = value_bit(last, 0);
     match rule {
         Rule::Not(_) => not(a),
         Rule::And(_, _) => and(a, b),
         Rule::Or(_, _) => or(a, b),
         Rule::Xor(_, _) => xor(a, b),
-        Rule::BitOf(_, k) => bit_of(first, k),
+        Rule::BitOf(_, k) => value_bit(first, k),
     }
 }
 
 /// Bit `k`, or the last bit where there are not so many.
-fn bit_of(value: Value, k: u64) -> Bit
+fn value_bit(value: Value, k: u64) -> Bit
     ensures { result ≡ letter_at value k }
 {
     let most = value.width() - 1;

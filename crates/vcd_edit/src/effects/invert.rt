@@ -8,7 +8,7 @@ ghost use Rattle.vcd_core.specs.Wave.{value_at};
 ghost use Rattle.vcd_edit.specs.Operators.{not_bit};
 ghost use Rattle.vcd_edit.specs.Effect.{inverse_value};
 ghost use Rattle.vcd_edit.specs.Allowed.{edit_fault};
-ghost use Rattle.vcd_edit.specs.inside.Thinned.{thinned, with_value};
+ghost use Rattle.vcd_edit.specs.inside.Thinned.{thinned_list, with_value};
 ghost use Rattle.vcd_edit.specs.inside.Plans.{IsPlan, GivesValues};
 ghost use Rattle.vcd_edit.specs.declared.edit.Edit.TheVariants as edits;
 
@@ -36,7 +36,7 @@ fn inverse_changes(
     before: Value,
 ) -> Result<Vec<Change>, NoMemory>
     ensures { IfOk result (λ inverse. inverse.items
-        ≡ thinned before (map (with_value (map not_bit)) changes.now)) }
+        ≡ thinned_list before (map (with_value (map not_bit)) changes.now)) }
 {
     let mut inverse = Vec::new(alloc);
     let mut last = before;

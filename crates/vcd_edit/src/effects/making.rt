@@ -78,7 +78,7 @@ pub(crate) fn piece_between(
 }
 
 /// The offset of so many ticks to an earlier tick.
-pub(crate) fn earlier(ticks: u64) -> i64
+pub(crate) fn offset_back(ticks: u64) -> i64
     requires { ticks ≤ END_LIMIT }
     ensures { result ≡ neg_ℤ (pos ticks) }
 {

@@ -1,34 +1,14 @@
 //! Whether the names of signals are such as a file can say.
 
-ghost use Rattle.std.specs.Prelude.{◌≡◌, ◌↔◌, IsTrue, All, map, drop, ◌<◌, ◌≤◌, length};
-ghost use Rattle.std.specs.List.{list_all, remove};
+ghost use Rattle.std.specs.Prelude.{◌↔◌, IsTrue, All, map, ◌<◌, length};
+ghost use Rattle.std.specs.List.{remove};
 ghost use Rattle.vcd_core.specs.Contents.{signal_contents};
-ghost use Rattle.vcd_core.specs.Word.{is_word as word_test};
-ghost use Rattle.vcd_core.specs.Sound.{is_sound_scope, IsSoundSignal};
-ghost use Rattle.vcd_core.specs.Wave.{IsWave, AllUpTo};
+ghost use Rattle.vcd_core.specs.Sound.{IsSoundSignal};
 ghost use Rattle.vcd_edit.specs.Effect.{renamed_signal};
 ghost use Rattle.vcd_edit.specs.inside.Fitting.{HasSoundNames, IsFormedSignal};
 
 use crate::checking::behind_first;
-use vcd_core::{ScopeName, Signal, WIDTH_LIMIT, Wave, Word, ends_by, is_skipped_kind, is_word};
-
-fn are_words(words: &[Word]) -> bool
-    ensures { result ≡ list_all word_test words.now }
-{
-    words.iter().all(|word| is_word(word.as_slice()))
-}
-
-fn is_scope_sound(scope: &ScopeName) -> bool
-    ensures { result ≡ is_sound_scope scope.now }
-{
-    is_word(scope.kind.as_slice()) && are_words(scope.words.as_slice())
-}
-
-fn are_scopes_sound(scopes: &[ScopeName]) -> bool
-    ensures { result ≡ list_all is_sound_scope scopes.now }
-{
-    scopes.iter().all(|scope| is_scope_sound(scope))
-}
+use vcd_core::{Signal, are_scopes_sound, are_words, is_skipped_kind, is_wave_sound, is_word};
 
 /// Whether all of a signal but its changes is sound.
 pub(crate) fn has_sound_names(signal: &Signal) -> bool
@@ -72,15 +52,4 @@ pub(crate) fn is_sound_with_word(signal: &Signal, word: &[u8], end: u64) -> bool
         && !is_skipped_kind(signal.kind.as_slice())
         && are_scopes_sound(signal.scopes.as_slice())
         && is_wave_sound(&signal.wave, end)
-}
-
-fn is_wave_sound(wave: &Wave, end: u64) -> bool
-    ensures ends { IsTrue result ↔ AllUpTo end wave.now.changes }
-    ensures least { 1 ≤ wave.now.width }
-    ensures most { wave.now.width ≤ WIDTH_LIMIT }
-    ensures form { IsWave wave.now.width wave.now.changes }
-{
-    // Its clauses bound the width.
-    let _width = wave.width();
-    ends_by(wave.changes(), end)
 }

@@ -24,7 +24,7 @@ fn opposite(by: i64) -> i64
 /// The piece, once trimmed, and its part of the wave change places, and the piece then leads back.
 ///
 /// It takes no memory. The cost is the piece, its part and one move of the later changes.
-fn put_in(piece: &mut Piece, wave: &mut Wave)
+fn exchange_piece(piece: &mut Piece, wave: &mut Wave)
     requires ready { PieceReady wave.old.width wave.old.changes (piece_view piece.old) }
     requires room { vec_len piece.old.changes ≤ wave.old.room + (piece.old.to - piece.old.from) }
     requires piece_room { piece.old.to - piece.old.from ≤ vec_capacity piece.old.changes }
@@ -50,7 +50,7 @@ fn put_one(capture: &mut Capture, piece: &mut Piece)
     ensures others { (k : ℕ) → k ≢ piece.old.signal
         → room_at capture.new.signals k ≡ room_at capture.old.signals k }
 {
-    put_in(piece, &mut capture.signals.item_mut(piece.signal).wave);
+    exchange_piece(piece, &mut capture.signals.item_mut(piece.signal).wave);
 }
 
 /// All pieces and their parts of the capture change places, one after another, and the pieces then lead

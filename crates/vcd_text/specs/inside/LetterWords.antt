@@ -3,7 +3,7 @@ use Rattle.std.specs.Prelude.{ℕ, ◌≡◌, ◌-◌, ◌*◌, ◌<◌, if◌th
 use Rattle.std.specs.Int.{bit_at}
 use Rattle.vcd_core.specs.declared.bit.Bit.{Bit}
 use Rattle.vcd_core.specs.Value.{letter_at}
-use Rattle.vcd_core.specs.Words.{low_of, high_of}
+use Rattle.vcd_core.specs.WordRows.{low_of, high_of}
 
 -- the digits of the 64 letters from bit 64 * k on
 abbrev pub digits_of : List ℕ → ℕ → List ℕ

@@ -4,7 +4,7 @@ ghost use Rattle.std.specs.Prelude.{◌≡◌, ◌<◌, ◌≤◌, ◌+◌, ℕ,
 ghost use Rattle.std.specs.List.{list_all};
 ghost use Rattle.std.specs.Int.{bit_at};
 ghost use Rattle.vcd_core.specs.declared.bit.Bit.TheVariants.{X};
-ghost use Rattle.vcd_core.specs.Words.{letters_of};
+ghost use Rattle.vcd_core.specs.WordRows.{letters_of};
 ghost use Rattle.vcd_text.specs.Letters.{letter_of_digit, is_binary_digit as digit_test, letters_of_digits, value_of_digits as digits_value, pad_letter, extension};
 ghost use Rattle.vcd_text.specs.inside.ValueDigits.{WritesValue, WritesNoValue};
 ghost use Rattle.vcd_text.specs.inside.LetterWords.{digits_of, HoldsLetters};

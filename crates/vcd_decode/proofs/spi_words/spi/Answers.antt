@@ -20,8 +20,8 @@ loop-edge-init c =
     (c.into_iter-edge-iterator.ensures.into_iter_gives ∙ c.new-edges.ensures.edges c.args.end c.requires.ended)
     c.new-found.ensures.items (c.is_some.ensures ∙ copied c.args.mosi) (c.is_some-2.ensures ∙ copied c.args.miso) c.new-group.ensures
 
-pub take_edge-requires : goal.take_edge-requires
-take_edge-requires c =
+pub take_clock_edge-requires : goal.take_clock_edge-requires
+take_clock_edge-requires c =
     let u = c.args.setup.now in
     let some : 0 < u.bits = omega (arith, c.bits-bits.ensures.bits, c.bits-bits.ensures.least) in
     let mosi = option_map line_of (option_copied c.args.mosi) in
@@ -38,7 +38,7 @@ loop-edge-preserved c =
     let miso = option_map line_of (option_copied c.args.miso) in
     let cs = option_map line_of (option_copied c.args.cs) in
     so_far_more u some mosi miso (line_of c.args.clk.now) cs (spi_annotations u (line_of c.args.clk.now) mosi miso cs c.args.end)
-    c.loop-edge.found.items c.take_edge.new.found.items c.loop-edge.group c.in_ok-group.group c.loop-edge.edge-iterator c.next.new.self c.in-Some.edge
+    c.loop-edge.found.items c.take_clock_edge.new.found.items c.loop-edge.group c.in_ok-group.group c.loop-edge.edge-iterator c.next.new.self c.in-Some.edge
     c.loop-edge.invariant c.in-Some.ensures.steps c.in_ok-group.ensures.told c.in_ok-group.ensures.group
 
 pub returns : goal.returns

@@ -3,8 +3,8 @@ use Rattle.vcd_core.specs.Wave.{IsWave}
 use Rattle.vcd_edit.proofs.DerivedWaves.{edges_rise, derived_is}
 use Rattle.vcd_edit.proofs.effects.derive.derived_wave.Goals as goal
 
-pub wave_of-requires : goal.wave_of-requires
-wave_of-requires c =
+pub wave_by_rule-requires : goal.wave_by_rule-requires
+wave_by_rule-requires c =
     edges_rise c.args.rule c.args.first.now c.args.last.now c.requires.0 c.new-edges.result (c.new-edges.ensures.edges c.requires.0 (c.requires.1, (c.requires.2, (tt, (tt, tt)))))
 
 pub returns : goal.returns

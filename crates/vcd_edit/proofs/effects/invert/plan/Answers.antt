@@ -3,7 +3,7 @@ use Rattle.vcd_core.specs.Contents.{SignalContents, contents, signal_contents}
 use Rattle.vcd_edit.specs.declared.edit.Edit.TheVariants.{Invert}
 use Rattle.vcd_edit.specs.Operators.{not_bit}
 use Rattle.vcd_edit.specs.Effect.{inverse_value}
-use Rattle.vcd_edit.specs.inside.Thinned.{thinned, with_value}
+use Rattle.vcd_edit.specs.inside.Thinned.{thinned_list, with_value}
 use Rattle.vcd_edit.proofs.Faults.{no_fault}
 use Rattle.vcd_edit.proofs.Plans.{wave_plan}
 use Rattle.vcd_edit.proofs.WholeLists.{whole_gives}
@@ -16,7 +16,7 @@ signal_there-requires-clause-there c = (no_fault (Invert c.args.signal) (content
 pub returns : goal.returns
 returns c =
     let s : SignalContents = signal_contents c.signal_there.result.now in
-    let told = c.in_ok-changes.ensures ∙ (λ i. thinned (c.x_value.ensures i) (map (with_value (map not_bit)) (c.changes.ensures.changes i)))
+    let told = c.in_ok-changes.ensures ∙ (λ i. thinned_list (c.x_value.ensures i) (map (with_value (map not_bit)) (c.changes.ensures.changes i)))
     ∙ inverse_changes c.args.capture.now.end s c.signal_there.ensures.sound.wave c.signal_there.ensures.sound.ticks in
     wave_plan (Invert c.args.signal) (contents c.args.capture.now) c.args.signal inverse_value (pos 0) s c.whole_piece.result c.one_piece.result c.requires.sound c.requires.allowed
     c.signal_there.ensures.within c.signal_there.ensures.is (invert_is_wave c.args.signal (contents c.args.capture.now)) refl refl

@@ -4,7 +4,7 @@ use Rattle.std.specs.List.{list_all}
 use Rattle.std.proofs.lemmas.List.{length-map}
 use Rattle.vcd_core.specs.declared.bit.Bit.{Bit}
 use Rattle.vcd_core.specs.declared.bit.Bit.TheVariants.{X}
-use Rattle.vcd_core.specs.Words.{letters_of}
+use Rattle.vcd_core.specs.WordRows.{letters_of}
 use Rattle.vcd_text.specs.declared.reading.binary_number.LetterWord.{LetterWord}
 use Rattle.vcd_text.specs.Letters.{is_binary_digit, letter_of_digit, letters_of_digits, pad_letter, extension}
 use Rattle.vcd_text.specs.inside.LetterWords.{HoldsLetters}

@@ -2,7 +2,7 @@ use Rattle.std.proofs.Common.{sym, ◌∙◌}
 use Rattle.vcd_decode.specs.BusEvents.{bus_event}
 use Rattle.vcd_decode.specs.inside.BusWalk.{edge_event}
 use Rattle.vcd_decode.proofs.BusWalks.{event_taken}
-use Rattle.vcd_decode.proofs.i2c_bus.decoding.take_edge.Goals as goal
+use Rattle.vcd_decode.proofs.i2c_bus.decoding.take_line_edge.Goals as goal
 
 pub returns-in-Some-clause-notes : goal.returns-in-Some-clause-notes
 returns-in-Some-clause-notes c =

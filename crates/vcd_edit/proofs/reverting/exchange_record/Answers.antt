@@ -7,7 +7,7 @@ use Rattle.vcd_edit.specs.inside.Records.{piece_view, record_view, moved_signal_
 use Rattle.vcd_edit.specs.inside.Opposites.{opposite_move, LeadsOtherWay}
 use Rattle.vcd_edit.proofs.TouchedParts.{whole_list}
 use Rattle.vcd_edit.proofs.Exchanged.{fits_each, ready_then, word_fits_then, word_named_then, end_is_back, is_record_then, leads_then}
-use Rattle.vcd_edit.proofs.reverting.exchange.Goals as goal
+use Rattle.vcd_edit.proofs.reverting.exchange_record.Goals as goal
 
 pub reserve_all-requires-clause-within : goal.reserve_all-requires-clause-within
 reserve_all-requires-clause-within c =

@@ -3,7 +3,7 @@ use Rattle.vcd_core.specs.declared.bit.Bit.{Bit}
 use Rattle.vcd_core.specs.declared.edges.Edge.{Edge}
 use Rattle.vcd_edit.specs.inside.Derived.{edge_change, IsMade}
 use Rattle.vcd_edit.proofs.DerivedWaves.{none_made, edge_made, edge_late}
-use Rattle.vcd_edit.proofs.effects.derive.wave_of.Goals as goal
+use Rattle.vcd_edit.proofs.effects.derive.wave_by_rule.Goals as goal
 
 pub loop-edge-init : goal.loop-edge-init
 loop-edge-init c =

@@ -5,7 +5,7 @@ use Rattle.vcd_core.specs.declared.capture.TheConstants.{END_LIMIT}
 use Rattle.vcd_edit.specs.inside.Trims.{IsTrimmed}
 use Rattle.vcd_edit.specs.inside.Records.{piece_view}
 use Rattle.vcd_edit.proofs.SplicedBack.{led_back}
-use Rattle.vcd_edit.proofs.pieces.splicing.put_in.Goals as goal
+use Rattle.vcd_edit.proofs.pieces.splicing.exchange_piece.Goals as goal
 
 pub returns-clause-back : goal.returns-clause-back
 returns-clause-back c =
