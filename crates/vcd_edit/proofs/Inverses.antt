@@ -1,46 +1,18 @@
 -- The piece of a signal with each bit negated.
-use Rattle.std.proofs.Common.{◌≡◌, ℕ, zero, suc, ◌<◌, ◌≤◌, ◌+◌, ◌-◌, Bool, true, false, List, [], ◌∷◌, ◌++◌, length, map, take, drop, get_or, set, refl, sym, ap, ◌∙◌, arith, append_assoc}
-use Rattle.std.proofs.lemmas.List.{length-map, length-replicate, length-append, length-take-le, length-drop, append-nil, drop_all}
+use Rattle.std.proofs.Common.{◌≡◌, ℕ, zero, suc, ◌<◌, ◌≤◌, ◌+◌, Bool, true, false, List, [], ◌∷◌, ◌++◌, length, map, drop, get_or, refl, sym, ap, ◌∙◌, arith, append_assoc}
+use Rattle.std.proofs.lemmas.List.{length-map, length-replicate, append-nil, drop_all}
 use Rattle.std.proofs.Math.Seq.{drop-cons}
-use Rattle.std.proofs.lemmas.List.Edits.{map_over_more}
 use Rattle.vcd_core.specs.declared.bit.Bit.{Bit}
 use Rattle.vcd_core.specs.declared.bit.Bit.TheVariants.{X}
 use Rattle.vcd_core.specs.declared.wave.Change.{Change}
-use Rattle.vcd_core.specs.Value.{all_x, letter_at, same_letters}
+use Rattle.vcd_core.specs.Value.{all_x, same_letters}
 use Rattle.vcd_core.specs.Wave.{change, unless_same, value_from, changes_of, IsWave, AllUpTo}
 use Rattle.vcd_core.specs.Contents.{Contents, SignalContents, signal_at}
 use Rattle.vcd_edit.specs.declared.edit.Edit.TheVariants.{Invert}
 use Rattle.vcd_edit.specs.Operators.{not_bit}
 use Rattle.vcd_edit.specs.Effect.{inverse_value, with_wave, effect}
 use Rattle.vcd_edit.specs.inside.Thinned.{thinned_list, with_value}
-use Rattle.vcd_edit.proofs.PieceLists.{element_here}
 use Rattle.vcd_edit.proofs.ThinnedLists.{thinned_is, wave_rises, mapped_rise, mapped_upto, mapped_value}
-
--- ---- the bits of a value, one after another
-
--- the default counts not where there is an element
-any_default : (v : List Bit) (i : ℕ) (d e : Bit) → i < length v → get_or v i d ≡ get_or v i e
-any_default [] i d e within = absurd (omega arith)
-any_default (b ∷ v) zero d e within = refl
-any_default (b ∷ v) (suc i) d e within = any_default v i d e (omega arith)
-
-pub inverse_length : (value inverse : List Bit) (place : ℕ) → place ≤ length value → inverse ≡ map not_bit (take place value) ++ drop place value → length inverse ≡ length value
-inverse_length value inverse place within is =
-    omega (
-      arith,
-      ap length is,
-      length-append (map not_bit (take place value)) (drop place value),
-      length-map (take place value) not_bit,
-      length-take-le place value within,
-      length-drop place value,
-    )
-
-pub bit_more : (value inverse next : List Bit) (place k at : ℕ) (bit negated : Bit) → place < length value → length value - 1 - k ≡ place → inverse ≡ map not_bit (take place value) ++ drop place value
-    → bit ≡ letter_at value k → negated ≡ not_bit bit → at ≡ place → next ≡ set inverse at negated → next ≡ map not_bit (take (place + 1) value) ++ drop (place + 1) value
-bit_more value inverse next place k at bit negated within here is read told same written =
-    written ∙ (λ i. set inverse (same i) ((told ∙ ap not_bit (read ∙ ap (λ n. get_or value n X) here)) i))
-    ∙ map_over_more not_bit value inverse place (get_or value place X) within is
-    (any_default value place X (get_or value place X) within ∙ sym (element_here not_bit value inverse place (get_or value place X) within is))
 
 -- ---- the changes of a wave, one after another
 

@@ -9,3 +9,4 @@ pub mod Exchanges
 pub mod Opposites
 pub mod Seams
 pub mod Fitting
+pub mod Inverse

@@ -9,14 +9,15 @@ ghost use Rattle.vcd_edit.specs.Operators.{not_bit};
 ghost use Rattle.vcd_edit.specs.Effect.{inverse_value};
 ghost use Rattle.vcd_edit.specs.Allowed.{edit_fault};
 ghost use Rattle.vcd_edit.specs.inside.Thinned.{thinned_list, with_value};
+ghost use Rattle.vcd_core.specs.WordRows.{low_of, high_of};
+ghost use Rattle.vcd_edit.specs.inside.Inverse.{ShowsInverse};
 ghost use Rattle.vcd_edit.specs.inside.Plans.{IsPlan, GivesValues};
 ghost use Rattle.vcd_edit.specs.declared.edit.Edit.TheVariants as edits;
 
 use crate::effects::making::{one_piece, put_change, signal_there, whole_piece, x_value};
-use crate::effects::operators::not;
 use crate::record::Record;
 use std::alloc::Global;
-use vcd_core::{Capture, Change, NoMemory, Value};
+use vcd_core::{Capture, Change, NoMemory, Value, WORDS, words_in};
 
 /// The record of the whole list of changes.
 pub(crate) fn plan(alloc: Global, capture: &Capture, signal: usize) -> Result<Record, NoMemory>
@@ -41,22 +42,35 @@ fn inverse_changes(
     let mut inverse = Vec::new(alloc);
     let mut last = before;
     for change in changes {
-        let value = inverse_of(change.value);
+        let value = inverse_of(&change.value);
         put_change(&mut inverse, last, change.tick, value)?;
         last = value;
     }
     Ok(inverse)
 }
 
-/// The value with each bit negated.
-fn inverse_of(value: Value) -> Value
-    ensures { result ≡ map not_bit value }
+/// The value with each bit negated, 64 bits at a time.
+fn inverse_of(value: &Value) -> Value
+    ensures { result ≡ map not_bit value.now }
 {
-    let mut inverse = value;
-    // From the most significant end, as the list of letters goes.
-    for place in 0..value.width() {
-        let k = value.width() - 1 - place;
-        inverse = inverse.with_bit(k, not(value.bit(k)));
+    let mut low = [0; WORDS];
+    let mut high = [0; WORDS];
+    write_inverse(value, &mut low, &mut high);
+    Value::from_words(value.width(), &low, &high)
+}
+
+/// Writes the low and the high bits of the inverse into two rows of words.
+fn write_inverse(value: &Value, low: &mut [u64], high: &mut [u64])
+    requires low { length low.old ≡ WORDS }
+    requires high { length high.old ≡ WORDS }
+    ensures low { ShowsInverse value.now low_of low.new }
+    ensures high { ShowsInverse value.now high_of high.new }
+    ensures low_sized { length low.new ≡ WORDS }
+    ensures high_sized { length high.new ≡ WORDS }
+{
+    for j in 0..words_in(value.width()) {
+        let high_bits = value.word_high(j);
+        low[j] = high_bits | !value.word_low(j);
+        high[j] = high_bits;
     }
-    inverse
 }
