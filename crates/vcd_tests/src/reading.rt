@@ -1,6 +1,7 @@
 //! Files that are read: what they mean, their faults, files that break off, and hostile ones.
 
 mod broken_off;
+mod chunks;
 mod faults;
 mod hostile;
 mod limits;
@@ -14,7 +15,7 @@ use vcd_core::ToWrite;
 use vcd_text::{read, write};
 
 /// How many bytes a reader gives at a time.
-const PIECES: [usize; 3] = [1, 7, 4096];
+const PIECES: [usize; 5] = [1, 7, 4095, 4096, 4097];
 
 /// The line and the name of the fault that is answered to a reader, else 0 and `read`.
 fn answer_to(alloc: Global, reader: FakeReader) -> (u64, &'static str) {

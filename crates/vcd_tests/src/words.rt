@@ -28,11 +28,13 @@ fn words_and_lines(rt: HostRuntime) -> Result<(), Fail> {
     Ok(())
 }
 
-/// The last word of a text that may go on is not sure.
+/// A text that line feeds come before goes on with their count.
 #[test]
-fn words_that_white_space_follows(rt: HostRuntime) {
-    assert!(rt; Words::new(TEXT).count() == 5);
-    assert!(rt; Words::closed(TEXT).count() == 4);
+fn words_behind_line_feeds(rt: HostRuntime) -> Result<(), Fail> {
+    let mut words = Words::behind(b"\n#5", 6);
+    check_word(&rt, words.next_word().ok_or("no word")?, "8 #5")?;
+    assert!(rt; words.next_word().is_none());
+    Ok(())
 }
 
 /// A text, the most that it may be, and its number up to that; `-` where it is none.

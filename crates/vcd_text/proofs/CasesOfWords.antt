@@ -1,7 +1,8 @@
 -- Worked cases: the words of small files, each with its line.
 use Rattle.std.proofs.Common.{◌≡◌, refl}
-use Rattle.std.specs.Prelude.{[], ◌∷◌, codes}
+use Rattle.std.specs.Prelude.{true, false, [], ◌∷◌, codes}
 use Rattle.vcd_text.specs.Words.{word_on, words_from, words_of, closed_words, last_line}
+use Rattle.vcd_text.specs.inside.Spaces.{is_closed}
 
 -- no word in an empty file, and its end is on line 1
 empty_file : (words_of [] ≡ []) × (last_line [] ≡ 1)
@@ -31,3 +32,7 @@ last_word_is_closed = refl
 -- the end of a file lies behind all its line feeds
 end_of_file : (last_line (codes "#10\n#9") ≡ 2) × (last_line (codes "#10\n#9\n") ≡ 3)
 end_of_file = (refl, refl)
+
+-- white space at the end closes a text, and nothing else but that there is none
+closed_texts : (is_closed [] ≡ true) × (is_closed (codes "#9\n") ≡ true) × (is_closed (codes " ") ≡ true) × (is_closed (codes "#9\n#10") ≡ false)
+closed_texts = (refl, refl, refl, refl)

@@ -1,20 +1,21 @@
 -- The changes of all waves are, by tick, the signals that differ from the tick before.
-use Rattle.std.proofs.Common.{◌≡◌, ◌≢◌, ◌⊎◌, inl, inr, ◌<◌, ◌≤◌, ◌+◌, ◌-◌, ℕ, zero, suc, Bool, true, false, cond, not, ◌&&◌, ◌==◌, nat_lt, List, [], ◌∷◌, ◌++◌, length, map, All, refl, sym, ap, subst, ◌∙◌, arith, eq-eqb}
+use Rattle.std.proofs.Common.{◌≡◌, ◌≢◌, ◌⊎◌, inl, inr, ◌<◌, ◌≤◌, ◌+◌, ◌-◌, ℕ, zero, suc, Bool, true, false, cond, not, ◌&&◌, ◌==◌, nat_le, nat_lt, List, [], ◌∷◌, ◌++◌, length, map, All, refl, sym, ap, subst, ◌∙◌, arith, append_assoc, eq-eqb}
 use Rattle.std.specs.List.{filter, enumerate_from}
 use Rattle.std.specs.List.Sorted.{IsPermutation, IsSorted}
-use Rattle.std.proofs.lemmas.Bool.{cases_lt, cases_eq, ne_eqb, ltb-true, ltb-false}
+use Rattle.std.proofs.lemmas.Bool.{cases_lt, cases_eq, ne_eqb, le-leb, lt-leb, lt-ltb, le-ltb}
+use Rattle.std.proofs.lemmas.List.{length-append}
 use Rattle.std.proofs.lemmas.List.Elements.{All-cons, All-head, All-tail}
 use Rattle.std.proofs.lemmas.List.Sorted.{All-permutation}
 use Rattle.vcd_core.specs.declared.bit.Bit.{Bit}
 use Rattle.vcd_core.specs.declared.wave.Change.{Change}
 use Rattle.vcd_core.specs.Value.{all_x, same_letters}
 use Rattle.vcd_core.specs.inside.ValueLaws.{same_letters-Decides}
-use Rattle.vcd_core.specs.Wave.{value_from, ChangesFrom, AllUpTo}
+use Rattle.vcd_core.specs.Wave.{value_from, ChangesFrom}
 use Rattle.vcd_core.specs.Contents.{SignalContents, signal_value}
 use Rattle.vcd_core.specs.Sound.{IsSoundSignal}
 use Rattle.vcd_core.proofs.Waves.{value_past, value_skip, value_early}
 use Rattle.vcd_text.specs.declared.writing.transitions.Transition.{Transition}
-use Rattle.vcd_text.specs.inside.Transitions.{transition_of, transitions_at, transitions_from, later_transitions, transitions_by_signal}
+use Rattle.vcd_text.specs.inside.Transitions.{transition_of, transitions_at, transitions_from, is_in_window, window_of_signal, window_by_signal}
 use Rattle.vcd_text.specs.Text.{differs_at}
 use Rattle.vcd_text.proofs.Sorting.{counted, once, times, times-append, times_permuted, RisesFrom, same_transitions, by_place, sorted_rises}
 
@@ -115,6 +116,31 @@ unfolding transitions_from
 rises_from signals t zero = tt
 rises_from signals t (suc n) = rises_at t 0 t 0 signals (transitions_from signals (suc t) n) (inr (refl, omega arith)) (rises_from signals (suc t) n)
 
+-- ---- windows
+
+pub in_window : (from to t : ℕ) → from ≤ t → t < to → is_in_window from to t ≡ true
+in_window from to t low high = ap (λ b. b && nat_lt t to) (le-leb from t low) ∙ lt-ltb t to high
+
+pub before_window : (from to t : ℕ) → t < from → is_in_window from to t ≡ false
+before_window from to t early = ap (λ b. b && nat_lt t to) (lt-leb from t early)
+
+both_false : (b : Bool) → (b && false) ≡ false
+both_false true = refl
+both_false false = refl
+
+pub behind_window : (from to t : ℕ) → to ≤ t → is_in_window from to t ≡ false
+behind_window from to t late = ap (λ b. nat_le from t && b) (le-ltb t to late) ∙ both_false (nat_le from t)
+
+pub window_bounds : (from to t : ℕ) → is_in_window from to t ≡ true → (from ≤ t) × (t < to)
+window_bounds from to t is =
+    elim (cases_lt t from) [
+      | inl early ↦ let wrong : true ≡ false = sym is ∙ before_window from to t early in absurd (cc)
+      | inr low ↦ elim (cases_lt t to) [
+        | inl high ↦ (low, high)
+        | inr late ↦ let wrong : true ≡ false = sym is ∙ behind_window from to t late in absurd (cc)
+      ]
+    ]
+
 -- ---- signal by signal
 
 -- how many changes stand at a tick
@@ -128,28 +154,30 @@ joint false true n = refl
 joint true false n = refl
 joint false false n = refl
 
-times_later : (t k j : ℕ) (cs : List Change) → times (suc t) k (later_transitions j cs) ≡ if_so (j == k) (count_at (suc t) cs)
-times_later t k j [] = sym (if_zero (j == k))
-times_later t k j (c ∷ cs) = step (nat_lt 0 c.tick) refl (times_later t k j cs)
+-- a tick in the window
+times_inside : (from to t k j : ℕ) (cs : List Change) → from ≤ t → t < to → times t k (window_of_signal from to j cs) ≡ if_so (j == k) (count_at t cs)
+times_inside from to t k j [] low high = sym (if_zero (j == k))
+times_inside from to t k j (c ∷ cs) low high = step (is_in_window from to c.tick) refl (times_inside from to t k j cs low high)
   where
-    step : (b : Bool) → nat_lt 0 c.tick ≡ b → times (suc t) k (later_transitions j cs) ≡ if_so (j == k) (count_at (suc t) cs)
-        → times (suc t) k (map (λ c. transition_of c.tick j) (cond b (c ∷ filter (λ c. nat_lt 0 c.tick) cs) (filter (λ c. nat_lt 0 c.tick) cs)))
-        ≡ if_so (j == k) (counted (c.tick == suc t) + count_at (suc t) cs)
-    step true is rest = ap (λ n. counted ((c.tick == suc t) && (j == k)) + n) rest ∙ joint (c.tick == suc t) (j == k) (count_at (suc t) cs)
+    step : (b : Bool) → is_in_window from to c.tick ≡ b → times t k (window_of_signal from to j cs) ≡ if_so (j == k) (count_at t cs)
+        → times t k (map (λ c. transition_of c.tick j) (cond b (c ∷ filter (λ c. is_in_window from to c.tick) cs) (filter (λ c. is_in_window from to c.tick) cs)))
+        ≡ if_so (j == k) (counted (c.tick == t) + count_at t cs)
+    step true is rest = ap (λ n. counted ((c.tick == t) && (j == k)) + n) rest ∙ joint (c.tick == t) (j == k) (count_at t cs)
     step false is rest =
-        let none : c.tick ≤ 0 = ltb-false 0 c.tick is in
-        let same : counted (c.tick == suc t) + count_at (suc t) cs ≡ count_at (suc t) cs = omega (arith, ap counted (ne_eqb c.tick (suc t) (omega arith))) in
+        let apart : c.tick ≢ t = λ same. let wrong : true ≡ false = sym (in_window from to t low high) ∙ ap (is_in_window from to) (sym same) ∙ is in absurd (cc) in
+        let same : counted (c.tick == t) + count_at t cs ≡ count_at t cs = omega (arith, ap counted (ne_eqb c.tick t apart)) in
         rest ∙ ap (if_so (j == k)) (sym same)
 
-times_later_zero : (k j : ℕ) (cs : List Change) → times 0 k (later_transitions j cs) ≡ 0
-times_later_zero k j [] = refl
-times_later_zero k j (c ∷ cs) = step (nat_lt 0 c.tick) refl (times_later_zero k j cs)
+-- a tick outside of it
+times_outside : (from to t k j : ℕ) (cs : List Change) → is_in_window from to t ≡ false → times t k (window_of_signal from to j cs) ≡ 0
+times_outside from to t k j [] out = refl
+times_outside from to t k j (c ∷ cs) out = step (is_in_window from to c.tick) refl (times_outside from to t k j cs out)
   where
-    step : (b : Bool) → nat_lt 0 c.tick ≡ b → times 0 k (later_transitions j cs) ≡ 0
-        → times 0 k (map (λ c. transition_of c.tick j) (cond b (c ∷ filter (λ c. nat_lt 0 c.tick) cs) (filter (λ c. nat_lt 0 c.tick) cs))) ≡ 0
+    step : (b : Bool) → is_in_window from to c.tick ≡ b → times t k (window_of_signal from to j cs) ≡ 0
+        → times t k (map (λ c. transition_of c.tick j) (cond b (c ∷ filter (λ c. is_in_window from to c.tick) cs) (filter (λ c. is_in_window from to c.tick) cs))) ≡ 0
     step true is rest =
-        let some : 0 < c.tick = ltb-true 0 c.tick is in
-        let here : once 0 k (transition_of c.tick j) ≡ 0 = ap (λ b. counted (b && (j == k))) (ne_eqb c.tick 0 (omega arith)) in
+        let apart : c.tick ≢ t = λ same. let wrong : true ≡ false = sym is ∙ ap (is_in_window from to) same ∙ out in absurd (cc) in
+        let here : once t k (transition_of c.tick j) ≡ 0 = ap (λ b. counted (b && (j == k))) (ne_eqb c.tick t apart) in
         omega (arith, here, rest)
     step false is rest = rest
 
@@ -157,10 +185,6 @@ none_at : (floor t : ℕ) (before : List Bit) (cs : List Change) → ChangesFrom
 none_at floor t before [] rise early = refl
 none_at floor t before (c ∷ cs) (from, other, wide, rest) early =
     omega (arith, ap counted (ne_eqb c.tick t (omega arith)), none_at (c.tick + 1) t c.value cs rest (omega arith))
-
-none_past : (end t : ℕ) (cs : List Change) → AllUpTo end cs → end < t → count_at t cs ≡ 0
-none_past end t [] upto late = refl
-none_past end t (c ∷ cs) (first, rest) late = omega (arith, ap counted (ne_eqb c.tick t (omega arith)), none_past end t cs rest late)
 
 abbrev differ : List Bit → List Bit → ℕ
 differ v w = counted (not (same_letters v w))
@@ -210,42 +234,87 @@ signal_differs end t s sound =
     let before : suc t - 1 ≡ t = omega arith in
     differs_where 0 t (all_x s.width) s.changes sound.wave.rise ∙ ap (λ u. differ (signal_value s (suc t)) (signal_value s u)) (sym before)
 
-times_listed : (end t k j : ℕ) (ss : List SignalContents) → All (IsSoundSignal end) ss → times (suc t) k (transitions_by_signal j ss) ≡ marks (suc t) k j ss
-unfolding transitions_by_signal
-times_listed end t k j [] sound = refl
-times_listed end t k j (s ∷ ss) sound =
-    times-append (suc t) k (later_transitions j s.changes) (transitions_by_signal (j + 1) ss)
-    ∙ ap (λ n. n + times (suc t) k (transitions_by_signal (j + 1) ss)) (times_later t k j s.changes ∙ ap (if_so (j == k)) (signal_differs end t s (All-head (IsSoundSignal end) s ss sound)))
-    ∙ ap (λ n. if_so (j == k) (counted (differs_at (suc t) s)) + n) (times_listed end t k (j + 1) ss (All-tail (IsSoundSignal end) s ss sound))
+listed_inside : (end from to t k j : ℕ) (ss : List SignalContents) → from ≤ suc t → suc t < to → All (IsSoundSignal end) ss → times (suc t) k (window_by_signal from to j ss) ≡ marks (suc t) k j ss
+unfolding window_by_signal
+listed_inside end from to t k j [] low high sound = refl
+listed_inside end from to t k j (s ∷ ss) low high sound =
+    times-append (suc t) k (window_of_signal from to j s.changes) (window_by_signal from to (j + 1) ss)
+    ∙ ap (λ n. n + times (suc t) k (window_by_signal from to (j + 1) ss))
+    (times_inside from to (suc t) k j s.changes low high ∙ ap (if_so (j == k)) (signal_differs end t s (All-head (IsSoundSignal end) s ss sound)))
+    ∙ ap (λ n. if_so (j == k) (counted (differs_at (suc t) s)) + n) (listed_inside end from to t k (j + 1) ss low high (All-tail (IsSoundSignal end) s ss sound))
 
-none_listed_past : (end t k j : ℕ) (ss : List SignalContents) → end < suc t → All (IsSoundSignal end) ss → times (suc t) k (transitions_by_signal j ss) ≡ 0
-unfolding transitions_by_signal
-none_listed_past end t k j [] late sound = refl
-none_listed_past end t k j (s ∷ ss) late sound =
-    let one = All-head (IsSoundSignal end) s ss sound in
-    times-append (suc t) k (later_transitions j s.changes) (transitions_by_signal (j + 1) ss)
-    ∙ omega (arith, times_later t k j s.changes ∙ ap (if_so (j == k)) (none_past end (suc t) s.changes one.ticks late) ∙ if_zero (j == k), none_listed_past end t k (j + 1) ss late (All-tail (IsSoundSignal end) s ss sound))
+listed_outside : (from to t k j : ℕ) (ss : List SignalContents) → is_in_window from to t ≡ false → times t k (window_by_signal from to j ss) ≡ 0
+unfolding window_by_signal
+listed_outside from to t k j [] out = refl
+listed_outside from to t k j (s ∷ ss) out =
+    times-append t k (window_of_signal from to j s.changes) (window_by_signal from to (j + 1) ss)
+    ∙ omega (arith, times_outside from to t k j s.changes out, listed_outside from to t k (j + 1) ss out)
 
-none_listed_first : (k j : ℕ) (ss : List SignalContents) → times 0 k (transitions_by_signal j ss) ≡ 0
-unfolding transitions_by_signal
-none_listed_first k j [] = refl
-none_listed_first k j (s ∷ ss) =
-    times-append 0 k (later_transitions j s.changes) (transitions_by_signal (j + 1) ss) ∙ omega (arith, times_later_zero k j s.changes, none_listed_first k (j + 1) ss)
-
-same_times : (end : ℕ) (ss : List SignalContents) → All (IsSoundSignal end) ss → (t k : ℕ) → times t k (transitions_by_signal 0 ss) ≡ times t k (transitions_from ss 1 end)
-same_times end ss sound zero k = none_listed_first k 0 ss ∙ sym (earlier ss 1 end 0 k (omega arith))
-same_times end ss sound (suc t) k =
-    elim (cases_lt end (suc t)) [
-      | inl past ↦ none_listed_past end t k 0 ss past sound ∙ sym (later ss 1 end (suc t) k (omega arith))
-      | inr inside ↦ times_listed end t k 0 ss sound ∙ sym (within ss 1 end (suc t) k (omega arith) (omega arith))
+same_times : (end from n : ℕ) (ss : List SignalContents) → 1 ≤ from → All (IsSoundSignal end) ss → (t k : ℕ) → times t k (window_by_signal from (from + n) 0 ss) ≡ times t k (transitions_from ss from n)
+same_times end from n ss some sound zero k = listed_outside from (from + n) 0 k 0 ss (before_window from (from + n) 0 (omega arith)) ∙ sym (earlier ss from n 0 k (omega arith))
+same_times end from n ss some sound (suc t) k =
+    elim (cases_lt (suc t) from) [
+      | inl early ↦ listed_outside from (from + n) (suc t) k 0 ss (before_window from (from + n) (suc t) early) ∙ sym (earlier ss from n (suc t) k early)
+      | inr not_early ↦ elim (cases_lt (suc t) (from + n)) [
+        | inl inside ↦ listed_inside end from (from + n) t k 0 ss not_early inside sound ∙ sym (within ss from n (suc t) k not_early inside)
+        | inr late ↦ listed_outside from (from + n) (suc t) k 0 ss (behind_window from (from + n) (suc t) late) ∙ sym (later ss from n (suc t) k late)
+      ]
     ]
 
--- the sorted changes are those by tick
-pub sorted_are : (end : ℕ) (ss : List SignalContents) (listed sorted : List Transition) → listed ≡ transitions_by_signal 0 ss → IsPermutation listed sorted → IsSorted by_place sorted
-    → All (IsSoundSignal end) ss → sorted ≡ transitions_from ss 1 end
-sorted_are end ss listed sorted is moved up sound =
-    same_transitions sorted (transitions_from ss 1 end) 0 0 1 0 (sorted_rises sorted up) (rises_from ss 1 end)
-    (λ t k. times_permuted t k listed sorted moved ∙ ap (times t k) is ∙ same_times end ss sound t k)
+-- the sorted changes of a window are those by tick
+pub sorted_are : (end from n : ℕ) (ss : List SignalContents) (listed sorted : List Transition) → 1 ≤ from → listed ≡ window_by_signal from (from + n) 0 ss → IsPermutation listed sorted
+    → IsSorted by_place sorted → All (IsSoundSignal end) ss → sorted ≡ transitions_from ss from n
+sorted_are end from n ss listed sorted some is moved up sound =
+    same_transitions sorted (transitions_from ss from n) 0 0 from 0 (sorted_rises sorted up) (rises_from ss from n)
+    (λ t k. times_permuted t k listed sorted moved ∙ ap (times t k) is ∙ same_times end from n ss some sound t k)
+
+-- ---- one tick
+
+count_within : (end t : ℕ) (s : SignalContents) → IsSoundSignal end s → count_at (suc t) s.changes ≤ 1
+count_within end t s sound = by (differs_at (suc t) s) (signal_differs end t s sound)
+  where
+    by : (b : Bool) → count_at (suc t) s.changes ≡ counted b → count_at (suc t) s.changes ≤ 1
+    by true is = omega (arith, is)
+    by false is = omega (arith, is)
+
+one_of_signal : (t j : ℕ) (cs : List Change) → length (window_of_signal t (t + 1) j cs) ≤ count_at t cs
+one_of_signal t j [] = omega arith
+one_of_signal t j (c ∷ cs) = step (is_in_window t (t + 1) c.tick) refl (one_of_signal t j cs)
+  where
+    step : (b : Bool) → is_in_window t (t + 1) c.tick ≡ b → length (window_of_signal t (t + 1) j cs) ≤ count_at t cs
+        → length (map (λ c. transition_of c.tick j) (cond b (c ∷ filter (λ c. is_in_window t (t + 1) c.tick) cs) (filter (λ c. is_in_window t (t + 1) c.tick) cs))) ≤ counted (c.tick == t) + count_at t cs
+    step true is rest =
+        let bounds = window_bounds t (t + 1) c.tick is in
+        let here : counted (c.tick == t) ≡ 1 = ap counted (eq-eqb c.tick t (omega (arith, bounds.0, bounds.1))) in
+        omega (arith, here, rest)
+    step false is rest = omega (arith, rest)
+
+-- at one tick each signal changes once at most
+pub one_tick_within : (end t j : ℕ) (ss : List SignalContents) → 1 ≤ t → All (IsSoundSignal end) ss → length (window_by_signal t (t + 1) j ss) ≤ length ss
+unfolding window_by_signal
+one_tick_within end t j [] some sound = omega arith
+one_tick_within end zero j (s ∷ ss) some sound = absurd (omega arith)
+one_tick_within end (suc t) j (s ∷ ss) some sound =
+    omega (
+      arith,
+      length-append (window_of_signal (suc t) (suc t + 1) j s.changes) (window_by_signal (suc t) (suc t + 1) (j + 1) ss),
+      one_of_signal (suc t) j s.changes,
+      count_within end t s (All-head (IsSoundSignal end) s ss sound),
+      one_tick_within end (suc t) (j + 1) ss some (All-tail (IsSoundSignal end) s ss sound),
+    )
+
+-- ---- windows one after another
+
+pub transitions_split : (signals : List SignalContents) (t n m : ℕ) → transitions_from signals t (n + m) ≡ transitions_from signals t n ++ transitions_from signals (t + n) m
+unfolding transitions_from
+transitions_split signals t zero m =
+    let here : t ≡ t + 0 = omega arith in
+    ap (transitions_from signals t) (let e : 0 + m ≡ m = omega arith in e) ∙ ap (λ u. transitions_from signals u m) here
+transitions_split signals t (suc n) m =
+    let there : suc t + n ≡ t + suc n = omega arith in
+    ap (transitions_from signals t) (let e : suc n + m ≡ suc (n + m) = omega arith in e)
+    ∙ ap (λ l. transitions_at t (enumerate_from 0 signals) ++ l) (transitions_split signals (suc t) n m ∙ ap (λ u. transitions_from signals (suc t) n ++ transitions_from signals u m) there)
+    ∙ sym (append_assoc (transitions_at t (enumerate_from 0 signals)) (transitions_from signals (suc t) n) (transitions_from signals (t + suc n) m))
 
 -- ---- positions
 
@@ -257,24 +326,26 @@ below_both : (n : ℕ) (xs ys : List Transition) → AllBelow n xs → AllBelow 
 below_both n [] ys a b = b
 below_both n (x ∷ xs) ys (first, rest) b = (first, below_both n xs ys rest b)
 
-below_later : (n j : ℕ) (cs : List Change) → j < n → AllBelow n (later_transitions j cs)
-below_later n j [] small = tt
-below_later n j (c ∷ cs) small = step (nat_lt 0 c.tick) (below_later n j cs small)
+below_window : (n from to j : ℕ) (cs : List Change) → j < n → AllBelow n (window_of_signal from to j cs)
+below_window n from to j [] small = tt
+below_window n from to j (c ∷ cs) small = step (is_in_window from to c.tick) (below_window n from to j cs small)
   where
-    step : (b : Bool) → AllBelow n (later_transitions j cs) → AllBelow n (map (λ c. transition_of c.tick j) (cond b (c ∷ filter (λ c. nat_lt 0 c.tick) cs) (filter (λ c. nat_lt 0 c.tick) cs)))
+    step : (b : Bool) → AllBelow n (window_of_signal from to j cs)
+        → AllBelow n (map (λ c. transition_of c.tick j) (cond b (c ∷ filter (λ c. is_in_window from to c.tick) cs) (filter (λ c. is_in_window from to c.tick) cs)))
     step true rest = (small, rest)
     step false rest = rest
 
-below_listed : (n j : ℕ) (ss : List SignalContents) → j + length ss ≤ n → AllBelow n (transitions_by_signal j ss)
-unfolding transitions_by_signal
-below_listed n j [] small = tt
-below_listed n j (s ∷ ss) small = below_both n (later_transitions j s.changes) (transitions_by_signal (j + 1) ss) (below_later n j s.changes (omega arith)) (below_listed n (j + 1) ss (omega arith))
+below_listed : (n from to j : ℕ) (ss : List SignalContents) → j + length ss ≤ n → AllBelow n (window_by_signal from to j ss)
+unfolding window_by_signal
+below_listed n from to j [] small = tt
+below_listed n from to j (s ∷ ss) small =
+    below_both n (window_of_signal from to j s.changes) (window_by_signal from to (j + 1) ss) (below_window n from to j s.changes (omega arith)) (below_listed n from to (j + 1) ss (omega arith))
 
 each_below : (n : ℕ) (ms : List Transition) → AllBelow n ms → All (λ m. m.position < n) ms
 each_below n [] all = λ k d inside. absurd (omega arith)
 each_below n (m ∷ ms) (first, rest) = All-cons (λ m. m.position < n) m ms first (each_below n ms rest)
 
-pub sorted_within : (n : ℕ) (ss : List SignalContents) (listed sorted : List Transition) → listed ≡ transitions_by_signal 0 ss → IsPermutation listed sorted → length ss ≤ n
+pub sorted_within : (n from to : ℕ) (ss : List SignalContents) (listed sorted : List Transition) → listed ≡ window_by_signal from to 0 ss → IsPermutation listed sorted → length ss ≤ n
     → All (λ m. m.position < n) sorted
-sorted_within n ss listed sorted is moved small =
-    All-permutation (λ m. m.position < n) listed sorted moved (subst (All (λ (m : Transition). m.position < n)) (sym is) (each_below n (transitions_by_signal 0 ss) (below_listed n 0 ss (omega arith))))
+sorted_within n from to ss listed sorted is moved small =
+    All-permutation (λ m. m.position < n) listed sorted moved (subst (All (λ (m : Transition). m.position < n)) (sym is) (each_below n (window_by_signal from to 0 ss) (below_listed n from to 0 ss (omega arith))))

@@ -21,6 +21,7 @@ use Rattle.vcd_core.specs.Word.{is_skipped_kind}
 use Rattle.vcd_text.specs.Grammar.{VariableDeclaration, RecordedChange, Context, is_skipped, kept_variables, variable_of, may_have_code, has_room}
 use Rattle.vcd_text.specs.Meaning.{recorded_value}
 use Rattle.vcd_text.specs.inside.Variables.{declaration, declaration_by, owner_of, HasWave, Stands, HasFirst, Knows, with_declaration, mixed, many, DeclaresAs, code_mixed, no_room, Declares}
+use Rattle.vcd_text.specs.declared.reading.owners.Owners.{Owners}
 use Rattle.vcd_text.specs.declared.reading.variables.Owner.{Owner}
 use Rattle.vcd_text.specs.declared.reading.variables.Owner.TheVariants.{Skipped, Kept}
 use Rattle.vcd_text.specs.declared.reading.variables.Variable.{Variable}
@@ -97,7 +98,7 @@ Puts old new code owner = (key : List ℕ) → owner_of new key ≡ (if bytes_eq
 -- so it is where the code stands for it already
 pub puts_same : (old new : Variables) (code : List ℕ) (owner : Owner) → new.owners ≡ old.owners → owner_of old code ≡ Some owner → Puts old new code owner
 puts_same old new code owner same had = λ key.
-    let here : owner_of new key ≡ owner_of old key = ap (λ m. get_by (λ v. bytes_eq key v.items) m) same in
+    let here : owner_of new key ≡ owner_of old key = ap (λ (m : Owners). get_by (λ v. bytes_eq key v.items) m.codes) same in
     by_code (λ b. owner_of new key ≡ (if b then Some owner else owner_of old key)) key code
     (λ is. here ∙ ap (owner_of old) is ∙ had) (λ _. here)
 

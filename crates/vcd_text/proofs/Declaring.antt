@@ -16,10 +16,11 @@ use Rattle.vcd_text.specs.Grammar.{Context, Allows, told_after_item, word_texts,
 use Rattle.vcd_text.specs.Faults.{WordFault, DeclarationFault, no_timescale, no_size, among_declarations}
 use Rattle.vcd_text.specs.inside.Variables.{Knows, Declares, VariableFault}
 use Rattle.vcd_text.specs.inside.Reading.{Agrees, Collects, PassesOver, IsBegun, At, TakesWord, goes_on, ends_item, TakesOrRefuses}
+use Rattle.vcd_text.specs.declared.reading.owners.Owners.{Owners}
 use Rattle.vcd_text.specs.declared.reading.reader.Reader.{Reader}
 use Rattle.vcd_text.specs.declared.reading.reader.OpenItem.TheVariants as items
 use Rattle.vcd_text.specs.declared.reading.variables.Variables.{Variables}
-use Rattle.vcd_text.proofs.Knows.{knows_further}
+use Rattle.vcd_text.proofs.Knows.{same_codes, knows_further}
 
 -- ---- words
 
@@ -148,13 +149,13 @@ closes_upscope m new is popped others line c begun at =
     }) refl)
 
 -- the changes begin
-pub closes_definitions : (m : Reader) → m.item ≡ items.EndDefinitions
+pub closes_definitions : (m : Reader) (owners : Owners) → owners.codes ≡ m.variables.owners.codes → m.item ≡ items.EndDefinitions
     → (line : ℕ) (c : Context) (begun : List PlacedWord) → At m c begun
-    → TakesWord c (begun ++ word_on end_word line ∷ []) (record m { changing = true; item = items.Nothing })
-closes_definitions m is line c begun at =
+    → TakesWord c (begun ++ word_on end_word line ∷ []) (record m { variables = record m.variables { owners = owners }; changing = true; item = items.Nothing })
+closes_definitions m owners same is line c begun at =
     let a = at.0 in
     let b : IsFalse m.changing × (word_texts begun ≡ codes "$enddefinitions" ∷ []) = subst (IsBegun m begun) is at.1 in
-    ends_here (record m { changing = true; item = items.Nothing }) c begun line end_definitions (codes "$enddefinitions" ∷ [])
+    ends_here (record m { variables = record m.variables { owners = owners }; changing = true; item = items.Nothing }) c begun line end_definitions (codes "$enddefinitions" ∷ [])
     b.1 refl (sym a.changing ∙ b.0)
     (record {
       header = a.header;
@@ -162,7 +163,7 @@ closes_definitions m is line c begun at =
       scopes = a.scopes;
       changing = refl;
       tick = a.tick;
-      variables = same_known m.variables c (told_after_item c end_definitions) refl refl refl a.variables;
+      variables = same_codes m.variables owners (told_after_item c end_definitions) same (same_known m.variables c (told_after_item c end_definitions) refl refl refl a.variables);
       silent = λ _. a.silent (sym a.changing ∙ b.0);
     }) refl
 

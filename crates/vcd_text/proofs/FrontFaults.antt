@@ -24,13 +24,13 @@ front_with_last : (space last : Bool) (b line : ℕ) (all : List PlacedWord) →
 front_with_last true last b line all = (all, refl)
 front_with_last false last b line all = (with_byte false last b line all, refl)
 
-closed_in_front : (line : ℕ) (front rest : List ℕ) → IsFront (words_from false line front) (words_from true line (front ++ rest))
+closed_in_front : (whole : Bool) (line : ℕ) (front rest : List ℕ) → IsFront (words_from false line front) (words_from whole line (front ++ rest))
 unfolding words_from
-closed_in_front line [] rest = (words_from true line rest, refl)
-closed_in_front line (b ∷ []) rest = front_with_last (is_white_space b) (ends_before true rest) b line (words_from true (line_behind b line) rest)
-closed_in_front line (b ∷ next ∷ front) rest =
-    front_with_byte (is_white_space b) (is_white_space next) b line (words_from false (line_behind b line) (next ∷ front)) (words_from true (line_behind b line) (next ∷ front ++ rest))
-    (closed_in_front (line_behind b line) (next ∷ front) rest)
+closed_in_front whole line [] rest = (words_from whole line rest, refl)
+closed_in_front whole line (b ∷ []) rest = front_with_last (is_white_space b) (ends_before whole rest) b line (words_from whole (line_behind b line) rest)
+closed_in_front whole line (b ∷ next ∷ front) rest =
+    front_with_byte (is_white_space b) (is_white_space next) b line (words_from false (line_behind b line) (next ∷ front)) (words_from whole (line_behind b line) (next ∷ front ++ rest))
+    (closed_in_front whole (line_behind b line) (next ∷ front) rest)
 
 -- a fault that words show is shown whatever words follow
 shown_further : (words all : List PlacedWord) (line : ℕ) (fault : Fault) → IsFront words all → ShowsFault words line fault → ShowsFault all line fault
@@ -50,4 +50,8 @@ shown_further words all line fault front s = record {
 }
 
 pub front_fault_stays : (front rest : List ℕ) (line : ℕ) (fault : Fault) → FrontFault front line fault → FileFault (front ++ rest) line fault
-front_fault_stays front rest line fault s = shown (shown_further (closed_words front) (words_of (front ++ rest)) line fault (closed_in_front 1 front rest) s)
+front_fault_stays front rest line fault s = shown (shown_further (closed_words front) (words_of (front ++ rest)) line fault (closed_in_front true 1 front rest) s)
+
+-- it is that of a longer front as well
+pub longer_front_fault : (front rest : List ℕ) (line : ℕ) (fault : Fault) → FrontFault front line fault → FrontFault (front ++ rest) line fault
+longer_front_fault front rest line fault s = shown_further (closed_words front) (closed_words (front ++ rest)) line fault (closed_in_front false 1 front rest) s

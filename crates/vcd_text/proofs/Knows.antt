@@ -1,7 +1,9 @@
 -- What the reader's variables hold of what a file has told.
-use Rattle.std.proofs.Common.{◌≡◌, ℕ, ◌≤◌, List, subst, arith, find, map}
+use Rattle.std.proofs.Common.{◌≡◌, ℕ, ◌≤◌, List, sym, ap, ◌∙◌, subst, arith, find, map}
 use Rattle.std.specs.Prelude.{count_by, bytes_eq}
-use Rattle.vcd_text.specs.Grammar.{RecordedChange, Context, is_skipped, kept_variables}
+use Rattle.vcd_text.specs.Grammar.{RecordedChange, Context, variable_of, is_skipped, kept_variables}
+use Rattle.vcd_text.specs.inside.ShortCodes.{code_owner}
+use Rattle.vcd_text.specs.declared.reading.owners.Owners.{Owners}
 use Rattle.vcd_text.specs.inside.Variables.{declaration, owner_of, HasWave, Stands, Knows}
 use Rattle.vcd_text.specs.declared.reading.variables.Variable.{Variable}
 use Rattle.vcd_text.specs.declared.reading.variables.Variables.{Variables}
@@ -23,5 +25,16 @@ knows_further vs c d declared records later k = record {
       (subst (λ rs. Stands vs.kept.items rs c.tick code (owner_of vs code) (find (λ e. bytes_eq code e.code) d.declared)) records
       (subst (λ ds. Stands vs.kept.items c.records c.tick code (owner_of vs code) (find (λ e. bytes_eq code e.code) ds)) declared (k.stand code)));
   firsts = k.firsts;
+  few = k.few;
+}
+
+-- and with another table of the same codes
+pub same_codes : (vs : Variables) (owners : Owners) (c : Context) → owners.codes ≡ vs.owners.codes → Knows vs c → Knows (record vs { owners = owners }) c
+same_codes vs owners c same k = record {
+  kept = k.kept;
+  skipped = k.skipped;
+  stand = λ code. subst (λ m. Stands vs.kept.items c.records c.tick code (code_owner m code) (variable_of c code)) (sym same) (k.stand code);
+  firsts = λ position v at. let first = k.firsts position v at in
+      record { owned = ap (λ m. code_owner m v.code) same ∙ first.owned; no_later = first.no_later; same_size = first.same_size };
   few = k.few;
 }

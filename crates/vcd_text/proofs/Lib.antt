@@ -1,5 +1,6 @@
 pub mod SoundMeaning
 pub mod FrontAnswers
+pub mod Chunks
 pub mod Taken
 pub mod Ended
 pub mod FrontItem
@@ -22,7 +23,9 @@ pub mod TextLines
 pub mod Appended
 pub mod ShortForms
 pub mod Codes
+pub mod ShortCodes
 pub mod Values
+pub mod Written
 pub mod Scopes
 pub mod Walks
 pub mod Near
@@ -30,6 +33,7 @@ pub mod Sorting
 pub mod Counts
 pub mod Listing
 pub mod Texts
+pub mod TextLengths
 pub mod CopiedWaves
 pub mod Owners
 pub mod DeclaredVariables

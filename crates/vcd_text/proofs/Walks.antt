@@ -1,16 +1,15 @@
 -- A walk over the changes in order of ticks writes the text of all ticks.
-use Rattle.std.proofs.Common.{◌≡◌, ◌<◌, ◌≤◌, ◌+◌, ℕ, zero, suc, Bool, true, false, cond, ◌&&◌, ◌==◌, if◌then◌else◌, nat_lt, List, [], ◌∷◌, ◌++◌, length, map, drop, get_or, refl, sym, ap, subst, ◌∙◌, arith, append_assoc, eq-eqb}
+use Rattle.std.proofs.Common.{◌≡◌, ◌<◌, ◌≤◌, ◌+◌, ◌-◌, ℕ, zero, suc, Bool, true, false, cond, ◌&&◌, ◌==◌, if◌then◌else◌, nat_lt, List, [], ◌∷◌, ◌++◌, length, map, drop, get_or, refl, sym, ap, subst, ◌∙◌, arith, append_assoc, eq-eqb}
 use Rattle.std.specs.List.{filter, flat_map, enumerate_from}
 use Rattle.std.proofs.lemmas.Bool.{lt-ltb, le-ltb, ne_eqb}
 use Rattle.std.proofs.lemmas.Grind.{flat_map-append}
 use Rattle.std.proofs.lemmas.List.{append-nil, drop_all, drop_more, get_or-drop, drop-drop}
-use Rattle.vcd_core.specs.declared.bit.Bit.{Bit}
 use Rattle.vcd_core.specs.Contents.{SignalContents, no_signal, signal_value}
 use Rattle.vcd_text.specs.declared.writing.transitions.Transition.{Transition}
+use Rattle.vcd_text.proofs.Counts.{transitions_split}
 use Rattle.vcd_text.specs.Items.{Item}
-use Rattle.vcd_text.specs.inside.Transitions.{transition_of, transition_value, transitions_from, last_tick, valued_items}
+use Rattle.vcd_text.specs.inside.Transitions.{transition_of, transition_value, transitions_from, last_tick, transition_items}
 use Rattle.vcd_text.specs.Text.{code_of, differs_at, end_items, item_line, new_values, stamp_of, with_stamp, tick_items, value_item, value_items}
-use Rattle.vcd_text.proofs.Appended.{carried, two_pieces}
 
 -- what is written over transitions, where the last stamp was that of a tick
 unfoldable pub walk : List SignalContents → ℕ → ℕ → List Transition → List Item
@@ -104,70 +103,91 @@ unfolding walk transitions_from tick_items
 walk_is signals zero = refl
 walk_is signals (suc n) = walk_ticks signals n (suc n) 0 1 (omega arith) (omega arith)
 
--- a part of the transitions, with their values, and the walk over the later ones
+-- a part of the transitions, and the walk over the later ones
 pub walk_parts : (signals : List SignalContents) (end last : ℕ) (ms later : List Transition)
-    → walk signals end last (ms ++ later) ≡ valued_items last ms (map (transition_value signals) ms) ++ walk signals end (last_tick last ms) later
-unfolding walk valued_items last_tick
+    → walk signals end last (ms ++ later) ≡ transition_items signals last ms ++ walk signals end (last_tick last ms) later
+unfolding walk transition_items last_tick
 walk_parts signals end last [] later = refl
 walk_parts signals end last (m ∷ ms) later =
     ap (λ l. (if m.tick == last then [] else stamp_of m.tick ∷ []) ++ value_item (code_of m.position) (transition_value signals m) ∷ l) (walk_parts signals end m.tick ms later)
-    ∙ sym (append_assoc (if m.tick == last then [] else stamp_of m.tick ∷ []) (value_item (code_of m.position) (transition_value signals m) ∷ valued_items m.tick ms (map (transition_value signals) ms)) (walk signals end (last_tick m.tick ms) later))
+    ∙ sym (append_assoc (if m.tick == last then [] else stamp_of m.tick ∷ []) (value_item (code_of m.position) (transition_value signals m) ∷ transition_items signals m.tick ms) (walk signals end (last_tick m.tick ms) later))
 
--- a part is written
-pub part_walked : (signals : List SignalContents) (end last tick : ℕ) (rest part later : List Transition) (values : List (List Bit)) (out new whole : List ℕ) → rest ≡ part ++ later
-    → values ≡ map (transition_value signals) part → new ≡ out ++ flat_map item_line (valued_items last part values) → tick ≡ last_tick last part
-    → out ++ flat_map item_line (walk signals end last rest) ≡ whole → new ++ flat_map item_line (walk signals end tick later) ≡ whole
-part_walked signals end last tick rest part later values out new whole split valued grown at all =
-    ap (λ l. l ++ flat_map item_line (walk signals end tick later)) (grown ∙ ap (λ vs. out ++ flat_map item_line (valued_items last part vs)) valued)
-    ∙ ap (λ t. (out ++ flat_map item_line (valued_items last part (map (transition_value signals) part))) ++ flat_map item_line (walk signals end t later)) at
-    ∙ append_assoc out (flat_map item_line (valued_items last part (map (transition_value signals) part))) (flat_map item_line (walk signals end (last_tick last part) later))
-    ∙ ap (λ l. out ++ l) (sym (flat_map-append item_line (valued_items last part (map (transition_value signals) part)) (walk signals end (last_tick last part) later)))
-    ∙ ap (λ l. out ++ flat_map item_line l) (sym (walk_parts signals end last part later))
-    ∙ ap (λ l. out ++ flat_map item_line (walk signals end last l)) (sym split)
-    ∙ all
+-- the lines of all ticks past 0
+pub whole_walk : (signals : List SignalContents) (end : ℕ)
+    → flat_map item_line (walk signals end 0 (transitions_from signals 1 (end + 1 - 1))) ≡ flat_map item_line (tick_items signals 1 end ++ end_items signals end)
+whole_walk signals end =
+    let count : end + 1 - 1 ≡ end = omega arith in
+    ap (λ n. flat_map item_line (walk signals end 0 (transitions_from signals 1 n))) count ∙ ap (flat_map item_line) (walk_is signals end)
 
--- one value more is written
-pub one_valued : (last : ℕ) (transitions : List Transition) (values : List (List Bit)) (k : ℕ) (m : Transition) (v : List Bit) (out one two whole : List ℕ) → k < length transitions → k < length values
-    → m ≡ get_or transitions k m → v ≡ get_or values k v → one ≡ out ++ flat_map item_line (if m.tick == last then [] else stamp_of m.tick ∷ [])
-    → two ≡ one ++ item_line (value_item (code_of m.position) v)
-    → out ++ flat_map item_line (valued_items last (drop k transitions) (drop k values)) ≡ whole
-    → two ++ flat_map item_line (valued_items m.tick (drop (k + 1) transitions) (drop (k + 1) values)) ≡ whole
-unfolding valued_items
-one_valued last transitions values k m v out one two whole within inside at is stamp value all =
-    carried out two (flat_map item_line (if m.tick == last then [] else stamp_of m.tick ∷ []) ++ item_line (value_item (code_of m.position) v)) _ _ whole
-    (two_pieces out one two _ _ _ stamp value refl)
-    (ap (λ l. flat_map item_line (valued_items last l (drop k values))) (drop_more transitions k m within ∙ ap (λ x. x ∷ drop (k + 1) transitions) (sym at))
-    ∙ ap (λ l. flat_map item_line (valued_items last (m ∷ drop (k + 1) transitions) l)) (drop_more values k v inside ∙ ap (λ x. x ∷ drop (k + 1) values) (sym is))
+-- the lines of a window, and those of the ticks behind it
+pub window_walked : (signals : List SignalContents) (end last next from count : ℕ) (ms : List Transition) → ms ≡ transitions_from signals from count → next ≡ last_tick last ms → from + count ≤ end + 1
+    → flat_map item_line (walk signals end last (transitions_from signals from (end + 1 - from)))
+    ≡ flat_map item_line (transition_items signals last ms) ++ flat_map item_line (walk signals end next (transitions_from signals (from + count) (end + 1 - (from + count))))
+window_walked signals end last next from count ms all at within =
+    let left = end + 1 - (from + count) in
+    let sum : end + 1 - from ≡ count + left = omega arith in
+    let later = transitions_from signals (from + count) left in
+    ap (λ n. flat_map item_line (walk signals end last (transitions_from signals from n))) sum
+    ∙ ap (λ l. flat_map item_line (walk signals end last l)) (transitions_split signals from count left ∙ ap (λ l. l ++ later) (sym all))
+    ∙ ap (flat_map item_line) (walk_parts signals end last ms later)
+    ∙ flat_map-append item_line (transition_items signals last ms) (walk signals end (last_tick last ms) later)
+    ∙ ap (λ t. flat_map item_line (transition_items signals last ms) ++ flat_map item_line (walk signals end t later)) (sym at)
+
+-- no tick is left but the end
+pub end_walked : (signals : List SignalContents) (end last from : ℕ) → end < from
+    → flat_map item_line (walk signals end last (transitions_from signals from (end + 1 - from))) ≡ flat_map item_line (if nat_lt last end then stamp_of end ∷ [] else []) ++ []
+unfolding walk transitions_from
+end_walked signals end last from past =
+    let none : end + 1 - from ≡ 0 = omega arith in
+    ap (λ n. flat_map item_line (walk signals end last (transitions_from signals from n))) none ∙ sym (append-nil (flat_map item_line (if nat_lt last end then stamp_of end ∷ [] else [])))
+
+-- the lines of one transition, and those of the later ones
+pub one_walked : (signals : List SignalContents) (last : ℕ) (ms : List Transition) (k : ℕ) (m d : Transition) → k < length ms → m ≡ get_or ms k d
+    → flat_map item_line (transition_items signals last (drop k ms))
+    ≡ (flat_map item_line (if m.tick == last then [] else stamp_of m.tick ∷ []) ++ item_line (value_item (code_of m.position) (transition_value signals m)))
+    ++ flat_map item_line (transition_items signals m.tick (drop (k + 1) ms))
+unfolding transition_items
+one_walked signals last ms k m d within at =
+    ap (λ l. flat_map item_line (transition_items signals last l)) (drop_more ms k d within ∙ ap (λ x. x ∷ drop (k + 1) ms) (sym at))
     ∙ flat_map-append item_line (if m.tick == last then [] else stamp_of m.tick ∷ []) _
-    ∙ sym (append_assoc (flat_map item_line (if m.tick == last then [] else stamp_of m.tick ∷ [])) (item_line (value_item (code_of m.position) v)) _))
-    all
+    ∙ sym (append_assoc (flat_map item_line (if m.tick == last then [] else stamp_of m.tick ∷ [])) (item_line (value_item (code_of m.position) (transition_value signals m))) _)
 
--- the last tick stays, one move on
-pub one_later : (last : ℕ) (transitions : List Transition) (k : ℕ) (m : Transition) (whole : ℕ) → k < length transitions → m ≡ get_or transitions k m → last_tick last (drop k transitions) ≡ whole → last_tick m.tick (drop (k + 1) transitions) ≡ whole
+-- the last tick stays, one transition on
+pub one_later : (last : ℕ) (ms : List Transition) (k : ℕ) (m d : Transition) (whole : ℕ) → k < length ms → m ≡ get_or ms k d → last_tick last (drop k ms) ≡ whole → last_tick m.tick (drop (k + 1) ms) ≡ whole
 unfolding last_tick
-one_later last transitions k m whole within at all =
-    sym (ap (last_tick last) (drop_more transitions k m within ∙ ap (λ x. x ∷ drop (k + 1) transitions) (sym at))) ∙ all
+one_later last ms k m d whole within at all = sym (ap (last_tick last) (drop_more ms k d within ∙ ap (λ x. x ∷ drop (k + 1) ms) (sym at))) ∙ all
 
--- all transitions are written, and the stamp of the end
-pub all_walked : (signals : List SignalContents) (end last : ℕ) (transitions rest : List Transition) (out new start : List ℕ) → rest ≡ []
-    → transitions ≡ transitions_from signals 1 end → new ≡ out ++ flat_map item_line (if nat_lt last end then stamp_of end ∷ [] else [])
-    → out ++ flat_map item_line (walk signals end last rest) ≡ start ++ flat_map item_line (walk signals end 0 transitions)
-    → new ≡ start ++ flat_map item_line (tick_items signals 1 end ++ end_items signals end)
-unfolding walk
-all_walked signals end last transitions rest out new start none is stamp all =
-    stamp
-    ∙ ap (λ l. out ++ flat_map item_line (walk signals end last l)) (sym none)
-    ∙ all
-    ∙ ap (λ l. start ++ flat_map item_line (walk signals end 0 l)) is
-    ∙ ap (λ l. start ++ flat_map item_line l) (walk_is signals end)
+-- no transition is left
+pub none_walked : (signals : List SignalContents) (last : ℕ) (ms : List Transition) (k : ℕ) → length ms ≤ k → flat_map item_line (transition_items signals last (drop k ms)) ≡ []
+unfolding transition_items
+none_walked signals last ms k past = ap (λ l. flat_map item_line (transition_items signals last l)) (drop_all k ms past)
 
--- all values of a part are written
-pub all_valued : (last : ℕ) (transitions : List Transition) (values : List (List Bit)) (k : ℕ) (out whole : List ℕ) → length transitions ≤ k
-    → out ++ flat_map item_line (valued_items last (drop k transitions) (drop k values)) ≡ whole → out ≡ whole
-unfolding valued_items
-all_valued last transitions values k out whole past all =
-    sym (append-nil out) ∙ ap (λ l. out ++ flat_map item_line (valued_items last l (drop k values))) (sym (drop_all k transitions past)) ∙ all
-
-pub all_later : (last : ℕ) (transitions : List Transition) (k whole : ℕ) → length transitions ≤ k → last_tick last (drop k transitions) ≡ whole → last ≡ whole
+pub all_later : (last : ℕ) (ms : List Transition) (k whole : ℕ) → length ms ≤ k → last_tick last (drop k ms) ≡ whole → last ≡ whole
 unfolding last_tick
-all_later last transitions k whole past all = sym (ap (last_tick last) (drop_all k transitions past)) ∙ all
+all_later last ms k whole past all = sym (ap (last_tick last) (drop_all k ms past)) ∙ all
+
+-- ---- parts of a window
+
+split_items : (signals : List SignalContents) (t : ℕ) (front later : List Transition) → transition_items signals t (front ++ later) ≡ transition_items signals t front ++ transition_items signals (last_tick t front) later
+unfolding transition_items last_tick
+split_items signals t [] later = refl
+split_items signals t (m ∷ front) later =
+    ap (λ l. (if m.tick == t then [] else stamp_of m.tick ∷ []) ++ value_item (code_of m.position) (transition_value signals m) ∷ l) (split_items signals m.tick front later)
+    ∙ sym (append_assoc (if m.tick == t then [] else stamp_of m.tick ∷ []) (value_item (code_of m.position) (transition_value signals m) ∷ transition_items signals m.tick front) (transition_items signals (last_tick m.tick front) later))
+
+split_last : (t : ℕ) (front later : List Transition) → last_tick t (front ++ later) ≡ last_tick (last_tick t front) later
+unfolding last_tick
+split_last t [] later = refl
+split_last t (m ∷ front) later = split_last m.tick front later
+
+-- the lines of a part, and those of the later ones
+pub items_split : (signals : List SignalContents) (last next : ℕ) (ms part later : List Transition) → ms ≡ part ++ later → next ≡ last_tick last part
+    → flat_map item_line (transition_items signals last ms) ≡ flat_map item_line (transition_items signals last part) ++ flat_map item_line (transition_items signals next later)
+items_split signals last next ms part later is at =
+    ap (λ l. flat_map item_line (transition_items signals last l)) is
+    ∙ ap (flat_map item_line) (split_items signals last part later)
+    ∙ flat_map-append item_line (transition_items signals last part) (transition_items signals (last_tick last part) later)
+    ∙ ap (λ t. flat_map item_line (transition_items signals last part) ++ flat_map item_line (transition_items signals t later)) (sym at)
+
+pub last_split : (last next whole : ℕ) (ms part later : List Transition) → ms ≡ part ++ later → next ≡ last_tick last part → last_tick last ms ≡ whole → last_tick next later ≡ whole
+last_split last next whole ms part later is at all = ap (λ t. last_tick t later) at ∙ sym (split_last last part later) ∙ ap (last_tick last) (sym is) ∙ all

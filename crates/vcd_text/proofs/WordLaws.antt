@@ -1,7 +1,7 @@
 -- The words of a text: the first is at its front, each is a run of bytes other than white space.
 use Rattle.std.proofs.Common.{◌≡◌, ℕ, zero, suc, ◌+◌, ◌<◌, ◌≤◌, Bool, true, false, not, cond, ◌&&◌, ◌==◌, List, [], ◌∷◌, ◌++◌, length, map, take, drop, refl, sym, ap, subst, ◌∙◌, arith}
 use Rattle.std.specs.List.{All, list_all}
-use Rattle.std.proofs.lemmas.List.{take-append-drop, append-nil}
+use Rattle.std.proofs.lemmas.List.{take-append-drop}
 use Rattle.std.proofs.lemmas.List.Elements.{All-nil, All-cons, All-head, All-tail}
 use Rattle.std.proofs.lemmas.Bool.Decides.{Decides-eqb}
 use Rattle.std.proofs.lemmas.Bool.{ne_eqb}
@@ -20,7 +20,7 @@ not_true true e = sym e
 not_true false e = refl
 
 -- a byte that is no white space is no line feed
-black_is_no_feed : (b : ℕ) → is_white_space b ≡ false → (b == 10) ≡ false
+pub black_is_no_feed : (b : ℕ) → is_white_space b ≡ false → (b == 10) ≡ false
 black_is_no_feed b black = choose (b == 10) refl
   where
     choose : (t : Bool) → (b == 10) ≡ t → t ≡ false
@@ -30,7 +30,7 @@ black_is_no_feed b black = choose (b == 10) refl
         let no : true ≡ false = sym (ap is_white_space ten) ∙ black in
         absurd (cc)
 
-same_line : (b line : ℕ) → is_white_space b ≡ false → line_behind b line ≡ line
+pub same_line : (b line : ℕ) → is_white_space b ≡ false → line_behind b line ≡ line
 same_line b line black = ap (λ t. cond t (line + 1) line) (black_is_no_feed b black)
 
 -- the words of a text that begins with a word
@@ -73,7 +73,7 @@ no_word whole line zero (b ∷ bs) none black ends = let no : false ≡ true = s
 no_word whole line (suc n) (b ∷ bs) none black ends = absurd (omega arith)
 
 -- a word that is not closed is none
-word_part : (line : ℕ) (w : List ℕ) → list_all (λ b. not (is_white_space b)) w ≡ true → words_from false line w ≡ []
+pub word_part : (line : ℕ) (w : List ℕ) → list_all (λ b. not (is_white_space b)) w ≡ true → words_from false line w ≡ []
 unfolding words_from
 word_part line [] black = refl
 word_part line (b ∷ []) black =
@@ -85,20 +85,6 @@ word_part line (b ∷ c ∷ w) black =
     ap (λ s. with_byte s (is_white_space c) b line (words_from false (line_behind b line) (c ∷ w))) here
     ∙ ap (λ e. with_byte false e b line (words_from false (line_behind b line) (c ∷ w))) behind
     ∙ ap (with_longer_first b line) (word_part (line_behind b line) (c ∷ w) (both _ _ black).1)
-
--- a word ends at the end of the text alone, where it does not end in a text that is whole
-only_at_end : (whole : Bool) (rest : List ℕ) → ends_before true rest ≡ true → ends_before whole rest ≡ false → (whole ≡ false) × (rest ≡ [])
-only_at_end whole [] ends open_end = (open_end, refl)
-only_at_end whole (b ∷ bs) ends open_end = let no : true ≡ false = sym ends ∙ open_end in absurd (cc)
-
--- so the last word of a text that may go on is not there, and nothing follows it
-pub open_word : (whole : Bool) (line n : ℕ) (text : List ℕ) → list_all (λ b. not (is_white_space b)) (take n text) ≡ true
-    → ends_before true (drop n text) ≡ true → ends_before whole (drop n text) ≡ false
-    → (words_from whole line text ≡ []) × (drop n text ≡ [])
-open_word whole line n text black ends open_end =
-    let last = only_at_end whole (drop n text) ends open_end in
-    let all_of : text ≡ take n text = sym (take-append-drop n text) ∙ ap (λ rest. take n text ++ rest) last.1 ∙ append-nil (take n text) in
-    (ap (λ w. words_from w line text) last.0 ∙ ap (words_from false line) all_of ∙ word_part line (take n text) black, last.1)
 
 -- ---- what words are
 

@@ -2,11 +2,16 @@
 pub mod Spaces
 pub mod TimescaleText
 pub mod Variables
+pub mod ShortCodes
 pub mod OpenItems
 pub mod Opening
 pub mod Reading
+pub mod Chunks
 pub mod SpacedWords
 pub mod Transitions
 pub mod ValueDigits
 pub mod LetterWords
 pub mod WordWalk
+pub mod Written
+pub mod ValueFronts
+pub mod TextParts

@@ -19,4 +19,4 @@ pub use laws::{
 };
 pub use reading::{FILE_LIMIT, Loaded, read, value_of_digits};
 pub use words::{PlacedWord, Words};
-pub use writing::{text_of, write};
+pub use writing::write;

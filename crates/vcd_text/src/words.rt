@@ -3,7 +3,7 @@
 ghost use Rattle.std.specs.Prelude.{◌≡◌, ◌+◌, ◌<◌, ◌≤◌, ◌^◌, ◌∷◌, [], Bool, true, false, not, length, take, drop, MatchOption, IfSome, IfNone};
 ghost use Rattle.std.specs.List.{list_all};
 ghost use Rattle.vcd_core.specs.Word.{is_white_space as white};
-ghost use Rattle.vcd_text.specs.Words.{ends_before as ends_word, words_from, words_of, closed_words};
+ghost use Rattle.vcd_text.specs.Words.{ends_before as ends_word, words_from, words_of};
 ghost use Rattle.vcd_text.specs.LentWords.{word_at};
 ghost use Rattle.vcd_text.specs.inside.Spaces.{begins_with_space};
 
@@ -24,8 +24,6 @@ pub struct Words<'a> {
     rest: &'a [u8],
     // the line feeds so far
     passed: u64,
-    // whether the end of the text ends a word
-    whole: bool,
 }
 
 impl<'a> Model for Words<'a> {
@@ -51,21 +49,17 @@ impl<'a> Words<'a> {
         Words {
             rest: text,
             passed: 0,
-            whole: true,
         }
     }
 
-    /// The words of a text that white space follows: of a text that may go on, those that are sure.
+    /// All words of a text that so many line feeds come before.
     #[tactic(auto, using(crate::proofs::WordLaws::words_are_few))]
-    pub fn closed(text: &'a [u8]) -> Words<'a>
-        ensures words { result ≡ closed_words text.now }
-        ensures few { length result < 2 ^ 63 }
+    pub fn behind(text: &'a [u8], passed: u64) -> Words<'a>
+        requires room { passed + length text.now < 2 ^ 64 }
+        ensures words { result ≡ words_from true (passed + 1) text.now }
+        ensures few { length result ≤ length text.now }
     {
-        Words {
-            rest: text,
-            passed: 0,
-            whole: false,
-        }
+        Words { rest: text, passed }
     }
 
     /// The next word, if there is one.
@@ -79,11 +73,7 @@ impl<'a> Words<'a> {
         let (text, behind) = rest.split_at(word_len(rest));
         self.passed = passed;
         self.rest = behind;
-        // Two tests in a row, where `||` would do: each return has a proof of its own.
         if text.is_empty() {
-            return None;
-        }
-        if !ends_before(self.whole, behind) {
             return None;
         }
         Some(PlacedWord {
@@ -141,14 +131,4 @@ fn word_len(text: &[u8]) -> usize
         }
     }
     text.len()
-}
-
-/// Whether a word ends before these bytes: white space follows, or nothing and the text is whole.
-fn ends_before(whole: bool, behind: &[u8]) -> bool
-    ensures { result ≡ ends_word whole behind.now }
-{
-    match behind {
-        [next, ..] => is_white_space(*next),
-        [] => whole,
-    }
 }

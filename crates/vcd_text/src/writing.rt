@@ -6,26 +6,32 @@ ghost use Rattle.vcd_core.specs.Contents.{contents};
 ghost use Rattle.vcd_core.specs.Sound.{IsSound};
 ghost use Rattle.vcd_text.specs.Text.{text};
 ghost use Rattle.vcd_text.specs.WriteEnds.{TookBefore};
+ghost use Rattle.vcd_text.specs.inside.TextParts.{declarations_text};
 
+mod buffer;
 mod codes;
 mod declarations;
 mod lines;
 mod transitions;
 mod values;
+mod windows;
 
 use crate::fault::WriteError;
+use buffer::{WriteBuffer, finish, write_piece};
 use declarations::{append_header, append_signals, append_timescale};
 use std::alloc::Global;
-use transitions::{append_first_values, append_transitions, sorted_transitions};
-use vcd_core::{Capture, NoMemory, Sink, write_and_flush};
+use transitions::{later_places, write_first_values, write_transitions};
+use vcd_core::{Capture, NoMemory, Sink};
+use windows::window_row;
 
-/// Writes the text of a capture, and flushes the writer once behind its last byte. The text is made whole
-/// before the first of its bytes goes out.
+/// Writes the text of a capture, and flushes the writer once behind its last byte. All memory is taken before
+/// the first byte goes out.
 ///
 /// At `NoMemory` the writer took nothing and has not failed. At `WriteFault` it has failed and took exactly the
 /// first `written` bytes of the text, all of them where it failed in the flush.
 ///
-/// Time and memory are those of `text_of`, whose text is held whole until its last byte is out.
+/// It takes the time of sorts of the changes, a part at a time, and never looks at ticks without one. It holds the text
+/// of the declarations, 56 bytes a signal, and some 320 KiB.
 pub fn write<W: Sink>(alloc: Global, capture: &Capture, writer: &mut W) -> Result<(), WriteError>
     requires sound { IsSound (contents capture.now) }
     requires ready { W.has_failed writer.old ≡ false }
@@ -35,39 +41,33 @@ pub fn write<W: Sink>(alloc: Global, capture: &Capture, writer: &mut W) -> Resul
     ensures fault { IfErr result (TookBefore (text (contents capture.now)) (W.taken writer.old)
         (W.taken writer.new) (W.has_failed writer.new)) }
 {
-    let text = text_of(alloc, capture)?;
-    match write_and_flush(writer, text.as_slice()) {
-        Ok(()) => Ok(()),
-        Err(short) => Err(WriteError::WriteFault {
-            written: short.written,
-        }),
-    }
+    let signals = capture.signals();
+    let declarations = declarations_of(alloc, capture)?;
+    let mut row = window_row(alloc, signals)?;
+    let mut places = later_places(alloc, signals)?;
+    let mut buffer = WriteBuffer::new(alloc)?;
+    write_piece(&mut buffer, writer, declarations.as_slice());
+    write_first_values(&mut buffer, writer, signals);
+    write_transitions(
+        &mut buffer,
+        writer,
+        signals,
+        &mut row,
+        &mut places,
+        capture.end(),
+    );
+    finish(buffer, writer)
 }
 
-/// The text of a capture, byte for byte: header, timescale, declarations, the values at tick 0, and what
-/// changes at each later tick.
-///
-/// It takes the time of a sort of the changes, and never looks at ticks without one. For each change it holds 16
-/// bytes, and as many again while it sorts; for each signal 8; and the text, which may stand twice in memory
-/// while it grows. The only error is that memory ran out.
-pub fn text_of(alloc: Global, capture: &Capture) -> Result<Vec<u8>, NoMemory>
+/// The text of the declarations, with the header and the timescale before them and their end behind them.
+fn declarations_of(alloc: Global, capture: &Capture) -> Result<Vec<u8>, NoMemory>
     requires { IsSound (contents capture.now) }
-    ensures { IfOk result (λ bytes. bytes.items ≡ text (contents capture.now)) }
+    ensures { IfOk result (λ bytes. bytes.items ≡ declarations_text (contents capture.now)) }
 {
-    let signals = capture.signals();
-    let transitions = sorted_transitions(alloc, signals)?;
     let mut out = Vec::new(alloc);
     append_header(&mut out, capture.header())?;
     append_timescale(&mut out, capture.timescale())?;
-    append_signals(&mut out, signals)?;
+    append_signals(&mut out, capture.signals())?;
     out.extend_from_slice(b"$enddefinitions $end\n")?;
-    append_first_values(&mut out, signals)?;
-    append_transitions(
-        alloc,
-        &mut out,
-        signals,
-        transitions.as_slice(),
-        capture.end(),
-    )?;
     Ok(out)
 }

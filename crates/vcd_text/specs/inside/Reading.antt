@@ -1,5 +1,5 @@
 -- What the reader holds while it takes one word after another: what the whole items so far have told, and the words of the item that is open.
-use Rattle.std.specs.Prelude.{◌≡◌, ◌⊎◌, ℕ, ◌<◌, ◌^◌, Bool, true, false, ◌&&◌, List, [], ◌∷◌, ◌++◌, length, if◌then◌else◌, IsTrue, IsFalse, Result, Ok, Err, codes}
+use Rattle.std.specs.Prelude.{◌≡◌, ◌⊎◌, ℕ, ◌+◌, ◌<◌, ◌^◌, Bool, true, false, ◌&&◌, List, [], ◌∷◌, ◌++◌, length, if◌then◌else◌, IsTrue, IsFalse, Result, Ok, Err, codes}
 use Rattle.vcd_text.specs.declared.fault.Fault.{Fault}
 use Rattle.vcd_text.specs.declared.fault.Fault.TheVariants.{NoMemory}
 use Rattle.vcd_text.specs.declared.fault.ReadError.{ReadError}
@@ -117,10 +117,14 @@ abbrev pub Steps : Reader → PlacedWord → Result (Unit {0}) ReadError → Rea
 Steps old w (Ok x) new = (words : List PlacedWord) → Reads old words → Reads new (words ++ w ∷ [])
 Steps old w (Err e) new = (words more : List PlacedWord) → Reads old words → (e ≡ memory_error) ⊎ ShowsFault (words ++ w ∷ more) e.line e.fault
 
--- all words of a list have been taken, or one shows a fault, or memory has run out
-abbrev pub ReadsAll : List PlacedWord → Result (Unit {0}) ReadError → Reader → Type 0
-ReadsAll words (Ok x) new = Reads new words
-ReadsAll words (Err e) new = (e ≡ memory_error) ⊎ ShowsFault words e.line e.fault
+-- these words can be taken behind those that have been
+abbrev pub HasRoomFor : Reader → List PlacedWord → Type 0
+HasRoomFor m words = (taken : List PlacedWord) × Reads m taken × (length taken + length words < 2 ^ 63)
+
+-- all words of a list have been taken behind others, or one shows a fault, or memory has run out
+abbrev pub ReadsMore : List PlacedWord → List PlacedWord → Result (Unit {0}) ReadError → Reader → Type 0
+ReadsMore taken words (Ok x) new = Reads new (taken ++ words)
+ReadsMore taken words (Err e) new = (e ≡ memory_error) ⊎ ShowsFault (taken ++ words) e.line e.fault
 
 -- nothing is open, and `$enddefinitions $end` has come
 abbrev pub is_complete : Reader → Bool

@@ -1,5 +1,5 @@
--- The changes of signals past tick 0: by tick, as the text lists them, and signal by signal, as waves hold them.
-use Rattle.std.specs.Prelude.{ℕ, zero, suc, ◌+◌, ◌==◌, if◌then◌else◌, List, [], ◌∷◌, ◌++◌, map, nat_lt, slice_index_or}
+-- The changes of signals in a window of ticks: by tick, as the text lists them, and signal by signal, as waves hold them.
+use Rattle.std.specs.Prelude.{ℕ, zero, suc, ◌+◌, ◌==◌, if◌then◌else◌, List, [], ◌∷◌, ◌++◌, map, ◌&&◌, Bool, nat_le, nat_lt, slice_index_or}
 use Rattle.std.specs.List.{filter, enumerate_from}
 use Rattle.vcd_core.specs.declared.bit.Bit.{Bit}
 use Rattle.vcd_core.specs.declared.wave.Change.{Change}
@@ -21,24 +21,28 @@ unfoldable pub transitions_from : List SignalContents → ℕ → ℕ → List T
 transitions_from signals t zero = []
 transitions_from signals t (suc n) = transitions_at t (enumerate_from 0 signals) ++ transitions_from signals (suc t) n
 
--- the changes past tick 0 of the signal at a position
-abbrev pub later_transitions : ℕ → List Change → List Transition
-later_transitions position changes = map (λ c. transition_of c.tick position) (filter (λ c. nat_lt 0 c.tick) changes)
+-- whether a tick is in a window of ticks: from the first up to before the other
+abbrev pub is_in_window : ℕ → ℕ → ℕ → Bool
+is_in_window from to t = nat_le from t && nat_lt t to
 
--- the changes past tick 0 of signals, the first at this position, signal by signal
-unfoldable pub transitions_by_signal : ℕ → List SignalContents → List Transition
-transitions_by_signal position [] = []
-transitions_by_signal position (s ∷ ss) = later_transitions position s.changes ++ transitions_by_signal (position + 1) ss
+-- the changes in a window of the signal at a position
+abbrev pub window_of_signal : ℕ → ℕ → ℕ → List Change → List Transition
+window_of_signal from to position changes = map (λ c. transition_of c.tick position) (filter (λ c. is_in_window from to c.tick) changes)
+
+-- the changes in a window of signals, the first at this position, signal by signal
+unfoldable pub window_by_signal : ℕ → ℕ → ℕ → List SignalContents → List Transition
+window_by_signal from to position [] = []
+window_by_signal from to position (s ∷ ss) = window_of_signal from to position s.changes ++ window_by_signal from to (position + 1) ss
 
 -- the value that a signal changes to
 abbrev pub transition_value : List SignalContents → Transition → List Bit
 transition_value signals m = signal_value (slice_index_or signals m.position no_signal) m.tick
 
 -- transitions with their values, and a stamp where the tick is another than the one before
-unfoldable pub valued_items : ℕ → List Transition → List (List Bit) → List Item
-valued_items last [] vs = []
-valued_items last (m ∷ ms) [] = []
-valued_items last (m ∷ ms) (v ∷ vs) = (if m.tick == last then [] else stamp_of m.tick ∷ []) ++ value_item (code_of m.position) v ∷ valued_items m.tick ms vs
+unfoldable pub transition_items : List SignalContents → ℕ → List Transition → List Item
+transition_items signals last [] = []
+transition_items signals last (m ∷ ms) =
+    (if m.tick == last then [] else stamp_of m.tick ∷ []) ++ value_item (code_of m.position) (transition_value signals m) ∷ transition_items signals m.tick ms
 
 -- the tick of the last of them, or the one before them
 unfoldable pub last_tick : ℕ → List Transition → ℕ

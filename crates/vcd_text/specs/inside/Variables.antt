@@ -1,6 +1,5 @@
 -- The variables of the reader, and what they hold of what a file has told.
-use Rattle.std.specs.Prelude.{◌≡◌, ◌⊎◌, ℕ, ◌<◌, ◌≤◌, if◌then◌else◌, nat_le, List, [], ◌∷◌, ◌++◌, map, length, slice_get, count_by, All, Option, Some, None, IsTrue, IsFalse, IsSomeAnd, Result, Ok, Err, bytes_eq}
-use Rattle.indexmap.specs.IndexMap.{get_by}
+use Rattle.std.specs.Prelude.{◌≡◌, ◌⊎◌, ℕ, ◌<◌, ◌≤◌, if◌then◌else◌, nat_le, List, [], ◌∷◌, ◌++◌, map, length, slice_get, count_by, All, Option, Some, None, IsTrue, IsFalse, IsSomeAnd, Result, Ok, Err}
 use Rattle.vcd_core.specs.declared.capture.TheConstants.{SIGNAL_LIMIT}
 use Rattle.vcd_core.specs.declared.wave.Change.{Change}
 use Rattle.vcd_core.specs.Value.{all_x}
@@ -13,6 +12,7 @@ use Rattle.vcd_text.specs.Letters.{letters_of_digits, extension}
 use Rattle.vcd_text.specs.Items.{variable}
 use Rattle.vcd_text.specs.Grammar.{VariableDeclaration, RecordedChange, Context, is_skipped, kept_variables, declaration_of, variable_of, may_have_code, has_room, is_binary_number, takes_binary_number, told_after_item, with_recorded_change}
 use Rattle.vcd_text.specs.Meaning.{recorded_value}
+use Rattle.vcd_text.specs.inside.ShortCodes.{code_owner}
 use Rattle.vcd_text.specs.declared.reading.variables.Owner.{Owner}
 use Rattle.vcd_text.specs.declared.reading.variables.Owner.TheVariants.{Skipped, Kept}
 use Rattle.vcd_text.specs.declared.reading.variables.Variable.{Variable}
@@ -30,7 +30,7 @@ declaration v = declaration_by v.code v.signal
 
 -- what a code stands for
 abbrev pub owner_of : Variables → List ℕ → Option Owner
-owner_of vs code = get_by (λ key. bytes_eq code key.items) vs.owners
+owner_of vs code = code_owner vs.owners.codes code
 
 -- the variable of this code and size stands at this position, and its wave follows the records, the last of which is at the tick or before
 pub record HasWave (vs : List Variable) (position : ℕ) (code : List ℕ) (size : ℕ) (records : List RecordedChange) (tick : ℕ) : Type 0 where

@@ -92,7 +92,7 @@ impl Reader {
             OpenItem::Scope => self.close_scope(alloc),
             OpenItem::Upscope => self.close_upscope(),
             OpenItem::Variable => self.close_variable(alloc),
-            OpenItem::EndDefinitions => self.close_definitions(),
+            OpenItem::EndDefinitions => self.close_definitions(alloc),
             _ => self.close_other(),
         }
     }
@@ -155,10 +155,12 @@ impl Reader {
         Ok(())
     }
 
-    fn close_definitions(&mut self) -> Result<(), Fault>
+    /// All codes are known now, so the table of the short ones is made.
+    fn close_definitions(&mut self, alloc: Global) -> Result<(), Fault>
         requires { self.old.item ≡ items.EndDefinitions }
         ensures { (line : ℕ) → TakesOrRefuses self.old (word_on end_word line) result self.new }
     {
+        self.variables.owners.make_table(alloc)?;
         self.changing = true;
         self.item = OpenItem::Nothing;
         Ok(())

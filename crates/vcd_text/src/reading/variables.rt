@@ -15,7 +15,7 @@ ghost use Rattle.vcd_text.specs.declared.reading.variables.Owner.TheVariants.{Ke
 use crate::fault::Fault;
 use crate::reading::binary_number::{BinaryNumberError, read_value, read_word};
 use crate::reading::decimal::size_of;
-use indexmap::IndexMap;
+use crate::reading::owners::Owners;
 use std::alloc::Global;
 use vcd_core::{
     NoMemory, SIGNAL_LIMIT, ScopeName, Signal, WIDTH_LIMIT, Wave, Word, copy_scopes, copy_word,
@@ -86,7 +86,7 @@ pub struct Variables {
     /// Those that are kept, in the order of the file.
     pub kept: Vec<Variable>,
     /// What each code stands for.
-    pub owners: IndexMap<Vec<u8>, Owner>,
+    pub owners: Owners,
     /// How many are skipped.
     pub skipped: u64,
 }
@@ -98,7 +98,7 @@ impl Variables {
     {
         Variables {
             kept: Vec::new(alloc),
-            owners: IndexMap::new(alloc),
+            owners: Owners::new(alloc),
             skipped: 0,
         }
     }
@@ -222,16 +222,14 @@ impl Variables {
         ensures kept { self.new.kept ≡ self.old.kept }
         ensures skipped { self.new.skipped ≡ self.old.skipped }
     {
-        let key = copy_word(alloc, code)?.into_vec();
-        self.owners.insert(key, owner)?;
-        Ok(())
+        self.owners.insert(alloc, code, owner)
     }
 
     /// What a code stands for.
     fn owner(&self, code: &[u8]) -> Option<Owner>
         ensures { result ≡ owner_of self.now code.now }
     {
-        self.owners.get(code).copied()
+        self.owners.get(code)
     }
 
     /// Whether a variable stands at this position, of this width.

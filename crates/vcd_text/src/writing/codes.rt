@@ -3,8 +3,10 @@
 ghost use Rattle.std.specs.Prelude.{◌≡◌, ◌<◌, ◌++◌, OnOk};
 ghost use Rattle.vcd_core.specs.declared.capture.TheConstants.{SIGNAL_LIMIT};
 ghost use Rattle.vcd_text.specs.Text.{code_of};
+ghost use Rattle.vcd_text.specs.inside.Written.{Writes};
 
-use vcd_core::NoMemory;
+use super::buffer::{WriteBuffer, write_byte};
+use vcd_core::{NoMemory, Sink};
 
 /// The first byte of the 94 that codes are made of, and how many they are (IEEE 1364-2005, 18.2).
 const FIRST: u8 = b'!';
@@ -24,4 +26,18 @@ pub fn append_code(out: &mut Vec<u8>, position: usize) -> Result<(), NoMemory>
         rest = digit / COUNT;
     }
     Ok(())
+}
+
+/// Writes the code of the signal at `position`, as `append_code` does.
+pub fn write_code<W: Sink>(buffer: &mut WriteBuffer, writer: &mut W, position: usize)
+    requires { position < SIGNAL_LIMIT }
+    ensures { Writes buffer.old (W.taken writer.old) (W.has_failed writer.old)
+        buffer.new (W.taken writer.new) (W.has_failed writer.new) (code_of position) }
+{
+    let mut left = position + 1;
+    while left > 0 {
+        let digit = left - 1;
+        write_byte(buffer, writer, FIRST + (digit % COUNT) as u8);
+        left = digit / COUNT;
+    }
 }

@@ -1,60 +1,70 @@
 //! Values as they are printed: one letter, or `b` and the short form.
 
-ghost use Rattle.std.specs.Prelude.{◌≡◌, ℕ, List, ◌<◌, ◌≤◌, ◌++◌, ◌∷◌, [], length, drop, OnOk};
-ghost use Rattle.vcd_core.specs.Value.{same_letter};
+ghost use Rattle.std.specs.Prelude.{◌≡◌, ◌<◌, ◌≤◌, ◌∷◌, [], if◌then◌else◌, length, drop};
+ghost use Rattle.std.specs.Int.{bit_at};
+ghost use Rattle.vcd_core.specs.Value.{letter_at, same_letter};
+ghost use Rattle.vcd_core.specs.WordRows.{letter_of};
 ghost use Rattle.vcd_core.specs.declared.capture.TheConstants.{SIGNAL_LIMIT};
 ghost use Rattle.vcd_text.specs.Letters.{pad_letter, printed_letters, short_form};
 ghost use Rattle.vcd_text.specs.Text.{code_of, item_line, value_item};
+ghost use Rattle.vcd_text.specs.inside.ValueFronts.{value_front};
+ghost use Rattle.vcd_text.specs.inside.Written.{Writes};
 
-use super::codes::append_code;
-use vcd_core::{Bit, NoMemory, Value};
+use super::buffer::{WriteBuffer, write_byte};
+use super::codes::write_code;
+use vcd_core::{Bit, Sink, Value};
 
-/// Appends the line that gives a value to the signal at `position`. It looks at each bit twice at most.
-pub fn append_value(out: &mut Vec<u8>, position: usize, value: Value) -> Result<(), NoMemory>
+/// Writes the line that gives a value to the signal at `position`. It looks at each bit twice at most.
+pub fn write_value<W: Sink>(
+    buffer: &mut WriteBuffer,
+    writer: &mut W,
+    position: usize,
+    value: &Value,
+)
     requires { position < SIGNAL_LIMIT }
-    ensures { OnOk result (out.new.items ≡
-        out.old.items ++ item_line (value_item (code_of position) value)) }
+    ensures { Writes buffer.old (W.taken writer.old) (W.has_failed writer.old)
+        buffer.new (W.taken writer.new) (W.has_failed writer.new)
+        (item_line (value_item (code_of position) value.now)) }
 {
-    append_digits(out, value)?;
-    append_code(out, position)?;
-    out.push(b'\n')?;
-    Ok(())
+    write_digits(buffer, writer, value);
+    write_code(buffer, writer, position);
+    write_byte(buffer, writer, b'\n');
 }
 
-/// Appends what stands before the code: one letter, or `b`, the short form and a space.
-fn append_digits(out: &mut Vec<u8>, value: Value) -> Result<(), NoMemory>
-    ensures { OnOk result ((code : List ℕ) →
-        out.new.items ++ (code ++ 10 ∷ []) ≡ out.old.items ++ item_line (value_item code value)) }
+/// Writes what stands before the code: one letter, or `b`, the short form and a space.
+fn write_digits<W: Sink>(buffer: &mut WriteBuffer, writer: &mut W, value: &Value)
+    ensures { Writes buffer.old (W.taken writer.old) (W.has_failed writer.old)
+        buffer.new (W.taken writer.new) (W.has_failed writer.new) (value_front value.now) }
 {
     if value.width() == 1 {
-        out.push(value.bit(0).letter())?;
-        return Ok(());
+        write_byte(buffer, writer, bit_by_words(value, 0).letter());
+        return;
     }
-    out.push(b'b')?;
-    append_short(out, &value)?;
-    out.push(b' ')?;
-    Ok(())
+    write_byte(buffer, writer, b'b');
+    write_short(buffer, writer, value);
+    write_byte(buffer, writer, b' ');
 }
 
-/// Appends the letters of the shortest text whose extension is the value (IEEE 1364-2005, 18.2).
-fn append_short(out: &mut Vec<u8>, value: &Value) -> Result<(), NoMemory>
-    ensures { OnOk result (out.new.items ≡
-        out.old.items ++ printed_letters (short_form value.now)) }
+/// Writes the letters of the shortest text whose extension is the value (IEEE 1364-2005, 18.2).
+fn write_short<W: Sink>(buffer: &mut WriteBuffer, writer: &mut W, value: &Value)
+    ensures { Writes buffer.old (W.taken writer.old) (W.has_failed writer.old)
+        buffer.new (W.taken writer.new) (W.has_failed writer.new)
+        (printed_letters (short_form value.now)) }
 {
-    append_letters_from(out, value, spare_letters(value))
+    write_letters_from(buffer, writer, value, spare_letters(value));
 }
 
-/// Appends the letters of a value from the one at `first` on, counted from the most significant.
-fn append_letters_from(out: &mut Vec<u8>, value: &Value, first: u64) -> Result<(), NoMemory>
+/// Writes the letters of a value from the one at `first` on, counted from the most significant.
+fn write_letters_from<W: Sink>(buffer: &mut WriteBuffer, writer: &mut W, value: &Value, first: u64)
     requires { first ≤ length value.now }
-    ensures { OnOk result (out.new.items ≡
-        out.old.items ++ printed_letters (drop first value.now)) }
+    ensures { Writes buffer.old (W.taken writer.old) (W.has_failed writer.old)
+        buffer.new (W.taken writer.new) (W.has_failed writer.new)
+        (printed_letters (drop first value.now)) }
 {
     let width = value.width();
     for k in first..width {
-        out.push(value.bit(width - 1 - k).letter())?;
+        write_byte(buffer, writer, bit_by_words(value, width - 1 - k).letter());
     }
-    Ok(())
 }
 
 /// How many letters at the front the short form leaves out: those that the extension puts there again.
@@ -64,7 +74,10 @@ fn spare_letters(value: &Value) -> u64
 {
     let last = value.width() - 1;
     for k in 0..last {
-        if !is_spare(value.bit(last - k), value.bit(last - k - 1)) {
+        if !is_spare(
+            bit_by_words(value, last - k),
+            bit_by_words(value, last - k - 1),
+        ) {
             return k;
         }
     }
@@ -79,4 +92,35 @@ fn is_spare(letter: Bit, next: Bit) -> bool
         (letter, next),
         (Bit::Zero, Bit::Zero | Bit::One) | (Bit::X, Bit::X) | (Bit::Z, Bit::Z)
     )
+}
+
+/// The bit at `k` of a value, read where the value stands: the method of the same meaning takes a copy.
+fn bit_by_words(value: &Value, k: u64) -> Bit
+    requires { k < length value.now }
+    ensures { result ≡ letter_at value.now k }
+{
+    let word = (k / 64) as usize;
+    let is_low = is_set(value.word_low(word), k % 64);
+    let is_high = is_set(value.word_high(word), k % 64);
+    bit_of_planes(is_low, is_high)
+}
+
+/// Whether a bit of a word is set.
+fn is_set(word: u64, k: u64) -> bool
+    requires { k < 64 }
+    ensures { bit_at word k ≡ (if result then 1 else 0) }
+{
+    (word >> k) & 1 == 1
+}
+
+/// The bit that a low and a high bit of the planes stand for.
+fn bit_of_planes(is_low: bool, is_high: bool) -> Bit
+    ensures { result ≡ letter_of (if is_low then 1 else 0) (if is_high then 1 else 0) }
+{
+    match (is_low, is_high) {
+        (false, false) => Bit::Zero,
+        (true, false) => Bit::One,
+        (true, true) => Bit::X,
+        (false, true) => Bit::Z,
+    }
 }

@@ -1,49 +1,29 @@
-use Rattle.std.proofs.Common.{◌≡◌, ℕ, ◌+◌, ◌<◌, true, false, ◌∷◌, length, take, drop, sym, ap, ◌∙◌, arith}
+use Rattle.std.proofs.Common.{◌≡◌, ℕ, ◌+◌, ◌<◌, true, ◌∷◌, length, take, sym, ap, ◌∙◌, arith}
 use Rattle.std.proofs.lemmas.Bool.{eqb-true, eqb-false}
-use Rattle.vcd_text.specs.Words.{ends_before, words_from, word_on}
-use Rattle.vcd_text.proofs.WordLaws.{word_split, no_word, open_word}
+use Rattle.vcd_text.specs.Words.{words_from, word_on}
+use Rattle.vcd_text.proofs.WordLaws.{word_split, no_word}
 use Rattle.vcd_text.proofs.words.Words.next_word.Goals as goal
 
 pub returns-then-is_empty-clause-words : goal.returns-then-is_empty-clause-words
 returns-then-is_empty-clause-words c =
     let empty : length c.split_at.result.0.now ≡ 0 = eqb-true _ _ (sym c.is_empty.ensures ∙ c.if-is_empty.true) in
     let none : length (take c.word_len.result c.behind_space-passed.result.0.now) ≡ 0 = ap (length {A = ℕ}) (sym c.split_at.ensures.front) ∙ empty in
-    sym c.self.view_is ∙ sym (c.behind_space-passed.ensures.words c.self.inside.whole) ∙ (no_word c.self.inside.whole _ _ _ none c.behind_space-passed.ensures.black c.word_len.ensures.ends).0
+    sym c.self.view_is ∙ sym (c.behind_space-passed.ensures.words true) ∙ (no_word true _ _ _ none c.behind_space-passed.ensures.black c.word_len.ensures.ends).0
 
 pub returns-then-is_empty-clause-over : goal.returns-then-is_empty-clause-over
 unfolding words_from
 returns-then-is_empty-clause-over c =
     let empty : length c.split_at.result.0.now ≡ 0 = eqb-true _ _ (sym c.is_empty.ensures ∙ c.if-is_empty.true) in
     let none : length (take c.word_len.result c.behind_space-passed.result.0.now) ≡ 0 = ap (length {A = ℕ}) (sym c.split_at.ensures.front) ∙ empty in
-    let whole = c.self.inside.whole in
     let line = c.behind_space-passed.result.1 + 1 in
-    ap (words_from whole line) (c.split_at.ensures.back ∙ (no_word whole line _ _ none c.behind_space-passed.ensures.black c.word_len.ensures.ends).1)
-
-pub returns-then-not-ends_before-clause-words : goal.returns-then-not-ends_before-clause-words
-returns-then-not-ends_before-clause-words c =
-    let whole = c.self.inside.whole in
-    let closed : ends_before whole (drop c.word_len.result c.behind_space-passed.result.0.now) ≡ false =
-    ap (ends_before whole) (sym c.split_at.ensures.back) ∙ sym c.ends_before.ensures ∙ c.if-not-ends_before.true in
-    sym c.self.view_is ∙ sym (c.behind_space-passed.ensures.words whole) ∙ (open_word whole _ _ _ c.word_len.ensures.black c.word_len.ensures.ends closed).0
-
-pub returns-then-not-ends_before-clause-over : goal.returns-then-not-ends_before-clause-over
-unfolding words_from
-returns-then-not-ends_before-clause-over c =
-    let whole = c.self.inside.whole in
-    let line = c.behind_space-passed.result.1 + 1 in
-    let closed : ends_before whole (drop c.word_len.result c.behind_space-passed.result.0.now) ≡ false =
-    ap (ends_before whole) (sym c.split_at.ensures.back) ∙ sym c.ends_before.ensures ∙ c.if-not-ends_before.true in
-    ap (words_from whole line) (c.split_at.ensures.back ∙ (open_word whole line c.word_len.result c.behind_space-passed.result.0.now c.word_len.ensures.black c.word_len.ensures.ends closed).1)
+    ap (words_from true line) (c.split_at.ensures.back ∙ (no_word true line _ _ none c.behind_space-passed.ensures.black c.word_len.ensures.ends).1)
 
 pub returns-clause-words : goal.returns-clause-words
 returns-clause-words c =
-    let whole = c.self.inside.whole in
     let line = c.behind_space-passed.result.1 + 1 in
     let other = eqb-false (length c.split_at.result.0.now) 0 (sym c.is_empty.ensures ∙ c.if-is_empty.false) in
     let long : length (take c.word_len.result c.behind_space-passed.result.0.now) ≡ length c.split_at.result.0.now = ap (length {A = ℕ}) (sym c.split_at.ensures.front) in
     let some : 0 < length (take c.word_len.result c.behind_space-passed.result.0.now) = omega (arith, other, long) in
-    let closed : ends_before whole (drop c.word_len.result c.behind_space-passed.result.0.now) ≡ true =
-    ap (ends_before whole) (sym c.split_at.ensures.back) ∙ sym c.ends_before.ensures ∙ c.if-not-ends_before.false in
-    sym c.self.view_is ∙ sym (c.behind_space-passed.ensures.words whole)
-    ∙ word_split whole line _ _ some c.word_len.ensures.black closed
-    ∙ (λ i. word_on (sym c.split_at.ensures.front i) line ∷ words_from whole line (sym c.split_at.ensures.back i))
+    sym c.self.view_is ∙ sym (c.behind_space-passed.ensures.words true)
+    ∙ word_split true line _ _ some c.word_len.ensures.black c.word_len.ensures.ends
+    ∙ (λ i. word_on (sym c.split_at.ensures.front i) line ∷ words_from true line (sym c.split_at.ensures.back i))

@@ -6,13 +6,13 @@ use Rattle.vcd_text.proofs.writing.values.spare_letters.Goals as goal
 pub returns-then-not-is_spare-clause-rest : goal.returns-then-not-is_spare-clause-rest
 returns-then-not-is_spare-clause-rest c =
     sym (kept_at c.args.value.now c.loop-k.k (omega arith)
-    (told_at _ c.loop-k.k (c.width-last.result - 1) _ _ _ _ (omega arith) (omega arith) c.bit.ensures c.bit-in-loop-k.ensures c.is_spare.ensures c.if-not-is_spare.true))
+    (told_at _ c.loop-k.k (c.width-last.result - 1) _ _ _ _ (omega arith) (omega arith) c.bit_by_words.ensures c.bit_by_words-in-loop-k.ensures c.is_spare.ensures c.if-not-is_spare.true))
     ∙ c.loop-k.invariant ∙ sym (short_is c.args.value.now)
 
 pub loop-k-preserved : goal.loop-k-preserved
 loop-k-preserved c =
     sym (spare_at c.args.value.now c.loop-k.k (omega arith)
-    (told_at _ c.loop-k.k (c.width-last.result - 1) _ _ _ _ (omega arith) (omega arith) c.bit.ensures c.bit-in-loop-k.ensures c.is_spare.ensures c.if-not-is_spare.false))
+    (told_at _ c.loop-k.k (c.width-last.result - 1) _ _ _ _ (omega arith) (omega arith) c.bit_by_words.ensures c.bit_by_words-in-loop-k.ensures c.is_spare.ensures c.if-not-is_spare.false))
     ∙ c.loop-k.invariant
 
 pub returns-clause-rest : goal.returns-clause-rest

@@ -1,0 +1,53 @@
+use Rattle.std.proofs.Common.{◌≡◌, ◌⊎◌, inr, ℕ, ◌+◌, true, false, List, Err, length, IfErr, sym, ap, subst, ◌∙◌, arith}
+use Rattle.std.proofs.lemmas.Result.{err_from_is_err_and}
+use Rattle.vcd_text.specs.declared.fault.ReadError.{ReadError}
+use Rattle.vcd_text.specs.Words.{words_from, closed_words}
+use Rattle.vcd_text.specs.Faults.{FileFault, too_early}
+use Rattle.vcd_text.specs.Refusals.{memory_error}
+use Rattle.vcd_text.specs.inside.Chunks.{Holds}
+use Rattle.vcd_text.proofs.Chunks.{last_taken, last_shown}
+use Rattle.vcd_text.proofs.Ended.{stops}
+use Rattle.vcd_text.proofs.WordLaws.{words_are_few}
+use Rattle.vcd_text.proofs.reading.chunks.Progress.finish.Goals as goal
+
+pub read_words-requires : goal.read_words-requires
+read_words-requires c =
+    let (bytes, taken) = c.requires in (
+      closed_words bytes,
+      taken.reads,
+      omega (arith, words_are_few false 1 bytes, c.behind.ensures.few, ap (length {A = ℕ}) c.as_slice.ensures.value, taken.short, taken.room),
+    )
+
+pub returns-in_err-read_words-clause-fault : goal.returns-in_err-read_words-clause-fault
+returns-in_err-read_words-clause-fault c =
+    let p = c.args.self in
+    let refused = err_from_is_err_and c.from_residual.result c.from_residual.ensures.1 in
+    subst (λ r. IfErr r (λ (e : ReadError). (bytes : List ℕ) → Holds p bytes → (e ≡ memory_error) ⊎ FileFault bytes e.line e.fault)) (sym (refused.1 ∙ ap Err refused.2))
+    (λ bytes taken. last_shown p.reader p.word.items p.passed p.left bytes c.behind.result c.in_err-read_words.field-0.0 taken
+    (c.behind.ensures.words ∙ ap (words_from true (p.passed + 1)) c.as_slice.ensures.value) (c.in_err-read_words.ensures (closed_words bytes) taken.reads))
+
+pub returns-then-not-is_complete-clause-fault : goal.returns-then-not-is_complete-clause-fault
+returns-then-not-is_complete-clause-fault c = λ bytes taken.
+    let p = c.args.self in
+    let m = c.read_words.new.reader in
+    let reads = last_taken p.reader m p.word.items p.passed p.left bytes c.behind.result taken (c.behind.ensures.words ∙ ap (words_from true (p.passed + 1)) c.as_slice.ensures.value)
+    (c.in_ok-read_words.ensures (closed_words bytes) taken.reads) in
+    inr (too_early (stops m _ reads (sym c.is_complete.ensures ∙ c.if-not-is_complete.true))
+    (ap (λ (e : ReadError). e.line) c.at.ensures ∙ sym taken.lines) (ap (λ (e : ReadError). e.fault) c.at.ensures))
+
+pub returns-in-Ok-clause-means : goal.returns-in-Ok-clause-means
+returns-in-Ok-clause-means c = λ bytes taken.
+    let p = c.args.self in
+    let m = c.read_words.new.reader in
+    let reads = last_taken p.reader m p.word.items p.passed p.left bytes c.behind.result taken (c.behind.ensures.words ∙ ap (words_from true (p.passed + 1)) c.as_slice.ensures.value)
+    (c.in_ok-read_words.ensures (closed_words bytes) taken.reads) in
+    c.in-Ok.ensures.means bytes reads
+
+pub returns-in-Ok-clause-sound : goal.returns-in-Ok-clause-sound
+returns-in-Ok-clause-sound c =
+    let (bytes, taken) = c.requires in
+    let p = c.args.self in
+    let m = c.read_words.new.reader in
+    let reads = last_taken p.reader m p.word.items p.passed p.left bytes c.behind.result taken (c.behind.ensures.words ∙ ap (words_from true (p.passed + 1)) c.as_slice.ensures.value)
+    (c.in_ok-read_words.ensures (closed_words bytes) taken.reads) in
+    c.in-Ok.ensures.sound bytes reads

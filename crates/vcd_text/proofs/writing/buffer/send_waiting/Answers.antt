@@ -1,0 +1,12 @@
+-- What waits is all that is left of the text.
+use Rattle.std.proofs.Common.{[], sym, ◌∙◌}
+use Rattle.vcd_text.proofs.Written.{bytes_sent, waiting_left}
+use Rattle.vcd_text.proofs.writing.buffer.send_waiting.Goals as goal
+
+pub returns-clause-written : goal.returns-clause-written
+returns-clause-written g c =
+    let sent = c.send_bytes-count.ensures in
+    let bytes = c.as_slice.ensures.value in
+    bytes_sent c.args.buffer.now _ _ _ _ _ c.send_bytes-count.result [] c.as_slice.result.now
+    (λ text within is. waiting_left c.args.buffer.now text within is ∙ sym bytes)
+    sent.front sent.within sent.all sent.failed sent.stays c.saturating_add-buffer.ensures c.clear.ensures.items

@@ -1,0 +1,12 @@
+-- What is written and the digits of the rest are the code.
+use Rattle.vcd_text.specs.Text.{code_of, code_digits}
+use Rattle.vcd_text.proofs.Written.{WritesFront}
+use Rattle.vcd_text.proofs.writing.codes.write_code.Given as goal
+
+abbrev pub invariant-loop-left : goal.invariant-loop-left
+invariant-loop-left g l =
+    WritesFront l.initial.buffer (g.W.Sink.taken l.initial.writer) (g.W.Sink.has_failed l.initial.writer) l.buffer (g.W.Sink.taken l.writer) (g.W.Sink.has_failed l.writer)
+    (code_digits l.left l.left) (code_of l.position)
+
+abbrev pub decreases-loop-left : goal.decreases-loop-left
+decreases-loop-left g l = l.left

@@ -1,0 +1,47 @@
+-- The parts in a row are the text.
+use Rattle.std.proofs.Common.{◌≡◌, ◌<◌, ◌^◌, ◌++◌, ℕ, List, length, map, ap, ◌∙◌, arith}
+use Rattle.std.specs.Prelude.{OnOk, Result, Ok, Err}
+use Rattle.std.specs.List.{flat_map}
+use Rattle.std.proofs.lemmas.Result.{IfErr-weaker}
+use Rattle.vcd_core.specs.declared.capture.Signal.{Signal}
+use Rattle.vcd_core.specs.Contents.{contents, signal_contents}
+use Rattle.vcd_text.specs.Text.{end_items, first_items, item_line, text, tick_items}
+use Rattle.vcd_text.specs.inside.TextParts.{declarations_text}
+use Rattle.vcd_text.specs.inside.Written.{IsWritten}
+use Rattle.vcd_text.proofs.TextLengths.{text_countable}
+use Rattle.vcd_text.proofs.Texts.{whole_text}
+use Rattle.vcd_text.proofs.Written.{whole_written, writes_as, writes_both}
+use Rattle.vcd_text.proofs.writing.write.Goals as goal
+use Rattle.vcd_text.proofs.writing.write.Given as given
+
+on_ok : {T E P Q : Type 0} (r : Result T E) → (P → Q) → OnOk r P → OnOk r Q
+on_ok (Ok x) f p = f p
+on_ok (Err e) f p = tt
+
+countable : (g : given.Over) (c : goal.After-drop-declarations-2 g) → length (text (contents c.args.capture.now)) < 2 ^ 128
+countable g c =
+    text_countable (contents c.args.capture.now) c.requires.sound
+    (let same = ap (length {A = ℕ}) c.in_ok-declarations.ensures in omega arith)
+
+-- the whole text is written
+all_written : (g : given.Over) (c : goal.After-drop-declarations-2 g)
+    → IsWritten (g.W.Sink.taken c.args.writer.now) (g.W.Sink.taken c.write_transitions.new.writer) (g.W.Sink.has_failed c.write_transitions.new.writer) c.write_transitions.new.buffer (text (contents c.args.capture.now))
+all_written g c =
+    let declarations = c.as_slice.ensures.value ∙ c.in_ok-declarations.ensures in
+    let rest : List Signal → ℕ → List ℕ = λ signals end.
+    flat_map item_line (first_items (map signal_contents signals)) ++ flat_map item_line (tick_items (map signal_contents signals) 1 end ++ end_items (map signal_contents signals) end) in
+    let same : c.as_slice.result.now ++ rest c.signals-signals.result.now c.end.result ≡ text (contents c.args.capture.now) =
+    ap (λ d. d ++ rest c.signals-signals.result.now c.end.result) declarations
+    ∙ ap (λ (l : List Signal). declarations_text (contents c.args.capture.now) ++ rest l c.end.result) c.signals-signals.ensures
+    ∙ ap (λ e. declarations_text (contents c.args.capture.now) ++ rest c.args.capture.now.signals e) c.end.ensures
+    ∙ whole_text (contents c.args.capture.now) in
+    whole_written c.in_ok-buffer.ensures.waiting c.in_ok-buffer.ensures.sent (countable g c)
+    (writes_as same (writes_both c.write_piece.ensures (writes_both c.write_first_values.ensures c.write_transitions.ensures)))
+
+pub returns-clause-written : goal.returns-clause-written
+returns-clause-written g c =
+    on_ok c.finish.result (λ ends. ends (g.W.Sink.taken c.args.writer.now) (text (contents c.args.capture.now)) (countable g c) (all_written g c)) c.finish.ensures.written
+
+pub returns-clause-fault : goal.returns-clause-fault
+returns-clause-fault g c =
+    IfErr-weaker c.finish.result _ _ (λ e ends. ends (g.W.Sink.taken c.args.writer.now) (text (contents c.args.capture.now)) (countable g c) (all_written g c)) c.finish.ensures.fault

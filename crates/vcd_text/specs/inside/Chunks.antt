@@ -1,0 +1,45 @@
+-- Where the reading of a file stands that comes in chunks: the words that are sure have been taken, and a word that may go on is kept.
+use Rattle.std.specs.Prelude.{◌≡◌, ◌⊎◌, ℕ, ◌+◌, ◌≤◌, Bool, true, not, List, ◌++◌, length, Option, Result, Ok, Err}
+use Rattle.std.specs.List.{list_all}
+use Rattle.std.specs.Io.KnownBytes.{Consumes}
+use Rattle.vcd_core.specs.Word.{is_white_space}
+use Rattle.vcd_text.specs.declared.fault.ReadError.{ReadError}
+use Rattle.vcd_text.specs.declared.reading.TheConstants.{FILE_LIMIT}
+use Rattle.vcd_text.specs.declared.reading.chunks.Progress.{Progress}
+use Rattle.vcd_text.specs.declared.reading.reader.Reader.{Reader}
+use Rattle.vcd_text.specs.Words.{words_from, closed_words, last_line}
+use Rattle.vcd_text.specs.Faults.{FrontFault}
+use Rattle.vcd_text.specs.Refusals.{memory_error}
+use Rattle.vcd_text.specs.inside.Reading.{Reads}
+
+-- of the bytes that have come, the words that white space follows have been taken; the others are those of a word that may go on
+pub record HasTaken (m : Reader) (word : List ℕ) (passed left : ℕ) (bytes : List ℕ) : Type 0 where
+  pub reads : Reads m (closed_words bytes)
+  pub behind : (whole : Bool) (rest : List ℕ) → words_from whole 1 (bytes ++ rest) ≡ closed_words bytes ++ words_from whole (passed + 1) (word ++ rest)
+  pub black : list_all (λ b. not (is_white_space b)) word ≡ true
+  pub short : length word ≤ length bytes
+  pub lines : last_line bytes ≡ passed + 1
+  pub room : length bytes + left ≡ FILE_LIMIT
+
+-- so far these bytes have come
+abbrev pub Holds : Progress → List ℕ → Type 0
+Holds p bytes = HasTaken p.reader p.word.items p.passed p.left bytes
+
+-- of bytes that may be known these are left, and what came between has been taken
+abbrev pub StandsAt : Option (List ℕ) → Option (List ℕ) → Progress → Type 0
+StandsAt coming left p = (bytes : List ℕ) × Consumes coming left bytes × Holds p bytes
+
+-- a chunk stands behind the word that may go on, which has so many bytes; with it these bytes have come
+pub record HasCome (p : Progress) (from : ℕ) (bytes : List ℕ) : Type 0 where
+  pub before : List ℕ
+  pub word : List ℕ
+  pub chunk : List ℕ
+  pub taken : HasTaken p.reader word p.passed (p.left + length chunk) before
+  pub text : p.word.items ≡ word ++ chunk
+  pub len : from ≡ length word
+  pub all : bytes ≡ before ++ chunk
+
+-- the words that are sure now have been taken, or one shows a fault, or memory has run out
+abbrev pub TakesChunk : List ℕ → Result (Unit {0}) ReadError → Progress → Type 0
+TakesChunk bytes (Ok x) new = Holds new bytes
+TakesChunk bytes (Err e) new = (e ≡ memory_error) ⊎ FrontFault bytes e.line e.fault

@@ -1,0 +1,138 @@
+//! A buffer before a writer: the text goes out in large parts, and no memory is taken on the way.
+
+ghost use Rattle.std.specs.Prelude.{◌≡◌, ◌<◌, ◌≤◌, ◌+◌, ◌^◌, false, true, ℕ, List, [], ◌∷◌, Option, length, take, vec_len, vec_capacity, OnOk, IfErr, IfOk};
+ghost use Rattle.std.specs.Io.KnownBytes.{Appends};
+ghost use Rattle.vcd_text.specs.WriteEnds.{TookBefore};
+ghost use Rattle.vcd_text.specs.inside.Written.{IsWritten, Writes};
+
+use crate::fault::WriteError;
+use std::alloc::Global;
+use vcd_core::{NoMemory, Sink, write_all};
+
+/// How many bytes the buffer has room for.
+const ROOM: usize = 65536;
+
+/// The bytes that wait for the writer, and how many it took before them. Once the writer has failed, nothing
+/// more goes to it.
+#[derive(Drop)]
+pub struct WriteBuffer {
+    pub waiting: Vec<u8>,
+    pub sent: u128,
+}
+
+impl WriteBuffer {
+    /// An empty buffer.
+    pub fn new(alloc: Global) -> Result<WriteBuffer, NoMemory>
+        ensures waiting { IfOk result (λ buffer. buffer.waiting.items ≡ []) }
+        ensures sent { IfOk result (λ buffer. buffer.sent ≡ 0) }
+    {
+        let waiting = Vec::with_capacity(alloc, ROOM)?;
+        Ok(WriteBuffer { waiting, sent: 0 })
+    }
+}
+
+/// Writes a piece of the text behind what was written. It takes no memory.
+pub fn write_piece<W: Sink>(buffer: &mut WriteBuffer, writer: &mut W, piece: &[u8])
+    ensures { Writes buffer.old (W.taken writer.old) (W.has_failed writer.old)
+        buffer.new (W.taken writer.new) (W.has_failed writer.new) piece.now }
+{
+    if has_room(&buffer.waiting, piece.len()) {
+        let _ = buffer.waiting.extend_from_slice(piece);
+        return;
+    }
+    send_waiting(buffer, writer);
+    write_first(buffer, writer, piece);
+}
+
+/// Writes a byte of the text behind what was written.
+pub fn write_byte<W: Sink>(buffer: &mut WriteBuffer, writer: &mut W, byte: u8)
+    ensures { Writes buffer.old (W.taken writer.old) (W.has_failed writer.old)
+        buffer.new (W.taken writer.new) (W.has_failed writer.new) (byte ∷ []) }
+{
+    if has_room(&buffer.waiting, 1) {
+        let _ = buffer.waiting.push(byte);
+        return;
+    }
+    write_piece(buffer, writer, &[byte]);
+}
+
+/// Keeps a piece where the buffer has room for it, and otherwise sends it behind what waits.
+fn write_first<W: Sink>(buffer: &mut WriteBuffer, writer: &mut W, piece: &[u8])
+    ensures { Writes buffer.old (W.taken writer.old) (W.has_failed writer.old)
+        buffer.new (W.taken writer.new) (W.has_failed writer.new) piece.now }
+{
+    if has_room(&buffer.waiting, piece.len()) {
+        let _ = buffer.waiting.extend_from_slice(piece);
+        return;
+    }
+    send_waiting(buffer, writer);
+    send_piece(buffer, writer, piece);
+}
+
+fn has_room(waiting: &Vec<u8>, count: usize) -> bool
+    ensures { result ≡ true → vec_len waiting.now + count ≤ vec_capacity waiting.now }
+{
+    count <= waiting.capacity() - waiting.len()
+}
+
+/// Sends all that waits.
+fn send_waiting<W: Sink>(buffer: &mut WriteBuffer, writer: &mut W)
+    ensures written { Writes buffer.old (W.taken writer.old) (W.has_failed writer.old)
+        buffer.new (W.taken writer.new) (W.has_failed writer.new) [] }
+    ensures empty { buffer.new.waiting.items ≡ [] }
+{
+    let count = send_bytes(writer, buffer.waiting.as_slice());
+    buffer.sent = buffer.sent.saturating_add(count);
+    buffer.waiting.clear();
+}
+
+/// Sends a piece, where nothing waits.
+fn send_piece<W: Sink>(buffer: &mut WriteBuffer, writer: &mut W, piece: &[u8])
+    requires empty { buffer.old.waiting.items ≡ [] }
+    ensures { Writes buffer.old (W.taken writer.old) (W.has_failed writer.old)
+        buffer.new (W.taken writer.new) (W.has_failed writer.new) piece.now }
+{
+    let count = send_bytes(writer, piece);
+    buffer.sent = buffer.sent.saturating_add(count);
+}
+
+/// How many bytes the writer takes: all, unless it fails or has failed.
+fn send_bytes<W: Sink>(writer: &mut W, bytes: &[u8]) -> u128
+    ensures front { Appends (W.taken writer.old) (W.taken writer.new) (take result bytes.now) }
+    ensures within { result ≤ length bytes.now }
+    ensures all { W.has_failed writer.new ≡ false → result ≡ length bytes.now }
+    ensures failed { W.has_failed writer.old ≡ true → result ≡ 0 }
+    ensures stays { W.has_failed writer.old ≡ true → W.has_failed writer.new ≡ true }
+{
+    if writer.failed() {
+        return 0;
+    }
+    match write_all(writer, bytes) {
+        Ok(()) => bytes.len() as u128,
+        Err(short) => short.written,
+    }
+}
+
+/// Sends what waits and flushes the writer.
+///
+/// An error means that the writer has failed, and says how many bytes it took of the text that was written.
+pub fn finish<W: Sink>(buffer: WriteBuffer, writer: &mut W) -> Result<(), WriteError>
+    ensures written { OnOk result ((before : Option (List ℕ)) (text : List ℕ) → length text < 2 ^ 128
+        → IsWritten before (W.taken writer.old) (W.has_failed writer.old) buffer text
+        → Appends before (W.taken writer.new) text) }
+    ensures not_failed { OnOk result (W.has_failed writer.new ≡ false) }
+    ensures fault { IfErr result (λ e. (before : Option (List ℕ)) (text : List ℕ) → length text < 2 ^ 128
+        → IsWritten before (W.taken writer.old) (W.has_failed writer.old) buffer text
+        → TookBefore text before (W.taken writer.new) (W.has_failed writer.new) e) }
+{
+    let mut buffer = buffer;
+    send_waiting(&mut buffer, writer);
+    let written = buffer.sent;
+    if writer.failed() {
+        return Err(WriteError::WriteFault { written });
+    }
+    match writer.flush() {
+        Ok(()) => Ok(()),
+        Err(_) => Err(WriteError::WriteFault { written }),
+    }
+}
