@@ -1,5 +1,5 @@
 -- What a session does is what the machine does, and what is said to it is what the machine answers.
-use Rattle.std.proofs.Common.{◌≡◌, ◌≢◌, ℕ, true, false, List, [], ◌∷◌, take, Option, Some, None, Result, Ok, Err, length, refl, sym, ◌∙◌, ap}
+use Rattle.std.proofs.Common.{◌≡◌, ◌≢◌, ℕ, true, false, List, ◌∷◌, [], take, Option, Some, None, Result, Ok, Err, length, refl, sym, subst, ◌∙◌, ap}
 use Rattle.vcd_core.specs.Contents.{Contents}
 use Rattle.vcd_edit.specs.declared.edit.Edit.{Edit}
 use Rattle.vcd_edit.specs.declared.edit.Edit.TheVariants.{Rename, Remove, Invert, Shift, Cut, Deglitch, Force, Derive}
@@ -19,13 +19,14 @@ use Rattle.vcd_journal.proofs.Steps.{outcome_of_step}
 use Rattle.vcdedit.specs.declared.script.command.Command.{Command}
 use Rattle.vcdedit.specs.declared.script.command.Command.TheVariants as commands
 use Rattle.vcdedit.specs.declared.script.line_error.LineError.{LineError}
-use Rattle.vcdedit.specs.RefusalNames.{line_error_name}
-use Rattle.vcdedit.specs.Lent.{edit_without_address, step_without_address}
+use Rattle.vcdedit.specs.Lent.{edit_without_address, step_without_address, command_without_address}
 use Rattle.vcdedit.specs.Laws.{answer_reply}
 use Rattle.vcdedit.specs.Script.{command_of_line}
 use Rattle.vcdedit.specs.Reply.{LineReply, ok_reply, line_reply, step_reply, edit_reply, command_reply}
 use Rattle.vcdedit.specs.Run.{machine_after_line, machine_after_command}
-use Rattle.vcdedit.specs.inside.Answering.{is_no_memory, AnswersStep, AnswersLine}
+use Rattle.vcdedit.specs.declared.replies.reply.Reply.{Reply}
+use Rattle.vcdedit.specs.inside.Answering.{is_no_memory, AnswersStep, AnswersCommand, AnswersLine}
+use Rattle.vcdedit.specs.inside.Replies.{TellsReply}
 use Rattle.vcdedit.proofs.Steps.{reply_is_answer}
 
 -- ---- at which address a word lies
@@ -75,7 +76,8 @@ reply_without_address (steps.Depth depth) c undoable redoable = refl
 -- ---- steps
 
 -- what comes of a step leads to the machine after it, and what is said to it is the answer
-answered : (s : Step) (a : Answer) (old new : Machine) → record { answer = a; after = new } ≡ step_outcome old s → AnswersStep s old new (answer_reply a)
+answered : (s : Step) (a : Answer) (old new : Machine) → record { answer = a; after = new } ≡ step_outcome old s →
+    ((step_outcome old s).after ≡ new) × (step_reply s old.now (length old.past) (length old.future) ≡ answer_reply a)
 answered s a old new is = (
   ap (λ (o : StepOutcome). o.after) (sym is),
   reply_is_answer old s ∙ ap (λ (o : StepOutcome). answer_reply o.answer) (sym is),
@@ -103,29 +105,46 @@ other_not_refused (steps.Depth depth) refusal other same =
     let is : refusal ≡ refusals.NoMemory = cc in
     let no : true ≡ false = sym (ap is_no_memory is) ∙ other in absurd (cc)
 
-pub step_accepted : (s : Step) (old new : Machine) → IsStep old s Done new → AnswersStep s old new ok_reply
-step_accepted s old new made = answered s Done old new (outcome_of_step old s Done new made (done_not_refused s))
+-- what is told is said to the step
+told : (number : ℕ) (said : LineReply) (s : Step) (old new : Machine) (reply : Reply) →
+    ((step_outcome old s).after ≡ new) × (step_reply s old.now (length old.past) (length old.future) ≡ said) → TellsReply number said reply → AnswersStep number s old new reply
+told number said s old new reply is tells = (is.0, subst (λ (r : LineReply). TellsReply number r reply) (sym is.1) tells)
 
-pub step_refused : (s : Step) (refusal : StepError) (old new : Machine) → IsStep old s (Refused refusal) new → is_no_memory refusal ≡ false → AnswersStep s old new (Err (step_error_name refusal))
-step_refused s refusal old new made other = answered s (Refused refusal) old new (outcome_of_step old s (Refused refusal) new made (other_not_refused s refusal other))
+pub step_accepted : (number : ℕ) (s : Step) (old new : Machine) (reply : Reply) → IsStep old s Done new → TellsReply number ok_reply reply → AnswersStep number s old new reply
+step_accepted number s old new reply made tells = told number ok_reply s old new reply (answered s Done old new (outcome_of_step old s Done new made (done_not_refused s))) tells
+
+pub step_refused : (number : ℕ) (s : Step) (refusal : StepError) (old new : Machine) (reply : Reply) → IsStep old s (Refused refusal) new → is_no_memory refusal ≡ false →
+    TellsReply number (Err (step_error_name refusal)) reply → AnswersStep number s old new reply
+step_refused number s refusal old new reply made other tells =
+    told number (Err (step_error_name refusal)) s old new reply (answered s (Refused refusal) old new (outcome_of_step old s (Refused refusal) new made (other_not_refused s refusal other))) tells
 
 -- ---- lines
 
--- a line that asks for a step
-pub line_steps : (line : List ℕ) (s : Step) (old new : Machine) (reply : LineReply) → command_of_line old.now line ≡ Ok (commands.Step (step_without_address s)) → AnswersStep s old new reply → AnswersLine line old new reply
-unfolding machine_after_line line_reply
-line_steps line s old new reply read answers = (
-  ap (machine_after_command old) read ∙ ap (λ (o : StepOutcome). o.after) (outcome_without_address old s) ∙ answers.0,
-  λ skipped. ap (λ (r : Result Command LineError). command_reply r old.now skipped (length old.past) (length old.future)) read
-      ∙ reply_without_address s old.now (length old.past) (length old.future) ∙ answers.1,
+-- what is said to a line that is read as this
+said_to : (skipped : ℕ) → Machine → Result Command LineError → LineReply
+said_to skipped m asked = command_reply asked m.now skipped (length m.past) (length m.future)
+
+-- what a step does and is told, where its word may lie at any address
+pub command_steps : (skipped number : ℕ) (s : Step) (old new : Machine) (reply : Reply) → AnswersStep number s old new reply → AnswersCommand skipped number (commands.Step s) old new reply
+command_steps skipped number s old new reply answers = (
+  ap (λ (o : StepOutcome). o.after) (outcome_without_address old s) ∙ answers.0,
+  subst (λ (said : LineReply). TellsReply number said reply) (sym (reply_without_address s old.now (length old.past) (length old.future))) answers.1,
 )
 
--- a line that asks for nothing
-pub line_nothing : (line : List ℕ) (old new : Machine) → command_of_line old.now line ≡ Ok commands.Nothing → new ≡ old → AnswersLine line old new (Ok [])
-unfolding machine_after_line line_reply
-line_nothing line old new read is = (ap (machine_after_command old) read ∙ sym is, λ skipped. ap (λ (r : Result Command LineError). command_reply r old.now skipped (length old.past) (length old.future)) read)
+-- a line that asks for a command
+pub line_asks : (skipped number : ℕ) (line : List ℕ) (command : Command) (old new : Machine) (reply : Reply) → command_of_line old.now line ≡ Ok (command_without_address command) →
+    AnswersCommand skipped number command old new reply → AnswersLine skipped number line old new reply
+unfolding machine_after_line line_reply said_to
+line_asks skipped number line command old new reply read answers = (
+  ap (machine_after_command old) read ∙ answers.0,
+  subst (λ (said : LineReply). TellsReply number said reply) (sym (ap (said_to skipped old) read)) answers.1,
+)
 
--- a line that is no command
-pub line_refused : (line : List ℕ) (found : LineError) (old new : Machine) → command_of_line old.now line ≡ Err found → new ≡ old → AnswersLine line old new (Err (line_error_name found))
-unfolding machine_after_line line_reply
-line_refused line found old new read is = (ap (machine_after_command old) read ∙ sym is, λ skipped. ap (λ (r : Result Command LineError). command_reply r old.now skipped (length old.past) (length old.future)) read)
+-- a line that leaves the machine as it is
+pub line_stays : (skipped number : ℕ) (line : List ℕ) (asked : Result Command LineError) (old : Machine) (reply : Reply) → command_of_line old.now line ≡ asked → machine_after_command old asked ≡ old →
+    TellsReply number (command_reply asked old.now skipped (length old.past) (length old.future)) reply → AnswersLine skipped number line old old reply
+unfolding machine_after_line line_reply said_to
+line_stays skipped number line asked old reply read stays tells = (
+  ap (machine_after_command old) read ∙ stays,
+  subst (λ (said : LineReply). TellsReply number said reply) (sym (ap (said_to skipped old) read)) tells,
+)

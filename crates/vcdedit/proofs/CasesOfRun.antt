@@ -1,5 +1,5 @@
 -- Worked cases: what scripts answer and what they write, byte for byte.
-use Rattle.std.proofs.Common.{◌≡◌, refl}
+use Rattle.std.proofs.Common.{◌≡◌, Some, refl, arith}
 use Rattle.std.specs.Prelude.{[], ◌∷◌, codes}
 use Rattle.std.specs.Fmt.{digits}
 use Rattle.vcd_core.specs.Wave.{value_from}
@@ -12,7 +12,8 @@ use Rattle.vcd_edit.specs.Effect.{effect}
 use Rattle.vcd_edit.specs.Allowed.{edit_fault}
 use Rattle.vcdedit.specs.Script.{script_lines, command_of_line}
 use Rattle.vcdedit.specs.Reply.{line_reply}
-use Rattle.vcdedit.specs.Run.{machine_after_line, machine_after_lines, replies_text, refusal_count, run_outcome, RunWrites}
+use Rattle.vcdedit.specs.Run.{machine_after_line, machine_after_lines, line_replies, refusal_count, run_outcome, RunOutcome, RunWrites}
+use Rattle.vcdedit.specs.RunEnds.{RunStopsAtLine, RunStopsInReplies}
 use Rattle.vcd_text.proofs.CasesOfFiles.{one_scalar as one_scalar_file, one_scalar_contents, one_scalar_means}
 use Rattle.vcd_text.proofs.CasesOfText.{one_scalar, one_scalar_text, capture, wire, top, from}
 
@@ -26,40 +27,55 @@ lines_of_scripts = (refl, refl, refl, refl)
 
 -- a rename of the one scalar
 rename_run : run_outcome (one_scalar (codes "a")) 0 (codes "rename top.a b\n") 100
-    ≡ record { replies = codes "ok\n"; output = one_scalar_text (codes "b"); refused = 0 }
-unfolding script_lines words_from command_of_line lookup name_in edit_fault effect line_reply machine_after_line machine_after_lines replies_text refusal_count text items_of signal_items code_digits tick_items value_from short_form digits
+    ≡ record { replies = codes "ok\n" ∷ []; output = one_scalar_text (codes "b"); refused = 0 }
+unfolding script_lines words_from command_of_line lookup name_in edit_fault effect line_reply machine_after_line machine_after_lines line_replies refusal_count text items_of signal_items code_digits tick_items value_from short_form digits
 rename_run = refl
 
 -- a rename and its undo
 undo_run : run_outcome (one_scalar (codes "a")) 0 (codes "rename top.a b\nundo\n") 100
-    ≡ record { replies = codes "ok\nok\n"; output = one_scalar_text (codes "a"); refused = 0 }
-unfolding script_lines words_from command_of_line lookup name_in edit_fault effect line_reply machine_after_line machine_after_lines replies_text refusal_count text items_of signal_items code_digits tick_items value_from short_form digits
+    ≡ record { replies = codes "ok\n" ∷ codes "ok\n" ∷ []; output = one_scalar_text (codes "a"); refused = 0 }
+unfolding script_lines words_from command_of_line lookup name_in edit_fault effect line_reply machine_after_line machine_after_lines line_replies refusal_count text items_of signal_items code_digits tick_items value_from short_form digits
 undo_run = refl
 
 -- three renames in a history of two, and three undos
 full_history_run : run_outcome (capture 0 (wire (top ∷ []) (codes "a") 1 (from 0 (codes "0") ∷ []) ∷ [])) 0 (codes "rename top.a b\nrename top.b c\nrename top.c d\nundo\nundo\nundo\n") 2
     ≡ record {
-      replies = codes "ok\nok\nok\nok\nok\nline 6: refused: NothingToUndo\n";
+      replies = codes "ok\n" ∷ codes "ok\n" ∷ codes "ok\n" ∷ codes "ok\n" ∷ codes "ok\n" ∷ codes "line 6: refused: NothingToUndo\n" ∷ [];
       output = codes "$scope module top $end\n$var wire 1 ! b $end\n$upscope $end\n$enddefinitions $end\n#0\n$dumpvars\n0!\n$end\n";
       refused = 1;
     }
-unfolding script_lines words_from command_of_line lookup name_in edit_fault effect line_reply machine_after_line machine_after_lines replies_text refusal_count text items_of signal_items code_digits tick_items value_from short_form digits
+unfolding script_lines words_from command_of_line lookup name_in edit_fault effect line_reply machine_after_line machine_after_lines line_replies refusal_count text items_of signal_items code_digits tick_items value_from short_form digits
 full_history_run = refl
 
 -- the same from the bytes of the file and the script to those that are written
-rename_of_file : RunWrites one_scalar_file (codes "rename top.a b\n") 100 (record { replies = codes "ok\n"; output = one_scalar_text (codes "b"); refused = 0 })
-unfolding script_lines words_from command_of_line lookup name_in edit_fault effect line_reply machine_after_line machine_after_lines replies_text refusal_count text items_of signal_items code_digits tick_items value_from short_form digits
+rename_of_file : RunWrites one_scalar_file (codes "rename top.a b\n") 100 (record { replies = codes "ok\n" ∷ []; output = one_scalar_text (codes "b"); refused = 0 })
+unfolding script_lines words_from command_of_line lookup name_in edit_fault effect line_reply machine_after_line machine_after_lines line_replies refusal_count text items_of signal_items code_digits tick_items value_from short_form digits
 rename_of_file = record { contents = one_scalar_contents; skipped = 0; means = one_scalar_means; run = refl }
+
+-- the outcome of a rename and its undo
+undone : RunOutcome
+undone = record { replies = codes "ok\n" ∷ codes "ok\n" ∷ []; output = one_scalar_text (codes "a"); refused = 0 }
+
+undo_of_file : RunWrites one_scalar_file (codes "rename top.a b\nundo\n") 100 undone
+unfolding undone script_lines words_from command_of_line lookup name_in edit_fault effect line_reply machine_after_line machine_after_lines line_replies refusal_count text items_of signal_items code_digits tick_items value_from short_form digits
+undo_of_file = record { contents = one_scalar_contents; skipped = 0; means = one_scalar_means; run = refl }
+
+-- where memory runs out at its second line, the reply to the first was told; where five bytes are taken, these are that and two letters of the second
+stops_of_file : RunStopsAtLine (Some one_scalar_file) (Some (codes "rename top.a b\nundo\n")) 100 2 (λ told. told ≡ codes "ok\n")
+    × RunStopsInReplies (Some one_scalar_file) (Some (codes "rename top.a b\nundo\n")) 100 5 (λ told. told ≡ codes "ok\nok")
+unfolding undone
+stops_of_file = ((undone, undo_of_file, (search arith, refl)), (undone, undo_of_file, (search arith, refl)))
 
 -- two signals in one scope
 abbrev pub two_signals : Contents
 two_signals = capture 9 (wire (top ∷ []) (codes "a") 1 (from 0 (codes "0") ∷ []) ∷ wire (top ∷ []) (codes "v") 4 (from 0 (codes "0000") ∷ []) ∷ [])
 
 -- empty lines and comments are numbered and give nothing; each refused line gives its first fault, and the script goes on
-refused_lines : replies_text 0 1 (record { past = []; now = two_signals; future = []; depth = 100 }) (script_lines (codes
+refused_lines : line_replies 0 1 (record { past = []; now = two_signals; future = []; depth = 100 }) (script_lines (codes
     "\n# rename\nfrob\nrename top.a\nrename top.a b c\nundo now\nrename top.q $end\nrename top.a $end\nrename top.a v\nundo\n \t#\n  rename\t@1\rb"))
-    ≡ codes "line 3: refused: UnknownCommand\nline 4: refused: WrongCount\nline 5: refused: WrongCount\nline 6: refused: WrongCount\nline 7: refused: NoSuchName\nline 8: refused: BadWord\nline 9: refused: NameTaken\nline 10: refused: NothingToUndo\nok\n"
-unfolding script_lines words_from command_of_line lookup name_in edit_fault effect line_reply machine_after_line replies_text digits
+    ≡ [] ∷ [] ∷ codes "line 3: refused: UnknownCommand\n" ∷ codes "line 4: refused: WrongCount\n" ∷ codes "line 5: refused: WrongCount\n" ∷ codes "line 6: refused: WrongCount\n"
+    ∷ codes "line 7: refused: NoSuchName\n" ∷ codes "line 8: refused: BadWord\n" ∷ codes "line 9: refused: NameTaken\n" ∷ codes "line 10: refused: NothingToUndo\n" ∷ [] ∷ codes "ok\n" ∷ []
+unfolding script_lines words_from command_of_line lookup name_in edit_fault effect line_reply machine_after_line line_replies digits
 refused_lines = refl
 
 -- how many of those are refused

@@ -1,78 +1,91 @@
 -- A run of lines, seen from a line in it.
-use Rattle.std.proofs.Common.{◌≡◌, ℕ, ◌+◌, cond, List, [], ◌∷◌, ◌++◌, Option, Some, None, length, refl, sym, ◌∙◌, ap, append_assoc, arith, add_assoc}
-use Rattle.std.specs.Prelude.{is_err}
-use Rattle.std.proofs.lemmas.List.{append-nil}
-use Rattle.std.specs.Io.KnownBytes.{Appends, Keeps}
-use Rattle.std.proofs.KnownBytes.{Appends-trans}
+use Rattle.std.proofs.Common.{◌≡◌, ℕ, ◌+◌, cond, List, [], ◌∷◌, ◌++◌, Option, length, refl, sym, subst, ◌∙◌, ap, append_assoc, arith, add_assoc}
+use Rattle.std.specs.List.{concat}
+use Rattle.std.proofs.lemmas.List.{append-nil, length-append}
+use Rattle.std.proofs.lemmas.List.Folds.{concat-append}
+use Rattle.std.specs.Io.KnownBytes.{Appends}
+use Rattle.std.proofs.KnownBytes.{Appends-nil, Appends-trans}
 use Rattle.vcd_journal.specs.Machine.{Machine}
-use Rattle.vcdedit.specs.Reply.{LineReply, line_reply, reply_text}
-use Rattle.vcdedit.specs.inside.Answering.{AnswersLine}
-use Rattle.vcdedit.specs.Run.{machine_after_lines, replies_text, refusal_count}
+use Rattle.vcdedit.specs.Reply.{line_reply_text, is_line_refused}
+use Rattle.vcdedit.specs.Run.{machine_after_line, machine_after_lines, line_replies, refusal_count}
 use Rattle.vcdedit.specs.Script.{script_lines}
 use Rattle.vcdedit.specs.inside.RunLines.{TellsLine, RunsLines}
 
 -- of all lines, after so many, these are left on this machine; the replies so far are told, and so many lines refused
-pub record AreLeft (skipped : ℕ) (lines : List (List ℕ)) (old : Machine) (number : ℕ) (left : List (List ℕ)) (now : Machine) (told : List ℕ) (count : ℕ) : Type 0 where
+pub record AreLeft (skipped : ℕ) (lines : List (List ℕ)) (old : Machine) (number : ℕ) (left : List (List ℕ)) (now : Machine) (told : List (List ℕ)) (count : ℕ) : Type 0 where
   pub after : machine_after_lines old lines ≡ machine_after_lines now left
-  pub replies : replies_text skipped 1 old lines ≡ told ++ replies_text skipped (number + 1) now left
+  pub replies : line_replies skipped 1 old lines ≡ told ++ line_replies skipped (number + 1) now left
   pub refused : refusal_count skipped old lines ≡ count + refusal_count skipped now left
 
--- what the loop keeps
-abbrev pub HasTold : List (List ℕ) → Machine → ℕ → List (List ℕ) → Machine → ℕ → Option (List ℕ) → Option (List ℕ) → Type 0
-HasTold lines old number left now refused before after =
-    (told : List ℕ) × Appends before after told × ((skipped : ℕ) → AreLeft skipped lines old number left now told refused)
+-- what the loop keeps: the replies told so far, of so many lines and of so many bytes
+pub record HasTold (skipped : ℕ) (lines : List (List ℕ)) (old : Machine) (number : ℕ) (left : List (List ℕ)) (now : Machine) (refused bytes : ℕ) (before after : Option (List ℕ)) : Type 0 where
+  pub told : List (List ℕ)
+  pub one_each : length told ≡ number
+  pub counted : length (concat told) ≡ bytes
+  pub took : Appends before after (concat told)
+  pub are_left : AreLeft skipped lines old number left now told refused
 
 -- at the beginning all are left
-pub all_left : (skipped : ℕ) (lines : List (List ℕ)) (old : Machine) → AreLeft skipped lines old 0 lines old [] 0
-all_left skipped lines old = record { after = refl; replies = refl; refused = omega arith }
-
--- a line more
-pub line_more : (skipped : ℕ) (lines : List (List ℕ)) (old : Machine) (number : ℕ) (line : List ℕ) (left : List (List ℕ)) (now new : Machine) (told : List ℕ) (refused : ℕ) (reply : LineReply) →
-    AreLeft skipped lines old number (line ∷ left) now told refused → AnswersLine line now new reply →
-    AreLeft skipped lines old (number + 1) left new (told ++ reply_text (number + 1) reply) (refused + cond (is_err reply) 1 0)
-unfolding machine_after_lines replies_text refusal_count
-line_more skipped lines old number line left now new told refused reply so answers = record {
-  after = so.after ∙ ap (λ (m : Machine). machine_after_lines m left) answers.0;
-  replies = so.replies
-      ∙ ap (λ (m : Machine). told ++ (reply_text (number + 1) (line_reply line now.now skipped (length now.past) (length now.future)) ++ replies_text skipped (number + 1 + 1) m left)) answers.0
-      ∙ ap (λ (s : LineReply). told ++ (reply_text (number + 1) s ++ replies_text skipped (number + 1 + 1) new left)) (answers.1 skipped)
-      ∙ sym (append_assoc told (reply_text (number + 1) reply) (replies_text skipped (number + 1 + 1) new left));
-  refused = so.refused
-      ∙ ap (λ (m : Machine). refused + (cond (is_err (line_reply line now.now skipped (length now.past) (length now.future))) 1 0 + refusal_count skipped m left)) answers.0
-      ∙ ap (λ (s : LineReply). refused + (cond (is_err s) 1 0 + refusal_count skipped new left)) (answers.1 skipped)
-      ∙ sym (add_assoc refused (cond (is_err reply) 1 0) (refusal_count skipped new left));
+pub all_left : (skipped : ℕ) (lines : List (List ℕ)) (old : Machine) (before : Option (List ℕ)) → HasTold skipped lines old 0 lines old 0 0 before before
+all_left skipped lines old before = record {
+  told = [];
+  one_each = refl;
+  counted = refl;
+  took = Appends-nil before;
+  are_left = record { after = refl; replies = refl; refused = omega arith };
 }
 
-pub told_more : (lines : List (List ℕ)) (old : Machine) (number : ℕ) (line : List ℕ) (all left : List (List ℕ)) (now new : Machine) (refused more : ℕ) (before between after : Option (List ℕ)) →
-    all ≡ line ∷ left → HasTold lines old number all now refused before between → TellsLine (number + 1) line now new more between after →
-    HasTold lines old (number + 1) left new (refused + more) before after
-told_more lines old number line all left now new refused more before between after parts so tells = (
-  so.0 ++ reply_text (number + 1) tells.0,
-  Appends-trans _ _ _ _ _ so.1 tells.3,
-  λ skipped. rw (tells.2) (line_more skipped lines old number line left now new so.0 refused tells.0 (rw parts at so.2 skipped) tells.1),
-)
+-- what is said to a line on a machine, and how many lines are refused where this one is run
+abbrev pub told_to : (skipped number : ℕ) → List ℕ → Machine → List ℕ
+told_to skipped number line m = line_reply_text number line m.now skipped (length m.past) (length m.future)
+
+abbrev refused_at : (skipped : ℕ) → List ℕ → Machine → ℕ
+refused_at skipped line m = cond (is_line_refused line m.now skipped (length m.past) (length m.future)) 1 0
+
+-- a line more
+line_more : (skipped : ℕ) (lines : List (List ℕ)) (old : Machine) (number : ℕ) (line : List ℕ) (left : List (List ℕ)) (now new : Machine) (told : List (List ℕ)) (refused : ℕ) →
+    AreLeft skipped lines old number (line ∷ left) now told refused → machine_after_line now line ≡ new →
+    AreLeft skipped lines old (number + 1) left new (told ++ told_to skipped (number + 1) line now ∷ []) (refused + refused_at skipped line now)
+unfolding machine_after_lines line_replies refusal_count
+line_more skipped lines old number line left now new told refused so after = record {
+  after = so.after ∙ ap (λ (m : Machine). machine_after_lines m left) after;
+  replies = so.replies
+      ∙ ap (λ (m : Machine). told ++ told_to skipped (number + 1) line now ∷ line_replies skipped (number + 1 + 1) m left) after
+      ∙ sym (append_assoc told (told_to skipped (number + 1) line now ∷ []) (line_replies skipped (number + 1 + 1) new left));
+  refused = so.refused
+      ∙ ap (λ (m : Machine). refused + (refused_at skipped line now + refusal_count skipped m left)) after
+      ∙ sym (add_assoc refused (refused_at skipped line now) (refusal_count skipped new left));
+}
+
+concat_more : (told : List (List ℕ)) (text : List ℕ) → concat (told ++ text ∷ []) ≡ concat told ++ text
+concat_more told text = concat-append told (text ∷ []) ∙ ap (λ l. concat told ++ l) (append-nil text)
+
+pub told_more : (skipped : ℕ) (lines : List (List ℕ)) (old : Machine) (number : ℕ) (line : List ℕ) (all left : List (List ℕ)) (now new : Machine) (refused more bytes written : ℕ) (before between after : Option (List ℕ)) →
+    all ≡ line ∷ left → HasTold skipped lines old number all now refused bytes before between → TellsLine skipped (number + 1) line now new more written between after →
+    HasTold skipped lines old (number + 1) left new (refused + more) (bytes + written) before after
+told_more skipped lines old number line all left now new refused more bytes written before between after parts so tells =
+    let text : List ℕ = told_to skipped (number + 1) line now in
+    let joined : concat (so.told ++ text ∷ []) ≡ concat so.told ++ text = concat_more so.told text in
+    let len : length (concat (so.told ++ text ∷ [])) ≡ length (concat so.told) + length text = ap length joined ∙ length-append (concat so.told) text in
+    let one_more : length (so.told ++ text ∷ []) ≡ length so.told + 1 = length-append so.told (text ∷ []) in
+    record {
+      told = so.told ++ text ∷ [];
+      one_each = one_more ∙ ap (λ n. n + 1) so.one_each;
+      counted = omega (arith, len, so.counted, tells.3);
+      took = subst (Appends before after) (sym joined) (Appends-trans before between after (concat so.told) text so.took tells.2);
+      are_left = rw (tells.1) (line_more skipped lines old number line left now new so.told refused (rw parts at so.are_left) tells.0);
+    }
 
 -- where no line is left
-pub none_left : (lines : List (List ℕ)) (old : Machine) (number : ℕ) (left : List (List ℕ)) (now : Machine) (refused : ℕ) (before after : Option (List ℕ)) →
-    left ≡ [] → HasTold lines old number left now refused before after → RunsLines lines old now refused before after
-unfolding machine_after_lines replies_text refusal_count
-none_left lines old number left now refused before after none so = (
-  so.0,
-  so.1,
-  λ skipped.
-      let last = rw none at so.2 skipped in
-      let sum : refused + 0 ≡ refused = omega arith in
-      record { after = last.after; replies = last.replies ∙ append-nil so.0; refused = last.refused ∙ sum },
-)
+pub none_left : (skipped : ℕ) (lines : List (List ℕ)) (old : Machine) (number : ℕ) (left : List (List ℕ)) (now : Machine) (refused bytes : ℕ) (before after : Option (List ℕ)) →
+    left ≡ [] → HasTold skipped lines old number left now refused bytes before after → RunsLines skipped lines old now refused before after
+unfolding machine_after_lines line_replies refusal_count
+none_left skipped lines old number left now refused bytes before after none so =
+    let last = rw none at so.are_left in
+    let sum : refused + 0 ≡ refused = omega arith in
+    (so.told, so.took, record { after = last.after; replies = last.replies ∙ append-nil so.told; refused = last.refused ∙ sum })
 
 -- an empty script has no line
 pub no_lines : (script : List ℕ) → script ≡ [] → script_lines script ≡ []
 unfolding script_lines
 no_lines script none = ap script_lines none
-
--- bytes that are kept after some were taken
-pub Appends-kept : (a b c : Option (List ℕ)) (bytes : List ℕ) → Appends a b bytes → Keeps b c → Appends a c bytes
-Appends-kept None b c bytes took kept = tt
-Appends-kept (Some x) None c bytes took kept = absurd took
-Appends-kept (Some x) (Some y) None bytes took kept = absurd kept
-Appends-kept (Some x) (Some y) (Some z) bytes took kept = kept ∙ took

@@ -52,7 +52,13 @@ pub command_is_run : (m : Machine) (r : Result Command LineError) (asked : List 
     StepsLead m (steps_of_command r ++ asked) (map (λ step. (step_outcome m step).answer) (steps_of_command r) ++ answers) n
 unfolding StepsLead
 command_is_run m (Ok commands.Nothing) asked answers n h = h
+command_is_run m (Ok commands.List) asked answers n h = h
+command_is_run m (Ok (commands.Value k tick)) asked answers n h = h
+command_is_run m (Ok (commands.Changes k)) asked answers n h = h
 command_is_run m (Ok (commands.Step step)) asked answers n h = ((step_outcome m step).after, ample_step m step, h)
+command_is_run m (Ok (commands.Uart k setup)) asked answers n h = h
+command_is_run m (Ok (commands.Spi clk mosi miso cs setup)) asked answers n h = h
+command_is_run m (Ok (commands.I2c scl sda)) asked answers n h = h
 command_is_run m (Err found) asked answers n h = h
 
 pub lines_are_run : (m : Machine) (lines : List (List ℕ)) → StepsLead m (steps_of_lines m lines) (answers_of_lines m lines) (machine_after_lines m lines)

@@ -1,40 +1,64 @@
--- What the words of the command line ask for: the project's own.
-use Rattle.std.specs.Prelude.{ℕ, Bool, true, not, ◌==◌, ◌&&◌, if◌then◌else◌, List, [], ◌∷◌, codes, Option, Some, None, is_none}
-use Rattle.std.specs.Option.{option_copied, option_and_then}
-use Rattle.std.specs.Str.{bytes_eq}
-use Rattle.vcdedit.specs.declared.shell.arguments.Options.{Options}
+-- The options of the command line, and what its words ask for: the project's own.
+use Rattle.std.specs.Prelude.{ℕ, List, [], ◌∷◌, codes, true, if◌then◌else◌, Option, Some, None}
+use Rattle.std.specs.Option.{option_copied}
+use Rattle.std.specs.Str.Parse.{digits_value, without_leading_plus}
+use Rattle.clap.specs.Words.{App, Rule, Text, first_of, matches_of, new_app, new_rule, one_of}
+use Rattle.clap.specs.Simple.{new_shape}
+use Rattle.clap.specs.ValueTests.{is_unsigned_in}
+use Rattle.clap.specs.declared.builder.value_parser.ValueParser.TheVariants as parsers
+use Rattle.vcd_journal.specs.declared.step.TheConstants.{DEPTH_LIMIT}
+use Rattle.vcdedit.specs.declared.shell.command_line.TheConstants.{DEFAULT_DEPTH}
+use Rattle.vcdedit.specs.declared.shell.command_line.Options.{Options}
 
--- the path of each option that is there
-pub record OptionPaths : Type 0 where
-  pub input : Option (List ℕ)
-  pub script : Option (List ℕ)
-  pub output : Option (List ℕ)
+-- `-i FILE` or `--input-file FILE`, where 105 is the letter `i`
+abbrev pub input_option : Rule
+input_option = record (new_rule (codes "input-file")) { long = Some (codes "input-file"); short = Some 105; value_names = 1 }
+
+-- `--script FILE`
+abbrev pub script_option : Rule
+script_option = record (new_rule (codes "script")) { long = Some (codes "script"); value_names = 1 }
+
+-- `-o FILE` or `--output-file FILE`, where 111 is the letter `o`
+abbrev pub output_option : Rule
+output_option = record (new_rule (codes "output-file")) { long = Some (codes "output-file"); short = Some 111; value_names = 1 }
+
+-- `--depth N`, a number from 1 to the limit
+abbrev pub depth_option : Rule
+depth_option = record (new_rule (codes "depth")) { long = Some (codes "depth"); value_names = 1; parser = Some (parsers.Unsigned 1 DEPTH_LIMIT) }
+
+-- the program with these options, help and a version, whose words don't begin with its name
+abbrev pub option_app : App
+option_app = record (new_app (codes "vcdedit")) {
+  top = record (new_shape (codes "vcdedit")) {
+    rules = input_option ∷ script_option ∷ output_option ∷ depth_option ∷ [];
+    no_binary_name = true;
+    has_version = true;
+  };
+}
+
+-- the depth that a text asks for: its number, where that is one from 1 to the limit, and else the default
+abbrev pub depth_asked : Option Text → ℕ
+depth_asked None = DEFAULT_DEPTH
+depth_asked (Some text) = if is_unsigned_in 1 DEPTH_LIMIT text then digits_value 10 (without_leading_plus text) else DEFAULT_DEPTH
+
+-- the path of each option that is there, and the depth
+pub record AskedOptions : Type 0 where
+  pub input : Option Text
+  pub script : Option Text
+  pub output : Option Text
+  pub depth : ℕ
 
 -- the same, of what the code holds
-abbrev pub options_in : Options → OptionPaths
-options_in o = record { input = option_copied o.input; script = option_copied o.script; output = option_copied o.output }
+abbrev pub options_in : Options → AskedOptions
+options_in o = record { input = option_copied o.input; script = option_copied o.script; output = option_copied o.output; depth = o.depth }
 
--- whether a word may be a path: it does not begin with `-` (45) and go on
-abbrev pub is_path : List ℕ → Bool
-is_path [] = true
-is_path (b ∷ []) = true
-is_path (b ∷ more ∷ bytes) = not (b == 45)
-
--- the options with the path of one more, where that is an option, has none yet, and is followed by a path
-abbrev pub with_option : OptionPaths → (option path : List ℕ) → Option OptionPaths
-with_option p option path =
-    if not (is_path path) then None
-    else (if bytes_eq option (codes "-i") && is_none p.input then Some (record p { input = Some path })
-    else (if bytes_eq option (codes "--script") && is_none p.script then Some (record p { script = Some path })
-    else (if bytes_eq option (codes "-o") && is_none p.output then Some (record p { output = Some path })
-    else None)))
-
--- the options that words ask for, from left to right, behind those that stand
-abbrev pub options_behind : OptionPaths → List (List ℕ) → Option OptionPaths
-options_behind p [] = Some p
-options_behind p (option ∷ []) = None
-options_behind p (option ∷ path ∷ words) = option_and_then (λ q. options_behind q words) (with_option p option path)
-
--- the options that the words of a command line ask for, where they are options with a path each
-abbrev pub asked_options : List (List ℕ) → Option OptionPaths
-asked_options words = options_behind (record { input = None; script = None; output = None }) words
+-- what the words after the program's name ask for, where they are taken
+abbrev pub asked_options : List Text → AskedOptions
+asked_options words =
+    let rows = matches_of option_app words in
+    record {
+      input = first_of (codes "input-file") rows;
+      script = first_of (codes "script") rows;
+      output = first_of (codes "output-file") rows;
+      depth = depth_asked (one_of (codes "depth") rows);
+    }

@@ -25,5 +25,5 @@ step_without_address s = s
 
 -- the same of a command
 abbrev pub command_without_address : Command → Command
-command_without_address commands.Nothing = commands.Nothing
 command_without_address (commands.Step step) = commands.Step (step_without_address step)
+command_without_address command = command

@@ -2,8 +2,14 @@
 pub mod RefusalNames
 pub mod Lent
 pub mod ScriptWords
+pub mod LineWords
+pub mod DecoderWords
+pub mod DecoderCommands
 pub mod ScriptCommands
 pub mod Script
+pub mod Queries
+pub mod CommandSignals
+pub mod DecoderReply
 pub mod Reply
 pub mod Run
 pub mod Laws

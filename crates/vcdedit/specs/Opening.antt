@@ -1,27 +1,27 @@
 -- Where the bytes of the two inputs come from: the project's own.
-use Rattle.std.specs.Prelude.{ℕ, Bool, not, MatchBool, List, [], codes, Option, Some, None}
+use Rattle.std.specs.Prelude.{◌≡◌, ℕ, Bool, not, MatchBool, List, codes, Option, Some, None}
 use Rattle.std.specs.Borrow.{Bor}
 use Rattle.std.specs.Str.{bytes_eq}
 use Rattle.vcdedit.specs.declared.shell.opening.Origin.{Origin}
-use Rattle.vcdedit.specs.declared.shell.opening.Origin.TheVariants.{Standard, File, Nothing}
+use Rattle.vcdedit.specs.declared.shell.opening.Origin.TheVariants.{Standard, File, Given}
 
 -- an input that is read from standard input
 abbrev pub IsStandard : {S F : Type 0} → Origin S F → Type 0
 IsStandard (Standard reader) = Unit {0}
 IsStandard (File file) = ⊥
-IsStandard Nothing = ⊥
+IsStandard (Given bytes) = ⊥
 
 -- an input that is read from a file
 abbrev pub IsFile : {S F : Type 0} → Origin S F → Type 0
 IsFile (Standard reader) = ⊥
 IsFile (File file) = Unit {0}
-IsFile Nothing = ⊥
+IsFile (Given bytes) = ⊥
 
--- an input that has no bytes
-abbrev pub IsNothing : {S F : Type 0} → Origin S F → Type 0
-IsNothing (Standard reader) = ⊥
-IsNothing (File file) = ⊥
-IsNothing Nothing = Unit {0}
+-- an input that is given here, and is these bytes
+abbrev pub IsGiven : {S F : Type 0} → List ℕ → Origin S F → Type 0
+IsGiven text (Standard reader) = ⊥
+IsGiven text (File file) = ⊥
+IsGiven text (Given bytes) = bytes.now ≡ text
 
 -- whether a path names a file: `-` stands for standard input
 abbrev pub names_file : List ℕ → Bool
@@ -32,13 +32,13 @@ abbrev pub CaptureComesFrom : {S F : Type 0} → Option (Bor (List ℕ)) → Ori
 CaptureComesFrom None origin = IsStandard origin
 CaptureComesFrom (Some path) origin = MatchBool (names_file path.now) (IsFile origin) (IsStandard origin)
 
--- the script comes from the file that is named, and has no bytes where none is
+-- the script comes from the file that is named, and is the one line `list` where none is
 abbrev pub ScriptComesFrom : {S F : Type 0} → Option (Bor (List ℕ)) → Origin S F → Type 0
-ScriptComesFrom None origin = IsNothing origin
+ScriptComesFrom None origin = IsGiven (codes "list\n") origin
 ScriptComesFrom (Some path) origin = IsFile origin
 
--- the bytes that an input will give, where they are known: none at all where it has none
+-- the bytes that an input will give, where they are known
 abbrev pub bytes_to_come : {S F : Type 0} → (S → Option (List ℕ)) → (F → Option (List ℕ)) → Origin S F → Option (List ℕ)
 bytes_to_come of_standard of_file (Standard reader) = of_standard reader
 bytes_to_come of_standard of_file (File file) = of_file file
-bytes_to_come of_standard of_file Nothing = Some []
+bytes_to_come of_standard of_file (Given bytes) = Some bytes.now

@@ -1,5 +1,6 @@
 -- The names that are printed for lines that are no command: the project's own.
 use Rattle.std.specs.Prelude.{ℕ, List, codes}
+use Rattle.vcd_decode.specs.SetupErrorNames.{setup_error_name}
 use Rattle.vcdedit.specs.declared.script.line_error.LineError.{LineError}
 use Rattle.vcdedit.specs.declared.script.line_error.LineError.TheVariants as lines
 
@@ -12,3 +13,4 @@ line_error_name lines.NoSuchName = codes "NoSuchName"
 line_error_name lines.BadValueText = codes "BadValueText"
 line_error_name lines.BadOption = codes "BadOption"
 line_error_name lines.NotScalar = codes "NotScalar"
+line_error_name (lines.Setup fault) = setup_error_name fault

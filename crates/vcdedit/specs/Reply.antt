@@ -2,7 +2,7 @@
 use Rattle.std.specs.Prelude.{ℕ, zero, suc, Bool, not, nat_lt, if◌then◌else◌, List, [], ◌∷◌, ◌++◌, Option, Some, None, Result, Ok, Err, is_err, codes}
 use Rattle.std.specs.List.{flat_map}
 use Rattle.std.specs.Fmt.{decimal}
-use Rattle.vcd_core.specs.Contents.{Contents}
+use Rattle.vcd_core.specs.Contents.{Contents, signal_at}
 use Rattle.vcd_edit.specs.declared.fault.EditError.{EditError}
 use Rattle.vcd_journal.specs.declared.step.Step.{Step}
 use Rattle.vcd_journal.specs.declared.step.Step.TheVariants as steps
@@ -16,7 +16,9 @@ use Rattle.vcd_journal.specs.RefusalNames.{step_error_name}
 use Rattle.vcd_journal.specs.Machine.{is_depth}
 use Rattle.vcdedit.specs.RefusalNames.{line_error_name}
 use Rattle.vcd_edit.specs.Allowed.{edit_fault}
+use Rattle.vcdedit.specs.DecoderReply.{uart_lines, spi_lines, i2c_lines}
 use Rattle.vcdedit.specs.Script.{command_of_line}
+use Rattle.vcdedit.specs.Queries.{listing, value_line, change_lines}
 
 -- the lines of an answer, or the name of the fault for which the line is refused
 abbrev pub LineReply : Type 0
@@ -54,6 +56,12 @@ abbrev pub command_reply : Result Command LineError → Contents → (skipped un
 command_reply (Err found) c skipped undoable redoable = Err (line_error_name found)
 command_reply (Ok commands.Nothing) c skipped undoable redoable = Ok []
 command_reply (Ok (commands.Step step)) c skipped undoable redoable = step_reply step c undoable redoable
+command_reply (Ok commands.List) c skipped undoable redoable = Ok (listing c skipped)
+command_reply (Ok (commands.Value k tick)) c skipped undoable redoable = Ok (value_line (signal_at c k) tick ∷ [])
+command_reply (Ok (commands.Changes k)) c skipped undoable redoable = Ok (change_lines (signal_at c k).changes)
+command_reply (Ok (commands.Uart k setup)) c skipped undoable redoable = Ok (uart_lines c k setup)
+command_reply (Ok (commands.Spi clk mosi miso cs setup)) c skipped undoable redoable = Ok (spi_lines c clk mosi miso cs setup)
+command_reply (Ok (commands.I2c scl sda)) c skipped undoable redoable = Ok (i2c_lines c scl sda)
 
 -- what is said to a line on a capture, of whose file so many declarations were skipped
 unfoldable pub line_reply : (line : List ℕ) → Contents → (skipped undoable redoable : ℕ) → LineReply

@@ -68,7 +68,3 @@ error_line run_errors.ScriptReadFault = codes "vcdedit: script: read fault\n"
 error_line (run_errors.NoMemory line) = out_of_memory_line
 error_line (run_errors.ReplyFault written) = codes "vcdedit: replies: write fault\n"
 error_line (run_errors.Write e) = write_error_line e
-
--- the line for words that are refused
-abbrev pub usage_line : List ℕ
-usage_line = codes "vcdedit: usage\n"

@@ -1,19 +1,27 @@
 -- How a run ends: what was written, and how its readers and writers are left. The project's own.
 use Rattle.std.proofs.Common.{inl, inr}
-use Rattle.std.specs.Prelude.{◌≡◌, ◌<◌, ◌≤◌, ◌⊎◌, ℕ, Bool, false, true, List, length, Option, Some, None, Result, IfSome, OnOk, IfErr, IsErrOf}
+use Rattle.std.specs.Prelude.{◌≡◌, ◌<◌, ◌≤◌, ◌⊎◌, ℕ, ◌-◌, Bool, false, true, List, length, take, Option, Some, None, Result, IfSome, OnOk, IfErr, IsErrOf}
+use Rattle.std.specs.List.{concat}
 use Rattle.std.specs.Borrow.{MutBor}
 use Rattle.std.specs.Io.KnownBytes.{Appends}
+use Rattle.vcd_core.specs.Contents.{Contents}
+use Rattle.vcd_text.specs.Meaning.{FileMeans}
 use Rattle.vcd_text.specs.Refusals.{IsRefusal}
 use Rattle.vcd_text.specs.WriteEnds.{TookBefore}
+use Rattle.vcd_text.specs.declared.fault.Fault.TheVariants as faults
 use Rattle.vcd_text.specs.declared.fault.WriteError.{WriteError}
 use Rattle.vcd_text.specs.declared.reading.TheConstants.{FILE_LIMIT}
 use Rattle.vcdedit.specs.declared.running.inputs.TheConstants.{SCRIPT_LIMIT}
 use Rattle.vcdedit.specs.declared.running.run_error.RunError.{RunError}
 use Rattle.vcdedit.specs.declared.running.run_error.RunError.TheVariants as run_errors
 use Rattle.vcdedit.specs.Run.{RunOutcome, RunWrites}
-use Rattle.vcdedit.specs.RunFaults.{IfCaptureError, IsBeforeReplies}
+use Rattle.vcdedit.specs.RunFaults.{IfCaptureError, IfOutputError, IfReplyFault, IsBeforeReplies}
 
 -- ---- the readers, and the writer of the replies
+
+-- a capture file that is within the limit and has a meaning
+abbrev pub IsAcceptedCapture : List ℕ → Type 0
+IsAcceptedCapture file = (length file ≤ FILE_LIMIT) × (c : Contents) × (skipped : ℕ) × FileMeans file c skipped
 
 -- how the reader of the capture is left, of which some bytes were to come and others are left
 pub record LeavesCaptureReader {A : Type 0} (ending : Result A RunError) (coming left : Option (List ℕ)) (has_failed : Bool) : Type 0 where
@@ -23,6 +31,8 @@ pub record LeavesCaptureReader {A : Type 0} (ending : Result A RunError) (coming
   pub within : OnOk ending (IfSome coming (λ file. length file ≤ FILE_LIMIT))
   -- a capture's fault is the one that its file has
   pub refused : IfErr ending (λ e. IfCaptureError e (λ fault. IfSome coming (λ file. IsRefusal file has_failed left fault)))
+  -- a read fault of the capture is one of its reader
+  pub failed : IfErr ending (λ e. IfCaptureError e (λ fault. fault.fault ≡ faults.ReadFault → has_failed ≡ true))
 
 -- how the reader of the script is left, of which some bytes were to come
 pub record LeavesScriptReader {A : Type 0} (ending : Result A RunError) (coming : Option (List ℕ)) (has_failed : Bool) : Type 0 where
@@ -39,6 +49,10 @@ pub record LeavesScriptReader {A : Type 0} (ending : Result A RunError) (coming 
 pub record LeavesReplyWriter {A : Type 0} (ending : Result A RunError) (taken_before taken_after : Option (List ℕ)) (has_failed : Bool) : Type 0 where
   -- a run to its end leaves it not failed
   pub not_failed : OnOk ending (has_failed ≡ false)
+  -- nor does one that ends in its output
+  pub not_failed_at_output : IfErr ending (λ e. IfOutputError e (λ _. has_failed ≡ false))
+  -- a reply fault is one of this writer
+  pub failed : IfErr ending (λ e. IfReplyFault e (λ _. has_failed ≡ true))
   -- a run that ends before the replies writes none
   pub no_reply : IfErr ending (λ e. IsBeforeReplies e → taken_after ≡ taken_before)
 
@@ -51,12 +65,22 @@ IfRunWrites file script depth said = IfSome file (λ f. IfSome script (λ s. (wr
 -- a run that came to its end: one writer took its replies, the other its output, and so many lines are refused
 abbrev pub RunReachesEnd : (file script : Option (List ℕ)) → (depth count : ℕ) → (took_replies took_output : List ℕ → Type 0) → Type 0
 RunReachesEnd file script depth count took_replies took_output =
-    IfRunWrites file script depth (λ written. took_replies written.replies × took_output written.output × (count ≡ written.refused))
+    IfRunWrites file script depth (λ written. took_replies (concat written.replies) × took_output written.output × (count ≡ written.refused))
+
+-- a run that ended at this line of the script for want of memory, counted from 1: a writer took exactly the replies to the lines before
+abbrev pub RunStopsAtLine : (file script : Option (List ℕ)) → (depth line : ℕ) → (took_replies : List ℕ → Type 0) → Type 0
+RunStopsAtLine file script depth line took_replies =
+    IfRunWrites file script depth (λ written. (line ≤ length written.replies) × took_replies (concat (take (line - 1) written.replies)))
+
+-- a run that ended in its replies: their writer took exactly so many bytes of them, from the front
+abbrev pub RunStopsInReplies : (file script : Option (List ℕ)) → (depth count : ℕ) → (took_replies : List ℕ → Type 0) → Type 0
+RunStopsInReplies file script depth count took_replies =
+    IfRunWrites file script depth (λ written. (count ≤ length (concat written.replies)) × took_replies (take count (concat written.replies)))
 
 -- a run that ended in its output: one writer took all of its replies, and the other stopped at its output
 abbrev pub RunStopsAtOutput : (file script : Option (List ℕ)) → (depth : ℕ) → (took_replies stopped_at : List ℕ → Type 0) → Type 0
 RunStopsAtOutput file script depth took_replies stopped_at =
-    IfRunWrites file script depth (λ written. took_replies written.replies × stopped_at written.output)
+    IfRunWrites file script depth (λ written. took_replies (concat written.replies) × stopped_at written.output)
 
 -- ---- the writer of the output
 

@@ -16,6 +16,8 @@ use Rattle.vcdedit.specs.declared.script.keyword.Keyword.TheVariants as keywords
 use Rattle.vcdedit.specs.declared.script.line_error.LineError.{LineError}
 use Rattle.vcdedit.specs.declared.script.line_error.LineError.TheVariants.{UnknownCommand, WrongCount, BadOption}
 use Rattle.vcdedit.specs.Lent.{lent_bytes}
+use Rattle.vcdedit.specs.DecoderCommands.{uart_command, spi_command, i2c_command}
+use Rattle.vcdedit.specs.LineWords.{◌>>=◌, no_word, one_word, two_words, four_words}
 use Rattle.vcdedit.specs.ScriptWords.{signal_of_name, number_of_word, distance_of_word, value_of_word}
 
 -- ---- the first word
@@ -45,9 +47,26 @@ history_keywords =
     ∷ (codes "depth", keywords.Depth)
     ∷ []
 
+-- the commands that ask about the capture
+abbrev pub query_keywords : List (List ℕ × Keyword)
+query_keywords =
+    (codes "list", keywords.List)
+    ∷ (codes "value", keywords.Value)
+    ∷ (codes "changes", keywords.Changes)
+    ∷ []
+
+-- the commands that decode signals
+abbrev pub decoder_keywords : List (List ℕ × Keyword)
+decoder_keywords =
+    (codes "uart", keywords.Uart)
+    ∷ (codes "spi", keywords.Spi)
+    ∷ (codes "i2c", keywords.I2c)
+    ∷ []
+
 -- the command that a word names
 abbrev pub keyword_of : List ℕ → Option Keyword
-keyword_of word = option_or (keyword_in edit_keywords word) (keyword_in history_keywords word)
+keyword_of word =
+    option_or (option_or (option_or (keyword_in edit_keywords word) (keyword_in history_keywords word)) (keyword_in query_keywords word)) (keyword_in decoder_keywords word)
 
 -- whether a word begins with `#` (35)
 abbrev pub is_comment : List ℕ → Bool
@@ -55,32 +74,6 @@ is_comment [] = false
 is_comment (b ∷ bs) = b == 35
 
 -- ---- the words behind it
-
--- what is read on, or the first fault
-infixl 10 ◌>>=◌
-abbrev pub ◌>>=◌ : {A B : Type 0} → Result A LineError → (A → Result B LineError) → Result B LineError
-(Ok x) >>= f = f x
-(Err fault) >>= f = Err fault
-
--- what no word asks for; any is one too many
-abbrev pub no_word : List (List ℕ) → Result Command LineError → Result Command LineError
-no_word [] asked = asked
-no_word (word ∷ words) asked = Err WrongCount
-
--- what just one word asks for
-abbrev pub one_word : List (List ℕ) → (List ℕ → Result Command LineError) → Result Command LineError
-one_word (first ∷ []) asked = asked first
-one_word words asked = Err WrongCount
-
--- what just two words ask for
-abbrev pub two_words : List (List ℕ) → (List ℕ → List ℕ → Result Command LineError) → Result Command LineError
-two_words (first ∷ second ∷ []) asked = asked first second
-two_words words asked = Err WrongCount
-
--- what just four words ask for
-abbrev pub four_words : List (List ℕ) → (List ℕ → List ℕ → List ℕ → List ℕ → Result Command LineError) → Result Command LineError
-four_words (first ∷ second ∷ third ∷ fourth ∷ []) asked = asked first second third fourth
-four_words words asked = Err WrongCount
 
 -- a line asks for this step
 abbrev pub step_command : Step → Result Command LineError
@@ -181,6 +174,21 @@ abbrev pub derive_command : Contents → List (List ℕ) → Result Command Line
 derive_command c (word ∷ rule ∷ operands) = rule_command c word rule operands
 derive_command c arguments = Err WrongCount
 
+-- ---- questions
+
+-- `value NAME TICK`
+abbrev pub value_command : Contents → List (List ℕ) → Result Command LineError
+value_command c arguments = two_words arguments (λ name tick. do
+  k ← signal_of_name c name
+  t ← number_of_word tick
+  Ok (commands.Value k t))
+
+-- `changes NAME`
+abbrev pub changes_command : Contents → List (List ℕ) → Result Command LineError
+changes_command c arguments = one_word arguments (λ name. do
+  k ← signal_of_name c name
+  Ok (commands.Changes k))
+
 -- ---- all commands
 
 -- `depth N`
@@ -202,6 +210,12 @@ command_of c keywords.Derive arguments = derive_command c arguments
 command_of c keywords.Undo arguments = no_word arguments (step_command steps.Undo)
 command_of c keywords.Redo arguments = no_word arguments (step_command steps.Redo)
 command_of c keywords.Depth arguments = depth_command arguments
+command_of c keywords.List arguments = no_word arguments (Ok commands.List)
+command_of c keywords.Value arguments = value_command c arguments
+command_of c keywords.Changes arguments = changes_command c arguments
+command_of c keywords.Uart arguments = uart_command c arguments
+command_of c keywords.Spi arguments = spi_command c arguments
+command_of c keywords.I2c arguments = i2c_command c arguments
 
 -- what the words of a line ask for on a capture, or why they are no command
 abbrev pub command_of_words : Contents → List (List ℕ) → Result Command LineError

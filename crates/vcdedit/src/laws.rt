@@ -1,11 +1,30 @@
 //! Laws about the definitions alone: each function has an empty body, and its contract is the law.
 
-ghost use Rattle.vcdedit.specs.Laws.{ReplyIsAnswer, RunIsReplay};
+ghost use Rattle.vcdedit.specs.Laws.{EveryRunIsOfReplays, EveryRunWritesOneThing, RefusedLineChangesNothing, ReplyIsAnswer, RunIsReplay, UndoGivesBack, UndoTakesBackTheLast};
+
+/// What a run writes is said of captures that are replays: after each line the capture is what the edits in force
+/// make of what the file means; the reply to the line is told of the capture before it; and the output is the text
+/// of the last. A file and a script make a run write one thing only.
+pub fn run_is_of_replays()
+    ensures replays { EveryRunIsOfReplays }
+    ensures one_thing { EveryRunWritesOneThing }
+{}
 
 /// After any lines of a script the capture is what the edits in force make of the first one, an undo goes back
 /// to what they make of it without the last, and a redo goes on to what they make with the one undone last.
 pub fn run_is_replay()
     ensures { RunIsReplay }
+{}
+
+/// An undo gives back the capture that stood before the last edit in force.
+pub fn undo_gives_back()
+    ensures just_made { UndoGivesBack }
+    ensures last_in_force { UndoTakesBackTheLast }
+{}
+
+/// A line that is refused changes nothing.
+pub fn refused_line_changes_nothing()
+    ensures { RefusedLineChangesNothing }
 {}
 
 /// The reply to a step, which is stated for a capture and two counts alone, is what a session answers.

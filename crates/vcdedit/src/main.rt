@@ -13,10 +13,13 @@ mod shell;
 #[cfg(test)]
 mod tests;
 
-pub use laws::{reply_is_answer, run_is_replay};
+pub use laws::{
+    refused_line_changes_nothing, reply_is_answer, run_is_of_replays, run_is_replay,
+    undo_gives_back,
+};
 pub use running::{RunError, SCRIPT_LIMIT, Summary, run};
-pub use script::{Command, LineError};
-pub use shell::status_of_program;
+pub use script::{Command, LineError, parse_line};
+pub use shell::{report, status_of_program};
 use std::process::ExitCode;
 use vcd_core::ToWrite;
 

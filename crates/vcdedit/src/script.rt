@@ -1,6 +1,8 @@
 //! A script: its lines, and what each of them asks for.
 
 mod command;
+mod decoder_words;
+mod decoders;
 mod derivations;
 mod edits;
 mod keyword;
@@ -8,6 +10,7 @@ mod line;
 mod line_error;
 mod line_words;
 mod numbers;
+mod queries;
 mod splitting;
 
 pub use command::Command;

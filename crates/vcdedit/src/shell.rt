@@ -1,9 +1,11 @@
-//! The program's shell: its command line, its files, its exit status and its line on standard error.
+//! The program's shell: its command line, its files, its exit status and what it says on standard error.
 
-mod arguments;
+mod command_line;
+mod ending;
 mod late_file;
 mod opening;
 mod program;
 mod reporting;
 
 pub use program::status_of_program;
+pub use reporting::report;

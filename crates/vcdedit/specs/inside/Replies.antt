@@ -1,11 +1,8 @@
--- What a value of `Reply` says: the project's own.
-use Rattle.std.specs.Prelude.{[], Ok, Err}
+-- What a reply says: the project's own.
+use Rattle.std.specs.Prelude.{◌≡◌, ℕ, is_err}
 use Rattle.vcdedit.specs.declared.replies.reply.Reply.{Reply}
-use Rattle.vcdedit.specs.declared.replies.reply.Reply.TheVariants as replies
-use Rattle.vcdedit.specs.Reply.{LineReply, ok_reply}
+use Rattle.vcdedit.specs.Reply.{LineReply, reply_text}
 
--- what a reply says
-abbrev pub reply_meaning : Reply → LineReply
-reply_meaning replies.Nothing = Ok []
-reply_meaning replies.Accepted = ok_reply
-reply_meaning (replies.Refused name) = Err name.now
+-- this is said to the line of this number
+abbrev pub TellsReply : ℕ → LineReply → Reply → Type 0
+TellsReply number said reply = (reply.text.items ≡ reply_text number said) × (reply.is_refused ≡ is_err said)

@@ -1,34 +1,58 @@
 -- What a run of lines does to a history and to the writer of the replies: the project's own.
-use Rattle.std.specs.Prelude.{◌≡◌, ℕ, if◌then◌else◌, List, Option, is_err}
-use Rattle.std.specs.Io.KnownBytes.{Appends}
+use Rattle.std.specs.Prelude.{◌≡◌, ◌≤◌, ℕ, ◌+◌, ◌-◌, if◌then◌else◌, List, length, take, Option}
+use Rattle.std.specs.List.{concat}
+use Rattle.std.specs.Io.KnownBytes.{Appends, Keeps}
 use Rattle.vcd_journal.specs.Machine.{Machine}
 use Rattle.vcdedit.specs.declared.running.run_error.RunError.{RunError}
 use Rattle.vcdedit.specs.declared.running.run_error.RunError.TheVariants as run_errors
-use Rattle.vcdedit.specs.Reply.{LineReply, reply_text}
-use Rattle.vcdedit.specs.inside.Answering.{AnswersLine}
-use Rattle.vcdedit.specs.Run.{machine_after_lines, replies_text, refusal_count}
+use Rattle.vcdedit.specs.Reply.{line_reply_text, is_line_refused}
+use Rattle.vcdedit.specs.Run.{machine_after_line, machine_after_lines, line_replies, refusal_count}
 
--- the line of this number leads from one machine to the other, its reply is told, and so many lines are refused
-abbrev pub TellsLine : ℕ → List ℕ → Machine → Machine → (refused : ℕ) → (before after : Option (List ℕ)) → Type 0
-TellsLine number line old new refused before after =
-    (reply : LineReply) × AnswersLine line old new reply × (refused ≡ (if is_err reply then 1 else 0)) × Appends before after (reply_text number reply)
+-- the line of this number leads from one machine to the other, its reply of so many bytes is told, and so many lines are refused
+abbrev pub TellsLine : (skipped number : ℕ) → List ℕ → Machine → Machine → (refused written : ℕ) → (before after : Option (List ℕ)) → Type 0
+TellsLine skipped number line old new refused written before after =
+    (machine_after_line old line ≡ new)
+    × (refused ≡ (if is_line_refused line old.now skipped (length old.past) (length old.future) then 1 else 0))
+    × Appends before after (line_reply_text number line old.now skipped (length old.past) (length old.future))
+    × (written ≡ length (line_reply_text number line old.now skipped (length old.past) (length old.future)))
 
 -- the lines lead from one machine to the other; their replies are these, and so many are refused
-pub record LinesGive (skipped : ℕ) (lines : List (List ℕ)) (old new : Machine) (told : List ℕ) (count : ℕ) : Type 0 where
+pub record LinesGive (skipped : ℕ) (lines : List (List ℕ)) (old new : Machine) (told : List (List ℕ)) (count : ℕ) : Type 0 where
   pub after : machine_after_lines old lines ≡ new
-  pub replies : replies_text skipped 1 old lines ≡ told
+  pub replies : line_replies skipped 1 old lines ≡ told
   pub refused : refusal_count skipped old lines ≡ count
 
 -- all lines are run, and their replies told
-abbrev pub RunsLines : List (List ℕ) → Machine → Machine → (refused : ℕ) → (before after : Option (List ℕ)) → Type 0
-RunsLines lines old new refused before after =
-    (told : List ℕ) × Appends before after told × ((skipped : ℕ) → LinesGive skipped lines old new told refused)
+abbrev pub RunsLines : (skipped : ℕ) → List (List ℕ) → Machine → Machine → (refused : ℕ) → (before after : Option (List ℕ)) → Type 0
+RunsLines skipped lines old new refused before after = (told : List (List ℕ)) × Appends before after (concat told) × LinesGive skipped lines old new told refused
+
+-- ---- faults
 
 -- the fault is one of a line
 abbrev pub IsLineFault : RunError → Type 0
-IsLineFault (run_errors.NoMemory line) = Unit {0}
+IsLineFault (run_errors.NoMemory line) = 1 ≤ line
 IsLineFault (run_errors.ReplyFault written) = Unit {0}
 IsLineFault (run_errors.Capture e) = ⊥
 IsLineFault run_errors.ScriptTooLarge = ⊥
 IsLineFault run_errors.ScriptReadFault = ⊥
 IsLineFault (run_errors.Write e) = ⊥
+
+-- the fault ended the telling of this text to the line of this number, behind so many bytes of others: for want of memory none of its bytes was taken, else its first ones
+abbrev pub ReplyStops : (number : ℕ) → (text : List ℕ) → (told : ℕ) → (before after : Option (List ℕ)) → RunError → Type 0
+ReplyStops number text told before after (run_errors.NoMemory line) = (line ≡ number) × Keeps before after
+ReplyStops number text told before after (run_errors.ReplyFault written) = (count : ℕ) × (written ≡ told + count) × (count ≤ length text) × Appends before after (take count text)
+ReplyStops number text told before after _ = ⊥
+
+-- the same of the reply to a line, on the machine before it
+abbrev pub LineStops : (skipped number : ℕ) → (line : List ℕ) → Machine → (told : ℕ) → (before after : Option (List ℕ)) → RunError → Type 0
+LineStops skipped number line old told before after e = ReplyStops number (line_reply_text number line old.now skipped (length old.past) (length old.future)) told before after e
+
+-- the fault ended the telling of these replies: it names the line before whose reply memory ran out, or how many bytes of them were taken
+abbrev pub RepliesStop : (replies : List (List ℕ)) → (took : List ℕ → Type 0) → RunError → Type 0
+RepliesStop replies took (run_errors.NoMemory line) = (1 ≤ line) × (line ≤ length replies) × took (concat (take (line - 1) replies))
+RepliesStop replies took (run_errors.ReplyFault written) = (written ≤ length (concat replies)) × took (take written (concat replies))
+RepliesStop replies took _ = ⊥
+
+-- the same of the replies to lines, the first of them on this machine
+abbrev pub LinesStop : (skipped : ℕ) → List (List ℕ) → Machine → (before after : Option (List ℕ)) → RunError → Type 0
+LinesStop skipped lines old before after e = RepliesStop (line_replies skipped 1 old lines) (Appends before after) e

@@ -1,16 +1,17 @@
 -- What a run has done when only its output is missing: the project's own.
 use Rattle.std.specs.Prelude.{◌≡◌, ℕ, List}
+use Rattle.std.specs.List.{concat}
 use Rattle.vcd_core.specs.Contents.{Contents}
 use Rattle.vcd_text.specs.Meaning.{FileMeans}
 use Rattle.vcd_journal.specs.Machine.{first_machine}
 use Rattle.vcdedit.specs.Script.{script_lines}
-use Rattle.vcdedit.specs.Run.{machine_after_lines, replies_text, refusal_count}
+use Rattle.vcdedit.specs.Run.{machine_after_lines, line_replies, refusal_count}
 
 -- the script on what the capture file means gives replies of which `took` holds, so many refused lines, and this capture
 pub record ScriptGives (file script : List ℕ) (depth count : ℕ) (took : List ℕ → Type 0) (now : Contents) : Type 0 where
   pub contents : Contents
   pub skipped : ℕ
   pub means : FileMeans file contents skipped
-  pub replies : took (replies_text skipped 1 (first_machine contents depth) (script_lines script))
+  pub replies : took (concat (line_replies skipped 1 (first_machine contents depth) (script_lines script)))
   pub refused : refusal_count skipped (first_machine contents depth) (script_lines script) ≡ count
   pub after : (machine_after_lines (first_machine contents depth) (script_lines script)).now ≡ now

@@ -1,50 +1,121 @@
 //! What a line of the script does to a session, and what is said to it.
 
-ghost use Rattle.std.specs.Prelude.{◌≡◌, false, Err, IfOk};
+ghost use Rattle.std.specs.Prelude.{◌≡◌, false, Err, IfOk, OnErr};
 ghost use Rattle.vcd_journal.specs.RefusalNames.{step_error_name};
-ghost use Rattle.vcdedit.specs.inside.Answering.{AnswersStep, AnswersLine, is_no_memory as wants_memory};
-ghost use Rattle.vcdedit.specs.inside.Replies.{reply_meaning};
+ghost use Rattle.vcdedit.specs.CommandSignals.{HasItsSignals};
+ghost use Rattle.vcdedit.specs.inside.Answering.{AnswersStep, AnswersCommand, AnswersLine, is_no_memory as wants_memory};
+ghost use Rattle.vcdedit.specs.inside.Replies.{TellsReply};
 
 use crate::replies::Reply;
+use crate::replies::decoding::{i2c_text, spi_text, uart_text};
+use crate::replies::listing::listing_text;
+use crate::replies::waves::{changes_text, value_text};
 use crate::script::{Command, parse_line};
-use std::alloc::AllocError;
+use std::alloc::Global;
+use vcd_core::NoMemory;
 use vcd_edit::EditError;
 use vcd_journal::{Session, Step, StepError};
 
-/// Does what a line asks for, on the capture that then stands, and gives what is said to it.
+/// Does what the line of this number asks for, on the capture that then stands, of whose file so many
+/// declarations were skipped, and gives what is said to it.
 ///
-/// The only error is that memory is refused.
-pub fn answer_line(session: &mut Session, line: &[u8]) -> Result<Reply, AllocError>
-    ensures { IfOk result (λ reply.
-        AnswersLine line.now session.old session.new (reply_meaning reply)) }
+/// The only error is that memory is refused; then the session is as before: the reply is made before the step
+/// is taken.
+pub fn answer_line(
+    alloc: Global,
+    session: &mut Session,
+    skipped: u64,
+    number: u64,
+    line: &[u8],
+) -> Result<Reply, NoMemory>
+    ensures answers { IfOk result (λ reply.
+        AnswersLine skipped number line.now session.old session.new reply) }
+    ensures unchanged { OnErr result (session.new ≡ session.old) }
 {
     match parse_line(line, session.capture()) {
-        Ok(Command::Nothing) => Ok(Reply::Nothing),
-        Ok(Command::Step(step)) => answer_step(session, &step),
-        Err(fault) => Ok(Reply::Refused(fault.name())),
+        Ok(command) => answer_command(alloc, session, skipped, number, &command),
+        Err(fault) => Reply::refused(alloc, number, fault.name()),
     }
 }
 
-/// Makes a step, and gives what is said to it.
-fn answer_step(session: &mut Session, step: &Step) -> Result<Reply, AllocError>
-    ensures { IfOk result (λ reply.
-        AnswersStep step.now session.old session.new (reply_meaning reply)) }
+/// Does what the line of this number asks for, and gives what is said to it.
+fn answer_command(
+    alloc: Global,
+    session: &mut Session,
+    skipped: u64,
+    number: u64,
+    command: &Command,
+) -> Result<Reply, NoMemory>
+    requires signals { HasItsSignals session.old.now command.now }
+    ensures answers { IfOk result (λ reply.
+        AnswersCommand skipped number command.now session.old session.new reply) }
+    ensures unchanged { OnErr result (session.new ≡ session.old) }
 {
+    match command {
+        Command::Nothing => Ok(Reply::of_text(Vec::new(alloc))),
+        Command::Step(step) => answer_step(alloc, session, number, step),
+        Command::List => {
+            let text = listing_text(alloc, session.capture(), skipped)?;
+            Ok(Reply::of_text(text))
+        }
+        Command::Value { signal, tick } => {
+            let text = value_text(alloc, session.capture(), *signal, *tick)?;
+            Ok(Reply::of_text(text))
+        }
+        Command::Changes { signal } => {
+            let text = changes_text(alloc, session.capture(), *signal)?;
+            Ok(Reply::of_text(text))
+        }
+        Command::Uart { signal, setup } => {
+            let text = uart_text(alloc, session.capture(), *signal, setup)?;
+            Ok(Reply::of_text(text))
+        }
+        Command::Spi {
+            clk,
+            mosi,
+            miso,
+            cs,
+            setup,
+        } => {
+            let text = spi_text(alloc, session.capture(), *clk, *mosi, *miso, *cs, setup)?;
+            Ok(Reply::of_text(text))
+        }
+        Command::I2c { scl, sda } => {
+            let text = i2c_text(alloc, session.capture(), *scl, *sda)?;
+            Ok(Reply::of_text(text))
+        }
+    }
+}
+
+/// Makes the step that the line of this number asks for, and gives what is said to it.
+fn answer_step(
+    alloc: Global,
+    session: &mut Session,
+    number: u64,
+    step: &Step,
+) -> Result<Reply, NoMemory>
+    ensures answers { IfOk result (λ reply.
+        AnswersStep number step.now session.old session.new reply) }
+    ensures unchanged { OnErr result (session.new ≡ session.old) }
+{
+    // before the step, so that want of memory leaves the session as it is
+    let accepted = Reply::accepted(alloc)?;
     match session.make_step(step) {
-        Ok(()) => Ok(Reply::Accepted),
-        Err(refusal) => refusal_reply(refusal),
+        Ok(()) => Ok(accepted),
+        Err(refusal) => refuse_step(alloc, number, refusal),
     }
 }
 
 /// What is said to a refused step, unless memory was refused.
-fn refusal_reply(refusal: StepError) -> Result<Reply, AllocError>
-    ensures named { IfOk result (λ reply. reply_meaning reply ≡ Err (step_error_name refusal)) }
+fn refuse_step(alloc: Global, number: u64, refusal: StepError) -> Result<Reply, NoMemory>
+    ensures named { IfOk result (λ reply.
+        TellsReply number (Err (step_error_name refusal)) reply) }
     ensures memory { IfOk result (λ _. wants_memory refusal ≡ false) }
 {
     if is_no_memory(refusal) {
-        return Err(AllocError);
+        return Err(NoMemory);
     }
-    Ok(Reply::Refused(refusal.name()))
+    Reply::refused(alloc, number, refusal.name())
 }
 
 /// Whether a step is refused for want of memory.

@@ -1,41 +1,53 @@
 //! What is said to a line of the script.
 
-ghost use Rattle.std.specs.Prelude.{◌≡◌, ◌++◌, Err, OnOk, IfOk, is_err};
-ghost use Rattle.vcdedit.specs.Reply.{reply_text};
-ghost use Rattle.vcdedit.specs.inside.Replies.{reply_meaning};
+ghost use Rattle.std.specs.Prelude.{◌≡◌, ◌++◌, ℕ, Ok, Err, OnOk, IfOk, false};
+ghost use Rattle.vcdedit.specs.Reply.{ok_reply, reply_text};
+ghost use Rattle.vcdedit.specs.inside.Replies.{TellsReply};
 
 use itoa::Buffer;
 use std::alloc::{AllocError, Global};
+use vcd_core::NoMemory;
 
-/// What is said to a line.
-#[derive(Clone, Copy, Debug, PartialEq, Eq)]
-pub enum Reply {
-    /// The line asks for nothing.
-    Nothing,
-    /// The step is made.
-    Accepted,
-    /// The line is refused for the fault with this name.
-    Refused(&'static str),
+/// What is said to a line, whole.
+#[derive(Drop)]
+pub struct Reply {
+    /// Its lines, each of which ends with a line feed; empty where nothing is said.
+    pub text: Vec<u8>,
+    /// Whether it says that the line is refused.
+    pub is_refused: bool,
 }
 
 impl Reply {
-    pub fn is_refused(&self) -> bool
-        ensures { result ≡ is_err (reply_meaning self.now) }
+    /// The reply to a line that is not refused.
+    pub fn of_text(text: Vec<u8>) -> Reply
+        ensures text { result.text ≡ text }
+        ensures accepted { result.is_refused ≡ false }
     {
-        matches!(self, Reply::Refused(_))
+        Reply {
+            text,
+            is_refused: false,
+        }
     }
 
-    /// The bytes of the reply to the line of this number, counted from 1.
-    pub fn to_bytes(self, alloc: Global, number: u64) -> Result<Vec<u8>, AllocError>
-        ensures { IfOk result (λ text. text.items ≡ reply_text number (reply_meaning self)) }
+    /// The reply to an accepted step.
+    pub fn accepted(alloc: Global) -> Result<Reply, NoMemory>
+        ensures { IfOk result (λ reply. (number : ℕ) → TellsReply number ok_reply reply) }
     {
         let mut text = Vec::new(alloc);
-        match self {
-            Reply::Nothing => {}
-            Reply::Accepted => text.extend_from_slice(b"ok\n")?,
-            Reply::Refused(name) => push_refusal(&mut text, number, name)?,
-        }
-        Ok(text)
+        text.extend_from_slice(b"ok\n")?;
+        Ok(Reply::of_text(text))
+    }
+
+    /// The reply to the line of this number, counted from 1, that is refused for the fault with this name.
+    pub fn refused(alloc: Global, number: u64, name: &str) -> Result<Reply, NoMemory>
+        ensures { IfOk result (λ reply. TellsReply number (Err name.now) reply) }
+    {
+        let mut text = Vec::new(alloc);
+        push_refusal(&mut text, number, name)?;
+        Ok(Reply {
+            text,
+            is_refused: true,
+        })
     }
 }
 

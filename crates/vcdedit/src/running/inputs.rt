@@ -4,8 +4,8 @@ ghost use Rattle.std.specs.Prelude.{◌≡◌, ◌<◌, ◌≤◌, ◌⊎◌, fa
 ghost use Rattle.vcd_core.specs.Contents.{contents};
 ghost use Rattle.vcd_core.specs.Sound.{IsSound};
 ghost use Rattle.vcd_text.specs.Meaning.{FileMeans};
-ghost use Rattle.vcdedit.specs.RunFaults.{IsBeforeOutput};
-ghost use Rattle.vcdedit.specs.RunEnds.{LeavesCaptureReader, LeavesScriptReader};
+ghost use Rattle.vcdedit.specs.RunFaults.{IsBehindCapture, IsBeforeReplies, IsBeforeOutput};
+ghost use Rattle.vcdedit.specs.RunEnds.{IsAcceptedCapture, LeavesCaptureReader, LeavesScriptReader};
 
 use crate::running::RunError;
 use std::alloc::Global;
@@ -45,6 +45,9 @@ pub fn read_inputs<R: Source, S: Source>(
         (R.has_failed capture_reader.new) }
     ensures script { LeavesScriptReader result
         (S.coming script_reader.old) (S.has_failed script_reader.new) }
+    ensures accepted { IsBehindCapture result →
+        IfSome (R.coming capture_reader.old) IsAcceptedCapture }
+    ensures before_replies { IfErr result IsBeforeReplies }
     ensures before_output { IfErr result IsBeforeOutput }
 {
     let loaded = read(alloc, capture_reader)?;

@@ -1,12 +1,12 @@
 //! The run: a capture and a script in, replies and a capture out.
 
-ghost use Rattle.std.specs.Prelude.{◌≡◌, ◌≤◌, false, None, OnOk, IfOk, IfErr, IfSome};
+ghost use Rattle.std.specs.Prelude.{◌≡◌, ◌≤◌, false, true, None, OnOk, IfOk, IfErr, IfSome};
 ghost use Rattle.std.specs.Option.{ForSome};
 ghost use Rattle.std.specs.Io.KnownBytes.{Appends};
 ghost use Rattle.vcd_core.specs.Contents.{contents};
 ghost use Rattle.vcd_core.specs.Sound.{IsSound};
-ghost use Rattle.vcdedit.specs.RunFaults.{IfOutputError, IsBeforeOutput};
-ghost use Rattle.vcdedit.specs.RunEnds.{LeavesCaptureReader, LeavesScriptReader, LeavesReplyWriter, RunReachesEnd, RunStopsAtOutput, IfOutput, OutputTakes, OutputKeeps, OutputStops};
+ghost use Rattle.vcdedit.specs.RunFaults.{IfOutputError, IfNoMemory, IfReplyFault, IsOutputFault, IsBehindCapture, IsBeforeOutput};
+ghost use Rattle.vcdedit.specs.RunEnds.{IsAcceptedCapture, LeavesCaptureReader, LeavesScriptReader, LeavesReplyWriter, RunReachesEnd, RunStopsAtLine, RunStopsInReplies, RunStopsAtOutput, IfOutput, OutputTakes, OutputKeeps, OutputStops};
 ghost use Rattle.vcd_journal.specs.Machine.{first_machine};
 ghost use Rattle.vcdedit.specs.inside.ScriptRuns.{ScriptGives};
 
@@ -41,11 +41,19 @@ pub fn run<R: Source, S: Source, P: Sink, W: Sink>(
         (R.coming capture_reader.old) (S.coming script_reader.old) depth summary.refused
         (Appends (P.taken replies.old) (P.taken replies.new))
         (OutputTakes W.taken out.entry out.exit)) }
+    ensures stopped_at_line { IfErr result (λ e. IfNoMemory e (λ line. 1 ≤ line → RunStopsAtLine
+        (R.coming capture_reader.old) (S.coming script_reader.old) depth line
+        (Appends (P.taken replies.old) (P.taken replies.new)))) }
+    ensures stopped_in_replies { IfErr result (λ e. IfReplyFault e (λ count. RunStopsInReplies
+        (R.coming capture_reader.old) (S.coming script_reader.old) depth count
+        (Appends (P.taken replies.old) (P.taken replies.new)))) }
     ensures output_failed { IfErr result (λ e. IfOutputError e (λ fault. RunStopsAtOutput
         (R.coming capture_reader.old) (S.coming script_reader.old) depth
         (Appends (P.taken replies.old) (P.taken replies.new))
         (OutputStops W.taken W.has_failed out.entry out.exit fault))) }
 
+    ensures accepted { IsBehindCapture result →
+        IfSome (R.coming capture_reader.old) IsAcceptedCapture }
     ensures capture { LeavesCaptureReader result
         (R.coming capture_reader.old) (R.coming capture_reader.new)
         (R.has_failed capture_reader.new) }
@@ -55,6 +63,8 @@ pub fn run<R: Source, S: Source, P: Sink, W: Sink>(
         (P.taken replies.old) (P.taken replies.new) (P.has_failed replies.new) }
     ensures out_not_failed { OnOk result
         (IfOutput out.entry out.exit (λ _ new. W.has_failed new ≡ false)) }
+    ensures out_failed { IfErr result (λ e. IsOutputFault e →
+        IfOutput out.entry out.exit (λ _ new. W.has_failed new ≡ true)) }
     ensures no_output { IfErr result (λ e. IsBeforeOutput e →
         OutputKeeps W.taken out.entry out.exit) }
     ensures none_given { out.entry ≡ None → IfErr result IsBeforeOutput }
@@ -97,7 +107,15 @@ fn run_script<R: Source, S: Source, P: Sink>(
         (λ file. IfSome (S.coming script_reader.old) (λ script.
         ScriptGives file script depth script_run.refused
         (Appends (P.taken replies.old) (P.taken replies.new)) script_run.session.now))) }
+    ensures stopped_at_line { IfErr result (λ e. IfNoMemory e (λ line. 1 ≤ line → RunStopsAtLine
+        (R.coming capture_reader.old) (S.coming script_reader.old) depth line
+        (Appends (P.taken replies.old) (P.taken replies.new)))) }
+    ensures stopped_in_replies { IfErr result (λ e. IfReplyFault e (λ count. RunStopsInReplies
+        (R.coming capture_reader.old) (S.coming script_reader.old) depth count
+        (Appends (P.taken replies.old) (P.taken replies.new)))) }
 
+    ensures accepted { IsBehindCapture result →
+        IfSome (R.coming capture_reader.old) IsAcceptedCapture }
     ensures capture { LeavesCaptureReader result
         (R.coming capture_reader.old) (R.coming capture_reader.new)
         (R.has_failed capture_reader.new) }
@@ -109,7 +127,8 @@ fn run_script<R: Source, S: Source, P: Sink>(
 {
     let inputs = read_inputs(alloc, capture_reader, script_reader)?;
     let mut session = begin_session(alloc, inputs.capture, depth)?;
-    let refused = run_lines(alloc, &mut session, inputs.script.as_slice(), replies)?;
+    let script = inputs.script.as_slice();
+    let refused = run_lines(alloc, &mut session, inputs.skipped, script, replies)?;
     Ok(ScriptRun { session, refused })
 }
 

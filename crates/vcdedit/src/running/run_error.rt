@@ -26,7 +26,8 @@ pub enum RunError {
     ScriptTooLarge,
     /// The script's reader failed.
     ScriptReadFault,
-    /// Memory ran out at this line of the script, counted from 1; at 0 before the first.
+    /// Memory ran out at this line of the script, counted from 1, or at 0 before the first. Exactly the replies
+    /// to the lines before it were written.
     NoMemory { line: u64 },
     /// The writer of the replies failed. It took exactly their first `written` bytes.
     ReplyFault { written: u128 },

@@ -1,13 +1,12 @@
 //! The lines of a script, run one after another.
 
-ghost use Rattle.std.specs.Prelude.{◌≡◌, ◌≤◌, ◌<◌, ◌^◌, false, length, if◌then◌else◌, is_err, IfOk, IfErr, OnOk};
+ghost use Rattle.std.specs.Prelude.{◌≡◌, ◌≤◌, ◌<◌, ◌^◌, ℕ, false, true, length, IfOk, IfErr, OnOk};
 ghost use Rattle.std.specs.Io.KnownBytes.{Appends};
 ghost use Rattle.vcdedit.specs.Script.{script_lines};
-ghost use Rattle.vcdedit.specs.Reply.{reply_text};
-ghost use Rattle.vcdedit.specs.inside.Replies.{reply_meaning};
-ghost use Rattle.vcdedit.specs.inside.RunLines.{TellsLine, RunsLines, IsLineFault};
+ghost use Rattle.vcdedit.specs.RunFaults.{IfReplyFault};
+ghost use Rattle.vcdedit.specs.inside.RunLines.{TellsLine, RunsLines, IsLineFault, ReplyStops, LineStops, LinesStop};
 
-use crate::replies::{Reply, answer_line};
+use crate::replies::answer_line;
 use crate::running::RunError;
 use crate::script::split_line;
 use std::alloc::Global;
@@ -23,24 +22,29 @@ struct LineOutcome {
     written: usize,
 }
 
-/// Runs the lines of a script, in order: each on the capture that then stands, and its reply is written whole
-/// before the next line is read. Then the replies are flushed. Gives how many lines were refused.
+/// Runs the lines of a script, in order: each on the capture that then stands, of whose file so many declarations
+/// were skipped, and its reply is written whole before the next line is read. Then the replies are flushed. Gives
+/// how many lines were refused.
 ///
 /// The first error ends it: memory is refused at a line, or the writer of the replies fails. It holds the reply
 /// of one line at a time.
 pub fn run_lines<P: Sink>(
     alloc: Global,
     session: &mut Session,
+    skipped: u64,
     script: &[u8],
     replies: &mut P,
 ) -> Result<u64, RunError>
     requires ready { P.has_failed replies.old ≡ false }
     requires short { length script.now < 2 ^ 60 }
     ensures told { IfOk result (λ refused.
-        RunsLines (script_lines script.now) session.old session.new refused
+        RunsLines skipped (script_lines script.now) session.old session.new refused
         (P.taken replies.old) (P.taken replies.new)) }
     ensures not_failed { OnOk result (P.has_failed replies.new ≡ false) }
     ensures fault { IfErr result IsLineFault }
+    ensures failed { IfErr result (λ e. IfReplyFault e (λ _. P.has_failed replies.new ≡ true)) }
+    ensures stopped { IfErr result (LinesStop skipped (script_lines script.now) session.old
+        (P.taken replies.old) (P.taken replies.new)) }
 {
     let mut rest = script;
     let mut number = 0u64;
@@ -48,7 +52,7 @@ pub fn run_lines<P: Sink>(
     let mut written = 0u128;
     while let Some((line, behind)) = split_line(rest) {
         number += 1;
-        let outcome = run_line(alloc, session, number, line, replies, written)?;
+        let outcome = run_line(alloc, session, skipped, number, line, replies, written)?;
         refused += outcome.refused;
         written += outcome.written as u128;
         rest = behind;
@@ -63,61 +67,54 @@ pub fn run_lines<P: Sink>(
 fn run_line<P: Sink>(
     alloc: Global,
     session: &mut Session,
+    skipped: u64,
     number: u64,
     line: &[u8],
     replies: &mut P,
     written: u128,
 ) -> Result<LineOutcome, RunError>
     requires ready { P.has_failed replies.old ≡ false }
+    requires counted { 1 ≤ number }
     requires room { written < 2 ^ 127 }
     ensures told { IfOk result (λ outcome.
-        TellsLine number line.now session.old session.new outcome.refused
+        TellsLine skipped number line.now session.old session.new outcome.refused outcome.written
         (P.taken replies.old) (P.taken replies.new)) }
     ensures few { IfOk result (λ outcome. outcome.refused ≤ 1) }
     ensures short { IfOk result (λ outcome. outcome.written < 2 ^ 64) }
     ensures not_failed { OnOk result (P.has_failed replies.new ≡ false) }
     ensures fault { IfErr result IsLineFault }
+    ensures failed { IfErr result (λ e. IfReplyFault e (λ _. P.has_failed replies.new ≡ true)) }
+    ensures stopped { IfErr result (LineStops skipped number line.now session.old written
+        (P.taken replies.old) (P.taken replies.new)) }
 {
-    match answer_line(session, line) {
+    match answer_line(alloc, session, skipped, number, line) {
         Ok(reply) => {
-            let written = write_reply(alloc, number, reply, replies, written)?;
-            let refused = refusals_in(reply);
-            Ok(LineOutcome { refused, written })
+            write_reply(reply.text.as_slice(), replies, written)?;
+            Ok(LineOutcome {
+                refused: u64::from(reply.is_refused),
+                written: reply.text.len(),
+            })
         }
         Err(_) => Err(RunError::NoMemory { line: number }),
     }
 }
 
-/// Writes a reply, which is made whole before the first of its bytes is written. Gives how many bytes it has.
-fn write_reply<P: Sink>(
-    alloc: Global,
-    number: u64,
-    reply: Reply,
-    replies: &mut P,
-    written: u128,
-) -> Result<usize, RunError>
+/// Writes the whole text of a reply behind the `written` bytes of those before.
+fn write_reply<P: Sink>(text: &[u8], replies: &mut P, written: u128) -> Result<(), RunError>
     requires ready { P.has_failed replies.old ≡ false }
     requires room { written < 2 ^ 127 }
     ensures told { OnOk result
-        (Appends (P.taken replies.old) (P.taken replies.new)
-        (reply_text number (reply_meaning reply))) }
+        (Appends (P.taken replies.old) (P.taken replies.new) text.now) }
     ensures not_failed { OnOk result (P.has_failed replies.new ≡ false) }
     ensures fault { IfErr result IsLineFault }
+    ensures failed { IfErr result (λ e. IfReplyFault e (λ _. P.has_failed replies.new ≡ true)) }
+    ensures stopped { IfErr result (λ e. (number : ℕ) → ReplyStops number text.now written
+        (P.taken replies.old) (P.taken replies.new) e) }
 {
-    match reply.to_bytes(alloc, number) {
-        Ok(text) => match write_all(replies, text.as_slice()) {
-            Ok(()) => Ok(text.len()),
-            Err(short) => Err(RunError::ReplyFault {
-                written: written + short.written,
-            }),
-        },
-        Err(_) => Err(RunError::NoMemory { line: number }),
+    match write_all(replies, text) {
+        Ok(()) => Ok(()),
+        Err(short) => Err(RunError::ReplyFault {
+            written: written + short.written,
+        }),
     }
-}
-
-/// How many lines are refused where this is said to one.
-fn refusals_in(reply: Reply) -> u64
-    ensures { result ≡ (if is_err (reply_meaning reply) then 1 else 0) }
-{
-    if reply.is_refused() { 1 } else { 0 }
 }

@@ -1,7 +1,7 @@
 //! The first words of lines.
 
 ghost use Rattle.std.specs.Prelude.{◌≡◌};
-ghost use Rattle.vcdedit.specs.ScriptCommands.{keyword_in, edit_keywords, history_keywords, keyword_of as keyword_named};
+ghost use Rattle.vcdedit.specs.ScriptCommands.{keyword_in, edit_keywords, history_keywords, query_keywords, decoder_keywords, keyword_of as keyword_named};
 
 /// What the first word of a line names: a command.
 #[derive(Clone, Copy, Debug, PartialEq, Eq)]
@@ -17,13 +17,22 @@ pub enum Keyword {
     Undo,
     Redo,
     Depth,
+    List,
+    Value,
+    Changes,
+    Uart,
+    Spi,
+    I2c,
 }
 
 /// The command that a word names.
 pub fn keyword_of(word: &[u8]) -> Option<Keyword>
     ensures { result ≡ keyword_named word.now }
 {
-    edit_keyword(word).or(history_keyword(word))
+    edit_keyword(word)
+        .or(history_keyword(word))
+        .or(query_keyword(word))
+        .or(decoder_keyword(word))
 }
 
 /// The command that edits and has this name.
@@ -69,6 +78,38 @@ fn history_keyword(word: &[u8]) -> Option<Keyword>
     }
     if word == b"depth".as_slice() {
         return Some(Keyword::Depth);
+    }
+    None
+}
+
+/// The command that asks about the capture and has this name.
+fn query_keyword(word: &[u8]) -> Option<Keyword>
+    ensures { result ≡ keyword_in query_keywords word.now }
+{
+    if word == b"list".as_slice() {
+        return Some(Keyword::List);
+    }
+    if word == b"value".as_slice() {
+        return Some(Keyword::Value);
+    }
+    if word == b"changes".as_slice() {
+        return Some(Keyword::Changes);
+    }
+    None
+}
+
+/// The command that decodes signals and has this name.
+fn decoder_keyword(word: &[u8]) -> Option<Keyword>
+    ensures { result ≡ keyword_in decoder_keywords word.now }
+{
+    if word == b"uart".as_slice() {
+        return Some(Keyword::Uart);
+    }
+    if word == b"spi".as_slice() {
+        return Some(Keyword::Spi);
+    }
+    if word == b"i2c".as_slice() {
+        return Some(Keyword::I2c);
     }
     None
 }

@@ -1,13 +1,17 @@
 //! What a line of the script asks for.
 
-ghost use Rattle.std.specs.Prelude.{◌≡◌, ◌∷◌};
+ghost use Rattle.std.specs.Prelude.{◌≡◌, ◌∷◌, Ok, Err, IfOk, IfErr};
 ghost use Rattle.vcd_core.specs.Contents.{contents};
 ghost use Rattle.vcd_text.specs.Grammar.{word_texts};
+ghost use Rattle.vcdedit.specs.CommandSignals.{HasItsSignals};
+ghost use Rattle.vcdedit.specs.Lent.{command_without_address};
 ghost use Rattle.vcdedit.specs.Script.{command_of_line};
-ghost use Rattle.vcdedit.specs.ScriptCommands.{command_of_words, command_of, depth_command, no_word, step_command, is_comment as comment_test};
+ghost use Rattle.vcdedit.specs.LineWords.{no_word};
+ghost use Rattle.vcdedit.specs.ScriptCommands.{command_of_words, command_of, depth_command, step_command, is_comment as comment_test};
 ghost use Rattle.vcdedit.specs.inside.Commands.{ReadsAs};
 ghost use Rattle.vcd_journal.specs.declared.step.Step.TheVariants as steps;
 
+use crate::script::decoders::{parse_i2c, parse_spi, parse_uart};
 use crate::script::derivations::parse_derive;
 use crate::script::edits::{
     parse_cut, parse_deglitch, parse_force, parse_invert, parse_remove, parse_rename, parse_shift,
@@ -15,6 +19,7 @@ use crate::script::edits::{
 use crate::script::keyword::{Keyword, keyword_of};
 use crate::script::line_words::{next_text, take_none, take_one};
 use crate::script::numbers::number_of_word;
+use crate::script::queries::{parse_changes, parse_list, parse_value};
 use crate::script::{Command, LineError};
 use vcd_core::Capture;
 use vcd_journal::Step;
@@ -23,10 +28,18 @@ use vcd_text::Words;
 /// Reads a line of the script, on the capture that then stands. It takes no memory.
 ///
 /// The faults in the order in which they count: the first word names no command; the command takes another
-/// number of words; then from left to right each word that is not what its place asks for.
+/// number of words; then from left to right each word that is not what its place asks for; a decoder's signal
+/// that is wider than one bit; then the fault of the decoder's setup.
+///
+/// The cost is that of the line, and of a comparison with each full name for each name in it; `@` and a position
+/// is found without one.
 #[tactic(auto, unfolding(crate::specs::Script::command_of_line))]
 pub fn parse_line<'a>(line: &'a [u8], capture: &Capture) -> Result<Command<'a>, LineError>
-    ensures { ReadsAs (command_of_line (contents capture.now) line.now) result }
+    ensures command { IfOk result (λ command.
+        command_of_line (contents capture.now) line.now ≡ Ok (command_without_address command)) }
+    ensures fault { IfErr result (λ fault.
+        command_of_line (contents capture.now) line.now ≡ Err fault) }
+    ensures signals { IfOk result (HasItsSignals (contents capture.now)) }
 {
     let mut words = Words::new(line);
     match next_text(&mut words) {
@@ -71,6 +84,12 @@ fn parse_command<'a>(
         Keyword::Undo => parse_undo(words),
         Keyword::Redo => parse_redo(words),
         Keyword::Depth => parse_depth(words),
+        Keyword::List => parse_list(words),
+        Keyword::Value => parse_value(words, capture),
+        Keyword::Changes => parse_changes(words, capture),
+        Keyword::Uart => parse_uart(words, capture),
+        Keyword::Spi => parse_spi(words, capture),
+        Keyword::I2c => parse_i2c(words, capture),
     }
 }
 

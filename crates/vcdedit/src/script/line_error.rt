@@ -5,6 +5,7 @@ ghost use Rattle.vcdedit.specs.RefusalNames.{line_error_name};
 
 use std::fmt;
 use thiserror::Error;
+use vcd_decode::SetupError;
 
 /// Why a line of the script is no command.
 #[derive(Clone, Copy, Debug, PartialEq, Eq, Error)]
@@ -23,10 +24,12 @@ pub enum LineError {
     BadOption,
     /// A decoder's signal is wider than one bit.
     NotScalar,
+    /// The numbers of a decoder's setup are none that it can have.
+    Setup(SetupError),
 }
 
 impl LineError {
-    /// The name that the tool prints.
+    /// The name that the tool prints; that of a setup's fault is its own.
     pub fn name(&self) -> &'static str
         ensures { result.now ≡ line_error_name self.now }
     {
@@ -38,6 +41,7 @@ impl LineError {
             LineError::BadValueText => "BadValueText",
             LineError::BadOption => "BadOption",
             LineError::NotScalar => "NotScalar",
+            LineError::Setup(fault) => fault.name(),
         }
     }
 }

@@ -2,7 +2,7 @@
 
 ghost use Rattle.std.specs.Prelude.{◌≡◌, ◌∷◌, [], List, ℕ, Result, Err, IfOk, OnOk, IfErr, MatchOption};
 ghost use Rattle.vcd_text.specs.Grammar.{word_texts};
-ghost use Rattle.vcdedit.specs.ScriptCommands.{no_word, one_word, two_words, four_words};
+ghost use Rattle.vcdedit.specs.LineWords.{no_word, one_word, two_words, four_words, five_words, seven_words};
 ghost use Rattle.vcdedit.specs.declared.script.command.Command.{Command as LineCommand};
 ghost use Rattle.vcdedit.specs.declared.script.line_error.LineError.{LineError as LineFault};
 
@@ -89,5 +89,80 @@ pub fn take_four<'a>(words: &mut Words<'a>) -> Result<FourWords<'a>, LineError>
         second,
         third,
         fourth,
+    })
+}
+
+/// Five words.
+#[derive(Clone, Copy)]
+pub struct FiveWords<'a> {
+    pub first: &'a [u8],
+    pub second: &'a [u8],
+    pub third: &'a [u8],
+    pub fourth: &'a [u8],
+    pub fifth: &'a [u8],
+}
+
+/// The five words that are left.
+pub fn take_five<'a>(words: &mut Words<'a>) -> Result<FiveWords<'a>, LineError>
+    ensures five { IfOk result (λ all. word_texts words.old ≡ all.first.now ∷ all.second.now
+        ∷ all.third.now ∷ all.fourth.now ∷ all.fifth.now ∷ []) }
+    ensures others { IfErr result (λ e. (asked : List ℕ → List ℕ → List ℕ → List ℕ → List ℕ
+        → Result LineCommand LineFault) → five_words (word_texts words.old) asked ≡ Err e) }
+{
+    let first = next_text(words).ok_or(LineError::WrongCount)?;
+    let second = next_text(words).ok_or(LineError::WrongCount)?;
+    let third = next_text(words).ok_or(LineError::WrongCount)?;
+    let fourth = next_text(words).ok_or(LineError::WrongCount)?;
+    let fifth = next_text(words).ok_or(LineError::WrongCount)?;
+    if next_text(words).is_some() {
+        return Err(LineError::WrongCount);
+    }
+    Ok(FiveWords {
+        first,
+        second,
+        third,
+        fourth,
+        fifth,
+    })
+}
+
+/// Seven words.
+#[derive(Clone, Copy)]
+pub struct SevenWords<'a> {
+    pub first: &'a [u8],
+    pub second: &'a [u8],
+    pub third: &'a [u8],
+    pub fourth: &'a [u8],
+    pub fifth: &'a [u8],
+    pub sixth: &'a [u8],
+    pub seventh: &'a [u8],
+}
+
+/// The seven words that are left.
+pub fn take_seven<'a>(words: &mut Words<'a>) -> Result<SevenWords<'a>, LineError>
+    ensures seven { IfOk result (λ all. word_texts words.old ≡ all.first.now ∷ all.second.now
+        ∷ all.third.now ∷ all.fourth.now ∷ all.fifth.now ∷ all.sixth.now ∷ all.seventh.now ∷ []) }
+    ensures others { IfErr result (λ e. (asked : List ℕ → List ℕ → List ℕ → List ℕ → List ℕ
+        → List ℕ → List ℕ → Result LineCommand LineFault)
+        → seven_words (word_texts words.old) asked ≡ Err e) }
+{
+    let first = next_text(words).ok_or(LineError::WrongCount)?;
+    let second = next_text(words).ok_or(LineError::WrongCount)?;
+    let third = next_text(words).ok_or(LineError::WrongCount)?;
+    let fourth = next_text(words).ok_or(LineError::WrongCount)?;
+    let fifth = next_text(words).ok_or(LineError::WrongCount)?;
+    let sixth = next_text(words).ok_or(LineError::WrongCount)?;
+    let seventh = next_text(words).ok_or(LineError::WrongCount)?;
+    if next_text(words).is_some() {
+        return Err(LineError::WrongCount);
+    }
+    Ok(SevenWords {
+        first,
+        second,
+        third,
+        fourth,
+        fifth,
+        sixth,
+        seventh,
     })
 }

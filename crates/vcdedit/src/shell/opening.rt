@@ -7,13 +7,16 @@ use std::io::{Input, Read};
 use std::rt::Files;
 use std::{fs, io};
 
+/// The script where none is named: the capture is listed.
+const SCRIPT_WITHOUT_FILE: &[u8] = b"list\n";
+
 /// Where the bytes of an input come from.
 #[derive(Drop)]
 pub enum Origin<S, F> {
     Standard(S),
     File(F),
-    /// No bytes at all: the script where none is named.
-    Nothing,
+    /// These bytes: the script where none is named.
+    Given(&'static [u8]),
 }
 
 impl<S: Read, F: Read> Read for Origin<S, F> {
@@ -25,7 +28,7 @@ impl<S: Read, F: Read> Read for Origin<S, F> {
         match self {
             Origin::Standard(reader) => reader.read(buf),
             Origin::File(file) => file.read(buf),
-            Origin::Nothing => Ok(0),
+            Origin::Given(bytes) => bytes.read(buf),
         }
     }
 }
@@ -43,7 +46,7 @@ pub fn open_capture<R: Files + Input>(
     }
 }
 
-/// Opens the script: the file at `path`, or else no bytes.
+/// Opens the script: the file at `path`, or else the one line `list`.
 pub fn open_script<R: Files + Input>(
     rt: &R,
     path: Option<&str>,
@@ -53,7 +56,7 @@ pub fn open_script<R: Files + Input>(
 {
     match path {
         Some(path) => Ok(Origin::File(fs::open(rt, path)?)),
-        None => Ok(Origin::Nothing),
+        None => Ok(Origin::Given(SCRIPT_WITHOUT_FILE)),
     }
 }
 

@@ -2,7 +2,7 @@
 
 ghost use Rattle.std.specs.Prelude.{◌≡◌, ◌≤◌, false, true, OnOk, OnErr};
 ghost use Rattle.std.specs.Io.KnownBytes.{Appends};
-ghost use Rattle.vcdedit.specs.Report.{capture_line, capture_status, done_status, error_line, numbered_line, error_status, usage_line};
+ghost use Rattle.vcdedit.specs.Report.{capture_line, capture_status, done_status, error_line, numbered_line, error_status};
 
 use crate::running::{RunError, Summary};
 use itoa::Buffer;
@@ -22,15 +22,15 @@ pub fn report<W: Sink>(error: &RunError, writer: &mut W) -> u8
     error_status(error)
 }
 
-/// Writes the line that says that the words of the command line are refused, and gives the exit status. A
+/// Writes the text that says why the words of the command line are refused, and gives the exit status. A
 /// fault of the writer is passed over. It takes no memory.
-pub fn report_usage<W: Sink>(writer: &mut W) -> u8
+pub fn report_refusal<W: Sink>(text: &str, writer: &mut W) -> u8
     requires { W.has_failed writer.old ≡ false }
     ensures status { result ≡ 2 }
-    ensures line { W.has_failed writer.new ≡ false →
-        Appends (W.taken writer.old) (W.taken writer.new) usage_line }
+    ensures text { W.has_failed writer.new ≡ false →
+        Appends (W.taken writer.old) (W.taken writer.new) text.now }
 {
-    let _ = write_all(writer, b"vcdedit: usage\n");
+    let _ = write_all(writer, text.as_bytes());
     2
 }
 

@@ -77,6 +77,17 @@ fn a_script_that_fails_after_a_line(rt: HostRuntime) {
     check_ending(&rt, &run, RunError::ScriptReadFault, b"", b"");
 }
 
+#[test]
+fn a_capture_with_a_fault_before_a_script_that_fails(rt: HostRuntime) {
+    let capture: &[u8] = b"$upscope $end\n";
+    let run = run_on(rt.alloc(), capture, FailingReader(b""), AMPLE, AMPLE);
+    let fault = ReadError {
+        line: 1,
+        fault: Fault::UpscopeAtTop,
+    };
+    check_ending(&rt, &run, RunError::Capture(fault), b"", b"");
+}
+
 /// The writer of the replies takes this front of them, all where its flush fails.
 fn check_reply_fault(rt: &impl Abort, alloc: Global, front: &[u8]) {
     let run = run_on(alloc, CAPTURE, SCRIPT, front.len(), AMPLE);
@@ -94,8 +105,10 @@ fn check_output_fault(rt: &impl Abort, alloc: Global, front: &[u8]) {
 
 #[test]
 fn replies_that_fail(rt: HostRuntime) {
-    check_reply_fault(&rt, rt.alloc(), b"ok\no");
-    check_reply_fault(&rt, rt.alloc(), REPLIES);
+    // behind the last byte it is the flush that fails
+    for written in 0..=REPLIES.len() {
+        check_reply_fault(&rt, rt.alloc(), &REPLIES[..written]);
+    }
 }
 
 #[test]

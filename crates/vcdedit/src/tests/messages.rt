@@ -5,6 +5,7 @@ use std::alloc::Global;
 use std::fmt::Display;
 use std::process::Abort;
 use std::test::Fail;
+use vcd_decode::SetupError;
 use vcd_edit::EditError;
 use vcd_journal::StepError;
 use vcd_text::{Fault, ReadError, WriteError};
@@ -29,5 +30,11 @@ fn messages(rt: HostRuntime) -> Result<(), Fail> {
     check_message(&rt, alloc, &RunError::Capture(capture), "BadScope")?;
     check_message(&rt, alloc, &WriteError::NoMemory, "NoMemory")?;
     check_message(&rt, alloc, &LineError::WrongCount, "WrongCount")?;
+    check_message(
+        &rt,
+        alloc,
+        &LineError::Setup(SetupError::BadData),
+        "BadData",
+    )?;
     check_message(&rt, alloc, &StepError::Edit(EditError::BadWord), "BadWord")
 }

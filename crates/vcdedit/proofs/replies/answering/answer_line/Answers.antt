@@ -1,25 +1,24 @@
-use Rattle.std.proofs.Common.{Err, List, ℕ, sym, subst, refl}
+use Rattle.std.proofs.Common.{Err, List, ℕ, refl, subst}
 use Rattle.std.proofs.lemmas.Result.{IfOk-weaker}
-use Rattle.vcdedit.specs.inside.Answering.{AnswersStep, AnswersLine}
-use Rattle.vcdedit.specs.inside.Replies.{reply_meaning}
-use Rattle.vcdedit.proofs.Answered.{line_nothing, line_steps, line_refused}
+use Rattle.vcdedit.specs.inside.Answering.{AnswersCommand, AnswersLine}
+use Rattle.vcdedit.specs.inside.Replies.{TellsReply}
+use Rattle.vcdedit.proofs.Answered.{line_asks, line_stays}
 use Rattle.vcdedit.proofs.replies.answering.answer_line.Goals as goal
 
-pub returns-in-Ok-Nothing : goal.returns-in-Ok-Nothing
-returns-in-Ok-Nothing c =
-    let read = rw (c.capture.ensures.now, c.in-Ok-Nothing.field-0-is) at c.in-Ok-Nothing.ensures in
-    line_nothing c.args.line.now c.args.session.now c.args.session.now read refl
-
-pub returns-in-Ok-Step : goal.returns-in-Ok-Step
-returns-in-Ok-Step c =
+pub returns-in-Ok-clause-answers : goal.returns-in-Ok-clause-answers
+returns-in-Ok-clause-answers c =
     let old = c.args.session.now in
-    let new = c.answer_step.new.session in
-    let read = rw (c.capture.ensures.now, c.in-Ok-Step.field-0-is) at c.in-Ok-Step.ensures in
-    IfOk-weaker c.answer_step.result (λ reply. AnswersStep c.in-Ok-Step.step old new (reply_meaning reply)) (λ reply. AnswersLine c.args.line.now old new (reply_meaning reply))
-    (λ reply. line_steps c.args.line.now c.in-Ok-Step.step old new (reply_meaning reply) read) c.answer_step.ensures
+    let new = c.answer_command.new.session in
+    let command = c.in-Ok.command in
+    let read = rw (c.capture.ensures.now) at c.in-Ok.ensures.command in
+    IfOk-weaker c.answer_command.result (λ reply. AnswersCommand c.args.skipped c.args.number command old new reply) (λ reply. AnswersLine c.args.skipped c.args.number c.args.line.now old new reply)
+    (λ reply. line_asks c.args.skipped c.args.number c.args.line.now command old new reply read) c.answer_command.ensures.answers
 
-pub returns-in-Err : goal.returns-in-Err
-returns-in-Err c =
-    let read = rw (c.capture.ensures.now) at c.in-Err.ensures in
-    subst (λ (name : List ℕ). AnswersLine c.args.line.now c.args.session.now c.args.session.now (Err name)) (sym c.name.ensures)
-    (line_refused c.args.line.now c.in-Err.fault c.args.session.now c.args.session.now read refl)
+pub returns-in-Err-clause-answers : goal.returns-in-Err-clause-answers
+returns-in-Err-clause-answers c =
+    let old = c.args.session.now in
+    let read = rw (c.capture.ensures.now) at c.in-Err.ensures.fault in
+    IfOk-weaker c.refused.result (λ reply. TellsReply c.args.number (Err c.name.result.now) reply) (λ reply. AnswersLine c.args.skipped c.args.number c.args.line.now old old reply)
+    (λ reply tells. line_stays c.args.skipped c.args.number c.args.line.now (Err c.in-Err.fault) old reply read refl
+    (subst (λ (name : List ℕ). TellsReply c.args.number (Err name) reply) c.name.ensures tells))
+    c.refused.ensures

@@ -1,0 +1,68 @@
+-- Worked cases: what `list`, `value` and `changes` ask for and tell.
+use Rattle.std.proofs.Common.{◌≡◌, refl}
+use Rattle.std.specs.Prelude.{[], ◌∷◌, Some, Ok, Err, codes}
+use Rattle.std.specs.Fmt.{digits}
+use Rattle.vcd_core.specs.declared.capture.TimeUnit.TheVariants.{Nanosecond}
+use Rattle.vcd_core.specs.Wave.{value_from}
+use Rattle.vcd_core.specs.Names.{name_in, lookup}
+use Rattle.vcd_core.specs.Contents.{Contents, signal_at}
+use Rattle.vcd_text.specs.Words.{words_from}
+use Rattle.vcd_edit.specs.Effect.{effect}
+use Rattle.vcd_edit.specs.Allowed.{edit_fault}
+use Rattle.vcdedit.specs.declared.script.command.Command.TheVariants as commands
+use Rattle.vcdedit.specs.declared.script.line_error.LineError.TheVariants.{WrongCount, BadNumber, NoSuchName}
+use Rattle.vcdedit.specs.Script.{script_lines, command_of_line}
+use Rattle.vcdedit.specs.Queries.{timescale_line, signal_lines, listing, value_line, change_lines}
+use Rattle.vcdedit.specs.Reply.{line_reply}
+use Rattle.vcdedit.specs.Run.{machine_after_line, line_replies}
+use Rattle.vcd_journal.specs.Machine.{first_machine}
+use Rattle.vcd_text.proofs.CasesOfText.{capture, wire, top, from}
+
+-- a scalar that changes, a vector, and a signal in no scope that is x throughout
+abbrev three : Contents
+three = capture 9 (wire (top ∷ []) (codes "a") 1 (from 0 (codes "z") ∷ from 4 (codes "1") ∷ []) ∷ wire (top ∷ []) (codes "v") 4 (from 2 (codes "01xz") ∷ []) ∷ wire [] (codes "n") 2 [] ∷ [])
+
+-- what the lines ask for, and their first faults
+asked : (command_of_line three (codes "list") ≡ Ok commands.List)
+    × (command_of_line three (codes "value top.v 12") ≡ Ok (commands.Value 1 12))
+    × (command_of_line three (codes "changes @2") ≡ Ok (commands.Changes 2))
+    × (command_of_line three (codes "list now") ≡ Err WrongCount)
+    × (command_of_line three (codes "value top.a") ≡ Err WrongCount)
+    × (command_of_line three (codes "value top.q x") ≡ Err NoSuchName)
+    × (command_of_line three (codes "value top.a x") ≡ Err BadNumber)
+    × (command_of_line three (codes "changes @3") ≡ Err NoSuchName)
+unfolding command_of_line words_from lookup name_in
+asked = (refl, refl, refl, refl, refl, refl, refl, refl)
+
+listed : (listing three 2
+    ≡ codes "timescale none"
+    ∷ codes "end 9"
+    ∷ codes "signals 3"
+    ∷ codes "skipped 2"
+    ∷ codes "@0 1 wire top.a"
+    ∷ codes "@1 4 wire top.v"
+    ∷ codes "@2 2 wire n"
+    ∷ []) × (timescale_line (Some (record { count = 100; unit = Nanosecond })) ≡ codes "timescale 100 ns")
+unfolding signal_lines name_in digits
+listed = (refl, refl)
+
+-- before the first change, at a change, and past the end
+values : (value_line (signal_at three 0) 3 ≡ codes "z")
+    × (value_line (signal_at three 0) 4 ≡ codes "1")
+    × (value_line (signal_at three 1) 1 ≡ codes "xxxx")
+    × (value_line (signal_at three 1) 12 ≡ codes "01xz")
+    × (value_line (signal_at three 2) 0 ≡ codes "xx")
+unfolding value_from
+values = (refl, refl, refl, refl, refl)
+
+changed : (change_lines (signal_at three 0).changes ≡ codes "0 z" ∷ codes "4 1" ∷ [])
+    × (change_lines (signal_at three 1).changes ≡ codes "2 01xz" ∷ [])
+    × (change_lines (signal_at three 2).changes ≡ [])
+unfolding digits
+changed = (refl, refl, refl)
+
+-- they tell of the capture that stands at their line, and `skipped` is that of the file
+told : line_replies 2 1 (first_machine three 100) (script_lines (codes "changes n\nremove top.a\nvalue top.a 0\nlist\nundo\nchanges top.a\n"))
+    ≡ [] ∷ codes "ok\n" ∷ codes "line 3: refused: NoSuchName\n" ∷ codes "timescale none\nend 9\nsignals 2\nskipped 2\n@0 4 wire top.v\n@1 2 wire n\n" ∷ codes "ok\n" ∷ codes "0 z\n4 1\n" ∷ []
+unfolding script_lines words_from command_of_line lookup name_in edit_fault effect line_reply machine_after_line line_replies signal_lines value_from digits
+told = refl

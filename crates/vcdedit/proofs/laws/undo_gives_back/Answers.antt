@@ -1,0 +1,8 @@
+use Rattle.vcdedit.proofs.RunReplays.{undo_gives_back, undo_takes_back_the_last}
+use Rattle.vcdedit.proofs.laws.undo_gives_back.Goals as goal
+
+pub returns-clause-just_made : goal.returns-clause-just_made
+returns-clause-just_made c = undo_gives_back
+
+pub returns-clause-last_in_force : goal.returns-clause-last_in_force
+returns-clause-last_in_force c = undo_takes_back_the_last

@@ -1,0 +1,7 @@
+-- What is written and the name in the scopes left are the whole.
+use Rattle.std.proofs.Common.{◌≡◌, ◌++◌, drop}
+use Rattle.vcd_core.specs.Names.{name_in}
+use Rattle.vcdedit.proofs.replies.listing.append_full_name.Given as goal
+
+abbrev pub invariant-loop-scope : goal.invariant-loop-scope
+invariant-loop-scope l = l.text.items ++ name_in (drop l.scope-index l.scopes) l.signal.words ≡ l.initial.text.items ++ name_in l.scopes l.signal.words

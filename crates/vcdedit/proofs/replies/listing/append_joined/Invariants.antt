@@ -1,0 +1,7 @@
+-- What is written and the words left are the whole.
+use Rattle.std.proofs.Common.{◌≡◌, ◌++◌, drop}
+use Rattle.std.specs.List.{concat}
+use Rattle.vcdedit.proofs.replies.listing.append_joined.Given as goal
+
+abbrev pub invariant-loop-word : goal.invariant-loop-word
+invariant-loop-word l = l.text.items ++ concat (drop l.word-index l.words) ≡ l.initial.text.items ++ concat l.words

@@ -1,0 +1,12 @@
+-- What is written and the lines of the signals left are the whole.
+use Rattle.std.proofs.Common.{◌≡◌, ◌++◌, drop, map}
+use Rattle.std.specs.List.{flat_map}
+use Rattle.vcd_core.specs.Contents.{signal_contents}
+use Rattle.vcdedit.specs.Queries.{signal_lines}
+use Rattle.vcdedit.specs.Reply.{with_line_feed}
+use Rattle.vcdedit.proofs.replies.listing.append_signals.Given as goal
+
+abbrev pub invariant-loop-position : goal.invariant-loop-position
+invariant-loop-position l =
+    l.text.items ++ flat_map with_line_feed (signal_lines l.position (map signal_contents (drop l.position l.signals)))
+    ≡ l.initial.text.items ++ flat_map with_line_feed (signal_lines 0 (map signal_contents l.signals))

@@ -1,0 +1,18 @@
+-- The signals that a command asks about: the project's own.
+use Rattle.std.specs.Prelude.{◌≡◌, ◌<◌, ℕ, length, IfSome}
+use Rattle.vcd_core.specs.Contents.{Contents, signal_at}
+use Rattle.vcdedit.specs.declared.script.command.Command.{Command}
+use Rattle.vcdedit.specs.declared.script.command.Command.TheVariants as commands
+
+-- a signal of one bit stands at this position
+abbrev pub IsScalarAt : Contents → ℕ → Type 0
+IsScalarAt c k = (k < length c.signals) × ((signal_at c k).width ≡ 1)
+
+-- the signals that a command asks about are there, and those that it decodes have one bit
+abbrev pub HasItsSignals : Contents → Command → Type 0
+HasItsSignals c (commands.Value k tick) = k < length c.signals
+HasItsSignals c (commands.Changes k) = k < length c.signals
+HasItsSignals c (commands.Uart k setup) = IsScalarAt c k
+HasItsSignals c (commands.Spi clk mosi miso cs setup) = IsScalarAt c clk × IfSome mosi (IsScalarAt c) × IfSome miso (IsScalarAt c) × IfSome cs (IsScalarAt c)
+HasItsSignals c (commands.I2c scl sda) = IsScalarAt c scl × IsScalarAt c sda
+HasItsSignals c command = Unit {0}

@@ -1,0 +1,85 @@
+-- What a word of a line that decodes signals is read as: the project's own.
+use Rattle.std.specs.Prelude.{ℕ, ◌+◌, ◌==◌, if◌then◌else◌, List, take, drop, Option, Some, None, Result, Ok, Err, codes}
+use Rattle.std.specs.List.{position}
+use Rattle.std.specs.Str.{bytes_eq}
+use Rattle.vcd_core.specs.Contents.{Contents, signal_at}
+use Rattle.vcd_decode.specs.declared.setup_error.SetupError.{SetupError}
+use Rattle.vcd_decode.specs.declared.spi_setup.BitOrder.{BitOrder}
+use Rattle.vcd_decode.specs.declared.spi_setup.BitOrder.TheVariants.{Msb, Lsb}
+use Rattle.vcd_decode.specs.declared.uart_setup.Parity.{Parity}
+use Rattle.vcd_decode.specs.declared.uart_setup.Parity.TheVariants as parities
+use Rattle.vcd_decode.specs.UartSetup.{UartSetup, uart_fault}
+use Rattle.vcd_decode.specs.SpiSetup.{SpiSetup, spi_fault}
+use Rattle.vcdedit.specs.declared.script.line_error.LineError.{LineError}
+use Rattle.vcdedit.specs.declared.script.line_error.LineError.TheVariants.{BadOption, NotScalar, Setup}
+use Rattle.vcdedit.specs.LineWords.{◌>>=◌}
+use Rattle.vcdedit.specs.ScriptWords.{signal_of_name, number_of_word}
+
+-- ---- words
+
+-- the numbers of a ratio in a word whose first `/` stands here; without one the second number is 1
+abbrev pub ratio_at : List ℕ → Option ℕ → Result (ℕ × ℕ) LineError
+ratio_at word None = do
+  numerator ← number_of_word word
+  Ok (numerator, 1)
+ratio_at word (Some place) = do
+  numerator ← number_of_word (take place word)
+  denominator ← number_of_word (drop (place + 1) word)
+  Ok (numerator, denominator)
+
+-- where the first `/` (47) of a word stands
+abbrev pub slash_place : List ℕ → Option ℕ
+slash_place word = position (λ b. b == 47) word
+
+-- the ratio that a word writes: `N/D`, or `N`
+abbrev pub ratio_of_word : List ℕ → Result (ℕ × ℕ) LineError
+ratio_of_word word = ratio_at word (slash_place word)
+
+-- the parity bit that a word names
+abbrev pub parity_of_word : List ℕ → Result Parity LineError
+parity_of_word word =
+    if bytes_eq word (codes "none") then Ok parities.None
+    else (if bytes_eq word (codes "even") then Ok parities.Even
+    else (if bytes_eq word (codes "odd") then Ok parities.Odd
+    else Err BadOption))
+
+-- the order of bits that a word names
+abbrev pub order_of_word : List ℕ → Result BitOrder LineError
+order_of_word word =
+    if bytes_eq word (codes "msb") then Ok Msb
+    else (if bytes_eq word (codes "lsb") then Ok Lsb
+    else Err BadOption)
+
+-- the position of the signal that a word names; `-` stands for a line that is not there
+abbrev pub signal_or_absent : Contents → List ℕ → Result (Option ℕ) LineError
+signal_or_absent c word =
+    if bytes_eq word (codes "-") then Ok None
+    else (do
+      k ← signal_of_name c word
+      Ok (Some k))
+
+-- ---- what comes behind the words
+
+-- a decoder's signal: it has one bit
+abbrev pub scalar : Contents → ℕ → Result ℕ LineError
+scalar c k = if (signal_at c k).width == 1 then Ok k else Err NotScalar
+
+-- the same of a line that may be absent
+abbrev pub scalar_or_absent : Contents → Option ℕ → Result (Option ℕ) LineError
+scalar_or_absent c None = Ok None
+scalar_or_absent c (Some k) = do
+  there ← scalar c k
+  Ok (Some there)
+
+-- a setup that has this fault, or none
+abbrev pub faultless_setup : {S : Type 0} → Option SetupError → S → Result S LineError
+faultless_setup None setup = Ok setup
+faultless_setup (Some fault) setup = Err (Setup fault)
+
+-- a setup of a UART line without a fault
+abbrev pub faultless_uart : UartSetup → Result UartSetup LineError
+faultless_uart setup = faultless_setup (uart_fault setup) setup
+
+-- one of a serial peripheral interface
+abbrev pub faultless_spi : SpiSetup → Result SpiSetup LineError
+faultless_spi setup = faultless_setup (spi_fault setup) setup

@@ -1,0 +1,52 @@
+-- What `list`, `value` and `changes` tell of a capture: the project's own.
+use Rattle.std.specs.Prelude.{ℕ, ◌+◌, List, [], ◌∷◌, ◌++◌, length, map, Option, Some, None, codes}
+use Rattle.std.specs.Fmt.{decimal}
+use Rattle.vcd_core.specs.declared.capture.Timescale.{Timescale}
+use Rattle.vcd_core.specs.declared.wave.Change.{Change}
+use Rattle.vcd_core.specs.Contents.{Contents, SignalContents, signal_value}
+use Rattle.vcd_core.specs.Names.{full_name}
+use Rattle.vcd_core.specs.TimeUnits.{unit_text}
+use Rattle.vcd_text.specs.Letters.{printed_letters}
+
+-- ---- `list`
+
+-- `timescale 1 ns`, with its number and its unit, or `timescale none`
+abbrev pub timescale_line : Option Timescale → List ℕ
+timescale_line None = codes "timescale none"
+timescale_line (Some t) = codes "timescale " ++ decimal t.count ++ codes " " ++ unit_text t.unit
+
+-- a word and a number
+abbrev pub number_line : List ℕ → ℕ → List ℕ
+number_line word n = word ++ codes " " ++ decimal n
+
+-- the signal at a position: `@K WIDTH KIND FULLNAME`
+abbrev pub signal_line : ℕ → SignalContents → List ℕ
+signal_line position s = number_line (codes "@" ++ decimal position) s.width ++ codes " " ++ s.kind ++ codes " " ++ full_name s
+
+-- signals, the first at this position
+unfoldable pub signal_lines : ℕ → List SignalContents → List (List ℕ)
+signal_lines position [] = []
+signal_lines position (s ∷ ss) = signal_line position s ∷ signal_lines (position + 1) ss
+
+-- the lines of `list`, where so many declarations of the file were skipped, whatever edits came
+abbrev pub listing : Contents → (skipped : ℕ) → List (List ℕ)
+listing c skipped =
+    timescale_line c.timescale
+    ∷ number_line (codes "end") c.end
+    ∷ number_line (codes "signals") (length c.signals)
+    ∷ number_line (codes "skipped") skipped
+    ∷ signal_lines 0 c.signals
+
+-- ---- `value` and `changes`
+
+-- the line of `value`: as many letters as the width, most significant first; a tick past the end has the last value
+abbrev pub value_line : SignalContents → ℕ → List ℕ
+value_line s tick = printed_letters (signal_value s tick)
+
+-- a change: its tick and its value
+abbrev pub change_line : Change → List ℕ
+change_line c = decimal c.tick ++ codes " " ++ printed_letters c.value
+
+-- the lines of `changes`: one for each change, so none for a signal that is x throughout
+abbrev pub change_lines : List Change → List (List ℕ)
+change_lines changes = map change_line changes

@@ -1,0 +1,129 @@
+//! What `list` tells: a capture's timescale, end and counts, and its signals.
+
+ghost use Rattle.std.specs.Prelude.{◌≡◌, ◌++◌, map, OnOk, IfOk};
+ghost use Rattle.std.specs.List.{concat, flat_map};
+ghost use Rattle.vcd_core.specs.Contents.{contents, signal_contents};
+ghost use Rattle.vcd_core.specs.Names.{full_name};
+ghost use Rattle.vcdedit.specs.Queries.{timescale_line, number_line, signal_line, signal_lines, listing};
+ghost use Rattle.vcdedit.specs.Reply.{with_line_feed};
+
+use itoa::Buffer;
+use std::alloc::Global;
+use vcd_core::{Capture, NoMemory, Signal, Timescale, Word};
+
+/// The lines of `list` on a capture, of whose file so many declarations were skipped. The cost is that of its
+/// names; no wave is looked at.
+pub fn listing_text(alloc: Global, capture: &Capture, skipped: u64) -> Result<Vec<u8>, NoMemory>
+    ensures { IfOk result (λ text. text.items ≡
+        flat_map with_line_feed (listing (contents capture.now) skipped)) }
+{
+    let signals = capture.signals();
+    let mut text = Vec::new(alloc);
+    append_timescale(&mut text, capture.timescale())?;
+    append_number_line(&mut text, b"end".as_slice(), capture.end())?;
+    append_number_line(&mut text, b"signals".as_slice(), signals.len() as u64)?;
+    append_number_line(&mut text, b"skipped".as_slice(), skipped)?;
+    append_signals(&mut text, signals)?;
+    Ok(text)
+}
+
+/// Appends the line of the timescale.
+fn append_timescale(text: &mut Vec<u8>, timescale: Option<Timescale>) -> Result<(), NoMemory>
+    ensures { OnOk result (text.new.items ≡
+        text.old.items ++ with_line_feed (timescale_line timescale)) }
+{
+    match timescale {
+        Some(timescale) => append_unit(text, timescale),
+        None => {
+            text.extend_from_slice(b"timescale none\n")?;
+            Ok(())
+        }
+    }
+}
+
+/// Appends the line of a timescale that is there.
+fn append_unit(text: &mut Vec<u8>, timescale: Timescale) -> Result<(), NoMemory>
+    ensures { OnOk result (text.new.items ≡
+        text.old.items ++ with_line_feed (timescale_line (Some timescale))) }
+{
+    text.extend_from_slice(b"timescale ")?;
+    text.extend_from_slice(Buffer::new().format(timescale.count).as_bytes())?;
+    text.extend_from_slice(b" ")?;
+    text.extend_from_slice(timescale.unit.symbol().as_bytes())?;
+    text.extend_from_slice(b"\n")?;
+    Ok(())
+}
+
+/// Appends the line of a word and a number.
+fn append_number_line(text: &mut Vec<u8>, word: &[u8], number: u64) -> Result<(), NoMemory>
+    ensures { OnOk result (text.new.items ≡
+        text.old.items ++ with_line_feed (number_line word.now number)) }
+{
+    append_number(text, word, number)?;
+    text.extend_from_slice(b"\n")?;
+    Ok(())
+}
+
+/// Appends a word and a number.
+fn append_number(text: &mut Vec<u8>, word: &[u8], number: u64) -> Result<(), NoMemory>
+    ensures { OnOk result (text.new.items ≡ text.old.items ++ number_line word.now number) }
+{
+    text.extend_from_slice(word)?;
+    text.extend_from_slice(b" ")?;
+    text.extend_from_slice(Buffer::new().format(number).as_bytes())?;
+    Ok(())
+}
+
+/// Appends a line for each signal.
+fn append_signals(text: &mut Vec<u8>, signals: &[Signal]) -> Result<(), NoMemory>
+    ensures { OnOk result (text.new.items ≡ text.old.items
+        ++ flat_map with_line_feed (signal_lines 0 (map signal_contents signals.now))) }
+{
+    for (position, signal) in signals.iter().enumerate() {
+        append_signal(text, position, signal)?;
+    }
+    Ok(())
+}
+
+/// Appends the line of the signal at a position.
+fn append_signal(text: &mut Vec<u8>, position: usize, signal: &Signal) -> Result<(), NoMemory>
+    ensures { OnOk result (text.new.items ≡
+        text.old.items ++ with_line_feed (signal_line position (signal_contents signal.now))) }
+{
+    text.extend_from_slice(b"@")?;
+    append_number(
+        text,
+        Buffer::new().format(position).as_bytes(),
+        signal.wave.width(),
+    )?;
+    text.extend_from_slice(b" ")?;
+    text.extend_from_slice(signal.kind.as_slice())?;
+    text.extend_from_slice(b" ")?;
+    append_full_name(text, signal)?;
+    text.extend_from_slice(b"\n")?;
+    Ok(())
+}
+
+/// Appends the full name of a signal.
+fn append_full_name(text: &mut Vec<u8>, signal: &Signal) -> Result<(), NoMemory>
+    ensures { OnOk result (text.new.items ≡
+        text.old.items ++ full_name (signal_contents signal.now)) }
+{
+    let scopes = signal.scopes.as_slice();
+    for scope in scopes {
+        append_joined(text, scope.words.as_slice())?;
+        text.push(b'.')?;
+    }
+    append_joined(text, signal.words.as_slice())?;
+    Ok(())
+}
+
+/// Appends words, run together.
+fn append_joined(text: &mut Vec<u8>, words: &[Word]) -> Result<(), NoMemory>
+    ensures { OnOk result (text.new.items ≡ text.old.items ++ concat words.now) }
+{
+    for word in words {
+        text.extend_from_slice(word.as_slice())?;
+    }
+    Ok(())
+}

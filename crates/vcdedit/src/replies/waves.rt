@@ -1,0 +1,64 @@
+//! What `value` and `changes` tell of one signal.
+
+ghost use Rattle.std.specs.Prelude.{◌≡◌, ◌<◌, ◌++◌, length, OnOk, IfOk};
+ghost use Rattle.std.specs.List.{flat_map};
+ghost use Rattle.vcd_core.specs.Contents.{contents, signal_at};
+ghost use Rattle.vcdedit.specs.Queries.{value_line, change_line, change_lines as lines_of};
+ghost use Rattle.vcdedit.specs.Reply.{with_line_feed};
+
+use crate::replies::letters::append_letters;
+use itoa::Buffer;
+use std::alloc::Global;
+use vcd_core::{Capture, Change, NoMemory};
+
+/// The line of `value` for the signal at a position. The cost is the logarithm of its number of changes, and its
+/// width.
+pub fn value_text(
+    alloc: Global,
+    capture: &Capture,
+    signal: usize,
+    tick: u64,
+) -> Result<Vec<u8>, NoMemory>
+    requires { signal < length capture.now.signals }
+    ensures { IfOk result (λ text. text.items ≡
+        with_line_feed (value_line (signal_at (contents capture.now) signal) tick)) }
+{
+    let mut text = Vec::new(alloc);
+    append_letters(&mut text, &capture.signals()[signal].wave.at(tick))?;
+    text.push(b'\n')?;
+    Ok(text)
+}
+
+/// The lines of `changes` for the signal at a position. The cost is that of its changes.
+pub fn changes_text(alloc: Global, capture: &Capture, signal: usize) -> Result<Vec<u8>, NoMemory>
+    requires { signal < length capture.now.signals }
+    ensures { IfOk result (λ text. text.items ≡ flat_map with_line_feed
+        (lines_of (signal_at (contents capture.now) signal).changes)) }
+{
+    let mut text = Vec::new(alloc);
+    append_changes(&mut text, capture.signals()[signal].wave.changes())?;
+    Ok(text)
+}
+
+/// Appends a line for each change.
+fn append_changes(text: &mut Vec<u8>, changes: &[Change]) -> Result<(), NoMemory>
+    ensures { OnOk result (text.new.items ≡
+        text.old.items ++ flat_map with_line_feed (lines_of changes.now)) }
+{
+    for change in changes {
+        append_change(text, change)?;
+    }
+    Ok(())
+}
+
+/// Appends the line of a change.
+fn append_change(text: &mut Vec<u8>, change: &Change) -> Result<(), NoMemory>
+    ensures { OnOk result (text.new.items ≡
+        text.old.items ++ with_line_feed (change_line change.now)) }
+{
+    text.extend_from_slice(Buffer::new().format(change.tick).as_bytes())?;
+    text.extend_from_slice(b" ")?;
+    append_letters(text, &change.value)?;
+    text.extend_from_slice(b"\n")?;
+    Ok(())
+}

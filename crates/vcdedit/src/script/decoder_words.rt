@@ -1,0 +1,149 @@
+//! The words of a decoder's line, each by itself.
+
+ghost use Rattle.std.specs.Prelude.{◌≡◌, ◌<◌, None, Some, IfSome, IfOk, length};
+ghost use Rattle.vcd_core.specs.Contents.{contents};
+ghost use Rattle.vcd_decode.specs.UartSetup.{uart_setup};
+ghost use Rattle.vcd_decode.specs.SpiSetup.{spi_setup};
+ghost use Rattle.vcdedit.specs.DecoderWords as spec;
+
+use crate::script::LineError;
+use crate::script::edits::find_signal;
+use crate::script::numbers::number_of_word;
+use vcd_core::Capture;
+use vcd_decode::{BitOrder, Parity, Spi, Uart};
+
+/// The two numbers of the ratio that a word writes: `N/D`, or `N`, where the second is 1.
+pub fn ratio_of_word(word: &[u8]) -> Result<(u64, u64), LineError>
+    ensures { result ≡ spec.ratio_of_word word.now }
+{
+    match slash_place(word) {
+        Some(place) => ratio_at(word, place),
+        None => whole_ratio(word),
+    }
+}
+
+/// Where the first `/` of a word stands.
+fn slash_place(word: &[u8]) -> Option<usize>
+    ensures place { result ≡ spec.slash_place word.now }
+    ensures within { IfSome result (λ place. place < length word.now) }
+{
+    word.iter().position(|byte| *byte == b'/')
+}
+
+/// The numbers before and behind the `/` of a word.
+fn ratio_at(word: &[u8], place: usize) -> Result<(u64, u64), LineError>
+    requires { place < length word.now }
+    ensures { result ≡ spec.ratio_at word.now (Some place) }
+{
+    let numerator = number_of_word(&word[..place])?;
+    let denominator = number_of_word(&word[place + 1..])?;
+    Ok((numerator, denominator))
+}
+
+/// The ratio of a word without `/`.
+fn whole_ratio(word: &[u8]) -> Result<(u64, u64), LineError>
+    ensures { result ≡ spec.ratio_at word.now None }
+{
+    let numerator = number_of_word(word)?;
+    Ok((numerator, 1))
+}
+
+/// The parity bit that a word names.
+pub fn parity_of_word(word: &[u8]) -> Result<Parity, LineError>
+    ensures { result ≡ spec.parity_of_word word.now }
+{
+    if word == b"none".as_slice() {
+        return Ok(Parity::None);
+    }
+    if word == b"even".as_slice() {
+        return Ok(Parity::Even);
+    }
+    if word == b"odd".as_slice() {
+        return Ok(Parity::Odd);
+    }
+    Err(LineError::BadOption)
+}
+
+/// The order of bits that a word names.
+pub fn order_of_word(word: &[u8]) -> Result<BitOrder, LineError>
+    ensures { result ≡ spec.order_of_word word.now }
+{
+    if word == b"msb".as_slice() {
+        return Ok(BitOrder::Msb);
+    }
+    if word == b"lsb".as_slice() {
+        return Ok(BitOrder::Lsb);
+    }
+    Err(LineError::BadOption)
+}
+
+/// The position of the signal that a word names; none where the word is `-`, which stands for a line that is
+/// not there.
+pub fn find_or_absent(capture: &Capture, word: &[u8]) -> Result<Option<usize>, LineError>
+    ensures named { result ≡ spec.signal_or_absent (contents capture.now) word.now }
+    ensures within { IfOk result (λ line.
+        IfSome line (λ k. k < length capture.now.signals)) }
+{
+    if word == b"-".as_slice() {
+        return Ok(None);
+    }
+    let signal = find_signal(capture, word)?;
+    Ok(Some(signal))
+}
+
+/// Sees that a signal has one bit.
+pub fn scalar(capture: &Capture, signal: usize) -> Result<usize, LineError>
+    requires { signal < length capture.now.signals }
+    ensures { result ≡ spec.scalar (contents capture.now) signal }
+{
+    if capture.signals()[signal].wave.width() == 1 {
+        Ok(signal)
+    } else {
+        Err(LineError::NotScalar)
+    }
+}
+
+/// The same of a line that may be absent.
+pub fn scalar_or_absent(capture: &Capture, line: Option<usize>) -> Result<Option<usize>, LineError>
+    requires { IfSome line (λ k. k < length capture.now.signals) }
+    ensures { result ≡ spec.scalar_or_absent (contents capture.now) line }
+{
+    match line {
+        Some(signal) => some_scalar(capture, signal),
+        None => Ok(None),
+    }
+}
+
+/// The same of a line that is there.
+fn some_scalar(capture: &Capture, signal: usize) -> Result<Option<usize>, LineError>
+    requires { signal < length capture.now.signals }
+    ensures { result ≡ spec.scalar_or_absent (contents capture.now) (Some signal) }
+{
+    let signal = scalar(capture, signal)?;
+    Ok(Some(signal))
+}
+
+/// The setup of a UART line, or its first fault.
+pub fn uart_of(
+    ratio: (u64, u64),
+    data_bits: u64,
+    parity: Parity,
+    stop_bits: u64,
+) -> Result<Uart, LineError>
+    ensures { result ≡ spec.faultless_uart (uart_setup ratio.0 ratio.1 data_bits parity stop_bits) }
+{
+    match Uart::new(ratio.0, ratio.1, data_bits, parity, stop_bits) {
+        Ok(setup) => Ok(setup),
+        Err(fault) => Err(LineError::Setup(fault)),
+    }
+}
+
+/// The setup of a serial peripheral interface, or its first fault.
+pub fn spi_of(mode: u64, bits: u64, order: BitOrder) -> Result<Spi, LineError>
+    ensures { result ≡ spec.faultless_spi (spi_setup mode bits order) }
+{
+    match Spi::new(mode, bits, order) {
+        Ok(setup) => Ok(setup),
+        Err(fault) => Err(LineError::Setup(fault)),
+    }
+}

@@ -1,0 +1,70 @@
+//! The lines that decode signals.
+
+ghost use Rattle.vcd_core.specs.Contents.{contents};
+ghost use Rattle.vcd_text.specs.Grammar.{word_texts};
+ghost use Rattle.vcdedit.specs.DecoderCommands.{uart_command, spi_command, i2c_command};
+ghost use Rattle.vcdedit.specs.inside.Commands.{ReadsAs};
+
+use crate::script::decoder_words::{
+    find_or_absent, order_of_word, parity_of_word, ratio_of_word, scalar, scalar_or_absent, spi_of,
+    uart_of,
+};
+use crate::script::edits::find_signal;
+use crate::script::line_words::{take_five, take_seven, take_two};
+use crate::script::numbers::number_of_word;
+use crate::script::{Command, LineError};
+use vcd_core::Capture;
+use vcd_text::Words;
+
+/// Reads `NAME BIT DATA PARITY STOP`.
+pub fn parse_uart<'a>(words: &mut Words<'a>, capture: &Capture) -> Result<Command<'a>, LineError>
+    ensures { ReadsAs (uart_command (contents capture.now) (word_texts words.old)) result }
+{
+    let all = take_five(words)?;
+    let signal = find_signal(capture, all.first)?;
+    let ratio = ratio_of_word(all.second)?;
+    let data_bits = number_of_word(all.third)?;
+    let parity = parity_of_word(all.fourth)?;
+    let stop_bits = number_of_word(all.fifth)?;
+    let signal = scalar(capture, signal)?;
+    let setup = uart_of(ratio, data_bits, parity, stop_bits)?;
+    Ok(Command::Uart { signal, setup })
+}
+
+/// Reads `CLK MOSI MISO CS MODE BITS ORDER`.
+pub fn parse_spi<'a>(words: &mut Words<'a>, capture: &Capture) -> Result<Command<'a>, LineError>
+    ensures { ReadsAs (spi_command (contents capture.now) (word_texts words.old)) result }
+{
+    let all = take_seven(words)?;
+    let clk = find_signal(capture, all.first)?;
+    let mosi = find_or_absent(capture, all.second)?;
+    let miso = find_or_absent(capture, all.third)?;
+    let cs = find_or_absent(capture, all.fourth)?;
+    let mode = number_of_word(all.fifth)?;
+    let bits = number_of_word(all.sixth)?;
+    let order = order_of_word(all.seventh)?;
+    let clk = scalar(capture, clk)?;
+    let mosi = scalar_or_absent(capture, mosi)?;
+    let miso = scalar_or_absent(capture, miso)?;
+    let cs = scalar_or_absent(capture, cs)?;
+    let setup = spi_of(mode, bits, order)?;
+    Ok(Command::Spi {
+        clk,
+        mosi,
+        miso,
+        cs,
+        setup,
+    })
+}
+
+/// Reads `SCL SDA`.
+pub fn parse_i2c<'a>(words: &mut Words<'a>, capture: &Capture) -> Result<Command<'a>, LineError>
+    ensures { ReadsAs (i2c_command (contents capture.now) (word_texts words.old)) result }
+{
+    let (scl, sda) = take_two(words)?;
+    let scl = find_signal(capture, scl)?;
+    let sda = find_signal(capture, sda)?;
+    let scl = scalar(capture, scl)?;
+    let sda = scalar(capture, sda)?;
+    Ok(Command::I2c { scl, sda })
+}

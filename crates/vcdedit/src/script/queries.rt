@@ -1,0 +1,42 @@
+//! The lines that ask about a capture and leave it as it is.
+
+ghost use Rattle.std.specs.Prelude.{Ok};
+ghost use Rattle.vcd_core.specs.Contents.{contents};
+ghost use Rattle.vcd_text.specs.Grammar.{word_texts};
+ghost use Rattle.vcdedit.specs.LineWords.{no_word};
+ghost use Rattle.vcdedit.specs.ScriptCommands.{value_command, changes_command};
+ghost use Rattle.vcdedit.specs.declared.script.command.Command.TheVariants as commands;
+ghost use Rattle.vcdedit.specs.inside.Commands.{ReadsAs};
+
+use crate::script::edits::find_signal;
+use crate::script::line_words::{take_none, take_one, take_two};
+use crate::script::numbers::number_of_word;
+use crate::script::{Command, LineError};
+use vcd_core::Capture;
+use vcd_text::Words;
+
+/// Reads that nothing follows `list`.
+pub fn parse_list<'a>(words: &mut Words<'a>) -> Result<Command<'a>, LineError>
+    ensures { ReadsAs (no_word (word_texts words.old) (Ok commands.List)) result }
+{
+    take_none(words)?;
+    Ok(Command::List)
+}
+
+/// Reads `NAME TICK`.
+pub fn parse_value<'a>(words: &mut Words<'a>, capture: &Capture) -> Result<Command<'a>, LineError>
+    ensures { ReadsAs (value_command (contents capture.now) (word_texts words.old)) result }
+{
+    let (name, tick) = take_two(words)?;
+    let signal = find_signal(capture, name)?;
+    let tick = number_of_word(tick)?;
+    Ok(Command::Value { signal, tick })
+}
+
+/// Reads `NAME` of a signal whose changes are asked for.
+pub fn parse_changes<'a>(words: &mut Words<'a>, capture: &Capture) -> Result<Command<'a>, LineError>
+    ensures { ReadsAs (changes_command (contents capture.now) (word_texts words.old)) result }
+{
+    let signal = find_signal(capture, take_one(words)?)?;
+    Ok(Command::Changes { signal })
+}

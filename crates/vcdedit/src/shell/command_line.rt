@@ -1,0 +1,164 @@
+//! The words of the command line, as `clap` reads them.
+
+ghost use Rattle.std.specs.Prelude.{◌≡◌, ◌≤◌, false, codes, map, IfOk};
+ghost use Rattle.std.specs.String.{string_bytes};
+ghost use Rattle.clap.specs.Words.{FailsBy, app_of, fault_of, found_of, kind_of, one_text, rule_of};
+ghost use Rattle.vcdedit.specs.CommandLine.{asked_options, depth_asked, depth_option as depth_rule, input_option as input_rule, option_app, options_in, output_option as output_rule, script_option as script_rule};
+
+use clap::builder::ValueParser;
+use clap::error::ErrorKind;
+use clap::{Arg, ArgMatches, Command, Error};
+use std::alloc::{AllocError, Global};
+use vcd_journal::DEPTH_LIMIT;
+
+/// How many steps are held for undo and redo where no word says how many.
+pub const DEFAULT_DEPTH: u64 = 100;
+
+const VERSION: &str = "0.1.0";
+
+const ABOUT: &str =
+    "Edits four-state waveform captures (VCD, IEEE 1364-2005, 18.2) by script, with undo and redo.\n\nThe capture is read whole, each line of the script is carried out and answered on standard output,\nand the edited capture is written. A file with a fault is refused, and nothing is written.";
+
+const AFTER_HELP: &str =
+    "Lines of a script, where NAME is a signal's full name, as top.cpu.clk, or @ and its position:
+  rename NAME WORD          the first word of the signal's name becomes WORD
+  remove NAME               the signal is taken out; later ones move up
+  invert NAME               every bit is negated at every tick
+  shift NAME BY             the signal comes BY ticks later, or earlier where BY is negative
+  cut FROM TO               the ticks FROM up to before TO are cut out of every signal
+  deglitch NAME TICKS       runs of fewer than TICKS ticks take the value of the last longer run
+  force NAME FROM TO VALUE  the signal has VALUE at the ticks FROM up to before TO
+  derive WORD not A         a new signal WORD; also: and A B, or A B, xor A B, bit A K
+  undo                      the last edit is taken back
+  redo                      the edit undone last is made again
+  depth N                   from now on at most N steps are held
+  list                      timescale, end, and each signal's position, width, kind and full name
+  value NAME TICK           the signal's value at the tick
+  changes NAME              the signal's changes, each with its tick
+  uart NAME BIT DATA PARITY STOP              frames of a line; BIT is N or N/D ticks
+  spi CLK MOSI MISO CS MODE BITS ORDER        words; - for a MOSI, MISO or CS that is absent
+  i2c SCL SDA                                 conditions, addresses, bytes
+  # ..                      nothing, as an empty line
+An edit is answered by `ok`, a refused line by `line N: refused: FAULT`; the script goes on after it.
+
+Exit status:
+  0  done, or help or the version is shown
+  1  done, but a line of the script was refused
+  2  the words of the command line are refused
+  3  the capture has a fault, which is told with its line, or the script is too large
+  4  a file can't be opened, read or written, or standard output can't be written
+  5  memory ran out";
+
+/// What the words of the command line ask for.
+#[derive(Clone, Copy, Debug, PartialEq, Eq)]
+pub struct Options<'a> {
+    /// The path of the capture; standard input where it is absent or `-`.
+    pub input: Option<&'a str>,
+    /// The path of the script; the script is the one line `list` where it is absent.
+    pub script: Option<&'a str>,
+    /// The path of the output; none is written where it is absent.
+    pub output: Option<&'a str>,
+    /// How many steps are held for undo and redo, from 1 to `DEPTH_LIMIT`.
+    pub depth: u64,
+}
+
+/// Reads the words after the program's name.
+///
+/// Refused words, and words that ask for help or the version, are an error with `clap`'s text.
+pub fn parse_words<'a>(alloc: Global, words: &'a [String]) -> Result<Options<'a>, Error>
+    ensures asked { IfOk result (λ o.
+        options_in o ≡ asked_options (map string_bytes words.now)) }
+    ensures faults { FailsBy (fault_of option_app (map string_bytes words.now)) result }
+    ensures depth_least { IfOk result (λ o. 1 ≤ o.depth) }
+    ensures depth_most { IfOk result (λ o. o.depth ≤ DEPTH_LIMIT) }
+{
+    let command = command_line(alloc)?;
+    let matches = command.try_get_matches_from(words)?;
+    Ok(Options {
+        input: matches.get_str("input-file"),
+        script: matches.get_str("script"),
+        output: matches.get_str("output-file"),
+        depth: depth_in(&matches),
+    })
+}
+
+/// The error for a word that is no text.
+pub fn no_text(alloc: Global) -> Result<Error, AllocError>
+    ensures { IfOk result (λ e. kind_of e ≡ ErrorKind.ValueValidation) }
+{
+    command_line(alloc)?.error(
+        ErrorKind::ValueValidation,
+        "a word of the command line is no UTF-8 text",
+    )
+}
+
+/// The depth that was asked for, or the default.
+fn depth_in(matches: &ArgMatches<'_>) -> u64
+    ensures depth { result ≡ depth_asked (one_text (found_of matches.now) (codes "depth")) }
+    ensures least { 1 ≤ result }
+    ensures most { result ≤ DEPTH_LIMIT }
+{
+    match matches.get_one::<u64>("depth") {
+        Some(depth) if 1 <= depth && depth <= DEPTH_LIMIT => depth,
+        _ => DEFAULT_DEPTH,
+    }
+}
+
+/// The program and its options.
+fn command_line<'a>(alloc: Global) -> Result<Command<'a>, AllocError>
+    ensures { IfOk result (λ c. app_of c ≡ option_app) }
+{
+    let program = Command::new(alloc, "vcdedit")
+        .no_binary_name(true)
+        .version(VERSION)
+        .about(ABOUT)
+        .after_help(AFTER_HELP);
+    program
+        .arg(input_option(alloc))?
+        .arg(script_option(alloc))?
+        .arg(output_option(alloc))?
+        .arg(depth_option(alloc))
+}
+
+fn input_option<'a>(alloc: Global) -> Arg<'a>
+    ensures rule { rule_of result ≡ input_rule }
+    ensures local { result.global ≡ false }
+{
+    Arg::new(alloc, "input-file")
+        .short('i')
+        .long("input-file")
+        .value_name("FILE")
+        .help("The capture to read; without it, or as `-`, standard input")
+}
+
+fn script_option<'a>(alloc: Global) -> Arg<'a>
+    ensures rule { rule_of result ≡ script_rule }
+    ensures local { result.global ≡ false }
+{
+    Arg::new(alloc, "script")
+        .long("script")
+        .value_name("FILE")
+        .help("The script to carry out; without it, the one line `list`")
+}
+
+fn output_option<'a>(alloc: Global) -> Arg<'a>
+    ensures rule { rule_of result ≡ output_rule }
+    ensures local { result.global ≡ false }
+{
+    Arg::new(alloc, "output-file")
+        .short('o')
+        .long("output-file")
+        .value_name("FILE")
+        .help("The VCD file to write when the script has run; without it none is written")
+}
+
+fn depth_option<'a>(alloc: Global) -> Arg<'a>
+    ensures rule { rule_of result ≡ depth_rule }
+    ensures local { result.global ≡ false }
+{
+    Arg::new(alloc, "depth")
+        .long("depth")
+        .value_name("N")
+        .value_parser(ValueParser::unsigned(1, DEPTH_LIMIT))
+        .help("How many steps undo and redo can take, from 1 to 1000 [default: 100]")
+}
