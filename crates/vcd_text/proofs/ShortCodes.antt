@@ -3,7 +3,7 @@ use Rattle.std.proofs.Common.{◌≡◌, ◌⊎◌, inl, inr, ℕ, ◌+◌, ◌-
 use Rattle.std.specs.Prelude.{slice_get, codes}
 use Rattle.vcd_text.specs.declared.reading.variables.Owner.{Owner}
 use Rattle.vcd_text.specs.declared.reading.variables.Owner.TheVariants.{Kept}
-use Rattle.vcd_text.specs.inside.ShortCodes.{HasPlace, Agrees}
+use Rattle.vcd_text.specs.inside.ShortCodes.{HasPlace, TableAgrees}
 
 pub one_code : (a b : List ℕ) (place : ℕ) → HasPlace a place → HasPlace b place → a ≡ b
 one_code [] [] place here there = refl
@@ -26,8 +26,8 @@ place_of_three (k ∷ l ∷ m ∷ []) long short x y z p q r a b c d e f =
 place_of_three (k ∷ l ∷ m ∷ n ∷ ns) long short x y z p q r a b c d e f = absurd (omega arith)
 
 -- a table that agrees still does with one more number
-pub agrees_more : (owner : List ℕ → Option Owner) (old new : List ℕ) (code : List ℕ) (place position : ℕ) → Agrees owner old → HasPlace code place → owner code ≡ Some (Kept position)
-    → ((i n : ℕ) → slice_get new i ≡ Some n → 0 < n → ((i ≡ place) × (n ≡ position + 1)) ⊎ (slice_get old i ≡ Some n)) → Agrees owner new
+pub agrees_more : (owner : List ℕ → Option Owner) (old new : List ℕ) (code : List ℕ) (place position : ℕ) → TableAgrees owner old → HasPlace code place → owner code ≡ Some (Kept position)
+    → ((i n : ℕ) → slice_get new i ≡ Some n → 0 < n → ((i ≡ place) × (n ≡ position + 1)) ⊎ (slice_get old i ≡ Some n)) → TableAgrees owner new
 agrees_more owner old new code place position agrees has owned puts other i n there at some =
     elim (puts i n at some) [
       | inl (same, number) ↦

@@ -11,8 +11,8 @@ HasPlace [] place = place ≡ 0
 HasPlace (b ∷ bs) place = (0 < b) × (b < 128) × ((rest : ℕ) × HasPlace bs rest × (place ≡ b + 128 * rest))
 
 -- a number above 0 at the place of a code is one more than the position that the code stands for
-abbrev pub Agrees : (List ℕ → Option Owner) → List ℕ → Type 0
-Agrees owner table = (code : List ℕ) (place number : ℕ) → HasPlace code place → slice_get table place ≡ Some number → 0 < number → owner code ≡ Some (Kept (number - 1))
+abbrev pub TableAgrees : (List ℕ → Option Owner) → List ℕ → Type 0
+TableAgrees owner table = (code : List ℕ) (place number : ℕ) → HasPlace code place → slice_get table place ≡ Some number → 0 < number → owner code ≡ Some (Kept (number - 1))
 
 -- what a code stands for
 abbrev pub code_owner : {S : Type 0} → IndexMap (Vec ℕ) Owner S → List ℕ → Option Owner

@@ -2,7 +2,7 @@
 
 ghost use Rattle.std.specs.Prelude.{◌≡◌, ◌⊎◌, ◌+◌, ◌<◌, ◌≤◌, ◌^◌, ℕ, List, length, if◌then◌else◌, slice_get, Some, None, IfSome, IfOk, OnOk, bytes_eq};
 ghost use Rattle.vcd_text.specs.declared.reading.variables.Owner.TheVariants.{Kept as KeptAt};
-ghost use Rattle.vcd_text.specs.inside.ShortCodes.{HasPlace, Agrees, code_owner};
+ghost use Rattle.vcd_text.specs.inside.ShortCodes.{HasPlace, TableAgrees, code_owner};
 
 use crate::reading::variables::Owner;
 use indexmap::IndexMap;
@@ -16,7 +16,7 @@ pub struct Owners {
     pub codes: IndexMap<Vec<u8>, Owner>,
     /// At the place of a short code, one more than the position that it stands for; 0 where that is not known.
     pub short: Vec<u32>,
-    ghost agrees: { Agrees (code_owner codes) short.items },
+    ghost agrees: { TableAgrees (code_owner codes) short.items },
 }
 
 impl Owners {
@@ -76,7 +76,7 @@ impl Owners {
 /// The table of the short codes of a map.
 fn table_of(alloc: Global, codes: &IndexMap<Vec<u8>, Owner>) -> Result<Vec<u32>, NoMemory>
     ensures { IfOk result (λ table.
-        Agrees (code_owner codes.now) table.items) }
+        TableAgrees (code_owner codes.now) table.items) }
 {
     let mut table = Vec::new(alloc);
     for index in 0..codes.len() {
@@ -91,8 +91,8 @@ fn enter_at(
     codes: &IndexMap<Vec<u8>, Owner>,
     index: usize,
 ) -> Result<(), NoMemory>
-    requires { Agrees (code_owner codes.now) table.old.items }
-    ensures { OnOk result (Agrees (code_owner codes.now) table.new.items) }
+    requires { TableAgrees (code_owner codes.now) table.old.items }
+    ensures { OnOk result (TableAgrees (code_owner codes.now) table.new.items) }
 {
     let Some((code, _)) = codes.get_index(index) else {
         return Ok(());
@@ -106,9 +106,9 @@ fn enter(
     codes: &IndexMap<Vec<u8>, Owner>,
     code: &[u8],
 ) -> Result<(), NoMemory>
-    requires { Agrees (code_owner codes.now) table.old.items }
+    requires { TableAgrees (code_owner codes.now) table.old.items }
     ensures { OnOk result
-        (Agrees (code_owner codes.now) table.new.items) }
+        (TableAgrees (code_owner codes.now) table.new.items) }
 {
     let Some(place) = short_place(code) else {
         return Ok(());
@@ -152,15 +152,15 @@ fn short_place(code: &[u8]) -> Option<usize>
     ensures few { IfSome result (λ place. place < 2 ^ 32) }
 {
     match code {
-        [a] => Some(digit(*a)?),
-        [a, b] => Some(digit(*a)? + 128 * digit(*b)?),
-        [a, b, c] => Some(digit(*a)? + 128 * (digit(*b)? + 128 * digit(*c)?)),
+        [a] => Some(code_digit(*a)?),
+        [a, b] => Some(code_digit(*a)? + 128 * code_digit(*b)?),
+        [a, b, c] => Some(code_digit(*a)? + 128 * (code_digit(*b)? + 128 * code_digit(*c)?)),
         _ => None,
     }
 }
 
 /// A byte from 1 to 127.
-fn digit(byte: u8) -> Option<usize>
+fn code_digit(byte: u8) -> Option<usize>
     ensures { IfSome result (λ digit. (digit ≡ byte) × (0 < byte) × (byte < 128)) }
 {
     if byte == 0 || byte >= 128 {

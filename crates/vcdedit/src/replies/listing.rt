@@ -19,16 +19,16 @@ pub fn listing_text(alloc: Global, capture: &Capture, skipped: u64) -> Result<Ve
 {
     let signals = capture.signals();
     let mut text = Vec::new(alloc);
-    append_timescale(&mut text, capture.timescale())?;
+    append_timescale_line(&mut text, capture.timescale())?;
     append_number_line(&mut text, b"end".as_slice(), capture.end())?;
     append_number_line(&mut text, b"signals".as_slice(), signals.len() as u64)?;
     append_number_line(&mut text, b"skipped".as_slice(), skipped)?;
-    append_signals(&mut text, signals)?;
+    append_signal_lines(&mut text, signals)?;
     Ok(text)
 }
 
 /// Appends the line of the timescale.
-fn append_timescale(text: &mut Vec<u8>, timescale: Option<Timescale>) -> Result<(), NoMemory>
+fn append_timescale_line(text: &mut Vec<u8>, timescale: Option<Timescale>) -> Result<(), NoMemory>
     ensures { OnOk result (text.new.items ≡
         text.old.items ++ with_line_feed (timescale_line timescale)) }
 {
@@ -75,18 +75,18 @@ fn append_number(text: &mut Vec<u8>, word: &[u8], number: u64) -> Result<(), NoM
 }
 
 /// Appends a line for each signal.
-fn append_signals(text: &mut Vec<u8>, signals: &[Signal]) -> Result<(), NoMemory>
+fn append_signal_lines(text: &mut Vec<u8>, signals: &[Signal]) -> Result<(), NoMemory>
     ensures { OnOk result (text.new.items ≡ text.old.items
         ++ flat_map with_line_feed (signal_lines 0 (map signal_contents signals.now))) }
 {
     for (position, signal) in signals.iter().enumerate() {
-        append_signal(text, position, signal)?;
+        append_signal_line(text, position, signal)?;
     }
     Ok(())
 }
 
 /// Appends the line of the signal at a position.
-fn append_signal(text: &mut Vec<u8>, position: usize, signal: &Signal) -> Result<(), NoMemory>
+fn append_signal_line(text: &mut Vec<u8>, position: usize, signal: &Signal) -> Result<(), NoMemory>
     ensures { OnOk result (text.new.items ≡
         text.old.items ++ with_line_feed (signal_line position (signal_contents signal.now))) }
 {

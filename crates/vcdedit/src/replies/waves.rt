@@ -36,23 +36,23 @@ pub fn changes_text(alloc: Global, capture: &Capture, signal: usize) -> Result<V
         (lines_of (signal_at (contents capture.now) signal).changes)) }
 {
     let mut text = Vec::new(alloc);
-    append_changes(&mut text, capture.signals()[signal].wave.changes())?;
+    append_change_lines(&mut text, capture.signals()[signal].wave.changes())?;
     Ok(text)
 }
 
 /// Appends a line for each change.
-fn append_changes(text: &mut Vec<u8>, changes: &[Change]) -> Result<(), NoMemory>
+fn append_change_lines(text: &mut Vec<u8>, changes: &[Change]) -> Result<(), NoMemory>
     ensures { OnOk result (text.new.items ≡
         text.old.items ++ flat_map with_line_feed (lines_of changes.now)) }
 {
     for change in changes {
-        append_change(text, change)?;
+        append_change_line(text, change)?;
     }
     Ok(())
 }
 
 /// Appends the line of a change.
-fn append_change(text: &mut Vec<u8>, change: &Change) -> Result<(), NoMemory>
+fn append_change_line(text: &mut Vec<u8>, change: &Change) -> Result<(), NoMemory>
     ensures { OnOk result (text.new.items ≡
         text.old.items ++ with_line_feed (change_line change.now)) }
 {

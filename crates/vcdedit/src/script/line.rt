@@ -43,13 +43,13 @@ pub fn parse_line<'a>(line: &'a [u8], capture: &Capture) -> Result<Command<'a>, 
 {
     let mut words = Words::new(line);
     match next_text(&mut words) {
-        Some(first) => parse_words(first, &mut words, capture),
+        Some(first) => parse_first_word(first, &mut words, capture),
         None => Ok(Command::Nothing),
     }
 }
 
-/// Reads the words behind the first.
-fn parse_words<'a>(
+/// Reads the first word, and by it those behind.
+fn parse_first_word<'a>(
     first: &[u8],
     words: &mut Words<'a>,
     capture: &Capture,

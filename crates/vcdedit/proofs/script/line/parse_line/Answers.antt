@@ -26,17 +26,17 @@ unfolding command_of_line
 returns-in-Some-clause-command c =
     let texts : word_texts (words_of c.args.line.now) ≡ c.in-Some.first.now ∷ word_texts c.next_text.new.words =
     ap word_texts (sym c.new-words.ensures.words) ∙ c.in-Some.ensures in
-    read_command (command_of_words (contents c.args.capture.now) (word_texts (words_of c.args.line.now))) c.parse_words.result
-    (subst (λ words. ReadsAs (command_of_words (contents c.args.capture.now) words) c.parse_words.result) (sym texts) c.parse_words.ensures)
+    read_command (command_of_words (contents c.args.capture.now) (word_texts (words_of c.args.line.now))) c.parse_first_word.result
+    (subst (λ words. ReadsAs (command_of_words (contents c.args.capture.now) words) c.parse_first_word.result) (sym texts) c.parse_first_word.ensures)
 
 pub returns-in-Some-clause-fault : goal.returns-in-Some-clause-fault
 unfolding command_of_line
 returns-in-Some-clause-fault c =
     let texts : word_texts (words_of c.args.line.now) ≡ c.in-Some.first.now ∷ word_texts c.next_text.new.words =
     ap word_texts (sym c.new-words.ensures.words) ∙ c.in-Some.ensures in
-    read_fault (command_of_words (contents c.args.capture.now) (word_texts (words_of c.args.line.now))) c.parse_words.result
-    (subst (λ words. ReadsAs (command_of_words (contents c.args.capture.now) words) c.parse_words.result) (sym texts) c.parse_words.ensures)
+    read_fault (command_of_words (contents c.args.capture.now) (word_texts (words_of c.args.line.now))) c.parse_first_word.result
+    (subst (λ words. ReadsAs (command_of_words (contents c.args.capture.now) words) c.parse_first_word.result) (sym texts) c.parse_first_word.ensures)
 
 pub returns-in-Some-clause-signals : goal.returns-in-Some-clause-signals
 returns-in-Some-clause-signals c =
-    read_has_its_signals c.args.capture.now c.args.line.now c.parse_words.result (returns-in-Some-clause-command c)
+    read_has_its_signals c.args.capture.now c.args.line.now c.parse_first_word.result (returns-in-Some-clause-command c)
