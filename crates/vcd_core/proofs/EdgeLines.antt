@@ -6,7 +6,7 @@ use Rattle.vcd_core.specs.declared.bit.Bit.{Bit}
 use Rattle.vcd_core.specs.declared.wave.Change.{Change}
 use Rattle.vcd_core.specs.Value.{same_letters}
 use Rattle.vcd_core.specs.inside.ValueLaws.{same_letters-Decides}
-use Rattle.vcd_core.specs.Wave.{value_from, ChangesFrom, AllUpTo, last_value}
+use Rattle.vcd_core.specs.Wave.{value_from, AreChangesFrom, AllUpTo, last_value}
 use Rattle.vcd_core.specs.Edges.{Trace, value_on, value_before, same_value, changes_at}
 use Rattle.vcd_core.specs.inside.EdgeWalk.{next_tick, trace_past, Rises}
 use Rattle.vcd_core.proofs.Waves.{value_past, value_early, lower_floor}
@@ -69,7 +69,7 @@ after_rises (Some v) (c ∷ cs) t (from, other, wide, rest) = choose (c.tick == 
     choose : (b : Bool) → (c.tick == t) ≡ b → Rises (suc t) (if b then line (Some c.value) cs else line (Some v) (c ∷ cs))
     choose true e =
         let here : c.tick ≡ t = (Decides-eqb c.tick t).0 e in
-        subst (λ u. ChangesFrom u c.value cs) (add-one c.tick ∙ ap suc here) rest
+        subst (λ u. AreChangesFrom u c.value cs) (add-one c.tick ∙ ap suc here) rest
     choose false e =
         let apart : c.tick ≢ t = λ here. let both : true ≡ false = sym ((Decides-eqb c.tick t).1 here) ∙ e in absurd (cc) in
         (omega arith, other, wide, rest)

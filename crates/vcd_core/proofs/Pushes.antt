@@ -8,17 +8,17 @@ use Rattle.vcd_core.specs.declared.bit.Bit.{Bit}
 use Rattle.vcd_core.specs.declared.wave.Change.{Change}
 use Rattle.vcd_core.specs.Value.{all_x, same_letters}
 use Rattle.vcd_core.specs.inside.ValueLaws.{same_letters-Decides}
-use Rattle.vcd_core.specs.Wave.{change, value_from, value_at, ChangesFrom, IsWave, AllUpTo, last_value, changes_before, changes_after_push}
+use Rattle.vcd_core.specs.Wave.{change, value_from, value_at, AreChangesFrom, IsWave, AllUpTo, last_value, changes_before, changes_after_push}
 use Rattle.vcd_core.proofs.Waves.{value_from-append, value_past, value_skip, value_early}
 
 -- ---- ticks by position
 
-floor_below : (floor : ℕ) (before : List Bit) (cs : List Change) → ChangesFrom floor before cs → (k : ℕ) (d : Change) → k < length cs → floor ≤ (get_or cs k d).tick
+floor_below : (floor : ℕ) (before : List Bit) (cs : List Change) → AreChangesFrom floor before cs → (k : ℕ) (d : Change) → k < length cs → floor ≤ (get_or cs k d).tick
 floor_below floor before [] rise k d within = absurd (omega arith)
 floor_below floor before (c ∷ cs) rise zero d within = rise.0
 floor_below floor before (c ∷ cs) rise (suc k) d within = omega (arith, rise.0, floor_below (c.tick + 1) c.value cs rise.3 k d (omega arith))
 
-pub ticks_rise : (floor : ℕ) (before : List Bit) (cs : List Change) → ChangesFrom floor before cs → (i j : ℕ) (d : Change) → i < j → j < length cs → (get_or cs i d).tick < (get_or cs j d).tick
+pub ticks_rise : (floor : ℕ) (before : List Bit) (cs : List Change) → AreChangesFrom floor before cs → (i j : ℕ) (d : Change) → i < j → j < length cs → (get_or cs i d).tick < (get_or cs j d).tick
 ticks_rise floor before [] rise i j d less within = absurd (omega arith)
 ticks_rise floor before (c ∷ cs) rise i zero d less within = absurd (omega arith)
 ticks_rise floor before (c ∷ cs) rise zero (suc j) d less within = omega (arith, floor_below (c.tick + 1) c.value cs rise.3 j d (omega arith))
@@ -75,7 +75,7 @@ count_is p (c ∷ cs) (suc n) d within passes fails =
 -- ---- values before and after a tick
 
 -- the value at a tick is the last of the changes at or before it
-pub value_at_count : (cs : List Change) (n t : ℕ) (floor : ℕ) (before kept : List Bit) (d : Change) → ChangesFrom floor kept cs → n ≤ length cs
+pub value_at_count : (cs : List Change) (n t : ℕ) (floor : ℕ) (before kept : List Bit) (d : Change) → AreChangesFrom floor kept cs → n ≤ length cs
     → ((k : ℕ) → k < n → (get_or cs k d).tick ≤ t) → (n < length cs → t < (get_or cs n d).tick) → value_from before cs t ≡ last_value before (take n cs)
 unfolding value_from last_value
 value_at_count [] zero t floor before kept d rise within early late = refl
@@ -87,7 +87,7 @@ value_at_count (c ∷ cs) (suc n) t floor before kept d rise within early late =
     ∙ value_at_count cs n t (c.tick + 1) c.value c.value d rise.3 (omega arith) (λ k l. early (suc k) (omega arith)) (λ l. late (omega arith))
 
 -- before the tick the changes before it tell the value
-pub kept_value : (floor tick t : ℕ) (kept before : List Bit) (cs : List Change) → ChangesFrom floor kept cs → t < tick
+pub kept_value : (floor tick t : ℕ) (kept before : List Bit) (cs : List Change) → AreChangesFrom floor kept cs → t < tick
     → value_from before cs t ≡ value_from before (changes_before tick cs) t
 unfolding value_from
 kept_value floor tick t kept before [] rise early = refl
@@ -112,7 +112,7 @@ kept_last tick t before (c ∷ cs) later =
       | inr outside ↦ rw before_out refl
     ]
 
-kept_rise : (floor tick : ℕ) (before : List Bit) (cs : List Change) → ChangesFrom floor before cs → ChangesFrom floor before (changes_before tick cs)
+kept_rise : (floor tick : ℕ) (before : List Bit) (cs : List Change) → AreChangesFrom floor before cs → AreChangesFrom floor before (changes_before tick cs)
 kept_rise floor tick before [] rise = tt
 kept_rise floor tick before (c ∷ cs) (from, other, wide, rest) =
     elim (cases_lt c.tick tick) [
@@ -121,8 +121,8 @@ kept_rise floor tick before (c ∷ cs) (from, other, wide, rest) =
     ]
 
 -- a value that differs from the last of them may be put behind
-added_rise : (floor tick : ℕ) (before value : List Bit) (cs : List Change) → ChangesFrom floor before cs → floor ≤ tick → length value ≡ length before
-    → value ≢ last_value before (changes_before tick cs) → ChangesFrom floor before (changes_before tick cs ++ change tick value ∷ [])
+added_rise : (floor tick : ℕ) (before value : List Bit) (cs : List Change) → AreChangesFrom floor before cs → floor ≤ tick → length value ≡ length before
+    → value ≢ last_value before (changes_before tick cs) → AreChangesFrom floor before (changes_before tick cs ++ change tick value ∷ [])
 unfolding last_value
 added_rise floor tick before value [] rise at wide differs = (at, differs, wide, tt)
 added_rise floor tick before value (c ∷ cs) (from, other, same, rest) at wide differs =
@@ -187,7 +187,7 @@ value_at-pushed width cs tick value t is =
     ]
 
 -- at the tick, either the value is the last of them, or a change stands there
-pub last_before : (floor tick : ℕ) (kept before : List Bit) (cs : List Change) → ChangesFrom floor kept cs → AllUpTo tick cs
+pub last_before : (floor tick : ℕ) (kept before : List Bit) (cs : List Change) → AreChangesFrom floor kept cs → AllUpTo tick cs
     → (value_from before cs tick ≡ last_value before (changes_before tick cs)) ⊎ (changes_before tick cs ≢ cs)
 unfolding value_from last_value
 last_before floor tick kept before [] rise upto = inl refl
@@ -277,20 +277,20 @@ upto_lower low high [] le upto = tt
 upto_lower low high (c ∷ cs) le (first, rest) = (omega arith, upto_lower low high cs le rest)
 
 -- the ticks of a rising list are at most that of the last change
-upto_last : (floor : ℕ) (before : List Bit) (rest : List Change) (last : Change) → ChangesFrom floor before (rest ++ last ∷ []) → AllUpTo last.tick (rest ++ last ∷ [])
+upto_last : (floor : ℕ) (before : List Bit) (rest : List Change) (last : Change) → AreChangesFrom floor before (rest ++ last ∷ []) → AllUpTo last.tick (rest ++ last ∷ [])
 upto_last floor before [] last rise = (omega arith, tt)
 upto_last floor before (c ∷ rest) last rise =
     let later = upto_last (c.tick + 1) c.value rest last rise.3 in
     (omega (arith, rise_to_last (c.tick + 1) c.value rest last rise.3), later)
   where
-    rise_to_last : (floor : ℕ) (before : List Bit) (rest : List Change) (last : Change) → ChangesFrom floor before (rest ++ last ∷ []) → floor ≤ last.tick
+    rise_to_last : (floor : ℕ) (before : List Bit) (rest : List Change) (last : Change) → AreChangesFrom floor before (rest ++ last ∷ []) → floor ≤ last.tick
     rise_to_last floor before [] last rise = rise.0
     rise_to_last floor before (c ∷ rest) last rise = omega (arith, rise.0, rise_to_last (c.tick + 1) c.value rest last rise.3)
 
 -- so the last tick tells whether all are up to the end
-pub upto_from_last : (floor : ℕ) (before : List Bit) (end : ℕ) (cs rest : List Change) (last : Change) → ChangesFrom floor before cs → cs ≡ rest ++ last ∷ [] → last.tick ≤ end → AllUpTo end cs
+pub upto_from_last : (floor : ℕ) (before : List Bit) (end : ℕ) (cs rest : List Change) (last : Change) → AreChangesFrom floor before cs → cs ≡ rest ++ last ∷ [] → last.tick ≤ end → AllUpTo end cs
 upto_from_last floor before end cs rest last rise split le =
-    subst (AllUpTo end) (sym split) (upto_lower last.tick end _ le (upto_last floor before rest last (subst (ChangesFrom floor before) split rise)))
+    subst (AllUpTo end) (sym split) (upto_lower last.tick end _ le (upto_last floor before rest last (subst (AreChangesFrom floor before) split rise)))
 
 pub last_upto : (end : ℕ) (cs rest : List Change) (last : Change) → cs ≡ rest ++ last ∷ [] → AllUpTo end cs → last.tick ≤ end
 last_upto end cs rest last split upto = reach rest (subst (AllUpTo end) split upto)

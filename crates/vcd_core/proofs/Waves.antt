@@ -6,7 +6,7 @@ use Rattle.vcd_core.specs.declared.bit.Bit.{Bit}
 use Rattle.vcd_core.specs.declared.wave.Change.{Change}
 use Rattle.vcd_core.specs.Value.{all_x, same_letters}
 use Rattle.vcd_core.specs.inside.ValueLaws.{same_letters-Decides}
-use Rattle.vcd_core.specs.Wave.{change, value_from, value_at, unless_same, changes_from, changes_of, ChangesFrom, IsWave, AllUpTo}
+use Rattle.vcd_core.specs.Wave.{change, value_from, value_at, unless_same, changes_from, changes_of, AreChangesFrom, IsWave, AllUpTo}
 
 -- ---- the value at a tick
 
@@ -26,7 +26,7 @@ unfolding value_from
 value_skip before c cs t early = ap (λ b. value_from (if b then c.value else before) cs t) (lt-leb c.tick t early)
 
 -- before the first change the value is the one before the list
-pub value_early : (before kept : List Bit) (cs : List Change) (floor t : ℕ) → ChangesFrom floor kept cs → t < floor → value_from before cs t ≡ before
+pub value_early : (before kept : List Bit) (cs : List Change) (floor t : ℕ) → AreChangesFrom floor kept cs → t < floor → value_from before cs t ≡ before
 unfolding value_from
 value_early before kept [] floor t rise early = refl
 value_early before kept (c ∷ cs) floor t (from, other, wide, rest) early =
@@ -45,7 +45,7 @@ put_cases P v before c cs same other = choose (same_letters v before) refl
 
 -- a canonical list with the values of f is the list of changes of f
 pub changes_are : (before : List Bit) (t n end : ℕ) (cs : List Change) (f : ℕ → List Bit)
-    → t + n ≡ suc end → ChangesFrom t before cs → AllUpTo end cs → ((s : ℕ) → t ≤ s → s ≤ end → value_from before cs s ≡ f s)
+    → t + n ≡ suc end → AreChangesFrom t before cs → AllUpTo end cs → ((s : ℕ) → t ≤ s → s ≤ end → value_from before cs s ≡ f s)
     → cs ≡ changes_from before t n f
 unfolding changes_from value_from
 changes_are before t zero end [] f all rise upto same = refl
@@ -61,7 +61,7 @@ changes_are before t (suc n) end (c ∷ cs) f all (from, other, wide, rest) (wit
           let value : c.value ≡ f t =
           sym (value_past before c cs t (omega arith) ∙ value_early c.value c.value cs (c.tick + 1) t rest (omega arith)) ∙ same t (omega arith) (omega arith) in
           let head : c ≡ change t (f t) = λ i. record { tick = sym at i; value = value i } in
-          let rest_at : ChangesFrom (suc t) c.value cs = subst (λ u. ChangesFrom u c.value cs) (add-one c.tick ∙ ap suc (sym at)) rest in
+          let rest_at : AreChangesFrom (suc t) c.value cs = subst (λ u. AreChangesFrom u c.value cs) (add-one c.tick ∙ ap suc (sym at)) rest in
           let tail : cs ≡ changes_from (f t) (suc t) n f =
           subst (λ b. cs ≡ changes_from b (suc t) n f) value (changes_are c.value (suc t) n end cs f (omega arith) rest_at upto
           (λ s later to. sym (value_past before c cs s (omega arith)) ∙ same s (omega arith) to)) in
@@ -120,19 +120,19 @@ pub value_at-changes_of : (width end t : ℕ) (f : ℕ → List Bit) → t ≤ e
 value_at-changes_of width end t f to = values_from (all_x width) 0 (suc end) t f (omega arith) (omega arith)
 
 -- the floor of a list may be lowered
-pub lower_floor : (low high : ℕ) (before : List Bit) (cs : List Change) → low ≤ high → ChangesFrom high before cs → ChangesFrom low before cs
+pub lower_floor : (low high : ℕ) (before : List Bit) (cs : List Change) → low ≤ high → AreChangesFrom high before cs → AreChangesFrom low before cs
 lower_floor low high before [] le rise = tt
 lower_floor low high before (c ∷ cs) le (from, other, wide, rest) = (omega arith, other, wide, rest)
 
 changes_rise_from : (width : ℕ) (before : List Bit) (t n : ℕ) (f : ℕ → List Bit) → length before ≡ width → ((s : ℕ) → length (f s) ≡ width)
-    → ChangesFrom t before (changes_from before t n f)
+    → AreChangesFrom t before (changes_from before t n f)
 unfolding changes_from
 changes_rise_from width before t zero f long wide = tt
 changes_rise_from width before t (suc n) f long wide =
     let rest = changes_rise_from width (f t) (suc t) n f (wide t) wide in
-    put_cases (λ l. ChangesFrom t before l) (f t) before (change t (f t)) (changes_from (f t) (suc t) n f)
-    (λ equal. lower_floor t (suc t) before _ (omega arith) (subst (λ b. ChangesFrom (suc t) b (changes_from (f t) (suc t) n f)) equal rest))
-    (λ other. (omega arith, other, wide t ∙ sym long, subst (λ u. ChangesFrom u (f t) (changes_from (f t) (suc t) n f)) (sym (add-one t)) rest))
+    put_cases (λ l. AreChangesFrom t before l) (f t) before (change t (f t)) (changes_from (f t) (suc t) n f)
+    (λ equal. lower_floor t (suc t) before _ (omega arith) (subst (λ b. AreChangesFrom (suc t) b (changes_from (f t) (suc t) n f)) equal rest))
+    (λ other. (omega arith, other, wide t ∙ sym long, subst (λ u. AreChangesFrom u (f t) (changes_from (f t) (suc t) n f)) (sym (add-one t)) rest))
 
 -- the changes of f are a wave, where its values have the width
 pub changes_rise : (width end : ℕ) (f : ℕ → List Bit) → ((s : ℕ) → length (f s) ≡ width) → IsWave width (changes_of width end f)

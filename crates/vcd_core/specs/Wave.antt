@@ -32,13 +32,13 @@ abbrev pub changes_of : ℕ → ℕ → (ℕ → List Bit) → List Change
 changes_of width end f = changes_from (all_x width) 0 (suc end) f
 
 -- ticks rise strictly from `floor` on, and each value differs from the one before it, with the same width
-abbrev pub ChangesFrom : ℕ → List Bit → List Change → Type 0
-ChangesFrom floor before [] = Unit {0}
-ChangesFrom floor before (c ∷ cs) = (floor ≤ c.tick) × (c.value ≢ before) × (length c.value ≡ length before) × ChangesFrom (c.tick + 1) c.value cs
+abbrev pub AreChangesFrom : ℕ → List Bit → List Change → Type 0
+AreChangesFrom floor before [] = Unit {0}
+AreChangesFrom floor before (c ∷ cs) = (floor ≤ c.tick) × (c.value ≢ before) × (length c.value ≡ length before) × AreChangesFrom (c.tick + 1) c.value cs
 
 -- a change list in the one form that a wave of this width has
 pub record IsWave (width : ℕ) (changes : List Change) : Type 0 where
-  pub rise : ChangesFrom 0 (all_x width) changes
+  pub rise : AreChangesFrom 0 (all_x width) changes
 
 -- no change is past the tick `end`
 abbrev pub AllUpTo : ℕ → List Change → Type 0

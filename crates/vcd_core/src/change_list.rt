@@ -2,7 +2,7 @@
 
 ghost use Rattle.std.specs.Prelude.{◌≡◌, ◌≢◌, ℕ, List, ◌<◌, ◌≤◌, ◌↔◌, IsTrue, length, All, IsOk, OnOk, OnErr, vec_len, vec_capacity};
 ghost use Rattle.vcd_core.specs.Value.{all_x, same_letters};
-ghost use Rattle.vcd_core.specs.Wave.{last_value, ChangesFrom, IsWave, AllUpTo, changes_before, changes_after_push};
+ghost use Rattle.vcd_core.specs.Wave.{last_value, AreChangesFrom, IsWave, AllUpTo, changes_before, changes_after_push};
 ghost use Rattle.vcd_core.specs.declared.bit.Bit.{Bit as BitLetter};
 
 use crate::bit::Bit;
@@ -11,7 +11,7 @@ use crate::value::{Value, WIDTH_LIMIT};
 use crate::wave::Change;
 
 /// The value after all changes: all x where there are none.
-pub fn value_at_end(changes: &[Change], width: u64) -> Value
+pub fn last_value(changes: &[Change], width: u64) -> Value
     requires least { 1 ≤ width }
     requires most { width ≤ WIDTH_LIMIT }
     ensures { result ≡ last_value (all_x width) changes.now }
@@ -24,7 +24,7 @@ pub fn value_at_end(changes: &[Change], width: u64) -> Value
 
 /// Whether no change is past the tick `end`: the last one tells.
 pub fn ends_by(changes: &[Change], end: u64) -> bool
-    requires { (floor : ℕ) × (before : List BitLetter) × ChangesFrom floor before changes.now }
+    requires { (floor : ℕ) × (before : List BitLetter) × AreChangesFrom floor before changes.now }
     ensures { IsTrue result ↔ AllUpTo end changes.now }
 {
     match changes.split_last() {

@@ -32,7 +32,7 @@ pub use capture::{
     Capture, END_LIMIT, Header, HeaderKind, SIGNAL_LIMIT, ScopeName, ScopePath, Signal, TimeUnit,
     Timescale, Word,
 };
-pub use change_list::{ends_by, value_at_end};
+pub use change_list::{ends_by, last_value};
 pub use copies::{copy_scopes, copy_word, copy_words};
 pub use decimal::number_up_to;
 pub use device::{

@@ -3,7 +3,7 @@ ghost use Rattle.vcd_core.specs.Wave.{value_at, IsWave, changes_after_push};
 ghost use Rattle.vcd_core.specs.WordRows.{letters_of};
 ghost use Rattle.vcd_core.specs.Splice.{TicksFit, spliced_changes};
 
-use crate::change_list::{push_change, value_at_end};
+use crate::change_list::{last_value, push_change};
 use crate::memory::NoMemory;
 use crate::searching::count_near;
 use crate::splicing::splice_changes;
@@ -86,7 +86,7 @@ impl Wave {
         ensures { result ≡ value_at self.now.width self.now.changes tick }
     {
         let count = self.changes.partition_point(|change| change.tick <= tick);
-        value_at_end(&self.changes[..count], self.width)
+        last_value(&self.changes[..count], self.width)
     }
 
     /// How many changes have a smaller tick, by a search by halves.

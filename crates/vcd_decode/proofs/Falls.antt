@@ -8,7 +8,7 @@ use Rattle.vcd_core.specs.declared.bit.Bit.{Bit}
 use Rattle.vcd_core.specs.declared.bit.Bit.TheVariants.{Zero, One, X, Z}
 use Rattle.vcd_core.specs.declared.wave.Change.{Change}
 use Rattle.vcd_core.specs.Value.{letter_at, all_x}
-use Rattle.vcd_core.specs.Wave.{value_from, ChangesFrom, IsWave, AllUpTo}
+use Rattle.vcd_core.specs.Wave.{value_from, AreChangesFrom, IsWave, AllUpTo}
 use Rattle.vcd_core.specs.WaveView.{WaveView}
 use Rattle.vcd_core.proofs.Waves.{value_past, value_early}
 use Rattle.vcd_decode.specs.declared.annotation.Annotation.{Annotation}
@@ -34,7 +34,7 @@ never_both Z = refl
 
 -- the falls from a tick on are the changes from 1 to 0 there
 falls_from : (before : List Bit) (t n end : ℕ) (cs : List Change) (f : ℕ → Bit)
-    → t + n ≡ suc end → ChangesFrom t before cs → AllUpTo end cs → ((s : ℕ) → t ≤ s → f s ≡ letter_at (value_from before cs s) 0)
+    → t + n ≡ suc end → AreChangesFrom t before cs → AllUpTo end cs → ((s : ℕ) → t ≤ s → f s ≡ letter_at (value_from before cs s) 0)
     → letter_before f t ≡ letter_at before 0
     → filter (is_fall f) (range_with_len t n) ≡ fall_ticks (letter_at before 0) cs
 unfolding fall_ticks value_from
@@ -51,7 +51,7 @@ falls_from before t (suc n) end (c ∷ cs) f all (from, other, wide, rest) (with
           value_past before c cs t (omega arith) ∙ value_early c.value c.value cs (c.tick + 1) t rest (omega arith) in
           let here : f t ≡ letter_of c = same t (omega arith) ∙ ap (λ (v : List Bit). letter_at v 0) value in
           let fall : is_fall f t ≡ is_one (letter_at before 0) && is_zero (letter_of c) = λ i. is_one (start i) && is_zero (here i) in
-          let rest_at : ChangesFrom (t + 1) c.value cs = subst (λ u. ChangesFrom (u + 1) c.value cs) (sym at) rest in
+          let rest_at : AreChangesFrom (t + 1) c.value cs = subst (λ u. AreChangesFrom (u + 1) c.value cs) (sym at) rest in
           let later = falls_from c.value (t + 1) n end cs f (omega arith) rest_at upto
           (λ s from'. same s (omega arith) ∙ ap (λ (v : List Bit). letter_at v 0) (value_past before c cs s (omega arith)))
           (ap (letter_before f) (add-one t) ∙ here) in

@@ -8,7 +8,7 @@ use Rattle.vcd_core.specs.declared.wave.Change.{Change}
 use Rattle.vcd_core.specs.declared.bit.Bit.TheVariants.{X}
 use Rattle.vcd_core.specs.Value.{all_x, letter_at}
 use Rattle.vcd_core.specs.WaveView.{WaveView}
-use Rattle.vcd_core.specs.Wave.{value_from, last_value, ChangesFrom, IsWave, AllUpTo}
+use Rattle.vcd_core.specs.Wave.{value_from, last_value, AreChangesFrom, IsWave, AllUpTo}
 use Rattle.vcd_core.proofs.Waves.{value_past, value_skip, value_early}
 use Rattle.vcd_core.proofs.Pushes.{last_value-none}
 use Rattle.vcd_decode.specs.Lines.{line_of}
@@ -18,14 +18,14 @@ abbrev pub is_up_to : ℕ → Change → Bool
 is_up_to t c = nat_le c.tick t
 
 -- none is, where the first comes later
-none_up_to : (cs : List Change) (t floor : ℕ) (before : List Bit) → ChangesFrom floor before cs → t < floor → count_by (is_up_to t) cs ≡ 0
+none_up_to : (cs : List Change) (t floor : ℕ) (before : List Bit) → AreChangesFrom floor before cs → t < floor → count_by (is_up_to t) cs ≡ 0
 none_up_to [] t floor before rise early = refl
 none_up_to (c ∷ cs) t floor before rise early =
     sum_by-cons (λ x. cond (is_up_to t x) 1 0) c cs
     ∙ (λ i. cond (lt-leb c.tick t (omega arith) i) 1 0 + none_up_to cs t (c.tick + 1) c.value rise.3 (omega arith) i)
 
 -- the value at a tick is the last of the changes that are at or before it
-pub value_counted : (cs : List Change) (t floor : ℕ) (before kept : List Bit) → ChangesFrom floor kept cs → value_from before cs t ≡ last_value before (take (count_by (is_up_to t) cs) cs)
+pub value_counted : (cs : List Change) (t floor : ℕ) (before kept : List Bit) → AreChangesFrom floor kept cs → value_from before cs t ≡ last_value before (take (count_by (is_up_to t) cs) cs)
 unfolding value_from last_value
 value_counted [] t floor before kept rise = refl
 value_counted (c ∷ cs) t floor before kept rise =
@@ -39,7 +39,7 @@ value_counted (c ∷ cs) t floor before kept rise =
           value_past before c cs t past ∙ value_counted cs t (c.tick + 1) c.value c.value rise.3 ∙ ap (λ n. last_value before (take n (c ∷ cs))) (sym one)
     ]
 
-wide_from : (floor : ℕ) (before : List Bit) (cs : List Change) (i : ℕ) (d : Change) → ChangesFrom floor before cs → i < length cs
+wide_from : (floor : ℕ) (before : List Bit) (cs : List Change) (i : ℕ) (d : Change) → AreChangesFrom floor before cs → i < length cs
     → length (get_or cs i d).value ≡ length before
 wide_from floor before [] i d rise within = absurd (omega (arith, within))
 wide_from floor before (c ∷ cs) zero d rise within = rise.2

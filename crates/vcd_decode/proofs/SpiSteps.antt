@@ -16,7 +16,7 @@ use Rattle.vcd_decode.specs.Lines.{line_of, letter_before, is_zero, is_one}
 use Rattle.vcd_decode.specs.Spi.{samples_rise, has_edge, is_selected, line_data, group_start, group_told, segment_told, spi_annotations}
 use Rattle.vcd_decode.specs.inside.LineEdges.{lines_of, line_edge}
 use Rattle.vcd_decode.specs.inside.SpiClock.{passes, samples}
-use Rattle.vcd_decode.specs.inside.SpiGroup.{line_bit, first_data, data_after, group_before, group_after, word_note}
+use Rattle.vcd_decode.specs.inside.SpiGroup.{line_bit, first_data, data_after, group_before, group_after, word_annotation}
 use Rattle.vcd_decode.specs.inside.SpiWalk.{selects, deselects, is_sampling, rest_told, edge_told, edge_group, group_of, edge_marks, marks_told, HasRoomForBit, SpiSoFar}
 use Rattle.vcd_decode.proofs.Groups.{groups_none, groups_whole}
 use Rattle.vcd_decode.proofs.EdgeTicks.{each_edge, over_edges}
@@ -44,7 +44,7 @@ module _ (u : SpiSetup) (some : 0 < u.bits) (mosi miso : Option (ℕ → Bit)) w
     pub group : (if divides then group_before (group_of u mosi miso ts)
         else (if not reads then group_of u mosi miso ts else (if nat_lt (length ts + 1) u.bits then longer else group_before longer))) ≡ group_of u mosi miso after
     pub told : (if divides then rest_told (group_of u mosi miso ts)
-        else (if not reads then [] else (if nat_lt (length ts + 1) u.bits then [] else word_note longer ∷ []))) ++ marks_told u mosi miso after marks
+        else (if not reads then [] else (if nat_lt (length ts + 1) u.bits then [] else word_annotation longer ∷ []))) ++ marks_told u mosi miso after marks
         ≡ marks_told u mosi miso ts ((if divides then None ∷ [] else (if reads then Some t ∷ [] else [])) ++ marks)
 
   goes : (divides reads : Bool) (longer : Group) (t : ℕ) (ts : List ℕ) (marks : List (Option ℕ)) → length ts < u.bits → longer ≡ group_of u mosi miso (ts ++ t ∷ []) → Goes divides reads longer t ts marks
@@ -74,7 +74,7 @@ module _ (u : SpiSetup) (some : 0 < u.bits) (mosi miso : Option (ℕ → Bit)) w
               short = some;
               group = rw test (ap group_before is ∙ group_none u mosi miso (ts ++ t ∷ []));
               told = rw test (
-                  ap (λ g. word_note g ∷ marks_told u mosi miso [] marks) is
+                  ap (λ g. word_annotation g ∷ marks_told u mosi miso [] marks) is
                   ∙ ap (λ a. a ∷ marks_told u mosi miso [] marks) (sym (word_is u mosi miso (ts ++ t ∷ []) whole))
                   ∙ sym (word_first (ts ++ t ∷ []) [] marks whole)
                   ∙ ap (λ us. marks_told u mosi miso us marks) (append-nil (ts ++ t ∷ []))

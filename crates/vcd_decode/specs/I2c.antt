@@ -10,7 +10,7 @@ use Rattle.vcd_decode.specs.declared.i2c_bus.events.BusEvent.{BusEvent}
 use Rattle.vcd_decode.specs.declared.i2c_bus.events.BusEvent.TheVariants as events
 use Rattle.vcd_decode.specs.declared.i2c_bus.bytes.ByteRole.{ByteRole}
 use Rattle.vcd_decode.specs.declared.i2c_bus.bytes.ByteRole.TheVariants as roles
-use Rattle.vcd_decode.specs.Lines.{note}
+use Rattle.vcd_decode.specs.Lines.{annotation}
 use Rattle.vcd_decode.specs.Groups.{groups_of}
 use Rattle.vcd_decode.specs.BusEvents.{bus_events}
 use Rattle.vcd_decode.specs.BusBytes.{number_of_bits, byte_kind, role_after, acknowledge_kind, ten_bit_address}
@@ -22,25 +22,25 @@ abbrev pub ticks_of : List BusBit → List ℕ
 ticks_of bits = map (λ b. b.tick) bits
 
 -- an annotation from the first to the last tick of bits
-abbrev pub bits_note : List BusBit → Kind → Annotation
-bits_note bits kind = note (slice_index (ticks_of bits) 0) (slice_index (ticks_of bits) (length bits - 1)) kind
+abbrev pub bits_annotation : List BusBit → Kind → Annotation
+bits_annotation bits kind = annotation (slice_index (ticks_of bits) 0) (slice_index (ticks_of bits) (length bits - 1)) kind
 
 -- the byte of a nine and its acknowledge
-abbrev pub byte_notes : ByteRole → List BusBit → List Annotation
-byte_notes role nine =
-    bits_note (take 8 nine) (byte_kind role (number_of_bits (take 8 nine)))
-    ∷ bits_note (drop 8 nine) (acknowledge_kind (number_of_bits (drop 8 nine))) ∷ []
+abbrev pub byte_annotations : ByteRole → List BusBit → List Annotation
+byte_annotations role nine =
+    bits_annotation (take 8 nine) (byte_kind role (number_of_bits (take 8 nine)))
+    ∷ bits_annotation (drop 8 nine) (acknowledge_kind (number_of_bits (drop 8 nine))) ∷ []
 
 -- a rest: at least two bits that a condition ends, the rise of SCL before that condition among them
-abbrev pub rest_notes : Bool → List BusBit → List Annotation
-rest_notes ended rest = if ended && nat_le 2 (length rest) then bits_note rest (kinds.PartialOf (length rest)) ∷ [] else []
+abbrev pub rest_annotations : Bool → List BusBit → List Annotation
+rest_annotations ended rest = if ended && nat_le 2 (length rest) then bits_annotation rest (kinds.PartialOf (length rest)) ∷ [] else []
 
 -- the bits of a stretch, cut into nines: a byte and its acknowledge each, and a rest
-unfoldable pub nines_notes : Bool → ByteRole → List (List BusBit) → List Annotation
-nines_notes ended role [] = []
-nines_notes ended role (nine ∷ nines) =
-    if length nine == 9 then byte_notes role nine ++ nines_notes ended (role_after role (number_of_bits (take 8 nine))) nines
-    else rest_notes ended nine
+unfoldable pub nines_annotations : Bool → ByteRole → List (List BusBit) → List Annotation
+nines_annotations ended role [] = []
+nines_annotations ended role (nine ∷ nines) =
+    if length nine == 9 then byte_annotations role nine ++ nines_annotations ended (role_after role (number_of_bits (take 8 nine))) nines
+    else rest_annotations ended nine
 
 -- ---- a whole bus
 
@@ -69,14 +69,14 @@ start_kind None = kinds.Start
 start_kind (Some given) = kinds.RepeatedStart
 
 -- the annotations of conditions and bits, where the last condition before them was a START (with the address of ten bits that came since) or none
-unfoldable pub events_notes : Option (Option ℕ) → List BusEvent → List Annotation
-events_notes last [] = []
-events_notes last (events.Bit b ∷ es) = events_notes last es
-events_notes last (events.Stop t ∷ es) = note t t kinds.Stop ∷ events_notes None es
-events_notes last (events.Start t ∷ es) =
-    let shown = nines_notes (has_condition es) (roles.Address (option_flatten last)) (groups_of 9 (bits_until es)) in
-    note t t (start_kind last) ∷ shown ++ events_notes (Some (shown_address shown)) es
+unfoldable pub events_annotations : Option (Option ℕ) → List BusEvent → List Annotation
+events_annotations last [] = []
+events_annotations last (events.Bit b ∷ es) = events_annotations last es
+events_annotations last (events.Stop t ∷ es) = annotation t t kinds.Stop ∷ events_annotations None es
+events_annotations last (events.Start t ∷ es) =
+    let shown = nines_annotations (has_condition es) (roles.Address (option_flatten last)) (groups_of 9 (bits_until es)) in
+    annotation t t (start_kind last) ∷ shown ++ events_annotations (Some (shown_address shown)) es
 
 -- the annotations of the lines SCL and SDA at the ticks 0 to `end`
 abbrev pub i2c_annotations : (ℕ → Bit) → (ℕ → Bit) → ℕ → List Annotation
-i2c_annotations scl sda end = events_notes None (bus_events scl sda end)
+i2c_annotations scl sda end = events_annotations None (bus_events scl sda end)

@@ -41,5 +41,5 @@ number_from_letters [] = 0
 number_from_letters (b ∷ bs) = (if is_one b then 1 else 0) + 2 * number_from_letters bs
 
 -- an annotation: from the tick `start` to the tick `end`, both included
-abbrev pub note : ℕ → ℕ → Kind → Annotation
-note start end kind = record { start = start; end = end; kind = kind }
+abbrev pub annotation : ℕ → ℕ → Kind → Annotation
+annotation start end kind = record { start = start; end = end; kind = kind }

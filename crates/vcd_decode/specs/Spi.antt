@@ -11,7 +11,7 @@ use Rattle.vcd_decode.specs.declared.spi_setup.BitOrder.{BitOrder}
 use Rattle.vcd_decode.specs.declared.spi_setup.BitOrder.TheVariants.{Msb, Lsb}
 use Rattle.vcd_decode.specs.SpiSetup.{SpiSetup}
 use Rattle.vcd_decode.specs.Groups.{groups_of}
-use Rattle.vcd_decode.specs.Lines.{letter_before, is_zero, is_one, is_unclear, number_from_letters, note}
+use Rattle.vcd_decode.specs.Lines.{letter_before, is_zero, is_one, is_unclear, number_from_letters, annotation}
 
 -- ---- the sampling ticks
 
@@ -62,7 +62,7 @@ group_end ticks = slice_index ticks (length ticks - 1)
 
 -- what a group of a segment tells: a word, or how many bits of one
 abbrev pub group_told : SpiSetup → Option (ℕ → Bit) → Option (ℕ → Bit) → List ℕ → Annotation
-group_told u mosi miso ticks = note (group_start ticks) (group_end ticks)
+group_told u mosi miso ticks = annotation (group_start ticks) (group_end ticks)
     (if nat_lt (length ticks) u.bits then PartialOf (length ticks)
     else Word (line_data u.order mosi ticks) (line_data u.order miso ticks))
 

@@ -10,7 +10,7 @@ use Rattle.vcd_decode.specs.declared.annotation.Kind.TheVariants.{Byte, ParityEr
 use Rattle.vcd_decode.specs.declared.uart_setup.Parity.{Parity}
 use Rattle.vcd_decode.specs.declared.uart_setup.Parity.TheVariants as parities
 use Rattle.vcd_decode.specs.UartSetup.{UartSetup}
-use Rattle.vcd_decode.specs.Lines.{letter_before, is_zero, is_one, is_unclear, number_from_letters, note}
+use Rattle.vcd_decode.specs.Lines.{letter_before, is_zero, is_one, is_unclear, number_from_letters, annotation}
 
 -- ---- where a frame is sampled
 
@@ -60,10 +60,10 @@ frame_kind u letters =
 -- that is not sampled up to the capture's end is cut off there
 unfoldable pub begun_frame : (ℕ → Bit) → ℕ → UartSetup → ℕ → Option Annotation
 begun_frame f end u start =
-    if nat_lt end (sample_tick u start 0) then Some (note start end Partial)
+    if nat_lt end (sample_tick u start 0) then Some (annotation start end Partial)
     else (if not (is_zero (f (sample_tick u start 0))) then None
-    else (if nat_lt end (sample_tick u start (last_bit u)) then Some (note start end Partial)
-    else Some (note start (sample_tick u start (last_bit u)) (frame_kind u (frame_letters f u start)))))
+    else (if nat_lt end (sample_tick u start (last_bit u)) then Some (annotation start end Partial)
+    else Some (annotation start (sample_tick u start (last_bit u)) (frame_kind u (frame_letters f u start)))))
 
 -- ---- all frames
 

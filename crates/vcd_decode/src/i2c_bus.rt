@@ -1,10 +1,10 @@
 //! Conditions, bytes and addresses of an I2C bus (UM10204, 3.1).
 
+mod bus_walk;
 mod bytes;
-mod decoding;
 mod events;
 #[cfg(test)]
 mod tests;
 mod transfer;
 
-pub use decoding::i2c;
+pub use bus_walk::i2c;

@@ -1,7 +1,7 @@
 //! The bits of a word of SPI that have come so far.
 
 ghost use Rattle.std.specs.Prelude.{◌≡◌, ◌<◌, ◌==◌, ◌^◌};
-ghost use Rattle.vcd_decode.specs.inside.SpiGroup.{digit_of, longer_number, data_after, data_before, first_data, DataFits, group_before, group_after, word_note, rest_note};
+ghost use Rattle.vcd_decode.specs.inside.SpiGroup.{digit_of, longer_number, data_after, data_before, first_data, DataFits, group_before, group_after, word_annotation, rest_annotation};
 
 use crate::annotation::{Annotation, Kind, LineData};
 use crate::spi_setup::{BitOrder, WORD_BITS_LIMIT};
@@ -72,8 +72,8 @@ impl Group {
     }
 
     /// The word that the bits are.
-    pub(crate) fn word(&self) -> Annotation
-        ensures { result ≡ word_note self.now }
+    pub(crate) fn whole_word(&self) -> Annotation
+        ensures { result ≡ word_annotation self.now }
     {
         Annotation {
             start: self.start,
@@ -87,7 +87,7 @@ impl Group {
 
     /// The bits of a word that is not ended.
     pub(crate) fn rest(&self) -> Annotation
-        ensures { result ≡ rest_note self.now }
+        ensures { result ≡ rest_annotation self.now }
     {
         Annotation {
             start: self.start,

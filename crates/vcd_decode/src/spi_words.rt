@@ -66,7 +66,7 @@ fn take_clock_edge(
         ≡ found.old.items ++ edge_told setup.now group.now edge.now) }
     ensures group { IfOk result (λ g. g ≡ edge_group setup.now group.now edge.now) }
 {
-    if is_deselection(edge) {
+    if deselects(edge) {
         tell_rest(found, group)?;
         return Ok(group.emptied());
     }
@@ -85,7 +85,7 @@ fn take_sample(
         ≡ found.old.items ++ bit_told setup.now group.now edge.now) }
     ensures group { IfOk result (λ g. g ≡ bit_group setup.now group.now edge.now) }
 {
-    if !is_sample(setup, edge) {
+    if !is_sampling(setup, edge) {
         return Ok(*group);
     }
     let bits = setup.bits();
@@ -93,7 +93,7 @@ fn take_sample(
     if longer.count < bits {
         return Ok(longer);
     }
-    found.push(longer.word())?;
+    found.push(longer.whole_word())?;
     Ok(longer.emptied())
 }
 
@@ -109,21 +109,21 @@ fn tell_rest(found: &mut Vec<Annotation>, group: &Group) -> Result<(), NoMemory>
 }
 
 /// Whether the chip is selected no more from an edge on.
-fn is_deselection(edge: &BitEdge) -> bool
+fn deselects(edge: &BitEdge) -> bool
     ensures { result ≡ deselects edge.now }
 {
-    is_selected(edge.before[3]) & !is_selected(edge.at[3])
+    bit_selects(edge.before[3]) & !bit_selects(edge.at[3])
 }
 
 /// Whether the data lines are read at an edge.
-fn is_sample(setup: &Spi, edge: &BitEdge) -> bool
+fn is_sampling(setup: &Spi, edge: &BitEdge) -> bool
     ensures { result ≡ is_sampling setup.now edge.now }
 {
-    is_selected(edge.at[3]) & setup.reads_at(edge.before[0], edge.at[0])
+    bit_selects(edge.at[3]) & setup.reads_at(edge.before[0], edge.at[0])
 }
 
 /// Whether the chip is selected, by the bit of its line.
-fn is_selected(cs: Option<Bit>) -> bool
+fn bit_selects(cs: Option<Bit>) -> bool
     ensures { result ≡ selects cs }
 {
     match cs {

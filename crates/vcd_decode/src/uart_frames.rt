@@ -85,7 +85,7 @@ fn begun_frame(wave: &Wave, near: usize, end: u64, setup: &Uart, start: u64) -> 
     if left < last {
         return Some(cut_off);
     }
-    let kind = kind_at(wave, near, setup, start);
+    let kind = frame_kind_at(wave, near, setup, start);
     Some(Annotation {
         start,
         end: start + last,
@@ -94,7 +94,7 @@ fn begun_frame(wave: &Wave, near: usize, end: u64, setup: &Uart, start: u64) -> 
 }
 
 /// What the frame that begins at the tick `start` says.
-fn kind_at(wave: &Wave, near: usize, setup: &Uart, start: u64) -> Kind
+fn frame_kind_at(wave: &Wave, near: usize, setup: &Uart, start: u64) -> Kind
     requires one_bit { wave.now.width ≡ 1 }
     requires fits { sample_tick setup.now start (last_bit setup.now) < 2 ^ 64 }
     ensures { result ≡ kind_of_frame setup.now (frame_letters (line_of wave.now) setup.now start) }
@@ -130,7 +130,7 @@ fn frame_kind(setup: &Uart, letters: &[Bit]) -> Kind
     if has_zero(stop) {
         return Kind::FrameError;
     }
-    let data = number(&letters[..setup.data_bits()]);
+    let data = letters_to_number(&letters[..setup.data_bits()]);
     if setup.is_parity_wrong(count_ones(checked)) {
         return Kind::ParityError(data);
     }
@@ -177,13 +177,13 @@ fn count_ones(letters: &[Bit]) -> usize
 }
 
 /// The number that letters make, the least significant first.
-fn number(letters: &[Bit]) -> u16
+fn letters_to_number(letters: &[Bit]) -> u16
     requires { length letters.now ≤ 9 }
     ensures number { result ≡ number_from_letters letters.now }
     ensures bound { result < 2 ^ length letters.now }
 {
     match letters {
-        [first, rest @ ..] => u16::from(is_one(*first)) + 2 * number(rest),
+        [first, rest @ ..] => u16::from(is_one(*first)) + 2 * letters_to_number(rest),
         [] => 0,
     }
 }

@@ -8,7 +8,7 @@ use Rattle.vcd_edit.specs.declared.record.Piece.{Piece}
 use Rattle.vcd_edit.specs.RecordView.{PieceView}
 use Rattle.vcd_edit.specs.Back.{with_piece, with_pieces, AreApart}
 use Rattle.vcd_edit.specs.inside.Records.{piece_view}
-use Rattle.vcd_edit.specs.inside.Exchanges.{LeadsBack, PieceReadyIn, LeadBack, room_at, HasRoom, ReservedSoFar, PutSoFar}
+use Rattle.vcd_edit.specs.inside.Exchanges.{LeadsBack, PieceReadyIn, LeadBack, room_at, HasRoomForPiece, ReservedSoFar, PutSoFar}
 use Rattle.vcd_edit.proofs.PiecesBack.{ready_after, with_pieces-push, LeadBack-push, none_all}
 
 module _ (old new : List Piece) (i : ℕ) (x y : Piece) (within : i < length new) (is : x ≡ get_or new i x) (rest : drop i new ≡ drop i old) where
@@ -41,17 +41,17 @@ module _ (old new : List Piece) (i : ℕ) (x y : Piece) (within : i < length new
   new_more = ap (map piece_view) (take_more_set new i y within) ∙ map-append piece_view (take i new) (y ∷ [])
 
 -- room elsewhere is no less
-has_room_after : (ss tt' : List Signal) (p : Piece) → ((k : ℕ) → room_at ss k ≤ room_at tt' k) → HasRoom ss p → HasRoom tt' p
+has_room_after : (ss tt' : List Signal) (p : Piece) → ((k : ℕ) → room_at ss k ≤ room_at tt' k) → HasRoomForPiece ss p → HasRoomForPiece tt' p
 has_room_after ss tt' p more room = record { wave = omega (arith, room.wave, more p.signal); piece = room.piece }
 
 pub reserved_more : (old new : List Piece) (i : ℕ) (x y : Piece) (ss tt' : List Signal) → i < length new → x ≡ get_or new i x → ReservedSoFar old i new ss
-    → piece_view y ≡ piece_view x → HasRoom tt' y → ((k : ℕ) → room_at ss k ≤ room_at tt' k) → ReservedSoFar old (i + 1) (set new i y) tt'
+    → piece_view y ≡ piece_view x → HasRoomForPiece tt' y → ((k : ℕ) → room_at ss k ≤ room_at tt' k) → ReservedSoFar old (i + 1) (set new i y) tt'
 reserved_more old new i x y ss tt' within is before same room more =
     record {
       rest = rest_more old new i x y within is before.rest;
       same = views_kept old new i x y within is before.rest same ∙ before.same;
-      room = subst (All (HasRoom tt')) (sym (take_more_set new i y within))
-          (All-push (HasRoom tt') (take i new) y (λ k d less. has_room_after ss tt' (get_or (take i new) k d) more (before.room k d less)) room);
+      room = subst (All (HasRoomForPiece tt')) (sym (take_more_set new i y within))
+          (All-push (HasRoomForPiece tt') (take i new) y (λ k d less. has_room_after ss tt' (get_or (take i new) k d) more (before.room k d less)) room);
     }
 
 module _ (before : Contents) (old new : List Piece) (i : ℕ) (x y : Piece) (now after : Contents) (ss tt' : List Signal) (within : i < length new) (is : x ≡ get_or new i x) (far : PutSoFar before old i new now ss) where
@@ -64,22 +64,22 @@ module _ (before : Contents) (old new : List Piece) (i : ℕ) (x y : Piece) (now
   apart_now : AreApart (piece_view x ∷ map piece_view (drop (i + 1) old))
   apart_now = subst (λ l. AreApart (map piece_view l)) begins far.apart
 
-  room_now : All (HasRoom ss) (x ∷ drop (i + 1) old)
-  room_now = subst (All (HasRoom ss)) begins far.room
+  room_now : All (HasRoomForPiece ss) (x ∷ drop (i + 1) old)
+  room_now = subst (All (HasRoomForPiece ss)) begins far.room
 
   pub next_ready : PieceReadyIn now (piece_view x)
   next_ready = All-head (PieceReadyIn now) (piece_view x) (map piece_view (drop (i + 1) old)) ready_now
 
-  pub next_room : HasRoom ss x
-  next_room = All-head (HasRoom ss) x (drop (i + 1) old) room_now
+  pub next_room : HasRoomForPiece ss x
+  next_room = All-head (HasRoomForPiece ss) x (drop (i + 1) old) room_now
 
   others : All (λ p. p.signal ≢ x.signal) (map piece_view (drop (i + 1) old))
   others = none_all x.signal (map piece_view (drop (i + 1) old)) apart_now.0
 
-  rooms_after : ((k : ℕ) → k ≢ x.signal → room_at tt' k ≡ room_at ss k) → All (HasRoom tt') (drop (i + 1) old)
+  rooms_after : ((k : ℕ) → k ≢ x.signal → room_at tt' k ≡ room_at ss k) → All (HasRoomForPiece tt') (drop (i + 1) old)
   rooms_after kept = λ k d less.
       let p = get_or (drop (i + 1) old) k d in
-      let room : HasRoom ss p = All-tail (HasRoom ss) x (drop (i + 1) old) room_now k d less in
+      let room : HasRoomForPiece ss p = All-tail (HasRoomForPiece ss) x (drop (i + 1) old) room_now k d less in
       let other : p.signal ≢ x.signal =
       subst (λ (q : PieceView). q.signal ≢ x.signal) (get_or-map piece_view (drop (i + 1) old) k d (piece_view d) less)
       (others k (piece_view d) (omega (arith, less, length-map (drop (i + 1) old) piece_view))) in

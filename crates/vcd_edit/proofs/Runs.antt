@@ -8,7 +8,7 @@ use Rattle.vcd_core.specs.declared.bit.Bit.TheVariants.{X}
 use Rattle.vcd_core.specs.declared.wave.Change.{Change}
 use Rattle.vcd_core.specs.Value.{all_x, same_letters}
 use Rattle.vcd_core.specs.inside.ValueLaws.{same_letters-Decides}
-use Rattle.vcd_core.specs.Wave.{change, unless_same, value_from, changes_of, ChangesFrom, IsWave, AllUpTo}
+use Rattle.vcd_core.specs.Wave.{change, unless_same, value_from, changes_of, AreChangesFrom, IsWave, AllUpTo}
 use Rattle.vcd_core.specs.Contents.{Contents, SignalContents, signal_at, signal_value}
 use Rattle.vcd_core.proofs.Waves.{value_past, value_early}
 use Rattle.vcd_edit.specs.declared.edit.Edit.TheVariants.{Deglitch}
@@ -134,7 +134,7 @@ inner_run a b c end n next ordered within =
 -- from the first tick of a run on, the values are those of the steady changes
 module _ (n end width : ℕ) (f : ℕ → List Bit) where
   pub steady_from : (cs : List Change) (a : ℕ) (v u : List Bit) → a ≤ end → length v ≡ width → ((s : ℕ) → a ≤ s → s ≤ end → f s ≡ value_from v cs s)
-      → ChangesFrom (a + 1) v cs → AllUpTo end cs → ((p : ℕ) → suc p ≡ a → f a ≢ f p) → ((p : ℕ) → suc p ≡ a → steady_value n end f p ≡ u)
+      → AreChangesFrom (a + 1) v cs → AllUpTo end cs → ((p : ℕ) → suc p ≡ a → f a ≢ f p) → ((p : ℕ) → suc p ≡ a → steady_value n end f p ≡ u)
       → (t : ℕ) → a ≤ t → t ≤ end → steady_value n end f t ≡ value_from (if begins_steady n (change a v) cs then v else u) (steady_changes n cs) t
   unfolding value_from steady_changes
   steady_from [] a v u le wide values rise upto begins carried t from to =
@@ -180,7 +180,7 @@ either_x true v = refl
 either_x false v = refl
 
 -- the value at each tick of a wave without its glitches is that of the steady changes
-pub steady_values : (n end width : ℕ) (cs : List Change) → ChangesFrom 0 (all_x width) cs → AllUpTo end cs → (t : ℕ) → t ≤ end
+pub steady_values : (n end width : ℕ) (cs : List Change) → AreChangesFrom 0 (all_x width) cs → AllUpTo end cs → (t : ℕ) → t ≤ end
     → value_from (all_x width) (steady_changes n cs) t ≡ steady_value n end (value_from (all_x width) cs) t
 unfolding steady_changes
 steady_values n end width [] rise upto t to =
@@ -189,7 +189,7 @@ steady_values n end width [] rise upto t to =
 steady_values n end width (c ∷ cs) (from, other, wide, rest) (here, upto) t to =
     elim (cases_eq c.tick 0) [
       | inl is ↦
-          let rest_from : ChangesFrom (0 + 1) c.value cs = subst (λ (k : ℕ). ChangesFrom (k + 1) c.value cs) is rest in
+          let rest_from : AreChangesFrom (0 + 1) c.value cs = subst (λ (k : ℕ). AreChangesFrom (k + 1) c.value cs) is rest in
           value_or_before (begins_steady n c cs) (all_x width) c (steady_changes n cs) t (omega (arith, is))
           ∙ ap (λ q. value_from (if q then c.value else all_x width) (steady_changes n cs) t) (test_same n 0 c cs is)
           ∙ sym (steady_from n end width (value_from (all_x width) (c ∷ cs)) cs 0 c.value (all_x width) (omega arith) (wide ∙ length-replicate width X) (λ s late early. value_past (all_x width) c cs s (omega (arith, is)))

@@ -11,22 +11,22 @@ use Rattle.vcd_core.specs.declared.bit.Bit.{Bit}
 use Rattle.vcd_core.specs.declared.wave.Change.{Change}
 use Rattle.vcd_core.specs.Value.{all_x, same_letters}
 use Rattle.vcd_core.specs.inside.ValueLaws.{same_letters-Decides}
-use Rattle.vcd_core.specs.Wave.{ChangesFrom, IsWave, AllUpTo, last_value}
+use Rattle.vcd_core.specs.Wave.{AreChangesFrom, IsWave, AllUpTo, last_value}
 use Rattle.vcd_core.specs.Splice.{moved_change, TickFits, TicksFit, spliced_changes}
 use Rattle.vcd_edit.specs.RecordView.{PieceView}
 use Rattle.vcd_edit.specs.inside.Seams.{floor_after, value_behind, may_follow, may_all_follow, MovesTo, PieceStands}
 
 -- ---- a list in two parts
 
-pub rise_split : (floor : ℕ) (before : List Bit) (xs ys : List Change) → ChangesFrom floor before (xs ++ ys)
-    → ChangesFrom floor before xs × ChangesFrom (floor_after floor xs) (last_value before xs) ys
+pub rise_split : (floor : ℕ) (before : List Bit) (xs ys : List Change) → AreChangesFrom floor before (xs ++ ys)
+    → AreChangesFrom floor before xs × AreChangesFrom (floor_after floor xs) (last_value before xs) ys
 unfolding floor_after last_value
 rise_split floor before [] ys rise = (tt, rise)
 rise_split floor before (x ∷ xs) ys (from, other, wide, rest) =
     let parts = rise_split (x.tick + 1) x.value xs ys rest in ((from, other, wide, parts.0), parts.1)
 
-pub rise_join : (floor : ℕ) (before : List Bit) (xs ys : List Change) → ChangesFrom floor before xs → ChangesFrom (floor_after floor xs) (last_value before xs) ys
-    → ChangesFrom floor before (xs ++ ys)
+pub rise_join : (floor : ℕ) (before : List Bit) (xs ys : List Change) → AreChangesFrom floor before xs → AreChangesFrom (floor_after floor xs) (last_value before xs) ys
+    → AreChangesFrom floor before (xs ++ ys)
 unfolding floor_after last_value
 rise_join floor before [] ys first second = second
 rise_join floor before (x ∷ xs) ys (from, other, wide, rest) second = (from, other, wide, rise_join (x.tick + 1) x.value xs ys rest second)
@@ -68,7 +68,7 @@ may_follow_is floor before c =
           (not_from_false (same_letters c.value before) (false_from_ne_true (same_letters c.value before) (λ e. other (same.0 e)))) (eq-eqb (length c.value) (length before) wide))),
     )
 
-pub follow_rise : (floor : ℕ) (before : List Bit) (cs : List Change) → may_all_follow floor before cs ≡ true → ChangesFrom floor before cs
+pub follow_rise : (floor : ℕ) (before : List Bit) (cs : List Change) → may_all_follow floor before cs ≡ true → AreChangesFrom floor before cs
 unfolding may_all_follow
 follow_rise floor before [] e = tt
 follow_rise floor before (c ∷ cs) e =
@@ -76,7 +76,7 @@ follow_rise floor before (c ∷ cs) e =
     let first = (may_follow_is floor before c).0 parts.0 in
     (first.0, first.1, first.2, follow_rise (c.tick + 1) c.value cs parts.1)
 
-pub rise_follow : (floor : ℕ) (before : List Bit) (cs : List Change) → ChangesFrom floor before cs → may_all_follow floor before cs ≡ true
+pub rise_follow : (floor : ℕ) (before : List Bit) (cs : List Change) → AreChangesFrom floor before cs → may_all_follow floor before cs ≡ true
 unfolding may_all_follow
 rise_follow floor before [] rise = refl
 rise_follow floor before (c ∷ cs) (from, other, wide, rest) =
@@ -84,8 +84,8 @@ rise_follow floor before (c ∷ cs) (from, other, wide, rest) =
 
 -- ---- moved changes
 
-pub rise_moved : (by : ℤ) (floor next : ℕ) (before : List Bit) (cs : List Change) → pos floor +ℤ by ≡ pos next → TicksFit by cs → ChangesFrom floor before cs
-    → ChangesFrom next before (map (moved_change by) cs)
+pub rise_moved : (by : ℤ) (floor next : ℕ) (before : List Bit) (cs : List Change) → pos floor +ℤ by ≡ pos next → TicksFit by cs → AreChangesFrom floor before cs
+    → AreChangesFrom next before (map (moved_change by) cs)
 unfolding moved_change TickFits
 rise_moved by floor next before [] later fit rise = tt
 rise_moved by floor next before (c ∷ cs) later fit (from, other, wide, rest) =
@@ -160,11 +160,11 @@ module _ (floor : ℕ) (before : List Bit) (cs : List Change) (i : ℕ) (x : Cha
 
 -- ---- later changes that move
 
-first_tick : (floor : ℕ) (before : List Bit) (cs : List Change) → ChangesFrom floor before cs → (k : ℕ) (d : Change) → k < length cs → (get_or cs 0 d).tick ≤ (get_or cs k d).tick
+first_tick : (floor : ℕ) (before : List Bit) (cs : List Change) → AreChangesFrom floor before cs → (k : ℕ) (d : Change) → k < length cs → (get_or cs 0 d).tick ≤ (get_or cs k d).tick
 first_tick floor before cs rise zero d within = omega arith
 first_tick floor before cs rise (suc k) d within = omega (arith, ticks_rise floor before cs rise 0 (suc k) d (omega arith) within)
 
-last_tick : (floor : ℕ) (before : List Bit) (cs : List Change) → ChangesFrom floor before cs → (k : ℕ) (d : Change) → k < length cs → (get_or cs k d).tick ≤ (get_or cs (length cs - 1) d).tick
+last_tick : (floor : ℕ) (before : List Bit) (cs : List Change) → AreChangesFrom floor before cs → (k : ℕ) (d : Change) → k < length cs → (get_or cs k d).tick ≤ (get_or cs (length cs - 1) d).tick
 last_tick floor before cs rise k d within =
     elim (cases_eq k (length cs - 1)) [
       | inl same ↦ omega (arith, ap (λ n. (get_or cs n d).tick) same)
@@ -175,7 +175,7 @@ between_moves : (by : ℤ) (end low mid high : ℕ) → low ≤ mid → mid ≤ 
 between_moves by end low mid high above below (low_fits, low_end) (high_fits, high_end) =
     ((omega (arith, ints, low_fits.0), omega (arith, ints, high_fits.0, high_fits.1, low_fits.0)), omega (arith, ints, low_fits.0, high_fits.0, high_end))
 
-module _ (by : ℤ) (end floor : ℕ) (before : List Bit) (cs : List Change) (rise : ChangesFrom floor before cs) where
+module _ (by : ℤ) (end floor : ℕ) (before : List Bit) (cs : List Change) (rise : AreChangesFrom floor before cs) where
   all_move : (d : Change) → 0 < length cs → MovesTo by end (get_or cs 0 d).tick → MovesTo by end (get_or cs (length cs - 1) d).tick → All (λ c. MovesTo by end c.tick) cs
   all_move d some first last = λ k e within.
       subst (λ (c : Change). MovesTo by end c.tick) (get_or_default cs k d e within)
@@ -196,7 +196,7 @@ fit_moves by end (c ∷ cs) fit (first, upto) =
     All-cons (λ (c : Change). MovesTo by end c.tick) c cs (All-head (TickFits by) c cs fit, first) (fit_moves by end cs (All-tail (TickFits by) c cs fit) upto)
 
 -- the first and the last tell whether all move
-pub ends_tell : (by at : ℤ) (end floor : ℕ) (before : List Bit) (cs : List Change) (x y : Change) (r : Bool) → at ≡ by → ChangesFrom floor before cs → 0 < length cs
+pub ends_tell : (by at : ℤ) (end floor : ℕ) (before : List Bit) (cs : List Change) (x y : Change) (r : Bool) → at ≡ by → AreChangesFrom floor before cs → 0 < length cs
     → x ≡ get_or cs 0 x → y ≡ get_or cs (length cs - 1) y → MovesTo at end x.tick → (IsTrue r ↔ MovesTo at end y.tick) → IsTrue r ↔ All (λ c. MovesTo by end c.tick) cs
 ends_tell by at end floor before cs x y r same rise some is_first is_last first tells =
     let here = λ (k : ℕ) (d e : Change) (within : k < length cs) (is : d ≡ get_or cs k d). is ∙ get_or_default cs k d e within in (
@@ -232,12 +232,12 @@ none_follows floor before h (c ∷ cs) none = absurd (omega arith)
 
 -- parts of a wave rise
 module _ (width from to : ℕ) (cs : List Change) (is : IsWave width cs) where
-  pub front_rises : ChangesFrom 0 (all_x width) (take from cs)
-  front_rises = (rise_split 0 (all_x width) (take from cs) (drop from cs) (subst (ChangesFrom 0 (all_x width)) (sym (take-append-drop from cs)) is.rise)).0
+  pub front_rises : AreChangesFrom 0 (all_x width) (take from cs)
+  front_rises = (rise_split 0 (all_x width) (take from cs) (drop from cs) (subst (AreChangesFrom 0 (all_x width)) (sym (take-append-drop from cs)) is.rise)).0
 
-  pub later_rises : (floor : ℕ) × (before : List Bit) × ChangesFrom floor before (drop to cs)
+  pub later_rises : (floor : ℕ) × (before : List Bit) × AreChangesFrom floor before (drop to cs)
   later_rises =
-      let parts = rise_split 0 (all_x width) (take to cs) (drop to cs) (subst (ChangesFrom 0 (all_x width)) (sym (take-append-drop to cs)) is.rise) in
+      let parts = rise_split 0 (all_x width) (take to cs) (drop to cs) (subst (AreChangesFrom 0 (all_x width)) (sym (take-append-drop to cs)) is.rise) in
       (floor_after 0 (take to cs), last_value (all_x width) (take to cs), parts.1)
 
 -- the changes of a wave in three parts, of which the middle one gives way
@@ -249,8 +249,8 @@ module _ (width from to : ℕ) (cs piece : List Change) (by : ℤ) (is : IsWave 
   later = map (moved_change by) (drop to cs)
 
   -- what may follow with its first change may follow
-  whole_follows : (floor : ℕ) (before : List Bit) (low : ℕ) (old : List Bit) (xs : List Change) → ChangesFrom low old xs → TicksFit by xs
-      → may_all_follow floor before (map (moved_change by) (take 1 xs)) ≡ true → ChangesFrom floor before (map (moved_change by) xs)
+  whole_follows : (floor : ℕ) (before : List Bit) (low : ℕ) (old : List Bit) (xs : List Change) → AreChangesFrom low old xs → TicksFit by xs
+      → may_all_follow floor before (map (moved_change by) (take 1 xs)) ≡ true → AreChangesFrom floor before (map (moved_change by) xs)
   unfolding moved_change TickFits
   whole_follows floor before low old [] rise fits first = tt
   whole_follows floor before low old (c ∷ xs) (from', other, wide, rest) fits first =
@@ -259,7 +259,7 @@ module _ (width from to : ℕ) (cs piece : List Change) (by : ℤ) (is : IsWave 
       let at : pos (c.tick + 1) +ℤ by ≡ pos (unsigned_abs (pos c.tick +ℤ by) + 1) = omega (arith, ints, fits_here.0) in
       (here.0, here.1, here.2, rise_moved by (c.tick + 1) (unsigned_abs (pos c.tick +ℤ by) + 1) c.value xs at (All-tail (TickFits by) c xs fits) rest)
 
-  first_of : (floor : ℕ) (before : List Bit) (xs : List Change) → ChangesFrom floor before (map (moved_change by) xs) → may_all_follow floor before (map (moved_change by) (take 1 xs)) ≡ true
+  first_of : (floor : ℕ) (before : List Bit) (xs : List Change) → AreChangesFrom floor before (map (moved_change by) xs) → may_all_follow floor before (map (moved_change by) (take 1 xs)) ≡ true
   first_of floor before [] rise = rise_follow floor before [] tt
   first_of floor before (c ∷ xs) (from', other, wide, rest) = rise_follow floor before (moved_change by c ∷ []) (from', other, wide, tt)
 
@@ -275,16 +275,16 @@ module _ (width from to : ℕ) (cs piece : List Change) (by : ℤ) (is : IsWave 
   seams_tell at_piece at_later =
       let tail = whole_follows (floor_after (floor_after 0 front) piece) (last_value (last_value (all_x width) front) piece) (later_rises width from to cs is).0 (later_rises width from to cs is).1 (drop to cs) (later_rises width from to cs is).2 fit at_later in
       let rest = rise_join (floor_after 0 front) (last_value (all_x width) front) piece later (follow_rise (floor_after 0 front) (last_value (all_x width) front) piece at_piece) tail in
-      record { rise = subst (ChangesFrom 0 (all_x width)) (sym (append_assoc front piece later)) (rise_join 0 (all_x width) front (piece ++ later) (front_rises width from to cs is) rest) }
+      record { rise = subst (AreChangesFrom 0 (all_x width)) (sym (append_assoc front piece later)) (rise_join 0 (all_x width) front (piece ++ later) (front_rises width from to cs is) rest) }
 
   pub wave_tells : IsWave width (spliced_changes cs from to piece by) → (piece_test ≡ true) × (later_test ≡ true)
   unfolding spliced_changes
   wave_tells wave =
-      let parts = rise_split 0 (all_x width) front (piece ++ later) (subst (ChangesFrom 0 (all_x width)) (append_assoc front piece later) wave.rise) in
+      let parts = rise_split 0 (all_x width) front (piece ++ later) (subst (AreChangesFrom 0 (all_x width)) (append_assoc front piece later) wave.rise) in
       let more = rise_split (floor_after 0 front) (last_value (all_x width) front) piece later parts.1 in
       (rise_follow (floor_after 0 front) (last_value (all_x width) front) piece more.0, first_of (floor_after (floor_after 0 front) piece) (last_value (last_value (all_x width) front) piece) (drop to cs) more.1)
 
-pub last_tells : (end floor : ℕ) (before : List Bit) (cs : List Change) (y : Change) (r : Bool) → ChangesFrom floor before cs → 0 < length cs → y ≡ get_or cs (length cs - 1) y → r ≡ nat_le y.tick end
+pub last_tells : (end floor : ℕ) (before : List Bit) (cs : List Change) (y : Change) (r : Bool) → AreChangesFrom floor before cs → 0 < length cs → y ≡ get_or cs (length cs - 1) y → r ≡ nat_le y.tick end
     → IsTrue r ↔ AllUpTo end cs
 last_tells end floor before cs y r rise some is told = (
   (λ t. upto_from_all end cs (λ k d within.

@@ -10,7 +10,7 @@ use Rattle.vcd_core.specs.declared.bit.Bit.TheVariants.{X}
 use Rattle.vcd_core.specs.declared.wave.Change.{Change}
 use Rattle.vcd_core.specs.declared.capture.TheConstants.{SIGNAL_LIMIT}
 use Rattle.vcd_core.specs.Value.{all_x}
-use Rattle.vcd_core.specs.Wave.{value_from, value_at, ChangesFrom, IsWave}
+use Rattle.vcd_core.specs.Wave.{value_from, value_at, AreChangesFrom, IsWave}
 use Rattle.vcd_core.specs.Word.{is_word}
 use Rattle.vcd_core.specs.Contents.{Contents, SignalContents, no_signal, signal_at, with_signal, signal_value}
 use Rattle.vcd_core.specs.Sound.{IsSound, IsSoundSignal}
@@ -25,7 +25,7 @@ use Rattle.vcd_edit.proofs.Faults.{no_fault, signal_there, first_operand_there, 
 
 -- ---- the width of values
 
-value_from_width : (width floor : ℕ) (before kept : List Bit) (cs : List Change) (t : ℕ) → length before ≡ width → length kept ≡ width → ChangesFrom floor kept cs
+value_from_width : (width floor : ℕ) (before kept : List Bit) (cs : List Change) (t : ℕ) → length before ≡ width → length kept ≡ width → AreChangesFrom floor kept cs
     → length (value_from before cs t) ≡ width
 unfolding value_from
 value_from_width width floor before kept [] t long alike rise = long

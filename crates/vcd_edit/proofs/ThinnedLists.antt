@@ -6,7 +6,7 @@ use Rattle.vcd_core.specs.declared.bit.Bit.{Bit}
 use Rattle.vcd_core.specs.declared.bit.Bit.TheVariants.{X}
 use Rattle.vcd_core.specs.declared.wave.Change.{Change}
 use Rattle.vcd_core.specs.Value.{all_x}
-use Rattle.vcd_core.specs.Wave.{value_from, changes_of, ChangesFrom, AllUpTo}
+use Rattle.vcd_core.specs.Wave.{value_from, changes_of, AreChangesFrom, AllUpTo}
 use Rattle.vcd_core.proofs.Waves.{put_cases, value_past, value_skip, value_early, lower_floor, wave_is}
 use Rattle.vcd_edit.specs.inside.Thinned.{TicksRise, thinned_list, with_value}
 
@@ -21,13 +21,13 @@ early_value width v [] floor t rise early = refl
 early_value width v (c ∷ cs) floor t (from, wide, rest) early =
     value_skip v c cs t (omega arith) ∙ early_value width v cs (c.tick + 1) t rest (omega arith)
 
-thinned_rise : (width floor : ℕ) (before : List Bit) (cs : List Change) → length before ≡ width → TicksRise width floor cs → ChangesFrom floor before (thinned_list before cs)
+thinned_rise : (width floor : ℕ) (before : List Bit) (cs : List Change) → length before ≡ width → TicksRise width floor cs → AreChangesFrom floor before (thinned_list before cs)
 unfolding thinned_list
 thinned_rise width floor before [] long rise = tt
 thinned_rise width floor before (c ∷ cs) long (from, wide, rest) =
     let tail = thinned_rise width (c.tick + 1) c.value cs wide rest in
-    put_cases (λ l. ChangesFrom floor before l) c.value before c (thinned_list c.value cs)
-    (λ equal. lower_floor floor (c.tick + 1) before (thinned_list c.value cs) (omega arith) (subst (λ v. ChangesFrom (c.tick + 1) v (thinned_list c.value cs)) equal tail))
+    put_cases (λ l. AreChangesFrom floor before l) c.value before c (thinned_list c.value cs)
+    (λ equal. lower_floor floor (c.tick + 1) before (thinned_list c.value cs) (omega arith) (subst (λ v. AreChangesFrom (c.tick + 1) v (thinned_list c.value cs)) equal tail))
     (λ other. (from, other, wide ∙ sym long, tail))
 
 thinned_upto : (end : ℕ) (before : List Bit) (cs : List Change) → AllUpTo end cs → AllUpTo end (thinned_list before cs)
@@ -66,7 +66,7 @@ thinned_is width end cs f rise upto same =
     (λ t to. thinned_value width 0 (all_x width) cs t long rise ∙ same t to)
 
 -- the changes of a wave rise
-pub wave_rises : (width floor : ℕ) (before : List Bit) (cs : List Change) → length before ≡ width → ChangesFrom floor before cs → TicksRise width floor cs
+pub wave_rises : (width floor : ℕ) (before : List Bit) (cs : List Change) → length before ≡ width → AreChangesFrom floor before cs → TicksRise width floor cs
 wave_rises width floor before [] long rise = tt
 wave_rises width floor before (c ∷ cs) long (from, other, wide, rest) = (from, wide ∙ long, wave_rises width (c.tick + 1) c.value cs (wide ∙ long) rest)
 

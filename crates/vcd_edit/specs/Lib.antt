@@ -1,4 +1,4 @@
-pub mod FaultNames
+pub mod EditErrorNames
 pub mod Operators
 pub mod Effect
 pub mod Allowed

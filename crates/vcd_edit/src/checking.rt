@@ -6,13 +6,13 @@ ghost use Rattle.vcd_edit.specs.Allowed.{is_no_signal, first_fault, edit_fault, 
 ghost use Rattle.vcd_edit.specs.declared.edit.Edit.TheVariants as edits;
 ghost use Rattle.vcd_edit.specs.declared.fault.EditError.TheVariants as errors;
 
-mod names;
+mod new_names;
 mod operands;
 
 use crate::edit::Edit;
 use crate::fault::EditError;
-pub(crate) use names::behind_first;
-use names::{check_derive, check_rename};
+pub(crate) use new_names::behind_first;
+use new_names::{check_derive, check_rename};
 use vcd_core::{Capture, Value};
 
 #[tactic(auto, unfolding(crate::specs::Allowed::edit_fault))]

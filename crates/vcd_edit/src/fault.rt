@@ -1,7 +1,7 @@
 //! Why an edit is refused.
 
 ghost use Rattle.std.specs.Prelude.{◌≡◌};
-ghost use Rattle.vcd_edit.specs.FaultNames.{edit_error_name};
+ghost use Rattle.vcd_edit.specs.EditErrorNames.{edit_error_name};
 ghost use Rattle.vcd_edit.specs.declared.fault.EditError.TheVariants as errors;
 
 use std::alloc::AllocError;

@@ -8,17 +8,17 @@ ghost use Rattle.vcd_edit.specs.Back.{with_first_word, with_moved_signal, MayMov
 ghost use Rattle.vcd_edit.specs.inside.Records.{piece_view, word_view, contents_of_signal, moved_signal_view, record_view};
 ghost use Rattle.vcd_edit.specs.inside.Fitting.{AreSoundSignals, PartsFit, IsSoundFrame};
 
-mod names;
 mod pieces;
+mod sound_names;
 
 use crate::record::{Piece, Record};
-use names::{are_others_sound, are_sound, is_sound_with_word};
 use pieces::pieces_fit;
+use sound_names::{are_others_sound, are_sound, is_sound_with_word};
 use vcd_core::{Capture, END_LIMIT, SIGNAL_LIMIT, Signal};
 
 /// Whether a word may be the first of the name of the signal at a position, and all signals are then sound
 /// up to an end.
-fn word_fits(signal: usize, word: &[u8], signals: &[Signal], end: u64) -> bool
+fn may_be_renamed(signal: usize, word: &[u8], signals: &[Signal], end: u64) -> bool
     ensures { (c : Contents) → c.signals ≡ map signal_contents signals.now
         → IsTrue result ↔ ((signal < length c.signals)
         × AreSoundSignals end (with_first_word (Some (signal, word.now)) c).signals) }
@@ -81,7 +81,7 @@ fn parts_fit(
     match signal {
         Some((at, signal)) => move_fits(*at, signal, signals, end),
         None => match word {
-            Some((signal, word)) => word_fits(*signal, word.as_slice(), signals, end),
+            Some((signal, word)) => may_be_renamed(*signal, word.as_slice(), signals, end),
             None => pieces_fit(pieces, signals, end),
         },
     }

@@ -1,10 +1,10 @@
 //! How the pieces of a record and parts of a capture's waves change places.
 
-mod fitting;
+mod exchanges;
 mod growth;
-mod splicing;
+mod seams;
 mod trimming;
 
-pub(crate) use fitting::piece_stands;
+pub(crate) use exchanges::put_pieces;
 pub(crate) use growth::reserve_all;
-pub(crate) use splicing::put_pieces;
+pub(crate) use seams::piece_stands;

@@ -1,5 +1,5 @@
 -- The definitions of vcd_journal: the history of a capture as a machine, and the edits in force.
-pub mod RefusalNames
+pub mod StepErrorNames
 pub mod Machine
 pub mod InForce
 pub mod Laws

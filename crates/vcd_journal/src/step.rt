@@ -1,7 +1,7 @@
 //! The steps of a session, and what it answers to them.
 
 ghost use Rattle.std.specs.Prelude.{◌≡◌};
-ghost use Rattle.vcd_journal.specs.RefusalNames.{step_error_name};
+ghost use Rattle.vcd_journal.specs.StepErrorNames.{step_error_name};
 
 use std::fmt;
 use thiserror::Error;

@@ -11,8 +11,8 @@ use Rattle.vcd_core.specs.Wave.{value_at}
 use Rattle.vcd_text.specs.declared.fault.Fault.{Fault}
 use Rattle.vcd_text.specs.declared.fault.Fault.TheVariants as faults
 use Rattle.vcd_text.specs.Letters.{letters_of_digits, extension}
-use Rattle.vcd_text.specs.Grammar.{VariableDeclaration, RecordedChange, Context, is_skipped, variable_of, takes_binary_number, recorded_changes, with_recorded_change}
-use Rattle.vcd_text.specs.Meaning.{recorded_value}
+use Rattle.vcd_text.specs.Grammar.{VariableDeclaration, ValueChange, Context, is_skipped, variable_of, takes_binary_number, told_value_changes, with_value_change}
+use Rattle.vcd_text.specs.Meaning.{latest_value}
 use Rattle.vcd_text.specs.inside.Variables.{declaration, owner_of, HasWave, Stands, HasFirst, Knows, Sets, RefusesBinaryNumber, no_value, too_long, TakesChange}
 use Rattle.vcd_text.specs.declared.reading.variables.Owner.{Owner}
 use Rattle.vcd_text.specs.declared.reading.variables.Owner.TheVariants.{Skipped, Kept}
@@ -51,9 +51,9 @@ same_length (u ∷ vs) (suc i) w = ap suc (same_length vs i w)
 
 -- ---- a record more
 
-value_with : (width : ℕ) (code : List ℕ) (t : ℕ) (before : List Bit) (rs : List RecordedChange) (r : RecordedChange)
-    → recorded_value width code t before (rs ++ r ∷ []) ≡ (if bytes_eq r.code code && nat_le r.tick t then extension width r.letters else recorded_value width code t before rs)
-unfolding recorded_value
+value_with : (width : ℕ) (code : List ℕ) (t : ℕ) (before : List Bit) (rs : List ValueChange) (r : ValueChange)
+    → latest_value width code t before (rs ++ r ∷ []) ≡ (if bytes_eq r.code code && nat_le r.tick t then extension width r.letters else latest_value width code t before rs)
+unfolding latest_value
 value_with width code t before [] r = refl
 value_with width code t before (s ∷ rs) r = value_with width code t (if bytes_eq s.code code && nat_le s.tick t then extension width s.letters else before) rs r
 
@@ -61,10 +61,10 @@ value_with width code t before (s ∷ rs) r = value_with width code t (if bytes_
 
 module _ (old : Variables) (list : Vec Variable) (c : Context) (code digits : List ℕ) (first : ℕ) (v w : Variable) (k : Knows old c)
     (had : owner_of old code ≡ Some (Kept first)) (read : v ≡ get_or old.kept.items first v) where
-  own_wave : (d : VariableDeclaration) × (variable_of c code ≡ Some d) × (is_skipped d ≡ false) × HasWave old.kept.items first code d.size c.records c.tick
+  own_wave : (d : VariableDeclaration) × (variable_of c code ≡ Some d) × (is_skipped d ≡ false) × HasWave old.kept.items first code d.size c.value_changes c.tick
   own_wave =
-      stands_kept old.kept.items c.records c.tick code (variable_of c code) first
-      (subst (λ o. Stands old.kept.items c.records c.tick code o (variable_of c code)) had (k.stand code))
+      stands_kept old.kept.items c.value_changes c.tick code (variable_of c code) first
+      (subst (λ o. Stands old.kept.items c.value_changes c.tick code o (variable_of c code)) had (k.stand code))
 
   is_first : v ≡ own_wave.3.first
   is_first = read ∙ get_or_from_slice_get old.kept.items first own_wave.3.first v own_wave.3.stands
@@ -92,12 +92,12 @@ module _ (old : Variables) (list : Vec Variable) (c : Context) (code digits : Li
         ]
 
     -- the record of the change
-    change_record : RecordedChange
+    change_record : ValueChange
     change_record = record { tick = c.tick; code = code; letters = letters_of_digits digits }
 
     -- the wave of the code takes the value
-    wave_changed : (key : List ℕ) (position size : ℕ) → code ≡ key → owner_of old key ≡ Some (Kept position) → HasWave old.kept.items position key size c.records c.tick
-        → HasWave list.items position key size (c.records ++ change_record ∷ []) c.tick
+    wave_changed : (key : List ℕ) (position size : ℕ) → code ≡ key → owner_of old key ≡ Some (Kept position) → HasWave old.kept.items position key size c.value_changes c.tick
+        → HasWave list.items position key size (c.value_changes ++ change_record ∷ []) c.tick
     unfolding change_record
     wave_changed key position size same owned wave =
         let kept_at : Kept first ≡ Kept position = same_Some (Kept first) (Kept position) (sym had ∙ ap (owner_of old) same ∙ owned) in
@@ -117,14 +117,14 @@ module _ (old : Variables) (list : Vec Variable) (c : Context) (code digits : Li
               ∙ ap (λ n. if nat_le c.tick t then extension n (letters_of_digits digits) else value_at n v.signal.wave.changes t) old_size
               ∙ ap (λ (u : Variable). if nat_le c.tick t then extension size (letters_of_digits digits) else value_at size u.signal.wave.changes t) is
               ∙ ap (λ x. if nat_le c.tick t then extension size (letters_of_digits digits) else x) (wave.values t)
-              ∙ ap (λ b. if b && nat_le c.tick t then extension size (letters_of_digits digits) else recorded_value size key t (all_x size) c.records)
+              ∙ ap (λ b. if b && nat_le c.tick t then extension size (letters_of_digits digits) else latest_value size key t (all_x size) c.value_changes)
               (sym (ap (bytes_eq code) (sym same) ∙ own_code code))
-              ∙ sym (value_with size key t (all_x size) c.records (record { tick = c.tick; code = code; letters = letters_of_digits digits }));
+              ∙ sym (value_with size key t (all_x size) c.value_changes (record { tick = c.tick; code = code; letters = letters_of_digits digits }));
         }
 
     -- that of another code stays
-    wave_kept : (key : List ℕ) (position size : ℕ) → bytes_eq code key ≡ false → HasWave old.kept.items position key size c.records c.tick
-        → HasWave list.items position key size (c.records ++ change_record ∷ []) c.tick
+    wave_kept : (key : List ℕ) (position size : ℕ) → bytes_eq code key ≡ false → HasWave old.kept.items position key size c.value_changes c.tick
+        → HasWave list.items position key size (c.value_changes ++ change_record ∷ []) c.tick
     unfolding change_record
     wave_kept key position size other wave =
         let apart : first ≢ position = λ at.
@@ -140,8 +140,8 @@ module _ (old : Variables) (list : Vec Variable) (c : Context) (code digits : Li
           ticks = wave.ticks;
           values = λ t.
               wave.values t
-              ∙ ap (λ b. if b && nat_le c.tick t then extension size (letters_of_digits digits) else recorded_value size key t (all_x size) c.records) (sym other)
-              ∙ sym (value_with size key t (all_x size) c.records (record { tick = c.tick; code = code; letters = letters_of_digits digits }));
+              ∙ ap (λ b. if b && nat_le c.tick t then extension size (letters_of_digits digits) else latest_value size key t (all_x size) c.value_changes) (sym other)
+              ∙ sym (value_with size key t (all_x size) c.value_changes (record { tick = c.tick; code = code; letters = letters_of_digits digits }));
         }
 
     changed_variables : Variables
@@ -162,28 +162,28 @@ module _ (old : Variables) (list : Vec Variable) (c : Context) (code digits : Li
               ∙ ap (λ (d : VariableDeclaration). d.size) (sym t.2);
         }
 
-    changed_stands : (key : List ℕ) → Stands list.items (c.records ++ change_record ∷ []) c.tick key (owner_of old key) (variable_of c key)
+    changed_stands : (key : List ℕ) → Stands list.items (c.value_changes ++ change_record ∷ []) c.tick key (owner_of old key) (variable_of c key)
     changed_stands key =
-        stands_moved old.kept.items list.items c.records (c.records ++ change_record ∷ []) c.tick c.tick key (owner_of old key) (variable_of c key)
+        stands_moved old.kept.items list.items c.value_changes (c.value_changes ++ change_record ∷ []) c.tick c.tick key (owner_of old key) (variable_of c key)
         (λ position size owned wave. elim (cases_Bool (bytes_eq code key)) [
           | inl same ↦ wave_changed key position size (same_code code key same) owned wave
           | inr other ↦ wave_kept key position size other wave
         ])
         (k.stand key)
 
-    records_are : recorded_changes c code (letters_of_digits digits) (variable_of c code) ≡ change_record ∷ []
+    records_are : told_value_changes c code (letters_of_digits digits) (variable_of c code) ≡ change_record ∷ []
     unfolding change_record
     records_are =
-        ap (recorded_changes c code (letters_of_digits digits)) own_wave.1
+        ap (told_value_changes c code (letters_of_digits digits)) own_wave.1
         ∙ ap (λ b. if b then [] else record { tick = c.tick; code = code; letters = letters_of_digits digits } ∷ []) own_wave.2
 
     -- the variables hold the record of the change
-    pub changed_knows : Knows (record { kept = list; owners = old.owners; skipped = old.skipped }) (with_recorded_change c code (letters_of_digits digits))
+    pub changed_knows : Knows (record { kept = list; owners = old.owners; skipped = old.skipped }) (with_value_change c code (letters_of_digits digits))
     unfolding changed_variables
     changed_knows = record {
       kept = k.kept ∙ sym (ap (map declaration) items ∙ same_declared old.kept.items first v w stood sets.same);
       skipped = k.skipped;
-      stand = λ key. subst (λ rs. Stands list.items (c.records ++ rs) c.tick key (owner_of old key) (variable_of c key)) (sym records_are) (changed_stands key);
+      stand = λ key. subst (λ rs. Stands list.items (c.value_changes ++ rs) c.tick key (owner_of old key) (variable_of c key)) (sym records_are) (changed_stands key);
       firsts = changed_firsts;
       few = subst (λ n. n ≤ SIGNAL_LIMIT) (sym (ap (length {A = Variable}) items ∙ same_length old.kept.items first w)) k.few;
     }

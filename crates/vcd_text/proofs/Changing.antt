@@ -10,7 +10,7 @@ use Rattle.vcd_core.specs.Decimal.{number_of}
 use Rattle.vcd_core.specs.Word.{is_one_of, is_skipped_kind}
 use Rattle.vcd_text.specs.Letters.{is_among, is_binary_digit}
 use Rattle.vcd_text.specs.Items.{Item, stamp, scalar, vector, real_or_string, bracket, spelling, is_command, dump_words, declaring_words, header_words, vector_prefixes, dropped_prefixes}
-use Rattle.vcd_text.specs.Grammar.{Context, VariableDeclaration, RecordedChange, Allows, told_after_item, word_texts, is_skipped, is_tick, is_binary_number, takes_binary_number, variable_of}
+use Rattle.vcd_text.specs.Grammar.{Context, VariableDeclaration, ValueChange, Allows, told_after_item, word_texts, is_skipped, is_tick, is_binary_number, takes_binary_number, variable_of}
 use Rattle.vcd_core.specs.declared.value.TheConstants.{WIDTH_LIMIT}
 use Rattle.vcd_text.specs.Faults.{ChangeFault, no_tick, tick_goes_back, value_alone, value_of_none, pair_of_none, no_value, value_too_long, declaration_late, no_change, among_changes, WordFault, pair_prefixes}
 use Rattle.vcd_text.specs.inside.Variables.{Knows, BinaryNumberFault, TakesChange}
@@ -62,9 +62,9 @@ agrees_still m c item line agrees = record {
 }
 
 -- one more record among the changes
-agrees_set : (m : Reader) (c : Context) (vs : Variables) (records : List RecordedChange) (item : OpenItem) → Agrees m c → m.changing ≡ true
-    → Knows vs (record c { records = records }) → Agrees (record m { variables = vs; item = item }) (record c { records = records })
-agrees_set m c vs records item agrees changing knows = record {
+agrees_set : (m : Reader) (c : Context) (vs : Variables) (value_changes : List ValueChange) (item : OpenItem) → Agrees m c → m.changing ≡ true
+    → Knows vs (record c { value_changes = value_changes }) → Agrees (record m { variables = vs; item = item }) (record c { value_changes = value_changes })
+agrees_set m c vs value_changes item agrees changing knows = record {
   header = agrees.header;
   timescale = agrees.timescale;
   scopes = agrees.scopes;
@@ -181,7 +181,7 @@ sets_bit m vs letter code line (Ok x) between changing is some takes =
     whole_item m (record m { variables = vs }) (word_on (letter ∷ code) line) (scalar letter code) between between refl (λ c agrees.
     let change = takes c (sym agrees.tick) agrees.variables in (
       (sym agrees.changing ∙ changing, is, some, taken_by_some (variable_of c code) (letter ∷ []) change.0),
-      agrees_set m c vs (told_after_item c (scalar letter code)).records m.item agrees changing change.1,
+      agrees_set m c vs (told_after_item c (scalar letter code)).value_changes m.item agrees changing change.1,
     ))
 sets_bit m vs letter code line (Err fault) between changing is some takes = λ c begun at.
     elim (takes c (sym at.0.tick) at.0.variables) [
@@ -242,7 +242,7 @@ ends_vector m vs code line (Ok x) item takes = λ c begun (agrees, taken).
     let change = takes c (sym agrees.tick) agrees.variables in
     ends_item (vector b.letter m.text.items code) (texts_whole m begun vector_prefixes m.text.items code line b)
     (sym agrees.changing ∙ b.changes, b.among, change.0)
-    (agrees_set m c vs (told_after_item c (vector b.letter m.text.items code)).records items.Nothing agrees b.changes change.1, refl)
+    (agrees_set m c vs (told_after_item c (vector b.letter m.text.items code)).value_changes items.Nothing agrees b.changes change.1, refl)
 ends_vector m vs code line (Err fault) item takes = λ c begun (agrees, taken).
     let b : AwaitsCode m begun vector_prefixes m.text.items = subst (IsBegun m begun) item taken in
     elim (takes c (sym agrees.tick) agrees.variables) [

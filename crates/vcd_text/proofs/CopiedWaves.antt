@@ -5,7 +5,7 @@ use Rattle.std.proofs.lemmas.List.Elements.{All-nil, All-cons, All-head, All-tai
 use Rattle.vcd_core.specs.declared.bit.Bit.{Bit}
 use Rattle.vcd_core.specs.declared.wave.Change.{Change}
 use Rattle.vcd_core.specs.Value.{all_x}
-use Rattle.vcd_core.specs.Wave.{value_from, value_at, ChangesFrom, IsWave, AllUpTo}
+use Rattle.vcd_core.specs.Wave.{value_from, value_at, AreChangesFrom, IsWave, AllUpTo}
 use Rattle.vcd_core.proofs.Waves.{value_from-append, waves_equal}
 
 -- ---- ticks
@@ -28,13 +28,13 @@ some_end (c ∷ cs) =
           (All-weaker (λ (e : Change). e.tick ≤ rest.0) (λ (e : Change). e.tick ≤ c.tick + rest.0) (λ e le. omega (arith, le)) cs rest.1),
     )
 
-floor_below : (floor : ℕ) (before : List Bit) (cs : List Change) (i : ℕ) (d : Change) → ChangesFrom floor before cs → i < length cs → floor ≤ (get_or cs i d).tick
+floor_below : (floor : ℕ) (before : List Bit) (cs : List Change) (i : ℕ) (d : Change) → AreChangesFrom floor before cs → i < length cs → floor ≤ (get_or cs i d).tick
 floor_below floor before [] i d rise within = absurd (omega (arith, within))
 floor_below floor before (c ∷ cs) zero d rise within = rise.0
 floor_below floor before (c ∷ cs) (suc i) d (from, other, wide, rest) within =
     let later = floor_below (c.tick + 1) c.value cs i d rest (omega (arith, within)) in omega (arith, from, later)
 
-ended_before : (floor : ℕ) (before : List Bit) (cs : List Change) (i : ℕ) (d : Change) → ChangesFrom floor before cs → i < length cs → Ended (get_or cs i d).tick (take i cs)
+ended_before : (floor : ℕ) (before : List Bit) (cs : List Change) (i : ℕ) (d : Change) → AreChangesFrom floor before cs → i < length cs → Ended (get_or cs i d).tick (take i cs)
 ended_before floor before [] i d rise within = absurd (omega (arith, within))
 ended_before floor before (c ∷ cs) zero d rise within = All-nil (λ (e : Change). e.tick ≤ c.tick)
 ended_before floor before (c ∷ cs) (suc i) d (from, other, wide, rest) within =
@@ -53,7 +53,7 @@ ended_here tick cs i c within is ended =
     subst (λ (e : Change). e.tick ≤ tick) (get_or_push early (get_or cs i c) c (length early) refl ∙ sym is)
     (all (length early) c (omega (arith, length_push early (get_or cs i c))))
 
-wide_from : (floor : ℕ) (before : List Bit) (cs : List Change) (i : ℕ) (d : Change) → ChangesFrom floor before cs → i < length cs
+wide_from : (floor : ℕ) (before : List Bit) (cs : List Change) (i : ℕ) (d : Change) → AreChangesFrom floor before cs → i < length cs
     → length (get_or cs i d).value ≡ length before
 wide_from floor before [] i d rise within = absurd (omega (arith, within))
 wide_from floor before (c ∷ cs) zero d rise within = rise.2

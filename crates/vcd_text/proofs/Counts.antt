@@ -10,7 +10,7 @@ use Rattle.vcd_core.specs.declared.bit.Bit.{Bit}
 use Rattle.vcd_core.specs.declared.wave.Change.{Change}
 use Rattle.vcd_core.specs.Value.{all_x, same_letters}
 use Rattle.vcd_core.specs.inside.ValueLaws.{same_letters-Decides}
-use Rattle.vcd_core.specs.Wave.{value_from, ChangesFrom}
+use Rattle.vcd_core.specs.Wave.{value_from, AreChangesFrom}
 use Rattle.vcd_core.specs.Contents.{SignalContents, signal_value}
 use Rattle.vcd_core.specs.Sound.{IsSoundSignal}
 use Rattle.vcd_core.proofs.Waves.{value_past, value_skip, value_early}
@@ -181,7 +181,7 @@ times_outside from to t k j (c ∷ cs) out = step (is_in_window from to c.tick) 
         omega (arith, here, rest)
     step false is rest = rest
 
-none_at : (floor t : ℕ) (before : List Bit) (cs : List Change) → ChangesFrom floor before cs → t < floor → count_at t cs ≡ 0
+none_at : (floor t : ℕ) (before : List Bit) (cs : List Change) → AreChangesFrom floor before cs → t < floor → count_at t cs ≡ 0
 none_at floor t before [] rise early = refl
 none_at floor t before (c ∷ cs) (from, other, wide, rest) early =
     omega (arith, ap counted (ne_eqb c.tick t (omega arith)), none_at (c.tick + 1) t c.value cs rest (omega arith))
@@ -200,7 +200,7 @@ other_is v w ne = by (same_letters v w) refl
     by false e = refl
 
 -- a wave has a change at a tick where its value differs from the tick before, and only there
-differs_where : (floor t : ℕ) (before : List Bit) (cs : List Change) → ChangesFrom floor before cs
+differs_where : (floor t : ℕ) (before : List Bit) (cs : List Change) → AreChangesFrom floor before cs
     → count_at (suc t) cs ≡ differ (value_from before cs (suc t)) (value_from before cs t)
 unfolding value_from
 differs_where floor t before [] rise = sym (same_is before before refl)

@@ -30,7 +30,7 @@ declared_context c = record {
   scopes = [];
   declared = declared_of 0 c.signals;
   changing = true;
-  records = [];
+  value_changes = [];
   tick = 0;
 }
 

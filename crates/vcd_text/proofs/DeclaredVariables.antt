@@ -18,8 +18,8 @@ use Rattle.vcd_text.specs.declared.fault.Fault.TheVariants as faults
 use Rattle.vcd_core.specs.declared.value.TheConstants.{WIDTH_LIMIT}
 use Rattle.vcd_core.specs.Decimal.{number_of}
 use Rattle.vcd_core.specs.Word.{is_skipped_kind}
-use Rattle.vcd_text.specs.Grammar.{VariableDeclaration, RecordedChange, Context, is_skipped, kept_variables, variable_of, may_have_code, has_room}
-use Rattle.vcd_text.specs.Meaning.{recorded_value}
+use Rattle.vcd_text.specs.Grammar.{VariableDeclaration, ValueChange, Context, is_skipped, kept_variables, variable_of, may_have_code, has_room}
+use Rattle.vcd_text.specs.Meaning.{latest_value}
 use Rattle.vcd_text.specs.inside.Variables.{declaration, declaration_by, owner_of, HasWave, Stands, HasFirst, Knows, with_declaration, mixed, many, DeclaresAs, code_mixed, no_room, Declares}
 use Rattle.vcd_text.specs.declared.reading.owners.Owners.{Owners}
 use Rattle.vcd_text.specs.declared.reading.variables.Owner.{Owner}
@@ -77,17 +77,17 @@ kept_long vs c k = ap (length {A = VariableDeclaration}) k.kept ∙ length-map v
 
 -- ---- what codes stand for, with one variable more
 
-module _ (records : List RecordedChange) (tick : ℕ) where
+module _ (value_changes : List ValueChange) (tick : ℕ) where
   -- a variable behind the others takes nothing from a code
   stands_longer : (vs more : List Variable) (code : List ℕ) (owner : Option Owner) (declared : Option VariableDeclaration)
-      → Stands vs records tick code owner declared → Stands (vs ++ more) records tick code owner declared
+      → Stands vs value_changes tick code owner declared → Stands (vs ++ more) value_changes tick code owner declared
   stands_longer vs more code owner declared s =
-      stands_moved vs (vs ++ more) records records tick tick code owner declared
+      stands_moved vs (vs ++ more) value_changes value_changes tick tick code owner declared
       (λ position size _ w. record { first = w.first; stands = stays vs more position w.first w.stands; coded = w.coded; sized = w.sized; ticks = w.ticks; values = w.values }) s
 
   -- a later declaration of another code takes nothing from a code
   stands_still : (vs : List Variable) (code : List ℕ) (owner : Option Owner) (declared : Option VariableDeclaration)
-      → Stands vs records tick code owner declared → Stands vs records tick code owner (option_or declared None)
+      → Stands vs value_changes tick code owner declared → Stands vs value_changes tick code owner (option_or declared None)
   stands_still vs code owner None s = s
   stands_still vs code owner (Some d) s = s
 
@@ -106,23 +106,23 @@ puts_same old new code owner same had = λ key.
 
 module _ (old new : Variables) (c : Context) (d : VariableDeclaration) (k : Knows old c) (items : new.kept.items ≡ old.kept.items) (skipped : is_skipped d ≡ true)
     (free : (owner_of old d.code ≡ None) ⊎ (owner_of old d.code ≡ Some Skipped)) (puts : Puts old new d.code Skipped) where
-  skip_here : (v : Option VariableDeclaration) → Stands old.kept.items c.records c.tick d.code (owner_of old d.code) v
-      → Stands old.kept.items c.records c.tick d.code (Some Skipped) (option_or v (Some d))
+  skip_here : (v : Option VariableDeclaration) → Stands old.kept.items c.value_changes c.tick d.code (owner_of old d.code) v
+      → Stands old.kept.items c.value_changes c.tick d.code (Some Skipped) (option_or v (Some d))
   skip_here None s = skipped
   skip_here (Some e) s = elim free [
-    | inl none ↦ absurd (subst (λ o. Stands old.kept.items c.records c.tick d.code o (Some e)) none s)
-    | inr had ↦ subst (λ o. Stands old.kept.items c.records c.tick d.code o (Some e)) had s
+    | inl none ↦ absurd (subst (λ o. Stands old.kept.items c.value_changes c.tick d.code o (Some e)) none s)
+    | inr had ↦ subst (λ o. Stands old.kept.items c.value_changes c.tick d.code o (Some e)) had s
   ]
 
-  skip_stands : (key : List ℕ) → Stands new.kept.items c.records c.tick key (owner_of new key) (variable_of (with_declaration c d) key)
+  skip_stands : (key : List ℕ) → Stands new.kept.items c.value_changes c.tick key (owner_of new key) (variable_of (with_declaration c d) key)
   skip_stands key =
       let both =
-      by_code (λ b. Stands old.kept.items c.records c.tick key (if b then Some Skipped else owner_of old key) (option_or (variable_of c key) (if b then Some d else None))) key d.code
-      (λ is. subst (λ code. Stands old.kept.items c.records c.tick code (Some Skipped) (option_or (variable_of c code) (Some d))) (sym is) (skip_here (variable_of c d.code) (k.stand d.code)))
-      (λ _. stands_still c.records c.tick old.kept.items key (owner_of old key) (variable_of c key) (k.stand key)) in
-      subst (λ vs. Stands vs c.records c.tick key (owner_of new key) (variable_of (with_declaration c d) key)) (sym items)
-      (subst (λ o. Stands old.kept.items c.records c.tick key o (variable_of (with_declaration c d) key)) (sym (puts key))
-      (subst (Stands old.kept.items c.records c.tick key (if bytes_eq key d.code then Some Skipped else owner_of old key)) (sym (found_with key c.declared d)) both))
+      by_code (λ b. Stands old.kept.items c.value_changes c.tick key (if b then Some Skipped else owner_of old key) (option_or (variable_of c key) (if b then Some d else None))) key d.code
+      (λ is. subst (λ code. Stands old.kept.items c.value_changes c.tick code (Some Skipped) (option_or (variable_of c code) (Some d))) (sym is) (skip_here (variable_of c d.code) (k.stand d.code)))
+      (λ _. stands_still c.value_changes c.tick old.kept.items key (owner_of old key) (variable_of c key) (k.stand key)) in
+      subst (λ vs. Stands vs c.value_changes c.tick key (owner_of new key) (variable_of (with_declaration c d) key)) (sym items)
+      (subst (λ o. Stands old.kept.items c.value_changes c.tick key o (variable_of (with_declaration c d) key)) (sym (puts key))
+      (subst (Stands old.kept.items c.value_changes c.tick key (if bytes_eq key d.code then Some Skipped else owner_of old key)) (sym (found_with key c.declared d)) both))
 
   not_kept : (first : ℕ) → owner_of old d.code ≡ Some (Kept first) → ⊥
   not_kept first had = elim free [
@@ -141,7 +141,7 @@ module _ (old new : Variables) (c : Context) (d : VariableDeclaration) (k : Know
         same_size = λ w there. before.same_size w (subst (λ vs. slice_get vs v.first ≡ Some w) items there);
       }
 
-  skip_may : (v : Option VariableDeclaration) → Stands old.kept.items c.records c.tick d.code (owner_of old d.code) v → may_have_code v d ≡ true
+  skip_may : (v : Option VariableDeclaration) → Stands old.kept.items c.value_changes c.tick d.code (owner_of old d.code) v → may_have_code v d ≡ true
   skip_may None s = refl
   skip_may (Some e) s =
       let also : is_skipped e ≡ true = skip_here (Some e) s in
@@ -175,12 +175,12 @@ IsFree old code s first =
 
 module _ (old : Variables) (c : Context) (code : List ℕ) (s : Signal) (first : ℕ) (k : Knows old c)
     (keeps : is_skipped (declaration_by code s) ≡ false) (free : IsFree old code s first) where
-  keep_may : (v : Option VariableDeclaration) → Stands old.kept.items c.records c.tick code (owner_of old code) v → may_have_code v (declaration_by code s) ≡ true
+  keep_may : (v : Option VariableDeclaration) → Stands old.kept.items c.value_changes c.tick code (owner_of old code) v → may_have_code v (declaration_by code s) ≡ true
   keep_may None stands = refl
   keep_may (Some e) stands = elim free [
-    | inl (none, end) ↦ absurd (subst (λ o. Stands old.kept.items c.records c.tick code o (Some e)) none stands)
+    | inl (none, end) ↦ absurd (subst (λ o. Stands old.kept.items c.value_changes c.tick code o (Some e)) none stands)
     | inr (had, width) ↦
-        let there = subst (λ o. Stands old.kept.items c.records c.tick code o (Some e)) had stands in
+        let there = subst (λ o. Stands old.kept.items c.value_changes c.tick code o (Some e)) had stands in
         let size : e.size ≡ s.wave.width = sym there.1.sized ∙ width there.1.first there.1.stands in
         let also : is_skipped e ≡ false = there.0 in
         (λ i. (also i && keeps i) || (not (also i) && not (keeps i) && (size i == s.wave.width))) ∙ same_number s.wave.width
@@ -193,12 +193,12 @@ module _ (old : Variables) (c : Context) (code : List ℕ) (s : Signal) (first :
   keep_full : (new : Variables) → SIGNAL_LIMIT ≤ length old.kept.items → DeclaresAs c (declaration_by code s) (Err faults.TooManySignals) new
   keep_full new full = inr (many (keep_may (variable_of c code) (k.stand code)) (has_room_is false (le-ltb (length old.kept.items) SIGNAL_LIMIT full)) refl)
 
-module _ (old new : Variables) (c : Context) (code : List ℕ) (s : Signal) (first : ℕ) (k : Knows old c) (records : c.records ≡ []) (silent : s.wave.changes ≡ [])
+module _ (old new : Variables) (c : Context) (code : List ℕ) (s : Signal) (first : ℕ) (k : Knows old c) (value_changes : c.value_changes ≡ []) (silent : s.wave.changes ≡ [])
     (keeps : is_skipped (declaration_by code s) ≡ false) (items : new.kept.items ≡ old.kept.items ++ variable_at code s first ∷ [])
     (free : IsFree old code s first)
     (puts : Puts old new code (Kept first)) where
-  silent_wave : HasWave (old.kept.items ++ variable_at code s first ∷ []) (length old.kept.items) code s.wave.width c.records c.tick
-  unfolding recorded_value value_from
+  silent_wave : HasWave (old.kept.items ++ variable_at code s first ∷ []) (length old.kept.items) code s.wave.width c.value_changes c.tick
+  unfolding latest_value value_from
   silent_wave = record {
     first = variable_at code s first;
     stands = last_of old.kept.items (variable_at code s first);
@@ -207,35 +207,35 @@ module _ (old new : Variables) (c : Context) (code : List ℕ) (s : Signal) (fir
     ticks = subst (All (λ (e : Change). e.tick ≤ c.tick)) (sym silent) (All-nil (λ (e : Change). e.tick ≤ c.tick));
     values = λ t.
         ap (λ cs. value_at s.wave.width cs t) silent
-        ∙ sym (ap (recorded_value s.wave.width code t (all_x s.wave.width)) records);
+        ∙ sym (ap (latest_value s.wave.width code t (all_x s.wave.width)) value_changes);
   }
 
-  keep_here : (v : Option VariableDeclaration) → Stands old.kept.items c.records c.tick code (owner_of old code) v
-      → Stands (old.kept.items ++ variable_at code s first ∷ []) c.records c.tick code (Some (Kept first)) (option_or v (Some (declaration_by code s)))
+  keep_here : (v : Option VariableDeclaration) → Stands old.kept.items c.value_changes c.tick code (owner_of old code) v
+      → Stands (old.kept.items ++ variable_at code s first ∷ []) c.value_changes c.tick code (Some (Kept first)) (option_or v (Some (declaration_by code s)))
   keep_here None stands = elim free [
     | inl (none, end) ↦
-        (keeps, subst (λ n. HasWave (old.kept.items ++ variable_at code s first ∷ []) n code s.wave.width c.records c.tick) (sym end) silent_wave)
-    | inr (had, width) ↦ absurd (subst (λ o. Stands old.kept.items c.records c.tick code o None) had stands)
+        (keeps, subst (λ n. HasWave (old.kept.items ++ variable_at code s first ∷ []) n code s.wave.width c.value_changes c.tick) (sym end) silent_wave)
+    | inr (had, width) ↦ absurd (subst (λ o. Stands old.kept.items c.value_changes c.tick code o None) had stands)
   ]
   keep_here (Some e) stands = elim free [
-    | inl (none, end) ↦ absurd (subst (λ o. Stands old.kept.items c.records c.tick code o (Some e)) none stands)
+    | inl (none, end) ↦ absurd (subst (λ o. Stands old.kept.items c.value_changes c.tick code o (Some e)) none stands)
     | inr (had, width) ↦
-        stands_longer c.records c.tick old.kept.items (variable_at code s first ∷ []) code (Some (Kept first)) (Some e)
-        (subst (λ o. Stands old.kept.items c.records c.tick code o (Some e)) had stands)
+        stands_longer c.value_changes c.tick old.kept.items (variable_at code s first ∷ []) code (Some (Kept first)) (Some e)
+        (subst (λ o. Stands old.kept.items c.value_changes c.tick code o (Some e)) had stands)
   ]
 
-  keep_stands : (key : List ℕ) → Stands new.kept.items c.records c.tick key (owner_of new key) (variable_of (with_declaration c (declaration_by code s)) key)
+  keep_stands : (key : List ℕ) → Stands new.kept.items c.value_changes c.tick key (owner_of new key) (variable_of (with_declaration c (declaration_by code s)) key)
   keep_stands key =
       let all = old.kept.items ++ variable_at code s first ∷ [] in
       let d = declaration_by code s in
       let both =
-      by_code (λ b. Stands all c.records c.tick key (if b then Some (Kept first) else owner_of old key) (option_or (variable_of c key) (if b then Some d else None))) key code
-      (λ is. subst (λ name. Stands all c.records c.tick name (Some (Kept first)) (option_or (variable_of c name) (Some d))) (sym is) (keep_here (variable_of c code) (k.stand code)))
-      (λ _. stands_still c.records c.tick all key (owner_of old key) (variable_of c key)
-      (stands_longer c.records c.tick old.kept.items (variable_at code s first ∷ []) key (owner_of old key) (variable_of c key) (k.stand key))) in
-      subst (λ vs. Stands vs c.records c.tick key (owner_of new key) (variable_of (with_declaration c d) key)) (sym items)
-      (subst (λ o. Stands all c.records c.tick key o (variable_of (with_declaration c d) key)) (sym (puts key))
-      (subst (Stands all c.records c.tick key (if bytes_eq key code then Some (Kept first) else owner_of old key)) (sym (found_with key c.declared d)) both))
+      by_code (λ b. Stands all c.value_changes c.tick key (if b then Some (Kept first) else owner_of old key) (option_or (variable_of c key) (if b then Some d else None))) key code
+      (λ is. subst (λ name. Stands all c.value_changes c.tick name (Some (Kept first)) (option_or (variable_of c name) (Some d))) (sym is) (keep_here (variable_of c code) (k.stand code)))
+      (λ _. stands_still c.value_changes c.tick all key (owner_of old key) (variable_of c key)
+      (stands_longer c.value_changes c.tick old.kept.items (variable_at code s first ∷ []) key (owner_of old key) (variable_of c key) (k.stand key))) in
+      subst (λ vs. Stands vs c.value_changes c.tick key (owner_of new key) (variable_of (with_declaration c d) key)) (sym items)
+      (subst (λ o. Stands all c.value_changes c.tick key o (variable_of (with_declaration c d) key)) (sym (puts key))
+      (subst (Stands all c.value_changes c.tick key (if bytes_eq key code then Some (Kept first) else owner_of old key)) (sym (found_with key c.declared d)) both))
 
   -- the variables before it know their first ones
   keep_earlier : (position : ℕ) (v : Variable) → slice_get old.kept.items position ≡ Some v → HasFirst new position v
@@ -261,8 +261,8 @@ module _ (old new : Variables) (c : Context) (code : List ℕ) (s : Signal) (fir
   first_within = elim free [
     | inl (none, end) ↦ omega (arith, end)
     | inr (had, width) ↦
-        let e = stands_kept old.kept.items c.records c.tick code (variable_of c code) first
-        (subst (λ o. Stands old.kept.items c.records c.tick code o (variable_of c code)) had (k.stand code)) in
+        let e = stands_kept old.kept.items c.value_changes c.tick code (variable_of c code) first
+        (subst (λ o. Stands old.kept.items c.value_changes c.tick code o (variable_of c code)) had (k.stand code)) in
         omega (arith, slice_get_within old.kept.items first e.3.first e.3.stands)
   ]
 
@@ -303,14 +303,14 @@ module _ (old new : Variables) (c : Context) (code : List ℕ) (s : Signal) (fir
 
 -- what comes of a variable that is put behind the others
 pub push_declares : (old new : Variables) (c : Context) (code : List ℕ) (s : Signal) (first : ℕ) (result : Result (Unit {0}) Fault)
-    → Knows old c → c.records ≡ [] → s.wave.changes ≡ [] → is_skipped (declaration_by code s) ≡ false → IsFree old code s first
+    → Knows old c → c.value_changes ≡ [] → s.wave.changes ≡ [] → is_skipped (declaration_by code s) ≡ false → IsFree old code s first
     → OnOk result (length old.kept.items < SIGNAL_LIMIT) → OnOk result (new.kept.items ≡ old.kept.items ++ variable_at code s first ∷ [])
     → OnOk result (Puts old new code (Kept first)) → new.skipped ≡ old.skipped
     → IfErr result (λ fault. (fault ≡ faults.NoMemory) ⊎ ((fault ≡ faults.TooManySignals) × (SIGNAL_LIMIT ≤ length old.kept.items)))
     → DeclaresAs c (declaration_by code s) result new
-push_declares old new c code s first (Ok x) k records silent keeps free room items puts same refuses =
-    keep_declares old new c code s first k records silent keeps items free puts room same x
-push_declares old new c code s first (Err fault) k records silent keeps free room items puts same refuses = elim refuses [
+push_declares old new c code s first (Ok x) k value_changes silent keeps free room items puts same refuses =
+    keep_declares old new c code s first k value_changes silent keeps items free puts room same x
+push_declares old new c code s first (Err fault) k value_changes silent keeps free room items puts same refuses = elim refuses [
   | inl none ↦ inl none
   | inr (why, full) ↦ subst (λ f. DeclaresAs c (declaration_by code s) (Err f) new) (sym why) (keep_full old c code s first k keeps free new full)
 ]

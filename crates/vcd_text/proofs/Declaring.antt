@@ -40,8 +40,8 @@ no_end_more words text none isnt =
 -- ---- what is told stays known
 
 -- the variables hold what a context tells that differs in other things alone
-same_known : (vs : Variables) (c d : Context) → c.declared ≡ d.declared → c.records ≡ d.records → c.tick ≡ d.tick → Knows vs c → Knows vs d
-same_known vs c d declared records tick known = knows_further vs c d declared records (omega (arith, tick)) known
+same_known : (vs : Variables) (c d : Context) → c.declared ≡ d.declared → c.value_changes ≡ d.value_changes → c.tick ≡ d.tick → Knows vs c → Knows vs d
+same_known vs c d declared value_changes tick known = knows_further vs c d declared value_changes (omega (arith, tick)) known
 
 -- ---- the end of an item
 
@@ -189,7 +189,7 @@ closes_other m is line c begun at =
 
 -- the variables have taken the declaration
 pub closes_variable : (m : Reader) (variables : Variables) (scopes : List ScopeName) (words : List (List ℕ)) → scopes ≡ m.scopes.items → words ≡ m.words.items
-    → ((c : Context) → c.scopes ≡ scopes → c.records ≡ [] → Knows m.variables c → Declares c words (Ok tt) variables) → m.item ≡ items.Variable
+    → ((c : Context) → c.scopes ≡ scopes → c.value_changes ≡ [] → Knows m.variables c → Declares c words (Ok tt) variables) → m.item ≡ items.Variable
     → (line : ℕ) (c : Context) (begun : List PlacedWord) → At m c begun
     → TakesWord c (begun ++ word_on end_word line ∷ []) (record m { variables = variables; item = items.Nothing })
 closes_variable m variables scopes words inside spelled declare is line c begun at =
@@ -229,7 +229,7 @@ fault_shown m c begun fault declares b good (inr shown) = inr (variable_fault m 
 -- the words declare no variable that may stand here
 pub shows_no_variable : (m new : Reader) (result : Result (Unit {0}) Fault) (fault : Fault) (variables : Variables) (scopes : List ScopeName) (words : List (List ℕ))
     → scopes ≡ m.scopes.items → words ≡ m.words.items
-    → ((c : Context) → c.scopes ≡ scopes → c.records ≡ [] → Knows m.variables c → Declares c words (Err fault) variables) → m.item ≡ items.Variable
+    → ((c : Context) → c.scopes ≡ scopes → c.value_changes ≡ [] → Knows m.variables c → Declares c words (Err fault) variables) → m.item ≡ items.Variable
     → IsErrAnd result (λ e. e ≡ fault) → (line : ℕ) → TakesOrRefuses m (word_on end_word line) result new
 shows_no_variable m new (Ok x) fault variables scopes words inside spelled declare is failed line = absurd failed
 shows_no_variable m new (Err e) fault variables scopes words inside spelled declare is failed line =

@@ -10,7 +10,7 @@ use Rattle.vcd_core.specs.Wave.{value_at, changes_of, IsWave}
 use Rattle.vcd_core.specs.Contents.{SignalContents, signal_contents}
 use Rattle.vcd_core.proofs.Waves.{wave_is}
 use Rattle.vcd_text.specs.Grammar.{VariableDeclaration, Context, is_skipped, variable_of}
-use Rattle.vcd_text.specs.Meaning.{recorded_value, declared_signal}
+use Rattle.vcd_text.specs.Meaning.{latest_value, declared_signal}
 use Rattle.vcd_text.specs.inside.Variables.{declaration, HasWave, Stands, Knows, Finishes}
 use Rattle.vcd_text.specs.declared.reading.variables.Variable.{Variable}
 use Rattle.vcd_text.specs.declared.reading.variables.Variables.{Variables}
@@ -37,43 +37,43 @@ map_twice f [] = refl
 map_twice f (v ∷ vs) = ap (λ l. f (declaration v) ∷ l) (map_twice f vs)
 
 module _ (vs : Variables) (c : Context) (yielded rest : List Variable) (v : Variable) (signals : List Signal) (k : Knows vs c) (all : vs.kept.items ≡ yielded ++ v ∷ rest)
-    (told : map signal_contents signals ≡ map (declared_signal c.records c.tick) (map declaration yielded)) where
+    (told : map signal_contents signals ≡ map (declared_signal c.value_changes c.tick) (map declaration yielded)) where
   stands_at : slice_get vs.kept.items (length yielded) ≡ Some v
   stands_at = ap (λ l. slice_get l (length yielded)) all ∙ middle_of yielded rest v
 
-  own_wave : (d : VariableDeclaration) × (variable_of c v.code ≡ Some d) × (is_skipped d ≡ false) × HasWave vs.kept.items v.first v.code d.size c.records c.tick
+  own_wave : (d : VariableDeclaration) × (variable_of c v.code ≡ Some d) × (is_skipped d ≡ false) × HasWave vs.kept.items v.first v.code d.size c.value_changes c.tick
   own_wave =
-      stands_kept vs.kept.items c.records c.tick v.code (variable_of c v.code) v.first
-      (subst (λ o. Stands vs.kept.items c.records c.tick v.code o (variable_of c v.code)) (k.firsts (length yielded) v stands_at).owned (k.stand v.code))
+      stands_kept vs.kept.items c.value_changes c.tick v.code (variable_of c v.code) v.first
+      (subst (λ o. Stands vs.kept.items c.value_changes c.tick v.code o (variable_of c v.code)) (k.firsts (length yielded) v stands_at).owned (k.stand v.code))
 
   -- the changes of a variable of this size and code
   changes_by : ℕ → List ℕ → List Change
-  changes_by width code = changes_of width c.tick (λ t. recorded_value width code t (all_x width) c.records)
+  changes_by width code = changes_of width c.tick (λ t. latest_value width code t (all_x width) c.value_changes)
 
   -- the first variable of its code has its own wave
-  first_means : v.first ≡ length yielded → IsWave v.signal.wave.width v.signal.wave.changes → signal_contents v.signal ≡ declared_signal c.records c.tick (declaration v)
+  first_means : v.first ≡ length yielded → IsWave v.signal.wave.width v.signal.wave.changes → signal_contents v.signal ≡ declared_signal c.value_changes c.tick (declaration v)
   unfolding changes_by
   first_means end is =
       let wave = own_wave.3 in
       let same : wave.first ≡ v = same_Some wave.first v (sym wave.stands ∙ ap (slice_get vs.kept.items) end ∙ stands_at) in
       let size : v.signal.wave.width ≡ own_wave.0.size = ap (λ (u : Variable). u.signal.wave.width) (sym same) ∙ wave.sized in
       let changes : v.signal.wave.changes ≡ changes_by v.signal.wave.width v.code =
-      wave_is v.signal.wave.width c.tick v.signal.wave.changes (λ t. recorded_value v.signal.wave.width v.code t (all_x v.signal.wave.width) c.records) is
+      wave_is v.signal.wave.width c.tick v.signal.wave.changes (λ t. latest_value v.signal.wave.width v.code t (all_x v.signal.wave.width) c.value_changes) is
       (ended_upto c.tick v.signal.wave.changes (subst (λ (u : Variable). Ended c.tick u.signal.wave.changes) same wave.ticks))
       (λ t _.
       ap (λ n. value_at n v.signal.wave.changes t) size
       ∙ ap (λ (u : Variable). value_at own_wave.0.size u.signal.wave.changes t) (sym same)
       ∙ wave.values t
-      ∙ ap (λ n. recorded_value n v.code t (all_x n) c.records) (sym size)) in
+      ∙ ap (λ n. latest_value n v.code t (all_x n) c.value_changes) (sym size)) in
       λ i. record { scopes = v.signal.scopes; kind = v.signal.kind; words = v.signal.words; width = v.signal.wave.width; changes = changes i }
 
   -- a later one has that of the first
   later_means : (s signal : Signal) → slice_get signals v.first ≡ Some s
       → signal_contents signal ≡ record { scopes = v.signal.scopes; kind = v.signal.kind; words = v.signal.words; width = s.wave.width; changes = s.wave.changes }
-      → signal_contents signal ≡ declared_signal c.records c.tick (declaration v)
+      → signal_contents signal ≡ declared_signal c.value_changes c.tick (declaration v)
   unfolding changes_by
   later_means s signal at takes =
-      let behind = variable_behind (λ u. declared_signal c.records c.tick (declaration u)) yielded signals v.first s (told ∙ map_twice (declared_signal c.records c.tick) yielded) at in
+      let behind = variable_behind (λ u. declared_signal c.value_changes c.tick (declaration u)) yielded signals v.first s (told ∙ map_twice (declared_signal c.value_changes c.tick) yielded) at in
       let stood : slice_get vs.kept.items v.first ≡ Some behind.0 = ap (λ l. slice_get l v.first) all ∙ stays yielded (v ∷ rest) v.first behind.0 behind.1 in
       let same : behind.0 ≡ own_wave.3.first = same_Some behind.0 own_wave.3.first (sym stood ∙ own_wave.3.stands) in
       let code : behind.0.code ≡ v.code = ap (λ (u : Variable). u.code) same ∙ own_wave.3.coded in
@@ -84,12 +84,12 @@ module _ (vs : Variables) (c : Context) (yielded rest : List Variable) (v : Vari
       takes ∙ (λ i. record { scopes = v.signal.scopes; kind = v.signal.kind; words = v.signal.words; width = width i; changes = changes i })
 
   -- the signal that a variable becomes is the one that it declares
-  pub finishes_as_declared : (signal : Signal) → Finishes v (slice_get signals v.first) signal → signal_contents signal ≡ declared_signal c.records c.tick (declaration v)
+  pub finishes_as_declared : (signal : Signal) → Finishes v (slice_get signals v.first) signal → signal_contents signal ≡ declared_signal c.value_changes c.tick (declaration v)
   finishes_as_declared signal finishes = elim (slice_get_cases signals v.first).1 [
     | inl (s, within, at, read) ↦ later_means s signal at (subst (λ o. Finishes v o signal) at finishes)
     | inr (past, at) ↦
         let own : Finishes v None signal = subst (λ o. Finishes v o signal) at finishes in
-        let long : length signals ≡ length yielded = sym (length-map signals signal_contents) ∙ ap (length {A = SignalContents}) told ∙ length-map (map declaration yielded) (declared_signal c.records c.tick) ∙ length-map yielded declaration in
+        let long : length signals ≡ length yielded = sym (length-map signals signal_contents) ∙ ap (length {A = SignalContents}) told ∙ length-map (map declaration yielded) (declared_signal c.value_changes c.tick) ∙ length-map yielded declaration in
         let end : v.first ≡ length yielded = omega (arith, past, long, (k.firsts (length yielded) v stands_at).no_later) in
         ap signal_contents own.0 ∙ first_means end (subst (λ (x : Signal). IsWave x.wave.width x.wave.changes) own.0 own.1)
   ]

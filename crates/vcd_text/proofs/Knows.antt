@@ -1,7 +1,7 @@
 -- What the reader's variables hold of what a file has told.
 use Rattle.std.proofs.Common.{◌≡◌, ℕ, ◌≤◌, List, sym, ap, ◌∙◌, subst, arith, find, map}
 use Rattle.std.specs.Prelude.{count_by, bytes_eq}
-use Rattle.vcd_text.specs.Grammar.{RecordedChange, Context, variable_of, is_skipped, kept_variables}
+use Rattle.vcd_text.specs.Grammar.{ValueChange, Context, variable_of, is_skipped, kept_variables}
 use Rattle.vcd_text.specs.inside.ShortCodes.{code_owner}
 use Rattle.vcd_text.specs.declared.reading.owners.Owners.{Owners}
 use Rattle.vcd_text.specs.inside.Variables.{declaration, owner_of, HasWave, Stands, Knows}
@@ -9,21 +9,21 @@ use Rattle.vcd_text.specs.declared.reading.variables.Variable.{Variable}
 use Rattle.vcd_text.specs.declared.reading.variables.Variables.{Variables}
 use Rattle.vcd_text.proofs.Owners.{stands_moved}
 
-wave_further : (vs : List Variable) (records : List RecordedChange) (early late position : ℕ) (code : List ℕ) (size : ℕ)
-    → early ≤ late → HasWave vs position code size records early → HasWave vs position code size records late
-wave_further vs records early late position code size later w =
+wave_further : (vs : List Variable) (value_changes : List ValueChange) (early late position : ℕ) (code : List ℕ) (size : ℕ)
+    → early ≤ late → HasWave vs position code size value_changes early → HasWave vs position code size value_changes late
+wave_further vs value_changes early late position code size later w =
     record { first = w.first; stands = w.stands; coded = w.coded; sized = w.sized; ticks = λ k d within. omega (arith, later, w.ticks k d within); values = w.values }
 
 -- variables that hold what has been told hold it at a later tick too
-pub knows_further : (vs : Variables) (c d : Context) → c.declared ≡ d.declared → c.records ≡ d.records → c.tick ≤ d.tick → Knows vs c → Knows vs d
-knows_further vs c d declared records later k = record {
+pub knows_further : (vs : Variables) (c d : Context) → c.declared ≡ d.declared → c.value_changes ≡ d.value_changes → c.tick ≤ d.tick → Knows vs c → Knows vs d
+knows_further vs c d declared value_changes later k = record {
   kept = subst (λ ds. kept_variables ds ≡ map declaration vs.kept.items) declared k.kept;
   skipped = subst (λ ds. vs.skipped ≡ count_by is_skipped ds) declared k.skipped;
   stand = λ code.
-      stands_moved vs.kept.items vs.kept.items d.records d.records c.tick d.tick code (owner_of vs code) (find (λ e. bytes_eq code e.code) d.declared)
-      (λ position size _ wave. wave_further vs.kept.items d.records c.tick d.tick position code size later wave)
-      (subst (λ rs. Stands vs.kept.items rs c.tick code (owner_of vs code) (find (λ e. bytes_eq code e.code) d.declared)) records
-      (subst (λ ds. Stands vs.kept.items c.records c.tick code (owner_of vs code) (find (λ e. bytes_eq code e.code) ds)) declared (k.stand code)));
+      stands_moved vs.kept.items vs.kept.items d.value_changes d.value_changes c.tick d.tick code (owner_of vs code) (find (λ e. bytes_eq code e.code) d.declared)
+      (λ position size _ wave. wave_further vs.kept.items d.value_changes c.tick d.tick position code size later wave)
+      (subst (λ rs. Stands vs.kept.items rs c.tick code (owner_of vs code) (find (λ e. bytes_eq code e.code) d.declared)) value_changes
+      (subst (λ ds. Stands vs.kept.items c.value_changes c.tick code (owner_of vs code) (find (λ e. bytes_eq code e.code) ds)) declared (k.stand code)));
   firsts = k.firsts;
   few = k.few;
 }
@@ -33,7 +33,7 @@ pub same_codes : (vs : Variables) (owners : Owners) (c : Context) → owners.cod
 same_codes vs owners c same k = record {
   kept = k.kept;
   skipped = k.skipped;
-  stand = λ code. subst (λ m. Stands vs.kept.items c.records c.tick code (code_owner m code) (variable_of c code)) (sym same) (k.stand code);
+  stand = λ code. subst (λ m. Stands vs.kept.items c.value_changes c.tick code (code_owner m code) (variable_of c code)) (sym same) (k.stand code);
   firsts = λ position v at. let first = k.firsts position v at in
       record { owned = ap (λ m. code_owner m v.code) same ∙ first.owned; no_later = first.no_later; same_size = first.same_size };
   few = k.few;

@@ -8,7 +8,7 @@ use Rattle.vcd_core.specs.declared.bit.Bit.{Bit}
 use Rattle.vcd_core.specs.declared.capture.Signal.{Signal}
 use Rattle.vcd_core.specs.declared.wave.Change.{Change}
 use Rattle.vcd_core.specs.Contents.{signal_contents}
-use Rattle.vcd_core.specs.Wave.{ChangesFrom}
+use Rattle.vcd_core.specs.Wave.{AreChangesFrom}
 use Rattle.vcd_text.specs.declared.writing.transitions.Transition.{Transition}
 use Rattle.vcd_text.specs.inside.Transitions.{is_in_window, transition_of, window_by_signal, window_of_signal}
 use Rattle.vcd_text.proofs.Counts.{before_window, behind_window, in_window}
@@ -28,7 +28,7 @@ counts t c cs low = count_cons t c cs ∙ ap (λ b. cond b 1 0 + count_to t cs) 
 skips : (t : ℕ) (c : Change) (cs : List Change) → t < c.tick → count_to t (c ∷ cs) ≡ count_to t cs
 skips t c cs high = count_cons t c cs ∙ ap (λ b. cond b 1 0 + count_to t cs) (lt-leb c.tick t high) ∙ omega arith
 
-none_to : (floor t : ℕ) (before : List Bit) (cs : List Change) → ChangesFrom floor before cs → t < floor → count_to t cs ≡ 0
+none_to : (floor t : ℕ) (before : List Bit) (cs : List Change) → AreChangesFrom floor before cs → t < floor → count_to t cs ≡ 0
 none_to floor t before [] rise early = refl
 none_to floor t before (c ∷ cs) (from, other, wide, rest) early = skips t c cs (omega arith) ∙ none_to (c.tick + 1) t c.value cs rest (omega arith)
 
@@ -45,7 +45,7 @@ count_rises a b (c ∷ cs) up =
     ]
 
 -- the part of the list between two counts is the window
-pub part_is_window : (a b floor : ℕ) (before : List Bit) (cs : List Change) → a ≤ b → ChangesFrom floor before cs
+pub part_is_window : (a b floor : ℕ) (before : List Bit) (cs : List Change) → a ≤ b → AreChangesFrom floor before cs
     → take (count_to b cs - count_to a cs) (drop (count_to a cs) cs) ≡ filter (λ c. is_in_window (a + 1) (b + 1) c.tick) cs
 part_is_window a b floor before [] up rise = refl
 part_is_window a b floor before (c ∷ cs) up (from, other, wide, rest) =

@@ -8,7 +8,7 @@ use Rattle.std.proofs.lemmas.Cmp.{nat_list_eq_equiv}
 use Rattle.std.proofs.lemmas.Slice.Eq.{bytes_eq-Decides}
 use Rattle.std.proofs.lemmas.List.Folds.{find-append}
 use Rattle.indexmap.specs.IndexMap.{IndexMap, Updates, get_by}
-use Rattle.vcd_text.specs.Grammar.{VariableDeclaration, RecordedChange, is_skipped}
+use Rattle.vcd_text.specs.Grammar.{VariableDeclaration, ValueChange, is_skipped}
 use Rattle.vcd_text.specs.inside.Variables.{HasWave, Stands}
 use Rattle.vcd_text.specs.declared.reading.variables.Owner.{Owner}
 use Rattle.vcd_text.specs.declared.reading.variables.Owner.TheVariants.{Skipped, Kept}
@@ -48,15 +48,15 @@ module _ {S : Type 0} (old new : IndexMap (Vec ℕ) Owner S) (k : Vec ℕ) (w : 
 
 -- ---- a code against the variables that were declared
 
-module _ (vs : List Variable) (records : List RecordedChange) (tick : ℕ) (code : List ℕ) where
+module _ (vs : List Variable) (value_changes : List ValueChange) (tick : ℕ) (code : List ℕ) where
   -- that of a variable that is kept has its wave
-  pub stands_kept : (declared : Option VariableDeclaration) (position : ℕ) → Stands vs records tick code (Some (Kept position)) declared
-      → (d : VariableDeclaration) × (declared ≡ Some d) × (is_skipped d ≡ false) × HasWave vs position code d.size records tick
+  pub stands_kept : (declared : Option VariableDeclaration) (position : ℕ) → Stands vs value_changes tick code (Some (Kept position)) declared
+      → (d : VariableDeclaration) × (declared ≡ Some d) × (is_skipped d ≡ false) × HasWave vs position code d.size value_changes tick
   stands_kept None position s = absurd s
   stands_kept (Some d) position s = (d, refl, s.0, s.1)
 
 -- what holds of the waves in one list holds in another
-pub stands_moved : (vs ws : List Variable) (rs ss : List RecordedChange) (early late : ℕ) (code : List ℕ) (owner : Option Owner) (declared : Option VariableDeclaration)
+pub stands_moved : (vs ws : List Variable) (rs ss : List ValueChange) (early late : ℕ) (code : List ℕ) (owner : Option Owner) (declared : Option VariableDeclaration)
     → ((position size : ℕ) → owner ≡ Some (Kept position) → HasWave vs position code size rs early → HasWave ws position code size ss late)
     → Stands vs rs early code owner declared → Stands ws ss late code owner declared
 stands_moved vs ws rs ss early late code None None transitions s = s

@@ -9,7 +9,7 @@ use Rattle.vcd_core.specs.declared.bit.Bit.{Bit}
 use Rattle.vcd_core.specs.declared.bit.Bit.TheVariants.{Zero, One, X, Z}
 use Rattle.vcd_core.specs.declared.wave.Change.{Change}
 use Rattle.vcd_core.specs.Value.{all_x, same_letters, printed_letter}
-use Rattle.vcd_core.specs.Wave.{value_from, value_at, ChangesFrom, IsWave}
+use Rattle.vcd_core.specs.Wave.{value_from, value_at, AreChangesFrom, IsWave}
 use Rattle.vcd_core.specs.inside.ValueLaws.{same_letters-Decides}
 use Rattle.vcd_text.specs.Letters.{is_binary_digit, letter_of_digit, letters_of_digits, printed_letters, pad_letter, extension, suffixes, short_form}
 use Rattle.vcd_text.specs.Grammar.{is_binary_number}
@@ -89,7 +89,7 @@ short_one b = one (same_letters (extension 1 (b ∷ [])) (b ∷ []))
 -- ---- the width
 
 -- each value of a wave has its width
-wide_from : (width floor t : ℕ) (kept before : List Bit) (cs : List Change) → ChangesFrom floor kept cs → length kept ≡ width → length before ≡ width
+wide_from : (width floor t : ℕ) (kept before : List Bit) (cs : List Change) → AreChangesFrom floor kept cs → length kept ≡ width → length before ≡ width
     → length (value_from before cs t) ≡ width
 unfolding value_from
 wide_from width floor t kept before [] rise long wide = wide

@@ -1,4 +1,4 @@
--- The records of a capture's text give each signal its value at every tick.
+-- The value_changes of a capture's text give each signal its value at every tick.
 use Rattle.std.proofs.Common.{◌≡◌, ◌≢◌, ℕ, zero, suc, ◌+◌, ◌-◌, ◌<◌, ◌≤◌, Bool, true, false, not, cond, if◌then◌else◌, ◌&&◌, nat_le, List, [], ◌∷◌, ◌++◌, length, map, get_or, refl, sym, ap, subst, ◌∙◌, inl, inr, arith}
 use Rattle.std.specs.Prelude.{bytes_eq}
 use Rattle.std.specs.List.{filter, enumerate_from}
@@ -8,28 +8,28 @@ use Rattle.vcd_core.specs.Value.{all_x, same_letters}
 use Rattle.vcd_core.specs.inside.ValueLaws.{same_letters-Decides}
 use Rattle.vcd_core.specs.Contents.{SignalContents, signal_value}
 use Rattle.vcd_text.specs.Letters.{extension, short_form}
-use Rattle.vcd_text.specs.Grammar.{RecordedChange}
-use Rattle.vcd_text.specs.Meaning.{recorded_value}
+use Rattle.vcd_text.specs.Grammar.{ValueChange}
+use Rattle.vcd_text.specs.Meaning.{latest_value}
 use Rattle.vcd_text.specs.Text.{code_of, differs_at}
 use Rattle.vcd_text.proofs.DeclaredSignals.{same_code, other_code}
 use Rattle.vcd_text.proofs.ReadValues.{ext-short}
 use Rattle.vcd_text.proofs.TextChanges.{differing, record_of, tick_records}
 
-recorded_value-append : (width : ℕ) (code : List ℕ) (t : ℕ) (before : List Bit) (rs qs : List RecordedChange)
-    → recorded_value width code t before (rs ++ qs) ≡ recorded_value width code t (recorded_value width code t before rs) qs
-unfolding recorded_value
-recorded_value-append width code t before [] qs = refl
-recorded_value-append width code t before (r ∷ rs) qs = recorded_value-append width code t (if bytes_eq r.code code && nat_le r.tick t then extension width r.letters else before) rs qs
+latest_value-append : (width : ℕ) (code : List ℕ) (t : ℕ) (before : List Bit) (rs qs : List ValueChange)
+    → latest_value width code t before (rs ++ qs) ≡ latest_value width code t (latest_value width code t before rs) qs
+unfolding latest_value
+latest_value-append width code t before [] qs = refl
+latest_value-append width code t before (r ∷ rs) qs = latest_value-append width code t (if bytes_eq r.code code && nat_le r.tick t then extension width r.letters else before) rs qs
 
 -- of one signal, at the position k, at the tick t
 module _ (width k t : ℕ) where
-  -- what the records say after a value
-  abbrev after_records : List Bit → List RecordedChange → List Bit
-  after_records before rs = recorded_value width (code_of k) t before rs
+  -- what the value_changes say after a value
+  abbrev after_records : List Bit → List ValueChange → List Bit
+  after_records before rs = latest_value width (code_of k) t before rs
 
-  -- records past the tick say nothing
+  -- value_changes past the tick say nothing
   past_records : (u : ℕ) (before : List Bit) (placed : List (ℕ × SignalContents)) → t < u → after_records before (map (record_of u) placed) ≡ before
-  unfolding recorded_value
+  unfolding latest_value
   past_records u before [] past = refl
   past_records u before (p ∷ ps) past =
       let not_yet : (bytes_eq (code_of p.0) (code_of k) && nat_le u t) ≡ false = and_right (bytes_eq (code_of p.0) (code_of k)) (nat_le u t) (lt-leb u t past) in
@@ -37,23 +37,23 @@ module _ (width k t : ℕ) where
       ∙ past_records u before ps past
 
   past_ticks : (signals : List SignalContents) (u n : ℕ) (before : List Bit) → t < u → after_records before (tick_records signals u n) ≡ before
-  unfolding recorded_value tick_records
+  unfolding latest_value tick_records
   past_ticks signals u zero before past = refl
   past_ticks signals u (suc n) before past =
-      recorded_value-append width (code_of k) t before (map (record_of u) (differing signals u)) (tick_records signals (suc u) n)
+      latest_value-append width (code_of k) t before (map (record_of u) (differing signals u)) (tick_records signals (suc u) n)
       ∙ ap (λ v. after_records v (tick_records signals (suc u) n)) (past_records u before (differing signals u) past)
       ∙ past_ticks signals (suc u) n before (omega arith)
 
   -- at a tick that has come, for signals that pass a test
   module _ (u : ℕ) (test : ℕ × SignalContents → Bool) where
-    -- the records of signals from position j on
-    abbrev records_from : ℕ → List SignalContents → List RecordedChange
+    -- the value_changes of signals from position j on
+    abbrev records_from : ℕ → List SignalContents → List ValueChange
     records_from j ss = map (record_of u) (filter test (enumerate_from j ss))
 
     -- a signal at another position says nothing
     other_signal : (j : ℕ) (s : SignalContents) (ss : List SignalContents) (before : List Bit) → j ≢ k
         → after_records before (records_from j (s ∷ ss)) ≡ after_records before (records_from (j + 1) ss)
-    unfolding recorded_value
+    unfolding latest_value
     other_signal j s ss before other = choose (test (j, s))
       where
         choose : (b : Bool) → after_records before (map (record_of u) (cond b ((j, s) ∷ filter test (enumerate_from (j + 1) ss)) (filter test (enumerate_from (j + 1) ss)))) ≡ after_records before (records_from (j + 1) ss)
@@ -61,14 +61,14 @@ module _ (width k t : ℕ) where
         choose false = refl
 
     later_signals : (j : ℕ) (ss : List SignalContents) (before : List Bit) → k < j → after_records before (records_from j ss) ≡ before
-    unfolding recorded_value
+    unfolding latest_value
     later_signals j [] before later = refl
     later_signals j (s ∷ ss) before later = other_signal j s ss before (λ e. omega arith) ∙ later_signals (j + 1) ss before (omega arith)
 
     -- the signal itself, where it passes
     own_record : (ss : List SignalContents) (i j : ℕ) (d : SignalContents) (before : List Bit) → j + i ≡ k → i < length ss → u ≤ t
         → after_records before (records_from j ss) ≡ (if test (k, get_or ss i d) then extension width (short_form (signal_value (get_or ss i d) u)) else before)
-    unfolding recorded_value
+    unfolding latest_value
     own_record [] i j d before at within come = absurd (omega arith)
     own_record (s ∷ ss) zero j d before at within come =
         let here : j ≡ k = omega arith in
@@ -98,7 +98,7 @@ module _ (signals : List SignalContents) (k t : ℕ) (d : SignalContents) (insid
 
   -- a value that differs is recorded, and one that does not stays
   at_tick : (u : ℕ) → u ≤ t
-      → recorded_value signal.width (code_of k) t (signal_value signal (u - 1)) (map (record_of u) (differing signals u)) ≡ signal_value signal u
+      → latest_value signal.width (code_of k) t (signal_value signal (u - 1)) (map (record_of u) (differing signals u)) ≡ signal_value signal u
   at_tick u come =
       own_record signal.width k t u (λ p. differs_at u p.1) signals k 0 d (signal_value signal (u - 1)) (omega arith) inside come
       ∙ choose (same_letters (signal_value signal u) (signal_value signal (u - 1))) refl
@@ -110,8 +110,8 @@ module _ (signals : List SignalContents) (k t : ℕ) (d : SignalContents) (insid
 
   -- the ticks from u on, where the value at the tick before is known
   from_tick : (u n : ℕ) → u ≤ t + 1 → t < u + n
-      → recorded_value signal.width (code_of k) t (signal_value signal (u - 1)) (tick_records signals u n) ≡ signal_value signal t
-  unfolding recorded_value tick_records
+      → latest_value signal.width (code_of k) t (signal_value signal (u - 1)) (tick_records signals u n) ≡ signal_value signal t
+  unfolding latest_value tick_records
   from_tick u zero low high = let same : u - 1 ≡ t = omega arith in ap (signal_value signal) same
   from_tick u (suc n) low high =
       elim (cases_lt t u) [
@@ -119,23 +119,23 @@ module _ (signals : List SignalContents) (k t : ℕ) (d : SignalContents) (insid
             let same : u - 1 ≡ t = omega arith in
             past_ticks signal.width k t signals u (suc n) (signal_value signal (u - 1)) past ∙ ap (signal_value signal) same
         | inr come ↦
-            recorded_value-append signal.width (code_of k) t (signal_value signal (u - 1)) (map (record_of u) (differing signals u)) (tick_records signals (suc u) n)
-            ∙ ap (λ v. recorded_value signal.width (code_of k) t v (tick_records signals (suc u) n)) (at_tick u come)
-            ∙ ap (λ v. recorded_value signal.width (code_of k) t (signal_value signal v) (tick_records signals (suc u) n)) (let same : u ≡ suc u - 1 = omega arith in same)
+            latest_value-append signal.width (code_of k) t (signal_value signal (u - 1)) (map (record_of u) (differing signals u)) (tick_records signals (suc u) n)
+            ∙ ap (λ v. latest_value signal.width (code_of k) t v (tick_records signals (suc u) n)) (at_tick u come)
+            ∙ ap (λ v. latest_value signal.width (code_of k) t (signal_value signal v) (tick_records signals (suc u) n)) (let same : u ≡ suc u - 1 = omega arith in same)
             ∙ from_tick (suc u) n (omega arith) (omega arith)
       ]
 
   -- the values at tick 0
-  at_start : recorded_value signal.width (code_of k) t (all_x signal.width) (map (record_of 0) (enumerate_from 0 signals)) ≡ signal_value signal 0
+  at_start : latest_value signal.width (code_of k) t (all_x signal.width) (map (record_of 0) (enumerate_from 0 signals)) ≡ signal_value signal 0
   at_start =
-      ap (λ l. recorded_value signal.width (code_of k) t (all_x signal.width) (map (record_of 0) l)) (sym (filter_all (enumerate_from 0 signals)))
+      ap (λ l. latest_value signal.width (code_of k) t (all_x signal.width) (map (record_of 0) l)) (sym (filter_all (enumerate_from 0 signals)))
       ∙ own_record signal.width k t 0 (λ p. true) signals k 0 d (all_x signal.width) (omega arith) inside (omega arith)
       ∙ whole 0
 
-  -- at each tick up to the end the records give the value
+  -- at each tick up to the end the value_changes give the value
   pub recorded_is : (end : ℕ) → t ≤ end
-      → recorded_value signal.width (code_of k) t (all_x signal.width) (map (record_of 0) (enumerate_from 0 signals) ++ tick_records signals 1 end) ≡ signal_value signal t
+      → latest_value signal.width (code_of k) t (all_x signal.width) (map (record_of 0) (enumerate_from 0 signals) ++ tick_records signals 1 end) ≡ signal_value signal t
   recorded_is end within =
-      recorded_value-append signal.width (code_of k) t (all_x signal.width) (map (record_of 0) (enumerate_from 0 signals)) (tick_records signals 1 end)
-      ∙ ap (λ v. recorded_value signal.width (code_of k) t v (tick_records signals 1 end)) at_start
+      latest_value-append signal.width (code_of k) t (all_x signal.width) (map (record_of 0) (enumerate_from 0 signals)) (tick_records signals 1 end)
+      ∙ ap (λ v. latest_value signal.width (code_of k) t v (tick_records signals 1 end)) at_start
       ∙ from_tick 1 end (omega arith) (omega arith)

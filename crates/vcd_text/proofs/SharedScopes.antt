@@ -22,7 +22,7 @@ use Rattle.vcd_text.proofs.ItemsInTurn.{Leads, leads_none, leads_first, leads_bo
 -- what has been told in the middle of the declarations
 abbrev pub declaring : List Header → Option Timescale → List ScopeName → List VariableDeclaration → Context
 declaring header timescale scopes declared =
-    record { header = header; timescale = timescale; scopes = scopes; declared = declared; changing = false; records = []; tick = 0 }
+    record { header = header; timescale = timescale; scopes = scopes; declared = declared; changing = false; value_changes = []; tick = 0 }
 
 -- scopes that compare as the same are one
 same_scope_is : (a b : ScopeName) → same_scope a b ≡ true → a ≡ b

@@ -24,9 +24,9 @@ use Rattle.vcd_core.specs.Decimal.{is_number, number_of}
 use Rattle.vcd_text.specs.Letters.{extension, pad_letter, letters_of_digits}
 use Rattle.vcd_text.specs.Items.{Item, entry, timescale, scope, upscope, variable, end_definitions, stamp, scalar, vector, real_or_string, bracket, other, spelling, spellings, header_word, end_word, is_end_word, has_no_end_word, timescales}
 use Rattle.vcd_core.specs.TimeUnits.{unit_text}
-use Rattle.vcd_text.specs.Grammar.{Context, VariableDeclaration, RecordedChange, Accepts, Allows, AllowsAll, told_after, told_after_item, nothing_told, is_skipped, kept_variables, variable_of, may_have_code, has_room, recorded_changes, with_recorded_change, takes_binary_number, is_binary_number}
+use Rattle.vcd_text.specs.Grammar.{Context, VariableDeclaration, ValueChange, Accepts, Allows, AllowsAll, told_after, told_after_item, nothing_told, is_skipped, kept_variables, variable_of, may_have_code, has_room, told_value_changes, with_value_change, takes_binary_number, is_binary_number}
 use Rattle.vcd_text.proofs.WordLaws.{is_run_text, texts_are_runs, run_is_word}
-use Rattle.vcd_text.specs.Meaning.{meaning, declared_signal, recorded_value}
+use Rattle.vcd_text.specs.Meaning.{meaning, declared_signal, latest_value}
 
 -- ---- words
 
@@ -83,7 +83,7 @@ abbrev IsAgreed : Context → VariableDeclaration → Type 0
 IsAgreed c d = is_skipped d ≡ false → IsSomeAnd (variable_of c d.code) (λ e. (e.size ≡ d.size) × (is_skipped e ≡ false))
 
 -- the variable of the record's code takes its letters
-abbrev Fits : Context → RecordedChange → Type 0
+abbrev Fits : Context → ValueChange → Type 0
 Fits c r = IsSomeAnd (variable_of c r.code) (λ e. length r.letters ≤ e.size)
 
 record IsClean (c : Context) : Type 0 where
@@ -93,8 +93,8 @@ record IsClean (c : Context) : Type 0 where
   declared : All IsCleanDeclaration c.declared
   agree : All (IsAgreed c) c.declared
   few : length (kept_variables c.declared) ≤ SIGNAL_LIMIT
-  fit : All (Fits c) c.records
-  silent : c.changing ≡ false → c.records ≡ []
+  fit : All (Fits c) c.value_changes
+  silent : c.changing ≡ false → c.value_changes ≡ []
   tick : c.tick ≤ END_LIMIT
 
 -- ---- sizes
@@ -127,7 +127,7 @@ some_taken digits (Some e) takes = λ keeps.
 
 -- one more record
 clean_record : (c : Context) (code : List ℕ) (letters : List Bit) → IsClean c → IsTrue c.changing → IsSomeAnd (variable_of c code) (λ e. is_skipped e ≡ false → length letters ≤ e.size)
-    → IsClean (with_recorded_change c code letters)
+    → IsClean (with_value_change c code letters)
 clean_record c code letters clean changing fits = record {
   header = clean.header;
   timescale = clean.timescale;
@@ -140,12 +140,12 @@ clean_record c code letters clean changing fits = record {
   tick = clean.tick;
 }
   where
-    more : (o : Option VariableDeclaration) → variable_of c code ≡ o → IsSomeAnd o (λ e. is_skipped e ≡ false → length letters ≤ e.size) → All (Fits c) (c.records ++ recorded_changes c code letters o)
+    more : (o : Option VariableDeclaration) → variable_of c code ≡ o → IsSomeAnd o (λ e. is_skipped e ≡ false → length letters ≤ e.size) → All (Fits c) (c.value_changes ++ told_value_changes c code letters o)
     more None is some = absurd some
     more (Some e) is some =
-        let r : RecordedChange = record { tick = c.tick; code = code; letters = letters } in
-        by_test (λ b. All (Fits c) (c.records ++ cond b [] (r ∷ []))) (is_skipped e) (λ _. subst (All (Fits c)) (sym (append-nil c.records)) clean.fit)
-        (λ keeps. All-push (Fits c) c.records r clean.fit (subst (λ o. IsSomeAnd o (λ e. length letters ≤ e.size)) (sym is) (some keeps)))
+        let r : ValueChange = record { tick = c.tick; code = code; letters = letters } in
+        by_test (λ b. All (Fits c) (c.value_changes ++ cond b [] (r ∷ []))) (is_skipped e) (λ _. subst (All (Fits c)) (sym (append-nil c.value_changes)) clean.fit)
+        (λ keeps. All-push (Fits c) c.value_changes r clean.fit (subst (λ o. IsSomeAnd o (λ e. length letters ≤ e.size)) (sym is) (some keeps)))
 
 both_kept : (s e : Bool) → ((s && false) || (not s && true && e)) ≡ true → (e ≡ true) × (s ≡ false)
 both_kept true e h = absurd (false≢true h)
@@ -197,11 +197,11 @@ clean_variable c (kind ∷ size ∷ code ∷ name ∷ names) clean all allows =
     clean_declared c (record { scopes = c.scopes; kind = kind; size = number_of size; code = code; words = name ∷ names }) clean allows.0
     (record { scopes = clean.scopes; kind = p.0; named = omega arith; words = r.1 }) allows.3.0 allows.3.1
 
--- what stays clean where neither variables nor records come
+-- what stays clean where neither variables nor value_changes come
 clean_beside : (c : Context) (header : List Header) (time : Option Timescale) (scopes : List ScopeName) (changing : Bool) (tick : ℕ) → IsClean c
     → list_all is_sound_header header ≡ true → IfSome time (λ t. is_sound_timescale t ≡ true) → list_all is_sound_scope scopes ≡ true
-    → (changing ≡ false → c.records ≡ []) → tick ≤ END_LIMIT
-    → IsClean (record { header = header; timescale = time; scopes = scopes; declared = c.declared; changing = changing; records = c.records; tick = tick })
+    → (changing ≡ false → c.value_changes ≡ []) → tick ≤ END_LIMIT
+    → IsClean (record { header = header; timescale = time; scopes = scopes; declared = c.declared; changing = changing; value_changes = c.value_changes; tick = tick })
 clean_beside c header time scopes changing tick clean sound_header sound_timescale sound_scopes silent within =
     record { header = sound_header; timescale = sound_timescale; scopes = sound_scopes; declared = clean.declared; agree = clean.agree; few = clean.few; fit = clean.fit; silent = silent; tick = within }
 
@@ -246,33 +246,33 @@ length-ext width s fits =
     length-append (replicate (width - length s) (pad_letter s)) s ∙ ap (λ n. n + length s) (length-replicate (width - length s) (pad_letter s)) ∙ omega arith
 
 -- a record of this code has letters for so many bits
-abbrev FitsWidth : ℕ → List ℕ → RecordedChange → Type 0
+abbrev FitsWidth : ℕ → List ℕ → ValueChange → Type 0
 FitsWidth width code r = bytes_eq r.code code ≡ true → length r.letters ≤ width
 
-recorded_length : (width : ℕ) (code : List ℕ) (t : ℕ) (before : List Bit) (rs : List RecordedChange) → length before ≡ width
-    → All (FitsWidth width code) rs → length (recorded_value width code t before rs) ≡ width
-unfolding recorded_value
+recorded_length : (width : ℕ) (code : List ℕ) (t : ℕ) (before : List Bit) (rs : List ValueChange) → length before ≡ width
+    → All (FitsWidth width code) rs → length (latest_value width code t before rs) ≡ width
+unfolding latest_value
 recorded_length width code t before [] long all = long
 recorded_length width code t before (r ∷ rs) long all =
     recorded_length width code t (cond (bytes_eq r.code code && nat_le r.tick t) (extension width r.letters) before) rs
     (by_test (λ b. length (cond b (extension width r.letters) before) ≡ width) (bytes_eq r.code code && nat_le r.tick t)
     (λ here. length-ext width r.letters (All-head (FitsWidth width code) r rs all (and_parts (bytes_eq r.code code) (nat_le r.tick t) here).0)) (λ _. long)) (All-tail (FitsWidth width code) r rs all)
 
--- the records of a code that is kept fit its width
-records_fit : (c : Context) (d : VariableDeclaration) → IsAgreed c d → is_skipped d ≡ false → All (Fits c) c.records → All (FitsWidth d.size d.code) c.records
+-- the value_changes of a code that is kept fit its width
+records_fit : (c : Context) (d : VariableDeclaration) → IsAgreed c d → is_skipped d ≡ false → All (Fits c) c.value_changes → All (FitsWidth d.size d.code) c.value_changes
 records_fit c d agrees keeps fit = All-weaker (Fits c) (FitsWidth d.size d.code)
     (λ r fits same. let code : r.code ≡ d.code = (bytes_eq-Decides r.code d.code).0 same in
-    joined r (variable_of c d.code) (subst (λ k. IsSomeAnd (variable_of c k) (λ e. length r.letters ≤ e.size)) code fits) (agrees keeps)) c.records fit
+    joined r (variable_of c d.code) (subst (λ k. IsSomeAnd (variable_of c k) (λ e. length r.letters ≤ e.size)) code fits) (agrees keeps)) c.value_changes fit
   where
-    joined : (r : RecordedChange) (o : Option VariableDeclaration) → IsSomeAnd o (λ e. length r.letters ≤ e.size) → IsSomeAnd o (λ e. (e.size ≡ d.size) × (is_skipped e ≡ false)) → length r.letters ≤ d.size
+    joined : (r : ValueChange) (o : Option VariableDeclaration) → IsSomeAnd o (λ e. length r.letters ≤ e.size) → IsSomeAnd o (λ e. (e.size ≡ d.size) × (is_skipped e ≡ false)) → length r.letters ≤ d.size
     joined r None some same = absurd some
     joined r (Some e) fits same = subst (λ n. length r.letters ≤ n) same.0 fits
 
-sound_signal : (c : Context) (d : VariableDeclaration) → IsClean c → IsCleanDeclaration d → IsAgreed c d → is_skipped d ≡ false → IsSoundSignal c.tick (declared_signal c.records c.tick d)
+sound_signal : (c : Context) (d : VariableDeclaration) → IsClean c → IsCleanDeclaration d → IsAgreed c d → is_skipped d ≡ false → IsSoundSignal c.tick (declared_signal c.value_changes c.tick d)
 sound_signal c d clean is agrees keeps =
     let width = kept_is d keeps in
-    let values : (t : ℕ) → length (recorded_value d.size d.code t (all_x d.size) c.records) ≡ d.size = λ t.
-    recorded_length d.size d.code t (all_x d.size) c.records (length-replicate d.size X) (records_fit c d agrees keeps clean.fit) in
+    let values : (t : ℕ) → length (latest_value d.size d.code t (all_x d.size) c.value_changes) ≡ d.size = λ t.
+    recorded_length d.size d.code t (all_x d.size) c.value_changes (length-replicate d.size X) (records_fit c d agrees keeps clean.fit) in
     record {
       scopes = is.scopes;
       kind = is.kind;
@@ -308,7 +308,7 @@ meaning_is_sound bytes told accepted =
       header = clean.header;
       timescale = clean.timescale;
       end = clean.tick;
-      few = subst (λ n. n ≤ SIGNAL_LIMIT) (sym (length-map (kept_variables told.declared) (declared_signal told.records told.tick))) clean.few;
-      signals = All-map (IsSoundSignal told.tick) (declared_signal told.records told.tick) (kept_variables told.declared)
+      few = subst (λ n. n ≤ SIGNAL_LIMIT) (sym (length-map (kept_variables told.declared) (declared_signal told.value_changes told.tick))) clean.few;
+      signals = All-map (IsSoundSignal told.tick) (declared_signal told.value_changes told.tick) (kept_variables told.declared)
           (λ k d within. sound_signal told _ clean (declared k d within) (agree k d within) (not-true _ (keeps k d within)));
     }

@@ -5,20 +5,20 @@ use Rattle.vcd_core.specs.Contents.{Contents, SignalContents}
 use Rattle.vcd_core.specs.Sound.{IsSound, IsSoundSignal}
 use Rattle.vcd_core.proofs.Waves.{wave_is}
 use Rattle.vcd_text.specs.Grammar.{VariableDeclaration, kept_variables}
-use Rattle.vcd_text.specs.Meaning.{declared_signal, meaning, recorded_value, skipped_count}
+use Rattle.vcd_text.specs.Meaning.{declared_signal, meaning, latest_value, skipped_count}
 use Rattle.vcd_text.specs.Text.{code_of}
 use Rattle.vcd_text.proofs.DeclaredSignals.{all_sound_kept, declared_as, declared_of, none_skipped}
 use Rattle.vcd_text.proofs.ReadValues.{length-value_at}
 use Rattle.vcd_text.proofs.RecordedWaves.{recorded_is}
 use Rattle.vcd_text.proofs.TextChanges.{records_of, told_at}
 
--- a signal of a capture is what the records say of its declaration
+-- a signal of a capture is what the value_changes say of its declaration
 signal_means : (c : Contents) → IsSound c → (k : ℕ) (d : SignalContents) → k < length c.signals
     → declared_signal (records_of c) c.end (declared_as k (get_or c.signals k d)) ≡ get_or c.signals k d
 signal_means c sound k d inside =
     let s : SignalContents = get_or c.signals k d in
     let is : IsSoundSignal c.end s = sound.signals k d inside in
-    let wave = wave_is s.width c.end s.changes (λ t. recorded_value s.width (code_of k) t (all_x s.width) (records_of c)) is.wave is.ticks
+    let wave = wave_is s.width c.end s.changes (λ t. latest_value s.width (code_of k) t (all_x s.width) (records_of c)) is.wave is.ticks
     (λ t to. sym (recorded_is c.signals k t d inside (λ u. length-value_at s.width u s.changes is.wave) c.end to)) in
     λ i. record { scopes = s.scopes; kind = s.kind; words = s.words; width = s.width; changes = sym wave i }
 

@@ -12,7 +12,7 @@ use Rattle.vcd_text.proofs.TextChanges.{changes_lead, records_of, told_at}
 use Rattle.vcd_text.proofs.TextDeclarations.{declaration_items, declarations_lead, items_in_two}
 use Rattle.vcd_text.proofs.TextMeaning.{text_means, text_skips_nothing}
 
--- the items of a sound capture's text are allowed in turn, and leave the records of its signals
+-- the items of a sound capture's text are allowed in turn, and leave the value_changes of its signals
 items_lead : (c : Contents) → IsSound c → Leads nothing_told (items_of c) (told_at c (records_of c) c.end)
 items_lead c sound =
     subst (λ items. Leads nothing_told items (told_at c (records_of c) c.end)) (sym (items_in_two c))

@@ -24,7 +24,7 @@ pub record VariableDeclaration : Type 0 where
   pub words : List (List ℕ)
 
 -- a record: from this tick on, the variables of this code have the value that these letters give
-pub record RecordedChange : Type 0 where
+pub record ValueChange : Type 0 where
   pub tick : ℕ
   pub code : List ℕ
   pub letters : List Bit
@@ -36,12 +36,12 @@ pub record Context : Type 0 where
   pub scopes : List ScopeName
   pub declared : List VariableDeclaration
   pub changing : Bool
-  pub records : List RecordedChange
+  pub value_changes : List ValueChange
   pub tick : ℕ
 
 -- before the first item
 abbrev pub nothing_told : Context
-nothing_told = record { header = []; timescale = None; scopes = []; declared = []; changing = false; records = []; tick = 0 }
+nothing_told = record { header = []; timescale = None; scopes = []; declared = []; changing = false; value_changes = []; tick = 0 }
 
 -- ---- variables
 
@@ -121,13 +121,13 @@ Allows c (other word words) = IsTrue (is_other c.changing word) × IsTrue (has_n
 -- ---- what an item adds
 
 -- a record of these letters at the tick, for a variable that is kept
-abbrev pub recorded_changes : Context → List ℕ → List Bit → Option VariableDeclaration → List RecordedChange
-recorded_changes c code letters None = []
-recorded_changes c code letters (Some d) = if is_skipped d then [] else record { tick = c.tick; code = code; letters = letters } ∷ []
+abbrev pub told_value_changes : Context → List ℕ → List Bit → Option VariableDeclaration → List ValueChange
+told_value_changes c code letters None = []
+told_value_changes c code letters (Some d) = if is_skipped d then [] else record { tick = c.tick; code = code; letters = letters } ∷ []
 
 -- what has been told, with this record behind the others
-abbrev pub with_recorded_change : Context → List ℕ → List Bit → Context
-with_recorded_change c code letters = record c { records = c.records ++ recorded_changes c code letters (variable_of c code) }
+abbrev pub with_value_change : Context → List ℕ → List Bit → Context
+with_value_change c code letters = record c { value_changes = c.value_changes ++ told_value_changes c code letters (variable_of c code) }
 
 -- what has been told behind an item
 abbrev pub told_after_item : Context → Item → Context
@@ -138,8 +138,8 @@ told_after_item c upscope = record c { scopes = take (length c.scopes - 1) c.sco
 told_after_item c (variable words) = record c { declared = c.declared ++ option_to_list (declaration_of c words) }
 told_after_item c end_definitions = record c { changing = true }
 told_after_item c (stamp digits) = record c { tick = number_of digits }
-told_after_item c (scalar digit code) = with_recorded_change c code (letters_of_digits (digit ∷ []))
-told_after_item c (vector first digits code) = with_recorded_change c code (letters_of_digits digits)
+told_after_item c (scalar digit code) = with_value_change c code (letters_of_digits (digit ∷ []))
+told_after_item c (vector first digits code) = with_value_change c code (letters_of_digits digits)
 told_after_item c (real_or_string first text code) = c
 told_after_item c (bracket word) = c
 told_after_item c (other word words) = c

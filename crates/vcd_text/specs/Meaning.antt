@@ -6,27 +6,27 @@ use Rattle.vcd_core.specs.Wave.{changes_of}
 use Rattle.vcd_core.specs.Contents.{Contents, SignalContents}
 use Rattle.vcd_text.specs.Words.{words_of}
 use Rattle.vcd_text.specs.Letters.{extension}
-use Rattle.vcd_text.specs.Grammar.{VariableDeclaration, RecordedChange, Context, Accepts, is_skipped, kept_variables}
+use Rattle.vcd_text.specs.Grammar.{VariableDeclaration, ValueChange, Context, Accepts, is_skipped, kept_variables}
 
 -- the value that a code of this width has at a tick: the extension of the last record, in the order of the file, with that code and a tick at most t; else `before`
-unfoldable pub recorded_value : ℕ → List ℕ → ℕ → List Bit → List RecordedChange → List Bit
-recorded_value width code t before [] = before
-recorded_value width code t before (r ∷ rs) =
-    recorded_value width code t (if bytes_eq r.code code && nat_le r.tick t then extension width r.letters else before) rs
+unfoldable pub latest_value : ℕ → List ℕ → ℕ → List Bit → List ValueChange → List Bit
+latest_value width code t before [] = before
+latest_value width code t before (r ∷ rs) =
+    latest_value width code t (if bytes_eq r.code code && nat_le r.tick t then extension width r.letters else before) rs
 
 -- the signal that a variable is, up to the tick `end`: all x before its first record
-abbrev pub declared_signal : List RecordedChange → ℕ → VariableDeclaration → SignalContents
-declared_signal records end d = record {
+abbrev pub declared_signal : List ValueChange → ℕ → VariableDeclaration → SignalContents
+declared_signal value_changes end d = record {
   scopes = d.scopes;
   kind = d.kind;
   words = d.words;
   width = d.size;
-  changes = changes_of d.size end (λ t. recorded_value d.size d.code t (all_x d.size) records);
+  changes = changes_of d.size end (λ t. latest_value d.size d.code t (all_x d.size) value_changes);
 }
 
 -- what a file means that has told this: each variable that is kept is a signal, in the order of the file; the end is the last stamp, or 0
 abbrev pub meaning : Context → Contents
-meaning c = record { header = c.header; timescale = c.timescale; end = c.tick; signals = map (declared_signal c.records c.tick) (kept_variables c.declared) }
+meaning c = record { header = c.header; timescale = c.timescale; end = c.tick; signals = map (declared_signal c.value_changes c.tick) (kept_variables c.declared) }
 
 -- how many variables are skipped
 abbrev pub skipped_count : Context → ℕ

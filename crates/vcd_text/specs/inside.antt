@@ -4,7 +4,7 @@ pub mod TimescaleText
 pub mod Variables
 pub mod ShortCodes
 pub mod OpenItems
-pub mod Opening
+pub mod OpeningWords
 pub mod Reading
 pub mod Chunks
 pub mod SpacedWords

@@ -14,16 +14,16 @@ ghost use Rattle.vcd_text.specs.Refusals.{IsRefusal};
 mod binary_number;
 mod changes;
 mod chunks;
-mod decimal;
 mod declarations;
 mod keywords;
 mod owners;
 mod reader;
+mod ticks_and_sizes;
 mod timescale;
 mod variables;
 
 use crate::fault::ReadError;
-use crate::reading::chunks::{BLOCK, Progress};
+use crate::reading::chunks::{CHUNK, Progress};
 pub use binary_number::value_of_digits;
 use std::alloc::Global;
 use vcd_core::{Capture, Source};
@@ -64,7 +64,7 @@ pub fn read<R: Source>(alloc: Global, reader: &mut R) -> Result<Loaded, ReadErro
     ensures too_large { IfErr result (λ e. e.fault ≡ Fault.TooLarge →
         R.has_failed reader.new ≡ false) }
 {
-    let mut block = [0u8; BLOCK];
+    let mut block = [0u8; CHUNK];
     let mut progress = Progress::new(alloc);
     while progress.take_chunk(alloc, reader, &mut block)? {}
     progress.finish(alloc)

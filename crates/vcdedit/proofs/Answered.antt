@@ -13,7 +13,7 @@ use Rattle.vcd_journal.specs.declared.step.StepError.{StepError}
 use Rattle.vcd_journal.specs.declared.step.StepError.TheVariants as refusals
 use Rattle.vcd_journal.specs.declared.step.Answer.{Answer}
 use Rattle.vcd_journal.specs.declared.step.Answer.TheVariants.{Done, Refused}
-use Rattle.vcd_journal.specs.RefusalNames.{step_error_name}
+use Rattle.vcd_journal.specs.StepErrorNames.{step_error_name}
 use Rattle.vcd_journal.specs.Machine.{Machine, StepOutcome, edit_outcome, step_outcome, memory_refusal, IsStep}
 use Rattle.vcd_journal.proofs.Steps.{outcome_of_step}
 use Rattle.vcdedit.specs.declared.script.command.Command.{Command}

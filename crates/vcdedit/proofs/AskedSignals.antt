@@ -19,7 +19,7 @@ use Rattle.vcdedit.specs.declared.script.line_error.LineError.{LineError}
 use Rattle.vcdedit.specs.declared.script.line_error.LineError.TheVariants.{UnknownCommand, BadOption, NotScalar}
 use Rattle.vcdedit.specs.ScriptWords.{signal_of_name, number_of_word, distance_of_word, value_of_word}
 use Rattle.vcdedit.specs.LineWords.{◌>>=◌, no_word, one_word, two_words, four_words, five_words, seven_words}
-use Rattle.vcdedit.specs.DecoderWords.{ratio_of_word, parity_of_word, order_of_word, signal_or_absent, scalar, scalar_or_absent, faultless_uart, faultless_spi}
+use Rattle.vcdedit.specs.DecoderWords.{ratio_of_word, parity_of_word, order_of_word, signal_or_absent, one_bit_signal, one_bit_signal_or_absent, faultless_uart, faultless_spi}
 use Rattle.vcdedit.specs.DecoderCommands.{uart_command, spi_command, i2c_command}
 use Rattle.vcdedit.specs.ScriptCommands.{pair_command, rule_command, derive_command, command_of, command_of_words, keyword_of, is_comment}
 use Rattle.vcdedit.specs.CommandSignals.{IsScalarAt, HasItsSignals}
@@ -120,16 +120,16 @@ by_width c k true is within =
 by_width c k false is within = tt
 
 -- a signal that passes has one bit
-one_bit : (c : Contents) (k : ℕ) → k < length c.signals → IfOk (scalar c k) (IsScalarAt c)
+one_bit : (c : Contents) (k : ℕ) → k < length c.signals → IfOk (one_bit_signal c k) (IsScalarAt c)
 one_bit c k within = by_width c k ((signal_at c k).width == 1) refl within
 
 some_scalar : (c : Contents) (r : Result ℕ LineError) → IfOk r (IsScalarAt c) → IfOk (r >>= (λ k. Ok (Some k))) (λ line. IfSome line (IsScalarAt c))
 some_scalar c (Ok k) is = is
 some_scalar c (Err found) is = tt
 
-absent_or_one_bit : (c : Contents) (line : Option ℕ) → IfSome line (λ k. k < length c.signals) → IfOk (scalar_or_absent c line) (λ l. IfSome l (IsScalarAt c))
+absent_or_one_bit : (c : Contents) (line : Option ℕ) → IfSome line (λ k. k < length c.signals) → IfOk (one_bit_signal_or_absent c line) (λ l. IfSome l (IsScalarAt c))
 absent_or_one_bit c None within = tt
-absent_or_one_bit c (Some k) within = some_scalar c (scalar c k) (one_bit c k within)
+absent_or_one_bit c (Some k) within = some_scalar c (one_bit_signal c k) (one_bit c k within)
 
 -- ---- the commands
 
@@ -156,7 +156,7 @@ of_uart c words = of_five (contents c) words _ (λ name bit count parity stop.
     then_any (contents c) (number_of_word count) _ (λ data_bits.
     then_any (contents c) (parity_of_word parity) _ (λ parity_bit.
     then_any (contents c) (number_of_word stop) _ (λ stop_bits.
-    read_on (contents c) (scalar (contents c) k) (IsScalarAt (contents c)) _ (one_bit (contents c) k within) (λ line is.
+    read_on (contents c) (one_bit_signal (contents c) k) (IsScalarAt (contents c)) _ (one_bit (contents c) k within) (λ line is.
     then_any (contents c) (faultless_uart (uart_setup ratio.0 ratio.1 data_bits parity_bit stop_bits)) _ (λ setup. record { has = is }))))))))
 
 of_spi : (c : Capture) (words : List (List ℕ)) → GivesSignals (contents c) (spi_command (contents c) words)
@@ -168,18 +168,18 @@ of_spi c words = of_seven (contents c) words _ (λ clk mosi miso cs mode bits or
     then_any (contents c) (number_of_word mode) _ (λ number.
     then_any (contents c) (number_of_word bits) _ (λ word_bits.
     then_any (contents c) (order_of_word order) _ (λ bit_order.
-    read_on (contents c) (scalar (contents c) k) (IsScalarAt (contents c)) _ (one_bit (contents c) k clk_within) (λ clock clk_is.
-    read_on (contents c) (scalar_or_absent (contents c) out) (λ l. IfSome l (IsScalarAt (contents c))) _ (absent_or_one_bit (contents c) out mosi_within) (λ out_line mosi_is.
-    read_on (contents c) (scalar_or_absent (contents c) input) (λ l. IfSome l (IsScalarAt (contents c))) _ (absent_or_one_bit (contents c) input miso_within) (λ in_line miso_is.
-    read_on (contents c) (scalar_or_absent (contents c) select) (λ l. IfSome l (IsScalarAt (contents c))) _ (absent_or_one_bit (contents c) select cs_within) (λ select_line cs_is.
+    read_on (contents c) (one_bit_signal (contents c) k) (IsScalarAt (contents c)) _ (one_bit (contents c) k clk_within) (λ clock clk_is.
+    read_on (contents c) (one_bit_signal_or_absent (contents c) out) (λ l. IfSome l (IsScalarAt (contents c))) _ (absent_or_one_bit (contents c) out mosi_within) (λ out_line mosi_is.
+    read_on (contents c) (one_bit_signal_or_absent (contents c) input) (λ l. IfSome l (IsScalarAt (contents c))) _ (absent_or_one_bit (contents c) input miso_within) (λ in_line miso_is.
+    read_on (contents c) (one_bit_signal_or_absent (contents c) select) (λ l. IfSome l (IsScalarAt (contents c))) _ (absent_or_one_bit (contents c) select cs_within) (λ select_line cs_is.
     then_any (contents c) (faultless_spi (spi_setup number word_bits bit_order)) _ (λ setup. record { has = (clk_is, mosi_is, miso_is, cs_is) })))))))))))))
 
 of_i2c : (c : Capture) (words : List (List ℕ)) → GivesSignals (contents c) (i2c_command (contents c) words)
 of_i2c c words = of_two (contents c) words _ (λ scl sda.
     read_on (contents c) (signal_of_name (contents c) scl) (λ k. k < length (contents c).signals) _ (named c scl) (λ j scl_within.
     read_on (contents c) (signal_of_name (contents c) sda) (λ k. k < length (contents c).signals) _ (named c sda) (λ k sda_within.
-    read_on (contents c) (scalar (contents c) j) (IsScalarAt (contents c)) _ (one_bit (contents c) j scl_within) (λ clock scl_is.
-    read_on (contents c) (scalar (contents c) k) (IsScalarAt (contents c)) _ (one_bit (contents c) k sda_within) (λ line sda_is. record { has = (scl_is, sda_is) })))))
+    read_on (contents c) (one_bit_signal (contents c) j) (IsScalarAt (contents c)) _ (one_bit (contents c) j scl_within) (λ clock scl_is.
+    read_on (contents c) (one_bit_signal (contents c) k) (IsScalarAt (contents c)) _ (one_bit (contents c) k sda_within) (λ line sda_is. record { has = (scl_is, sda_is) })))))
 
 of_keyword : (c : Capture) (keyword : Keyword) (words : List (List ℕ)) → GivesSignals (contents c) (command_of (contents c) keyword words)
 of_keyword c keywords.Rename words = of_two _ words _ (λ name word. then_any _ (signal_of_name (contents c) name) _ (λ k. steps _ _))

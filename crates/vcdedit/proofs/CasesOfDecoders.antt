@@ -18,7 +18,7 @@ use Rattle.vcd_decode.specs.SpiSetup.{spi_setup}
 use Rattle.vcd_decode.specs.Spi.{spi_annotations}
 use Rattle.vcd_decode.specs.Groups.{groups_of}
 use Rattle.vcd_decode.specs.BusEvents.{bus_events}
-use Rattle.vcd_decode.specs.I2c.{nines_notes, bits_until, has_condition, shown_address, events_notes}
+use Rattle.vcd_decode.specs.I2c.{nines_annotations, bits_until, has_condition, shown_address, events_annotations}
 use Rattle.vcd_text.specs.Words.{words_from}
 use Rattle.vcdedit.specs.declared.script.command.Command.{Command}
 use Rattle.vcdedit.specs.declared.script.command.Command.TheVariants as commands
@@ -29,7 +29,7 @@ use Rattle.vcdedit.specs.Script.{command_of_line}
 use Rattle.vcdedit.proofs.CasesOfRun.{two_signals}
 use Rattle.vcd_text.proofs.CasesOfText.{capture, wire, top, from}
 
--- what a line asks for on a scalar `top.a` and a vector `top.v` of four bits
+-- what a line asks for on a one_bit_signal `top.a` and a vector `top.v` of four bits
 abbrev asked : List ℕ → Result Command LineError
 asked line = command_of_line two_signals line
 
@@ -131,5 +131,5 @@ cut_short = capture 50 (wire (top ∷ []) (codes "scl") 1
     ∷ wire (top ∷ []) (codes "sda") 1 (from 0 (codes "1") ∷ from 10 (codes "0") ∷ from 45 (codes "1") ∷ []) ∷ [])
 
 conditions_told : i2c_lines cut_short 0 1 ≡ codes "10-10 i2c start" ∷ codes "20-40 i2c partial 3" ∷ codes "45-45 i2c stop" ∷ []
-unfolding cut_short value_from bus_events groups_of nines_notes bits_until has_condition shown_address events_notes digits
+unfolding cut_short value_from bus_events groups_of nines_annotations bits_until has_condition shown_address events_annotations digits
 conditions_told = refl

@@ -16,7 +16,7 @@ use Rattle.vcdedit.specs.ScriptCommands.{edit_command, step_command, derive_by}
 use Rattle.vcdedit.specs.Script.{command_of_line}
 use Rattle.vcdedit.proofs.CasesOfRun.{two_signals}
 
--- what a line asks for on a scalar `top.a` and a vector `top.v` of four bits
+-- what a line asks for on a one_bit_signal `top.a` and a vector `top.v` of four bits
 abbrev asked : List ℕ → Result Command LineError
 asked line = command_of_line two_signals line
 

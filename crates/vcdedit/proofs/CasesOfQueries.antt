@@ -18,7 +18,7 @@ use Rattle.vcdedit.specs.Run.{machine_after_line, line_replies}
 use Rattle.vcd_journal.specs.Machine.{first_machine}
 use Rattle.vcd_text.proofs.CasesOfText.{capture, wire, top, from}
 
--- a scalar that changes, a vector, and a signal in no scope that is x throughout
+-- a one_bit_signal that changes, a vector, and a signal in no scope that is x throughout
 abbrev three : Contents
 three = capture 9 (wire (top ∷ []) (codes "a") 1 (from 0 (codes "z") ∷ from 4 (codes "1") ∷ []) ∷ wire (top ∷ []) (codes "v") 4 (from 2 (codes "01xz") ∷ []) ∷ wire [] (codes "n") 2 [] ∷ [])
 

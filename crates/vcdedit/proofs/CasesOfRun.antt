@@ -25,7 +25,7 @@ lines_of_scripts : (script_lines [] ≡ [])
 unfolding script_lines
 lines_of_scripts = (refl, refl, refl, refl)
 
--- a rename of the one scalar
+-- a rename of the one one_bit_signal
 rename_run : run_outcome (one_scalar (codes "a")) 0 (codes "rename top.a b\n") 100
     ≡ record { replies = codes "ok\n" ∷ []; output = one_scalar_text (codes "b"); refused = 0 }
 unfolding script_lines words_from command_of_line lookup name_in edit_fault effect line_reply machine_after_line machine_after_lines line_replies refusal_count text items_of signal_items code_digits tick_items value_from short_form digits

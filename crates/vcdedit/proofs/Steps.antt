@@ -9,7 +9,7 @@ use Rattle.vcd_journal.specs.declared.step.Step.{Step}
 use Rattle.vcd_journal.specs.declared.step.Step.TheVariants as steps
 use Rattle.vcd_journal.specs.declared.step.StepError.TheVariants as refusals
 use Rattle.vcd_journal.specs.declared.step.Answer.{Answer}
-use Rattle.vcd_journal.specs.RefusalNames.{step_error_name}
+use Rattle.vcd_journal.specs.StepErrorNames.{step_error_name}
 use Rattle.vcd_journal.specs.Machine.{Machine, first_machine, step_outcome, edit_outcome, undo_outcome, redo_outcome, is_depth, accepted_outcome, refused_outcome, machine_after_depth, StepsLead}
 use Rattle.vcd_journal.proofs.Steps.{ample_step}
 use Rattle.vcd_journal.proofs.Replay.{session_is_replay}

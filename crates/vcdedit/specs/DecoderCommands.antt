@@ -8,7 +8,7 @@ use Rattle.vcdedit.specs.declared.script.command.Command.TheVariants as commands
 use Rattle.vcdedit.specs.declared.script.line_error.LineError.{LineError}
 use Rattle.vcdedit.specs.LineWords.{◌>>=◌, two_words, five_words, seven_words}
 use Rattle.vcdedit.specs.ScriptWords.{signal_of_name, number_of_word}
-use Rattle.vcdedit.specs.DecoderWords.{ratio_of_word, parity_of_word, order_of_word, signal_or_absent, scalar, scalar_or_absent, faultless_uart, faultless_spi}
+use Rattle.vcdedit.specs.DecoderWords.{ratio_of_word, parity_of_word, order_of_word, signal_or_absent, one_bit_signal, one_bit_signal_or_absent, faultless_uart, faultless_spi}
 
 -- `uart NAME BIT DATA PARITY STOP`
 abbrev pub uart_command : Contents → List (List ℕ) → Result Command LineError
@@ -18,7 +18,7 @@ uart_command c arguments = five_words arguments (λ name bit count parity stop. 
   data_bits ← number_of_word count
   parity_bit ← parity_of_word parity
   stop_bits ← number_of_word stop
-  line ← scalar c k
+  line ← one_bit_signal c k
   setup ← faultless_uart (uart_setup ratio.0 ratio.1 data_bits parity_bit stop_bits)
   Ok (commands.Uart line setup))
 
@@ -32,10 +32,10 @@ spi_command c arguments = seven_words arguments (λ clk mosi miso cs mode bits o
   number ← number_of_word mode
   word_bits ← number_of_word bits
   bit_order ← order_of_word order
-  clock ← scalar c k
-  out_line ← scalar_or_absent c out
-  in_line ← scalar_or_absent c input
-  select_line ← scalar_or_absent c select
+  clock ← one_bit_signal c k
+  out_line ← one_bit_signal_or_absent c out
+  in_line ← one_bit_signal_or_absent c input
+  select_line ← one_bit_signal_or_absent c select
   setup ← faultless_spi (spi_setup number word_bits bit_order)
   Ok (commands.Spi clock out_line in_line select_line setup))
 
@@ -44,6 +44,6 @@ abbrev pub i2c_command : Contents → List (List ℕ) → Result Command LineErr
 i2c_command c arguments = two_words arguments (λ scl sda. do
   j ← signal_of_name c scl
   k ← signal_of_name c sda
-  clock ← scalar c j
-  line ← scalar c k
+  clock ← one_bit_signal c j
+  line ← one_bit_signal c k
   Ok (commands.I2c clock line))

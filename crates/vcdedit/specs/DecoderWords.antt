@@ -61,14 +61,14 @@ signal_or_absent c word =
 -- ---- what comes behind the words
 
 -- a decoder's signal: it has one bit
-abbrev pub scalar : Contents → ℕ → Result ℕ LineError
-scalar c k = if (signal_at c k).width == 1 then Ok k else Err NotScalar
+abbrev pub one_bit_signal : Contents → ℕ → Result ℕ LineError
+one_bit_signal c k = if (signal_at c k).width == 1 then Ok k else Err NotScalar
 
 -- the same of a line that may be absent
-abbrev pub scalar_or_absent : Contents → Option ℕ → Result (Option ℕ) LineError
-scalar_or_absent c None = Ok None
-scalar_or_absent c (Some k) = do
-  there ← scalar c k
+abbrev pub one_bit_signal_or_absent : Contents → Option ℕ → Result (Option ℕ) LineError
+one_bit_signal_or_absent c None = Ok None
+one_bit_signal_or_absent c (Some k) = do
+  there ← one_bit_signal c k
   Ok (Some there)
 
 -- a setup that has this fault, or none

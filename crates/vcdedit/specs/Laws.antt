@@ -12,7 +12,7 @@ use Rattle.vcd_journal.specs.declared.step.Step.{Step}
 use Rattle.vcd_journal.specs.declared.step.Step.TheVariants as steps
 use Rattle.vcd_journal.specs.declared.step.Answer.{Answer}
 use Rattle.vcd_journal.specs.declared.step.Answer.TheVariants.{Done, Refused}
-use Rattle.vcd_journal.specs.RefusalNames.{step_error_name}
+use Rattle.vcd_journal.specs.StepErrorNames.{step_error_name}
 use Rattle.vcd_journal.specs.Machine.{Machine, first_machine, step_outcome}
 use Rattle.vcd_journal.specs.InForce.{Tally, IsReplay, tally_of_steps, replay}
 use Rattle.vcdedit.specs.Script.{script_lines, command_of_line}

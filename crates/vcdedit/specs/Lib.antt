@@ -1,5 +1,5 @@
 -- The definitions of vcdedit, from a line of a script to a whole run and what is reported of it.
-pub mod RefusalNames
+pub mod LineErrorNames
 pub mod Lent
 pub mod ScriptWords
 pub mod LineWords

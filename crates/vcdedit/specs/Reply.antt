@@ -11,10 +11,10 @@ use Rattle.vcd_journal.specs.declared.step.StepError.TheVariants as refusals
 use Rattle.vcdedit.specs.declared.script.command.Command.{Command}
 use Rattle.vcdedit.specs.declared.script.command.Command.TheVariants as commands
 use Rattle.vcdedit.specs.declared.script.line_error.LineError.{LineError}
-use Rattle.vcd_edit.specs.FaultNames.{edit_error_name}
-use Rattle.vcd_journal.specs.RefusalNames.{step_error_name}
+use Rattle.vcd_edit.specs.EditErrorNames.{edit_error_name}
+use Rattle.vcd_journal.specs.StepErrorNames.{step_error_name}
 use Rattle.vcd_journal.specs.Machine.{is_depth}
-use Rattle.vcdedit.specs.RefusalNames.{line_error_name}
+use Rattle.vcdedit.specs.LineErrorNames.{line_error_name}
 use Rattle.vcd_edit.specs.Allowed.{edit_fault}
 use Rattle.vcdedit.specs.DecoderReply.{uart_lines, spi_lines, i2c_lines}
 use Rattle.vcdedit.specs.Script.{command_of_line}

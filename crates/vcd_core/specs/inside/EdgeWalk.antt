@@ -5,7 +5,7 @@ use Rattle.vcd_core.specs.declared.wave.Change.{Change}
 use Rattle.vcd_core.specs.declared.edges.Edge.{Edge}
 use Rattle.vcd_core.specs.declared.edges.Trace.{Trace as LentTrace}
 use Rattle.vcd_core.specs.declared.edges.Edges.TheInside.{Inside}
-use Rattle.vcd_core.specs.Wave.{ChangesFrom}
+use Rattle.vcd_core.specs.Wave.{AreChangesFrom}
 use Rattle.vcd_core.specs.Edges.{Trace, edges_on}
 
 -- a wave from the tick on that the walk has come to
@@ -43,7 +43,7 @@ trace_after t l = trace_past t l.before l.changes
 
 -- the changes of a wave rise from a tick on; an absent wave has none
 abbrev pub Rises : ℕ → Trace → Type 0
-Rises floor l = MatchOption l.before (l.changes ≡ []) (λ v. ChangesFrom floor v l.changes)
+Rises floor l = MatchOption l.before (l.changes ≡ []) (λ v. AreChangesFrom floor v l.changes)
 
 -- the same of each wave
 abbrev pub EachRises : ℕ → List Trace → Type 0

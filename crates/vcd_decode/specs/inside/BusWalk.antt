@@ -14,7 +14,7 @@ use Rattle.vcd_decode.specs.declared.i2c_bus.events.BusEvent.TheVariants as even
 use Rattle.vcd_decode.specs.declared.i2c_bus.bytes.ByteRole.TheVariants as roles
 use Rattle.vcd_decode.specs.declared.i2c_bus.bytes.PartByte.{PartByte}
 use Rattle.vcd_decode.specs.declared.i2c_bus.transfer.Transfer.{Transfer}
-use Rattle.vcd_decode.specs.Lines.{note}
+use Rattle.vcd_decode.specs.Lines.{annotation}
 use Rattle.vcd_decode.specs.BusEvents.{bus_event}
 use Rattle.vcd_decode.specs.BusBytes.{number_with, byte_kind, role_after, acknowledge_kind, ten_bit_address}
 
@@ -57,17 +57,17 @@ start_of None = kinds.Start
 start_of (Some t) = kinds.RepeatedStart
 
 -- the bits at hand where a condition comes
-abbrev pub left_notes : Option Transfer → List Annotation
-left_notes None = []
-left_notes (Some t) = if nat_le 2 t.part.count then note t.part.first t.part.last (kinds.PartialOf t.part.count) ∷ [] else []
+abbrev pub left_annotations : Option Transfer → List Annotation
+left_annotations None = []
+left_annotations (Some t) = if nat_le 2 t.part.count then annotation t.part.first t.part.last (kinds.PartialOf t.part.count) ∷ [] else []
 
 -- ---- one bit
 
 -- the byte at hand and the acknowledge
-abbrev pub whole_notes : Transfer → BusBit → List Annotation
-whole_notes t b =
-    note t.part.first t.part.last (byte_kind t.role t.part.number)
-    ∷ note b.tick b.tick (acknowledge_kind (number_with (Some 0) b)) ∷ []
+abbrev pub whole_annotations : Transfer → BusBit → List Annotation
+whole_annotations t b =
+    annotation t.part.first t.part.last (byte_kind t.role t.part.number)
+    ∷ annotation b.tick b.tick (acknowledge_kind (number_with (Some 0) b)) ∷ []
 
 -- behind them
 abbrev pub transfer_after_byte : Transfer → Transfer
@@ -78,8 +78,8 @@ transfer_after_byte t = record {
 }
 
 -- what a bit of a transfer tells
-abbrev pub bit_notes : Transfer → BusBit → List Annotation
-bit_notes t b = if t.part.count == 8 then whole_notes t b else []
+abbrev pub bit_annotations : Transfer → BusBit → List Annotation
+bit_annotations t b = if t.part.count == 8 then whole_annotations t b else []
 
 -- the transfer after a bit of it
 abbrev pub transfer_after_bit : Transfer → BusBit → Transfer
@@ -88,11 +88,11 @@ transfer_after_bit t b = if t.part.count == 8 then transfer_after_byte t else re
 -- ---- any event
 
 -- what an event on the bus tells
-abbrev pub event_notes : Option Transfer → BusEvent → List Annotation
-event_notes bus (events.Start t) = left_notes bus ++ note t t (start_of bus) ∷ []
-event_notes bus (events.Stop t) = left_notes bus ++ note t t kinds.Stop ∷ []
-event_notes None (events.Bit b) = []
-event_notes (Some t) (events.Bit b) = bit_notes t b
+abbrev pub event_annotations : Option Transfer → BusEvent → List Annotation
+event_annotations bus (events.Start t) = left_annotations bus ++ annotation t t (start_of bus) ∷ []
+event_annotations bus (events.Stop t) = left_annotations bus ++ annotation t t kinds.Stop ∷ []
+event_annotations None (events.Bit b) = []
+event_annotations (Some t) (events.Bit b) = bit_annotations t b
 
 -- the transfer that is under way after an event, if one is
 abbrev pub bus_after : Option Transfer → BusEvent → Option Transfer
@@ -102,9 +102,9 @@ bus_after None (events.Bit b) = None
 bus_after (Some t) (events.Bit b) = Some (transfer_after_bit t b)
 
 -- what a list of events brings
-unfoldable pub walk_notes : Option Transfer → List BusEvent → List Annotation
-walk_notes bus [] = []
-walk_notes bus (e ∷ es) = event_notes bus e ++ walk_notes (bus_after bus e) es
+unfoldable pub walk_annotations : Option Transfer → List BusEvent → List Annotation
+walk_annotations bus [] = []
+walk_annotations bus (e ∷ es) = event_annotations bus e ++ walk_annotations (bus_after bus e) es
 
 -- ---- edges
 

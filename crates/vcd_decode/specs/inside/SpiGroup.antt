@@ -10,7 +10,7 @@ use Rattle.vcd_decode.specs.declared.annotation.LineData.TheVariants.{Absent, Un
 use Rattle.vcd_decode.specs.declared.spi_setup.BitOrder.{BitOrder}
 use Rattle.vcd_decode.specs.declared.spi_setup.BitOrder.TheVariants.{Msb, Lsb}
 use Rattle.vcd_decode.specs.declared.spi_group.Group.{Group}
-use Rattle.vcd_decode.specs.Lines.{note}
+use Rattle.vcd_decode.specs.Lines.{annotation}
 
 -- the bit of a line at an edge
 abbrev pub line_bit : List (Option Bit) → ℕ → Option Bit
@@ -74,9 +74,9 @@ group_after order g e = record {
 }
 
 -- a whole word, and the bits of one that is not ended
-abbrev pub word_note : Group → Annotation
-word_note g = note g.start g.last (Word g.mosi g.miso)
+abbrev pub word_annotation : Group → Annotation
+word_annotation g = annotation g.start g.last (Word g.mosi g.miso)
 
 -- the annotation of a group that is not whole
-abbrev pub rest_note : Group → Annotation
-rest_note g = note g.start g.last (PartialOf g.count)
+abbrev pub rest_annotation : Group → Annotation
+rest_annotation g = annotation g.start g.last (PartialOf g.count)

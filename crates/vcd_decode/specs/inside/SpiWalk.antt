@@ -10,7 +10,7 @@ use Rattle.vcd_decode.specs.Lines.{is_zero}
 use Rattle.vcd_decode.specs.Spi.{line_data, group_start, group_end, segment_told}
 use Rattle.vcd_decode.specs.inside.LineEdges.{line_edge}
 use Rattle.vcd_decode.specs.inside.SpiClock.{samples}
-use Rattle.vcd_decode.specs.inside.SpiGroup.{line_bit, DataFits, group_before, group_after, word_note, rest_note}
+use Rattle.vcd_decode.specs.inside.SpiGroup.{line_bit, DataFits, group_before, group_after, word_annotation, rest_annotation}
 
 -- ---- what an edge is
 
@@ -37,14 +37,14 @@ pub record HasRoomForBit (u : SpiSetup) (g : Group) : Type 0 where
 
 -- what a group tells that is not ended
 abbrev pub rest_told : Group → List Annotation
-rest_told g = if g.count == 0 then [] else rest_note g ∷ []
+rest_told g = if g.count == 0 then [] else rest_annotation g ∷ []
 
 -- what an edge tells where the chip stays as it is
 abbrev pub bit_told : SpiSetup → Group → BitEdge → List Annotation
 bit_told u g e =
     if not (is_sampling u e) then []
     else (if nat_lt (g.count + 1) u.bits then []
-    else word_note (group_after u.order g e) ∷ [])
+    else word_annotation (group_after u.order g e) ∷ [])
 
 -- the group after such an edge
 abbrev pub bit_group : SpiSetup → Group → BitEdge → Group

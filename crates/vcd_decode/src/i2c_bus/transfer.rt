@@ -1,7 +1,7 @@
 //! A bus between two events, and the annotations that an event brings.
 
 ghost use Rattle.std.specs.Prelude.{◌≡◌, ◌++◌, ◌∷◌, [], ◌<◌, IfOk, OnOk};
-ghost use Rattle.vcd_decode.specs.Lines.{note};
+ghost use Rattle.vcd_decode.specs.Lines.{annotation};
 ghost use Rattle.vcd_decode.specs.inside.BusWalk as walk;
 
 use crate::annotation::{Annotation, Kind};
@@ -29,8 +29,8 @@ pub(super) fn take_event(
     event: BusEvent,
 ) -> Result<Option<Transfer>, NoMemory>
     requires part { walk.IsBus bus }
-    ensures notes { OnOk result
-        (found.new.items ≡ found.old.items ++ walk.event_notes bus event) }
+    ensures annotations { OnOk result
+        (found.new.items ≡ found.old.items ++ walk.event_annotations bus event) }
     ensures bus { IfOk result (λ next. next ≡ walk.bus_after bus event) }
     ensures part { IfOk result walk.IsBus }
 {
@@ -56,8 +56,8 @@ fn take_bit(
     bit: BusBit,
 ) -> Result<Option<Transfer>, NoMemory>
     requires part { walk.IsBus bus }
-    ensures notes { OnOk result
-        (found.new.items ≡ found.old.items ++ walk.event_notes bus (BusEvent.Bit bit)) }
+    ensures annotations { OnOk result
+        (found.new.items ≡ found.old.items ++ walk.event_annotations bus (BusEvent.Bit bit)) }
     ensures bus { IfOk result (λ next. next ≡ walk.bus_after bus (BusEvent.Bit bit)) }
     ensures part { IfOk result walk.IsBus }
 {
@@ -90,8 +90,8 @@ fn end_byte(
     transfer: Transfer,
     bit: BusBit,
 ) -> Result<Transfer, NoMemory>
-    ensures notes { OnOk result
-        (found.new.items ≡ found.old.items ++ walk.whole_notes transfer bit) }
+    ensures annotations { OnOk result
+        (found.new.items ≡ found.old.items ++ walk.whole_annotations transfer bit) }
     ensures bus { IfOk result (λ next. next ≡ walk.transfer_after_byte transfer) }
 {
     let part = transfer.part;
@@ -108,7 +108,7 @@ fn end_byte(
 
 /// Appends the bits at hand where a condition comes: one alone is the rise of SCL before it.
 fn append_rest(found: &mut Vec<Annotation>, bus: Option<Transfer>) -> Result<(), NoMemory>
-    ensures { OnOk result (found.new.items ≡ found.old.items ++ walk.left_notes bus) }
+    ensures { OnOk result (found.new.items ≡ found.old.items ++ walk.left_annotations bus) }
 {
     let Some(transfer) = bus else {
         return Ok(());
@@ -126,7 +126,7 @@ fn append_annotation(
     end: u64,
     kind: Kind,
 ) -> Result<(), NoMemory>
-    ensures { OnOk result (found.new.items ≡ found.old.items ++ note start end kind ∷ []) }
+    ensures { OnOk result (found.new.items ≡ found.old.items ++ annotation start end kind ∷ []) }
 {
     found.push(Annotation { start, end, kind })?;
     Ok(())

@@ -53,7 +53,7 @@ abbrev pub room_at : List Signal → ℕ → ℕ
 room_at ss k = slice_index_or (map (λ s. s.wave.room) ss) k 0
 
 -- a piece and its wave have the room for what the other gives
-pub record HasRoom (ss : List Signal) (p : Piece) : Type 0 where
+pub record HasRoomForPiece (ss : List Signal) (p : Piece) : Type 0 where
   pub wave : vec_len p.changes ≤ room_at ss p.signal + (p.to - p.from)
   pub piece : p.to - p.from ≤ vec_capacity p.changes
 
@@ -63,7 +63,7 @@ pub record HasRoom (ss : List Signal) (p : Piece) : Type 0 where
 pub record ReservedSoFar (old : List Piece) (i : ℕ) (new : List Piece) (ss : List Signal) : Type 0 where
   pub rest : drop i new ≡ drop i old
   pub same : map piece_view new ≡ map piece_view old
-  pub room : All (HasRoom ss) (take i new)
+  pub room : All (HasRoomForPiece ss) (take i new)
 
 -- the first i pieces were put in and now lead back, and the later ones are as at first, and ready
 pub record PutSoFar (before : Contents) (old : List Piece) (i : ℕ) (new : List Piece) (now : Contents) (ss : List Signal) : Type 0 where
@@ -72,4 +72,4 @@ pub record PutSoFar (before : Contents) (old : List Piece) (i : ℕ) (new : List
   pub back : LeadBack before (map piece_view (take i old)) (map piece_view (take i new))
   pub ready : All (PieceReadyIn now) (map piece_view (drop i old))
   pub apart : AreApart (map piece_view (drop i old))
-  pub room : All (HasRoom ss) (drop i old)
+  pub room : All (HasRoomForPiece ss) (drop i old)

@@ -53,12 +53,12 @@ fn derived(alloc: Global, capture: &Capture, word: &[u8], rule: Rule) -> Result<
     Ok(Signal {
         scopes: copy_scopes(alloc, first.scopes.as_slice())?,
         kind: copy_word(alloc, b"wire")?,
-        words: one_word(alloc, word)?,
+        words: name_of_one_word(alloc, word)?,
         wave: derived_wave(alloc, &first.wave, &last.wave, rule)?,
     })
 }
 
-fn one_word(alloc: Global, word: &[u8]) -> Result<Seq<Word>, NoMemory>
+fn name_of_one_word(alloc: Global, word: &[u8]) -> Result<Seq<Word>, NoMemory>
     ensures { IfOk result (λ words. words ≡ word.now ∷ []) }
 {
     let mut words = Vec::new(alloc);

@@ -25,7 +25,7 @@ pub(crate) fn signal_there(capture: &Capture, position: usize) -> &Signal
 }
 
 /// The value at the tick before `tick`: all x before tick 0.
-pub(crate) fn value_before(wave: &Wave, tick: u64) -> Value
+pub(crate) fn value_at_tick_before(wave: &Wave, tick: u64) -> Value
     ensures { result ≡ value_just_before wave.now.width
         (value_at wave.now.width wave.now.changes) tick }
 {

@@ -7,7 +7,7 @@ ghost use Rattle.vcd_edit.specs.Back.{with_pieces, PieceFits, AreApart};
 ghost use Rattle.vcd_edit.specs.inside.Records.{piece_view};
 ghost use Rattle.vcd_edit.specs.inside.Fitting.{HasSoundNames, IsFormedSignal, lateness as lateness_of, StandsIn, AreSoundSignals};
 
-use crate::fitting::names::has_sound_names;
+use crate::fitting::sound_names::has_sound_names;
 use crate::pieces::piece_stands;
 use crate::record::Piece;
 use vcd_core::{SIGNAL_LIMIT, Signal, Wave, ends_by};

@@ -3,7 +3,7 @@
 ghost use Rattle.std.specs.Prelude.{◌≡◌, ℕ, ◌<◌, ◌≤◌, [], All, IsOk, OnOk, map, length};
 ghost use Rattle.vcd_core.specs.Contents.{contents};
 ghost use Rattle.vcd_edit.specs.inside.Records.{piece_view};
-ghost use Rattle.vcd_edit.specs.inside.Exchanges.{room_at, HasRoom};
+ghost use Rattle.vcd_edit.specs.inside.Exchanges.{room_at, HasRoomForPiece};
 
 use crate::record::Piece;
 use vcd_core::{Capture, NoMemory};
@@ -26,7 +26,7 @@ fn reserve_one(capture: &mut Capture, piece: &mut Piece) -> Result<(), NoMemory>
     requires ordered { piece.old.from ≤ piece.old.to }
     ensures contents { contents capture.new ≡ contents capture.old }
     ensures piece { piece_view piece.new ≡ piece_view piece.old }
-    ensures room { OnOk result (HasRoom capture.new.signals piece.new) }
+    ensures room { OnOk result (HasRoomForPiece capture.new.signals piece.new) }
     ensures never_less { (k : ℕ) → room_at capture.old.signals k ≤ room_at capture.new.signals k }
 {
     let come = piece.changes.as_slice().len();
@@ -42,7 +42,7 @@ pub(crate) fn reserve_all(capture: &mut Capture, pieces: &mut [Piece]) -> Result
     requires ordered { All (λ p. p.from ≤ p.to) pieces.old }
     ensures contents { contents capture.new ≡ contents capture.old }
     ensures pieces { map piece_view pieces.new ≡ map piece_view pieces.old }
-    ensures room { OnOk result (All (HasRoom capture.new.signals) pieces.new) }
+    ensures room { OnOk result (All (HasRoomForPiece capture.new.signals) pieces.new) }
     ensures never { pieces.old ≡ [] → IsOk result }
 {
     for piece in pieces.iter_mut() {

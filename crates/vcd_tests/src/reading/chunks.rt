@@ -8,13 +8,13 @@ use std::test::Fail;
 use vcd_text::read;
 
 /// The most bytes that are asked for at a time.
-const BLOCK: usize = 4096;
+const CHUNK: usize = 4096;
 
 /// A comment whose words lie over each seam of two chunks, as it is written.
 fn over_seams(alloc: Global) -> Result<Vec<u8>, Fail> {
     let mut file = Vec::new(alloc);
     file.extend_from_slice(b"$comment")?;
-    append_copies(&mut file, b" 0123456", BLOCK)?;
+    append_copies(&mut file, b" 0123456", CHUNK)?;
     file.extend_from_slice(b" $end\n$var wire 1 ! a $end\n$enddefinitions $end\n")?;
     file.extend_from_slice(b"#0\n$dumpvars\n0!\n$end\n#5\n1!\n#9\n")?;
     Ok(file)
@@ -40,6 +40,6 @@ fn a_fault_in_the_first_chunk(rt: HostRuntime) -> Result<(), Fail> {
     assert!(rt; error.line == 1 && error.name() == "UpscopeAtTop");
     let reader = source.into_inner();
     assert!(rt; reader.calls == 1, "one read");
-    assert!(rt; reader.rest.len().saturating_add(BLOCK) >= file.len());
+    assert!(rt; reader.rest.len().saturating_add(CHUNK) >= file.len());
     Ok(())
 }

@@ -28,7 +28,7 @@ pub record Agrees (m : Reader) (c : Context) : Type 0 where
   pub changing : m.changing ≡ c.changing
   pub tick : m.tick ≡ c.tick
   pub variables : Knows m.variables c
-  pub silent : IsFalse c.changing → c.records ≡ []
+  pub silent : IsFalse c.changing → c.value_changes ≡ []
 
 -- a declaration is open whose words behind the keyword the reader keeps
 pub record Collects (m : Reader) (begun : List PlacedWord) (keyword : List ℕ) : Type 0 where

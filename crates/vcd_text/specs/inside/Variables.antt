@@ -10,8 +10,8 @@ use Rattle.vcd_text.specs.declared.fault.Fault.{Fault}
 use Rattle.vcd_text.specs.declared.fault.Fault.TheVariants as faults
 use Rattle.vcd_text.specs.Letters.{letters_of_digits, extension}
 use Rattle.vcd_text.specs.Items.{variable}
-use Rattle.vcd_text.specs.Grammar.{VariableDeclaration, RecordedChange, Context, is_skipped, kept_variables, declaration_of, variable_of, may_have_code, has_room, is_binary_number, takes_binary_number, told_after_item, with_recorded_change}
-use Rattle.vcd_text.specs.Meaning.{recorded_value}
+use Rattle.vcd_text.specs.Grammar.{VariableDeclaration, ValueChange, Context, is_skipped, kept_variables, declaration_of, variable_of, may_have_code, has_room, is_binary_number, takes_binary_number, told_after_item, with_value_change}
+use Rattle.vcd_text.specs.Meaning.{latest_value}
 use Rattle.vcd_text.specs.inside.ShortCodes.{code_owner}
 use Rattle.vcd_text.specs.declared.reading.variables.Owner.{Owner}
 use Rattle.vcd_text.specs.declared.reading.variables.Owner.TheVariants.{Skipped, Kept}
@@ -32,21 +32,21 @@ declaration v = declaration_by v.code v.signal
 abbrev pub owner_of : Variables → List ℕ → Option Owner
 owner_of vs code = code_owner vs.owners.codes code
 
--- the variable of this code and size stands at this position, and its wave follows the records, the last of which is at the tick or before
-pub record HasWave (vs : List Variable) (position : ℕ) (code : List ℕ) (size : ℕ) (records : List RecordedChange) (tick : ℕ) : Type 0 where
+-- the variable of this code and size stands at this position, and its wave follows the value_changes, the last of which is at the tick or before
+pub record HasWave (vs : List Variable) (position : ℕ) (code : List ℕ) (size : ℕ) (value_changes : List ValueChange) (tick : ℕ) : Type 0 where
   pub first : Variable
   pub stands : slice_get vs position ≡ Some first
   pub coded : first.code ≡ code
   pub sized : first.signal.wave.width ≡ size
   pub ticks : All (λ (change : Change). change.tick ≤ tick) first.signal.wave.changes
-  pub values : (t : ℕ) → value_at size first.signal.wave.changes t ≡ recorded_value size code t (all_x size) records
+  pub values : (t : ℕ) → value_at size first.signal.wave.changes t ≡ latest_value size code t (all_x size) value_changes
 
 -- what a code stands for agrees with the first variable that was declared with it
-abbrev pub Stands : List Variable → List RecordedChange → ℕ → List ℕ → Option Owner → Option VariableDeclaration → Type 0
-Stands vs records tick code None None = Unit {0}
-Stands vs records tick code (Some Skipped) (Some d) = IsTrue (is_skipped d)
-Stands vs records tick code (Some (Kept position)) (Some d) = IsFalse (is_skipped d) × HasWave vs position code d.size records tick
-Stands vs records tick code owner declared = ⊥
+abbrev pub Stands : List Variable → List ValueChange → ℕ → List ℕ → Option Owner → Option VariableDeclaration → Type 0
+Stands vs value_changes tick code None None = Unit {0}
+Stands vs value_changes tick code (Some Skipped) (Some d) = IsTrue (is_skipped d)
+Stands vs value_changes tick code (Some (Kept position)) (Some d) = IsFalse (is_skipped d) × HasWave vs position code d.size value_changes tick
+Stands vs value_changes tick code owner declared = ⊥
 
 -- a kept variable knows the first one with its code, which stands no later and has the same size
 pub record HasFirst (vs : Variables) (position : ℕ) (v : Variable) : Type 0 where
@@ -54,11 +54,11 @@ pub record HasFirst (vs : Variables) (position : ℕ) (v : Variable) : Type 0 wh
   pub no_later : v.first ≤ position
   pub same_size : (w : Variable) → slice_get vs.kept.items v.first ≡ Some w → w.signal.wave.width ≡ v.signal.wave.width
 
--- the variables hold what has been told of them: declarations, and records up to the tick
+-- the variables hold what has been told of them: declarations, and value_changes up to the tick
 pub record Knows (vs : Variables) (c : Context) : Type 0 where
   pub kept : kept_variables c.declared ≡ map declaration vs.kept.items
   pub skipped : vs.skipped ≡ count_by is_skipped c.declared
-  pub stand : (code : List ℕ) → Stands vs.kept.items c.records c.tick code (owner_of vs code) (variable_of c code)
+  pub stand : (code : List ℕ) → Stands vs.kept.items c.value_changes c.tick code (owner_of vs code) (variable_of c code)
   pub firsts : (position : ℕ) (v : Variable) → slice_get vs.kept.items position ≡ Some v → HasFirst vs position v
   pub few : length vs.kept.items ≤ SIGNAL_LIMIT
 
@@ -125,7 +125,7 @@ pub data BinaryNumberFault (c : Context) (code digits : List ℕ) (fault : Fault
 -- what comes of the change: it is recorded, or shows a fault, or memory runs out
 abbrev pub TakesChange : Context → (code digits : List ℕ) → Result (Unit {0}) Fault → Variables → Type 0
 TakesChange c code digits (Ok x) new =
-    IsSomeAnd (variable_of c code) (λ d. IsTrue (takes_binary_number d digits)) × Knows new (with_recorded_change c code (letters_of_digits digits))
+    IsSomeAnd (variable_of c code) (λ d. IsTrue (takes_binary_number d digits)) × Knows new (with_value_change c code (letters_of_digits digits))
 TakesChange c code digits (Err fault) new = (fault ≡ faults.NoMemory) ⊎ BinaryNumberFault c code digits fault
 
 -- ---- what comes of the variables at the end

@@ -12,9 +12,9 @@ ghost use Rattle.vcd_text.specs.declared.reading.reader.OpenItem.TheVariants as 
 
 use crate::fault::Fault;
 use crate::reading::binary_number::is_binary_digit;
-use crate::reading::decimal::tick_of;
 use crate::reading::keywords::{is_declaring, is_dump_word};
 use crate::reading::reader::{OpenItem, Reader};
+use crate::reading::ticks_and_sizes::tick_of;
 
 impl Reader {
     /// Takes a word between two changes, which stands on this line. By its first byte it is a stamp, a

@@ -22,7 +22,7 @@ use std::alloc::Global;
 use vcd_core::{Incomplete, Source, is_white_space};
 
 /// The most bytes that are asked for at a time.
-pub const BLOCK: usize = 4096;
+pub const CHUNK: usize = 4096;
 
 /// How far a file has been read.
 #[derive(Drop)]
@@ -98,7 +98,7 @@ impl Progress {
         let closed = &self.word.as_slice()[..len];
         read_words(&mut self.reader, alloc, Words::behind(closed, self.passed))?;
         self.passed += feeds_in(closed);
-        drop_front(&mut self.word, len);
+        drop_bytes(&mut self.word, len);
         Ok(())
     }
 
@@ -189,7 +189,7 @@ fn read_words(reader: &mut Reader, alloc: Global, all: Words) -> Result<(), Read
 {
     let mut words = all;
     while let Some(word) = words.next_word() {
-        reader.step(alloc, word.text, word.line)?;
+        reader.take_word(alloc, word.text, word.line)?;
     }
     Ok(())
 }
@@ -203,7 +203,7 @@ fn feeds_in(bytes: &[u8]) -> u64
 
 /// Takes the first bytes away. It takes a step for each byte that is left, or none where none is taken away: a long
 /// word is not moved at each chunk.
-fn drop_front(bytes: &mut Vec<u8>, count: usize)
+fn drop_bytes(bytes: &mut Vec<u8>, count: usize)
     requires { count ≤ length bytes.old.items }
     ensures { bytes.new.items ≡ drop count bytes.old.items }
 {

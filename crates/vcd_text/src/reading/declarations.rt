@@ -6,13 +6,13 @@ ghost use Rattle.vcd_core.specs.Word.{is_one_of};
 ghost use Rattle.vcd_text.specs.Items.{end_word, is_end_word, declaring_words, header_words, begins_declaration};
 ghost use Rattle.vcd_text.specs.inside.Reading.{IsUnderway, TakesOrRefuses};
 ghost use Rattle.vcd_text.specs.inside.OpenItems.{is_inside};
-ghost use Rattle.vcd_text.specs.inside.Opening.{Opens, keeps_words};
+ghost use Rattle.vcd_text.specs.inside.OpeningWords.{Opens, keeps_words};
 ghost use Rattle.vcd_text.specs.declared.reading.reader.OpenItem.TheVariants as items;
 
 use crate::fault::Fault;
-use crate::reading::decimal::size_of;
 use crate::reading::keywords::{is_command, is_dump_word};
 use crate::reading::reader::{OpenItem, Reader};
+use crate::reading::ticks_and_sizes::size_of;
 use crate::reading::timescale::timescale_in;
 use std::alloc::Global;
 use std::mem::replace;
@@ -101,7 +101,7 @@ impl Reader {
         requires { self.old.item ≡ items.Entry kind }
         ensures { (line : ℕ) → TakesOrRefuses self.old (word_on end_word line) result self.new }
     {
-        let words = take_words(alloc, &mut self.words);
+        let words = words_out_of(alloc, &mut self.words);
         self.header.push(Header { kind, words })?;
         self.item = OpenItem::Nothing;
         Ok(())
@@ -130,7 +130,7 @@ impl Reader {
             return Err(Fault::BadScope);
         }
         let kind = self.words.remove(0);
-        let words = take_words(alloc, &mut self.words);
+        let words = words_out_of(alloc, &mut self.words);
         self.scopes.push(ScopeName { kind, words })?;
         self.item = OpenItem::Nothing;
         Ok(())
@@ -225,7 +225,7 @@ fn push_copy(alloc: Global, words: &mut Vec<Word>, text: &[u8]) -> Result<(), No
 }
 
 /// The words, which are moved out.
-fn take_words(alloc: Global, words: &mut Vec<Word>) -> Seq<Word>
+fn words_out_of(alloc: Global, words: &mut Vec<Word>) -> Seq<Word>
     ensures { result ≡ words.old.items }
 {
     Seq::from_vec(replace(words, Vec::new(alloc)))

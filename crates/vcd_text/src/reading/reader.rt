@@ -72,7 +72,7 @@ impl Reader {
     }
 
     /// Takes the next word of the file, which stands on this line.
-    pub fn step(&mut self, alloc: Global, text: &[u8], line: u64) -> Result<(), ReadError>
+    pub fn take_word(&mut self, alloc: Global, text: &[u8], line: u64) -> Result<(), ReadError>
         requires reading { IsUnderway self.old }
         requires word { 0 < length text.now }
         ensures { Steps self.old (word_on text.now line) result self.new }

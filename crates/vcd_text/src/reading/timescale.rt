@@ -47,12 +47,12 @@ fn timescale_of_text(text: &[u8]) -> Option<Timescale>
 fn timescale_with(count: u64, unit: &[u8]) -> Option<Timescale>
     ensures { result ≡ timescale_of_unit count (unit_named unit.now) }
 {
-    let unit = unit_of(unit)?;
+    let unit = unit_named(unit)?;
     Some(Timescale { count, unit })
 }
 
 /// The unit that a text names, if it names one.
-fn unit_of(text: &[u8]) -> Option<TimeUnit>
+fn unit_named(text: &[u8]) -> Option<TimeUnit>
     ensures { result ≡ unit_named text.now }
 {
     // Comparisons in a row: a `match` on byte strings leaves goals open.

@@ -14,8 +14,8 @@ ghost use Rattle.vcd_text.specs.declared.reading.variables.Owner.TheVariants.{Ke
 
 use crate::fault::Fault;
 use crate::reading::binary_number::{BinaryNumberError, read_value, read_word};
-use crate::reading::decimal::size_of;
 use crate::reading::owners::Owners;
+use crate::reading::ticks_and_sizes::size_of;
 use std::alloc::Global;
 use vcd_core::{
     NoMemory, SIGNAL_LIMIT, ScopeName, Signal, WIDTH_LIMIT, Wave, Word, copy_scopes, copy_word,
@@ -94,7 +94,7 @@ pub struct Variables {
 impl Variables {
     /// No variables. It takes no memory.
     pub fn new(alloc: Global) -> Variables
-        ensures { (c : Context) → c.declared ≡ [] → c.records ≡ [] → Knows result c }
+        ensures { (c : Context) → c.declared ≡ [] → c.value_changes ≡ [] → Knows result c }
     {
         Variables {
             kept: Vec::new(alloc),
@@ -116,7 +116,7 @@ impl Variables {
     ) -> Result<(), Fault>
         requires size { IsTrue (has_good_size words.now) }
         requires few { self.old.skipped + 1 < 2 ^ 64 }
-        ensures { (c : Context) → c.scopes ≡ scopes.now → c.records ≡ [] → Knows self.old c →
+        ensures { (c : Context) → c.scopes ≡ scopes.now → c.value_changes ≡ [] → Knows self.old c →
             Declares c words.now result self.new }
     {
         let [kind, size, code, name @ ..] = words else {
@@ -128,7 +128,7 @@ impl Variables {
         let Some(size) = size_of(size.as_slice()) else {
             return Err(Fault::BadVar);
         };
-        if is_left_out(kind.as_slice(), size) {
+        if is_skipped(kind.as_slice(), size) {
             return self.skip(alloc, code.as_slice());
         }
         let signal = silent_signal(alloc, scopes, kind, size, name)?;
@@ -154,7 +154,7 @@ impl Variables {
     fn keep(&mut self, alloc: Global, code: &[u8], signal: Signal) -> Result<(), Fault>
         requires silent { signal.wave.changes ≡ [] }
         ensures { (c : Context) → let d = declaration_by code.now signal in
-            Knows self.old c → c.records ≡ [] → IsFalse (is_skipped d) →
+            Knows self.old c → c.value_changes ≡ [] → IsFalse (is_skipped d) →
             DeclaresAs c d result self.new }
     {
         match self.owner(code) {
@@ -281,7 +281,7 @@ impl Variables {
 }
 
 /// Whether a variable of this kind and size is skipped.
-fn is_left_out(kind: &[u8], size: u64) -> bool
+fn is_skipped(kind: &[u8], size: u64) -> bool
     ensures { result ≡ (skips_kind kind.now || (size == 0 || nat_lt WIDTH_LIMIT size)) }
 {
     is_skipped_kind(kind) || size == 0 || size > WIDTH_LIMIT

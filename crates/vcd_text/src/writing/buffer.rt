@@ -36,7 +36,7 @@ pub fn write_piece<W: Sink>(buffer: &mut WriteBuffer, writer: &mut W, piece: &[u
     ensures { Writes buffer.old (W.taken writer.old) (W.has_failed writer.old)
         buffer.new (W.taken writer.new) (W.has_failed writer.new) piece.now }
 {
-    if has_room(&buffer.waiting, piece.len()) {
+    if has_space_for(&buffer.waiting, piece.len()) {
         let _ = buffer.waiting.extend_from_slice(piece);
         return;
     }
@@ -49,7 +49,7 @@ pub fn write_byte<W: Sink>(buffer: &mut WriteBuffer, writer: &mut W, byte: u8)
     ensures { Writes buffer.old (W.taken writer.old) (W.has_failed writer.old)
         buffer.new (W.taken writer.new) (W.has_failed writer.new) (byte ∷ []) }
 {
-    if has_room(&buffer.waiting, 1) {
+    if has_space_for(&buffer.waiting, 1) {
         let _ = buffer.waiting.push(byte);
         return;
     }
@@ -61,7 +61,7 @@ fn write_first<W: Sink>(buffer: &mut WriteBuffer, writer: &mut W, piece: &[u8])
     ensures { Writes buffer.old (W.taken writer.old) (W.has_failed writer.old)
         buffer.new (W.taken writer.new) (W.has_failed writer.new) piece.now }
 {
-    if has_room(&buffer.waiting, piece.len()) {
+    if has_space_for(&buffer.waiting, piece.len()) {
         let _ = buffer.waiting.extend_from_slice(piece);
         return;
     }
@@ -69,7 +69,7 @@ fn write_first<W: Sink>(buffer: &mut WriteBuffer, writer: &mut W, piece: &[u8])
     send_piece(buffer, writer, piece);
 }
 
-fn has_room(waiting: &Vec<u8>, count: usize) -> bool
+fn has_space_for(waiting: &Vec<u8>, count: usize) -> bool
     ensures { result ≡ true → vec_len waiting.now + count ≤ vec_capacity waiting.now }
 {
     count <= waiting.capacity() - waiting.len()

@@ -18,13 +18,13 @@ pub fn annotations_to_bytes(
     alloc: Global,
     decoder: &[u8],
     digits: u64,
-    notes: &[Annotation],
+    annotations: &[Annotation],
 ) -> Result<Vec<u8>, NoMemory>
-    ensures { IfOk result (λ text. text.items ≡ annotations_text decoder.now digits notes.now) }
+    ensures { IfOk result (λ text. text.items ≡ annotations_text decoder.now digits annotations.now) }
 {
     let mut text = Vec::new(alloc);
-    for note in notes {
-        push_annotation(&mut text, decoder, digits, note)?;
+    for annotation in annotations {
+        push_annotation(&mut text, decoder, digits, annotation)?;
     }
     Ok(text)
 }
@@ -34,18 +34,18 @@ fn push_annotation(
     text: &mut Vec<u8>,
     decoder: &[u8],
     digits: u64,
-    note: &Annotation,
+    annotation: &Annotation,
 ) -> Result<(), NoMemory>
     ensures { OnOk result (text.new.items
-        ≡ text.old.items ++ with_line_feed (annotation_line decoder.now digits note.now)) }
+        ≡ text.old.items ++ with_line_feed (annotation_line decoder.now digits annotation.now)) }
 {
-    push_decimal(text, note.start)?;
+    push_decimal(text, annotation.start)?;
     text.extend_from_slice(b"-")?;
-    push_decimal(text, note.end)?;
+    push_decimal(text, annotation.end)?;
     text.extend_from_slice(b" ")?;
     text.extend_from_slice(decoder)?;
     text.extend_from_slice(b" ")?;
-    push_kind(text, digits, note.kind)?;
+    push_kind(text, digits, annotation.kind)?;
     text.extend_from_slice(b"\n")?;
     Ok(())
 }

@@ -1,7 +1,7 @@
 //! What a line of the script does to a session, and what is said to it.
 
 ghost use Rattle.std.specs.Prelude.{◌≡◌, false, Err, IfOk, OnErr};
-ghost use Rattle.vcd_journal.specs.RefusalNames.{step_error_name};
+ghost use Rattle.vcd_journal.specs.StepErrorNames.{step_error_name};
 ghost use Rattle.vcdedit.specs.CommandSignals.{HasItsSignals};
 ghost use Rattle.vcdedit.specs.inside.Answering.{AnswersStep, AnswersCommand, AnswersLine, is_no_memory as wants_memory};
 ghost use Rattle.vcdedit.specs.inside.Replies.{TellsReply};

@@ -25,12 +25,12 @@ pub fn uart_text(
     setup: &Uart,
 ) -> Result<Vec<u8>, NoMemory>
     requires sound { IsSound (contents capture.now) }
-    requires scalar { IsScalarAt (contents capture.now) signal }
+    requires one_bit_signal { IsScalarAt (contents capture.now) signal }
     ensures { IfOk result (λ text. text.items ≡
         flat_map with_line_feed (spec.uart_lines (contents capture.now) signal setup.now)) }
 {
-    let notes = uart(alloc, scalar_wave(capture, signal), capture.end(), setup)?;
-    annotations_to_bytes(alloc, b"uart", uart_digits(setup), notes.as_slice())
+    let annotations = uart(alloc, scalar_wave(capture, signal), capture.end(), setup)?;
+    annotations_to_bytes(alloc, b"uart", uart_digits(setup), annotations.as_slice())
 }
 
 /// How many hexadecimal digits the data of a UART line have.
@@ -62,8 +62,8 @@ pub fn spi_text(
     let mosi = wave_or_absent(capture, mosi);
     let miso = wave_or_absent(capture, miso);
     let cs = wave_or_absent(capture, cs);
-    let notes = spi(alloc, clk, mosi, miso, cs, capture.end(), setup)?;
-    annotations_to_bytes(alloc, b"spi", spi_digits(setup), notes.as_slice())
+    let annotations = spi(alloc, clk, mosi, miso, cs, capture.end(), setup)?;
+    annotations_to_bytes(alloc, b"spi", spi_digits(setup), annotations.as_slice())
 }
 
 /// How many hexadecimal digits the words of a serial peripheral interface have.
@@ -88,14 +88,14 @@ pub fn i2c_text(
 {
     let scl = scalar_wave(capture, scl);
     let sda = scalar_wave(capture, sda);
-    let notes = i2c(alloc, scl, sda, capture.end())?;
-    annotations_to_bytes(alloc, b"i2c", 2, notes.as_slice())
+    let annotations = i2c(alloc, scl, sda, capture.end())?;
+    annotations_to_bytes(alloc, b"i2c", 2, annotations.as_slice())
 }
 
 /// The wave of a signal of one bit.
 fn scalar_wave(capture: &Capture, signal: usize) -> &Wave
     requires sound { IsSound (contents capture.now) }
-    requires scalar { IsScalarAt (contents capture.now) signal }
+    requires one_bit_signal { IsScalarAt (contents capture.now) signal }
     ensures one_bit { result.now.width ≡ 1 }
     ensures within { AllUpTo capture.now.end result.now.changes }
     ensures letters { line_of result.now ≡ spec.letters_at (contents capture.now) signal }
@@ -106,7 +106,7 @@ fn scalar_wave(capture: &Capture, signal: usize) -> &Wave
 /// The same of a line that may be absent.
 fn wave_or_absent(capture: &Capture, line: Option<usize>) -> Option<&Wave>
     requires sound { IsSound (contents capture.now) }
-    requires scalar { IfSome line (IsScalarAt (contents capture.now)) }
+    requires one_bit_signal { IfSome line (IsScalarAt (contents capture.now)) }
     ensures one_bit { IsOneBit (option_copied result) }
     ensures within { IfSome (option_copied result) (λ w. AllUpTo capture.now.end w.changes) }
     ensures letters { option_map line_of (option_copied result)

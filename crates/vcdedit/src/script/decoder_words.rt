@@ -7,7 +7,7 @@ ghost use Rattle.vcd_decode.specs.SpiSetup.{spi_setup};
 ghost use Rattle.vcdedit.specs.DecoderWords as spec;
 
 use crate::script::LineError;
-use crate::script::edits::find_signal;
+use crate::script::edits::signal_of_name;
 use crate::script::numbers::number_of_word;
 use vcd_core::Capture;
 use vcd_decode::{BitOrder, Parity, Spi, Uart};
@@ -87,14 +87,14 @@ pub fn find_or_absent(capture: &Capture, word: &[u8]) -> Result<Option<usize>, L
     if word == b"-".as_slice() {
         return Ok(None);
     }
-    let signal = find_signal(capture, word)?;
+    let signal = signal_of_name(capture, word)?;
     Ok(Some(signal))
 }
 
 /// Sees that a signal has one bit.
-pub fn scalar(capture: &Capture, signal: usize) -> Result<usize, LineError>
+pub fn one_bit_signal(capture: &Capture, signal: usize) -> Result<usize, LineError>
     requires { signal < length capture.now.signals }
-    ensures { result ≡ spec.scalar (contents capture.now) signal }
+    ensures { result ≡ spec.one_bit_signal (contents capture.now) signal }
 {
     if capture.signals()[signal].wave.width() == 1 {
         Ok(signal)
@@ -104,9 +104,12 @@ pub fn scalar(capture: &Capture, signal: usize) -> Result<usize, LineError>
 }
 
 /// The same of a line that may be absent.
-pub fn scalar_or_absent(capture: &Capture, line: Option<usize>) -> Result<Option<usize>, LineError>
+pub fn one_bit_signal_or_absent(
+    capture: &Capture,
+    line: Option<usize>,
+) -> Result<Option<usize>, LineError>
     requires { IfSome line (λ k. k < length capture.now.signals) }
-    ensures { result ≡ spec.scalar_or_absent (contents capture.now) line }
+    ensures { result ≡ spec.one_bit_signal_or_absent (contents capture.now) line }
 {
     match line {
         Some(signal) => some_scalar(capture, signal),
@@ -117,9 +120,9 @@ pub fn scalar_or_absent(capture: &Capture, line: Option<usize>) -> Result<Option
 /// The same of a line that is there.
 fn some_scalar(capture: &Capture, signal: usize) -> Result<Option<usize>, LineError>
     requires { signal < length capture.now.signals }
-    ensures { result ≡ spec.scalar_or_absent (contents capture.now) (Some signal) }
+    ensures { result ≡ spec.one_bit_signal_or_absent (contents capture.now) (Some signal) }
 {
-    let signal = scalar(capture, signal)?;
+    let signal = one_bit_signal(capture, signal)?;
     Ok(Some(signal))
 }
 

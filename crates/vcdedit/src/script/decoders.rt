@@ -6,10 +6,10 @@ ghost use Rattle.vcdedit.specs.DecoderCommands.{uart_command, spi_command, i2c_c
 ghost use Rattle.vcdedit.specs.inside.Commands.{ReadsAs};
 
 use crate::script::decoder_words::{
-    find_or_absent, order_of_word, parity_of_word, ratio_of_word, scalar, scalar_or_absent, spi_of,
-    uart_of,
+    find_or_absent, one_bit_signal, one_bit_signal_or_absent, order_of_word, parity_of_word,
+    ratio_of_word, spi_of, uart_of,
 };
-use crate::script::edits::find_signal;
+use crate::script::edits::signal_of_name;
 use crate::script::line_words::{take_five, take_seven, take_two};
 use crate::script::numbers::number_of_word;
 use crate::script::{Command, LineError};
@@ -21,12 +21,12 @@ pub fn parse_uart<'a>(words: &mut Words<'a>, capture: &Capture) -> Result<Comman
     ensures { ReadsAs (uart_command (contents capture.now) (word_texts words.old)) result }
 {
     let all = take_five(words)?;
-    let signal = find_signal(capture, all.first)?;
+    let signal = signal_of_name(capture, all.first)?;
     let ratio = ratio_of_word(all.second)?;
     let data_bits = number_of_word(all.third)?;
     let parity = parity_of_word(all.fourth)?;
     let stop_bits = number_of_word(all.fifth)?;
-    let signal = scalar(capture, signal)?;
+    let signal = one_bit_signal(capture, signal)?;
     let setup = uart_of(ratio, data_bits, parity, stop_bits)?;
     Ok(Command::Uart { signal, setup })
 }
@@ -36,17 +36,17 @@ pub fn parse_spi<'a>(words: &mut Words<'a>, capture: &Capture) -> Result<Command
     ensures { ReadsAs (spi_command (contents capture.now) (word_texts words.old)) result }
 {
     let all = take_seven(words)?;
-    let clk = find_signal(capture, all.first)?;
+    let clk = signal_of_name(capture, all.first)?;
     let mosi = find_or_absent(capture, all.second)?;
     let miso = find_or_absent(capture, all.third)?;
     let cs = find_or_absent(capture, all.fourth)?;
     let mode = number_of_word(all.fifth)?;
     let bits = number_of_word(all.sixth)?;
     let order = order_of_word(all.seventh)?;
-    let clk = scalar(capture, clk)?;
-    let mosi = scalar_or_absent(capture, mosi)?;
-    let miso = scalar_or_absent(capture, miso)?;
-    let cs = scalar_or_absent(capture, cs)?;
+    let clk = one_bit_signal(capture, clk)?;
+    let mosi = one_bit_signal_or_absent(capture, mosi)?;
+    let miso = one_bit_signal_or_absent(capture, miso)?;
+    let cs = one_bit_signal_or_absent(capture, cs)?;
     let setup = spi_of(mode, bits, order)?;
     Ok(Command::Spi {
         clk,
@@ -62,9 +62,9 @@ pub fn parse_i2c<'a>(words: &mut Words<'a>, capture: &Capture) -> Result<Command
     ensures { ReadsAs (i2c_command (contents capture.now) (word_texts words.old)) result }
 {
     let (scl, sda) = take_two(words)?;
-    let scl = find_signal(capture, scl)?;
-    let sda = find_signal(capture, sda)?;
-    let scl = scalar(capture, scl)?;
-    let sda = scalar(capture, sda)?;
+    let scl = signal_of_name(capture, scl)?;
+    let sda = signal_of_name(capture, sda)?;
+    let scl = one_bit_signal(capture, scl)?;
+    let sda = one_bit_signal(capture, sda)?;
     Ok(Command::I2c { scl, sda })
 }

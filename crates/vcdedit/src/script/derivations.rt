@@ -10,7 +10,7 @@ ghost use Rattle.vcdedit.specs.ScriptCommands.{not_command, pair_command, bit_co
 ghost use Rattle.vcdedit.specs.ScriptCommands as spec;
 ghost use Rattle.vcdedit.specs.inside.Commands.{ReadsAs};
 
-use crate::script::edits::find_signal;
+use crate::script::edits::signal_of_name;
 use crate::script::line_words::{next_text, take_one, take_two};
 use crate::script::numbers::number_of_word;
 use crate::script::{Command, LineError};
@@ -64,7 +64,7 @@ fn parse_not<'a>(
 ) -> Result<Command<'a>, LineError>
     ensures { ReadsAs (not_command (contents capture.now) word.now (word_texts words.old)) result }
 {
-    let operand = find_signal(capture, take_one(words)?)?;
+    let operand = signal_of_name(capture, take_one(words)?)?;
     Ok(derive_by(word, Rule::Not(operand)))
 }
 
@@ -116,8 +116,8 @@ fn parse_pair<'a>(words: &mut Words<'a>, capture: &Capture) -> Result<(usize, us
         pair_command (contents capture.now) rule word (word_texts words.old) ≡ Err e) }
 {
     let (a, b) = take_two(words)?;
-    let first = find_signal(capture, a)?;
-    let second = find_signal(capture, b)?;
+    let first = signal_of_name(capture, a)?;
+    let second = signal_of_name(capture, b)?;
     Ok((first, second))
 }
 
@@ -130,7 +130,7 @@ fn parse_bit<'a>(
     ensures { ReadsAs (bit_command (contents capture.now) word.now (word_texts words.old)) result }
 {
     let (name, bit) = take_two(words)?;
-    let operand = find_signal(capture, name)?;
+    let operand = signal_of_name(capture, name)?;
     let bit = number_of_word(bit)?;
     Ok(derive_by(word, Rule::BitOf(operand, bit)))
 }

@@ -20,7 +20,7 @@ pub fn parse_rename<'a>(words: &mut Words<'a>, capture: &Capture) -> Result<Comm
     ensures { ReadsAs (rename_command (contents capture.now) (word_texts words.old)) result }
 {
     let (name, word) = take_two(words)?;
-    let signal = find_signal(capture, name)?;
+    let signal = signal_of_name(capture, name)?;
     Ok(Command::Step(Step::Edit(Edit::Rename { signal, word })))
 }
 
@@ -28,7 +28,7 @@ pub fn parse_rename<'a>(words: &mut Words<'a>, capture: &Capture) -> Result<Comm
 pub fn parse_remove<'a>(words: &mut Words<'a>, capture: &Capture) -> Result<Command<'a>, LineError>
     ensures { ReadsAs (remove_command (contents capture.now) (word_texts words.old)) result }
 {
-    let signal = find_signal(capture, take_one(words)?)?;
+    let signal = signal_of_name(capture, take_one(words)?)?;
     Ok(Command::Step(Step::Edit(Edit::Remove { signal })))
 }
 
@@ -36,7 +36,7 @@ pub fn parse_remove<'a>(words: &mut Words<'a>, capture: &Capture) -> Result<Comm
 pub fn parse_invert<'a>(words: &mut Words<'a>, capture: &Capture) -> Result<Command<'a>, LineError>
     ensures { ReadsAs (invert_command (contents capture.now) (word_texts words.old)) result }
 {
-    let signal = find_signal(capture, take_one(words)?)?;
+    let signal = signal_of_name(capture, take_one(words)?)?;
     Ok(Command::Step(Step::Edit(Edit::Invert { signal })))
 }
 
@@ -45,7 +45,7 @@ pub fn parse_shift<'a>(words: &mut Words<'a>, capture: &Capture) -> Result<Comma
     ensures { ReadsAs (shift_command (contents capture.now) (word_texts words.old)) result }
 {
     let (name, by) = take_two(words)?;
-    let signal = find_signal(capture, name)?;
+    let signal = signal_of_name(capture, name)?;
     let by = distance_of_word(by)?;
     Ok(Command::Step(Step::Edit(Edit::Shift { signal, by })))
 }
@@ -68,7 +68,7 @@ pub fn parse_deglitch<'a>(
     ensures { ReadsAs (deglitch_command (contents capture.now) (word_texts words.old)) result }
 {
     let (name, ticks) = take_two(words)?;
-    let signal = find_signal(capture, name)?;
+    let signal = signal_of_name(capture, name)?;
     let ticks = number_of_word(ticks)?;
     Ok(Command::Step(Step::Edit(Edit::Deglitch { signal, ticks })))
 }
@@ -78,7 +78,7 @@ pub fn parse_force<'a>(words: &mut Words<'a>, capture: &Capture) -> Result<Comma
     ensures { ReadsAs (force_command (contents capture.now) (word_texts words.old)) result }
 {
     let all = take_four(words)?;
-    let signal = find_signal(capture, all.first)?;
+    let signal = signal_of_name(capture, all.first)?;
     let from = number_of_word(all.second)?;
     let to = number_of_word(all.third)?;
     let value = value_of_word(capture, signal, all.fourth)?;
@@ -91,7 +91,7 @@ pub fn parse_force<'a>(words: &mut Words<'a>, capture: &Capture) -> Result<Comma
 }
 
 /// The position of the signal that a word names.
-pub fn find_signal(capture: &Capture, name: &[u8]) -> Result<usize, LineError>
+pub fn signal_of_name(capture: &Capture, name: &[u8]) -> Result<usize, LineError>
     ensures named { result ≡ signal_of_name (contents capture.now) name.now }
     ensures within { IfOk result (λ k. k < length capture.now.signals) }
 {

@@ -1,7 +1,7 @@
 //! The faults of a line of a script, and the name of each.
 
 ghost use Rattle.std.specs.Prelude.{◌≡◌};
-ghost use Rattle.vcdedit.specs.RefusalNames.{line_error_name};
+ghost use Rattle.vcdedit.specs.LineErrorNames.{line_error_name};
 
 use std::fmt;
 use thiserror::Error;

@@ -8,7 +8,7 @@ ghost use Rattle.vcdedit.specs.ScriptCommands.{value_command, changes_command};
 ghost use Rattle.vcdedit.specs.declared.script.command.Command.TheVariants as commands;
 ghost use Rattle.vcdedit.specs.inside.Commands.{ReadsAs};
 
-use crate::script::edits::find_signal;
+use crate::script::edits::signal_of_name;
 use crate::script::line_words::{take_none, take_one, take_two};
 use crate::script::numbers::number_of_word;
 use crate::script::{Command, LineError};
@@ -28,7 +28,7 @@ pub fn parse_value<'a>(words: &mut Words<'a>, capture: &Capture) -> Result<Comma
     ensures { ReadsAs (value_command (contents capture.now) (word_texts words.old)) result }
 {
     let (name, tick) = take_two(words)?;
-    let signal = find_signal(capture, name)?;
+    let signal = signal_of_name(capture, name)?;
     let tick = number_of_word(tick)?;
     Ok(Command::Value { signal, tick })
 }
@@ -37,6 +37,6 @@ pub fn parse_value<'a>(words: &mut Words<'a>, capture: &Capture) -> Result<Comma
 pub fn parse_changes<'a>(words: &mut Words<'a>, capture: &Capture) -> Result<Command<'a>, LineError>
     ensures { ReadsAs (changes_command (contents capture.now) (word_texts words.old)) result }
 {
-    let signal = find_signal(capture, take_one(words)?)?;
+    let signal = signal_of_name(capture, take_one(words)?)?;
     Ok(Command::Changes { signal })
 }

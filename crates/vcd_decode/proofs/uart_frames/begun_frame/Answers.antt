@@ -1,5 +1,5 @@
 use Rattle.std.proofs.Common.{◌≡◌, ◌+◌, ◌∙◌, true, false, Some, sym, ap, arith}
-use Rattle.vcd_decode.specs.Lines.{line_of, is_zero, note}
+use Rattle.vcd_decode.specs.Lines.{line_of, is_zero, annotation}
 use Rattle.vcd_decode.specs.Uart.{sample_tick, sample_offset}
 use Rattle.vcd_decode.proofs.BegunFrames.{cut_in_start_bit, glitch, cut_later, whole}
 use Rattle.vcd_decode.proofs.uart_frames.begun_frame.Goals as goal
@@ -31,5 +31,5 @@ returns c =
     let low : is_zero (line_of c.args.wave.now (sample_tick c.args.setup.now c.args.start 0)) ≡ true =
     ap is_zero (sym first) ∙ sym c.is_zero.ensures ∙ c.if-not-is_zero.false in
     let last = c.sample_offset-last.ensures ∙ ap (sample_offset c.args.setup.now) c.last_bit.ensures.count in
-    (λ i. Some (note c.args.start (c.args.start + last i) (c.kind_at-kind.ensures i)))
+    (λ i. Some (annotation c.args.start (c.args.start + last i) (c.frame_kind_at-kind.ensures i)))
     ∙ sym (whole (line_of c.args.wave.now) c.args.end c.args.setup.now c.args.start (omega arith) low (omega arith))

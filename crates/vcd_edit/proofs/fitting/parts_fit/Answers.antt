@@ -11,7 +11,7 @@ returns-in-Some c = λ d other_end same.
 pub returns-in-Some-word : goal.returns-in-Some-word
 returns-in-Some-word c = λ d other_end same.
     parts_by_word c.args.end d (record_view c.args.pieces.now c.args.word.now c.args.signal.now c.requires.0) other_end c.requires.1 (c.in-Some-word.signal, c.as_slice.result.now)
-    (ap moved_signal_view c.in-None.is) (ap word_view c.in-Some-word.is ∙ ap (λ (word : List ℕ). Some (c.in-Some-word.signal, word)) (sym c.as_slice.ensures.value)) c.word_fits.result (c.word_fits.ensures d same)
+    (ap moved_signal_view c.in-None.is) (ap word_view c.in-Some-word.is ∙ ap (λ (word : List ℕ). Some (c.in-Some-word.signal, word)) (sym c.as_slice.ensures.value)) c.may_be_renamed.result (c.may_be_renamed.ensures d same)
 
 pub returns-in-None-word : goal.returns-in-None-word
 returns-in-None-word c = λ d other_end same.

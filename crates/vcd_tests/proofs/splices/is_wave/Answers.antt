@@ -4,16 +4,16 @@ use Rattle.vcd_core.specs.declared.bit.Bit.{Bit}
 use Rattle.vcd_core.specs.declared.wave.Change.{Change}
 use Rattle.vcd_core.specs.Value.{same_letters}
 use Rattle.vcd_core.specs.inside.ValueLaws.{same_letters-Decides}
-use Rattle.vcd_core.specs.Wave.{ChangesFrom}
+use Rattle.vcd_core.specs.Wave.{AreChangesFrom}
 use Rattle.vcd_tests.proofs.splices.is_wave.Goals as goal
 
 -- one change more, where the later ones rise from the next tick
 one_more : (floor next : ℕ) (before : List Bit) (cs : List Change) (i : ℕ) (c : Change) → i < length cs → c ≡ get_or cs i c
     → floor ≤ c.tick → next ≡ c.tick + 1 → c.value ≢ before → length c.value ≡ length before
-    → ChangesFrom next c.value (drop (i + 1) cs) → ChangesFrom floor before (drop i cs)
+    → AreChangesFrom next c.value (drop (i + 1) cs) → AreChangesFrom floor before (drop i cs)
 one_more floor next before cs i c within here from after other wide rest =
     let split : drop i cs ≡ c ∷ drop (i + 1) cs = drop_more cs i c within ∙ ap (λ x. x ∷ drop (i + 1) cs) (sym here) in
-    subst (ChangesFrom floor before) (sym split) (from, other, wide, subst (λ n. ChangesFrom n c.value (drop (i + 1) cs)) after rest)
+    subst (AreChangesFrom floor before) (sym split) (from, other, wide, subst (λ n. AreChangesFrom n c.value (drop (i + 1) cs)) after rest)
 
 -- what the comparison told
 differ : (v w : List Bit) (answer : Bool) → answer ≡ same_letters v w → answer ≡ false → v ≢ w

@@ -18,7 +18,7 @@ returns c =
     let width : c.self.inside.width ≡ c.args.self.now.width = ap (λ (w : WaveView). w.width) c.self.view_is in
     let changes : list ≡ c.args.self.now.changes = c.deref.ensures.value ∙ ap (λ (w : WaveView). w.changes) c.self.view_is in
     let same : c.deref-2.result.now ≡ list = c.deref-2.ensures.value ∙ sym c.deref.ensures.value in
-    c.value_at_end.ensures
+    c.last_value.ensures
     ∙ ap (λ l. last_value (all_x c.self.inside.width) (take c.partition_point-count.result l)) same
     ∙ sym (value_at_count list c.partition_point-count.result c.args.tick 0 _ _ no_change is.rise c.partition_point-count.ensures.bound
     (λ k early. leb-true _ _ (point.0 k no_change (omega arith) early)) (λ within. leb-false _ _ (point.1 _ no_change (omega arith) within)))

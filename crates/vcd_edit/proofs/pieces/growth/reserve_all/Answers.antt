@@ -3,7 +3,7 @@ use Rattle.std.proofs.lemmas.List.{length-map, take_all}
 use Rattle.vcd_core.specs.Contents.{Contents, signal_contents}
 use Rattle.vcd_edit.specs.declared.record.Piece.{Piece}
 use Rattle.vcd_edit.specs.inside.Records.{piece_view}
-use Rattle.vcd_edit.specs.inside.Exchanges.{HasRoom}
+use Rattle.vcd_edit.specs.inside.Exchanges.{HasRoomForPiece}
 use Rattle.vcd_edit.proofs.PieceLoops.{item_as_first, views_kept, reserved_more}
 use Rattle.vcd_edit.proofs.pieces.growth.reserve_all.Goals as goal
 
@@ -53,4 +53,4 @@ loop-piece-preserved c =
 pub returns-clause-room : goal.returns-clause-room
 returns-clause-room c =
     let l = c.loop-piece in
-    subst (All (HasRoom l.capture.signals)) (take_all l.piece-index l.pieces (omega arith)) l.invariant.1.room
+    subst (All (HasRoomForPiece l.capture.signals)) (take_all l.piece-index l.pieces (omega arith)) l.invariant.1.room

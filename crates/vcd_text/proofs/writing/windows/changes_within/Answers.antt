@@ -3,7 +3,7 @@ use Rattle.std.proofs.Common.{◌≡◌, ◌≤◌, ◌+◌, ◌-◌, List, take
 use Rattle.std.specs.List.{filter}
 use Rattle.vcd_core.specs.declared.wave.Change.{Change}
 use Rattle.vcd_core.specs.Value.{all_x}
-use Rattle.vcd_core.specs.Wave.{ChangesFrom}
+use Rattle.vcd_core.specs.Wave.{AreChangesFrom}
 use Rattle.vcd_text.specs.inside.Transitions.{is_in_window}
 use Rattle.vcd_text.proofs.Listing.{count_rises, count_to, part_is_window}
 use Rattle.vcd_text.proofs.writing.windows.changes_within.Goals as goal
@@ -23,7 +23,7 @@ returns c =
     let cs = c.args.wave.now.changes in
     let a = c.args.from - 1 in
     let b = c.args.to - 1 in
-    let rise = subst (ChangesFrom 0 (all_x c.args.wave.now.width)) c.changes.ensures.changes c.changes.ensures.form.rise in
+    let rise = subst (AreChangesFrom 0 (all_x c.args.wave.now.width)) c.changes.ensures.changes c.changes.ensures.form.rise in
     let low : a + 1 ≡ c.args.from = omega arith in
     let high : b + 1 ≡ c.args.to = omega arith in
     ap (λ (l : List Change). take (c.count_near-stop.result - c.count_near-start.result) (drop c.count_near-start.result l)) c.changes.ensures.changes

@@ -43,5 +43,5 @@ returns-clause-taken c = λ bytes come.
     (ap (λ l. is_closed (take len l)) (sym value) ∙ c.closed_len-len.ensures.closed)
     (ap (λ l. list_all (λ b. not (is_white_space b)) (drop len l)) (sym value) ∙ c.closed_len-len.ensures.black)
     (ap (take len) c.as_slice-2.ensures.value) c.behind.ensures.words (c.in_ok-read_words.ensures (closed_words come.before) come.taken.reads) in
-    subst (λ word. HasTaken c.read_words.new.reader word (p.passed + c.feeds_in.result) p.left bytes) (sym c.drop_front.ensures)
+    subst (λ word. HasTaken c.read_words.new.reader word (p.passed + c.feeds_in.result) p.left bytes) (sym c.drop_bytes.ensures)
     (subst (λ n. HasTaken c.read_words.new.reader (drop len p.word.items) (p.passed + n) p.left bytes) (sym c.feeds_in.ensures) taken)

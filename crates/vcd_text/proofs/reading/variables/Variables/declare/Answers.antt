@@ -9,8 +9,8 @@ use Rattle.vcd_text.specs.inside.Variables.{declaration_by, DeclaresAs}
 use Rattle.vcd_text.proofs.DeclaredVariables.{worded_declaration, declares_words, words_in_front, left_out, kept_size}
 use Rattle.vcd_text.proofs.reading.variables.Variables.declare.Goals as goal
 
-pub returns-then-is_left_out : goal.returns-then-is_left_out
-returns-then-is_left_out c = λ told scopes records k.
+pub returns-then-is_skipped : goal.returns-then-is_skipped
+returns-then-is_skipped c = λ told scopes value_changes k.
     let words = c.args.words.now in
     let kind = c.kind-item.result in
     let size = c.size-item.result in
@@ -24,12 +24,12 @@ returns-then-is_left_out c = λ told scopes records k.
     let skipped : is_skipped d ≡ true =
     left_out told kind size code (drop 3 words) c.in-Some.size read
     ∙ ap (λ name. is_skipped_kind name || (c.in-Some.size == 0 || nat_lt WIDTH_LIMIT c.in-Some.size)) (sym c.as_slice-2.ensures)
-    ∙ sym c.is_left_out.ensures ∙ c.if-is_left_out.true in
+    ∙ sym c.is_skipped.ensures ∙ c.if-is_skipped.true in
     declares_words told words kind size code (drop 3 words) c.skip.result c.skip.new.self front some
-    (c.skip.ensures told d k (sym c.as_slice-then-is_left_out.ensures) skipped)
+    (c.skip.ensures told d k (sym c.as_slice-then-is_skipped.ensures) skipped)
 
 pub returns : goal.returns
-returns c = λ told scopes records k.
+returns c = λ told scopes value_changes k.
     let words = c.args.words.now in
     let kind = c.kind-item.result in
     let size = c.size-item.result in
@@ -42,7 +42,7 @@ returns c = λ told scopes records k.
     let read = c.in-Some.ensures.1 ∙ ap (λ word. min (number_of word) (WIDTH_LIMIT + 1)) c.as_slice.ensures in
     let tested =
     ap (λ name. is_skipped_kind name || (c.in-Some.size == 0 || nat_lt WIDTH_LIMIT c.in-Some.size)) (sym c.as_slice-2.ensures)
-    ∙ sym c.is_left_out.ensures ∙ c.if-is_left_out.false in
+    ∙ sym c.is_skipped.ensures ∙ c.if-is_skipped.false in
     let keeps : is_skipped d ≡ false = left_out told kind size code (drop 3 words) c.in-Some.size read ∙ tested in
     let signal = c.in_ok-signal.ensures in
     let same : declaration_by c.as_slice-3.result.now c.in_ok-signal.signal ≡ d = λ i. record {
@@ -53,4 +53,4 @@ returns c = λ told scopes records k.
       words = (signal.words ∙ behind) i;
     } in
     declares_words told words kind size code (drop 3 words) c.keep.result c.keep.new.self front some
-    (subst (λ (e : VariableDeclaration). DeclaresAs told e c.keep.result c.keep.new.self) same (c.keep.ensures told k records (ap is_skipped same ∙ keeps)))
+    (subst (λ (e : VariableDeclaration). DeclaresAs told e c.keep.result c.keep.new.self) same (c.keep.ensures told k value_changes (ap is_skipped same ∙ keeps)))

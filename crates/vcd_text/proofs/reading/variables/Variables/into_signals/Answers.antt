@@ -21,6 +21,6 @@ loop-variable-preserved c =
           ap (map signal_contents) added.2
           ∙ map-append signal_contents signals (added.0 ∷ [])
           ∙ (λ i. c.loop-variable.invariant.1 told k i ++ one i ∷ [])
-          ∙ sym (map-append (declared_signal told.records told.tick) (map declaration yielded) (declaration v ∷ []))
-          ∙ ap (map (declared_signal told.records told.tick)) (sym (map-append declaration yielded (v ∷ []))),
+          ∙ sym (map-append (declared_signal told.value_changes told.tick) (map declaration yielded) (declaration v ∷ []))
+          ∙ ap (map (declared_signal told.value_changes told.tick)) (sym (map-append declaration yielded (v ∷ []))),
     )

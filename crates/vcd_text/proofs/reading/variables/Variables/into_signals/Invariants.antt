@@ -8,4 +8,4 @@ use Rattle.vcd_text.proofs.reading.variables.Variables.into_signals.Given as goa
 abbrev pub invariant-loop-variable : goal.invariant-loop-variable
 invariant-loop-variable l =
     (l.fn.self.kept.items ≡ l.yielded ++ l.variable-iterator.rest.items)
-    × ((c : Context) → Knows l.fn.self c → map signal_contents l.signals.items ≡ map (declared_signal c.records c.tick) (map declaration l.yielded))
+    × ((c : Context) → Knows l.fn.self c → map signal_contents l.signals.items ≡ map (declared_signal c.value_changes c.tick) (map declaration l.yielded))

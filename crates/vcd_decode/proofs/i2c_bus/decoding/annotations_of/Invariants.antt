@@ -1,8 +1,0 @@
-use Rattle.std.proofs.Common.{◌≡◌, ◌++◌, None}
-use Rattle.vcd_decode.specs.inside.BusWalk.{walk_notes, edge_events, IsBus}
-use Rattle.vcd_decode.proofs.i2c_bus.decoding.annotations_of.Given as goal
-
--- what was found and what the edges that are left bring are all annotations
-abbrev pub invariant-loop-edge : goal.invariant-loop-edge
-invariant-loop-edge l =
-    (l.found.items ++ walk_notes l.bus (edge_events l.edge-iterator) ≡ walk_notes None (edge_events l.fn.edges)) × IsBus l.bus

@@ -1,0 +1,86 @@
+//! The walk over the two lines of a bus.
+
+ghost use Rattle.std.specs.Prelude.{◌≡◌, ◌++◌, None, List, IfOk};
+ghost use Rattle.std.specs.List.{cons_option};
+ghost use Rattle.vcd_core.specs.Wave.{AllUpTo};
+ghost use Rattle.vcd_decode.specs.Lines.{line_of};
+ghost use Rattle.vcd_decode.specs.I2c.{i2c_annotations};
+ghost use Rattle.vcd_decode.specs.declared.i2c_bus.events.BusEvent.{BusEvent};
+ghost use Rattle.vcd_decode.specs.inside.BusWalk as walk;
+
+use crate::annotation::Annotation;
+use crate::i2c_bus::events::{BusLevels, bus_event};
+use crate::i2c_bus::transfer::{Transfer, take_event};
+use std::alloc::Global;
+use vcd_core::{Bit, BitEdge, BitEdges, NoMemory, Wave};
+
+/// What an I2C bus carries on its lines `scl` and `sda` up to the tick `end` (UM10204, 3.1): START and
+/// STOP conditions at their ticks, and each byte of seven or ten address bits or of data from its first
+/// to its eighth bit, with the acknowledge behind it. A line that is z is high.
+///
+/// A byte or an acknowledge with an x is `Unknown`. Bits that a condition cuts off are `PartialOf`, where
+/// there are two at least: SCL rises once before each condition. Those that the capture's end cuts off
+/// are not told.
+///
+/// One walk over the changes of both lines, a constant number of steps and at most two annotations for
+/// each; the memory is that of the annotations.
+pub fn i2c<'a>(
+    alloc: Global,
+    scl: &'a Wave,
+    sda: &'a Wave,
+    end: u64,
+) -> Result<Vec<Annotation>, NoMemory>
+    requires scl_one_bit { scl.now.width ≡ 1 }
+    requires sda_one_bit { sda.now.width ≡ 1 }
+    requires scl_ends { AllUpTo end scl.now.changes }
+    requires sda_ends { AllUpTo end sda.now.changes }
+    ensures { IfOk result (λ found.
+        found.items ≡ i2c_annotations (line_of scl.now) (line_of sda.now) end) }
+{
+    annotations_of(alloc, BitEdges::new(Some(scl), Some(sda), None, None))
+}
+
+/// The annotations of the edges of SCL and SDA.
+fn annotations_of(alloc: Global, edges: BitEdges) -> Result<Vec<Annotation>, NoMemory>
+    ensures { IfOk result (λ found.
+        found.items ≡ walk.walk_annotations None (walk.edge_events edges.entry)) }
+{
+    let mut found = Vec::new(alloc);
+    let mut bus = None;
+    for edge in edges {
+        bus = take_line_edge(&mut found, bus, edge)?;
+    }
+    Ok(found)
+}
+
+/// Appends what an edge brings, and answers the transfer behind it.
+fn take_line_edge(
+    found: &mut Vec<Annotation>,
+    bus: Option<Transfer>,
+    edge: BitEdge,
+) -> Result<Option<Transfer>, NoMemory>
+    requires part { walk.IsBus bus }
+    ensures annotations { IfOk result (λ next. (es : List BusEvent)
+        → found.new.items ++ walk.walk_annotations next es
+        ≡ found.old.items ++ walk.walk_annotations bus (cons_option (walk.edge_event edge) es)) }
+    ensures part { IfOk result walk.IsBus }
+{
+    let before = levels_of(edge.before);
+    match bus_event(edge.tick, before, levels_of(edge.at)) {
+        Some(event) => take_event(found, bus, event),
+        None => Ok(bus),
+    }
+}
+
+/// The levels of the first two lines of an edge.
+fn levels_of(bits: [Option<Bit>; 4]) -> BusLevels
+    ensures { result ≡ walk.levels_of bits }
+{
+    match bits {
+        [Some(scl), Some(sda), _, _] => BusLevels { scl, sda },
+        _ => BusLevels {
+            scl: Bit::X,
+            sda: Bit::X,
+        },
+    }
+}

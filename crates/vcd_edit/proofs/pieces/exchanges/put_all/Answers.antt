@@ -1,0 +1,42 @@
+use Rattle.std.proofs.Common.{◌≡◌, ◌≢◌, ◌∙◌, ◌<◌, ℕ, refl, subst, sym, ap, length, arith}
+use Rattle.vcd_core.specs.Contents.{contents, signal_at}
+use Rattle.vcd_edit.specs.declared.record.Piece.{Piece}
+use Rattle.vcd_edit.specs.Back.{with_piece, with_pieces}
+use Rattle.vcd_edit.specs.inside.Records.{piece_view}
+use Rattle.vcd_edit.specs.inside.Exchanges.{LeadsBack, PieceReadyIn, room_at, HasRoomForPiece}
+use Rattle.vcd_edit.proofs.PieceLoops.{next_ready, next_room, put_more}
+use Rattle.vcd_edit.proofs.pieces.exchanges.put_all.Goals as goal
+
+pub loop-piece-init : goal.loop-piece-init
+unfolding with_pieces
+loop-piece-init c = record { rest = refl; there = refl; back = tt; ready = c.requires.ready; apart = c.requires.apart; room = c.requires.room }
+
+pub put_one-requires-clause-ready : goal.put_one-requires-clause-ready
+put_one-requires-clause-ready c =
+    let l = c.loop-piece in
+    let x = c.piece-item.result in
+    let inside : l.piece-index < length l.pieces = omega arith in
+    subst (λ p. PieceReadyIn (contents l.capture) (piece_view p)) c.piece-item.is
+    (next_ready (contents c.args.capture.now) c.args.pieces.now l.pieces l.piece-index x x (contents l.capture) (contents l.capture) l.capture.signals l.capture.signals inside c.piece-item.is l.invariant)
+
+pub put_one-requires-clause-room : goal.put_one-requires-clause-room
+put_one-requires-clause-room c =
+    let l = c.loop-piece in
+    let x = c.piece-item.result in
+    let inside : l.piece-index < length l.pieces = omega arith in
+    subst (HasRoomForPiece l.capture.signals) c.piece-item.is
+    (next_room (contents c.args.capture.now) c.args.pieces.now l.pieces l.piece-index x x (contents l.capture) (contents l.capture) l.capture.signals l.capture.signals inside c.piece-item.is l.invariant)
+
+pub loop-piece-preserved : goal.loop-piece-preserved
+loop-piece-preserved c =
+    let l = c.loop-piece in
+    let x = c.piece-item.result in
+    let e = c.put_one.ensures in
+    let inside : l.piece-index < length l.pieces = omega arith in
+    let there : contents c.put_one.new.capture ≡ with_piece (contents l.capture) (piece_view x) = e.there ∙ ap (λ p. with_piece (contents l.capture) (piece_view p)) (sym c.piece-item.is) in
+    let back : LeadsBack (signal_at (contents l.capture) x.signal).changes (piece_view x) (piece_view c.put_one.new.piece) =
+    subst (λ (p : Piece). LeadsBack (signal_at (contents l.capture) p.signal).changes (piece_view p) (piece_view c.put_one.new.piece)) (sym c.piece-item.is) e.back in
+    let others : (k : ℕ) → k ≢ x.signal → room_at c.put_one.new.capture.signals k ≡ room_at l.capture.signals k =
+    subst (λ (p : Piece). (k : ℕ) → k ≢ p.signal → room_at c.put_one.new.capture.signals k ≡ room_at l.capture.signals k) (sym c.piece-item.is) e.others in
+    put_more (contents c.args.capture.now) c.args.pieces.now l.pieces l.piece-index x c.put_one.new.piece (contents l.capture) (contents c.put_one.new.capture)
+    l.capture.signals c.put_one.new.capture.signals inside c.piece-item.is l.invariant there back others

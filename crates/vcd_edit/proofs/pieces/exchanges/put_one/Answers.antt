@@ -1,0 +1,19 @@
+use Rattle.std.proofs.Common.{List, ap, sym, ◌∙◌, ◌<◌, length, arith}
+use Rattle.std.proofs.lemmas.List.{length-map}
+use Rattle.vcd_core.specs.Contents.{Contents, SignalContents, contents, signal_contents}
+use Rattle.vcd_edit.specs.Back.{changes_with_piece}
+use Rattle.vcd_edit.specs.inside.Records.{piece_view}
+use Rattle.vcd_edit.proofs.PiecesPut.{contents_at, changes_written, other_rooms}
+use Rattle.vcd_edit.proofs.pieces.exchanges.put_one.Goals as goal
+
+pub returns-clause-there : goal.returns-clause-there
+returns-clause-there c =
+    let old : Contents = contents c.args.capture.now in
+    let k = c.args.piece.now.signal in
+    let within : k < length c.args.capture.now.signals = omega (arith, c.requires.ready.signal, length-map c.args.capture.now.signals signal_contents) in
+    ap (λ (ss : List SignalContents). record { header = old.header; timescale = old.timescale; end = old.end; signals = ss })
+    (changes_written c.args.capture.now.signals k c.item_mut.result.now c.exchange_piece.new.wave _ within c.item_mut.ensures.value c.exchange_piece.ensures.width
+    (c.exchange_piece.ensures.there ∙ ap (λ (s : SignalContents). changes_with_piece (piece_view c.args.piece.now) s.changes) (sym (contents_at c.args.capture.now.signals k c.item_mut.result.now within c.item_mut.ensures.value))))
+
+pub returns-clause-others : goal.returns-clause-others
+returns-clause-others c = λ k other. other_rooms c.args.capture.now.signals c.args.piece.now.signal k _ other

@@ -1,0 +1,84 @@
+//! How a piece and a part of a wave change places.
+
+ghost use Rattle.std.specs.Prelude.{◌≡◌, ◌≢◌, ℕ, ◌+◌, ◌-◌, ◌<◌, ◌≤◌, All, pos, ◌+ℤ◌, List, map, reverse, length, vec_len, vec_capacity};
+ghost use Rattle.std.specs.Int.{w64, FitsUnsigned};
+ghost use Rattle.vcd_core.specs.declared.capture.TheConstants.{END_LIMIT};
+ghost use Rattle.vcd_core.specs.Contents.{contents, signal_at};
+ghost use Rattle.vcd_edit.specs.RecordView.{PieceView};
+ghost use Rattle.vcd_edit.specs.Back.{changes_with_piece, with_piece, with_pieces, AreApart};
+ghost use Rattle.vcd_edit.specs.inside.Records.{piece_view};
+ghost use Rattle.vcd_edit.specs.inside.Exchanges.{PieceReady, PieceReadyIn, LeadsBack, LeadBack, room_at, HasRoomForPiece};
+
+use crate::pieces::trimming::trim;
+use crate::record::Piece;
+use vcd_core::{Capture, Wave};
+
+/// The offset that moves back what `by` moves. Only -2^63 has none, and by that no tick of a capture moves.
+fn opposite(by: i64) -> i64
+    ensures { (tick : ℕ) → tick ≤ END_LIMIT → FitsUnsigned w64 (pos tick +ℤ by)
+        → by +ℤ result ≡ pos 0 }
+{
+    by.checked_neg().unwrap_or(0)
+}
+
+/// The piece, once trimmed, and its part of the wave change places, and the piece then leads back.
+///
+/// It takes no memory. The cost is the piece, its part and one move of the later changes.
+fn exchange_piece(piece: &mut Piece, wave: &mut Wave)
+    requires ready { PieceReady wave.old.width wave.old.changes (piece_view piece.old) }
+    requires room { vec_len piece.old.changes ≤ wave.old.room + (piece.old.to - piece.old.from) }
+    requires piece_room { piece.old.to - piece.old.from ≤ vec_capacity piece.old.changes }
+    ensures width { wave.new.width ≡ wave.old.width }
+    ensures there { wave.new.changes ≡ changes_with_piece (piece_view piece.old) wave.old.changes }
+    ensures back { LeadsBack wave.old.changes (piece_view piece.old) (piece_view piece.new) }
+{
+    trim(piece, wave.changes());
+    let seam = piece.from + piece.changes.as_slice().len();
+    wave.splice(piece.from, piece.to, &mut piece.changes, piece.by);
+    piece.to = seam;
+    piece.by = opposite(piece.by);
+}
+
+/// The same in the piece's signal.
+fn put_one(capture: &mut Capture, piece: &mut Piece)
+    requires ready { PieceReadyIn (contents capture.old) (piece_view piece.old) }
+    requires room { HasRoomForPiece capture.old.signals piece.old }
+    ensures there { contents capture.new
+        ≡ with_piece (contents capture.old) (piece_view piece.old) }
+    ensures back { LeadsBack (signal_at (contents capture.old) piece.old.signal).changes
+        (piece_view piece.old) (piece_view piece.new) }
+    ensures others { (k : ℕ) → k ≢ piece.old.signal
+        → room_at capture.new.signals k ≡ room_at capture.old.signals k }
+{
+    exchange_piece(piece, &mut capture.signals.item_mut(piece.signal).wave);
+}
+
+/// All pieces and their parts of the capture change places, one after another, and the pieces then lead
+/// back.
+fn put_all(capture: &mut Capture, pieces: &mut [Piece])
+    requires ready { All (PieceReadyIn (contents capture.old)) (map piece_view pieces.old) }
+    requires apart { AreApart (map piece_view pieces.old) }
+    requires room { All (HasRoomForPiece capture.old.signals) pieces.old }
+    ensures there { contents capture.new
+        ≡ with_pieces (contents capture.old) (map piece_view pieces.old) }
+    ensures back { LeadBack (contents capture.old)
+        (map piece_view pieces.old) (map piece_view pieces.new) }
+{
+    for piece in pieces.iter_mut() {
+        put_one(capture, piece);
+    }
+}
+
+/// The same for a list of pieces, which are then listed the other way round, so that they lead back in turn.
+pub(crate) fn put_pieces(capture: &mut Capture, pieces: &mut Vec<Piece>)
+    requires ready { All (PieceReadyIn (contents capture.old)) (map piece_view pieces.old.items) }
+    requires apart { AreApart (map piece_view pieces.old.items) }
+    requires room { All (HasRoomForPiece capture.old.signals) pieces.old.items }
+    ensures there { contents capture.new
+        ≡ with_pieces (contents capture.old) (map piece_view pieces.old.items) }
+    ensures back { (qs : List PieceView) × (map piece_view pieces.new.items ≡ reverse qs)
+        × LeadBack (contents capture.old) (map piece_view pieces.old.items) qs }
+{
+    put_all(capture, pieces.as_mut_slice());
+    pieces.reverse();
+}
