@@ -2,8 +2,8 @@
 
 mod annotations;
 mod answering;
+mod appending;
 mod decoding;
-mod letters;
 mod listing;
 mod reply;
 mod waves;

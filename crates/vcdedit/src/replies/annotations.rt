@@ -7,7 +7,7 @@ ghost use Rattle.vcdedit.specs.Reply.{with_line_feed};
 ghost use Rattle.vcd_decode.specs.declared.annotation.Kind.TheVariants as kinds;
 ghost use Rattle.vcdedit.specs.inside.Annotations.{annotations_text};
 
-use itoa::Buffer;
+use crate::replies::appending::append_decimal;
 use std::alloc::Global;
 use vcd_core::NoMemory;
 use vcd_decode::{Annotation, Direction, Kind, LineData};
@@ -24,13 +24,13 @@ pub fn annotations_to_bytes(
 {
     let mut text = Vec::new(alloc);
     for annotation in annotations {
-        push_annotation(&mut text, decoder, digits, annotation)?;
+        append_annotation(&mut text, decoder, digits, annotation)?;
     }
     Ok(text)
 }
 
 /// Appends the line of an annotation.
-fn push_annotation(
+fn append_annotation(
     text: &mut Vec<u8>,
     decoder: &[u8],
     digits: u64,
@@ -39,49 +39,49 @@ fn push_annotation(
     ensures { OnOk result (text.new.items
         ≡ text.old.items ++ with_line_feed (annotation_line decoder.now digits annotation.now)) }
 {
-    push_decimal(text, annotation.start)?;
+    append_decimal(text, annotation.start)?;
     text.extend_from_slice(b"-")?;
-    push_decimal(text, annotation.end)?;
+    append_decimal(text, annotation.end)?;
     text.extend_from_slice(b" ")?;
     text.extend_from_slice(decoder)?;
     text.extend_from_slice(b" ")?;
-    push_kind(text, digits, annotation.kind)?;
+    append_kind(text, digits, annotation.kind)?;
     text.extend_from_slice(b"\n")?;
     Ok(())
 }
 
 /// Appends the kind of an annotation.
-fn push_kind(text: &mut Vec<u8>, digits: u64, kind: Kind) -> Result<(), NoMemory>
+fn append_kind(text: &mut Vec<u8>, digits: u64, kind: Kind) -> Result<(), NoMemory>
     ensures { OnOk result (text.new.items ≡ text.old.items ++ kind_text digits kind) }
 {
     match kind {
-        Kind::Byte(data) => push_data(text, b"byte ", digits, u32::from(data)),
-        Kind::ParityError(data) => push_data(text, b"parity-error ", digits, u32::from(data)),
-        Kind::FrameError => push_word(text, b"frame-error"),
-        Kind::Unknown => push_word(text, b"unknown"),
-        Kind::Partial => push_word(text, b"partial"),
-        Kind::Word { mosi, miso } => push_line_data(text, digits, mosi, miso),
-        Kind::PartialOf(count) => push_count(text, count),
-        Kind::Start => push_word(text, b"start"),
-        Kind::RepeatedStart => push_word(text, b"repeated-start"),
-        Kind::Stop => push_word(text, b"stop"),
+        Kind::Byte(data) => append_data(text, b"byte ", digits, u32::from(data)),
+        Kind::ParityError(data) => append_data(text, b"parity-error ", digits, u32::from(data)),
+        Kind::FrameError => append_word(text, b"frame-error"),
+        Kind::Unknown => append_word(text, b"unknown"),
+        Kind::Partial => append_word(text, b"partial"),
+        Kind::Word { mosi, miso } => append_line_data(text, digits, mosi, miso),
+        Kind::PartialOf(count) => append_count(text, count),
+        Kind::Start => append_word(text, b"start"),
+        Kind::RepeatedStart => append_word(text, b"repeated-start"),
+        Kind::Stop => append_word(text, b"stop"),
         Kind::Address { address, direction } => {
-            push_address(text, b"address ", 2, u32::from(address), direction)
+            append_address(text, b"address ", 2, u32::from(address), direction)
         }
         Kind::AddressHigh { bits, direction } => {
-            push_address(text, b"address-high ", 1, u32::from(bits), direction)
+            append_address(text, b"address-high ", 1, u32::from(bits), direction)
         }
         Kind::TenBitAddress { address, direction } => {
-            push_address(text, b"address ", 3, u32::from(address), direction)
+            append_address(text, b"address ", 3, u32::from(address), direction)
         }
-        Kind::Data(byte) => push_data(text, b"data ", 2, u32::from(byte)),
-        Kind::Ack => push_word(text, b"ack"),
-        Kind::Nack => push_word(text, b"nack"),
+        Kind::Data(byte) => append_data(text, b"data ", 2, u32::from(byte)),
+        Kind::Ack => append_word(text, b"ack"),
+        Kind::Nack => append_word(text, b"nack"),
     }
 }
 
 /// Appends a word.
-fn push_word(text: &mut Vec<u8>, word: &[u8]) -> Result<(), NoMemory>
+fn append_word(text: &mut Vec<u8>, word: &[u8]) -> Result<(), NoMemory>
     ensures { OnOk result (text.new.items ≡ text.old.items ++ word.now) }
 {
     text.extend_from_slice(word)?;
@@ -89,17 +89,17 @@ fn push_word(text: &mut Vec<u8>, word: &[u8]) -> Result<(), NoMemory>
 }
 
 /// Appends a name and a number of so many hexadecimal digits.
-fn push_data(text: &mut Vec<u8>, name: &[u8], digits: u64, number: u32) -> Result<(), NoMemory>
+fn append_data(text: &mut Vec<u8>, name: &[u8], digits: u64, number: u32) -> Result<(), NoMemory>
     ensures { OnOk result (text.new.items
         ≡ text.old.items ++ (name.now ++ hex_text digits number)) }
 {
     text.extend_from_slice(name)?;
     text.extend_from_slice(b"0x")?;
-    push_hex(text, digits, number)
+    append_hex(text, digits, number)
 }
 
 /// Appends a name, an address of so many hexadecimal digits, and the direction.
-fn push_address(
+fn append_address(
     text: &mut Vec<u8>,
     name: &[u8],
     digits: u64,
@@ -109,15 +109,15 @@ fn push_address(
     ensures { OnOk result (text.new.items
         ≡ text.old.items ++ (name.now ++ hex_text digits address ++ direction_text direction)) }
 {
-    push_data(text, name, digits, address)?;
+    append_data(text, name, digits, address)?;
     match direction {
-        Direction::Write => push_word(text, b" write"),
-        Direction::Read => push_word(text, b" read"),
+        Direction::Write => append_word(text, b" write"),
+        Direction::Read => append_word(text, b" read"),
     }
 }
 
 /// Appends what the two data lines of SPI show of a word.
-fn push_line_data(
+fn append_line_data(
     text: &mut Vec<u8>,
     digits: u64,
     mosi: LineData,
@@ -127,24 +127,29 @@ fn push_line_data(
         ≡ text.old.items ++ kind_text digits (kinds.Word mosi miso)) }
 {
     text.extend_from_slice(b"word")?;
-    push_line(text, b" mosi ", digits, mosi)?;
-    push_line(text, b" miso ", digits, miso)
+    append_line(text, b" mosi ", digits, mosi)?;
+    append_line(text, b" miso ", digits, miso)
 }
 
 /// Appends what a data line shows, behind its name; nothing where there is no such line.
-fn push_line(text: &mut Vec<u8>, name: &[u8], digits: u64, shown: LineData) -> Result<(), NoMemory>
+fn append_line(
+    text: &mut Vec<u8>,
+    name: &[u8],
+    digits: u64,
+    shown: LineData,
+) -> Result<(), NoMemory>
     ensures { OnOk result (text.new.items
         ≡ text.old.items ++ line_data_text name.now digits shown) }
 {
     match shown {
         LineData::Absent => Ok(()),
-        LineData::Unknown => push_unknown(text, name),
-        LineData::Number(number) => push_data(text, name, digits, number),
+        LineData::Unknown => append_unknown(text, name),
+        LineData::Number(number) => append_data(text, name, digits, number),
     }
 }
 
 /// Appends a name and `?`.
-fn push_unknown(text: &mut Vec<u8>, name: &[u8]) -> Result<(), NoMemory>
+fn append_unknown(text: &mut Vec<u8>, name: &[u8]) -> Result<(), NoMemory>
     ensures { OnOk result (text.new.items ≡ text.old.items ++ (name.now ++ codes "?")) }
 {
     text.extend_from_slice(name)?;
@@ -153,29 +158,21 @@ fn push_unknown(text: &mut Vec<u8>, name: &[u8]) -> Result<(), NoMemory>
 }
 
 /// Appends how many bits there are of something that was not ended.
-fn push_count(text: &mut Vec<u8>, count: u64) -> Result<(), NoMemory>
+fn append_count(text: &mut Vec<u8>, count: u64) -> Result<(), NoMemory>
     ensures { OnOk result (text.new.items ≡ text.old.items ++ (codes "partial " ++ decimal count)) }
 {
     text.extend_from_slice(b"partial ")?;
-    push_decimal(text, count)
-}
-
-/// Appends a number in decimal digits.
-fn push_decimal(text: &mut Vec<u8>, number: u64) -> Result<(), NoMemory>
-    ensures { OnOk result (text.new.items ≡ text.old.items ++ decimal number) }
-{
-    text.extend_from_slice(Buffer::new().format(number).as_bytes())?;
-    Ok(())
+    append_decimal(text, count)
 }
 
 /// Appends the last `digits` hexadecimal digits of a number.
-fn push_hex(text: &mut Vec<u8>, digits: u64, number: u32) -> Result<(), NoMemory>
+fn append_hex(text: &mut Vec<u8>, digits: u64, number: u32) -> Result<(), NoMemory>
     ensures { OnOk result (text.new.items ≡ text.old.items ++ hex_digits digits number) }
 {
     if digits == 0 {
         return Ok(());
     }
-    push_hex(text, digits - 1, number / 16)?;
+    append_hex(text, digits - 1, number / 16)?;
     text.push(hex_digit((number % 16) as u8))?;
     Ok(())
 }

@@ -7,6 +7,7 @@ ghost use Rattle.vcd_core.specs.Names.{full_name};
 ghost use Rattle.vcdedit.specs.Queries.{timescale_line, number_line, signal_line, signal_lines, listing};
 ghost use Rattle.vcdedit.specs.Reply.{with_line_feed};
 
+use crate::replies::appending::append_decimal;
 use itoa::Buffer;
 use std::alloc::Global;
 use vcd_core::{Capture, NoMemory, Signal, Timescale, Word};
@@ -47,7 +48,7 @@ fn append_unit(text: &mut Vec<u8>, timescale: Timescale) -> Result<(), NoMemory>
         text.old.items ++ with_line_feed (timescale_line (Some timescale))) }
 {
     text.extend_from_slice(b"timescale ")?;
-    text.extend_from_slice(Buffer::new().format(timescale.count).as_bytes())?;
+    append_decimal(text, timescale.count)?;
     text.extend_from_slice(b" ")?;
     text.extend_from_slice(timescale.unit.symbol().as_bytes())?;
     text.extend_from_slice(b"\n")?;
@@ -70,8 +71,7 @@ fn append_number(text: &mut Vec<u8>, word: &[u8], number: u64) -> Result<(), NoM
 {
     text.extend_from_slice(word)?;
     text.extend_from_slice(b" ")?;
-    text.extend_from_slice(Buffer::new().format(number).as_bytes())?;
-    Ok(())
+    append_decimal(text, number)
 }
 
 /// Appends a line for each signal.

@@ -4,8 +4,8 @@ ghost use Rattle.std.specs.Prelude.{◌≡◌, ◌++◌, ℕ, Ok, Err, OnOk, IfO
 ghost use Rattle.vcdedit.specs.Reply.{ok_reply, reply_text};
 ghost use Rattle.vcdedit.specs.inside.Replies.{TellsReply};
 
-use itoa::Buffer;
-use std::alloc::{AllocError, Global};
+use crate::replies::appending::append_decimal;
+use std::alloc::Global;
 use vcd_core::NoMemory;
 
 /// What is said to a line, whole.
@@ -43,7 +43,7 @@ impl Reply {
         ensures { IfOk result (λ reply. TellsReply number (Err name.now) reply) }
     {
         let mut text = Vec::new(alloc);
-        push_refusal(&mut text, number, name)?;
+        append_refusal(&mut text, number, name)?;
         Ok(Reply {
             text,
             is_refused: true,
@@ -51,12 +51,14 @@ impl Reply {
     }
 }
 
-fn push_refusal(text: &mut Vec<u8>, number: u64, name: &str) -> Result<(), AllocError>
+/// Appends the line that says that the line of this number is refused, and why.
+fn append_refusal(text: &mut Vec<u8>, number: u64, name: &str) -> Result<(), NoMemory>
     ensures { OnOk result (text.new.items ≡ text.old.items ++ reply_text number (Err name.now)) }
 {
     text.extend_from_slice(b"line ")?;
-    text.extend_from_slice(Buffer::new().format(number).as_bytes())?;
+    append_decimal(text, number)?;
     text.extend_from_slice(b": refused: ")?;
     text.extend_from_slice(name.as_bytes())?;
-    text.extend_from_slice(b"\n")
+    text.extend_from_slice(b"\n")?;
+    Ok(())
 }

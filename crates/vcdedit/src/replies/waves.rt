@@ -6,8 +6,7 @@ ghost use Rattle.vcd_core.specs.Contents.{contents, signal_at};
 ghost use Rattle.vcdedit.specs.Queries.{value_line, change_line, change_lines as lines_of};
 ghost use Rattle.vcdedit.specs.Reply.{with_line_feed};
 
-use crate::replies::letters::append_letters;
-use itoa::Buffer;
+use crate::replies::appending::{append_decimal, append_letters};
 use std::alloc::Global;
 use vcd_core::{Capture, Change, NoMemory};
 
@@ -56,7 +55,7 @@ fn append_change_line(text: &mut Vec<u8>, change: &Change) -> Result<(), NoMemor
     ensures { OnOk result (text.new.items ≡
         text.old.items ++ with_line_feed (change_line change.now)) }
 {
-    text.extend_from_slice(Buffer::new().format(change.tick).as_bytes())?;
+    append_decimal(text, change.tick)?;
     text.extend_from_slice(b" ")?;
     append_letters(text, &change.value)?;
     text.extend_from_slice(b"\n")?;

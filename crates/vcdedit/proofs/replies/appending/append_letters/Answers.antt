@@ -4,7 +4,7 @@ use Rattle.vcd_core.specs.declared.bit.Bit.{Bit}
 use Rattle.vcd_core.specs.declared.bit.Bit.TheVariants.{X}
 use Rattle.vcd_core.specs.Value.{printed_letter}
 use Rattle.vcd_text.specs.Letters.{printed_letters}
-use Rattle.vcdedit.proofs.replies.letters.append_letters.Goals as goal
+use Rattle.vcdedit.proofs.replies.appending.append_letters.Goals as goal
 
 -- one letter more
 one_more : (v : List Bit) (k : ℕ) → k < length v → printed_letters (take (k + 1) v) ≡ printed_letters (take k v) ++ printed_letter (get_or v k X) ∷ []
