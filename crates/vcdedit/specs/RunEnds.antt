@@ -3,7 +3,7 @@ use Rattle.std.proofs.Common.{inl, inr}
 use Rattle.std.specs.Prelude.{◌≡◌, ◌<◌, ◌≤◌, ◌⊎◌, ℕ, ◌-◌, Bool, false, true, List, length, take, Option, Some, None, Result, IfSome, OnOk, IfErr, IsErrOf}
 use Rattle.std.specs.List.{concat}
 use Rattle.std.specs.Borrow.{MutBor}
-use Rattle.std.specs.Io.KnownBytes.{Appends}
+use Rattle.std.specs.Io.KnownBytes.{Appends, IsAtEnd}
 use Rattle.vcd_core.specs.Contents.{Contents}
 use Rattle.vcd_text.specs.Meaning.{FileMeans}
 use Rattle.vcd_text.specs.Refusals.{IsRefusal}
@@ -27,6 +27,8 @@ IsAcceptedCapture file = (length file ≤ FILE_LIMIT) × (c : Contents) × (skip
 pub record LeavesCaptureReader {A : Type 0} (ending : Result A RunError) (coming left : Option (List ℕ)) (has_failed : Bool) : Type 0 where
   -- a run to its end leaves it not failed
   pub not_failed : OnOk ending (has_failed ≡ false)
+  -- and at the end of its bytes
+  pub ended : OnOk ending (IsAtEnd left)
   -- and its file was within the limit
   pub within : OnOk ending (IfSome coming (λ file. length file ≤ FILE_LIMIT))
   -- a capture's fault is the one that its file has
@@ -34,10 +36,12 @@ pub record LeavesCaptureReader {A : Type 0} (ending : Result A RunError) (coming
   -- a read fault of the capture is one of its reader
   pub failed : IfErr ending (λ e. IfCaptureError e (λ fault. fault.fault ≡ faults.ReadFault → has_failed ≡ true))
 
--- how the reader of the script is left, of which some bytes were to come
-pub record LeavesScriptReader {A : Type 0} (ending : Result A RunError) (coming : Option (List ℕ)) (has_failed : Bool) : Type 0 where
+-- how the reader of the script is left, of which some bytes were to come and others are left
+pub record LeavesScriptReader {A : Type 0} (ending : Result A RunError) (coming left : Option (List ℕ)) (has_failed : Bool) : Type 0 where
   -- a run to its end leaves it not failed
   pub not_failed : OnOk ending (has_failed ≡ false)
+  -- and at the end of its bytes
+  pub ended : OnOk ending (IsAtEnd left)
   -- and the script was within the limit
   pub within : OnOk ending (IfSome coming (λ script. length script ≤ SCRIPT_LIMIT))
   -- a script that is too large is above the limit

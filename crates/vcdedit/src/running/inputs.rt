@@ -1,6 +1,7 @@
 //! What a run reads before it runs the first line: the capture and the whole script.
 
 ghost use Rattle.std.specs.Prelude.{◌≡◌, ◌<◌, ◌≤◌, ◌⊎◌, false, true, length, OnOk, IfOk, IfErr, IfSome, IsErrOf};
+ghost use Rattle.std.specs.Io.KnownBytes.{IsAtEnd};
 ghost use Rattle.vcd_core.specs.Contents.{contents};
 ghost use Rattle.vcd_core.specs.Sound.{IsSound};
 ghost use Rattle.vcd_text.specs.Meaning.{FileMeans};
@@ -44,7 +45,8 @@ pub fn read_inputs<R: Source, S: Source>(
         (R.coming capture_reader.old) (R.coming capture_reader.new)
         (R.has_failed capture_reader.new) }
     ensures script { LeavesScriptReader result
-        (S.coming script_reader.old) (S.has_failed script_reader.new) }
+        (S.coming script_reader.old) (S.coming script_reader.new)
+        (S.has_failed script_reader.new) }
     ensures accepted { IsBehindCapture result →
         IfSome (R.coming capture_reader.old) IsAcceptedCapture }
     ensures before_replies { IfErr result IsBeforeReplies }
@@ -65,6 +67,7 @@ fn read_script<S: Source>(alloc: Global, reader: &mut S) -> Result<Vec<u8>, RunE
         (λ bytes. script.items ≡ bytes)) }
     ensures short { IfOk result (λ script. length script.items ≤ SCRIPT_LIMIT) }
     ensures not_failed { OnOk result (S.has_failed reader.new ≡ false) }
+    ensures ended { OnOk result (IsAtEnd (S.coming reader.new)) }
     ensures too_large { IsErrOf result RunError.ScriptTooLarge →
         IfSome (S.coming reader.old) (λ bytes. SCRIPT_LIMIT < length bytes) }
     ensures failed { IsErrOf result RunError.ScriptReadFault → S.has_failed reader.new ≡ true }

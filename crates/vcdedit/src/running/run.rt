@@ -19,7 +19,7 @@ use vcd_journal::{DEPTH_LIMIT, Session};
 use vcd_text::write;
 
 /// Reads the capture, then the whole script, runs its lines in order and flushes the replies, then writes
-/// the output where there is one, also when lines were refused. `depth` is how many steps can be undone.
+/// the output where there is one, also when lines were refused. `depth` is how many edits can be undone.
 ///
 /// The first error ends it, and nothing later is begun.
 pub fn run<R: Source, S: Source, P: Sink, W: Sink>(
@@ -58,7 +58,8 @@ pub fn run<R: Source, S: Source, P: Sink, W: Sink>(
         (R.coming capture_reader.old) (R.coming capture_reader.new)
         (R.has_failed capture_reader.new) }
     ensures script { LeavesScriptReader result
-        (S.coming script_reader.old) (S.has_failed script_reader.new) }
+        (S.coming script_reader.old) (S.coming script_reader.new)
+        (S.has_failed script_reader.new) }
     ensures replies { LeavesReplyWriter result
         (P.taken replies.old) (P.taken replies.new) (P.has_failed replies.new) }
     ensures out_not_failed { OnOk result
@@ -120,7 +121,8 @@ fn run_script<R: Source, S: Source, P: Sink>(
         (R.coming capture_reader.old) (R.coming capture_reader.new)
         (R.has_failed capture_reader.new) }
     ensures script { LeavesScriptReader result
-        (S.coming script_reader.old) (S.has_failed script_reader.new) }
+        (S.coming script_reader.old) (S.coming script_reader.new)
+        (S.has_failed script_reader.new) }
     ensures replies { LeavesReplyWriter result
         (P.taken replies.old) (P.taken replies.new) (P.has_failed replies.new) }
     ensures before_output { IfErr result IsBeforeOutput }

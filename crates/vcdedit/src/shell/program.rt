@@ -132,7 +132,8 @@ fn run_inputs<R: Runtime + AllocGlobal, C: Source, S: Source>(
         (λ written. summary.refused ≡ written.refused)) }
     ensures capture { LeavesCaptureReader result
         (C.coming capture.old) (C.coming capture.new) (C.has_failed capture.new) }
-    ensures script { LeavesScriptReader result (S.coming script.old) (S.has_failed script.new) }
+    ensures script { LeavesScriptReader result
+        (S.coming script.old) (S.coming script.new) (S.has_failed script.new) }
 {
     let mut replies = ToWrite::new(new_buffer(rt, io::writer(rt))?);
     let result = run_devices(rt, capture, script, &mut replies, output, depth);
@@ -162,7 +163,8 @@ fn run_devices<R: Runtime + AllocGlobal, C: Source, S: Source, P: Sink>(
         (summary.refused ≡ written.refused))) }
     ensures capture { LeavesCaptureReader result
         (C.coming capture.old) (C.coming capture.new) (C.has_failed capture.new) }
-    ensures script { LeavesScriptReader result (S.coming script.old) (S.has_failed script.new) }
+    ensures script { LeavesScriptReader result
+        (S.coming script.old) (S.coming script.new) (S.has_failed script.new) }
     ensures replies { LeavesReplyWriter result
         (P.taken replies.old) (P.taken replies.new) (P.has_failed replies.new) }
 {
