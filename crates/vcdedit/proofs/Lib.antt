@@ -16,5 +16,6 @@ pub mod RunParts
 pub mod RunReplays
 pub mod HexDigits
 pub mod AskedDepths
+pub mod HeldDepths
 pub mod AskedOptions
 pub mod CasesOfCommandLine

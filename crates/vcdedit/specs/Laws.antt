@@ -90,6 +90,12 @@ UndoGivesBack = (m : Machine) (e : Edit) (line undo_line : List ℕ) → 1 ≤ m
     command_of_line m.now line ≡ Ok (commands.Step (steps.Edit e)) → edit_fault e m.now ≡ None → command_of_line (machine_after_line m line).now undo_line ≡ Ok (commands.Step steps.Undo) →
     (machine_after_line (machine_after_line m line) undo_line).now ≡ m.now
 
+-- in a run, whose depth is at least 1, this holds after any lines
+abbrev pub UndoInRunGivesBack : Type 0
+UndoInRunGivesBack = (c : Contents) (depth : ℕ) (lines : List (List ℕ)) (e : Edit) (line undo_line : List ℕ) → 1 ≤ depth → let m = machine_after_lines (first_machine c depth) lines in
+    command_of_line m.now line ≡ Ok (commands.Step (steps.Edit e)) → edit_fault e m.now ≡ None → command_of_line (machine_after_line m line).now undo_line ≡ Ok (commands.Step steps.Undo) →
+    (machine_after_line (machine_after_line m line) undo_line).now ≡ m.now
+
 -- after any lines, an undo for which a capture is held takes back the last edit in force: the capture is then the replay of the others
 abbrev pub UndoTakesBackTheLast : Type 0
 UndoTakesBackTheLast = (c : Contents) (depth : ℕ) (lines : List (List ℕ)) (undo_line : List ℕ) →

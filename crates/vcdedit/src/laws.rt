@@ -1,6 +1,6 @@
 //! Laws about the definitions alone: each function has an empty body, and its contract is the law.
 
-ghost use Rattle.vcdedit.specs.Laws.{EveryRunIsOfReplays, EveryRunWritesOneThing, RefusedLineChangesNothing, ReplyIsAnswer, RunIsReplay, UndoGivesBack, UndoTakesBackTheLast};
+ghost use Rattle.vcdedit.specs.Laws.{EveryRunIsOfReplays, EveryRunWritesOneThing, RefusedLineChangesNothing, ReplyIsAnswer, RunIsReplay, UndoGivesBack, UndoInRunGivesBack, UndoTakesBackTheLast};
 
 /// What a run writes is said of captures that are replays: after each line the capture is what the edits in force
 /// make of what the file means; the reply to the line is told of the capture before it; and the output is the text
@@ -19,6 +19,7 @@ pub fn run_is_replay()
 /// An undo gives back the capture that stood before the last edit in force.
 pub fn undo_gives_back()
     ensures just_made { UndoGivesBack }
+    ensures in_run { UndoInRunGivesBack }
     ensures last_in_force { UndoTakesBackTheLast }
 {}
 
