@@ -11,7 +11,7 @@ use clap::{Arg, ArgMatches, Command, Error};
 use std::alloc::{AllocError, Global};
 use vcd_journal::DEPTH_LIMIT;
 
-/// How many steps are held for undo and redo where no word says how many.
+/// How many edits are held for undo and redo where no word says how many.
 pub const DEFAULT_DEPTH: u64 = 100;
 
 const VERSION: &str = "0.1.0";
@@ -31,7 +31,7 @@ const AFTER_HELP: &str =
   derive WORD not A         a new signal WORD; also: and A B, or A B, xor A B, bit A K
   undo                      the last edit is taken back
   redo                      the edit undone last is made again
-  depth N                   from now on at most N steps are held
+  depth N                   from now on at most N edits are held
   list                      timescale, end, and each signal's position, width, kind and full name
   value NAME TICK           the signal's value at the tick
   changes NAME              the signal's changes, each with its tick
@@ -58,7 +58,7 @@ pub struct Options<'a> {
     pub script: Option<&'a str>,
     /// The path of the output; none is written where it is absent.
     pub output: Option<&'a str>,
-    /// How many steps are held for undo and redo, from 1 to `DEPTH_LIMIT`.
+    /// How many edits are held for undo and redo, from 1 to `DEPTH_LIMIT`.
     pub depth: u64,
 }
 
@@ -160,5 +160,5 @@ fn depth_option<'a>(alloc: Global) -> Arg<'a>
         .long("depth")
         .value_name("N")
         .value_parser(ValueParser::unsigned(1, DEPTH_LIMIT))
-        .help("How many steps undo and redo can take, from 1 to 1000 [default: 100]")
+        .help("How many edits undo and redo can take, from 1 to 1000 [default: 100]")
 }
