@@ -5,3 +5,4 @@ pub mod ValueLaws
 pub mod NameParts
 pub mod EdgeWalk
 pub mod BitEdgeWalk
+pub mod ScopeLists

@@ -2,9 +2,9 @@ ghost use Rattle.std.specs.Prelude.{◌≡◌, ◌↔◌, IsTrue};
 ghost use Rattle.vcd_core.specs.Contents.{contents};
 ghost use Rattle.vcd_core.specs.Sound.{IsSound};
 
+use crate::scope_path::ScopePath;
 use crate::seq::Seq;
 use crate::wave::Wave;
-use std::marker::Model;
 
 /// The greatest tick of a capture's end.
 pub const END_LIMIT: u64 = 9223372036854775807;
@@ -72,49 +72,6 @@ pub struct Timescale {
 pub struct ScopeName {
     pub kind: Word,
     pub words: Seq<Word>,
-}
-
-/// The scopes that a signal stands in, outermost first.
-///
-/// Contracts see the list of scope names.
-#[derive(Drop)]
-pub struct ScopePath {
-    scopes: Vec<ScopeName>,
-}
-
-impl Model for ScopePath {
-    ghost use Rattle.std.specs.Prelude.{List};
-    ghost use Rattle.vcd_core.specs.declared.capture.ScopeName.{ScopeName};
-
-    ghost Value = { List ScopeName };
-
-    ghost view = { λ p. p.scopes.items };
-}
-
-impl ScopePath {
-    ghost use Rattle.std.specs.Prelude.{◌≡◌};
-
-    /// The path of these scopes, outermost first. It takes no memory.
-    pub fn from_vec(scopes: Vec<ScopeName>) -> ScopePath
-        ensures { result ≡ scopes.items }
-    {
-        ScopePath { scopes }
-    }
-
-    /// Gives the scopes back, outermost first, with the memory that they stand in.
-    pub fn into_vec(self) -> Vec<ScopeName>
-        ensures { result.items ≡ self }
-    {
-        let ScopePath { scopes } = self;
-        scopes
-    }
-
-    /// The scopes, outermost first.
-    pub fn as_slice(&self) -> &[ScopeName]
-        ensures { result.now ≡ self.now }
-    {
-        self.scopes.as_slice()
-    }
 }
 
 /// A signal: where it stands, its kind such as `wire`, the words of its name, and its wave.

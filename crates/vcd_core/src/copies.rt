@@ -2,7 +2,7 @@
 
 ghost use Rattle.std.specs.Prelude.{◌≡◌, IfOk};
 
-use crate::capture::{ScopeName, ScopePath, Word};
+use crate::capture::{ScopeName, Word};
 use crate::memory::NoMemory;
 use crate::seq::Seq;
 use std::alloc::Global;
@@ -25,15 +25,15 @@ pub fn copy_words(alloc: Global, words: &[Word]) -> Result<Seq<Word>, NoMemory>
     Ok(Seq::from_vec(copies))
 }
 
-/// A path of copies of these scopes, outermost first, in memory of its own.
-pub fn copy_scopes(alloc: Global, scopes: &[ScopeName]) -> Result<ScopePath, NoMemory>
-    ensures { IfOk result (λ copies. copies ≡ scopes.now) }
+/// A copy of each scope, in memory of its own.
+pub fn copy_scopes(alloc: Global, scopes: &[ScopeName]) -> Result<Vec<ScopeName>, NoMemory>
+    ensures { IfOk result (λ copies. copies.items ≡ scopes.now) }
 {
     let mut copies = Vec::new(alloc);
     for scope in scopes {
         copies.push(copy_scope(alloc, scope)?)?;
     }
-    Ok(ScopePath::from_vec(copies))
+    Ok(copies)
 }
 
 fn copy_scope(alloc: Global, scope: &ScopeName) -> Result<ScopeName, NoMemory>

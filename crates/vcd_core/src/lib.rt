@@ -18,6 +18,7 @@ mod laws;
 mod memory;
 mod names;
 mod planes;
+mod scope_path;
 mod searching;
 mod seq;
 mod soundness;
@@ -29,8 +30,8 @@ mod word;
 pub use bit::Bit;
 pub use bit_edges::{BitEdge, BitEdges};
 pub use capture::{
-    Capture, END_LIMIT, Header, HeaderKind, SIGNAL_LIMIT, ScopeName, ScopePath, Signal, TimeUnit,
-    Timescale, Word,
+    Capture, END_LIMIT, Header, HeaderKind, SIGNAL_LIMIT, ScopeName, Signal, TimeUnit, Timescale,
+    Word,
 };
 pub use change_list::{ends_by, last_value};
 pub use copies::{copy_scopes, copy_word, copy_words};
@@ -47,6 +48,7 @@ pub use laws::{
 };
 pub use memory::NoMemory;
 pub use planes::{repeated, words_in};
+pub use scope_path::ScopePath;
 pub use seq::Seq;
 pub use soundness::{are_scopes_sound, is_wave_sound};
 pub use splicing::moved_change;

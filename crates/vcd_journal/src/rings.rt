@@ -36,6 +36,16 @@ pub fn push_newest(ring: &mut Ring, newest: Record, depth: usize)
     keep_newest(ring, depth);
 }
 
+/// Puts a record in front, where there is room.
+fn push_in_room(ring: &mut Ring, newest: Record)
+    requires { length ring.old.items < ring.old.capacity }
+    ensures items { ring.new.items ≡ newest ∷ ring.old.items }
+    ensures capacity { ring.new.capacity ≡ ring.old.capacity }
+{
+    // A function of its own, so that the drop of no record stays out of its callers' proofs.
+    let _none = ring.push_front(newest);
+}
+
 /// Drops all records but the newest `count`.
 pub fn keep_newest(ring: &mut Ring, count: usize)
     ensures { ring.new ≡ buffer (take count ring.old.items) ring.old.capacity }
@@ -86,12 +96,12 @@ pub fn follow_newest(
     };
     match revert(alloc, capture, way) {
         Ok(record) => {
-            let _none = to.push_front(record);
+            push_in_room(to, record);
             Ok(())
         }
         Err(kept) => {
             // there is room, since the record was just taken out
-            let _none = from.push_front(kept.held);
+            push_in_room(from, kept.held);
             Err(NoMemory)
         }
     }

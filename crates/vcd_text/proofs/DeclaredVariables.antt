@@ -12,6 +12,7 @@ use Rattle.std.proofs.lemmas.List.Sums.{sum_by-append, sum_by-cons}
 use Rattle.std.proofs.lemmas.Option.{slice_get_within, same_Some}
 use Rattle.vcd_core.specs.Value.{all_x}
 use Rattle.vcd_core.specs.Wave.{value_from, value_at}
+use Rattle.vcd_core.specs.declared.capture.ScopeName.{ScopeName}
 use Rattle.vcd_core.specs.declared.capture.Signal.{Signal}
 use Rattle.vcd_text.specs.declared.fault.Fault.{Fault}
 use Rattle.vcd_text.specs.declared.fault.Fault.TheVariants as faults
@@ -20,7 +21,7 @@ use Rattle.vcd_core.specs.Decimal.{number_of}
 use Rattle.vcd_core.specs.Word.{is_skipped_kind}
 use Rattle.vcd_text.specs.Grammar.{VariableDeclaration, ValueChange, Context, is_skipped, kept_variables, variable_of, may_have_code, has_room}
 use Rattle.vcd_text.specs.Meaning.{latest_value}
-use Rattle.vcd_text.specs.inside.Variables.{declaration, declaration_by, owner_of, HasWave, Stands, HasFirst, Knows, with_declaration, mixed, many, DeclaresAs, code_mixed, no_room, Declares}
+use Rattle.vcd_text.specs.inside.Variables.{declaration, declaration_in, without_scopes, owner_of, HasWave, Stands, HasFirst, Knows, with_declaration, mixed, many, DeclaresAs, code_mixed, no_room, Declares}
 use Rattle.vcd_text.specs.declared.reading.owners.Owners.{Owners}
 use Rattle.vcd_text.specs.declared.reading.variables.Owner.{Owner}
 use Rattle.vcd_text.specs.declared.reading.variables.Owner.TheVariants.{Skipped, Kept}
@@ -72,8 +73,8 @@ same_number : (n : ℕ) → (n == n) ≡ true
 same_number n = grind arith
 
 -- as many variables are kept as were declared to be
-kept_long : (vs : Variables) (c : Context) → Knows vs c → length (kept_variables c.declared) ≡ length vs.kept.items
-kept_long vs c k = ap (length {A = VariableDeclaration}) k.kept ∙ length-map vs.kept.items declaration
+pub kept_long : (vs : Variables) (c : Context) → Knows vs c → length (kept_variables c.declared) ≡ length vs.kept.items
+kept_long vs c k = sym (length-map (kept_variables c.declared) without_scopes) ∙ ap (length {A = VariableDeclaration}) k.kept ∙ length-map vs.kept.items declaration
 
 -- ---- what codes stand for, with one variable more
 
@@ -153,7 +154,7 @@ module _ (old new : Variables) (c : Context) (d : VariableDeclaration) (k : Know
     skip_may (variable_of c d.code) (k.stand d.code),
     (λ i. skipped i || nat_lt (length (kept_variables c.declared)) SIGNAL_LIMIT),
     record {
-      kept = kept_skipped c.declared d skipped ∙ k.kept ∙ ap (map declaration) (sym items);
+      kept = ap (map without_scopes) (kept_skipped c.declared d skipped) ∙ k.kept ∙ ap (map declaration) (sym items);
       skipped = more ∙ ap (λ n. n + 1) k.skipped ∙ sym (count_with c.declared d true skipped);
       stand = skip_stands;
       firsts = skip_firsts;
@@ -173,9 +174,9 @@ IsFree old code s first =
     ((owner_of old code ≡ None) × (first ≡ length old.kept.items))
     ⊎ ((owner_of old code ≡ Some (Kept first)) × ((w : Variable) → slice_get old.kept.items first ≡ Some w → w.signal.wave.width ≡ s.wave.width))
 
-module _ (old : Variables) (c : Context) (code : List ℕ) (s : Signal) (first : ℕ) (k : Knows old c)
-    (keeps : is_skipped (declaration_by code s) ≡ false) (free : IsFree old code s first) where
-  keep_may : (v : Option VariableDeclaration) → Stands old.kept.items c.value_changes c.tick code (owner_of old code) v → may_have_code v (declaration_by code s) ≡ true
+module _ (old : Variables) (c : Context) (scopes : List ScopeName) (code : List ℕ) (s : Signal) (first : ℕ) (k : Knows old c)
+    (keeps : is_skipped (declaration_in scopes code s) ≡ false) (free : IsFree old code s first) where
+  keep_may : (v : Option VariableDeclaration) → Stands old.kept.items c.value_changes c.tick code (owner_of old code) v → may_have_code v (declaration_in scopes code s) ≡ true
   keep_may None stands = refl
   keep_may (Some e) stands = elim free [
     | inl (none, end) ↦ absurd (subst (λ o. Stands old.kept.items c.value_changes c.tick code o (Some e)) none stands)
@@ -186,15 +187,15 @@ module _ (old : Variables) (c : Context) (code : List ℕ) (s : Signal) (first :
         (λ i. (also i && keeps i) || (not (also i) && not (keeps i) && (size i == s.wave.width))) ∙ same_number s.wave.width
   ]
 
-  has_room_is : (b : Bool) → nat_lt (length old.kept.items) SIGNAL_LIMIT ≡ b → has_room c.declared (declaration_by code s) ≡ b
+  has_room_is : (b : Bool) → nat_lt (length old.kept.items) SIGNAL_LIMIT ≡ b → has_room c.declared (declaration_in scopes code s) ≡ b
   has_room_is b test = (λ i. keeps i || nat_lt (length (kept_variables c.declared)) SIGNAL_LIMIT) ∙ ap (λ n. nat_lt n SIGNAL_LIMIT) (kept_long old c k) ∙ test
 
   -- it may not stand here where there are too many
-  keep_full : (new : Variables) → SIGNAL_LIMIT ≤ length old.kept.items → DeclaresAs c (declaration_by code s) (Err faults.TooManySignals) new
+  keep_full : (new : Variables) → SIGNAL_LIMIT ≤ length old.kept.items → DeclaresAs c (declaration_in scopes code s) (Err faults.TooManySignals) new
   keep_full new full = inr (many (keep_may (variable_of c code) (k.stand code)) (has_room_is false (le-ltb (length old.kept.items) SIGNAL_LIMIT full)) refl)
 
-module _ (old new : Variables) (c : Context) (code : List ℕ) (s : Signal) (first : ℕ) (k : Knows old c) (value_changes : c.value_changes ≡ []) (silent : s.wave.changes ≡ [])
-    (keeps : is_skipped (declaration_by code s) ≡ false) (items : new.kept.items ≡ old.kept.items ++ variable_at code s first ∷ [])
+module _ (old new : Variables) (c : Context) (scopes : List ScopeName) (code : List ℕ) (s : Signal) (first : ℕ) (k : Knows old c) (value_changes : c.value_changes ≡ []) (silent : s.wave.changes ≡ []) (bare : s.scopes ≡ [])
+    (keeps : is_skipped (declaration_in scopes code s) ≡ false) (items : new.kept.items ≡ old.kept.items ++ variable_at code s first ∷ [])
     (free : IsFree old code s first)
     (puts : Puts old new code (Kept first)) where
   silent_wave : HasWave (old.kept.items ++ variable_at code s first ∷ []) (length old.kept.items) code s.wave.width c.value_changes c.tick
@@ -211,7 +212,7 @@ module _ (old new : Variables) (c : Context) (code : List ℕ) (s : Signal) (fir
   }
 
   keep_here : (v : Option VariableDeclaration) → Stands old.kept.items c.value_changes c.tick code (owner_of old code) v
-      → Stands (old.kept.items ++ variable_at code s first ∷ []) c.value_changes c.tick code (Some (Kept first)) (option_or v (Some (declaration_by code s)))
+      → Stands (old.kept.items ++ variable_at code s first ∷ []) c.value_changes c.tick code (Some (Kept first)) (option_or v (Some (declaration_in scopes code s)))
   keep_here None stands = elim free [
     | inl (none, end) ↦
         (keeps, subst (λ n. HasWave (old.kept.items ++ variable_at code s first ∷ []) n code s.wave.width c.value_changes c.tick) (sym end) silent_wave)
@@ -224,10 +225,10 @@ module _ (old new : Variables) (c : Context) (code : List ℕ) (s : Signal) (fir
         (subst (λ o. Stands old.kept.items c.value_changes c.tick code o (Some e)) had stands)
   ]
 
-  keep_stands : (key : List ℕ) → Stands new.kept.items c.value_changes c.tick key (owner_of new key) (variable_of (with_declaration c (declaration_by code s)) key)
+  keep_stands : (key : List ℕ) → Stands new.kept.items c.value_changes c.tick key (owner_of new key) (variable_of (with_declaration c (declaration_in scopes code s)) key)
   keep_stands key =
       let all = old.kept.items ++ variable_at code s first ∷ [] in
-      let d = declaration_by code s in
+      let d = declaration_in scopes code s in
       let both =
       by_code (λ b. Stands all c.value_changes c.tick key (if b then Some (Kept first) else owner_of old key) (option_or (variable_of c key) (if b then Some d else None))) key code
       (λ is. subst (λ name. Stands all c.value_changes c.tick name (Some (Kept first)) (option_or (variable_of c name) (Some d))) (sym is) (keep_here (variable_of c code) (k.stand code)))
@@ -286,13 +287,14 @@ module _ (old new : Variables) (c : Context) (code : List ℕ) (s : Signal) (fir
   ]
 
   -- it is declared
-  pub keep_declares : length old.kept.items < SIGNAL_LIMIT → new.skipped ≡ old.skipped → (x : Unit {0}) → DeclaresAs c (declaration_by code s) (Ok x) new
+  pub keep_declares : length old.kept.items < SIGNAL_LIMIT → new.skipped ≡ old.skipped → (x : Unit {0}) → DeclaresAs c (declaration_in scopes code s) (Ok x) new
   keep_declares room same x =
-      let d = declaration_by code s in (
-        keep_may old c code s first k keeps free (variable_of c code) (k.stand code),
-        has_room_is old c code s first k keeps free true (lt-ltb (length old.kept.items) SIGNAL_LIMIT room),
+      let d = declaration_in scopes code s in (
+        keep_may old c scopes code s first k keeps free (variable_of c code) (k.stand code),
+        has_room_is old c scopes code s first k keeps free true (lt-ltb (length old.kept.items) SIGNAL_LIMIT room),
         record {
-          kept = kept_kept c.declared d keeps ∙ ap (λ ds. ds ++ d ∷ []) k.kept
+          kept = ap (map without_scopes) (kept_kept c.declared d keeps) ∙ map-append without_scopes (kept_variables c.declared) (d ∷ [])
+              ∙ (λ i. k.kept i ++ record { scopes = sym bare i; kind = s.kind; size = s.wave.width; code = code; words = s.words } ∷ [])
               ∙ sym (map-append declaration old.kept.items (variable_at code s first ∷ [])) ∙ ap (map declaration) (sym items);
           skipped = same ∙ k.skipped ∙ omega arith ∙ sym (count_with c.declared d false keeps);
           stand = keep_stands;
@@ -302,17 +304,17 @@ module _ (old new : Variables) (c : Context) (code : List ℕ) (s : Signal) (fir
       )
 
 -- what comes of a variable that is put behind the others
-pub push_declares : (old new : Variables) (c : Context) (code : List ℕ) (s : Signal) (first : ℕ) (result : Result (Unit {0}) Fault)
-    → Knows old c → c.value_changes ≡ [] → s.wave.changes ≡ [] → is_skipped (declaration_by code s) ≡ false → IsFree old code s first
+pub push_declares : (old new : Variables) (c : Context) (scopes : List ScopeName) (code : List ℕ) (s : Signal) (first : ℕ) (result : Result (Unit {0}) Fault)
+    → Knows old c → c.value_changes ≡ [] → s.wave.changes ≡ [] → s.scopes ≡ [] → is_skipped (declaration_in scopes code s) ≡ false → IsFree old code s first
     → OnOk result (length old.kept.items < SIGNAL_LIMIT) → OnOk result (new.kept.items ≡ old.kept.items ++ variable_at code s first ∷ [])
     → OnOk result (Puts old new code (Kept first)) → new.skipped ≡ old.skipped
     → IfErr result (λ fault. (fault ≡ faults.NoMemory) ⊎ ((fault ≡ faults.TooManySignals) × (SIGNAL_LIMIT ≤ length old.kept.items)))
-    → DeclaresAs c (declaration_by code s) result new
-push_declares old new c code s first (Ok x) k value_changes silent keeps free room items puts same refuses =
-    keep_declares old new c code s first k value_changes silent keeps items free puts room same x
-push_declares old new c code s first (Err fault) k value_changes silent keeps free room items puts same refuses = elim refuses [
+    → DeclaresAs c (declaration_in scopes code s) result new
+push_declares old new c scopes code s first (Ok x) k value_changes silent bare keeps free room items puts same refuses =
+    keep_declares old new c scopes code s first k value_changes silent bare keeps items free puts room same x
+push_declares old new c scopes code s first (Err fault) k value_changes silent bare keeps free room items puts same refuses = elim refuses [
   | inl none ↦ inl none
-  | inr (why, full) ↦ subst (λ f. DeclaresAs c (declaration_by code s) (Err f) new) (sym why) (keep_full old c code s first k keeps free new full)
+  | inr (why, full) ↦ subst (λ f. DeclaresAs c (declaration_in scopes code s) (Err f) new) (sym why) (keep_full old c scopes code s first k keeps free new full)
 ]
 
 pub when_ok : (result : Result (Unit {0}) Fault) (P : Type 0) → P → OnOk result P

@@ -12,15 +12,19 @@ use Rattle.vcd_text.specs.declared.fault.Fault.TheVariants as faults
 use Rattle.vcd_text.specs.Words.{PlacedWord, word_on}
 use Rattle.vcd_core.specs.Decimal.{is_number}
 use Rattle.vcd_text.specs.Items.{Item, entry, timescale, scope, upscope, variable, end_definitions, other, spelling, end_word, is_end_word, has_no_end_word, header_word, is_other, timescale_of}
-use Rattle.vcd_text.specs.Grammar.{Context, Allows, told_after_item, word_texts, has_good_size}
+use Rattle.vcd_text.specs.Grammar.{Context, Allows, told_after_item, kept_variables, word_texts, has_good_size}
 use Rattle.vcd_text.specs.Faults.{WordFault, DeclarationFault, no_timescale, no_size, among_declarations}
+use Rattle.vcd_text.specs.inside.Scopes.{HoldsScopes}
 use Rattle.vcd_text.specs.inside.Variables.{Knows, Declares, VariableFault}
 use Rattle.vcd_text.specs.inside.Reading.{Agrees, Collects, PassesOver, IsBegun, At, TakesWord, goes_on, ends_item, TakesOrRefuses}
 use Rattle.vcd_text.specs.declared.reading.owners.Owners.{Owners}
 use Rattle.vcd_text.specs.declared.reading.reader.Reader.{Reader}
 use Rattle.vcd_text.specs.declared.reading.reader.OpenItem.TheVariants as items
+use Rattle.vcd_text.specs.declared.reading.scopes.Scopes.{Scopes}
 use Rattle.vcd_text.specs.declared.reading.variables.Variables.{Variables}
 use Rattle.vcd_text.proofs.Knows.{same_codes, knows_further}
+use Rattle.vcd_text.proofs.DeclaredVariables.{kept_long}
+use Rattle.vcd_text.proofs.HeldScopes.{so_deep}
 
 -- ---- words
 
@@ -103,7 +107,7 @@ shows_no_timescale m is none c begun at =
     among_declarations (sym at.0.changing ∙ b.declares) (no_timescale m.words.items b.spelled refl b.no_end none refl)
 
 -- a scope is the innermost
-pub closes_scope : (m new : Reader) (s : ScopeName) → m.item ≡ items.Scope → m.words.items ≡ s.kind ∷ s.words → new.scopes.items ≡ m.scopes.items ++ s ∷ []
+pub closes_scope : (m new : Reader) (s : ScopeName) → m.item ≡ items.Scope → m.words.items ≡ s.kind ∷ s.words → ((c : Context) → HoldsScopes m.scopes c.scopes c.declared → HoldsScopes new.scopes (c.scopes ++ s ∷ []) c.declared)
     → new ≡ record m { scopes = new.scopes; words = new.words; item = items.Nothing }
     → (line : ℕ) (c : Context) (begun : List PlacedWord) → At m c begun → TakesWord c (begun ++ word_on end_word line ∷ []) new
 closes_scope m new s is words pushed others line c begun at =
@@ -116,7 +120,7 @@ closes_scope m new s is words pushed others line c begun at =
     (record {
       header = a.header;
       timescale = a.timescale;
-      scopes = pushed ∙ ap (λ ss. ss ++ s ∷ []) a.scopes;
+      scopes = pushed c a.scopes;
       changing = a.changing;
       tick = a.tick;
       variables = same_known m.variables c (told_after_item c i) refl refl refl a.variables;
@@ -129,19 +133,19 @@ front_removed [] ys x some front rest = absurd (omega arith)
 front_removed (x' ∷ xs) ys x some front rest = (λ i. sym front i ∷ sym rest i)
 
 -- the innermost scope is closed
-pub closes_upscope : (m new : Reader) → m.item ≡ items.Upscope → new.scopes.items ≡ take (length m.scopes.items - 1) m.scopes.items
+pub closes_upscope : (m new : Reader) → m.item ≡ items.Upscope → ((c : Context) → HoldsScopes m.scopes c.scopes c.declared → HoldsScopes new.scopes (take (length c.scopes - 1) c.scopes) c.declared)
     → new ≡ record m { scopes = new.scopes; item = items.Nothing }
     → (line : ℕ) (c : Context) (begun : List PlacedWord) → At m c begun → TakesWord c (begun ++ word_on end_word line ∷ []) new
 closes_upscope m new is popped others line c begun at =
     let a = at.0 in
-    let b : IsFalse m.changing × (word_texts begun ≡ codes "$upscope" ∷ []) × (0 < length m.scopes.items) = subst (IsBegun m begun) is at.1 in
+    let b : IsFalse m.changing × (word_texts begun ≡ codes "$upscope" ∷ []) × (0 < m.scopes.depth) = subst (IsBegun m begun) is at.1 in
     subst (TakesWord c (begun ++ word_on end_word line ∷ [])) (sym others)
     (ends_here (record m { scopes = new.scopes; item = items.Nothing }) c begun line upscope (codes "$upscope" ∷ [])
-    b.1 refl (sym a.changing ∙ b.0, subst (λ (ss : List ScopeName). 0 < length ss) a.scopes b.2)
+    b.1 refl (sym a.changing ∙ b.0, omega (arith, so_deep m.scopes c a.scopes, b.2))
     (record {
       header = a.header;
       timescale = a.timescale;
-      scopes = popped ∙ ap (λ (ss : List ScopeName). take (length ss - 1) ss) a.scopes;
+      scopes = popped c a.scopes;
       changing = a.changing;
       tick = a.tick;
       variables = same_known m.variables c (told_after_item c upscope) refl refl refl a.variables;
@@ -188,21 +192,23 @@ closes_other m is line c begun at =
 -- ---- variables
 
 -- the variables have taken the declaration
-pub closes_variable : (m : Reader) (variables : Variables) (scopes : List ScopeName) (words : List (List ℕ)) → scopes ≡ m.scopes.items → words ≡ m.words.items
-    → ((c : Context) → c.scopes ≡ scopes → c.value_changes ≡ [] → Knows m.variables c → Declares c words (Ok tt) variables) → m.item ≡ items.Variable
+pub closes_variable : (m : Reader) (variables : Variables) (scopes : Scopes) (words : List (List ℕ)) → words ≡ m.words.items
+    → ((c : Context) (ws : List (List ℕ)) → HoldsScopes m.scopes c.scopes c.declared → length variables.kept.items ≡ length (kept_variables (told_after_item c (variable ws)).declared)
+    → HoldsScopes scopes c.scopes (told_after_item c (variable ws)).declared)
+    → ((c : Context) → c.value_changes ≡ [] → Knows m.variables c → Declares c words (Ok tt) variables) → m.item ≡ items.Variable
     → (line : ℕ) (c : Context) (begun : List PlacedWord) → At m c begun
-    → TakesWord c (begun ++ word_on end_word line ∷ []) (record m { variables = variables; item = items.Nothing })
-closes_variable m variables scopes words inside spelled declare is line c begun at =
+    → TakesWord c (begun ++ word_on end_word line ∷ []) (record m { scopes = scopes; variables = variables; item = items.Nothing })
+closes_variable m variables scopes words spelled note declare is line c begun at =
     let a = at.0 in
     let b : Collects m begun (codes "$var") × IsTrue (has_good_size m.words.items) = subst (IsBegun m begun) is at.1 in
     let declares : IsFalse c.changing = sym a.changing ∙ b.0.declares in
-    let d : Declares c m.words.items (Ok tt) variables = subst (λ ws. Declares c ws (Ok tt) variables) spelled (declare c (sym a.scopes ∙ sym inside) (a.silent declares) a.variables) in
-    ends_here (record m { variables = variables; item = items.Nothing }) c begun line (variable m.words.items) (codes "$var" ∷ m.words.items)
+    let d : Declares c m.words.items (Ok tt) variables = subst (λ ws. Declares c ws (Ok tt) variables) spelled (declare c (a.silent declares) a.variables) in
+    ends_here (record m { scopes = scopes; variables = variables; item = items.Nothing }) c begun line (variable m.words.items) (codes "$var" ∷ m.words.items)
     b.0.spelled refl (declares, b.0.no_end, b.1, d.0)
     (record {
       header = a.header;
       timescale = a.timescale;
-      scopes = a.scopes;
+      scopes = note c m.words.items a.scopes (sym (kept_long variables (told_after_item c (variable m.words.items)) d.1));
       changing = a.changing;
       tick = a.tick;
       variables = d.1;
@@ -227,17 +233,17 @@ fault_shown m c begun fault declares b good (inl memory) = inl memory
 fault_shown m c begun fault declares b good (inr shown) = inr (variable_fault m c begun fault declares b good shown)
 
 -- the words declare no variable that may stand here
-pub shows_no_variable : (m new : Reader) (result : Result (Unit {0}) Fault) (fault : Fault) (variables : Variables) (scopes : List ScopeName) (words : List (List ℕ))
-    → scopes ≡ m.scopes.items → words ≡ m.words.items
-    → ((c : Context) → c.scopes ≡ scopes → c.value_changes ≡ [] → Knows m.variables c → Declares c words (Err fault) variables) → m.item ≡ items.Variable
+pub shows_no_variable : (m new : Reader) (result : Result (Unit {0}) Fault) (fault : Fault) (variables : Variables) (words : List (List ℕ))
+    → words ≡ m.words.items
+    → ((c : Context) → c.value_changes ≡ [] → Knows m.variables c → Declares c words (Err fault) variables) → m.item ≡ items.Variable
     → IsErrAnd result (λ e. e ≡ fault) → (line : ℕ) → TakesOrRefuses m (word_on end_word line) result new
-shows_no_variable m new (Ok x) fault variables scopes words inside spelled declare is failed line = absurd failed
-shows_no_variable m new (Err e) fault variables scopes words inside spelled declare is failed line =
+shows_no_variable m new (Ok x) fault variables words spelled declare is failed line = absurd failed
+shows_no_variable m new (Err e) fault variables words spelled declare is failed line =
     λ c begun at.
     let a = at.0 in
     let b : Collects m begun (codes "$var") × IsTrue (has_good_size m.words.items) = subst (IsBegun m begun) is at.1 in
     let declares : IsFalse c.changing = sym a.changing ∙ b.0.declares in
-    let d : Declares c m.words.items (Err fault) variables = subst (λ ws. Declares c ws (Err fault) variables) spelled (declare c (sym a.scopes ∙ sym inside) (a.silent declares) a.variables) in
+    let d : Declares c m.words.items (Err fault) variables = subst (λ ws. Declares c ws (Err fault) variables) spelled (declare c (a.silent declares) a.variables) in
     subst (λ f. (f ≡ faults.NoMemory) ⊎ WordFault c (word_texts begun) end_word f) (sym failed) (fault_shown m c begun fault declares b.0 b.1 d)
 
 -- the kind of a variable, where it is all that stands there

@@ -1,9 +1,8 @@
 -- What is so where no word is left.
-use Rattle.std.proofs.Common.{◌≡◌, inl, inr, ℕ, ◌<◌, length, Bool, true, false, ◌&&◌, List, [], ◌∷◌, ◌++◌, refl, sym, ap, subst, ◌∙◌}
+use Rattle.std.proofs.Common.{◌≡◌, inl, inr, ℕ, ◌<◌, length, Bool, true, false, ◌&&◌, List, [], ◌∷◌, ◌++◌, refl, sym, ap, subst, ◌∙◌, arith}
 use Rattle.std.specs.Prelude.{IsTrue, IsFalse, codes, nat_eq}
 use Rattle.std.proofs.lemmas.List.{append-nil, map-append}
 use Rattle.std.proofs.lemmas.Bool.{and_parts, false≢true, or_cases, or_left, or_right}
-use Rattle.vcd_core.specs.declared.capture.ScopeName.{ScopeName}
 use Rattle.vcd_core.specs.declared.capture.HeaderKind.{HeaderKind}
 use Rattle.vcd_core.specs.declared.capture.HeaderKind.TheVariants.{Date, Version, Comment}
 use Rattle.vcd_text.specs.declared.fault.Fault.{Fault}
@@ -18,6 +17,7 @@ use Rattle.vcd_text.specs.inside.Reading.{Reads, Agrees, IsBegun, Collects, Awai
 use Rattle.vcd_text.specs.declared.reading.reader.Reader.{Reader}
 use Rattle.vcd_text.specs.declared.reading.reader.OpenItem.{OpenItem}
 use Rattle.vcd_text.specs.declared.reading.reader.OpenItem.TheVariants as items
+use Rattle.vcd_text.proofs.HeldScopes.{so_deep}
 use Rattle.vcd_text.proofs.OneAnswer.{accepted-not_refused, stopped-not_refused}
 
 -- the kind of a header entry is one of three
@@ -57,7 +57,7 @@ unfinished m c begun items.Nothing agrees none no_end = declaration_due (sym agr
 unfinished m c begun (items.Entry kind) agrees is no_end = collecting m c begun (header_word kind) agrees is (is_header kind)
 unfinished m c begun items.Timescale agrees is no_end = collecting m c begun (codes "$timescale") agrees is refl
 unfinished m c begun items.Scope agrees is no_end = collecting m c begun (codes "$scope") agrees is refl
-unfinished m c begun items.Upscope agrees is no_end = upscope_due (sym agrees.changing ∙ is.0) is.1 (subst (λ (s : List ScopeName). 0 < length s) agrees.scopes is.2)
+unfinished m c begun items.Upscope agrees is no_end = upscope_due (sym agrees.changing ∙ is.0) is.1 (omega (arith, so_deep m.scopes c agrees.scopes, is.2))
 unfinished m c begun items.Variable agrees is no_end = variable_due m.words.items (sym agrees.changing ∙ is.0.declares) is.0.spelled is.0.no_end is.1
 unfinished m c begun items.EndDefinitions agrees is no_end = definitions_due (sym agrees.changing ∙ is.0) is.1
 unfinished m c begun items.Other agrees is no_end = other_due is.keyword is.words is.spelled (subst (λ b. IsTrue (is_other b is.keyword)) agrees.changing is.other) is.no_end

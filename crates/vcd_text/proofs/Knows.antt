@@ -4,7 +4,7 @@ use Rattle.std.specs.Prelude.{count_by, bytes_eq}
 use Rattle.vcd_text.specs.Grammar.{ValueChange, Context, variable_of, is_skipped, kept_variables}
 use Rattle.vcd_text.specs.inside.ShortCodes.{code_owner}
 use Rattle.vcd_text.specs.declared.reading.owners.Owners.{Owners}
-use Rattle.vcd_text.specs.inside.Variables.{declaration, owner_of, HasWave, Stands, Knows}
+use Rattle.vcd_text.specs.inside.Variables.{declaration, without_scopes, owner_of, HasWave, Stands, Knows}
 use Rattle.vcd_text.specs.declared.reading.variables.Variable.{Variable}
 use Rattle.vcd_text.specs.declared.reading.variables.Variables.{Variables}
 use Rattle.vcd_text.proofs.Owners.{stands_moved}
@@ -17,7 +17,7 @@ wave_further vs value_changes early late position code size later w =
 -- variables that hold what has been told hold it at a later tick too
 pub knows_further : (vs : Variables) (c d : Context) → c.declared ≡ d.declared → c.value_changes ≡ d.value_changes → c.tick ≤ d.tick → Knows vs c → Knows vs d
 knows_further vs c d declared value_changes later k = record {
-  kept = subst (λ ds. kept_variables ds ≡ map declaration vs.kept.items) declared k.kept;
+  kept = subst (λ ds. map without_scopes (kept_variables ds) ≡ map declaration vs.kept.items) declared k.kept;
   skipped = subst (λ ds. vs.skipped ≡ count_by is_skipped ds) declared k.skipped;
   stand = λ code.
       stands_moved vs.kept.items vs.kept.items d.value_changes d.value_changes c.tick d.tick code (owner_of vs code) (find (λ e. bytes_eq code e.code) d.declared)

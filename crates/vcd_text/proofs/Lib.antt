@@ -27,6 +27,8 @@ pub mod ShortCodes
 pub mod Values
 pub mod Written
 pub mod Scopes
+pub mod HeldScopes
+pub mod PlacedSignals
 pub mod Walks
 pub mod Near
 pub mod Sorting

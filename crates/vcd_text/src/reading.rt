@@ -18,6 +18,8 @@ mod declarations;
 mod keywords;
 mod owners;
 mod reader;
+mod scope_paths;
+mod scopes;
 mod ticks_and_sizes;
 mod timescale;
 mod variables;

@@ -17,9 +17,7 @@ use crate::effects::making::signal_there;
 use crate::effects::operators::{and, not, or, xor};
 use crate::record::Record;
 use std::alloc::Global;
-use vcd_core::{
-    Bit, Capture, Edges, NoMemory, Seq, Signal, Value, Wave, Word, copy_scopes, copy_word,
-};
+use vcd_core::{Bit, Capture, Edges, NoMemory, Seq, Signal, Value, Wave, Word, copy_word};
 
 /// The record that puts the new signal in behind the last.
 pub(crate) fn plan(
@@ -51,7 +49,7 @@ fn derived(alloc: Global, capture: &Capture, word: &[u8], rule: Rule) -> Result<
     let first = signal_there(capture, rule.first_operand());
     let last = signal_there(capture, rule.last_operand());
     Ok(Signal {
-        scopes: copy_scopes(alloc, first.scopes.as_slice())?,
+        scopes: first.scopes.share(alloc)?,
         kind: copy_word(alloc, b"wire")?,
         words: name_of_one_word(alloc, word)?,
         wave: derived_wave(alloc, &first.wave, &last.wave, rule)?,

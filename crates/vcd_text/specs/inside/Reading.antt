@@ -13,6 +13,7 @@ use Rattle.vcd_text.specs.Items.{Item, spelling, spellings, has_no_end_word, hea
 use Rattle.vcd_text.specs.Grammar.{Context, Allows, AllowsAll, told_after, told_after_item, nothing_told, word_texts, has_good_size}
 use Rattle.vcd_text.specs.Faults.{WordFault, ShowsFault}
 use Rattle.vcd_text.specs.Refusals.{memory_error}
+use Rattle.vcd_text.specs.inside.Scopes.{HoldsScopes}
 use Rattle.vcd_text.specs.inside.Variables.{Knows}
 use Rattle.vcd_text.specs.declared.reading.reader.Reader.{Reader}
 use Rattle.vcd_text.specs.declared.reading.reader.OpenItem.{OpenItem}
@@ -24,7 +25,7 @@ use Rattle.vcd_text.specs.declared.reading.reader.OpenItem.TheVariants as items
 pub record Agrees (m : Reader) (c : Context) : Type 0 where
   pub header : m.header.items ≡ c.header
   pub timescale : m.timescale ≡ c.timescale
-  pub scopes : m.scopes.items ≡ c.scopes
+  pub scopes : HoldsScopes m.scopes c.scopes c.declared
   pub changing : m.changing ≡ c.changing
   pub tick : m.tick ≡ c.tick
   pub variables : Knows m.variables c
@@ -60,7 +61,7 @@ IsBegun m begun items.Nothing = begun ≡ []
 IsBegun m begun (items.Entry kind) = Collects m begun (header_word kind)
 IsBegun m begun items.Timescale = Collects m begun (codes "$timescale")
 IsBegun m begun items.Scope = Collects m begun (codes "$scope")
-IsBegun m begun items.Upscope = IsFalse m.changing × (word_texts begun ≡ codes "$upscope" ∷ []) × (0 < length m.scopes.items)
+IsBegun m begun items.Upscope = IsFalse m.changing × (word_texts begun ≡ codes "$upscope" ∷ []) × (0 < m.scopes.depth)
 IsBegun m begun items.Variable = Collects m begun (codes "$var") × IsTrue (has_good_size m.words.items)
 IsBegun m begun items.EndDefinitions = IsFalse m.changing × (word_texts begun ≡ codes "$enddefinitions" ∷ [])
 IsBegun m begun items.Other = PassesOver m begun

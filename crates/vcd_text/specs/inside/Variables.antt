@@ -5,6 +5,7 @@ use Rattle.vcd_core.specs.declared.wave.Change.{Change}
 use Rattle.vcd_core.specs.Value.{all_x}
 use Rattle.vcd_core.specs.Wave.{value_at, IsWave}
 use Rattle.vcd_core.specs.Contents.{signal_contents}
+use Rattle.vcd_core.specs.declared.capture.ScopeName.{ScopeName}
 use Rattle.vcd_core.specs.declared.capture.Signal.{Signal}
 use Rattle.vcd_text.specs.declared.fault.Fault.{Fault}
 use Rattle.vcd_text.specs.declared.fault.Fault.TheVariants as faults
@@ -23,6 +24,14 @@ use Rattle.vcd_text.specs.declared.reading.variables.Variables.{Variables}
 -- what a code and a signal declare
 abbrev pub declaration_by : (code : List ℕ) → Signal → VariableDeclaration
 declaration_by code s = record { scopes = s.scopes; kind = s.kind; size = s.wave.width; code = code; words = s.words }
+
+-- what they declare in these scopes
+abbrev pub declaration_in : List ScopeName → (code : List ℕ) → Signal → VariableDeclaration
+declaration_in scopes code s = record { scopes = scopes; kind = s.kind; size = s.wave.width; code = code; words = s.words }
+
+-- a declaration without its scopes
+abbrev pub without_scopes : VariableDeclaration → VariableDeclaration
+without_scopes d = record d { scopes = [] }
 
 -- what a kept variable of the reader declares
 abbrev pub declaration : Variable → VariableDeclaration
@@ -54,9 +63,9 @@ pub record HasFirst (vs : Variables) (position : ℕ) (v : Variable) : Type 0 wh
   pub no_later : v.first ≤ position
   pub same_size : (w : Variable) → slice_get vs.kept.items v.first ≡ Some w → w.signal.wave.width ≡ v.signal.wave.width
 
--- the variables hold what has been told of them: declarations, and value_changes up to the tick
+-- the variables hold what has been told of them: declarations without their scopes, and value_changes up to the tick
 pub record Knows (vs : Variables) (c : Context) : Type 0 where
-  pub kept : kept_variables c.declared ≡ map declaration vs.kept.items
+  pub kept : map without_scopes (kept_variables c.declared) ≡ map declaration vs.kept.items
   pub skipped : vs.skipped ≡ count_by is_skipped c.declared
   pub stand : (code : List ℕ) → Stands vs.kept.items c.value_changes c.tick code (owner_of vs code) (variable_of c code)
   pub firsts : (position : ℕ) (v : Variable) → slice_get vs.kept.items position ≡ Some v → HasFirst vs position v

@@ -30,7 +30,7 @@ impl Reader {
         let Some(item) = opened_item(text) else {
             return Err(Fault::UnexpectedWord);
         };
-        if item == OpenItem::Upscope && self.scopes.is_empty() {
+        if item == OpenItem::Upscope && self.scopes.is_at_top() {
             return Err(Fault::UpscopeAtTop);
         }
         self.item = item;
@@ -131,7 +131,7 @@ impl Reader {
         }
         let kind = self.words.remove(0);
         let words = words_out_of(alloc, &mut self.words);
-        self.scopes.push(ScopeName { kind, words })?;
+        self.scopes.enter(alloc, ScopeName { kind, words })?;
         self.item = OpenItem::Nothing;
         Ok(())
     }
@@ -140,7 +140,7 @@ impl Reader {
         requires { self.old.item ≡ items.Upscope }
         ensures { (line : ℕ) → TakesOrRefuses self.old (word_on end_word line) result self.new }
     {
-        self.scopes.pop();
+        self.scopes.leave();
         self.item = OpenItem::Nothing;
         Ok(())
     }
@@ -150,7 +150,8 @@ impl Reader {
         requires reading { IsUnderway self.old }
         ensures { (line : ℕ) → TakesOrRefuses self.old (word_on end_word line) result self.new }
     {
-        self.variables.declare(alloc, &self.scopes, &self.words)?;
+        self.variables.declare(alloc, &self.words)?;
+        self.scopes.note_place(self.variables.kept.len())?;
         self.item = OpenItem::Nothing;
         Ok(())
     }

@@ -8,9 +8,10 @@ ghost use Rattle.vcd_text.specs.inside.Reading.{Reads, IsUnderway, TakesOrRefuse
 
 use crate::fault::{Fault, ReadError};
 use crate::reading::Loaded;
+use crate::reading::scopes::Scopes;
 use crate::reading::variables::Variables;
 use std::alloc::Global;
-use vcd_core::{Capture, Header, HeaderKind, NoMemory, ScopeName, Timescale, Word};
+use vcd_core::{Capture, Header, HeaderKind, NoMemory, Timescale, Word};
 
 /// The item whose words are not all there yet.
 #[derive(Clone, Copy, Debug, PartialEq, Eq)]
@@ -37,8 +38,7 @@ pub enum OpenItem {
 pub struct Reader {
     pub header: Vec<Header>,
     pub timescale: Option<Timescale>,
-    /// The scopes that are open, outermost first.
-    pub scopes: Vec<ScopeName>,
+    pub scopes: Scopes,
     pub variables: Variables,
     /// Whether `$enddefinitions $end` has come.
     pub changing: bool,
@@ -60,7 +60,7 @@ impl Reader {
         Reader {
             header: Vec::new(alloc),
             timescale: None,
-            scopes: Vec::new(alloc),
+            scopes: Scopes::new(alloc),
             variables: Variables::new(alloc),
             changing: false,
             tick: 0,
@@ -125,12 +125,14 @@ impl Reader {
         let Reader {
             header,
             timescale,
+            scopes,
             variables,
             tick,
             ..
         } = self;
         let skipped = variables.skipped;
-        let signals = variables.into_signals(alloc)?;
+        let mut signals = variables.into_signals(alloc)?;
+        scopes.place_signals(alloc, &mut signals)?;
         let capture = Capture::new(header, timescale, tick, signals);
         Ok(Loaded { capture, skipped })
     }

@@ -4,11 +4,12 @@ ghost use Rattle.std.specs.Prelude.{◌≡◌, ◌⊎◌, ◌<◌, ◌≤◌, �
 ghost use Rattle.std.specs.Option.{option_map_or};
 ghost use Rattle.vcd_core.specs.Contents.{signal_contents};
 ghost use Rattle.vcd_core.specs.Wave.{IsWave};
+ghost use Rattle.vcd_core.specs.declared.capture.ScopeName.{ScopeName};
 ghost use Rattle.vcd_core.specs.declared.value.TheConstants.{WIDTH_LIMIT};
 ghost use Rattle.vcd_core.specs.Word.{is_skipped_kind as skips_kind};
-ghost use Rattle.vcd_text.specs.Grammar.{Context, VariableDeclaration, variable_of, has_good_size, is_skipped};
-ghost use Rattle.vcd_text.specs.Meaning.{meaning};
-ghost use Rattle.vcd_text.specs.inside.Variables.{owner_of, declaration_by, Knows, Declares, DeclaresAs, TakesChange, Sets, RefusesBinaryNumber, Finishes};
+ghost use Rattle.vcd_text.specs.Grammar.{Context, VariableDeclaration, variable_of, kept_variables, has_good_size, is_skipped};
+ghost use Rattle.vcd_text.specs.Meaning.{declared_signal};
+ghost use Rattle.vcd_text.specs.inside.Variables.{owner_of, declaration_in, without_scopes, Knows, Declares, DeclaresAs, TakesChange, Sets, RefusesBinaryNumber, Finishes};
 ghost use Rattle.vcd_text.specs.declared.fault.Fault.TheVariants.{NoMemory as NoMemoryFault, TooManySignals};
 ghost use Rattle.vcd_text.specs.declared.reading.variables.Owner.TheVariants.{Kept as KeptAt};
 
@@ -18,8 +19,8 @@ use crate::reading::owners::Owners;
 use crate::reading::ticks_and_sizes::size_of;
 use std::alloc::Global;
 use vcd_core::{
-    NoMemory, SIGNAL_LIMIT, ScopeName, Signal, WIDTH_LIMIT, Wave, Word, copy_scopes, copy_word,
-    copy_words, is_skipped_kind,
+    NoMemory, SIGNAL_LIMIT, ScopePath, Signal, WIDTH_LIMIT, Wave, Word, copy_word, copy_words,
+    is_skipped_kind,
 };
 
 /// A variable that is kept: its code, and the signal that it becomes.
@@ -103,20 +104,14 @@ impl Variables {
         }
     }
 
-    /// Declares a variable in these scopes, by the words of a `$var` behind the keyword.
+    /// Declares a variable, but for its scopes, by the words of a `$var` behind the keyword.
     ///
-    /// It looks the code up at most twice. A variable that is kept takes a copy of its words, of its code and of
-    /// the scopes, and the first of its code another copy of the code, in the table; one that is skipped at most
-    /// that of the table.
-    pub fn declare(
-        &mut self,
-        alloc: Global,
-        scopes: &[ScopeName],
-        words: &[Word],
-    ) -> Result<(), Fault>
+    /// It looks the code up at most twice. A variable that is kept takes a copy of its words and of its code, and
+    /// the first of its code another copy of the code, in the table; one that is skipped at most that of the table.
+    pub fn declare(&mut self, alloc: Global, words: &[Word]) -> Result<(), Fault>
         requires size { IsTrue (has_good_size words.now) }
         requires few { self.old.skipped + 1 < 2 ^ 64 }
-        ensures { (c : Context) → c.scopes ≡ scopes.now → c.value_changes ≡ [] → Knows self.old c →
+        ensures { (c : Context) → c.value_changes ≡ [] → Knows self.old c →
             Declares c words.now result self.new }
     {
         let [kind, size, code, name @ ..] = words else {
@@ -131,7 +126,7 @@ impl Variables {
         if is_skipped(kind.as_slice(), size) {
             return self.skip(alloc, code.as_slice());
         }
-        let signal = silent_signal(alloc, scopes, kind, size, name)?;
+        let signal = silent_signal(alloc, kind, size, name)?;
         self.keep(alloc, code.as_slice(), signal)
     }
 
@@ -152,8 +147,10 @@ impl Variables {
 
     /// Declares a variable that is kept.
     fn keep(&mut self, alloc: Global, code: &[u8], signal: Signal) -> Result<(), Fault>
+        requires bare { signal.scopes ≡ [] }
         requires silent { signal.wave.changes ≡ [] }
-        ensures { (c : Context) → let d = declaration_by code.now signal in
+        ensures { (c : Context) (scopes : List ScopeName) →
+            let d = declaration_in scopes code.now signal in
             Knows self.old c → c.value_changes ≡ [] → IsFalse (is_skipped d) →
             DeclaresAs c d result self.new }
     {
@@ -264,12 +261,13 @@ impl Variables {
         self.owner(code).is_some()
     }
 
-    /// The signals that the kept variables have become, in their order.
+    /// The signals that the kept variables have become, in their order, without their scopes.
     ///
     /// A signal is moved, but a wave that several variables share is copied for the later ones.
     pub fn into_signals(self, alloc: Global) -> Result<Vec<Signal>, NoMemory>
         ensures { IfOk result (λ signals. (c : Context) → Knows self c →
-            map signal_contents signals.items ≡ (meaning c).signals) }
+            map signal_contents signals.items ≡
+            map (declared_signal c.value_changes c.tick) (map without_scopes (kept_variables c.declared))) }
     {
         let Variables { kept, .. } = self;
         let mut signals = Vec::with_capacity(alloc, kept.len())?;
@@ -287,24 +285,18 @@ fn is_skipped(kind: &[u8], size: u64) -> bool
     is_skipped_kind(kind) || size == 0 || size > WIDTH_LIMIT
 }
 
-/// A signal of these words that is x throughout.
-fn silent_signal(
-    alloc: Global,
-    scopes: &[ScopeName],
-    kind: &Word,
-    width: u64,
-    name: &[Word],
-) -> Result<Signal, NoMemory>
+/// A signal of these words, in no scope, that is x throughout.
+fn silent_signal(alloc: Global, kind: &Word, width: u64, name: &[Word]) -> Result<Signal, NoMemory>
     requires least { 1 ≤ width }
     requires most { width ≤ WIDTH_LIMIT }
-    ensures scopes { IfOk result (λ signal. signal.scopes ≡ scopes.now) }
+    ensures bare { IfOk result (λ signal. signal.scopes ≡ []) }
     ensures kind { IfOk result (λ signal. signal.kind ≡ kind.now) }
     ensures words { IfOk result (λ signal. signal.words ≡ name.now) }
     ensures width { IfOk result (λ signal. signal.wave.width ≡ width) }
     ensures silent { IfOk result (λ signal. signal.wave.changes ≡ []) }
 {
     Ok(Signal {
-        scopes: copy_scopes(alloc, scopes)?,
+        scopes: ScopePath::from_vec(Vec::new(alloc)),
         kind: copy_word(alloc, kind.as_slice())?,
         words: copy_words(alloc, name)?,
         wave: Wave::new(alloc, width),

@@ -11,5 +11,5 @@ returns c =
     derived_parts d c.args.word.now c.args.rule _ _ _ c.in_ok-derived_wave.field-0 first last
     (ap (λ (k : ℕ). signal_at d k) (sym c.first_operand.ensures) ∙ c.signal_there-first.ensures.is)
     (ap (λ (k : ℕ). signal_at d k) (sym c.last_operand.ensures) ∙ c.signal_there-last.ensures.is)
-    (c.in_ok-copy_scopes.ensures ∙ c.as_slice.ensures) c.in_ok-copy_word.ensures c.in_ok-name_of_one_word.ensures
+    c.in_ok-share.ensures c.in_ok-copy_word.ensures c.in_ok-name_of_one_word.ensures
     (c.in_ok-derived_wave.ensures d.end c.signal_there-first.ensures.sound.ticks c.signal_there-last.ensures.sound.ticks)

@@ -1,4 +1,4 @@
-use Rattle.std.proofs.Common.{◌≡◌, ◌⊎◌, Err, [], ◌∷◌, ◌++◌, length, sym, ap, subst, ◌∙◌, arith, append_assoc, length-append}
+use Rattle.std.proofs.Common.{◌≡◌, ◌⊎◌, Err, [], ◌∷◌, ◌++◌, length, sym, ap, subst, ◌∙◌, arith, append_assoc, append-nil, length-append, refl}
 use Rattle.std.proofs.lemmas.Result.{err_from_is_err_and}
 use Rattle.vcd_text.specs.declared.fault.ReadError.{ReadError}
 use Rattle.vcd_text.specs.Words.{PlacedWord, word_on}
@@ -6,6 +6,9 @@ use Rattle.vcd_text.specs.Faults.{ShowsFault}
 use Rattle.vcd_text.specs.Refusals.{memory_error}
 use Rattle.vcd_text.specs.inside.Reading.{Reads, ReadsMore}
 use Rattle.vcd_text.proofs.reading.chunks.read_words.Goals as goal
+
+pub loop-word-init : goal.loop-word-init
+loop-word-init c = ([], refl, λ taken reads. subst (Reads c.args.reader.now) (sym (append-nil taken)) reads)
 
 pub take_word-requires-clause-reading : goal.take_word-requires-clause-reading
 take_word-requires-clause-reading c =

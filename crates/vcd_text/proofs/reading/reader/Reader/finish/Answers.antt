@@ -1,10 +1,12 @@
-use Rattle.std.proofs.Common.{◌≡◌, ℕ, List, map, sym, ap, subst, ◌∙◌}
+use Rattle.std.proofs.Common.{◌≡◌, ℕ, List, map, length, sym, ap, subst, ◌∙◌, arith}
 use Rattle.vcd_core.specs.Contents.{contents, signal_contents}
 use Rattle.vcd_core.specs.Sound.{IsSound}
 use Rattle.vcd_text.specs.Words.{words_of}
 use Rattle.vcd_text.specs.Meaning.{meaning}
 use Rattle.vcd_text.specs.inside.Reading.{Reads}
 use Rattle.vcd_text.proofs.Ended.{accepts}
+use Rattle.vcd_core.specs.declared.capture.Signal.{Signal}
+use Rattle.vcd_text.proofs.PlacedSignals.{all_signals}
 use Rattle.vcd_text.proofs.SoundMeaning.{meaning_is_sound}
 use Rattle.vcd_text.proofs.reading.reader.Reader.finish.Goals as goal
 
@@ -12,13 +14,15 @@ pub returns : goal.returns
 returns c =
     let capture = c.new-capture.result in
     let parts = c.new-capture.ensures in
+    let whole = all_signals c.in_ok-signals.signals.len c.place_signals.new.signals c.in_ok-signals.signals.items
+    (omega (arith, c.in_ok-signals.signals.ok.0, c.place_signals.auto.signals, ap (length {A = Signal}) c.deref_mut.ensures.value)) in
     let same : (bytes : List ℕ) (r : Reads c.args.self (words_of bytes)) → contents capture ≡ meaning r.told = λ bytes r.
     let at = r.at.0 in
     λ i. record {
       header = (parts.header ∙ at.header) i;
       timescale = (parts.timescale ∙ at.timescale) i;
       end = (parts.end ∙ at.tick) i;
-      signals = (ap (map signal_contents) parts.signals ∙ c.in_ok-signals.ensures r.told at.variables) i;
+      signals = (ap (map signal_contents) (parts.signals ∙ whole) ∙ c.in_ok-place_signals.ensures r.told at.scopes (ap (map signal_contents) c.deref_mut.ensures.value ∙ c.in_ok-signals.ensures r.told at.variables)) i;
     } in
     record {
       sound = λ bytes r. subst IsSound (sym (same bytes r)) (meaning_is_sound bytes r.told (accepts c.args.self (words_of bytes) r c.requires));

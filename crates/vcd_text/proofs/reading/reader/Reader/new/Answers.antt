@@ -16,7 +16,7 @@ returns c = record {
     record {
       header = c.new.ensures.items;
       timescale = refl;
-      scopes = c.new-2.ensures.items;
+      scopes = c.new-2.ensures;
       changing = refl;
       tick = refl;
       variables = c.new-3.ensures nothing_told refl refl;

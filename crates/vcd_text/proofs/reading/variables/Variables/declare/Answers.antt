@@ -5,12 +5,12 @@ use Rattle.vcd_core.specs.declared.value.TheConstants.{WIDTH_LIMIT}
 use Rattle.vcd_core.specs.Decimal.{number_of}
 use Rattle.vcd_core.specs.Word.{is_skipped_kind}
 use Rattle.vcd_text.specs.Grammar.{VariableDeclaration, is_skipped}
-use Rattle.vcd_text.specs.inside.Variables.{declaration_by, DeclaresAs}
+use Rattle.vcd_text.specs.inside.Variables.{declaration_in, DeclaresAs}
 use Rattle.vcd_text.proofs.DeclaredVariables.{worded_declaration, declares_words, words_in_front, left_out, kept_size}
 use Rattle.vcd_text.proofs.reading.variables.Variables.declare.Goals as goal
 
 pub returns-then-is_skipped : goal.returns-then-is_skipped
-returns-then-is_skipped c = λ told scopes value_changes k.
+returns-then-is_skipped c = λ told value_changes k.
     let words = c.args.words.now in
     let kind = c.kind-item.result in
     let size = c.size-item.result in
@@ -29,7 +29,7 @@ returns-then-is_skipped c = λ told scopes value_changes k.
     (c.skip.ensures told d k (sym c.as_slice-then-is_skipped.ensures) skipped)
 
 pub returns : goal.returns
-returns c = λ told scopes value_changes k.
+returns c = λ told value_changes k.
     let words = c.args.words.now in
     let kind = c.kind-item.result in
     let size = c.size-item.result in
@@ -45,12 +45,12 @@ returns c = λ told scopes value_changes k.
     ∙ sym c.is_skipped.ensures ∙ c.if-is_skipped.false in
     let keeps : is_skipped d ≡ false = left_out told kind size code (drop 3 words) c.in-Some.size read ∙ tested in
     let signal = c.in_ok-signal.ensures in
-    let same : declaration_by c.as_slice-3.result.now c.in_ok-signal.signal ≡ d = λ i. record {
-      scopes = (signal.scopes ∙ sym scopes) i;
+    let same : declaration_in told.scopes c.as_slice-3.result.now c.in_ok-signal.signal ≡ d = λ i. record {
+      scopes = told.scopes;
       kind = signal.kind i;
       size = (signal.width ∙ kept_size (is_skipped_kind kind) (number_of size) c.in-Some.size read tested) i;
       code = c.as_slice-3.ensures i;
       words = (signal.words ∙ behind) i;
     } in
     declares_words told words kind size code (drop 3 words) c.keep.result c.keep.new.self front some
-    (subst (λ (e : VariableDeclaration). DeclaresAs told e c.keep.result c.keep.new.self) same (c.keep.ensures told k value_changes (ap is_skipped same ∙ keeps)))
+    (subst (λ (e : VariableDeclaration). DeclaresAs told e c.keep.result c.keep.new.self) same (c.keep.ensures told told.scopes k value_changes (ap is_skipped same ∙ keeps)))

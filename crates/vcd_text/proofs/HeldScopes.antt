@@ -1,0 +1,190 @@
+-- The scopes that the reader holds, as scopes are opened and closed and variables declared.
+use Rattle.std.proofs.Common.{◌≡◌, ℕ, zero, suc, ◌+◌, ◌-◌, ◌<◌, ◌≤◌, min, Bool, true, false, not, cond, List, [], ◌∷◌, ◌++◌, length, take, map, get_or, Option, None, Some, refl, sym, ap, subst, ◌∙◌, arith}
+use Rattle.std.specs.Prelude.{option_to_list}
+use Rattle.std.proofs.lemmas.List.{append-nil, map-append, length-map, length-append, length_push, take_all, take-append-le, length-take-le, get_or_append_left}
+use Rattle.std.proofs.Math.Seq.{get_or-append_seam, take-append_seam}
+use Rattle.std.proofs.lemmas.List.Elements.{filter-append}
+use Rattle.std.proofs.lemmas.Option.{same_Some}
+use Rattle.vcd_core.specs.declared.capture.ScopeName.{ScopeName}
+use Rattle.vcd_text.specs.Items.{variable}
+use Rattle.vcd_text.specs.Grammar.{VariableDeclaration, Context, kept_variables, declaration_of, told_after_item, is_skipped}
+use Rattle.vcd_text.specs.inside.Scopes.{chains_of, chain_at, scopes_at, AreWithin, HoldsScopes}
+use Rattle.vcd_text.specs.declared.reading.scopes.ScopePlace.{ScopePlace}
+use Rattle.vcd_text.specs.declared.reading.scopes.Scopes.{Scopes}
+
+-- ---- chains that go on
+
+-- each chain stands among the others too, with more behind it
+abbrev Grows : List (List ScopeName) → List (List ScopeName) → Type 0
+Grows cs ds = (k : ℕ) → k < length cs → (k < length ds) × ((more : List ScopeName) × (chain_at ds k ≡ chain_at cs k ++ more))
+
+-- so a place has the scopes that it had
+places_stay : (cs ds : List (List ScopeName)) (ps : List ScopePlace) → Grows cs ds → AreWithin cs ps → AreWithin ds ps × (map (scopes_at ds) ps ≡ map (scopes_at cs) ps)
+places_stay cs ds [] grows within = (tt, refl)
+places_stay cs ds (p ∷ ps) grows (here, count, later) =
+    let g = grows p.chain here in
+    let is : chain_at ds p.chain ≡ chain_at cs p.chain ++ g.1.0 = g.1.1 in
+    let long : p.count ≤ length (chain_at ds p.chain) = omega (arith, count, ap (length {A = ScopeName}) is, length-append (chain_at cs p.chain) g.1.0) in
+    let same : scopes_at ds p ≡ scopes_at cs p = ap (take p.count) is ∙ take-append-le p.count (chain_at cs p.chain) g.1.0 count in
+    let rest = places_stay cs ds ps grows later in
+    ((g.0, long, rest.0), λ i. same i ∷ rest.1 i)
+
+grows_by_chain : (cs : List (List ScopeName)) (chain : List ScopeName) → Grows cs (cs ++ chain ∷ [])
+grows_by_chain cs chain k within =
+    (omega (arith, within, length_push cs chain), ([], get_or_append_left cs (chain ∷ []) [] k within ∙ sym (append-nil (chain_at cs k))))
+
+grows_by_scope : (cs : List (List ScopeName)) (chain : List ScopeName) (s : ScopeName) → Grows (cs ++ chain ∷ []) (cs ++ (chain ++ s ∷ []) ∷ [])
+grows_by_scope [] chain s zero within = (omega arith, (s ∷ [], refl))
+grows_by_scope [] chain s (suc k) within = absurd (omega (arith, within))
+grows_by_scope (c ∷ cs) chain s zero within = (omega arith, ([], sym (append-nil c)))
+grows_by_scope (c ∷ cs) chain s (suc k) within =
+    let g = grows_by_scope cs chain s k (omega (arith, within)) in
+    (omega (arith, g.0), g.1)
+
+-- ---- what the reader holds
+
+-- another chain begins, with the scopes that are open
+pub chain_begins : (old new : Scopes) (c : Context) → new.chains.items ≡ old.chains.items ++ old.chain.items ∷ [] → new.chain.items ≡ take old.depth old.chain.items
+    → new.depth ≡ old.depth → new.places.items ≡ old.places.items → HoldsScopes old c.scopes c.declared → HoldsScopes new c.scopes c.declared
+chain_begins old new c chains chain depth places h =
+    let all : chains_of new ≡ chains_of old ++ new.chain.items ∷ [] = ap (λ cs. cs ++ new.chain.items ∷ []) chains in
+    let stay = places_stay (chains_of old) (chains_of old ++ new.chain.items ∷ []) old.places.items (grows_by_chain (chains_of old) new.chain.items) h.places in
+    let long : length new.chain.items ≡ old.depth = ap (length {A = ScopeName}) chain ∙ length-take-le old.depth old.chain.items h.within in
+    record {
+      within = omega (arith, long, depth);
+      inner = take_all new.depth new.chain.items (omega (arith, long, depth)) ∙ chain ∙ h.inner;
+      places = subst (λ cs. AreWithin cs new.places.items) (sym all) (subst (AreWithin (chains_of old ++ new.chain.items ∷ [])) (sym places) stay.0);
+      paths = (λ i. map (scopes_at (all i)) (places i)) ∙ stay.1 ∙ h.paths;
+    }
+
+-- a scope is opened at the end of the chain
+pub scope_entered : (old new : Scopes) (c : Context) (s : ScopeName) → old.depth ≡ length old.chain.items → new.chains.items ≡ old.chains.items
+    → new.chain.items ≡ old.chain.items ++ s ∷ [] → new.depth ≡ old.depth + 1 → new.places.items ≡ old.places.items → HoldsScopes old c.scopes c.declared → HoldsScopes new (c.scopes ++ s ∷ []) c.declared
+scope_entered old new c s end chains chain depth places h =
+    let all : chains_of new ≡ old.chains.items ++ (old.chain.items ++ s ∷ []) ∷ [] = λ i. chains i ++ chain i ∷ [] in
+    let stay = places_stay (chains_of old) (old.chains.items ++ (old.chain.items ++ s ∷ []) ∷ []) old.places.items (grows_by_scope old.chains.items old.chain.items s) h.places in
+    let long : length new.chain.items ≡ new.depth = ap (length {A = ScopeName}) chain ∙ length_push old.chain.items s ∙ omega (arith, end, depth) in
+    let were : old.chain.items ≡ c.scopes = sym (take_all old.depth old.chain.items (omega (arith, end))) ∙ h.inner in
+    record {
+      within = omega (arith, long);
+      inner = take_all new.depth new.chain.items (omega (arith, long)) ∙ chain ∙ ap (λ ss. ss ++ s ∷ []) were;
+      places = subst (λ cs. AreWithin cs new.places.items) (sym all) (subst (AreWithin (old.chains.items ++ (old.chain.items ++ s ∷ []) ∷ [])) (sym places) stay.0);
+      paths = (λ i. map (scopes_at (all i)) (places i)) ∙ stay.1 ∙ h.paths;
+    }
+
+-- as many scopes are open as have been told
+pub so_deep : (s : Scopes) (c : Context) → HoldsScopes s c.scopes c.declared → length c.scopes ≡ s.depth
+so_deep s c h = ap (length {A = ScopeName}) (sym h.inner) ∙ length-take-le s.depth s.chain.items h.within
+
+take_fewer : (n m : ℕ) (ss : List ScopeName) → m ≤ n → take m (take n ss) ≡ take m ss
+take_fewer n zero ss fewer = refl
+take_fewer zero (suc m) ss fewer = absurd (omega (arith, fewer))
+take_fewer (suc n) (suc m) [] fewer = refl
+take_fewer (suc n) (suc m) (s ∷ ss) fewer = ap (λ l. s ∷ l) (take_fewer n m ss (omega (arith, fewer)))
+
+-- the innermost scope is closed
+pub scope_left : (old new : Scopes) (c : Context) → new.chains.items ≡ old.chains.items → new.chain.items ≡ old.chain.items → new.depth ≡ old.depth - 1
+    → new.places.items ≡ old.places.items → HoldsScopes old c.scopes c.declared → HoldsScopes new (take (length c.scopes - 1) c.scopes) c.declared
+scope_left old new c chains chain depth places h =
+    let all : chains_of new ≡ chains_of old = λ i. chains i ++ chain i ∷ [] in
+    record {
+      within = omega (arith, ap (length {A = ScopeName}) chain, depth, h.within);
+      inner =
+          (λ i. take (depth i) (chain i))
+          ∙ sym (take_fewer old.depth (old.depth - 1) old.chain.items (omega arith))
+          ∙ (λ i. take (sym (so_deep old c h) i - 1) (h.inner i));
+      places = subst (λ cs. AreWithin cs new.places.items) (sym all) (subst (AreWithin (chains_of old)) (sym places) h.places);
+      paths = (λ i. map (scopes_at (all i)) (places i)) ∙ h.paths;
+    }
+
+-- ---- variables
+
+within_more : (cs : List (List ScopeName)) (ps : List ScopePlace) (p : ScopePlace) → AreWithin cs ps → p.chain < length cs → p.count ≤ length (chain_at cs p.chain) → AreWithin cs (ps ++ p ∷ [])
+within_more cs [] p within here count = (here, count, tt)
+within_more cs (q ∷ ps) p (at, long, later) here count = (at, long, within_more cs ps p later here count)
+
+-- the variables are as many as the places
+pub as_many : (s : Scopes) (c : Context) → HoldsScopes s c.scopes c.declared → length s.places.items ≡ length (kept_variables c.declared)
+as_many s c h =
+    sym (length-map s.places.items (scopes_at (chains_of s))) ∙ ap (length {A = List ScopeName}) h.paths
+    ∙ length-map (kept_variables c.declared) (λ (d : VariableDeclaration). d.scopes)
+
+-- with this declaration behind the others
+abbrev and_then : Context → Option VariableDeclaration → Context
+and_then c o = record c { declared = c.declared ++ option_to_list o }
+
+one_more : (ds : List VariableDeclaration) (d : VariableDeclaration) → kept_variables (ds ++ d ∷ []) ≡ kept_variables ds ++ cond (not (is_skipped d)) (d ∷ []) []
+one_more ds d = filter-append (λ (e : VariableDeclaration). not (is_skipped e)) ds (d ∷ [])
+
+-- no variable more is kept
+passed : (s new : Scopes) (c : Context) (o : Option VariableDeclaration) → new.chains.items ≡ s.chains.items → new.chain.items ≡ s.chain.items → new.depth ≡ s.depth
+    → new.places.items ≡ s.places.items → length (kept_variables (and_then c o).declared) ≤ length s.places.items → HoldsScopes s c.scopes c.declared → HoldsScopes new c.scopes (and_then c o).declared
+passed s new c o chains chain depth places few h =
+    let all : chains_of new ≡ chains_of s = λ i. chains i ++ chain i ∷ [] in
+    record {
+      within = omega (arith, ap (length {A = ScopeName}) chain, depth, h.within);
+      inner = (λ i. take (depth i) (chain i)) ∙ h.inner;
+      places = subst (λ cs. AreWithin cs new.places.items) (sym all) (subst (AreWithin (chains_of s)) (sym places) h.places);
+      paths = (λ i. map (scopes_at (all i)) (places i)) ∙ h.paths ∙ ap (map (λ (d : VariableDeclaration). d.scopes)) (still o few);
+    }
+  where
+    by_test : (d : VariableDeclaration) (b : Bool) → is_skipped d ≡ b → length (kept_variables (c.declared ++ d ∷ [])) ≤ length s.places.items → kept_variables c.declared ≡ kept_variables (c.declared ++ d ∷ [])
+    by_test d true is few = sym (one_more c.declared d ∙ ap (λ b. kept_variables c.declared ++ cond (not b) (d ∷ []) []) is ∙ append-nil (kept_variables c.declared))
+    by_test d false is few =
+        let more = one_more c.declared d ∙ ap (λ b. kept_variables c.declared ++ cond (not b) (d ∷ []) []) is in
+        absurd (omega (arith, few, ap (length {A = VariableDeclaration}) more, length_push (kept_variables c.declared) d, as_many s c h))
+
+    still : (o : Option VariableDeclaration) → length (kept_variables (c.declared ++ option_to_list o)) ≤ length s.places.items → kept_variables c.declared ≡ kept_variables (c.declared ++ option_to_list o)
+    still None few = ap kept_variables (sym (append-nil c.declared))
+    still (Some d) few = by_test d (is_skipped d) refl few
+
+-- one variable more is kept, in the scopes that are open
+noted : (s new : Scopes) (c : Context) (o : Option VariableDeclaration) → new.chains.items ≡ s.chains.items → new.chain.items ≡ s.chain.items → new.depth ≡ s.depth
+    → new.places.items ≡ s.places.items ++ record { chain = length s.chains.items; count = s.depth } ∷ []
+    → length s.places.items < length (kept_variables (and_then c o).declared) → ((d : VariableDeclaration) → o ≡ Some d → d.scopes ≡ c.scopes)
+    → HoldsScopes s c.scopes c.declared → HoldsScopes new c.scopes (and_then c o).declared
+noted s new c None chains chain depth places more inside h =
+    absurd (omega (arith, more, as_many s c h, ap (λ ds. length (kept_variables ds)) (append-nil c.declared)))
+noted s new c (Some d) chains chain depth places more inside h =
+    let all : chains_of new ≡ chains_of s = λ i. chains i ++ chain i ∷ [] in
+    let p : ScopePlace = record { chain = length s.chains.items; count = s.depth } in
+    let here : chain_at (chains_of s) (length s.chains.items) ≡ s.chain.items = get_or-append_seam s.chains.items s.chain.items [] [] in
+    let at : scopes_at (chains_of s) p ≡ d.scopes = ap (take s.depth) here ∙ h.inner ∙ sym (inside d refl) in
+    record {
+      within = omega (arith, ap (length {A = ScopeName}) chain, depth, h.within);
+      inner = (λ i. take (depth i) (chain i)) ∙ h.inner;
+      places = subst (λ cs. AreWithin cs new.places.items) (sym all) (subst (AreWithin (chains_of s)) (sym places)
+          (within_more (chains_of s) s.places.items p h.places (omega (arith, length_push s.chains.items s.chain.items)) (omega (arith, h.within, ap (length {A = ScopeName}) here))));
+      paths =
+          (λ i. map (scopes_at (all i)) (places i))
+          ∙ map-append (scopes_at (chains_of s)) s.places.items (p ∷ [])
+          ∙ (λ i. h.paths i ++ at i ∷ [])
+          ∙ sym (map-append (λ (e : VariableDeclaration). e.scopes) (kept_variables c.declared) (d ∷ []))
+          ∙ ap (map (λ (e : VariableDeclaration). e.scopes)) (sym (kept_also (is_skipped d) refl));
+    }
+  where
+    kept_also : (b : Bool) → is_skipped d ≡ b → kept_variables (c.declared ++ d ∷ []) ≡ kept_variables c.declared ++ d ∷ []
+    kept_also false is = one_more c.declared d ∙ ap (λ b. kept_variables c.declared ++ cond (not b) (d ∷ []) []) is
+    kept_also true is =
+        let same = one_more c.declared d ∙ ap (λ b. kept_variables c.declared ++ cond (not b) (d ∷ []) []) is ∙ append-nil (kept_variables c.declared) in
+        absurd (omega (arith, more, as_many s c h, ap (length {A = VariableDeclaration}) same))
+
+-- what words declare stands in the scopes that are open
+declared_inside : (c : Context) (words : List (List ℕ)) (d : VariableDeclaration) → declaration_of c words ≡ Some d → d.scopes ≡ c.scopes
+declared_inside c [] d is = let never : None ≡ Some d = is in absurd (cc)
+declared_inside c (kind ∷ []) d is = let never : None ≡ Some d = is in absurd (cc)
+declared_inside c (kind ∷ size ∷ []) d is = let never : None ≡ Some d = is in absurd (cc)
+declared_inside c (kind ∷ size ∷ code ∷ []) d is = let never : None ≡ Some d = is in absurd (cc)
+declared_inside c (kind ∷ size ∷ code ∷ name ∷ names) d is = ap (λ (e : VariableDeclaration). e.scopes) (sym (same_Some _ d is))
+
+-- a place more is noted where a variable more is kept
+pub place_noted : (s new : Scopes) (c : Context) (words : List (List ℕ)) → new.chains.items ≡ s.chains.items → new.chain.items ≡ s.chain.items → new.depth ≡ s.depth
+    → new.places.items ≡ s.places.items ++ record { chain = length s.chains.items; count = s.depth } ∷ []
+    → length s.places.items < length (kept_variables (told_after_item c (variable words)).declared)
+    → HoldsScopes s c.scopes c.declared → HoldsScopes new c.scopes (told_after_item c (variable words)).declared
+place_noted s new c words chains chain depth places more h = noted s new c (declaration_of c words) chains chain depth places more (declared_inside c words) h
+
+-- and none where none is
+pub no_place : (s : Scopes) (c : Context) (words : List (List ℕ)) → length (kept_variables (told_after_item c (variable words)).declared) ≤ length s.places.items
+    → HoldsScopes s c.scopes c.declared → HoldsScopes s c.scopes (told_after_item c (variable words)).declared
+no_place s c words few h = passed s s c (declaration_of c words) refl refl refl refl few h

@@ -1,0 +1,42 @@
+-- The scopes that the reader holds: in chains, each scope in the one before it.
+use Rattle.std.specs.Prelude.{◌≡◌, ℕ, ◌<◌, ◌≤◌, List, [], ◌∷◌, ◌++◌, length, take, map, slice_index_or, Option, Some, None}
+use Rattle.vcd_core.specs.declared.capture.ScopeName.{ScopeName}
+use Rattle.vcd_core.specs.Contents.{SignalContents}
+use Rattle.vcd_text.specs.Grammar.{VariableDeclaration, kept_variables}
+use Rattle.vcd_text.specs.declared.reading.scopes.ScopePlace.{ScopePlace}
+use Rattle.vcd_text.specs.declared.reading.scopes.Scopes.{Scopes}
+
+-- all chains, the one of the open scopes last
+abbrev pub chains_of : Scopes → List (List ScopeName)
+chains_of s = s.chains.items ++ s.chain.items ∷ []
+
+-- the chain of this number
+abbrev pub chain_at : List (List ScopeName) → ℕ → List ScopeName
+chain_at chains k = slice_index_or chains k []
+
+-- the scopes at a place
+abbrev pub scopes_at : List (List ScopeName) → ScopePlace → List ScopeName
+scopes_at chains p = take p.count (chain_at chains p.chain)
+
+-- each place is one in these chains
+abbrev pub AreWithin : List (List ScopeName) → List ScopePlace → Type 0
+AreWithin chains [] = Unit {0}
+AreWithin chains (p ∷ ps) = (p.chain < length chains) × (p.count ≤ length (chain_at chains p.chain)) × AreWithin chains ps
+
+-- the reader holds the scopes that are open, and those of each variable that is kept of those declared
+pub record HoldsScopes (s : Scopes) (scopes : List ScopeName) (declared : List VariableDeclaration) : Type 0 where
+  pub within : s.depth ≤ length s.chain.items
+  pub inner : take s.depth s.chain.items ≡ scopes
+  pub places : AreWithin (chains_of s) s.places.items
+  pub paths : map (scopes_at (chains_of s)) s.places.items ≡ map (λ (d : VariableDeclaration). d.scopes) (kept_variables declared)
+
+-- the scopes of a place, and none where there is no place
+abbrev pub scopes_of : List (List ScopeName) → Option ScopePlace → List ScopeName
+scopes_of chains None = []
+scopes_of chains (Some p) = scopes_at chains p
+
+-- signals with the scopes of these places, in their order, and none behind the last place
+abbrev pub with_places : List (List ScopeName) → List SignalContents → List ScopePlace → List SignalContents
+with_places chains [] ps = []
+with_places chains (s ∷ ss) [] = record s { scopes = [] } ∷ with_places chains ss []
+with_places chains (s ∷ ss) (p ∷ ps) = record s { scopes = scopes_at chains p } ∷ with_places chains ss ps

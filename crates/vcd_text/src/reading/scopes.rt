@@ -1,0 +1,141 @@
+//! The scopes that a file declares, and where those of each variable stand.
+
+ghost use Rattle.std.specs.Prelude.{◌≡◌, ◌≤◌, length};
+
+use crate::reading::scope_paths::give_paths;
+use std::alloc::Global;
+use std::mem::replace;
+use vcd_core::{NoMemory, ScopeName, ScopePath, Signal, copy_scopes};
+
+/// Where the scopes of a variable stand: they are the first of a chain, so many of them.
+#[derive(Clone, Copy, Debug, PartialEq, Eq)]
+pub struct ScopePlace {
+    /// The number of the chain.
+    pub chain: usize,
+    pub count: usize,
+}
+
+/// The scopes that have been declared: those that are open, and those of each variable that is kept.
+///
+/// They stand in chains, each scope in the one before it, so that scopes nested to any depth are held once. A
+/// scope that is declared behind one that was closed begins a chain, with a copy of the scopes that are open:
+/// many scopes at a great depth, each beside the others, take the product of the two.
+#[derive(Drop)]
+pub struct Scopes {
+    /// The chains that do not go on.
+    pub chains: Vec<ScopePath>,
+    /// The chain of the open scopes.
+    pub chain: Vec<ScopeName>,
+    /// How many of its scopes are open.
+    pub depth: usize,
+    /// Where the scopes of each kept variable stand.
+    pub places: Vec<ScopePlace>,
+    ghost within: { depth ≤ length chain.items },
+}
+
+impl Scopes {
+    ghost use Rattle.std.specs.Prelude.{ℕ, List, ◌-◌, ◌==◌, ◌++◌, ◌∷◌, [], map, take, OnOk};
+    ghost use Rattle.vcd_core.specs.Contents.{signal_contents};
+    ghost use Rattle.vcd_text.specs.Items.{variable};
+    ghost use Rattle.vcd_text.specs.Grammar.{Context, kept_variables, told_after_item};
+    ghost use Rattle.vcd_text.specs.Meaning.{declared_signal};
+    ghost use Rattle.vcd_text.specs.inside.Variables.{without_scopes};
+    ghost use Rattle.vcd_text.specs.inside.Scopes.{HoldsScopes};
+
+    /// No scopes. It takes no memory.
+    pub fn new(alloc: Global) -> Scopes
+        ensures { HoldsScopes result [] [] }
+    {
+        Scopes {
+            chains: Vec::new(alloc),
+            chain: Vec::new(alloc),
+            depth: 0,
+            places: Vec::new(alloc),
+        }
+    }
+
+    /// Whether no scope is open.
+    pub fn is_at_top(&self) -> bool
+        ensures { result ≡ (self.now.depth == 0) }
+    {
+        self.depth == 0
+    }
+
+    /// Opens a scope in the innermost.
+    pub fn enter(&mut self, alloc: Global, scope: ScopeName) -> Result<(), NoMemory>
+        ensures { (c : Context) → HoldsScopes self.old c.scopes c.declared →
+            OnOk result (HoldsScopes self.new (c.scopes ++ scope ∷ []) c.declared) }
+    {
+        self.go_to_end(alloc)?;
+        self.chain.push(scope)?;
+        self.depth += 1;
+        Ok(())
+    }
+
+    /// Begins another chain, where the scopes of this one are not all open.
+    fn go_to_end(&mut self, alloc: Global) -> Result<(), NoMemory>
+        ensures same { (c : Context) → HoldsScopes self.old c.scopes c.declared →
+            OnOk result (HoldsScopes self.new c.scopes c.declared) }
+        ensures end { OnOk result (self.new.depth ≡ length self.new.chain.items) }
+    {
+        if self.depth == self.chain.len() {
+            return Ok(());
+        }
+        self.begin_chain(alloc)?;
+        Ok(())
+    }
+
+    /// Begins another chain, with a copy of the scopes that are open.
+    fn begin_chain(&mut self, alloc: Global) -> Result<(), NoMemory>
+        ensures same { (c : Context) → HoldsScopes self.old c.scopes c.declared →
+            OnOk result (HoldsScopes self.new c.scopes c.declared) }
+        ensures end { OnOk result (self.new.depth ≡ length self.new.chain.items) }
+    {
+        let outer = copy_scopes(alloc, &self.chain[..self.depth])?;
+        let chain = replace(&mut self.chain, outer);
+        self.chains.push(ScopePath::shared(chain)?)?;
+        Ok(())
+    }
+
+    /// Closes the innermost scope, where one is open.
+    pub fn leave(&mut self)
+        ensures { (c : Context) → HoldsScopes self.old c.scopes c.declared →
+            HoldsScopes self.new (take (length c.scopes - 1) c.scopes) c.declared }
+    {
+        self.depth = self.depth.saturating_sub(1);
+    }
+
+    /// Notes where the scopes of the variable that these words have just declared stand, where it is kept: `kept`
+    /// is how many variables are.
+    pub fn note_place(&mut self, kept: usize) -> Result<(), NoMemory>
+        ensures { (c : Context) (words : List (List ℕ)) → HoldsScopes self.old c.scopes c.declared →
+            kept ≡ length (kept_variables (told_after_item c (variable words)).declared) →
+            OnOk result (HoldsScopes self.new c.scopes (told_after_item c (variable words)).declared) }
+    {
+        if kept > self.places.len() {
+            let chain = self.chains.len();
+            let count = self.depth;
+            self.places.push(ScopePlace { chain, count })?;
+        }
+        Ok(())
+    }
+
+    /// Gives the signals of the kept variables their scopes. The paths in one chain share its list.
+    pub fn place_signals(self, alloc: Global, signals: &mut [Signal]) -> Result<(), NoMemory>
+        ensures { (c : Context) → HoldsScopes self c.scopes c.declared →
+            map signal_contents signals.old ≡
+            map (declared_signal c.value_changes c.tick) (map without_scopes (kept_variables c.declared)) →
+            OnOk result (map signal_contents signals.new ≡
+            map (declared_signal c.value_changes c.tick) (kept_variables c.declared)) }
+    {
+        let Scopes {
+            chains,
+            chain,
+            places,
+            ..
+        } = self;
+        let mut chains = chains;
+        chains.push(ScopePath::shared(chain)?)?;
+        give_paths(alloc, signals, &chains, &places)
+    }
+}
