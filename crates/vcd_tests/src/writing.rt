@@ -1,5 +1,7 @@
 //! Writers that take little and fail while a capture is written.
 
+mod windows;
+
 use crate::fake_devices::{FakeWriter, sink_of};
 use crate::fixtures::loaded;
 use std::alloc::Global;
@@ -53,6 +55,26 @@ fn a_writer_that_fails_after_ten_bytes(rt: HostRuntime) -> Result<(), Fail> {
     let writer = FakeWriter::narrow(rt.alloc(), 7, 10, false);
     let fault = WriteError::WriteFault { written: 10 };
     check_written(&rt, rt.alloc(), writer, Err(fault), 10, 0)
+}
+
+/// A writer that takes a byte at a time and fails after each byte of the text.
+#[test]
+fn a_writer_that_fails_after_each_byte(rt: HostRuntime) -> Result<(), Fail> {
+    for count in 0..TEXT.len() {
+        let writer = FakeWriter::narrow(rt.alloc(), 1, count, false);
+        let written = count as u128;
+        let fault = WriteError::WriteFault { written };
+        check_written(&rt, rt.alloc(), writer, Err(fault), count, 0)?;
+    }
+    Ok(())
+}
+
+/// A writer that takes a byte at a time and fails in the flush.
+#[test]
+fn a_flush_that_fails_behind_single_bytes(rt: HostRuntime) -> Result<(), Fail> {
+    let writer = FakeWriter::narrow(rt.alloc(), 1, 1000, true);
+    let fault = WriteError::WriteFault { written: 130 };
+    check_written(&rt, rt.alloc(), writer, Err(fault), 130, 1)
 }
 
 #[test]

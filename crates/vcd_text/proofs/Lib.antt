@@ -20,7 +20,6 @@ pub mod CasesOfFiles
 pub mod CasesOfFaults
 pub mod CasesOfText
 pub mod TextLines
-pub mod Appended
 pub mod ShortForms
 pub mod Codes
 pub mod ShortCodes
@@ -45,6 +44,7 @@ pub mod Knows
 pub mod Declaring
 pub mod DeclaredCount
 pub mod Numbers
+pub mod LetterBits
 pub mod LetterWords
 pub mod Changing
 pub mod CodesDiffer

@@ -4,13 +4,12 @@ use Rattle.std.specs.List.{common_prefix_len, flat_map}
 use Rattle.std.specs.Str.{bytes_eq}
 use Rattle.std.specs.Cmp.Lexicographic.{pointwise}
 use Rattle.std.proofs.lemmas.Grind.{flat_map-append}
-use Rattle.std.proofs.lemmas.List.{drop_more, drop_all}
+use Rattle.std.proofs.lemmas.List.{append-nil, drop_more, drop_all}
 use Rattle.vcd_core.specs.declared.capture.ScopeName.{ScopeName}
 use Rattle.vcd_text.specs.Items.{upscope}
 use Rattle.vcd_core.specs.declared.capture.Signal.{Signal}
 use Rattle.vcd_core.specs.Contents.{signal_contents}
 use Rattle.vcd_text.specs.Text.{item_line, same_scope, scope_items, signal_items, variable_item}
-use Rattle.vcd_text.proofs.Appended.{carried, two_pieces}
 
 pub both_at : (a b : List (List ℕ)) (k : ℕ) (x y : List ℕ) → k < length a → k < length b → x ≡ get_or a k x → y ≡ get_or b k y
     → pointwise bytes_eq (drop k a) (drop k b) ≡ (bytes_eq x y && pointwise bytes_eq (drop (k + 1) a) (drop (k + 1) b))
@@ -41,25 +40,21 @@ pub one_closed : (n k : ℕ) → k < n → flat_map item_line (replicate (n - k)
 one_closed n k within = let left : n - k ≡ suc (n - (k + 1)) = omega arith in ap (λ m. flat_map item_line (replicate m upscope)) left
 
 -- one signal more is declared
-pub one_declared : (opened : List ScopeName) (k : ℕ) (signals : List Signal) (s : Signal) (out one two whole : List ℕ) → k < length signals → s ≡ get_or signals k s
-    → one ≡ out ++ flat_map item_line (scope_items opened s.scopes) → two ≡ one ++ item_line (variable_item k (signal_contents s))
-    → out ++ flat_map item_line (signal_items opened k (map signal_contents (drop k signals))) ≡ whole
-    → two ++ flat_map item_line (signal_items s.scopes (k + 1) (map signal_contents (drop (k + 1) signals))) ≡ whole
+pub one_declared : (opened path : List ScopeName) (k : ℕ) (signals : List Signal) (s : Signal) → k < length signals → s ≡ get_or signals k s → path ≡ s.scopes
+    → flat_map item_line (signal_items opened k (map signal_contents (drop k signals)))
+    ≡ (flat_map item_line (scope_items opened path) ++ item_line (variable_item k (signal_contents s))) ++ flat_map item_line (signal_items path (k + 1) (map signal_contents (drop (k + 1) signals)))
 unfolding signal_items
-one_declared opened k signals s out one two whole within at scopes variable all =
-    carried out two (flat_map item_line (scope_items opened s.scopes) ++ item_line (variable_item k (signal_contents s))) _ _ whole
-    (two_pieces out one two _ _ _ scopes variable refl)
-    (ap (λ l. flat_map item_line (signal_items opened k (map signal_contents l))) (drop_more signals k s within ∙ ap (λ x. x ∷ drop (k + 1) signals) (sym at))
+one_declared opened path k signals s within at is =
+    ap (λ l. flat_map item_line (signal_items opened k (map signal_contents l))) (drop_more signals k s within ∙ ap (λ x. x ∷ drop (k + 1) signals) (sym at))
     ∙ flat_map-append item_line (scope_items opened s.scopes) (variable_item k (signal_contents s) ∷ signal_items s.scopes (suc k) (map signal_contents (drop (k + 1) signals)))
     ∙ sym (append_assoc (flat_map item_line (scope_items opened s.scopes)) (item_line (variable_item k (signal_contents s))) _)
-    ∙ ap (λ n. (flat_map item_line (scope_items opened s.scopes) ++ item_line (variable_item k (signal_contents s))) ++ flat_map item_line (signal_items s.scopes n (map signal_contents (drop (k + 1) signals)))) (sym (add-one k)))
-    all
+    ∙ ap (λ n. (flat_map item_line (scope_items opened s.scopes) ++ item_line (variable_item k (signal_contents s))) ++ flat_map item_line (signal_items s.scopes n (map signal_contents (drop (k + 1) signals)))) (sym (add-one k))
+    ∙ ap (λ p. (flat_map item_line (scope_items opened p) ++ item_line (variable_item k (signal_contents s))) ++ flat_map item_line (signal_items p (k + 1) (map signal_contents (drop (k + 1) signals)))) (sym is)
 
--- all signals are declared, and what is open is closed
-pub all_declared : (opened : List ScopeName) (k : ℕ) (signals : List Signal) (out new whole : List ℕ) → length signals ≤ k
-    → new ≡ out ++ flat_map item_line (replicate (length opened) upscope)
-    → out ++ flat_map item_line (signal_items opened k (map signal_contents (drop k signals))) ≡ whole → new ≡ whole
+-- all signals are declared: what is open is closed
+pub all_declared : (opened : List ScopeName) (k : ℕ) (signals : List Signal) → length signals ≤ k
+    → flat_map item_line (signal_items opened k (map signal_contents (drop k signals))) ≡ flat_map item_line (replicate (length opened) upscope) ++ []
 unfolding signal_items
-all_declared opened k signals out new whole past closed all =
-    closed ∙ ap (λ l. out ++ flat_map item_line l) (sym (all_closed opened))
-    ∙ ap (λ l. out ++ flat_map item_line (signal_items opened k (map signal_contents l))) (sym (drop_all k signals past)) ∙ all
+all_declared opened k signals past =
+    ap (λ l. flat_map item_line (signal_items opened k (map signal_contents l))) (drop_all k signals past)
+    ∙ ap (flat_map item_line) (all_closed opened) ∙ sym (append-nil (flat_map item_line (replicate (length opened) upscope)))

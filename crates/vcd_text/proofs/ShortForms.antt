@@ -1,5 +1,5 @@
 -- The short form of a value: a letter at the front is left out where it is what the extension puts there.
-use Rattle.std.proofs.Common.{◌≡◌, ℕ, zero, suc, ◌+◌, ◌-◌, ◌<◌, ◌≤◌, Bool, true, false, cond, ◌&&◌, List, [], ◌∷◌, ◌++◌, length, replicate, drop, get_or, refl, sym, ap, ◌∙◌, arith, Option, Some, None}
+use Rattle.std.proofs.Common.{◌≡◌, ℕ, zero, suc, ◌+◌, ◌-◌, ◌<◌, ◌≤◌, Bool, true, false, cond, ◌&&◌, List, [], ◌∷◌, ◌++◌, length, replicate, drop, get_or, max, refl, sym, ap, ◌∙◌, arith, Option, Some, None}
 use Rattle.std.specs.Prelude.{find, unwrap_or}
 use Rattle.std.specs.Option.{option_or}
 use Rattle.std.proofs.lemmas.List.{drop_more}
@@ -127,6 +127,31 @@ spare_at v k within spare =
     ap shortened (two_letters v k within)
     ∙ ap (λ r. cond r (shortened (get_or v (k + 1) X ∷ drop (k + 2) v)) (get_or v k X ∷ get_or v (k + 1) X ∷ drop (k + 2) v)) spare
     ∙ sym (ap shortened (drop_more v (k + 1) X within ∙ ap (λ n. get_or v (k + 1) X ∷ drop n v) (let e : k + 1 + 1 ≡ k + 2 = omega arith in e)))
+
+-- spare letters at k and behind it that are the same, one after another
+run_spare : (v : List Bit) (k run : ℕ) → k + run < length v → ((i : ℕ) → i < run → get_or v (k + i) X ≡ get_or v (k + i + 1) X)
+    → (0 < run → same_letter (pad_letter (get_or v (k + 1) X ∷ [])) (get_or v k X) ≡ true) → shortened (drop k v) ≡ shortened (drop (k + run) v)
+run_spare v k zero within same spare = ap (λ n. shortened (drop n v)) (let e : k ≡ k + 0 = omega arith in e)
+run_spare v k (suc run) within same spare =
+    let at : k + 0 ≡ k = omega arith in
+    let here : get_or v k X ≡ get_or v (k + 1) X =
+    ap (λ n. get_or v n X) (sym at) ∙ same 0 (omega arith) ∙ ap (λ n. get_or v n X) (let e : k + 0 + 1 ≡ k + 1 = omega arith in e) in
+    let further : (i : ℕ) → i < run → get_or v (k + 1 + i) X ≡ get_or v (k + 1 + i + 1) X = λ i less.
+    ap (λ n. get_or v n X) (let e : k + 1 + i ≡ k + (i + 1) = omega arith in e) ∙ same (i + 1) (omega (arith, less))
+    ∙ ap (λ n. get_or v n X) (let e : k + (i + 1) + 1 ≡ k + 1 + i + 1 = omega arith in e) in
+    let next : 0 < run → same_letter (pad_letter (get_or v (k + 1 + 1) X ∷ [])) (get_or v (k + 1) X) ≡ true = λ some.
+    let second : get_or v (k + 1) X ≡ get_or v (k + 1 + 1) X = ap (λ n. get_or v n X) (let e : k + 1 ≡ k + 1 + 0 = omega arith in e) ∙ further 0 some ∙ ap (λ n. get_or v n X) (let e : k + 1 + 0 + 1 ≡ k + 1 + 1 = omega arith in e) in
+    ap (λ a. same_letter (pad_letter (a ∷ [])) (get_or v (k + 1) X)) (sym second) ∙ ap (λ a. same_letter (pad_letter (get_or v (k + 1) X ∷ [])) a) (sym here) ∙ spare (omega arith) in
+    spare_at v k (omega arith) (spare (omega arith)) ∙ run_spare v (k + 1) run (omega arith) further next
+    ∙ ap (λ n. shortened (drop n v)) (let e : k + 1 + run ≡ k + suc run = omega arith in e)
+
+-- the letter at k is spare, and so are those behind it that are the same: one letter is passed at least
+pub passed_spare : (v : List Bit) (k run : ℕ) → k + max run 1 < length v → ((i : ℕ) → i < run → get_or v (k + i) X ≡ get_or v (k + i + 1) X)
+    → same_letter (pad_letter (get_or v (k + 1) X ∷ [])) (get_or v k X) ≡ true → shortened (drop k v) ≡ shortened (drop (k + max run 1) v)
+passed_spare v k zero within same spare = spare_at v k (omega arith) spare ∙ ap (λ n. shortened (drop n v)) (let e : k + 1 ≡ k + max 0 1 = omega arith in e)
+passed_spare v k (suc run) within same spare =
+    let most : max (suc run) 1 ≡ suc run = omega arith in
+    run_spare v k (suc run) (omega (arith, within, most)) same (λ some. spare) ∙ ap (λ n. shortened (drop (k + n) v)) (sym most)
 
 -- the letter at k is not
 pub kept_at : (v : List Bit) (k : ℕ) → k + 1 < length v → same_letter (pad_letter (get_or v (k + 1) X ∷ [])) (get_or v k X) ≡ false

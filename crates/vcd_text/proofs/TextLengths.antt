@@ -1,5 +1,5 @@
 -- The bytes of a text can be counted: each line is short, and the ticks are bounded.
-use Rattle.std.proofs.Common.{◌≡◌, ◌<◌, ◌≤◌, ◌+◌, ◌*◌, ◌^◌, ◌/◌, ◌==◌, ◌&&◌, ℕ, zero, suc, Bool, true, false, cond, nat_lt, List, [], ◌∷◌, ◌++◌, length, All, ap, ◌∙◌, arith, codes}
+use Rattle.std.proofs.Common.{◌≡◌, ◌<◌, ◌≤◌, ◌+◌, ◌-◌, ◌*◌, ◌^◌, ◌/◌, ◌==◌, ◌&&◌, ℕ, zero, suc, Bool, true, false, cond, nat_lt, List, [], ◌∷◌, ◌++◌, length, All, ap, ◌∙◌, arith, codes}
 use Rattle.std.specs.List.{filter, flat_map, enumerate_from}
 use Rattle.std.specs.Fmt.{decimal}
 use Rattle.std.proofs.Math.Nat.{mul-le-mul, mul-le-mul_right}
@@ -149,7 +149,7 @@ length_enumerated : (k : ℕ) (ss : List SignalContents) → length (enumerate_f
 length_enumerated k [] = omega arith
 length_enumerated k (s ∷ ss) = let rest = length_enumerated (k + 1) ss in omega arith
 
-pub text_countable : (c : Contents) → IsSound c → length (declarations_text c) < 2 ^ 64 → length (text c) < 2 ^ 128
+pub text_countable : (c : Contents) → IsSound c → length (declarations_text c) < 2 ^ 127 → length (text c) < 2 ^ 128 - 1
 text_countable c sound short =
     let all = short_enumerated c.end 0 c.signals (omega (arith, sound.few)) sound.signals in
     let n : ℕ = length (enumerate_from 0 c.signals) in

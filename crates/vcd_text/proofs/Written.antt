@@ -1,28 +1,32 @@
 -- Pieces that are written one behind another, through a buffer.
-use Rattle.std.proofs.Common.{◌≡◌, ◌<◌, ◌≤◌, ◌+◌, ◌-◌, ◌^◌, ℕ, Bool, true, false, List, [], ◌++◌, length, take, drop, min, refl, sym, ap, subst, ◌∙◌, arith, append_assoc}
+use Rattle.std.proofs.Common.{◌≡◌, ◌<◌, ◌≤◌, ◌+◌, ◌-◌, ◌^◌, ℕ, Bool, true, false, List, [], ◌++◌, length, take, drop, min, refl, sym, ap, subst, ◌∙◌, arith, append_assoc, nat_lt, ◌∷◌, get_or}
 use Rattle.std.specs.Prelude.{Option, Some, None}
 use Rattle.std.specs.Io.KnownBytes.{Appends}
 use Rattle.std.proofs.KnownBytes.{Appends-trans}
+use Rattle.std.proofs.lemmas.Bool.{ltb-true, ltb-false}
 use Rattle.std.proofs.Math.Seq.{take-add}
-use Rattle.std.proofs.lemmas.List.{append-nil, length-append, length-drop, take-append-le, drop-append-le, drop_all}
+use Rattle.std.proofs.lemmas.List.{append-nil, length-append, length-drop, take-append-le, drop-append-le, drop_all, drop_more}
 use Rattle.vcd_text.specs.declared.writing.buffer.WriteBuffer.{WriteBuffer}
 use Rattle.vcd_text.specs.inside.Written.{IsWritten, Writes}
-use Rattle.vcd_text.proofs.Appended.{carried, finished}
+
+-- a piece from the front of what is left is written
+carried : (out piece rest left whole : List ℕ) → left ≡ piece ++ rest → out ++ left ≡ whole → (out ++ piece) ++ rest ≡ whole
+carried out piece rest left whole split is = append_assoc out piece rest ∙ ap (λ l. out ++ l) (sym split) ∙ is
+
+-- nothing is left
+finished : (out left whole : List ℕ) → left ≡ [] → out ++ left ≡ whole → out ≡ whole
+finished out left whole none is = sym (append-nil out) ∙ ap (λ l. out ++ l) (sym none) ∙ is
 
 -- two pieces
 pub writes_both : {o0 o1 o2 : WriteBuffer} {t0 t1 t2 : Option (List ℕ)} {f0 f1 f2 : Bool} {a b : List ℕ}
     → Writes o0 t0 f0 o1 t1 f1 a → Writes o1 t1 f1 o2 t2 f2 b → Writes o0 t0 f0 o2 t2 f2 (a ++ b)
 writes_both {o2 = o2} {t2 = t2} {f2 = f2} {a = a} {b = b} first second = record {
-  behind = λ before text few stands.
-      let same : (text ++ a) ++ b ≡ text ++ (a ++ b) = append_assoc text a b in
-      subst (IsWritten before t2 f2 o2) same
-      (second.behind before (text ++ a) (subst (λ l. length l < 2 ^ 128) (sym same) few)
-      (first.behind before text (omega (arith, few, length-append text (a ++ b), length-append text a, length-append a b)) stands));
+  behind = λ before text stands. subst (IsWritten before t2 f2 o2) (append_assoc text a b) (second.behind before (text ++ a) (first.behind before text stands));
 }
 
 -- nothing
 pub writes_none : {o : WriteBuffer} {t : Option (List ℕ)} {f : Bool} → Writes o t f o t f []
-writes_none {o = o} {t = t} {f = f} = record { behind = λ before text few stands. subst (IsWritten before t f o) (sym (append-nil text)) stands }
+writes_none {o = o} {t = t} {f = f} = record { behind = λ before text stands. subst (IsWritten before t f o) (sym (append-nil text)) stands }
 
 -- the same piece by another name
 pub writes_as : {o0 o1 : WriteBuffer} {t0 t1 : Option (List ℕ)} {f0 f1 : Bool} {a b : List ℕ} → a ≡ b → Writes o0 t0 f0 o1 t1 f1 a → Writes o0 t0 f0 o1 t1 f1 b
@@ -44,7 +48,7 @@ pub front_grows : {o0 o1 o2 : WriteBuffer} {t0 t1 t2 : Option (List ℕ)} {f0 f1
 front_grows {piece = piece} {left = left} {whole = whole} rest front more is = record {
   done = front.done ++ piece;
   writes = writes_both front.writes more;
-  split = carried front.done (front.done ++ piece) piece rest left whole refl is front.split;
+  split = carried front.done piece rest left whole is front.split;
 }
 
 pub front_whole : {o0 o1 : WriteBuffer} {t0 t1 : Option (List ℕ)} {f0 f1 : Bool} {left whole : List ℕ}
@@ -54,19 +58,30 @@ front_whole {left = left} {whole = whole} front none = writes_as (finished front
 -- where the writer has failed, what is left changes nothing
 failed_more : (before t : Option (List ℕ)) (f : Bool) (o : WriteBuffer) (text more : List ℕ) → f ≡ true → IsWritten before t f o text → IsWritten before t f o (text ++ more)
 failed_more before t f o text more failed stands = record {
-  front = subst (Appends before t) (sym (take-append-le o.sent text more stands.within)) stands.front;
   within = omega (arith, stands.within, length-append text more);
-  rest = λ ready. absurd (cc (failed, ready));
+  front = λ few. subst (Appends before t) (sym (take-append-le o.sent text more stands.within)) (stands.front few);
+  rest = λ few ready. absurd (cc (failed, ready));
 }
 
 pub front_failed : {o0 o1 : WriteBuffer} {t0 t1 : Option (List ℕ)} {f0 f1 : Bool} {left whole : List ℕ}
     → WritesFront o0 t0 f0 o1 t1 f1 left whole → f1 ≡ true → Writes o0 t0 f0 o1 t1 f1 whole
 front_failed {o1 = o1} {t1 = t1} {f1 = f1} {left = left} {whole = whole} front failed = record {
-  behind = λ before text few stands.
+  behind = λ before text stands.
       let same : (text ++ front.done) ++ left ≡ text ++ whole = append_assoc text front.done left ∙ ap (λ l. text ++ l) front.split in
-      let short : length (text ++ front.done) < 2 ^ 128 = omega (arith, few, ap (length {A = ℕ}) same, length-append (text ++ front.done) left) in
-      subst (IsWritten before t1 f1 o1) same (failed_more before t1 f1 o1 (text ++ front.done) left failed (front.writes.behind before text short stands));
+      subst (IsWritten before t1 f1 o1) same (failed_more before t1 f1 o1 (text ++ front.done) left failed (front.writes.behind before text stands));
 }
+
+-- the items before one of a list are written, and then that item
+pub front_item : {o0 o1 o2 : WriteBuffer} {t0 t1 t2 : Option (List ℕ)} {f0 f1 f2 : Bool} {X : Type 0} (F : List X → List ℕ) (xs : List X) (k : ℕ) (x : X) {piece whole : List ℕ}
+    → WritesFront o0 t0 f0 o1 t1 f1 (F (drop k xs)) whole → Writes o1 t1 f1 o2 t2 f2 piece → k < length xs → x ≡ get_or xs k x → F (x ∷ drop (k + 1) xs) ≡ piece ++ F (drop (k + 1) xs)
+    → WritesFront o0 t0 f0 o2 t2 f2 (F (drop (k + 1) xs)) whole
+front_item F xs k x front more within is split =
+    front_grows (F (drop (k + 1) xs)) front more (ap F (drop_more xs k x within ∙ ap (λ a. a ∷ drop (k + 1) xs) (sym is)) ∙ split)
+
+-- all items of a list are written
+pub front_items : {o0 o1 : WriteBuffer} {t0 t1 : Option (List ℕ)} {f0 f1 : Bool} {X : Type 0} (F : List X → List ℕ) (xs : List X) (k : ℕ) {whole : List ℕ}
+    → WritesFront o0 t0 f0 o1 t1 f1 (F (drop k xs)) whole → length xs ≤ k → F [] ≡ [] → Writes o0 t0 f0 o1 t1 f1 whole
+front_items F xs k front past none = front_whole front (ap F (drop_all k xs past) ∙ none)
 
 -- ---- the buffer
 
@@ -101,22 +116,35 @@ none_left true f1 n k whole bytes is stays all ready = absurd (cc (stays refl, r
 none_left false f1 n k whole bytes is stays all ready =
     drop_all (n + k) whole (omega (arith, all ready, ap (length {A = ℕ}) (is refl), length-drop n whole))
 
+-- the count of what was sent stays within the text
+count_within : (n k few whole : ℕ) → n ≤ whole → (n < 2 ^ 128 - 1 → n + k ≤ whole) → few ≡ min (n + k) (2 ^ 128 - 1) → few ≤ whole
+count_within n k few whole within fits counted = by (nat_lt n (2 ^ 128 - 1)) refl
+  where
+    by : (b : Bool) → nat_lt n (2 ^ 128 - 1) ≡ b → few ≤ whole
+    by true is = omega (arith, counted, fits (ltb-true n (2 ^ 128 - 1) is))
+    by false is = omega (arith, counted, ltb-false n (2 ^ 128 - 1) is, within)
+
 -- bytes are sent that are all that is left of the text with the piece
 pub bytes_sent : (o0 o1 : WriteBuffer) (t0 t1 : Option (List ℕ)) (f0 f1 : Bool) (k : ℕ) (piece bytes : List ℕ)
     → ((text : List ℕ) → o0.sent ≤ length text → drop o0.sent text ≡ o0.waiting.items → drop o0.sent (text ++ piece) ≡ bytes)
     → Appends t0 t1 (take k bytes) → k ≤ length bytes → (f1 ≡ false → k ≡ length bytes) → (f0 ≡ true → k ≡ 0) → (f0 ≡ true → f1 ≡ true)
     → o1.sent ≡ min (o0.sent + k) (2 ^ 128 - 1) → o1.waiting.items ≡ [] → Writes o0 t0 f0 o1 t1 f1 piece
 bytes_sent o0 o1 t0 t1 f0 f1 k piece bytes left more few all none stays counted empty = record {
-  behind = λ before text short stands.
+  behind = λ before text stands.
       let n = o0.sent in
-      let is : f0 ≡ false → drop n (text ++ piece) ≡ bytes = λ ready. left text stands.within (stands.rest ready) in
-      let fits : n + k ≤ length (text ++ piece) = within_whole f0 n k text piece bytes stands.within is none few in
-      let count : o1.sent ≡ n + k = omega (arith, counted, fits, short) in
-      let held : Appends before t0 (take n (text ++ piece)) = subst (Appends before t0) (sym (take-append-le n text piece stands.within)) stands.front in
+      let is : n < 2 ^ 128 - 1 → f0 ≡ false → drop n (text ++ piece) ≡ bytes = λ early ready. left text stands.within (stands.rest early ready) in
+      let held : n < 2 ^ 128 - 1 → Appends before t0 (take n (text ++ piece)) = λ early. subst (Appends before t0) (sym (take-append-le n text piece stands.within)) (stands.front early) in
+      let early : o1.sent < 2 ^ 128 - 1 → n < 2 ^ 128 - 1 = λ small. omega (arith, counted, small) in
+      let count : o1.sent < 2 ^ 128 - 1 → o1.sent ≡ n + k = λ small. omega (arith, counted, small) in
       record {
-        front = subst (λ m. Appends before t1 (take m (text ++ piece))) (sym count) (sent_bytes before t0 t1 f0 n k (text ++ piece) bytes is none held more);
-        within = omega (arith, count, fits);
-        rest = λ ready. ap (λ m. drop m (text ++ piece)) count ∙ none_left f0 f1 n k (text ++ piece) bytes is stays all ready ∙ sym empty;
+        within =
+            count_within n k o1.sent (length (text ++ piece)) (omega (arith, stands.within, length-append text piece))
+            (λ small. within_whole f0 n k text piece bytes stands.within (is small) none few) counted;
+        front = λ small.
+            subst (λ m. Appends before t1 (take m (text ++ piece))) (sym (count small))
+            (sent_bytes before t0 t1 f0 n k (text ++ piece) bytes (is (early small)) none (held (early small)) more);
+        rest = λ small ready.
+            ap (λ m. drop m (text ++ piece)) (count small) ∙ none_left f0 f1 n k (text ++ piece) bytes (is (early small)) stays all ready ∙ sym empty;
       };
 }
 
@@ -137,12 +165,18 @@ nothing_taken (Some xs) = sym (append-nil xs)
 
 nothing_written : (o : WriteBuffer) (t : Option (List ℕ)) (f : Bool) → o.waiting.items ≡ [] → o.sent ≡ 0 → IsWritten t t f o []
 nothing_written o t f empty none = record {
-  front = subst (λ n. Appends t t (take n [])) (sym none) (nothing_taken t);
   within = omega (arith, none);
-  rest = λ ready. ap (λ n. drop n []) none ∙ sym empty;
+  front = λ few. subst (λ n. Appends t t (take n [])) (sym none) (nothing_taken t);
+  rest = λ few ready. ap (λ n. drop n []) none ∙ sym empty;
 }
 
 -- what was written since the buffer was empty
-pub whole_written : {o0 o1 : WriteBuffer} {t0 t1 : Option (List ℕ)} {f0 f1 : Bool} {whole : List ℕ} → o0.waiting.items ≡ [] → o0.sent ≡ 0 → length whole < 2 ^ 128
+pub whole_written : {o0 o1 : WriteBuffer} {t0 t1 : Option (List ℕ)} {f0 f1 : Bool} {whole : List ℕ} → o0.waiting.items ≡ [] → o0.sent ≡ 0
     → Writes o0 t0 f0 o1 t1 f1 whole → IsWritten t0 t1 f1 o1 whole
-whole_written {o0 = o0} {t0 = t0} {f0 = f0} empty none few writes = writes.behind t0 [] few (nothing_written o0 t0 f0 empty none)
+whole_written {o0 = o0} {t0 = t0} {f0 = f0} empty none writes = writes.behind t0 [] (nothing_written o0 t0 f0 empty none)
+
+-- how many bytes a text has that was written to a writer that has not failed
+pub length_written : (before after : Option (List ℕ)) (failed : Bool) (o : WriteBuffer) (text : List ℕ) → failed ≡ false → o.sent < 2 ^ 128 - 1 → IsWritten before after failed o text
+    → length text ≡ o.sent + length o.waiting.items
+length_written before after failed o text ready few stands =
+    omega (arith, ap (length {A = ℕ}) (stands.rest few ready), length-drop o.sent text, stands.within)

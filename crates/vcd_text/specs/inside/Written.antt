@@ -1,15 +1,14 @@
 -- A text on its way: its front was taken, and the rest waits in a buffer.
-use Rattle.std.specs.Prelude.{◌≡◌, ◌<◌, ◌≤◌, ◌^◌, ℕ, Bool, false, List, ◌++◌, length, take, drop, Option}
+use Rattle.std.specs.Prelude.{◌≡◌, ◌<◌, ◌≤◌, ◌-◌, ◌^◌, ℕ, Bool, false, List, ◌++◌, length, take, drop, Option}
 use Rattle.std.specs.Io.KnownBytes.{Appends}
 use Rattle.vcd_text.specs.declared.writing.buffer.WriteBuffer.{WriteBuffer}
 
--- a text was written since a writer held these bytes: it took the front, and the rest waits, unless it has failed
+-- a text was written since a writer held these bytes: as long as the count of what was sent has not reached the last number, the writer took the front, and the rest waits, unless it has failed
 pub record IsWritten (before after : Option (List ℕ)) (failed : Bool) (buffer : WriteBuffer) (text : List ℕ) : Type 0 where
-  pub front : Appends before after (take buffer.sent text)
   pub within : buffer.sent ≤ length text
-  pub rest : failed ≡ false → drop buffer.sent text ≡ buffer.waiting.items
+  pub front : buffer.sent < 2 ^ 128 - 1 → Appends before after (take buffer.sent text)
+  pub rest : buffer.sent < 2 ^ 128 - 1 → failed ≡ false → drop buffer.sent text ≡ buffer.waiting.items
 
--- a piece is written behind each text that was written, as long as the bytes can be counted
+-- a piece is written behind each text that was written
 pub record Writes (old : WriteBuffer) (taken_old : Option (List ℕ)) (failed_old : Bool) (new : WriteBuffer) (taken_new : Option (List ℕ)) (failed_new : Bool) (piece : List ℕ) : Type 0 where
-  pub behind : (before : Option (List ℕ)) (text : List ℕ) → length (text ++ piece) < 2 ^ 128
-      → IsWritten before taken_old failed_old old text → IsWritten before taken_new failed_new new (text ++ piece)
+  pub behind : (before : Option (List ℕ)) (text : List ℕ) → IsWritten before taken_old failed_old old text → IsWritten before taken_new failed_new new (text ++ piece)

@@ -1,6 +1,6 @@
 //! A buffer before a writer: the text goes out in large parts, and no memory is taken on the way.
 
-ghost use Rattle.std.specs.Prelude.{◌≡◌, ◌<◌, ◌≤◌, ◌+◌, ◌^◌, false, true, ℕ, List, [], ◌∷◌, Option, length, take, vec_len, vec_capacity, OnOk, IfErr, IfOk};
+ghost use Rattle.std.specs.Prelude.{◌≡◌, ◌<◌, ◌≤◌, ◌+◌, ◌-◌, ◌^◌, false, true, ℕ, List, [], ◌∷◌, Option, length, take, vec_len, vec_capacity, OnOk, IfErr, IfOk};
 ghost use Rattle.std.specs.Io.KnownBytes.{Appends};
 ghost use Rattle.vcd_text.specs.WriteEnds.{TookBefore};
 ghost use Rattle.vcd_text.specs.inside.Written.{IsWritten, Writes};
@@ -117,11 +117,11 @@ fn send_bytes<W: Sink>(writer: &mut W, bytes: &[u8]) -> u128
 ///
 /// An error means that the writer has failed, and says how many bytes it took of the text that was written.
 pub fn finish<W: Sink>(buffer: WriteBuffer, writer: &mut W) -> Result<(), WriteError>
-    ensures written { OnOk result ((before : Option (List ℕ)) (text : List ℕ) → length text < 2 ^ 128
+    ensures written { OnOk result ((before : Option (List ℕ)) (text : List ℕ) → length text < 2 ^ 128 - 1
         → IsWritten before (W.taken writer.old) (W.has_failed writer.old) buffer text
         → Appends before (W.taken writer.new) text) }
     ensures not_failed { OnOk result (W.has_failed writer.new ≡ false) }
-    ensures fault { IfErr result (λ e. (before : Option (List ℕ)) (text : List ℕ) → length text < 2 ^ 128
+    ensures fault { IfErr result (λ e. (before : Option (List ℕ)) (text : List ℕ) → length text < 2 ^ 128 - 1
         → IsWritten before (W.taken writer.old) (W.has_failed writer.old) buffer text
         → TookBefore text before (W.taken writer.new) (W.has_failed writer.new) e) }
 {

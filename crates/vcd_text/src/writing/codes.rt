@@ -1,34 +1,20 @@
 //! The identifier codes of signals, by position.
 
-ghost use Rattle.std.specs.Prelude.{◌≡◌, ◌<◌, ◌++◌, OnOk};
+ghost use Rattle.std.specs.Prelude.{◌≡◌, ◌<◌};
 ghost use Rattle.vcd_core.specs.declared.capture.TheConstants.{SIGNAL_LIMIT};
 ghost use Rattle.vcd_text.specs.Text.{code_of};
 ghost use Rattle.vcd_text.specs.inside.Written.{Writes};
 
 use super::buffer::{WriteBuffer, write_byte};
-use vcd_core::{NoMemory, Sink};
+use vcd_core::Sink;
 
 /// The first byte of the 94 that codes are made of, and how many they are (IEEE 1364-2005, 18.2).
 const FIRST: u8 = b'!';
 
 const COUNT: usize = 94;
 
-/// Appends the code of the signal at `position`: the position counted from 1, in bijective base 94 with the
+/// Writes the code of the signal at `position`: the position counted from 1, in bijective base 94 with the
 /// lowest digit first. One step for each byte.
-pub fn append_code(out: &mut Vec<u8>, position: usize) -> Result<(), NoMemory>
-    requires { position < SIGNAL_LIMIT }
-    ensures { OnOk result (out.new.items ≡ out.old.items ++ code_of position) }
-{
-    let mut rest = position + 1;
-    while rest > 0 {
-        let digit = rest - 1;
-        out.push(FIRST + (digit % COUNT) as u8)?;
-        rest = digit / COUNT;
-    }
-    Ok(())
-}
-
-/// Writes the code of the signal at `position`, as `append_code` does.
 pub fn write_code<W: Sink>(buffer: &mut WriteBuffer, writer: &mut W, position: usize)
     requires { position < SIGNAL_LIMIT }
     ensures { Writes buffer.old (W.taken writer.old) (W.has_failed writer.old)

@@ -1,39 +1,54 @@
 //! The declarations of a capture: header, timescale, scopes and variables (IEEE 1364-2005, 18.2).
 
-ghost use Rattle.std.specs.Prelude.{◌≡◌, ◌<◌, ◌≤◌, ◌++◌, ◌∷◌, [], length, map, replicate, codes, OnOk};
+ghost use Rattle.std.specs.Prelude.{◌≡◌, ◌<◌, ◌≤◌, [], length, map, replicate};
 ghost use Rattle.std.specs.List.{common_prefix_len, flat_map};
 ghost use Rattle.std.specs.Cmp.Lexicographic.{pointwise};
 ghost use Rattle.std.specs.Str.{bytes_eq};
-ghost use Rattle.vcd_core.specs.Contents.{signal_contents};
+ghost use Rattle.vcd_core.specs.Contents.{contents, signal_contents};
 ghost use Rattle.vcd_core.specs.declared.capture.TheConstants.{SIGNAL_LIMIT};
 ghost use Rattle.vcd_text.specs.Items.{entry, header_word, scope, upscope};
-ghost use Rattle.vcd_text.specs.inside.SpacedWords.{spaced_words};
-ghost use Rattle.vcd_text.specs.Text.{code_of, header_items, item_line, same_scope, scope_items, signal_items, timescale_items, variable_item};
+ghost use Rattle.vcd_text.specs.Text.{header_items, item_line, same_scope, scope_items, signal_items, timescale_items, variable_item};
+ghost use Rattle.vcd_text.specs.inside.TextParts.{declarations_text};
+ghost use Rattle.vcd_text.specs.inside.Written.{Writes};
 
-use super::codes::append_code;
-use super::lines::{append_end, append_word, append_words};
+use super::buffer::{WriteBuffer, write_byte, write_piece};
+use super::codes::write_code;
+use super::lines::{write_end, write_word, write_words};
 use itoa::Buffer;
-use vcd_core::{Header, HeaderKind, NoMemory, ScopeName, Signal, Timescale, Word};
+use vcd_core::{Capture, Header, HeaderKind, ScopeName, Signal, Sink, Timescale, Word};
 
-/// Appends a line for each header entry.
-pub fn append_header(out: &mut Vec<u8>, header: &[Header]) -> Result<(), NoMemory>
-    ensures { OnOk result (out.new.items ≡
-        out.old.items ++ flat_map item_line (header_items header.now)) }
+/// Writes the declarations, with the header and the timescale before them and their end behind them.
+pub fn write_declarations<W: Sink>(buffer: &mut WriteBuffer, writer: &mut W, capture: &Capture)
+    requires { length capture.now.signals ≤ SIGNAL_LIMIT }
+    ensures { Writes buffer.old (W.taken writer.old) (W.has_failed writer.old)
+        buffer.new (W.taken writer.new) (W.has_failed writer.new)
+        (declarations_text (contents capture.now)) }
 {
-    for one in header {
-        append_entry(out, one)?;
-    }
-    Ok(())
+    write_header(buffer, writer, capture.header());
+    write_timescale(buffer, writer, capture.timescale());
+    write_signals(buffer, writer, capture.signals());
+    write_piece(buffer, writer, b"$enddefinitions $end\n");
 }
 
-fn append_entry(out: &mut Vec<u8>, header: &Header) -> Result<(), NoMemory>
-    ensures { OnOk result (out.new.items ≡
-        out.old.items ++ item_line (entry header.now.kind header.now.words)) }
+/// Writes a line for each header entry.
+fn write_header<W: Sink>(buffer: &mut WriteBuffer, writer: &mut W, header: &[Header])
+    ensures { Writes buffer.old (W.taken writer.old) (W.has_failed writer.old)
+        buffer.new (W.taken writer.new) (W.has_failed writer.new)
+        (flat_map item_line (header_items header.now)) }
 {
-    out.extend_from_slice(header_keyword(header.kind).as_bytes())?;
-    append_words(out, header.words.as_slice())?;
-    append_end(out)?;
-    Ok(())
+    for one in header {
+        write_entry(buffer, writer, one);
+    }
+}
+
+fn write_entry<W: Sink>(buffer: &mut WriteBuffer, writer: &mut W, header: &Header)
+    ensures { Writes buffer.old (W.taken writer.old) (W.has_failed writer.old)
+        buffer.new (W.taken writer.new) (W.has_failed writer.new)
+        (item_line (entry header.now.kind header.now.words)) }
+{
+    write_piece(buffer, writer, header_keyword(header.kind).as_bytes());
+    write_words(buffer, writer, header.words.as_slice());
+    write_end(buffer, writer);
 }
 
 fn header_keyword(kind: HeaderKind) -> &'static str
@@ -46,104 +61,110 @@ fn header_keyword(kind: HeaderKind) -> &'static str
     }
 }
 
-/// Appends the line of the timescale, where there is one.
-pub fn append_timescale(out: &mut Vec<u8>, timescale: Option<Timescale>) -> Result<(), NoMemory>
-    ensures { OnOk result (out.new.items ≡
-        out.old.items ++ flat_map item_line (timescale_items timescale)) }
+/// Writes the line of the timescale, where there is one.
+fn write_timescale<W: Sink>(buffer: &mut WriteBuffer, writer: &mut W, timescale: Option<Timescale>)
+    ensures { Writes buffer.old (W.taken writer.old) (W.has_failed writer.old)
+        buffer.new (W.taken writer.new) (W.has_failed writer.new)
+        (flat_map item_line (timescale_items timescale)) }
 {
     if let Some(timescale) = timescale {
-        out.extend_from_slice(b"$timescale")?;
-        append_word(out, Buffer::new().format(timescale.count).as_bytes())?;
-        append_word(out, timescale.unit.symbol().as_bytes())?;
-        append_end(out)?;
+        write_piece(buffer, writer, b"$timescale");
+        write_word(
+            buffer,
+            writer,
+            Buffer::new().format(timescale.count).as_bytes(),
+        );
+        write_word(buffer, writer, timescale.unit.symbol().as_bytes());
+        write_end(buffer, writer);
     }
-    Ok(())
 }
 
-/// Appends the declarations of all signals, with the scopes that are opened and closed between them.
-pub fn append_signals(out: &mut Vec<u8>, signals: &[Signal]) -> Result<(), NoMemory>
+/// Writes the declarations of all signals, with the scopes that are opened and closed between them.
+fn write_signals<W: Sink>(buffer: &mut WriteBuffer, writer: &mut W, signals: &[Signal])
     requires { length signals.now ≤ SIGNAL_LIMIT }
-    ensures { OnOk result (out.new.items ≡
-        out.old.items ++ flat_map item_line (signal_items [] 0 (map signal_contents signals.now))) }
+    ensures { Writes buffer.old (W.taken writer.old) (W.has_failed writer.old)
+        buffer.new (W.taken writer.new) (W.has_failed writer.new)
+        (flat_map item_line (signal_items [] 0 (map signal_contents signals.now))) }
 {
     let mut opened: &[ScopeName] = &[];
     for (position, signal) in signals.iter().enumerate() {
         let path = signal.scopes.as_slice();
-        append_scope_changes(out, opened, path)?;
-        append_variable(out, position, signal)?;
+        write_scope_changes(buffer, writer, opened, path);
+        write_variable(buffer, writer, position, signal);
         opened = path;
     }
-    append_upscopes(out, opened.len())?;
-    Ok(())
+    write_upscopes(buffer, writer, opened.len());
 }
 
-fn append_variable(out: &mut Vec<u8>, position: usize, signal: &Signal) -> Result<(), NoMemory>
+fn write_variable<W: Sink>(
+    buffer: &mut WriteBuffer,
+    writer: &mut W,
+    position: usize,
+    signal: &Signal,
+)
     requires { position < SIGNAL_LIMIT }
-    ensures { OnOk result (out.new.items ≡
-        out.old.items ++ item_line (variable_item position (signal_contents signal.now))) }
+    ensures { Writes buffer.old (W.taken writer.old) (W.has_failed writer.old)
+        buffer.new (W.taken writer.new) (W.has_failed writer.new)
+        (item_line (variable_item position (signal_contents signal.now))) }
 {
-    out.extend_from_slice(b"$var")?;
-    append_word(out, signal.kind.as_slice())?;
-    append_word(out, Buffer::new().format(signal.wave.width()).as_bytes())?;
-    append_code_word(out, position)?;
-    append_words(out, signal.words.as_slice())?;
-    append_end(out)?;
-    Ok(())
-}
-
-fn append_code_word(out: &mut Vec<u8>, position: usize) -> Result<(), NoMemory>
-    requires { position < SIGNAL_LIMIT }
-    ensures { OnOk result (out.new.items ≡ out.old.items ++ spaced_words (code_of position ∷ [])) }
-{
-    out.push(b' ')?;
-    append_code(out, position)?;
-    Ok(())
+    write_piece(buffer, writer, b"$var");
+    write_word(buffer, writer, signal.kind.as_slice());
+    write_word(
+        buffer,
+        writer,
+        Buffer::new().format(signal.wave.width()).as_bytes(),
+    );
+    write_byte(buffer, writer, b' ');
+    write_code(buffer, writer, position);
+    write_words(buffer, writer, signal.words.as_slice());
+    write_end(buffer, writer);
 }
 
 /// Closes the open scopes past those that the path shares with them, and opens the further ones.
-fn append_scope_changes(
-    out: &mut Vec<u8>,
+fn write_scope_changes<W: Sink>(
+    buffer: &mut WriteBuffer,
+    writer: &mut W,
     opened: &[ScopeName],
     path: &[ScopeName],
-) -> Result<(), NoMemory>
-    ensures { OnOk result (out.new.items ≡
-        out.old.items ++ flat_map item_line (scope_items opened.now path.now)) }
+)
+    ensures { Writes buffer.old (W.taken writer.old) (W.has_failed writer.old)
+        buffer.new (W.taken writer.new) (W.has_failed writer.new)
+        (flat_map item_line (scope_items opened.now path.now)) }
 {
     let shared = shared_len(opened, path);
-    append_upscopes(out, opened.len() - shared)?;
-    append_scopes(out, &path[shared..])?;
-    Ok(())
+    write_upscopes(buffer, writer, opened.len() - shared);
+    write_scopes(buffer, writer, &path[shared..]);
 }
 
-fn append_upscopes(out: &mut Vec<u8>, count: usize) -> Result<(), NoMemory>
-    ensures { OnOk result (out.new.items ≡
-        out.old.items ++ flat_map item_line (replicate count upscope)) }
+fn write_upscopes<W: Sink>(buffer: &mut WriteBuffer, writer: &mut W, count: usize)
+    ensures { Writes buffer.old (W.taken writer.old) (W.has_failed writer.old)
+        buffer.new (W.taken writer.new) (W.has_failed writer.new)
+        (flat_map item_line (replicate count upscope)) }
 {
     for _closed in 0..count {
-        out.extend_from_slice(b"$upscope $end\n")?;
+        write_piece(buffer, writer, b"$upscope $end\n");
     }
-    Ok(())
 }
 
-fn append_scopes(out: &mut Vec<u8>, scopes: &[ScopeName]) -> Result<(), NoMemory>
-    ensures { OnOk result (out.new.items ≡
-        out.old.items ++ flat_map item_line (map (λ s. scope s.kind s.words) scopes.now)) }
+fn write_scopes<W: Sink>(buffer: &mut WriteBuffer, writer: &mut W, scopes: &[ScopeName])
+    ensures { Writes buffer.old (W.taken writer.old) (W.has_failed writer.old)
+        buffer.new (W.taken writer.new) (W.has_failed writer.new)
+        (flat_map item_line (map (λ s. scope s.kind s.words) scopes.now)) }
 {
     for name in scopes {
-        append_scope(out, name)?;
+        write_scope(buffer, writer, name);
     }
-    Ok(())
 }
 
-fn append_scope(out: &mut Vec<u8>, name: &ScopeName) -> Result<(), NoMemory>
-    ensures { OnOk result (out.new.items ≡
-        out.old.items ++ item_line (scope name.now.kind name.now.words)) }
+fn write_scope<W: Sink>(buffer: &mut WriteBuffer, writer: &mut W, name: &ScopeName)
+    ensures { Writes buffer.old (W.taken writer.old) (W.has_failed writer.old)
+        buffer.new (W.taken writer.new) (W.has_failed writer.new)
+        (item_line (scope name.now.kind name.now.words)) }
 {
-    out.extend_from_slice(b"$scope")?;
-    append_word(out, name.kind.as_slice())?;
-    append_words(out, name.words.as_slice())?;
-    append_end(out)?;
-    Ok(())
+    write_piece(buffer, writer, b"$scope");
+    write_word(buffer, writer, name.kind.as_slice());
+    write_words(buffer, writer, name.words.as_slice());
+    write_end(buffer, writer);
 }
 
 /// How many scopes at the front two paths share.

@@ -1,33 +1,38 @@
 //! Words on a line: one space before each but the first, and a line feed behind the last.
 
-ghost use Rattle.std.specs.Prelude.{◌≡◌, ◌++◌, ◌∷◌, [], codes, OnOk};
+ghost use Rattle.std.specs.Prelude.{◌≡◌, ◌∷◌, [], codes};
 ghost use Rattle.vcd_text.specs.inside.SpacedWords.{spaced_words};
+ghost use Rattle.vcd_text.specs.inside.Written.{Writes};
 
-use vcd_core::{NoMemory, Word};
+use super::buffer::{WriteBuffer, write_byte, write_piece};
+use vcd_core::{Sink, Word};
 
-/// Appends a space and a word.
-pub fn append_word(out: &mut Vec<u8>, word: &[u8]) -> Result<(), NoMemory>
-    ensures { OnOk result (out.new.items ≡ out.old.items ++ spaced_words (word.now ∷ [])) }
+/// Writes a space and a word.
+pub fn write_word<W: Sink>(buffer: &mut WriteBuffer, writer: &mut W, word: &[u8])
+    ensures { Writes buffer.old (W.taken writer.old) (W.has_failed writer.old)
+        buffer.new (W.taken writer.new) (W.has_failed writer.new)
+        (spaced_words (word.now ∷ [])) }
 {
-    out.push(b' ')?;
-    out.extend_from_slice(word)?;
-    Ok(())
+    write_byte(buffer, writer, b' ');
+    write_piece(buffer, writer, word);
 }
 
-/// Appends words, each behind a space.
-pub fn append_words(out: &mut Vec<u8>, words: &[Word]) -> Result<(), NoMemory>
-    ensures { OnOk result (out.new.items ≡ out.old.items ++ spaced_words words.now) }
+/// Writes words, each behind a space.
+pub fn write_words<W: Sink>(buffer: &mut WriteBuffer, writer: &mut W, words: &[Word])
+    ensures { Writes buffer.old (W.taken writer.old) (W.has_failed writer.old)
+        buffer.new (W.taken writer.new) (W.has_failed writer.new)
+        (spaced_words words.now) }
 {
     for word in words {
-        append_word(out, word.as_slice())?;
+        write_word(buffer, writer, word.as_slice());
     }
-    Ok(())
 }
 
 /// Ends the line of a declaration.
-pub fn append_end(out: &mut Vec<u8>) -> Result<(), NoMemory>
-    ensures { OnOk result (out.new.items ≡ out.old.items ++ codes " $end\n") }
+pub fn write_end<W: Sink>(buffer: &mut WriteBuffer, writer: &mut W)
+    ensures { Writes buffer.old (W.taken writer.old) (W.has_failed writer.old)
+        buffer.new (W.taken writer.new) (W.has_failed writer.new)
+        (codes " $end\n") }
 {
-    out.extend_from_slice(b" $end\n")?;
-    Ok(())
+    write_piece(buffer, writer, b" $end\n");
 }

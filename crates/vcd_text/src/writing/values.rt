@@ -1,9 +1,8 @@
 //! Values as they are printed: one letter, or `b` and the short form.
 
-ghost use Rattle.std.specs.Prelude.{◌≡◌, ◌<◌, ◌≤◌, ◌∷◌, [], if◌then◌else◌, length, drop};
+ghost use Rattle.std.specs.Prelude.{◌≡◌, ◌<◌, ◌≤◌, ◌-◌, ◌^◌, ◌∷◌, [], ℕ, length, drop};
 ghost use Rattle.std.specs.Int.{bit_at};
 ghost use Rattle.vcd_core.specs.Value.{letter_at, same_letter};
-ghost use Rattle.vcd_core.specs.WordRows.{letter_of};
 ghost use Rattle.vcd_core.specs.declared.capture.TheConstants.{SIGNAL_LIMIT};
 ghost use Rattle.vcd_text.specs.Letters.{pad_letter, printed_letters, short_form};
 ghost use Rattle.vcd_text.specs.Text.{code_of, item_line, value_item};
@@ -14,7 +13,8 @@ use super::buffer::{WriteBuffer, write_byte};
 use super::codes::write_code;
 use vcd_core::{Bit, Sink, Value};
 
-/// Writes the line that gives a value to the signal at `position`. It looks at each bit twice at most.
+/// Writes the line that gives a value to the signal at `position`. A step for each letter that is
+/// written, and for each run of the same letters that is left out.
 pub fn write_value<W: Sink>(
     buffer: &mut WriteBuffer,
     writer: &mut W,
@@ -67,21 +67,48 @@ fn write_letters_from<W: Sink>(buffer: &mut WriteBuffer, writer: &mut W, value: 
     }
 }
 
-/// How many letters at the front the short form leaves out: those that the extension puts there again.
+/// How many letters at the front the short form leaves out: those that the extension puts there again. Letters
+/// that are repeated within a word are passed at once.
 fn spare_letters(value: &Value) -> u64
     ensures within { result < length value.now }
     ensures rest { drop result value.now ≡ short_form value.now }
 {
     let last = value.width() - 1;
-    for k in 0..last {
-        if !is_spare(
-            bit_by_words(value, last - k),
-            bit_by_words(value, last - k - 1),
-        ) {
+    let mut k = 0;
+    while k < last {
+        let letter = bit_by_words(value, last - k);
+        let next = bit_by_words(value, last - k - 1);
+        if !is_spare(letter, next) {
             return k;
         }
+        k += repeated_letters(value, last - k).max(1);
     }
     last
+}
+
+/// How many letters from that of bit `k` downward are the same as the next lower one. It does not look past the
+/// word that holds the bit.
+fn repeated_letters(value: &Value, k: u64) -> u64
+    requires { k < length value.now }
+    ensures within { result ≤ k }
+    ensures same { (i : ℕ) → i < result →
+        letter_at value.now (k - i) ≡ letter_at value.now (k - i - 1) }
+{
+    let word = (k / 64) as usize;
+    let top = k % 64;
+    let low = value.word_low(word);
+    let high = value.word_high(word);
+    let differs = (low ^ (low >> 1)) | (high ^ (high >> 1));
+    let run = (differs & ones(top)).leading_zeros();
+    (top + run as u64).saturating_sub(64)
+}
+
+/// A word whose `count` lowest bits are set.
+fn ones(count: u64) -> u64
+    requires { count < 64 }
+    ensures { result ≡ 2 ^ count - 1 }
+{
+    (1 << count) - 1
 }
 
 /// Whether the extension puts this letter on the left of the next one.
@@ -94,33 +121,25 @@ fn is_spare(letter: Bit, next: Bit) -> bool
     )
 }
 
+/// The letters by the bits of the two planes: that of the low plane, and twice that of the high one.
+const LETTERS: [Bit; 4] = [Bit::Zero, Bit::One, Bit::Z, Bit::X];
+
 /// The bit at `k` of a value, read where the value stands: the method of the same meaning takes a copy.
 fn bit_by_words(value: &Value, k: u64) -> Bit
     requires { k < length value.now }
     ensures { result ≡ letter_at value.now k }
 {
     let word = (k / 64) as usize;
-    let is_low = is_set(value.word_low(word), k % 64);
-    let is_high = is_set(value.word_high(word), k % 64);
-    bit_of_planes(is_low, is_high)
+    let low = bit_in_word(value.word_low(word), k % 64);
+    let high = bit_in_word(value.word_high(word), k % 64);
+    LETTERS[low + 2 * high]
 }
 
-/// Whether a bit of a word is set.
-fn is_set(word: u64, k: u64) -> bool
+/// A bit of a word, as a number.
+fn bit_in_word(word: u64, k: u64) -> usize
     requires { k < 64 }
-    ensures { bit_at word k ≡ (if result then 1 else 0) }
+    ensures bit { result ≡ bit_at word k }
+    ensures small { result < 2 }
 {
-    (word >> k) & 1 == 1
-}
-
-/// The bit that a low and a high bit of the planes stand for.
-fn bit_of_planes(is_low: bool, is_high: bool) -> Bit
-    ensures { result ≡ letter_of (if is_low then 1 else 0) (if is_high then 1 else 0) }
-{
-    match (is_low, is_high) {
-        (false, false) => Bit::Zero,
-        (true, false) => Bit::One,
-        (true, true) => Bit::X,
-        (false, true) => Bit::Z,
-    }
+    ((word >> k) & 1) as usize
 }

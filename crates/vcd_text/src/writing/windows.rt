@@ -11,13 +11,13 @@ use super::transitions::Transition;
 use std::alloc::Global;
 use vcd_core::{Change, NoMemory, Signal, Wave};
 
-/// How many transitions a row has room for at least, and for how many of each signal.
-const LEAST: usize = 16384;
+/// How many transitions a row has room for at least, and for how many of each signal: a short row is sorted sooner.
+const LEAST: usize = 4096;
 
 const PER_SIGNAL: usize = 3;
 
 /// A row with room for the transitions of any one tick, and of several where signals change seldom: 48 bytes a
-/// signal, 256 KiB at least.
+/// signal, 64 KiB at least.
 pub fn window_row(alloc: Global, signals: &[Signal]) -> Result<Vec<Transition>, NoMemory>
     requires { length signals.now ≤ SIGNAL_LIMIT }
     ensures { IfOk result (λ row. length signals.now ≤ vec_capacity row) }

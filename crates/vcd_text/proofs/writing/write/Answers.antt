@@ -1,5 +1,5 @@
 -- The parts in a row are the text.
-use Rattle.std.proofs.Common.{◌≡◌, ◌<◌, ◌^◌, ◌++◌, ℕ, List, length, map, ap, ◌∙◌, arith}
+use Rattle.std.proofs.Common.{◌≡◌, ◌<◌, ◌-◌, ◌^◌, ◌++◌, ℕ, List, length, map, ap, ◌∙◌}
 use Rattle.std.specs.Prelude.{OnOk, Result, Ok, Err}
 use Rattle.std.specs.List.{flat_map}
 use Rattle.std.proofs.lemmas.Result.{IfErr-weaker}
@@ -18,25 +18,22 @@ on_ok : {T E P Q : Type 0} (r : Result T E) → (P → Q) → OnOk r P → OnOk 
 on_ok (Ok x) f p = f p
 on_ok (Err e) f p = tt
 
-countable : (g : given.Over) (c : goal.After-drop-declarations-2 g) → length (text (contents c.args.capture.now)) < 2 ^ 128
-countable g c =
-    text_countable (contents c.args.capture.now) c.requires.sound
-    (let same = ap (length {A = ℕ}) c.in_ok-declarations.ensures in omega arith)
-
 -- the whole text is written
-all_written : (g : given.Over) (c : goal.After-drop-declarations-2 g)
+all_written : (g : given.Over) (c : goal.After-drop-row-2 g)
     → IsWritten (g.W.Sink.taken c.args.writer.now) (g.W.Sink.taken c.write_transitions.new.writer) (g.W.Sink.has_failed c.write_transitions.new.writer) c.write_transitions.new.buffer (text (contents c.args.capture.now))
 all_written g c =
-    let declarations = c.as_slice.ensures.value ∙ c.in_ok-declarations.ensures in
+    let declarations = declarations_text (contents c.args.capture.now) in
     let rest : List Signal → ℕ → List ℕ = λ signals end.
     flat_map item_line (first_items (map signal_contents signals)) ++ flat_map item_line (tick_items (map signal_contents signals) 1 end ++ end_items (map signal_contents signals) end) in
-    let same : c.as_slice.result.now ++ rest c.signals-signals.result.now c.end.result ≡ text (contents c.args.capture.now) =
-    ap (λ d. d ++ rest c.signals-signals.result.now c.end.result) declarations
-    ∙ ap (λ (l : List Signal). declarations_text (contents c.args.capture.now) ++ rest l c.end.result) c.signals-signals.ensures
-    ∙ ap (λ e. declarations_text (contents c.args.capture.now) ++ rest c.args.capture.now.signals e) c.end.ensures
+    let same : declarations ++ rest c.signals-signals.result.now c.end.result ≡ text (contents c.args.capture.now) =
+    ap (λ (l : List Signal). declarations ++ rest l c.end.result) c.signals-signals.ensures
+    ∙ ap (λ e. declarations ++ rest c.args.capture.now.signals e) c.end.ensures
     ∙ whole_text (contents c.args.capture.now) in
-    whole_written c.in_ok-buffer.ensures.waiting c.in_ok-buffer.ensures.sent (countable g c)
-    (writes_as same (writes_both c.write_piece.ensures (writes_both c.write_first_values.ensures c.write_transitions.ensures)))
+    whole_written c.in_ok-buffer.ensures.waiting c.in_ok-buffer.ensures.sent
+    (writes_as same (writes_both c.write_declarations.ensures (writes_both c.write_first_values.ensures c.write_transitions.ensures)))
+
+countable : (g : given.Over) (c : goal.After-drop-row-2 g) → length (text (contents c.args.capture.now)) < 2 ^ 128 - 1
+countable g c = text_countable (contents c.args.capture.now) c.requires.sound c.in_ok-check_countable.ensures
 
 pub returns-clause-written : goal.returns-clause-written
 returns-clause-written g c =

@@ -1,0 +1,12 @@
+-- The lines passed are written.
+use Rattle.std.proofs.Common.{◌-◌, replicate}
+use Rattle.std.specs.List.{flat_map}
+use Rattle.vcd_text.specs.Items.{upscope}
+use Rattle.vcd_text.specs.Text.{item_line}
+use Rattle.vcd_text.proofs.Written.{WritesFront}
+use Rattle.vcd_text.proofs.writing.declarations.write_upscopes.Given as goal
+
+abbrev pub invariant-loop-closed : goal.invariant-loop-closed
+invariant-loop-closed g l =
+    WritesFront l.initial.buffer (g.W.Sink.taken l.initial.writer) (g.W.Sink.has_failed l.initial.writer) l.buffer (g.W.Sink.taken l.writer) (g.W.Sink.has_failed l.writer)
+    (flat_map item_line (replicate (l.count - l._closed) upscope)) (flat_map item_line (replicate l.count upscope))

@@ -1,0 +1,51 @@
+//! Counting the bytes of a text before the first goes out.
+
+ghost use Rattle.std.specs.Prelude.{◌≡◌, ◌<◌, ◌≤◌, ◌^◌, length, OnOk};
+ghost use Rattle.vcd_core.specs.Contents.{contents};
+ghost use Rattle.vcd_core.specs.declared.capture.TheConstants.{SIGNAL_LIMIT};
+ghost use Rattle.vcd_text.specs.inside.TextParts.{declarations_text};
+
+use super::buffer::WriteBuffer;
+use super::declarations::write_declarations;
+use std::alloc::Global;
+use vcd_core::{Capture, DeviceFault, NoMemory, Sink};
+
+/// How many bytes the declarations may have: with the values behind them fewer than a `u128` counts.
+const COUNT_LIMIT: u128 = 1 << 126;
+
+/// A sink that takes all bytes and keeps none.
+#[derive(Drop)]
+struct NullSink;
+
+impl Sink for NullSink {
+    ghost use Rattle.std.specs.Prelude.{false};
+
+    ghost has_failed = { λ _. false };
+
+    fn write(&mut self, bytes: &[u8]) -> Result<usize, DeviceFault> {
+        Ok(bytes.len())
+    }
+
+    fn flush(&mut self) -> Result<(), DeviceFault> {
+        Ok(())
+    }
+
+    fn failed(&self) -> bool {
+        false
+    }
+}
+
+/// Refuses declarations whose bytes cannot be counted, which no memory holds. It writes them to nowhere, through
+/// a buffer without room, and takes no memory.
+pub fn check_countable(alloc: Global, capture: &Capture) -> Result<(), NoMemory>
+    requires { length capture.now.signals ≤ SIGNAL_LIMIT }
+    ensures { OnOk result (length (declarations_text (contents capture.now)) < 2 ^ 127) }
+{
+    let waiting = Vec::new(alloc);
+    let mut buffer = WriteBuffer { waiting, sent: 0 };
+    write_declarations(&mut buffer, &mut NullSink, capture);
+    if buffer.sent >= COUNT_LIMIT {
+        return Err(NoMemory);
+    }
+    Ok(())
+}
