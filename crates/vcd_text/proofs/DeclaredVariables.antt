@@ -1,17 +1,16 @@
 -- A variable that is declared, skipped or kept.
-use Rattle.std.proofs.Common.{◌≡◌, ◌⊎◌, ℕ, zero, suc, ◌+◌, ◌<◌, ◌≤◌, min, Bool, true, false, not, ◌&&◌, ◌||◌, ◌==◌, cond, if◌then◌else◌, nat_lt, List, [], ◌∷◌, ◌++◌, length, map, get_or, drop, All, Option, None, Some, Result, Ok, Err, OnOk, IfErr, inl, inr, refl, sym, ap, subst, ◌∙◌, arith}
+use Rattle.std.proofs.Common.{◌≡◌, ◌⊎◌, ℕ, zero, suc, ◌+◌, ◌<◌, ◌≤◌, min, Bool, true, false, not, ◌&&◌, ◌||◌, ◌==◌, cond, if◌then◌else◌, nat_lt, List, [], ◌∷◌, ◌++◌, length, map, get_or, drop, Option, None, Some, Result, Ok, Err, OnOk, IfErr, inl, inr, refl, sym, ap, subst, ◌∙◌, arith}
 use Rattle.std.specs.Prelude.{bytes_eq, slice_get, count_by}
 use Rattle.std.specs.Option.{option_or, option_map_or}
-use Rattle.std.proofs.lemmas.List.{append-nil, map-append, length-map, length_push}
-use Rattle.std.proofs.lemmas.List.Elements.{filter-append, All-nil}
+use Rattle.std.proofs.lemmas.List.{append-nil, nil_from_length, map-append, length-map, length_push}
+use Rattle.std.proofs.lemmas.List.Elements.{filter-append}
 use Rattle.std.proofs.lemmas.Bool.{lt-ltb, le-ltb, ltb-false, eqb-true, cases_lt}
 use Rattle.indexmap.specs.IndexMap.{get_by}
 use Rattle.vcd_core.specs.declared.capture.TheConstants.{SIGNAL_LIMIT}
-use Rattle.vcd_core.specs.declared.wave.Change.{Change}
 use Rattle.std.proofs.lemmas.List.Sums.{sum_by-append, sum_by-cons}
 use Rattle.std.proofs.lemmas.Option.{slice_get_within, same_Some}
 use Rattle.vcd_core.specs.Value.{all_x}
-use Rattle.vcd_core.specs.Wave.{value_from, value_at}
+use Rattle.vcd_core.specs.Wave.{value_from}
 use Rattle.vcd_core.specs.declared.capture.ScopeName.{ScopeName}
 use Rattle.vcd_core.specs.declared.capture.Signal.{Signal}
 use Rattle.vcd_text.specs.declared.fault.Fault.{Fault}
@@ -21,7 +20,11 @@ use Rattle.vcd_core.specs.Decimal.{number_of}
 use Rattle.vcd_core.specs.Word.{is_skipped_kind}
 use Rattle.vcd_text.specs.Grammar.{VariableDeclaration, ValueChange, Context, is_skipped, kept_variables, variable_of, may_have_code, has_room}
 use Rattle.vcd_text.specs.Meaning.{latest_value}
-use Rattle.vcd_text.specs.inside.Variables.{declaration, declaration_in, without_scopes, owner_of, HasWave, Stands, HasFirst, Knows, with_declaration, mixed, many, DeclaresAs, code_mixed, no_room, Declares}
+use Rattle.vcd_text.specs.inside.ChangeLog.{GivesValues, logged, AreGrouped}
+use Rattle.vcd_text.specs.declared.reading.change_log.LoggedChange.{LoggedChange}
+use Rattle.vcd_text.specs.declared.reading.change_log.ChangeLog.{ChangeLog}
+use Rattle.vcd_text.proofs.LoggedValues.{gives_as, gives_nothing}
+use Rattle.vcd_text.specs.inside.Variables.{declaration, declaration_in, without_scopes, owner_of, HasWave, Stands, HasFirst, HasLogs, Knows, with_declaration, mixed, many, DeclaresAs, code_mixed, no_room, Declares}
 use Rattle.vcd_text.specs.declared.reading.owners.Owners.{Owners}
 use Rattle.vcd_text.specs.declared.reading.variables.Owner.{Owner}
 use Rattle.vcd_text.specs.declared.reading.variables.Owner.TheVariants.{Skipped, Kept}
@@ -78,17 +81,17 @@ kept_long vs c k = sym (length-map (kept_variables c.declared) without_scopes) �
 
 -- ---- what codes stand for, with one variable more
 
-module _ (value_changes : List ValueChange) (tick : ℕ) where
+module _ (log : ℕ → List LoggedChange) (value_changes : List ValueChange) (tick : ℕ) where
   -- a variable behind the others takes nothing from a code
   stands_longer : (vs more : List Variable) (code : List ℕ) (owner : Option Owner) (declared : Option VariableDeclaration)
-      → Stands vs value_changes tick code owner declared → Stands (vs ++ more) value_changes tick code owner declared
+      → Stands vs log value_changes tick code owner declared → Stands (vs ++ more) log value_changes tick code owner declared
   stands_longer vs more code owner declared s =
-      stands_moved vs (vs ++ more) value_changes value_changes tick tick code owner declared
-      (λ position size _ w. record { first = w.first; stands = stays vs more position w.first w.stands; coded = w.coded; sized = w.sized; ticks = w.ticks; values = w.values }) s
+      stands_moved vs (vs ++ more) log log value_changes value_changes tick tick code owner declared
+      (λ position size _ w. record { first = w.first; stands = stays vs more position w.first w.stands; coded = w.coded; sized = w.sized; gives = w.gives }) s
 
   -- a later declaration of another code takes nothing from a code
   stands_still : (vs : List Variable) (code : List ℕ) (owner : Option Owner) (declared : Option VariableDeclaration)
-      → Stands vs value_changes tick code owner declared → Stands vs value_changes tick code owner (option_or declared None)
+      → Stands vs log value_changes tick code owner declared → Stands vs log value_changes tick code owner (option_or declared None)
   stands_still vs code owner None s = s
   stands_still vs code owner (Some d) s = s
 
@@ -106,24 +109,26 @@ puts_same old new code owner same had = λ key.
 -- ---- a variable that is skipped
 
 module _ (old new : Variables) (c : Context) (d : VariableDeclaration) (k : Knows old c) (items : new.kept.items ≡ old.kept.items) (skipped : is_skipped d ≡ true)
+    (widths : new.widths.items ≡ old.widths.items) (log : new.log ≡ old.log)
     (free : (owner_of old d.code ≡ None) ⊎ (owner_of old d.code ≡ Some Skipped)) (puts : Puts old new d.code Skipped) where
-  skip_here : (v : Option VariableDeclaration) → Stands old.kept.items c.value_changes c.tick d.code (owner_of old d.code) v
-      → Stands old.kept.items c.value_changes c.tick d.code (Some Skipped) (option_or v (Some d))
+  skip_here : (v : Option VariableDeclaration) → Stands old.kept.items (logged old.log.groups.items) c.value_changes c.tick d.code (owner_of old d.code) v
+      → Stands old.kept.items (logged old.log.groups.items) c.value_changes c.tick d.code (Some Skipped) (option_or v (Some d))
   skip_here None s = skipped
   skip_here (Some e) s = elim free [
-    | inl none ↦ absurd (subst (λ o. Stands old.kept.items c.value_changes c.tick d.code o (Some e)) none s)
-    | inr had ↦ subst (λ o. Stands old.kept.items c.value_changes c.tick d.code o (Some e)) had s
+    | inl none ↦ absurd (subst (λ o. Stands old.kept.items (logged old.log.groups.items) c.value_changes c.tick d.code o (Some e)) none s)
+    | inr had ↦ subst (λ o. Stands old.kept.items (logged old.log.groups.items) c.value_changes c.tick d.code o (Some e)) had s
   ]
 
-  skip_stands : (key : List ℕ) → Stands new.kept.items c.value_changes c.tick key (owner_of new key) (variable_of (with_declaration c d) key)
+  skip_stands : (key : List ℕ) → Stands new.kept.items (logged new.log.groups.items) c.value_changes c.tick key (owner_of new key) (variable_of (with_declaration c d) key)
   skip_stands key =
       let both =
-      by_code (λ b. Stands old.kept.items c.value_changes c.tick key (if b then Some Skipped else owner_of old key) (option_or (variable_of c key) (if b then Some d else None))) key d.code
-      (λ is. subst (λ code. Stands old.kept.items c.value_changes c.tick code (Some Skipped) (option_or (variable_of c code) (Some d))) (sym is) (skip_here (variable_of c d.code) (k.stand d.code)))
-      (λ _. stands_still c.value_changes c.tick old.kept.items key (owner_of old key) (variable_of c key) (k.stand key)) in
-      subst (λ vs. Stands vs c.value_changes c.tick key (owner_of new key) (variable_of (with_declaration c d) key)) (sym items)
-      (subst (λ o. Stands old.kept.items c.value_changes c.tick key o (variable_of (with_declaration c d) key)) (sym (puts key))
-      (subst (Stands old.kept.items c.value_changes c.tick key (if bytes_eq key d.code then Some Skipped else owner_of old key)) (sym (found_with key c.declared d)) both))
+      by_code (λ b. Stands old.kept.items (logged old.log.groups.items) c.value_changes c.tick key (if b then Some Skipped else owner_of old key) (option_or (variable_of c key) (if b then Some d else None))) key d.code
+      (λ is. subst (λ code. Stands old.kept.items (logged old.log.groups.items) c.value_changes c.tick code (Some Skipped) (option_or (variable_of c code) (Some d))) (sym is) (skip_here (variable_of c d.code) (k.stand d.code)))
+      (λ _. stands_still (logged old.log.groups.items) c.value_changes c.tick old.kept.items key (owner_of old key) (variable_of c key) (k.stand key)) in
+      subst (λ (l : ChangeLog). Stands new.kept.items (logged l.groups.items) c.value_changes c.tick key (owner_of new key) (variable_of (with_declaration c d) key)) (sym log)
+      (subst (λ (vs : List Variable). Stands vs (logged old.log.groups.items) c.value_changes c.tick key (owner_of new key) (variable_of (with_declaration c d) key)) (sym items)
+      (subst (λ o. Stands old.kept.items (logged old.log.groups.items) c.value_changes c.tick key o (variable_of (with_declaration c d) key)) (sym (puts key))
+      (subst (Stands old.kept.items (logged old.log.groups.items) c.value_changes c.tick key (if bytes_eq key d.code then Some Skipped else owner_of old key)) (sym (found_with key c.declared d)) both)))
 
   not_kept : (first : ℕ) → owner_of old d.code ≡ Some (Kept first) → ⊥
   not_kept first had = elim free [
@@ -142,7 +147,7 @@ module _ (old new : Variables) (c : Context) (d : VariableDeclaration) (k : Know
         same_size = λ w there. before.same_size w (subst (λ vs. slice_get vs v.first ≡ Some w) items there);
       }
 
-  skip_may : (v : Option VariableDeclaration) → Stands old.kept.items c.value_changes c.tick d.code (owner_of old d.code) v → may_have_code v d ≡ true
+  skip_may : (v : Option VariableDeclaration) → Stands old.kept.items (logged old.log.groups.items) c.value_changes c.tick d.code (owner_of old d.code) v → may_have_code v d ≡ true
   skip_may None s = refl
   skip_may (Some e) s =
       let also : is_skipped e ≡ true = skip_here (Some e) s in
@@ -156,9 +161,13 @@ module _ (old new : Variables) (c : Context) (d : VariableDeclaration) (k : Know
     record {
       kept = ap (map without_scopes) (kept_skipped c.declared d skipped) ∙ k.kept ∙ ap (map declaration) (sym items);
       skipped = more ∙ ap (λ n. n + 1) k.skipped ∙ sym (count_with c.declared d true skipped);
+      widths = widths ∙ k.widths ∙ ap (map (λ (v : Variable). v.signal.wave.width)) (sym items);
       stand = skip_stands;
       firsts = skip_firsts;
       few = subst (λ vs. length vs ≤ SIGNAL_LIMIT) (sym items) k.few;
+      grouped = subst (λ (l : ChangeLog). AreGrouped 0 l.groups.items) (sym log) k.grouped;
+      logs = subst (λ (l : ChangeLog). HasLogs new.kept.items (logged l.groups.items)) (sym log)
+          (subst (λ (vs : List Variable). HasLogs vs (logged old.log.groups.items)) (sym items) k.logs);
     },
   )
 
@@ -176,12 +185,12 @@ IsFree old code s first =
 
 module _ (old : Variables) (c : Context) (scopes : List ScopeName) (code : List ℕ) (s : Signal) (first : ℕ) (k : Knows old c)
     (keeps : is_skipped (declaration_in scopes code s) ≡ false) (free : IsFree old code s first) where
-  keep_may : (v : Option VariableDeclaration) → Stands old.kept.items c.value_changes c.tick code (owner_of old code) v → may_have_code v (declaration_in scopes code s) ≡ true
+  keep_may : (v : Option VariableDeclaration) → Stands old.kept.items (logged old.log.groups.items) c.value_changes c.tick code (owner_of old code) v → may_have_code v (declaration_in scopes code s) ≡ true
   keep_may None stands = refl
   keep_may (Some e) stands = elim free [
-    | inl (none, end) ↦ absurd (subst (λ o. Stands old.kept.items c.value_changes c.tick code o (Some e)) none stands)
+    | inl (none, end) ↦ absurd (subst (λ o. Stands old.kept.items (logged old.log.groups.items) c.value_changes c.tick code o (Some e)) none stands)
     | inr (had, width) ↦
-        let there = subst (λ o. Stands old.kept.items c.value_changes c.tick code o (Some e)) had stands in
+        let there = subst (λ o. Stands old.kept.items (logged old.log.groups.items) c.value_changes c.tick code o (Some e)) had stands in
         let size : e.size ≡ s.wave.width = sym there.1.sized ∙ width there.1.first there.1.stands in
         let also : is_skipped e ≡ false = there.0 in
         (λ i. (also i && keeps i) || (not (also i) && not (keeps i) && (size i == s.wave.width))) ∙ same_number s.wave.width
@@ -196,47 +205,58 @@ module _ (old : Variables) (c : Context) (scopes : List ScopeName) (code : List 
 
 module _ (old new : Variables) (c : Context) (scopes : List ScopeName) (code : List ℕ) (s : Signal) (first : ℕ) (k : Knows old c) (value_changes : c.value_changes ≡ []) (silent : s.wave.changes ≡ []) (bare : s.scopes ≡ [])
     (keeps : is_skipped (declaration_in scopes code s) ≡ false) (items : new.kept.items ≡ old.kept.items ++ variable_at code s first ∷ [])
+    (widths : new.widths.items ≡ old.widths.items ++ s.wave.width ∷ []) (log : new.log ≡ old.log)
     (free : IsFree old code s first)
     (puts : Puts old new code (Kept first)) where
-  silent_wave : HasWave (old.kept.items ++ variable_at code s first ∷ []) (length old.kept.items) code s.wave.width c.value_changes c.tick
+  -- the log has nothing for a variable that is not there yet
+  log_silent : logged old.log.groups.items (length old.kept.items) ≡ []
+  log_silent = elim (cases_lt 0 (length (logged old.log.groups.items (length old.kept.items)))) [
+    | inl some ↦
+        let v = k.logs (length old.kept.items) some in
+        absurd (omega (arith, slice_get_within old.kept.items (length old.kept.items) v.0 v.1))
+    | inr none ↦ nil_from_length (logged old.log.groups.items (length old.kept.items)) (omega (arith, none))
+  ]
+
+  silent_wave : HasWave (old.kept.items ++ variable_at code s first ∷ []) (logged old.log.groups.items) (length old.kept.items) code s.wave.width c.value_changes c.tick
   unfolding latest_value value_from
   silent_wave = record {
     first = variable_at code s first;
     stands = last_of old.kept.items (variable_at code s first);
     coded = refl;
     sized = refl;
-    ticks = subst (All (λ (e : Change). e.tick ≤ c.tick)) (sym silent) (All-nil (λ (e : Change). e.tick ≤ c.tick));
-    values = λ t.
-        ap (λ cs. value_at s.wave.width cs t) silent
-        ∙ sym (ap (latest_value s.wave.width code t (all_x s.wave.width)) value_changes);
+    gives = subst (GivesValues s.wave.width c.tick (λ t. latest_value s.wave.width code t (all_x s.wave.width) c.value_changes) s.wave.changes) (sym log_silent)
+        (subst (λ cs. GivesValues s.wave.width c.tick (λ t. latest_value s.wave.width code t (all_x s.wave.width) c.value_changes) cs []) (sym silent)
+        (gives_as s.wave.width c.tick (λ t. all_x s.wave.width) [] (λ t. latest_value s.wave.width code t (all_x s.wave.width) c.value_changes) []
+        (λ t. sym (ap (latest_value s.wave.width code t (all_x s.wave.width)) value_changes)) (gives_nothing s.wave.width c.tick)));
   }
 
-  keep_here : (v : Option VariableDeclaration) → Stands old.kept.items c.value_changes c.tick code (owner_of old code) v
-      → Stands (old.kept.items ++ variable_at code s first ∷ []) c.value_changes c.tick code (Some (Kept first)) (option_or v (Some (declaration_in scopes code s)))
+  keep_here : (v : Option VariableDeclaration) → Stands old.kept.items (logged old.log.groups.items) c.value_changes c.tick code (owner_of old code) v
+      → Stands (old.kept.items ++ variable_at code s first ∷ []) (logged old.log.groups.items) c.value_changes c.tick code (Some (Kept first)) (option_or v (Some (declaration_in scopes code s)))
   keep_here None stands = elim free [
     | inl (none, end) ↦
-        (keeps, subst (λ n. HasWave (old.kept.items ++ variable_at code s first ∷ []) n code s.wave.width c.value_changes c.tick) (sym end) silent_wave)
-    | inr (had, width) ↦ absurd (subst (λ o. Stands old.kept.items c.value_changes c.tick code o None) had stands)
+        (keeps, subst (λ n. HasWave (old.kept.items ++ variable_at code s first ∷ []) (logged old.log.groups.items) n code s.wave.width c.value_changes c.tick) (sym end) silent_wave)
+    | inr (had, width) ↦ absurd (subst (λ o. Stands old.kept.items (logged old.log.groups.items) c.value_changes c.tick code o None) had stands)
   ]
   keep_here (Some e) stands = elim free [
-    | inl (none, end) ↦ absurd (subst (λ o. Stands old.kept.items c.value_changes c.tick code o (Some e)) none stands)
+    | inl (none, end) ↦ absurd (subst (λ o. Stands old.kept.items (logged old.log.groups.items) c.value_changes c.tick code o (Some e)) none stands)
     | inr (had, width) ↦
-        stands_longer c.value_changes c.tick old.kept.items (variable_at code s first ∷ []) code (Some (Kept first)) (Some e)
-        (subst (λ o. Stands old.kept.items c.value_changes c.tick code o (Some e)) had stands)
+        stands_longer (logged old.log.groups.items) c.value_changes c.tick old.kept.items (variable_at code s first ∷ []) code (Some (Kept first)) (Some e)
+        (subst (λ o. Stands old.kept.items (logged old.log.groups.items) c.value_changes c.tick code o (Some e)) had stands)
   ]
 
-  keep_stands : (key : List ℕ) → Stands new.kept.items c.value_changes c.tick key (owner_of new key) (variable_of (with_declaration c (declaration_in scopes code s)) key)
+  keep_stands : (key : List ℕ) → Stands new.kept.items (logged new.log.groups.items) c.value_changes c.tick key (owner_of new key) (variable_of (with_declaration c (declaration_in scopes code s)) key)
   keep_stands key =
       let all = old.kept.items ++ variable_at code s first ∷ [] in
       let d = declaration_in scopes code s in
       let both =
-      by_code (λ b. Stands all c.value_changes c.tick key (if b then Some (Kept first) else owner_of old key) (option_or (variable_of c key) (if b then Some d else None))) key code
-      (λ is. subst (λ name. Stands all c.value_changes c.tick name (Some (Kept first)) (option_or (variable_of c name) (Some d))) (sym is) (keep_here (variable_of c code) (k.stand code)))
-      (λ _. stands_still c.value_changes c.tick all key (owner_of old key) (variable_of c key)
-      (stands_longer c.value_changes c.tick old.kept.items (variable_at code s first ∷ []) key (owner_of old key) (variable_of c key) (k.stand key))) in
-      subst (λ vs. Stands vs c.value_changes c.tick key (owner_of new key) (variable_of (with_declaration c d) key)) (sym items)
-      (subst (λ o. Stands all c.value_changes c.tick key o (variable_of (with_declaration c d) key)) (sym (puts key))
-      (subst (Stands all c.value_changes c.tick key (if bytes_eq key code then Some (Kept first) else owner_of old key)) (sym (found_with key c.declared d)) both))
+      by_code (λ b. Stands all (logged old.log.groups.items) c.value_changes c.tick key (if b then Some (Kept first) else owner_of old key) (option_or (variable_of c key) (if b then Some d else None))) key code
+      (λ is. subst (λ name. Stands all (logged old.log.groups.items) c.value_changes c.tick name (Some (Kept first)) (option_or (variable_of c name) (Some d))) (sym is) (keep_here (variable_of c code) (k.stand code)))
+      (λ _. stands_still (logged old.log.groups.items) c.value_changes c.tick all key (owner_of old key) (variable_of c key)
+      (stands_longer (logged old.log.groups.items) c.value_changes c.tick old.kept.items (variable_at code s first ∷ []) key (owner_of old key) (variable_of c key) (k.stand key))) in
+      subst (λ (l : ChangeLog). Stands new.kept.items (logged l.groups.items) c.value_changes c.tick key (owner_of new key) (variable_of (with_declaration c d) key)) (sym log)
+      (subst (λ (vs : List Variable). Stands vs (logged old.log.groups.items) c.value_changes c.tick key (owner_of new key) (variable_of (with_declaration c d) key)) (sym items)
+      (subst (λ o. Stands all (logged old.log.groups.items) c.value_changes c.tick key o (variable_of (with_declaration c d) key)) (sym (puts key))
+      (subst (Stands all (logged old.log.groups.items) c.value_changes c.tick key (if bytes_eq key code then Some (Kept first) else owner_of old key)) (sym (found_with key c.declared d)) both)))
 
   -- the variables before it know their first ones
   keep_earlier : (position : ℕ) (v : Variable) → slice_get old.kept.items position ≡ Some v → HasFirst new position v
@@ -262,8 +282,8 @@ module _ (old new : Variables) (c : Context) (scopes : List ScopeName) (code : L
   first_within = elim free [
     | inl (none, end) ↦ omega (arith, end)
     | inr (had, width) ↦
-        let e = stands_kept old.kept.items c.value_changes c.tick code (variable_of c code) first
-        (subst (λ o. Stands old.kept.items c.value_changes c.tick code o (variable_of c code)) had (k.stand code)) in
+        let e = stands_kept old.kept.items (logged old.log.groups.items) c.value_changes c.tick code (variable_of c code) first
+        (subst (λ o. Stands old.kept.items (logged old.log.groups.items) c.value_changes c.tick code o (variable_of c code)) had (k.stand code)) in
         omega (arith, slice_get_within old.kept.items first e.3.first e.3.stands)
   ]
 
@@ -297,9 +317,15 @@ module _ (old new : Variables) (c : Context) (scopes : List ScopeName) (code : L
               ∙ (λ i. k.kept i ++ record { scopes = sym bare i; kind = s.kind; size = s.wave.width; code = code; words = s.words } ∷ [])
               ∙ sym (map-append declaration old.kept.items (variable_at code s first ∷ [])) ∙ ap (map declaration) (sym items);
           skipped = same ∙ k.skipped ∙ omega arith ∙ sym (count_with c.declared d false keeps);
+          widths = widths ∙ ap (λ ws. ws ++ s.wave.width ∷ []) k.widths
+              ∙ sym (map-append (λ (v : Variable). v.signal.wave.width) old.kept.items (variable_at code s first ∷ [])) ∙ ap (map (λ (v : Variable). v.signal.wave.width)) (sym items);
           stand = keep_stands;
           firsts = keep_firsts;
           few = subst (λ vs. length vs ≤ SIGNAL_LIMIT) (sym items) (omega (arith, room, length_push old.kept.items (variable_at code s first)));
+          grouped = subst (λ (l : ChangeLog). AreGrouped 0 l.groups.items) (sym log) k.grouped;
+          logs = subst (λ (l : ChangeLog). HasLogs new.kept.items (logged l.groups.items)) (sym log)
+              (subst (λ (vs : List Variable). HasLogs vs (logged old.log.groups.items)) (sym items)
+              (λ position some. let v = k.logs position some in (v.0, stays old.kept.items (variable_at code s first ∷ []) position v.0 v.1, v.2)));
         },
       )
 
@@ -307,12 +333,13 @@ module _ (old new : Variables) (c : Context) (scopes : List ScopeName) (code : L
 pub push_declares : (old new : Variables) (c : Context) (scopes : List ScopeName) (code : List ℕ) (s : Signal) (first : ℕ) (result : Result (Unit {0}) Fault)
     → Knows old c → c.value_changes ≡ [] → s.wave.changes ≡ [] → s.scopes ≡ [] → is_skipped (declaration_in scopes code s) ≡ false → IsFree old code s first
     → OnOk result (length old.kept.items < SIGNAL_LIMIT) → OnOk result (new.kept.items ≡ old.kept.items ++ variable_at code s first ∷ [])
+    → OnOk result (new.widths.items ≡ old.widths.items ++ s.wave.width ∷ []) → new.log ≡ old.log
     → OnOk result (Puts old new code (Kept first)) → new.skipped ≡ old.skipped
     → IfErr result (λ fault. (fault ≡ faults.NoMemory) ⊎ ((fault ≡ faults.TooManySignals) × (SIGNAL_LIMIT ≤ length old.kept.items)))
     → DeclaresAs c (declaration_in scopes code s) result new
-push_declares old new c scopes code s first (Ok x) k value_changes silent bare keeps free room items puts same refuses =
-    keep_declares old new c scopes code s first k value_changes silent bare keeps items free puts room same x
-push_declares old new c scopes code s first (Err fault) k value_changes silent bare keeps free room items puts same refuses = elim refuses [
+push_declares old new c scopes code s first (Ok x) k value_changes silent bare keeps free room items widths log puts same refuses =
+    keep_declares old new c scopes code s first k value_changes silent bare keeps items widths log free puts room same x
+push_declares old new c scopes code s first (Err fault) k value_changes silent bare keeps free room items widths log puts same refuses = elim refuses [
   | inl none ↦ inl none
   | inr (why, full) ↦ subst (λ f. DeclaresAs c (declaration_in scopes code s) (Err f) new) (sym why) (keep_full old c scopes code s first k keeps free new full)
 ]

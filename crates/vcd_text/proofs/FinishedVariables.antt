@@ -14,6 +14,8 @@ use Rattle.vcd_text.specs.Meaning.{latest_value, declared_signal}
 use Rattle.vcd_text.specs.inside.Variables.{declaration, HasWave, Stands, Knows, Finishes}
 use Rattle.vcd_text.specs.declared.reading.variables.Variable.{Variable}
 use Rattle.vcd_text.specs.declared.reading.variables.Variables.{Variables}
+use Rattle.vcd_text.specs.inside.ChangeLog.{GivesValues, logged}
+use Rattle.vcd_text.proofs.LoggedValues.{gives_late}
 use Rattle.vcd_text.proofs.CopiedWaves.{Ended, ended_upto}
 use Rattle.vcd_text.proofs.Owners.{stands_kept}
 use Rattle.vcd_text.proofs.DeclaredVariables.{stays}
@@ -36,15 +38,15 @@ map_twice : (f : VariableDeclaration → SignalContents) (vs : List Variable) �
 map_twice f [] = refl
 map_twice f (v ∷ vs) = ap (λ l. f (declaration v) ∷ l) (map_twice f vs)
 
-module _ (vs : Variables) (c : Context) (yielded rest : List Variable) (v : Variable) (signals : List Signal) (k : Knows vs c) (all : vs.kept.items ≡ yielded ++ v ∷ rest)
+module _ (vs : Variables) (c : Context) (yielded rest : List Variable) (v : Variable) (signals : List Signal) (k : Knows vs c) (empty : vs.log.groups.items ≡ []) (all : vs.kept.items ≡ yielded ++ v ∷ rest)
     (told : map signal_contents signals ≡ map (declared_signal c.value_changes c.tick) (map declaration yielded)) where
   stands_at : slice_get vs.kept.items (length yielded) ≡ Some v
   stands_at = ap (λ l. slice_get l (length yielded)) all ∙ middle_of yielded rest v
 
-  own_wave : (d : VariableDeclaration) × (variable_of c v.code ≡ Some d) × (is_skipped d ≡ false) × HasWave vs.kept.items v.first v.code d.size c.value_changes c.tick
+  own_wave : (d : VariableDeclaration) × (variable_of c v.code ≡ Some d) × (is_skipped d ≡ false) × HasWave vs.kept.items (logged vs.log.groups.items) v.first v.code d.size c.value_changes c.tick
   own_wave =
-      stands_kept vs.kept.items c.value_changes c.tick v.code (variable_of c v.code) v.first
-      (subst (λ o. Stands vs.kept.items c.value_changes c.tick v.code o (variable_of c v.code)) (k.firsts (length yielded) v stands_at).owned (k.stand v.code))
+      stands_kept vs.kept.items (logged vs.log.groups.items) c.value_changes c.tick v.code (variable_of c v.code) v.first
+      (subst (λ o. Stands vs.kept.items (logged vs.log.groups.items) c.value_changes c.tick v.code o (variable_of c v.code)) (k.firsts (length yielded) v stands_at).owned (k.stand v.code))
 
   -- the changes of a variable of this size and code
   changes_by : ℕ → List ℕ → List Change
@@ -57,13 +59,15 @@ module _ (vs : Variables) (c : Context) (yielded rest : List Variable) (v : Vari
       let wave = own_wave.3 in
       let same : wave.first ≡ v = same_Some wave.first v (sym wave.stands ∙ ap (slice_get vs.kept.items) end ∙ stands_at) in
       let size : v.signal.wave.width ≡ own_wave.0.size = ap (λ (u : Variable). u.signal.wave.width) (sym same) ∙ wave.sized in
+      let gives = subst (λ gs. GivesValues own_wave.0.size c.tick (λ t. latest_value own_wave.0.size v.code t (all_x own_wave.0.size) c.value_changes) wave.first.signal.wave.changes (logged gs v.first)) empty wave.gives in
+      let ticks = gives_late own_wave.0.size c.tick (λ t. latest_value own_wave.0.size v.code t (all_x own_wave.0.size) c.value_changes) wave.first.signal.wave.changes [] gives in
       let changes : v.signal.wave.changes ≡ changes_by v.signal.wave.width v.code =
       wave_is v.signal.wave.width c.tick v.signal.wave.changes (λ t. latest_value v.signal.wave.width v.code t (all_x v.signal.wave.width) c.value_changes) is
-      (ended_upto c.tick v.signal.wave.changes (subst (λ (u : Variable). Ended c.tick u.signal.wave.changes) same wave.ticks))
+      (ended_upto c.tick v.signal.wave.changes (subst (λ (u : Variable). Ended c.tick u.signal.wave.changes) same ticks))
       (λ t _.
       ap (λ n. value_at n v.signal.wave.changes t) size
       ∙ ap (λ (u : Variable). value_at own_wave.0.size u.signal.wave.changes t) (sym same)
-      ∙ wave.values t
+      ∙ gives.values t
       ∙ ap (λ n. latest_value n v.code t (all_x n) c.value_changes) (sym size)) in
       λ i. record { scopes = v.signal.scopes; kind = v.signal.kind; words = v.signal.words; width = v.signal.wave.width; changes = changes i }
 

@@ -36,6 +36,9 @@ pub mod Listing
 pub mod Texts
 pub mod TextLengths
 pub mod CopiedWaves
+pub mod LoggedValues
+pub mod ChangeLogs
+pub mod SettledVariables
 pub mod Owners
 pub mod DeclaredVariables
 pub mod ChangedVariables

@@ -10,6 +10,7 @@ use Rattle.std.proofs.lemmas.List.Folds.{find-append}
 use Rattle.indexmap.specs.IndexMap.{IndexMap, Updates, get_by}
 use Rattle.vcd_text.specs.Grammar.{VariableDeclaration, ValueChange, is_skipped}
 use Rattle.vcd_text.specs.inside.Variables.{HasWave, Stands}
+use Rattle.vcd_text.specs.declared.reading.change_log.LoggedChange.{LoggedChange}
 use Rattle.vcd_text.specs.declared.reading.variables.Owner.{Owner}
 use Rattle.vcd_text.specs.declared.reading.variables.Owner.TheVariants.{Skipped, Kept}
 use Rattle.vcd_text.specs.declared.reading.variables.Variable.{Variable}
@@ -48,23 +49,23 @@ module _ {S : Type 0} (old new : IndexMap (Vec ℕ) Owner S) (k : Vec ℕ) (w : 
 
 -- ---- a code against the variables that were declared
 
-module _ (vs : List Variable) (value_changes : List ValueChange) (tick : ℕ) (code : List ℕ) where
+module _ (vs : List Variable) (log : ℕ → List LoggedChange) (value_changes : List ValueChange) (tick : ℕ) (code : List ℕ) where
   -- that of a variable that is kept has its wave
-  pub stands_kept : (declared : Option VariableDeclaration) (position : ℕ) → Stands vs value_changes tick code (Some (Kept position)) declared
-      → (d : VariableDeclaration) × (declared ≡ Some d) × (is_skipped d ≡ false) × HasWave vs position code d.size value_changes tick
+  pub stands_kept : (declared : Option VariableDeclaration) (position : ℕ) → Stands vs log value_changes tick code (Some (Kept position)) declared
+      → (d : VariableDeclaration) × (declared ≡ Some d) × (is_skipped d ≡ false) × HasWave vs log position code d.size value_changes tick
   stands_kept None position s = absurd s
   stands_kept (Some d) position s = (d, refl, s.0, s.1)
 
 -- what holds of the waves in one list holds in another
-pub stands_moved : (vs ws : List Variable) (rs ss : List ValueChange) (early late : ℕ) (code : List ℕ) (owner : Option Owner) (declared : Option VariableDeclaration)
-    → ((position size : ℕ) → owner ≡ Some (Kept position) → HasWave vs position code size rs early → HasWave ws position code size ss late)
-    → Stands vs rs early code owner declared → Stands ws ss late code owner declared
-stands_moved vs ws rs ss early late code None None transitions s = s
-stands_moved vs ws rs ss early late code None (Some d) transitions s = s
-stands_moved vs ws rs ss early late code (Some Skipped) None transitions s = s
-stands_moved vs ws rs ss early late code (Some Skipped) (Some d) transitions s = s
-stands_moved vs ws rs ss early late code (Some (Kept position)) None transitions s = s
-stands_moved vs ws rs ss early late code (Some (Kept position)) (Some d) transitions s = (s.0, transitions position d.size refl s.1)
+pub stands_moved : (vs ws : List Variable) (log rest : ℕ → List LoggedChange) (rs ss : List ValueChange) (early late : ℕ) (code : List ℕ) (owner : Option Owner) (declared : Option VariableDeclaration)
+    → ((position size : ℕ) → owner ≡ Some (Kept position) → HasWave vs log position code size rs early → HasWave ws rest position code size ss late)
+    → Stands vs log rs early code owner declared → Stands ws rest ss late code owner declared
+stands_moved vs ws log rest rs ss early late code None None transitions s = s
+stands_moved vs ws log rest rs ss early late code None (Some d) transitions s = s
+stands_moved vs ws log rest rs ss early late code (Some Skipped) None transitions s = s
+stands_moved vs ws log rest rs ss early late code (Some Skipped) (Some d) transitions s = s
+stands_moved vs ws log rest rs ss early late code (Some (Kept position)) None transitions s = s
+stands_moved vs ws log rest rs ss early late code (Some (Kept position)) (Some d) transitions s = (s.0, transitions position d.size refl s.1)
 
 -- the first variable of a code, with one more declared
 pub found_with : (code : List ℕ) (ds : List VariableDeclaration) (d : VariableDeclaration)

@@ -1,6 +1,7 @@
 -- Stepping stones: definitions that only contracts of private functions and proofs cite. A reader need not believe them.
 pub mod Spaces
 pub mod TimescaleText
+pub mod ChangeLog
 pub mod Scopes
 pub mod Variables
 pub mod ShortCodes

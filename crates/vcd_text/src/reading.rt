@@ -12,6 +12,7 @@ ghost use Rattle.vcd_text.specs.declared.fault.Fault.{Fault};
 ghost use Rattle.vcd_text.specs.Refusals.{IsRefusal};
 
 mod binary_number;
+mod change_log;
 mod changes;
 mod chunks;
 mod declarations;
@@ -46,11 +47,13 @@ pub struct Loaded {
 /// space follows them, are looked at first: a fault in them is answered. `ReadFault` is answered only where the
 /// source has failed.
 ///
-/// One step for each byte; for each change besides it one look-up of its code and one push; for each variable one
-/// look-up or two, and a copy of its code, its name and the scopes that are open; for each later variable of a
-/// code a copy of the changes. At most 4,096 bytes are asked for at a time, and none behind a fault that is sure.
-/// Memory: those bytes, the longest word, and the capture as it grows, of which each change takes a tick and a
-/// value of `WIDTH_LIMIT` bits; beside each signal its own copy of the code, each code once more in the table, and
+/// One step for each byte; for each change besides it one look-up of its code, and a push: of a variable of at most
+/// 64 bits one into the log, and at the end one out of it into the wave; for each variable one look-up or two, and a
+/// copy of its code, its name and the scopes that are open; for each later variable of a code a copy of the changes.
+/// At most 4,096 bytes are asked for at a time, and none behind a fault that is sure.
+/// Memory: those bytes, the longest word, 32 bytes for each change in the log, of which one group of `GROUPS` after
+/// another is given back as its waves are made, and the capture, of which each change takes a tick and a value of
+/// `WIDTH_LIMIT` bits; beside each signal its own copy of the code, each code once more in the table, its width, and
 /// four bytes for each code of up to three bytes that might come before the last of those that are declared.
 pub fn read<R: Source>(alloc: Global, reader: &mut R) -> Result<Loaded, ReadError>
     requires ready { R.has_failed reader.old ≡ false }

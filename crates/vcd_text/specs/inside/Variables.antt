@@ -14,6 +14,8 @@ use Rattle.vcd_text.specs.Items.{variable}
 use Rattle.vcd_text.specs.Grammar.{VariableDeclaration, ValueChange, Context, is_skipped, kept_variables, declaration_of, variable_of, may_have_code, has_room, is_binary_number, takes_binary_number, told_after_item, with_value_change}
 use Rattle.vcd_text.specs.Meaning.{latest_value}
 use Rattle.vcd_text.specs.inside.ShortCodes.{code_owner}
+use Rattle.vcd_text.specs.inside.ChangeLog.{GivesValues, logged, AreGrouped}
+use Rattle.vcd_text.specs.declared.reading.change_log.LoggedChange.{LoggedChange}
 use Rattle.vcd_text.specs.declared.reading.variables.Owner.{Owner}
 use Rattle.vcd_text.specs.declared.reading.variables.Owner.TheVariants.{Skipped, Kept}
 use Rattle.vcd_text.specs.declared.reading.variables.Variable.{Variable}
@@ -41,21 +43,20 @@ declaration v = declaration_by v.code v.signal
 abbrev pub owner_of : Variables → List ℕ → Option Owner
 owner_of vs code = code_owner vs.owners.codes code
 
--- the variable of this code and size stands at this position, and its wave follows the value_changes, the last of which is at the tick or before
-pub record HasWave (vs : List Variable) (position : ℕ) (code : List ℕ) (size : ℕ) (value_changes : List ValueChange) (tick : ℕ) : Type 0 where
+-- the variable of this code and size stands at this position, and its wave with the changes that the log has for it follows the value_changes, the last of which is at the tick or before
+pub record HasWave (vs : List Variable) (log : ℕ → List LoggedChange) (position : ℕ) (code : List ℕ) (size : ℕ) (value_changes : List ValueChange) (tick : ℕ) : Type 0 where
   pub first : Variable
   pub stands : slice_get vs position ≡ Some first
   pub coded : first.code ≡ code
   pub sized : first.signal.wave.width ≡ size
-  pub ticks : All (λ (change : Change). change.tick ≤ tick) first.signal.wave.changes
-  pub values : (t : ℕ) → value_at size first.signal.wave.changes t ≡ latest_value size code t (all_x size) value_changes
+  pub gives : GivesValues size tick (λ t. latest_value size code t (all_x size) value_changes) first.signal.wave.changes (log position)
 
 -- what a code stands for agrees with the first variable that was declared with it
-abbrev pub Stands : List Variable → List ValueChange → ℕ → List ℕ → Option Owner → Option VariableDeclaration → Type 0
-Stands vs value_changes tick code None None = Unit {0}
-Stands vs value_changes tick code (Some Skipped) (Some d) = IsTrue (is_skipped d)
-Stands vs value_changes tick code (Some (Kept position)) (Some d) = IsFalse (is_skipped d) × HasWave vs position code d.size value_changes tick
-Stands vs value_changes tick code owner declared = ⊥
+abbrev pub Stands : List Variable → (ℕ → List LoggedChange) → List ValueChange → ℕ → List ℕ → Option Owner → Option VariableDeclaration → Type 0
+Stands vs log value_changes tick code None None = Unit {0}
+Stands vs log value_changes tick code (Some Skipped) (Some d) = IsTrue (is_skipped d)
+Stands vs log value_changes tick code (Some (Kept position)) (Some d) = IsFalse (is_skipped d) × HasWave vs log position code d.size value_changes tick
+Stands vs log value_changes tick code owner declared = ⊥
 
 -- a kept variable knows the first one with its code, which stands no later and has the same size
 pub record HasFirst (vs : Variables) (position : ℕ) (v : Variable) : Type 0 where
@@ -63,13 +64,20 @@ pub record HasFirst (vs : Variables) (position : ℕ) (v : Variable) : Type 0 wh
   pub no_later : v.first ≤ position
   pub same_size : (w : Variable) → slice_get vs.kept.items v.first ≡ Some w → w.signal.wave.width ≡ v.signal.wave.width
 
+-- the log has changes of variables alone that are the first of their code
+abbrev pub HasLogs : List Variable → (ℕ → List LoggedChange) → Type 0
+HasLogs vs log = (position : ℕ) → 0 < length (log position) → (v : Variable) × (slice_get vs position ≡ Some v) × (v.first ≡ position)
+
 -- the variables hold what has been told of them: declarations without their scopes, and value_changes up to the tick
 pub record Knows (vs : Variables) (c : Context) : Type 0 where
   pub kept : map without_scopes (kept_variables c.declared) ≡ map declaration vs.kept.items
   pub skipped : vs.skipped ≡ count_by is_skipped c.declared
-  pub stand : (code : List ℕ) → Stands vs.kept.items c.value_changes c.tick code (owner_of vs code) (variable_of c code)
+  pub widths : vs.widths.items ≡ map (λ (v : Variable). v.signal.wave.width) vs.kept.items
+  pub stand : (code : List ℕ) → Stands vs.kept.items (logged vs.log.groups.items) c.value_changes c.tick code (owner_of vs code) (variable_of c code)
   pub firsts : (position : ℕ) (v : Variable) → slice_get vs.kept.items position ≡ Some v → HasFirst vs position v
   pub few : length vs.kept.items ≤ SIGNAL_LIMIT
+  pub grouped : AreGrouped 0 vs.log.groups.items
+  pub logs : HasLogs vs.kept.items (logged vs.log.groups.items)
 
 -- ---- what comes of a declaration
 

@@ -1,7 +1,7 @@
 //! The words of changes: stamps, values, brackets of dumps, and commands that are passed over.
 //!
-//! A change takes one look-up of its code and one push. Only the digits of a change of several bits are
-//! kept till its code comes, in room that stays.
+//! A change takes one look-up of its code and one push, that of a narrow variable into the log. Only the digits of
+//! a change of several bits are kept till its code comes, in room that stays.
 
 ghost use Rattle.std.specs.Prelude.{◌≡◌, ◌<◌, ◌∷◌, ℕ, List, true, false, length, Ok, codes};
 ghost use Rattle.vcd_text.specs.Words.{word_on};
@@ -15,11 +15,12 @@ use crate::reading::binary_number::is_binary_digit;
 use crate::reading::keywords::{is_declaring, is_dump_word};
 use crate::reading::reader::{OpenItem, Reader};
 use crate::reading::ticks_and_sizes::tick_of;
+use std::alloc::Global;
 
 impl Reader {
     /// Takes a word between two changes, which stands on this line. By its first byte it is a stamp, a
     /// command, or the first word of a change of a value; any other word is `BadChange`.
-    pub fn begin_change(&mut self, text: &[u8], line: u64) -> Result<(), Fault>
+    pub fn begin_change(&mut self, alloc: Global, text: &[u8], line: u64) -> Result<(), Fault>
         requires between { self.old.item ≡ items.Nothing }
         requires changing { self.old.changing ≡ true }
         requires reading { IsUnderway self.old }
@@ -29,7 +30,7 @@ impl Reader {
         match text {
             [b'#', digits @ ..] => self.stamp(digits),
             [b'$', ..] => self.begin_command(text),
-            [first, rest @ ..] => self.begin_value(*first, rest, line),
+            [first, rest @ ..] => self.begin_value(alloc, *first, rest, line),
             [] => Err(Fault::BadChange),
         }
     }
@@ -71,7 +72,7 @@ impl Reader {
     }
 
     /// Takes the first word of a change of a value: this byte, and the rest.
-    fn begin_value(&mut self, first: u8, rest: &[u8], line: u64) -> Result<(), Fault>
+    fn begin_value(&mut self, alloc: Global, first: u8, rest: &[u8], line: u64) -> Result<(), Fault>
         requires between { self.old.item ≡ items.Nothing }
         requires changing { self.old.changing ≡ true }
         requires reading { IsUnderway self.old }
@@ -79,7 +80,7 @@ impl Reader {
         ensures { TakesOrRefuses self.old (word_on (first ∷ rest.now) line) result self.new }
     {
         if is_binary_digit(first) {
-            self.set_bit(first, rest)
+            self.set_bit(alloc, first, rest)
         } else if is_vector_prefix(first) {
             self.begin_vector(rest, line)
         } else if is_dropped_prefix(first) {
@@ -92,7 +93,7 @@ impl Reader {
 
     /// Sets a code to the value that a binary digit writes: `BadChange` where there is no code, `UnknownCode`
     /// where it was not declared.
-    fn set_bit(&mut self, digit: u8, code: &[u8]) -> Result<(), Fault>
+    fn set_bit(&mut self, alloc: Global, digit: u8, code: &[u8]) -> Result<(), Fault>
         requires between { self.old.item ≡ items.Nothing }
         requires changing { self.old.changing ≡ true }
         requires reading { IsUnderway self.old }
@@ -104,7 +105,8 @@ impl Reader {
             return Err(Fault::BadChange);
         }
         let digits = [digit];
-        self.variables.change(code, self.tick, digits.as_slice())
+        self.variables
+            .change(alloc, code, self.tick, digits.as_slice())
     }
 
     /// Begins a change of several bits, and keeps its digits.
@@ -134,13 +136,14 @@ impl Reader {
 
     /// Takes the code of a change of several bits, and sets it to the digits: `UnknownCode` where it was not
     /// declared, `BadChange` where they are no value, `ValueTooLong` where they are too many.
-    pub fn end_vector(&mut self, code: &[u8]) -> Result<(), Fault>
+    pub fn end_vector(&mut self, alloc: Global, code: &[u8]) -> Result<(), Fault>
         requires item { self.old.item ≡ items.Vector }
         requires reading { IsUnderway self.old }
         ensures { (line : ℕ) → TakesOrRefuses self.old (word_on code.now line) result self.new }
     {
         self.item = OpenItem::Nothing;
-        self.variables.change(code, self.tick, self.text.as_slice())
+        let digits = self.text.as_slice();
+        self.variables.change(alloc, code, self.tick, digits)
     }
 
     /// Takes the code of a change of a real number or a string, which sets nothing: `UnknownCode` where it

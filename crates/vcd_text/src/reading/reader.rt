@@ -1,6 +1,8 @@
 //! The reader, which takes one word after another.
 
 ghost use Rattle.std.specs.Prelude.{◌≡◌, ◌<◌, [], true, length, IfOk};
+ghost use Rattle.vcd_text.specs.Grammar.{Context};
+ghost use Rattle.vcd_text.specs.inside.Variables.{Knows};
 ghost use Rattle.vcd_core.specs.Contents.{contents};
 ghost use Rattle.vcd_text.specs.Words.{word_on};
 ghost use Rattle.vcd_text.specs.inside.OpenItems.{shown_line};
@@ -101,9 +103,9 @@ impl Reader {
         ensures { TakesOrRefuses self.old (word_on text.now line) result self.new }
     {
         match self.item {
-            OpenItem::Nothing if self.changing => self.begin_change(text, line),
+            OpenItem::Nothing if self.changing => self.begin_change(alloc, text, line),
             OpenItem::Nothing => self.begin_declaration(text),
-            OpenItem::Vector => self.end_vector(text),
+            OpenItem::Vector => self.end_vector(alloc, text),
             OpenItem::Dropped => self.end_dropped(text),
             _ if text == b"$end".as_slice() => self.close(alloc),
             _ => self.go_on(alloc, text),
@@ -119,7 +121,8 @@ impl Reader {
 
     /// The capture that the file means, once its last word has been taken.
     pub fn finish(self, alloc: Global) -> Result<Loaded, NoMemory>
-        requires { is_complete self ≡ true }
+        requires complete { is_complete self ≡ true }
+        requires known { (c : Context) × Knows self.variables c }
         ensures { IfOk result (λ loaded. Means self (contents loaded.capture) loaded.skipped) }
     {
         let Reader {

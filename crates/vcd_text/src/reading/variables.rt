@@ -1,23 +1,28 @@
 //! The variables that a file declares, with their waves so far.
 
-ghost use Rattle.std.specs.Prelude.{◌≡◌, ◌⊎◌, ◌<◌, ◌≤◌, ◌+◌, ◌++◌, ◌^◌, ◌==◌, ◌||◌, nat_lt, ℕ, List, [], ◌∷◌, map, length, slice_get, is_some, false, Some, IsTrue, IsFalse, IfOk, IfErr, OnOk, All, if◌then◌else◌, bytes_eq};
+ghost use Rattle.std.specs.Prelude.{◌≡◌, ◌⊎◌, ◌<◌, ◌≤◌, ◌+◌, ◌++◌, ◌^◌, ◌==◌, ◌||◌, nat_lt, ℕ, List, [], ◌∷◌, map, length, slice_get, is_some, false, Some, IsTrue, IsFalse, IfOk, IfErr, OnOk, OnErr, All, if◌then◌else◌, bytes_eq, MatchResult};
 ghost use Rattle.std.specs.Option.{option_map_or};
 ghost use Rattle.vcd_core.specs.Contents.{signal_contents};
 ghost use Rattle.vcd_core.specs.Wave.{IsWave};
+ghost use Rattle.vcd_core.specs.WordRows.{letters_of};
 ghost use Rattle.vcd_core.specs.declared.capture.ScopeName.{ScopeName};
 ghost use Rattle.vcd_core.specs.declared.value.TheConstants.{WIDTH_LIMIT};
 ghost use Rattle.vcd_core.specs.Word.{is_skipped_kind as skips_kind};
 ghost use Rattle.vcd_text.specs.Grammar.{Context, VariableDeclaration, variable_of, kept_variables, has_good_size, is_skipped};
 ghost use Rattle.vcd_text.specs.Meaning.{declared_signal};
+ghost use Rattle.vcd_text.specs.inside.ChangeLog.{TakesLogged};
+ghost use Rattle.vcd_text.specs.inside.ValueDigits.{WritesValue};
 ghost use Rattle.vcd_text.specs.inside.Variables.{owner_of, declaration_in, without_scopes, Knows, Declares, DeclaresAs, TakesChange, Sets, RefusesBinaryNumber, Finishes};
 ghost use Rattle.vcd_text.specs.declared.fault.Fault.TheVariants.{NoMemory as NoMemoryFault, TooManySignals};
 ghost use Rattle.vcd_text.specs.declared.reading.variables.Owner.TheVariants.{Kept as KeptAt};
 
 use crate::fault::Fault;
-use crate::reading::binary_number::{BinaryNumberError, read_value, read_word};
+use crate::reading::binary_number::{BinaryNumberError, LetterWord, read_value, read_word};
+use crate::reading::change_log::{ChangeLog, LoggedChange, settle};
 use crate::reading::owners::Owners;
 use crate::reading::ticks_and_sizes::size_of;
 use std::alloc::Global;
+use std::mem::replace;
 use vcd_core::{
     NoMemory, SIGNAL_LIMIT, ScopePath, Signal, WIDTH_LIMIT, Wave, Word, copy_word, copy_words,
     is_skipped_kind,
@@ -25,7 +30,8 @@ use vcd_core::{
 
 /// A variable that is kept: its code, and the signal that it becomes.
 ///
-/// Of the variables with one code, the first has the wave so far; the others get copies of it at the end.
+/// Of the variables with one code, the first has the wave so far, but for what the log has; the others get copies of
+/// it at the end.
 #[derive(Drop)]
 pub struct Variable {
     pub code: Word,
@@ -35,16 +41,13 @@ pub struct Variable {
 }
 
 impl Variable {
-    /// Sets the value from `tick` on to that of these digits.
+    /// Sets the value from `tick` on to that of these digits, in the wave.
     fn set(&mut self, tick: u64, digits: &[u8]) -> Result<(), Fault>
         requires late { All (λ change. change.tick ≤ tick) self.old.signal.wave.changes }
         ensures sets { OnOk result (Sets tick digits.now self.old self.new) }
         ensures refuses { IfErr result (λ fault. (fault ≡ NoMemoryFault) ⊎
             RefusesBinaryNumber self.old.signal.wave.width digits.now fault) }
     {
-        if self.signal.wave.width() <= 64 {
-            return self.set_word(tick, digits);
-        }
         let value = match read_value(self.signal.wave.width(), digits) {
             Ok(value) => value,
             Err(BinaryNumberError::NoValue) => return Err(Fault::BadChange),
@@ -54,23 +57,36 @@ impl Variable {
         Ok(())
     }
 
-    /// Sets the value of a variable of at most 64 bits, by words alone.
-    fn set_word(&mut self, tick: u64, digits: &[u8]) -> Result<(), Fault>
+    /// Takes a change of the log, with room for `more` changes in the wave first.
+    pub fn take_logged(&mut self, change: LoggedChange, more: usize) -> Result<(), NoMemory>
         requires narrow { self.old.signal.wave.width ≤ 64 }
-        requires late { All (λ change. change.tick ≤ tick) self.old.signal.wave.changes }
-        ensures sets { OnOk result (Sets tick digits.now self.old self.new) }
-        ensures refuses { IfErr result (λ fault. (fault ≡ NoMemoryFault) ⊎
-            RefusesBinaryNumber self.old.signal.wave.width digits.now fault) }
+        requires late { All (λ c. c.tick ≤ change.tick) self.old.signal.wave.changes }
+        ensures { OnOk result (TakesLogged change self.old self.new) }
     {
-        let word = match read_word(self.signal.wave.width(), digits) {
-            Ok(word) => word,
-            Err(BinaryNumberError::NoValue) => return Err(Fault::BadChange),
-            Err(BinaryNumberError::TooLong) => return Err(Fault::ValueTooLong),
-        };
-        self.signal.wave.push_word(tick, word.low, word.high)?;
-        Ok(())
+        self.signal.wave.reserve_exact(more)?;
+        self.signal
+            .wave
+            .push_word(change.tick, change.low, change.high)
     }
 }
+
+/// The value of at most 64 bits that the digits write, or their fault.
+fn word_of_digits(width: u64, digits: &[u8]) -> Result<LetterWord, Fault>
+    requires { width ≤ 64 }
+    ensures { MatchResult result
+        (λ word. WritesValue width digits.now (letters_of width (word.low ∷ []) (word.high ∷ [])))
+        (λ fault. RefusesBinaryNumber width digits.now fault) }
+{
+    match read_word(width, digits) {
+        Ok(word) => Ok(word),
+        Err(BinaryNumberError::NoValue) => Err(Fault::BadChange),
+        Err(BinaryNumberError::TooLong) => Err(Fault::ValueTooLong),
+    }
+}
+
+/// How many changes the copies of waves may have together that later variables of one code get. A short file can
+/// ask for more than any memory holds: what is above is answered as want of memory before it is.
+pub const COPIES_LIMIT: usize = 33_554_432;
 
 /// What a code stands for.
 #[derive(Clone, Copy, Debug, PartialEq, Eq)]
@@ -86,10 +102,14 @@ pub enum Owner {
 pub struct Variables {
     /// Those that are kept, in the order of the file.
     pub kept: Vec<Variable>,
+    /// Their widths, in a row of their own, so that a change waits for no variable.
+    pub widths: Vec<u64>,
     /// What each code stands for.
     pub owners: Owners,
     /// How many are skipped.
     pub skipped: u64,
+    /// The changes that the waves of at most 64 bits do not have yet.
+    pub log: ChangeLog,
 }
 
 impl Variables {
@@ -99,8 +119,10 @@ impl Variables {
     {
         Variables {
             kept: Vec::new(alloc),
+            widths: Vec::new(alloc),
             owners: Owners::new(alloc),
             skipped: 0,
+            log: ChangeLog::new(alloc),
         }
     }
 
@@ -171,10 +193,13 @@ impl Variables {
         ensures few { OnOk result (length self.old.kept.items < SIGNAL_LIMIT) }
         ensures kept { OnOk result (self.new.kept.items ≡ self.old.kept.items ++
             record { code = code.now; signal = signal; first = length self.old.kept.items } ∷ []) }
+        ensures widths { OnOk result (self.new.widths.items ≡
+            self.old.widths.items ++ signal.wave.width ∷ []) }
         ensures owners { OnOk result ((key : List ℕ) → owner_of self.new key ≡
             (if bytes_eq key code.now then Some (KeptAt (length self.old.kept.items))
             else owner_of self.old key)) }
         ensures skipped { self.new.skipped ≡ self.old.skipped }
+        ensures log { self.new.log ≡ self.old.log }
         ensures refuses { IfErr result (λ fault. (fault ≡ NoMemoryFault) ⊎
             ((fault ≡ TooManySignals) × (SIGNAL_LIMIT ≤ length self.old.kept.items))) }
     {
@@ -195,8 +220,11 @@ impl Variables {
         ensures few { OnOk result (length self.old.kept.items < SIGNAL_LIMIT) }
         ensures kept { OnOk result (self.new.kept.items ≡ self.old.kept.items ++
             record { code = code.now; signal = signal; first = first } ∷ []) }
+        ensures widths { OnOk result (self.new.widths.items ≡
+            self.old.widths.items ++ signal.wave.width ∷ []) }
         ensures owners { self.new.owners ≡ self.old.owners }
         ensures skipped { self.new.skipped ≡ self.old.skipped }
+        ensures log { self.new.log ≡ self.old.log }
         ensures refuses { IfErr result (λ fault. (fault ≡ NoMemoryFault) ⊎
             ((fault ≡ TooManySignals) × (SIGNAL_LIMIT ≤ length self.old.kept.items))) }
     {
@@ -204,6 +232,7 @@ impl Variables {
             return Err(Fault::TooManySignals);
         }
         let code = copy_word(alloc, code)?;
+        self.widths.push(signal.wave.width())?;
         self.kept.push(Variable {
             code,
             signal,
@@ -217,7 +246,9 @@ impl Variables {
         ensures owners { OnOk result ((key : List ℕ) → owner_of self.new key ≡
             (if bytes_eq key code.now then Some owner else owner_of self.old key)) }
         ensures kept { self.new.kept ≡ self.old.kept }
+        ensures widths { self.new.widths ≡ self.old.widths }
         ensures skipped { self.new.skipped ≡ self.old.skipped }
+        ensures log { self.new.log ≡ self.old.log }
     {
         self.owners.insert(alloc, code, owner)
     }
@@ -240,9 +271,15 @@ impl Variables {
         }
     }
 
-    /// Sets the value of a code from `tick` on to that of these digits, by one look-up and one push. A code
-    /// that is skipped takes any digits.
-    pub fn change(&mut self, code: &[u8], tick: u64, digits: &[u8]) -> Result<(), Fault>
+    /// Sets the value of a code from `tick` on to that of these digits, by one look-up and one push, into the log or
+    /// a wave. A code that is skipped takes any digits.
+    pub fn change(
+        &mut self,
+        alloc: Global,
+        code: &[u8],
+        tick: u64,
+        digits: &[u8],
+    ) -> Result<(), Fault>
         requires known { (c : Context) × Knows self.old c × (c.tick ≤ tick) }
         ensures { (c : Context) → c.tick ≡ tick → Knows self.old c →
             TakesChange c code.now digits.now result self.new }
@@ -250,8 +287,40 @@ impl Variables {
         match self.owner(code) {
             None => Err(Fault::UnknownCode),
             Some(Owner::Skipped) => Ok(()),
-            Some(Owner::Kept(first)) => self.kept[first].set(tick, digits),
+            Some(Owner::Kept(first)) => self.change_at(alloc, first, tick, digits),
         }
+    }
+
+    /// Sets the value of the variable at a position, the first of its code: one of at most 64 bits by a change of
+    /// the log, a wider one in its wave.
+    fn change_at(
+        &mut self,
+        alloc: Global,
+        first: usize,
+        tick: u64,
+        digits: &[u8],
+    ) -> Result<(), Fault>
+        requires known { (c : Context) × (code : List ℕ) × Knows self.old c × (c.tick ≤ tick)
+            × (owner_of self.old code ≡ Some (KeptAt first)) }
+        ensures { (c : Context) (code : List ℕ) → c.tick ≡ tick → Knows self.old c →
+            owner_of self.old code ≡ Some (KeptAt first) →
+            TakesChange c code digits.now result self.new }
+    {
+        let width = self.widths[first];
+        if width > 64 {
+            return self.kept[first].set(tick, digits);
+        }
+        let word = word_of_digits(width, digits)?;
+        self.log.append(
+            alloc,
+            LoggedChange {
+                tick,
+                position: first,
+                low: word.low,
+                high: word.high,
+            },
+        )?;
+        Ok(())
     }
 
     /// Whether a code has been declared.
@@ -263,16 +332,40 @@ impl Variables {
 
     /// The signals that the kept variables have become, in their order, without their scopes.
     ///
-    /// A signal is moved, but a wave that several variables share is copied for the later ones.
+    /// The waves are made of the log first. A signal is moved, but a wave that several variables share is copied for
+    /// the later ones.
     pub fn into_signals(self, alloc: Global) -> Result<Vec<Signal>, NoMemory>
+        requires { (c : Context) × Knows self c }
         ensures { IfOk result (λ signals. (c : Context) → Knows self c →
             map signal_contents signals.items ≡
             map (declared_signal c.value_changes c.tick) (map without_scopes (kept_variables c.declared))) }
     {
+        let mut variables = self;
+        variables.settle(alloc)?;
+        variables.settled_signals(alloc)
+    }
+
+    /// Gives the waves what the log has for them, which is empty then.
+    fn settle(&mut self, alloc: Global) -> Result<(), NoMemory>
+        requires { (c : Context) × Knows self.old c }
+        ensures same { OnOk result ((c : Context) → Knows self.old c → Knows self.new c) }
+        ensures empty { OnOk result (self.new.log.groups.items ≡ []) }
+    {
+        let groups = replace(&mut self.log.groups, Vec::new(alloc));
+        settle(alloc, &mut self.kept, groups)
+    }
+
+    /// The signals that the kept variables have become, where the log is empty.
+    fn settled_signals(self, alloc: Global) -> Result<Vec<Signal>, NoMemory>
+        ensures { IfOk result (λ signals. self.log.groups.items ≡ [] → (c : Context) →
+            Knows self c → map signal_contents signals.items ≡
+            map (declared_signal c.value_changes c.tick) (map without_scopes (kept_variables c.declared))) }
+    {
         let Variables { kept, .. } = self;
         let mut signals = Vec::with_capacity(alloc, kept.len())?;
+        let mut copies_left = COPIES_LIMIT;
         for variable in kept {
-            push_signal(alloc, &mut signals, variable)?;
+            push_signal(alloc, &mut signals, variable, &mut copies_left)?;
         }
         Ok(signals)
     }
@@ -304,25 +397,50 @@ fn silent_signal(alloc: Global, kind: &Word, width: u64, name: &[Word]) -> Resul
 }
 
 /// Adds the signal of a variable behind those of the variables before it.
-fn push_signal(alloc: Global, signals: &mut Vec<Signal>, variable: Variable) -> Result<(), NoMemory>
+fn push_signal(
+    alloc: Global,
+    signals: &mut Vec<Signal>,
+    variable: Variable,
+    copies_left: &mut usize,
+) -> Result<(), NoMemory>
     ensures { OnOk result ((signal : Signal) × Finishes variable
         (slice_get signals.old.items variable.first) signal ×
         (signals.new.items ≡ signals.old.items ++ signal ∷ [])) }
 {
-    let signal = finished_signal(alloc, variable, signals.as_slice())?;
+    let signal = finished_signal(alloc, variable, signals.as_slice(), copies_left)?;
     signals.push(signal)?;
     Ok(())
 }
 
 /// The signal of a variable, behind those of the variables before it.
-fn finished_signal(alloc: Global, variable: Variable, before: &[Signal]) -> Result<Signal, NoMemory>
+fn finished_signal(
+    alloc: Global,
+    variable: Variable,
+    before: &[Signal],
+    copies_left: &mut usize,
+) -> Result<Signal, NoMemory>
     ensures { IfOk result (Finishes variable (slice_get before.now variable.first)) }
 {
     let Variable { signal, first, .. } = variable;
     match before.get(first) {
-        Some(shared) => with_wave_of(alloc, signal, shared),
+        Some(shared) => {
+            take_copies(copies_left, shared.wave.changes().len())?;
+            with_wave_of(alloc, signal, shared)
+        }
         None => Ok(with_form(signal)),
     }
+}
+
+/// Takes so many changes from those that copies may still have.
+fn take_copies(copies_left: &mut usize, changes: usize) -> Result<(), NoMemory>
+    ensures taken { OnOk result (copies_left.new + changes ≡ copies_left.old) }
+    ensures refused { OnErr result (copies_left.old < changes) }
+{
+    if *copies_left < changes {
+        return Err(NoMemory);
+    }
+    *copies_left -= changes;
+    Ok(())
 }
 
 /// A signal with a copy of the wave of another in place of its own.

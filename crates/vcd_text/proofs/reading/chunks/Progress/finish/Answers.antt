@@ -51,3 +51,12 @@ returns-in-Ok-clause-sound c =
     let reads = last_taken p.reader m p.word.items p.passed p.left bytes c.behind.result taken (c.behind.ensures.words ∙ ap (words_from true (p.passed + 1)) c.as_slice.ensures.value)
     (c.in_ok-read_words.ensures (closed_words bytes) taken.reads) in
     c.in-Ok.ensures.sound bytes reads
+
+pub finish-requires-clause-known : goal.finish-requires-clause-known
+finish-requires-clause-known c =
+    let (bytes, taken) = c.requires in
+    let p = c.args.self in
+    let m = c.read_words.new.reader in
+    let reads = last_taken p.reader m p.word.items p.passed p.left bytes c.behind.result taken (c.behind.ensures.words ∙ ap (words_from true (p.passed + 1)) c.as_slice.ensures.value)
+    (c.in_ok-read_words.ensures (closed_words bytes) taken.reads) in
+    (reads.told, reads.at.0.variables)

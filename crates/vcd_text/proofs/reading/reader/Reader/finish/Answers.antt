@@ -25,10 +25,10 @@ returns c =
       signals = (ap (map signal_contents) (parts.signals ∙ whole) ∙ c.in_ok-place_signals.ensures r.told at.scopes (ap (map signal_contents) c.deref_mut.ensures.value ∙ c.in_ok-signals.ensures r.told at.variables)) i;
     } in
     record {
-      sound = λ bytes r. subst IsSound (sym (same bytes r)) (meaning_is_sound bytes r.told (accepts c.args.self (words_of bytes) r c.requires));
+      sound = λ bytes r. subst IsSound (sym (same bytes r)) (meaning_is_sound bytes r.told (accepts c.args.self (words_of bytes) r c.requires.complete));
       means = λ bytes r. record {
         told = r.told;
-        accepted = accepts c.args.self (words_of bytes) r c.requires;
+        accepted = accepts c.args.self (words_of bytes) r c.requires.complete;
         means = same bytes r;
         left_out = r.at.0.variables.skipped;
       };

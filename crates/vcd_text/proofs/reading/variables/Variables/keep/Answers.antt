@@ -11,7 +11,7 @@ returns-in-None c = λ told scopes k value_changes keeps.
     let old = c.args.self.now in
     let e = c.keep_first.ensures in
     push_declares old c.keep_first.new.self told scopes c.args.code.now c.args.signal (length old.kept.items) c.keep_first.result k value_changes c.requires.silent c.requires.bare keeps
-    (inl (sym c.owner.ensures ∙ c.in-None.is, refl)) e.few e.kept e.owners e.skipped e.refuses
+    (inl (sym c.owner.ensures ∙ c.in-None.is, refl)) e.few e.kept e.widths e.log e.owners e.skipped e.refuses
 
 pub returns-else-not-has_width : goal.returns-else-not-has_width
 returns-else-not-has_width c = λ told scopes k value_changes keeps.
@@ -21,5 +21,5 @@ returns-else-not-has_width c = λ told scopes k value_changes keeps.
     let had = sym c.owner.ensures ∙ c.in-Some-Kept.is ∙ ap Some c.in-Some-Kept.field-0-is in
     let test = ap (λ n. option_map_or (λ (v : Variable). v.signal.wave.width == n) (slice_get old.kept.items first) false) (sym c.width.ensures.width) ∙ sym c.has_width.ensures ∙ c.if-not-has_width.false in
     push_declares old c.push.new.self told scopes c.args.code.now c.args.signal first c.push.result k value_changes c.requires.silent c.requires.bare keeps
-    (inr (had, same_width (slice_get old.kept.items first) c.args.signal.wave.width test)) e.few e.kept
+    (inr (had, same_width (slice_get old.kept.items first) c.args.signal.wave.width test)) e.few e.kept e.widths e.log
     (when_ok c.push.result (Puts old c.push.new.self c.args.code.now (Kept first)) (puts_same old c.push.new.self c.args.code.now (Kept first) e.owners had)) e.skipped e.refuses

@@ -11,12 +11,14 @@ pub returns : goal.returns
 returns c = λ told d k coded skipped.
     let old = c.args.self.now in
     let now = c.match-owner.self in
-    let new : Variables = record { kept = now.kept; owners = now.owners; skipped = now.skipped + 1 } in
+    let new : Variables = record { kept = now.kept; widths = now.widths; owners = now.owners; skipped = now.skipped + 1; log = now.log } in
     let stood = ap (owner_of old) coded ∙ sym c.owner.ensures in
     elim c.match-owner.branch [
       | in-None+in_ok-own-in-None w ↦
           skip_declares old new told d k
           (ap (λ (vs : Variables). vs.kept.items) w.self-is ∙ ap (λ kept. kept.items) w.own.ensures.kept) skipped
+          (ap (λ (vs : Variables). vs.widths.items) w.self-is ∙ ap (λ widths. widths.items) w.own.ensures.widths)
+          (ap (λ (vs : Variables). vs.log) w.self-is ∙ w.own.ensures.log)
           (inl (stood ∙ w.in-None.is))
           (λ key.
           ap (λ vs. owner_of vs key) w.self-is ∙ w.in_ok-own-in-None.ensures.owners key
@@ -24,7 +26,7 @@ returns c = λ told d k coded skipped.
           (ap (λ (vs : Variables). vs.skipped + 1) w.self-is ∙ ap (λ n. n + 1) w.own.ensures.skipped) tt
       | in-Some-Skipped w ↦
           let had = stood ∙ w.in-Some-Skipped.is ∙ ap Some w.in-Some-Skipped.field-0-is in
-          skip_declares old new told d k (ap (λ (vs : Variables). vs.kept.items) w.self-is) skipped (inr had)
+          skip_declares old new told d k (ap (λ (vs : Variables). vs.kept.items) w.self-is) skipped (ap (λ (vs : Variables). vs.widths.items) w.self-is) (ap (λ (vs : Variables). vs.log) w.self-is) (inr had)
           (puts_same old new d.code Skipped (ap (λ (vs : Variables). vs.owners) w.self-is) had)
           (ap (λ (vs : Variables). vs.skipped + 1) w.self-is) tt
     ]

@@ -4,7 +4,7 @@ use Rattle.vcd_core.specs.Contents.{signal_contents}
 use Rattle.vcd_text.specs.Meaning.{declared_signal}
 use Rattle.vcd_text.specs.inside.Variables.{declaration}
 use Rattle.vcd_text.proofs.FinishedVariables.{finishes_as_declared}
-use Rattle.vcd_text.proofs.reading.variables.Variables.into_signals.Goals as goal
+use Rattle.vcd_text.proofs.reading.variables.Variables.settled_signals.Goals as goal
 
 pub loop-variable-preserved : goal.loop-variable-preserved
 loop-variable-preserved c =
@@ -15,12 +15,12 @@ loop-variable-preserved c =
     let added = c.in_ok-push_signal.ensures in
     let all = c.loop-variable.invariant.0 ∙ ap (λ l. yielded ++ l) c.in-Some.ensures.steps.0 in (
       all ∙ sym (append_assoc yielded (v ∷ []) rest),
-      λ told k.
+      λ empty told k.
           let one =
-          finishes_as_declared c.args.self told yielded rest v signals k all (c.loop-variable.invariant.1 told k) added.0 added.1 in
+          finishes_as_declared c.args.self told yielded rest v signals k empty all (c.loop-variable.invariant.1 empty told k) added.0 added.1 in
           ap (map signal_contents) added.2
           ∙ map-append signal_contents signals (added.0 ∷ [])
-          ∙ (λ i. c.loop-variable.invariant.1 told k i ++ one i ∷ [])
+          ∙ (λ i. c.loop-variable.invariant.1 empty told k i ++ one i ∷ [])
           ∙ sym (map-append (declared_signal told.value_changes told.tick) (map declaration yielded) (declaration v ∷ []))
           ∙ ap (map (declared_signal told.value_changes told.tick)) (sym (map-append declaration yielded (v ∷ []))),
     )

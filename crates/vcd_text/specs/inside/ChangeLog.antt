@@ -1,0 +1,104 @@
+-- The changes that waves do not have yet, and what they make of the waves.
+use Rattle.std.specs.Prelude.{◌≡◌, ℕ, ◌+◌, ◌%◌, ◌<◌, ◌≤◌, ◌==◌, if◌then◌else◌, nat_le, List, [], ◌∷◌, ◌++◌, length, set, slice_get, All, Some}
+use Rattle.std.specs.List.{filter}
+use Rattle.std.specs.Global.{Vec}
+use Rattle.vcd_core.specs.declared.bit.Bit.{Bit}
+use Rattle.vcd_core.specs.declared.wave.Change.{Change}
+use Rattle.vcd_core.specs.Wave.{value_at}
+use Rattle.vcd_core.specs.WordRows.{letters_of}
+use Rattle.vcd_text.specs.declared.reading.change_log.LoggedChange.{LoggedChange}
+use Rattle.vcd_text.specs.declared.reading.change_log.TheConstants.{GROUPS}
+use Rattle.vcd_text.specs.declared.reading.variables.Variable.{Variable}
+
+-- ---- the values
+
+-- the letters that a change of the log gives a variable of this width
+abbrev pub logged_letters : ℕ → LoggedChange → List Bit
+logged_letters width e = letters_of width (e.low ∷ []) (e.high ∷ [])
+
+-- the value at a tick, where these changes come behind a value
+abbrev pub value_behind : ℕ → ℕ → List Bit → List LoggedChange → List Bit
+value_behind width t before [] = before
+value_behind width t before (e ∷ es) = value_behind width t (if nat_le e.tick t then logged_letters width e else before) es
+
+-- the ticks do not fall, from `floor` to `tick`
+abbrev pub RisesTo : (floor tick : ℕ) → List LoggedChange → Type 0
+RisesTo floor tick [] = floor ≤ tick
+RisesTo floor tick (e ∷ es) = (floor ≤ e.tick) × RisesTo e.tick tick es
+
+-- a wave with changes of the log behind its own has the values of f, and no change is past the tick
+pub record GivesValues (width tick : ℕ) (f : ℕ → List Bit) (changes : List Change) (behind : List LoggedChange) : Type 0 where
+  pub floor : ℕ
+  pub ticks : All (λ (c : Change). c.tick ≤ floor) changes
+  pub rises : RisesTo floor tick behind
+  pub narrow : 0 < length behind → width ≤ 64
+  pub values : (t : ℕ) → value_behind width t (value_at width changes t) behind ≡ f t
+
+-- ---- groups
+
+-- the changes of the variable at a position
+abbrev pub changes_at : ℕ → List LoggedChange → List LoggedChange
+changes_at position group = filter (λ (e : LoggedChange). e.position == position) group
+
+-- the same of all groups
+abbrev pub logged : List (Vec LoggedChange) → ℕ → List LoggedChange
+logged [] position = []
+logged (g ∷ gs) position = changes_at position g.items ++ logged gs position
+
+-- each group has changes of positions with one remainder alone
+abbrev pub AreGrouped : ℕ → List (Vec LoggedChange) → Type 0
+AreGrouped index [] = Unit {0}
+AreGrouped index (g ∷ gs) = All (λ (e : LoggedChange). e.position % GROUPS ≡ index) g.items × AreGrouped (index + 1) gs
+
+-- ---- what waves take of the log
+
+-- a variable can take a change of the log
+pub record CanTake (kept : List Variable) (e : LoggedChange) : Type 0 where
+  pub before : Variable
+  pub stands : slice_get kept e.position ≡ Some before
+  pub narrow : before.signal.wave.width ≤ 64
+  pub late : All (λ (c : Change). c.tick ≤ e.tick) before.signal.wave.changes
+
+-- it has taken it
+pub record TakesLogged (e : LoggedChange) (old new : Variable) : Type 0 where
+  pub code : new.code ≡ old.code
+  pub scopes : new.signal.scopes ≡ old.signal.scopes
+  pub kind : new.signal.kind ≡ old.signal.kind
+  pub words : new.signal.words ≡ old.signal.words
+  pub width : new.signal.wave.width ≡ old.signal.wave.width
+  pub first : new.first ≡ old.first
+  pub last : All (λ (c : Change). c.tick ≤ e.tick) new.signal.wave.changes
+  pub values : (t : ℕ) → value_at new.signal.wave.width new.signal.wave.changes t
+      ≡ (if nat_le e.tick t then logged_letters old.signal.wave.width e else value_at old.signal.wave.width old.signal.wave.changes t)
+
+-- one of these variables has
+pub record TakesAt (e : LoggedChange) (old new : List Variable) : Type 0 where
+  pub before : Variable
+  pub after : Variable
+  pub stands : slice_get old e.position ≡ Some before
+  pub takes : TakesLogged e before after
+  pub others : new ≡ set old e.position after
+
+-- the variables can take what the log has for each
+abbrev pub CanSettle : List Variable → (ℕ → List LoggedChange) → Type 0
+CanSettle kept log =
+    (position : ℕ) → 0 < length (log position)
+    → (v : Variable) × (slice_get kept position ≡ Some v) × (tick : ℕ) × (f : ℕ → List Bit)
+    × GivesValues v.signal.wave.width tick f v.signal.wave.changes (log position)
+
+-- a variable is what it was, and its wave with what is left of the log has the values that it had
+pub record Becomes (old new : Variable) (log rest : List LoggedChange) : Type 0 where
+  pub code : new.code ≡ old.code
+  pub scopes : new.signal.scopes ≡ old.signal.scopes
+  pub kind : new.signal.kind ≡ old.signal.kind
+  pub words : new.signal.words ≡ old.signal.words
+  pub width : new.signal.wave.width ≡ old.signal.wave.width
+  pub first : new.first ≡ old.first
+  pub gives : (tick : ℕ) (f : ℕ → List Bit) → GivesValues old.signal.wave.width tick f old.signal.wave.changes log
+      → GivesValues new.signal.wave.width tick f new.signal.wave.changes rest
+
+-- the variables have taken what is no more left of the log
+pub record Settles (old new : List Variable) (log rest : ℕ → List LoggedChange) : Type 0 where
+  pub long : length new ≡ length old
+  pub each : (position : ℕ) (v : Variable) → slice_get old position ≡ Some v
+      → (w : Variable) × (slice_get new position ≡ Some w) × Becomes v w (log position) (rest position)

@@ -1,0 +1,190 @@
+//! A log of the changes that waves do not have yet: it is written while a file is read, and the waves are made of it
+//! at the end, some at a time, so that neither a wave nor its last change is waited for at each change.
+
+ghost use Rattle.std.specs.Prelude.{◌≡◌, ◌+◌, ◌++◌, ◌==◌, ◌≤◌, ℕ, List, [], ◌∷◌, length, if◌then◌else◌, OnOk};
+ghost use Rattle.vcd_text.specs.inside.ChangeLog.{logged, changes_at, AreGrouped, CanTake, TakesAt, CanSettle, Settles};
+
+use crate::reading::variables::Variable;
+use std::alloc::Global;
+use std::mem::replace;
+use vcd_core::NoMemory;
+
+/// How many groups a log has, each of the positions with one remainder. The waves of one group are made together,
+/// so they should fit a cache of a processor; each group has a place that is written, and these should too.
+pub const GROUPS: usize = 128;
+
+/// From `tick` on, the variable at `position`, of at most 64 bits, has the value whose low and high bits these two
+/// words hold.
+#[derive(Clone, Copy)]
+pub struct LoggedChange {
+    pub tick: u64,
+    pub position: usize,
+    pub low: u64,
+    pub high: u64,
+}
+
+/// The changes that waves do not have yet, in groups. In each group they stand in the order of the file.
+#[derive(Drop)]
+pub struct ChangeLog {
+    pub groups: Vec<Vec<LoggedChange>>,
+}
+
+impl ChangeLog {
+    /// No changes. It takes no memory.
+    pub fn new(alloc: Global) -> ChangeLog
+        ensures { result.groups.items ≡ [] }
+    {
+        ChangeLog {
+            groups: Vec::new(alloc),
+        }
+    }
+
+    /// Puts a change behind the others: 32 bytes.
+    pub fn append(&mut self, alloc: Global, change: LoggedChange) -> Result<(), NoMemory>
+        requires { AreGrouped 0 self.old.groups.items }
+        ensures grouped { OnOk result (AreGrouped 0 self.new.groups.items) }
+        ensures logged { OnOk result ((position : ℕ) → logged self.new.groups.items position ≡
+            (if change.position == position then logged self.old.groups.items position ++ change ∷ []
+            else logged self.old.groups.items position)) }
+    {
+        append_change(&mut self.groups, alloc, change)
+    }
+}
+
+/// Puts a change behind those of its group.
+fn append_change(
+    groups: &mut Vec<Vec<LoggedChange>>,
+    alloc: Global,
+    change: LoggedChange,
+) -> Result<(), NoMemory>
+    requires { AreGrouped 0 groups.old.items }
+    ensures grouped { OnOk result (AreGrouped 0 groups.new.items) }
+    ensures logged { OnOk result ((position : ℕ) → logged groups.new.items position ≡
+        (if change.position == position then logged groups.old.items position ++ change ∷ []
+        else logged groups.old.items position)) }
+{
+    let index = change.position % GROUPS;
+    add_groups(groups, alloc, index + 1)?;
+    groups[index].push(change)?;
+    Ok(())
+}
+
+/// Adds empty groups where there are fewer.
+fn add_groups(
+    groups: &mut Vec<Vec<LoggedChange>>,
+    alloc: Global,
+    count: usize,
+) -> Result<(), NoMemory>
+    requires { AreGrouped 0 groups.old.items }
+    ensures grouped { OnOk result (AreGrouped 0 groups.new.items) }
+    ensures many { OnOk result (count ≤ length groups.new.items) }
+    ensures logged { OnOk result ((position : ℕ) →
+        logged groups.new.items position ≡ logged groups.old.items position) }
+{
+    while groups.len() < count {
+        groups.push(Vec::new(alloc))?;
+    }
+    Ok(())
+}
+
+/// How many changes a wave will have at most, as far as a group has been counted, and the words of the last one.
+#[derive(Clone, Copy)]
+struct Demand {
+    count: usize,
+    low: u64,
+    high: u64,
+}
+
+/// No change: all x.
+const NO_CHANGE: Demand = Demand {
+    count: 0,
+    low: u64::MAX,
+    high: u64::MAX,
+};
+
+/// Gives each variable the changes of the log, in their order. Each group is freed before the next.
+///
+/// It takes two steps for each change. A wave takes memory at most once, for no more changes than those that differ
+/// from the one before.
+pub fn settle(
+    alloc: Global,
+    kept: &mut Vec<Variable>,
+    groups: Vec<Vec<LoggedChange>>,
+) -> Result<(), NoMemory>
+    requires { CanSettle kept.old.items (logged groups.items) }
+    ensures { OnOk result
+        (Settles kept.old.items kept.new.items (logged groups.items) (λ _. [])) }
+{
+    let mut demands = Vec::new(alloc);
+    demands.resize(kept.len() / GROUPS + 1, NO_CHANGE)?;
+    for group in groups {
+        count_changes(demands.as_mut_slice(), group.as_slice());
+        settle_group(kept, demands.as_mut_slice(), group.as_slice())?;
+    }
+    Ok(())
+}
+
+/// Counts the changes of each variable of a group.
+fn count_changes(demands: &mut [Demand], group: &[LoggedChange])
+    ensures { length demands.new ≡ length demands.old }
+{
+    demands.fill(NO_CHANGE);
+    for change in group {
+        if let Some(demand) = demands.get_mut(change.position / GROUPS) {
+            *demand = with_change(*demand, *change);
+        }
+    }
+}
+
+/// The demand with a change more, which counts where its words differ from the last.
+fn with_change(demand: Demand, change: LoggedChange) -> Demand
+    ensures low { result.low ≡ change.low }
+    ensures high { result.high ≡ change.high }
+{
+    let same = demand.low == change.low && demand.high == change.high;
+    Demand {
+        count: demand.count.saturating_add(usize::from(!same)),
+        low: change.low,
+        high: change.high,
+    }
+}
+
+/// Gives each variable the changes of a group. A wave gets room for as many as were counted at its first.
+fn settle_group(
+    kept: &mut Vec<Variable>,
+    demands: &mut [Demand],
+    group: &[LoggedChange],
+) -> Result<(), NoMemory>
+    requires { (rest : ℕ → List LoggedChange) ×
+        CanSettle kept.old.items (λ position. changes_at position group.now ++ rest position) }
+    ensures { OnOk result ((rest : ℕ → List LoggedChange) → Settles kept.old.items kept.new.items
+        (λ position. changes_at position group.now ++ rest position) rest) }
+{
+    for change in group {
+        let more = take_count(demands, change.position / GROUPS);
+        settle_change(kept, *change, more)?;
+    }
+    Ok(())
+}
+
+/// What has been counted at a place, which becomes 0.
+fn take_count(demands: &mut [Demand], place: usize) -> usize
+    ensures { length demands.new ≡ length demands.old }
+{
+    match demands.get_mut(place) {
+        Some(demand) => replace(&mut demand.count, 0),
+        None => 0,
+    }
+}
+
+/// Gives a variable a change, and room for `more` changes first.
+fn settle_change(
+    kept: &mut Vec<Variable>,
+    change: LoggedChange,
+    more: usize,
+) -> Result<(), NoMemory>
+    requires { CanTake kept.old.items change }
+    ensures { OnOk result (TakesAt change kept.old.items kept.new.items) }
+{
+    kept[change.position].take_logged(change, more)
+}
