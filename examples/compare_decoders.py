@@ -37,6 +37,13 @@ RUNS = [
         "spi=mosi-data:miso-data",
         None,
     ),
+    (
+        "glitches",
+        "uart bench.rx 10 8 none 1",
+        "uart:rx=rx:baudrate=100000:format=hex",
+        "uart=rx-data",
+        None,
+    ),
     ("i2c", "i2c bench.scl bench.sda", "i2c:scl=scl:sda=sda", "i2c", None),
 ]
 

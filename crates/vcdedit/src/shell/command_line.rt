@@ -35,11 +35,15 @@ const AFTER_HELP: &str =
   list                      timescale, end, and each signal's position, width, kind and full name
   value NAME TICK           the signal's value at the tick
   changes NAME              the signal's changes, each with its tick
-  uart NAME BIT DATA PARITY STOP              frames of a line; BIT is N or N/D ticks
-  spi CLK MOSI MISO CS MODE BITS ORDER        words; - for a MOSI, MISO or CS that is absent
-  i2c SCL SDA                                 conditions, addresses, bytes
+  uart NAME BIT DATA PARITY STOP         frames; BIT is N or N/D ticks, PARITY none, even or odd
+  spi CLK MOSI MISO CS MODE BITS ORDER   words; - for an absent MOSI, MISO or CS; ORDER msb or lsb
+  i2c SCL SDA                            conditions, addresses, bytes
   # ..                      nothing, as an empty line
 An edit is answered by `ok`, a refused line by `line N: refused: FAULT`; the script goes on after it.
+
+Examples:
+  vcdedit -i capture.vcd                                    shows what it holds
+  vcdedit -i capture.vcd --script script.txt -o edited.vcd  carries out a script, writes the result
 
 Exit status:
   0  done, or help or the version is shown
