@@ -2,8 +2,13 @@
 
      GROWTH_REFUSED=N   the Nth growth (malloc, calloc, realloc to more) is refused; the file that GROWTH_MARK names is
                         then made, so that a run in which no growth was refused can be told apart
+     GROWTHS_MARKED=1   growths are counted only between the lines `refuse` and `allow` that the program writes to
+                        standard output, each by one write
      READ_AT_MOST=N     a read gives at most N bytes
      WRITE_AT_MOST=N    a write takes at most N bytes
+     REPLY_ROOM=N       standard output takes N bytes in all, and then fails as a full disc does
+     OUTPUT_ROOM=N      each file that is written does so
+     TAKES_NONE=1       where it would fail so, a write takes no byte instead
 
    It takes no memory itself. */
 #define _GNU_SOURCE
@@ -11,6 +16,8 @@
 #include <errno.h>
 #include <fcntl.h>
 #include <stdlib.h>
+#include <string.h>
+#include <sys/select.h>
 #include <sys/syscall.h>
 #include <unistd.h>
 
@@ -23,12 +30,31 @@ static long number_of(const char *name) {
     return text ? atol(text) : 0;
 }
 
+/* Whether growths are counted now: less than 0 before the first of all, or the first line that says so. */
+static int counted = -1;
+
+static int is_counted(void) {
+    if (counted < 0)
+        counted = !number_of("GROWTHS_MARKED");
+    return counted;
+}
+
+/* Looks whether the program writes one of the two lines that say from where on growths are counted. */
+static void look_for_mark(int device, const void *bytes, size_t size) {
+    if (device != 1 || !number_of("GROWTHS_MARKED"))
+        return;
+    if (size == 7 && !memcmp(bytes, "refuse\n", 7))
+        counted = 1;
+    if (size == 6 && !memcmp(bytes, "allow\n", 6))
+        counted = 0;
+}
+
 /* Whether this growth is the one that is refused. */
 static int is_refused(void) {
     static long growths = 0, refused = -1;
     if (refused < 0)
         refused = number_of("GROWTH_REFUSED");
-    if (++growths != refused)
+    if (!is_counted() || ++growths != refused)
         return 0;
     const char *mark = getenv("GROWTH_MARK");
     if (mark)
@@ -52,8 +78,26 @@ ssize_t read(int device, void *bytes, size_t size) {
     return syscall(SYS_read, device, bytes, at_most("READ_AT_MOST", size));
 }
 
+/* How many of so many bytes a device still takes, where it has a room at all. */
+static size_t room_left(int device, size_t size) {
+    static size_t taken[FD_SETSIZE];
+    const char *room = device == 2 ? NULL : getenv(device == 1 ? "REPLY_ROOM" : "OUTPUT_ROOM");
+    if (!room || device < 0 || device >= FD_SETSIZE)
+        return size;
+    size_t left = (size_t)atol(room) - taken[device];
+    size = size < left ? size : left;
+    taken[device] += size;
+    return size;
+}
+
 ssize_t write(int device, const void *bytes, size_t size) {
-    return syscall(SYS_write, device, bytes, at_most("WRITE_AT_MOST", size));
+    look_for_mark(device, bytes, size);
+    size_t taken = room_left(device, at_most("WRITE_AT_MOST", size));
+    if (taken == 0 && size > 0 && !number_of("TAKES_NONE")) {
+        errno = ENOSPC;
+        return -1;
+    }
+    return syscall(SYS_write, device, bytes, taken);
 }
 
 ssize_t __write(int device, const void *bytes, size_t size) { return write(device, bytes, size); }

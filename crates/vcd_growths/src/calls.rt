@@ -1,0 +1,39 @@
+//! The calls by their names.
+
+use crate::decoders::call_decoder;
+use crate::edits::{call_apply, call_revert};
+use crate::files::{call_read, call_write};
+use crate::sessions::{call_new, call_run, call_step};
+use crate::telling::Stopped;
+use crate::waves::call_on_wave;
+use std::rt::Runtime;
+
+/// What the words of the command line ask for, on a capture.
+#[derive(Clone, Copy)]
+pub struct Call<'a> {
+    /// Whether the call is made, or all but it.
+    pub makes: bool,
+    pub name: &'a str,
+    /// The word behind the call's name, empty where there is none: an edit or a step.
+    pub argument: &'a str,
+    /// The word behind that, empty where there is none: the steps made before.
+    pub before: &'a str,
+    /// What the capture says.
+    pub text: &'a [u8],
+}
+
+/// Makes the call that is named, and tells what it left.
+pub fn make_call<R: Runtime + AllocGlobal>(rt: &R, call: &Call) -> Result<(), Stopped> {
+    match call.name {
+        "push" | "reserve" | "reserve_exact" => call_on_wave(rt, call),
+        "read" => call_read(rt, call),
+        "write" => call_write(rt, call),
+        "apply" => call_apply(rt, call),
+        "revert" => call_revert(rt, call),
+        "uart" | "spi" | "i2c" => call_decoder(rt, call),
+        "Session::new" => call_new(rt, call),
+        "step" => call_step(rt, call),
+        "run" => call_run(rt, call),
+        _ => Err(Stopped),
+    }
+}

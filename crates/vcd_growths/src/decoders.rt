@@ -1,0 +1,93 @@
+//! What decoders find on the first two signals.
+
+ghost use Rattle.std.specs.Prelude.{◌≡◌, IfOk};
+ghost use Rattle.vcd_core.specs.Wave.{AllUpTo};
+
+use crate::calls::Call;
+use crate::files::capture_of_text;
+use crate::telling::{DONE, Stopped, allow, refuse, tell_capture};
+use std::alloc::Global;
+use std::rt::Runtime;
+use vcd_core::{Capture, NoMemory, Wave, ends_by};
+use vcd_decode::{Annotation, BitOrder, Parity, SetupError, Spi, Uart, i2c, spi, uart};
+
+impl From<SetupError> for Stopped {
+    fn from(_fault: SetupError) -> Stopped {
+        Stopped
+    }
+}
+
+/// `uart`, `spi` and `i2c`, by their names.
+pub fn call_decoder<R: Runtime + AllocGlobal>(rt: &R, call: &Call) -> Result<(), Stopped> {
+    let capture = capture_of_text(rt.alloc(), call.text)?;
+    if call.makes {
+        let first = scalar_wave(&capture, 0)?;
+        let second = scalar_wave(&capture, 1)?;
+        make_decoder(rt, call.name, first, second, capture.end())?;
+    }
+    tell_capture(rt, &capture)
+}
+
+/// Runs the decoder of a name on two lines, and tells what became of it.
+fn make_decoder<R: Runtime + AllocGlobal>(
+    rt: &R,
+    name: &str,
+    first: &Wave,
+    second: &Wave,
+    end: u64,
+) -> Result<(), Stopped>
+    requires first_one_bit { first.now.width ≡ 1 }
+    requires second_one_bit { second.now.width ≡ 1 }
+    requires first_within { AllUpTo end first.now.changes }
+    requires second_within { AllUpTo end second.now.changes }
+{
+    let frames = Uart::new(2, 1, 5, Parity::None, 1)?;
+    let words = Spi::new(0, 8, BitOrder::Msb)?;
+    refuse(rt)?;
+    match name {
+        "uart" => tell_found(rt, uart(rt.alloc(), first, end, &frames)),
+        "spi" => tell_found(
+            rt,
+            spi(rt.alloc(), first, Some(second), None, None, end, &words),
+        ),
+        _ => tell_found(rt, i2c(rt.alloc(), first, second, end)),
+    }
+}
+
+/// The wave of a signal of one bit.
+fn scalar_wave(capture: &Capture, signal: usize) -> Result<&Wave, Stopped>
+    ensures one_bit { IfOk result (λ w. w.now.width ≡ 1) }
+    ensures within { IfOk result (λ w. AllUpTo capture.now.end w.now.changes) }
+{
+    let signals = capture.signals();
+    if signal >= signals.len() {
+        return Err(Stopped);
+    }
+    let wave = &signals[signal].wave;
+    if wave.width() != 1 {
+        return Err(Stopped);
+    }
+    if !ends_by(wave.changes(), capture.end()) {
+        return Err(Stopped);
+    }
+    Ok(wave)
+}
+
+/// What became of the call, and the annotations where there was memory for them.
+fn tell_found<R: Runtime>(rt: &R, found: Result<Vec<Annotation>, NoMemory>) -> Result<(), Stopped> {
+    match found {
+        Ok(found) => {
+            allow(rt, DONE)?;
+            tell_annotations(rt, found.as_slice())
+        }
+        Err(fault) => allow(rt, fault.name()),
+    }
+}
+
+/// Each annotation on a line of its own.
+fn tell_annotations<R: Runtime>(rt: &R, annotations: &[Annotation]) -> Result<(), Stopped> {
+    for annotation in annotations {
+        println!(rt; "{annotation:?}")?;
+    }
+    Ok(())
+}

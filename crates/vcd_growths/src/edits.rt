@@ -1,0 +1,144 @@
+//! Edits of a capture, and what takes them back.
+
+ghost use Rattle.std.specs.Prelude.{◌≡◌, IfOk};
+ghost use Rattle.vcd_core.specs.Contents.{contents};
+ghost use Rattle.vcd_core.specs.Sound.{IsSound};
+ghost use Rattle.vcd_edit.specs.Back.{Fits};
+
+use crate::calls::Call;
+use crate::files::capture_of_text;
+use crate::telling::{DONE, Stopped, allow, refuse, tell_capture};
+use std::alloc::Global;
+use std::rt::Runtime;
+use vcd_core::{Bit, Capture, NoMemory, ToWrite, Value};
+use vcd_edit::{Edit, Record, Rule, apply, revert};
+use vcd_text::write;
+
+/// The edit that a word names, of the first signal or signals. A new name is that word.
+pub fn edit_named<'a>(name: &'a str) -> Option<Edit<'a>> {
+    let signal = 0;
+    let word = name.as_bytes();
+    match name {
+        "rename" => Some(Edit::Rename { signal, word }),
+        "remove" => Some(Edit::Remove { signal }),
+        "invert" => Some(Edit::Invert { signal }),
+        "shift" => Some(Edit::Shift { signal, by: 2 }),
+        "cut" => Some(Edit::Cut { from: 2, to: 5 }),
+        "deglitch" => Some(Edit::Deglitch { signal, ticks: 5 }),
+        "force" => Some(Edit::Force {
+            signal,
+            from: 4,
+            to: 6,
+            value: Value::filled(1, Bit::Z),
+        }),
+        "derive" => Some(Edit::Derive {
+            word,
+            rule: Rule::Xor(0, 1),
+        }),
+        _ => None,
+    }
+}
+
+/// `apply`.
+pub fn call_apply<R: Runtime + AllocGlobal>(rt: &R, call: &Call) -> Result<(), Stopped> {
+    let Some(edit) = edit_named(call.argument) else {
+        return Err(Stopped);
+    };
+    let mut capture = capture_of_text(rt.alloc(), call.text)?;
+    if !call.makes {
+        return tell_capture(rt, &capture);
+    }
+    make_edit(rt, &mut capture, &edit)
+}
+
+/// Makes the edit, and tells what became of it and all of the capture.
+fn make_edit<R: Runtime + AllocGlobal>(
+    rt: &R,
+    capture: &mut Capture,
+    edit: &Edit,
+) -> Result<(), Stopped>
+    requires { IsSound (contents capture.old) }
+{
+    refuse(rt)?;
+    match apply(rt.alloc(), capture, edit) {
+        Ok(_) => {
+            allow(rt, DONE)?;
+            tell_capture(rt, capture)
+        }
+        Err(fault) => {
+            allow(rt, fault.name())?;
+            tell_capture(rt, capture)
+        }
+    }
+}
+
+/// `revert` of the edit's record, on a capture like the edited one that was read anew. So its waves have no more room
+/// than reading gives, where those that were edited have what they need.
+pub fn call_revert<R: Runtime + AllocGlobal>(rt: &R, call: &Call) -> Result<(), Stopped> {
+    let Some(edit) = edit_named(call.argument) else {
+        return Err(Stopped);
+    };
+    let mut capture = capture_of_text(rt.alloc(), call.text)?;
+    let Ok(way) = apply(rt.alloc(), &mut capture, &edit) else {
+        return Err(Stopped);
+    };
+    let mut capture = read_anew(rt.alloc(), &capture)?;
+    if !way.fits(&capture) {
+        return Err(Stopped);
+    }
+    if !call.makes {
+        return tell_record(rt, &mut capture, way);
+    }
+    make_revert(rt, &mut capture, way)
+}
+
+/// The capture that the text of a capture means.
+fn read_anew(alloc: Global, capture: &Capture) -> Result<Capture, Stopped>
+    requires { IsSound (contents capture.now) }
+    ensures { IfOk result (λ c. IsSound (contents c)) }
+{
+    let mut sink = ToWrite::new(Vec::new(alloc));
+    if write(alloc, capture, &mut sink).is_err() {
+        return Err(Stopped);
+    }
+    capture_of_text(alloc, sink.into_inner().as_slice())
+}
+
+/// Takes the edit back, and tells whether it was refused, and all of the capture and the record that are then there.
+fn make_revert<R: Runtime + AllocGlobal>(
+    rt: &R,
+    capture: &mut Capture,
+    way: Record,
+) -> Result<(), Stopped>
+    requires sound { IsSound (contents capture.old) }
+    requires fits { Fits way (contents capture.old) }
+{
+    refuse(rt)?;
+    match revert(rt.alloc(), capture, way) {
+        Ok(forth) => {
+            allow(rt, DONE)?;
+            tell_record(rt, capture, forth)
+        }
+        Err(kept) => {
+            allow(rt, NoMemory.name())?;
+            tell_record(rt, capture, kept.held)
+        }
+    }
+}
+
+/// A capture, how much a record holds that leads from it, and where that leads.
+fn tell_record<R: Runtime + AllocGlobal>(
+    rt: &R,
+    capture: &mut Capture,
+    way: Record,
+) -> Result<(), Stopped>
+    requires sound { IsSound (contents capture.old) }
+    requires fits { Fits way (contents capture.old) }
+{
+    tell_capture(rt, capture)?;
+    println!(rt; "record of {}", way.stored())?;
+    match revert(rt.alloc(), capture, way) {
+        Ok(_) => tell_capture(rt, capture),
+        Err(_) => Err(Stopped),
+    }
+}

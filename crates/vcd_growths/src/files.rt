@@ -1,0 +1,59 @@
+//! Files read and written.
+
+ghost use Rattle.std.specs.Prelude.{IfOk};
+ghost use Rattle.vcd_core.specs.Contents.{contents};
+ghost use Rattle.vcd_core.specs.Sound.{IsSound};
+
+use crate::calls::Call;
+use crate::telling::{DONE, Stopped, allow, refuse, tell_capture};
+use std::alloc::Global;
+use std::io;
+use std::io::Write;
+use std::rt::Runtime;
+use vcd_core::{Capture, FromRead, Sink, Source, ToWrite};
+use vcd_text::{read, write};
+
+/// How many bytes a sink into memory takes without more of it.
+const ROOM: usize = 1_000_000;
+
+/// The capture that a text means.
+pub fn capture_of_text(alloc: Global, text: &[u8]) -> Result<Capture, Stopped>
+    ensures { IfOk result (λ c. IsSound (contents c)) }
+{
+    match read(alloc, &mut FromRead::new(text)) {
+        Ok(loaded) => Ok(loaded.capture),
+        Err(_) => Err(Stopped),
+    }
+}
+
+/// `read`: what is left is the source, which has not failed, and of its bytes some last ones.
+pub fn call_read<R: Runtime + AllocGlobal>(rt: &R, call: &Call) -> Result<(), Stopped> {
+    let mut source = FromRead::new(call.text);
+    if call.makes {
+        refuse(rt)?;
+        match read(rt.alloc(), &mut source) {
+            Ok(_) => allow(rt, DONE)?,
+            Err(error) => allow(rt, error.name())?,
+        }
+    }
+    let has_failed = source.failed();
+    let is_rest = call.text.ends_with(source.into_inner());
+    println!(rt; "failed {has_failed}, rest of the text {is_rest}")?;
+    Ok(())
+}
+
+/// `write`, into memory that is there already.
+pub fn call_write<R: Runtime + AllocGlobal>(rt: &R, call: &Call) -> Result<(), Stopped> {
+    let capture = capture_of_text(rt.alloc(), call.text)?;
+    let mut sink = ToWrite::new(Vec::with_capacity(rt.alloc(), ROOM)?);
+    if call.makes {
+        refuse(rt)?;
+        match write(rt.alloc(), &capture, &mut sink) {
+            Ok(()) => allow(rt, DONE)?,
+            Err(fault) => allow(rt, fault.name())?,
+        }
+    }
+    println!(rt; "failed {}, written:", sink.failed())?;
+    io::writer(rt).write_all(sink.into_inner().as_slice())?;
+    tell_capture(rt, &capture)
+}
