@@ -23,7 +23,7 @@ pub record VariableDeclaration : Type 0 where
   pub code : List ℕ
   pub words : List (List ℕ)
 
--- a record: from this tick on, the variables of this code have the value that these letters give
+-- a value change: from this tick on, the variables of this code have the value that these letters give
 pub record ValueChange : Type 0 where
   pub tick : ℕ
   pub code : List ℕ
@@ -120,12 +120,12 @@ Allows c (other word words) = IsTrue (is_other c.changing word) × IsTrue (has_n
 
 -- ---- what an item adds
 
--- a record of these letters at the tick, for a variable that is kept
+-- a value change to these letters at the tick, for a variable that is kept
 abbrev pub told_value_changes : Context → List ℕ → List Bit → Option VariableDeclaration → List ValueChange
 told_value_changes c code letters None = []
 told_value_changes c code letters (Some d) = if is_skipped d then [] else record { tick = c.tick; code = code; letters = letters } ∷ []
 
--- what has been told, with this record behind the others
+-- what has been told, with this value change behind the others
 abbrev pub with_value_change : Context → List ℕ → List Bit → Context
 with_value_change c code letters = record c { value_changes = c.value_changes ++ told_value_changes c code letters (variable_of c code) }
 

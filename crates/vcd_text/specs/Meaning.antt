@@ -8,13 +8,13 @@ use Rattle.vcd_text.specs.Words.{words_of}
 use Rattle.vcd_text.specs.Letters.{extension}
 use Rattle.vcd_text.specs.Grammar.{VariableDeclaration, ValueChange, Context, Accepts, is_skipped, kept_variables}
 
--- the value that a code of this width has at a tick: the extension of the last record, in the order of the file, with that code and a tick at most t; else `before`
+-- the value that a code of this width has at a tick: the extension of the last value change, in the order of the file, with that code and a tick at most t; else `before`
 unfoldable pub latest_value : ℕ → List ℕ → ℕ → List Bit → List ValueChange → List Bit
 latest_value width code t before [] = before
 latest_value width code t before (r ∷ rs) =
     latest_value width code t (if bytes_eq r.code code && nat_le r.tick t then extension width r.letters else before) rs
 
--- the signal that a variable is, up to the tick `end`: all x before its first record
+-- the signal that a variable is, up to the tick `end`: all x before its first value change
 abbrev pub declared_signal : List ValueChange → ℕ → VariableDeclaration → SignalContents
 declared_signal value_changes end d = record {
   scopes = d.scopes;
