@@ -6,15 +6,15 @@ use Rattle.std.proofs.lemmas.Bool.{eqb-true, cases_Bool}
 use Rattle.std.proofs.lemmas.List.{append-nil, append_assoc}
 use Rattle.std.proofs.lemmas.Option.{same_Some}
 use Rattle.std.proofs.lemmas.List.Elements.{filter-append, All-nil, All-cons, All-head, All-tail}
-use Rattle.vcd_text.specs.inside.ChangeLog.{changes_at, logged, AreGrouped}
+use Rattle.vcd_text.specs.inside.ChangeLog.{changes_of_position, logged, AreGrouped}
 use Rattle.vcd_text.specs.declared.reading.change_log.LoggedChange.{LoggedChange}
 use Rattle.vcd_text.specs.declared.reading.change_log.TheConstants.{GROUPS}
 
 -- ---- an empty group more
 
 pub logged_longer : (gs : List (Vec LoggedChange)) (g : Vec LoggedChange) (position : ℕ) → g.items ≡ [] → logged (gs ++ g ∷ []) position ≡ logged gs position
-logged_longer [] g position none = ap (λ es. changes_at position es ++ []) none
-logged_longer (h ∷ gs) g position none = ap (λ es. changes_at position h.items ++ es) (logged_longer gs g position none)
+logged_longer [] g position none = ap (λ es. changes_of_position position es ++ []) none
+logged_longer (h ∷ gs) g position none = ap (λ es. changes_of_position position h.items ++ es) (logged_longer gs g position none)
 
 pub grouped_longer : (index : ℕ) (gs : List (Vec LoggedChange)) (g : Vec LoggedChange) → g.items ≡ [] → AreGrouped index gs → AreGrouped index (gs ++ g ∷ [])
 grouped_longer index [] g none are =
@@ -24,18 +24,18 @@ grouped_longer index (h ∷ gs) g none (here, are) = (here, grouped_longer (inde
 -- ---- a change more
 
 -- what stands for a change of this position, or another
-changes_more : (es : List LoggedChange) (e : LoggedChange) (position : ℕ) → changes_at position (es ++ e ∷ []) ≡ changes_at position es ++ cond (e.position == position) (e ∷ []) []
+changes_more : (es : List LoggedChange) (e : LoggedChange) (position : ℕ) → changes_of_position position (es ++ e ∷ []) ≡ changes_of_position position es ++ cond (e.position == position) (e ∷ []) []
 changes_more es e position = filter-append (λ (x : LoggedChange). x.position == position) es (e ∷ [])
 
 -- a group with another remainder has no change of the position
-none_at : (index : ℕ) (es : List LoggedChange) (position : ℕ) → position % GROUPS ≢ index → All (λ (e : LoggedChange). e.position % GROUPS ≡ index) es → changes_at position es ≡ []
+none_at : (index : ℕ) (es : List LoggedChange) (position : ℕ) → position % GROUPS ≢ index → All (λ (e : LoggedChange). e.position % GROUPS ≡ index) es → changes_of_position position es ≡ []
 none_at index [] position apart are = refl
 none_at index (e ∷ es) position apart are =
     let other : (e.position == position) ≡ false = elim (cases_Bool (e.position == position)) [
       | inl same ↦ absurd (apart (ap (λ (p : ℕ). p % GROUPS) (sym (eqb-true e.position position same)) ∙ All-head (λ (x : LoggedChange). x.position % GROUPS ≡ index) e es are))
       | inr other ↦ other
     ] in
-    ap (λ b. cond b (e ∷ changes_at position es) (changes_at position es)) other
+    ap (λ b. cond b (e ∷ changes_of_position position es) (changes_of_position position es)) other
     ∙ none_at index es position apart (All-tail (λ (x : LoggedChange). x.position % GROUPS ≡ index) e es are)
 
 -- so have the groups behind its own
@@ -54,14 +54,14 @@ module _ (e : LoggedChange) (h : Vec LoggedChange) where
       let is : x ≡ g = same_Some x g at in
       let own : (e.position == e.position) ≡ true = grind arith in
       let behind : logged gs e.position ≡ [] = none_behind (index + 1) gs e.position (omega (arith, of)) are in
-      (λ i. changes_at e.position (more i) ++ behind i)
-      ∙ append-nil (changes_at e.position (g.items ++ e ∷ []))
+      (λ i. changes_of_position e.position (more i) ++ behind i)
+      ∙ append-nil (changes_of_position e.position (g.items ++ e ∷ []))
       ∙ changes_more g.items e e.position
-      ∙ (λ i. changes_at e.position (sym is i).items ++ cond (own i) (e ∷ []) [])
-      ∙ ap (λ es. es ++ e ∷ []) (sym (append-nil (changes_at e.position x.items)) ∙ ap (λ es. changes_at e.position x.items ++ es) (sym behind))
+      ∙ (λ i. changes_of_position e.position (sym is i).items ++ cond (own i) (e ∷ []) [])
+      ∙ ap (λ es. es ++ e ∷ []) (sym (append-nil (changes_of_position e.position x.items)) ∙ ap (λ es. changes_of_position e.position x.items ++ es) (sym behind))
   here_with index (x ∷ gs) (suc i) g at more of (here, are) =
-      ap (λ es. changes_at e.position x.items ++ es) (here_with (index + 1) gs i g at more (omega (arith, of)) are)
-      ∙ sym (append_assoc (changes_at e.position x.items) (logged gs e.position) (e ∷ []))
+      ap (λ es. changes_of_position e.position x.items ++ es) (here_with (index + 1) gs i g at more (omega (arith, of)) are)
+      ∙ sym (append_assoc (changes_of_position e.position x.items) (logged gs e.position) (e ∷ []))
 
   -- other positions have what they had
   there_with : (gs : List (Vec LoggedChange)) (i : ℕ) (g : Vec LoggedChange) (position : ℕ) → slice_get gs i ≡ Some g → h.items ≡ g.items ++ e ∷ []
@@ -70,10 +70,10 @@ module _ (e : LoggedChange) (h : Vec LoggedChange) where
   there_with (x ∷ gs) zero g position at more other =
       let is : x ≡ g = same_Some x g at in
       ap (λ es. es ++ logged gs position)
-      (ap (changes_at position) more ∙ changes_more g.items e position
-      ∙ (λ i. changes_at position (sym is i).items ++ cond (other i) (e ∷ []) [])
-      ∙ append-nil (changes_at position x.items))
-  there_with (x ∷ gs) (suc i) g position at more other = ap (λ es. changes_at position x.items ++ es) (there_with gs i g position at more other)
+      (ap (changes_of_position position) more ∙ changes_more g.items e position
+      ∙ (λ i. changes_of_position position (sym is i).items ++ cond (other i) (e ∷ []) [])
+      ∙ append-nil (changes_of_position position x.items))
+  there_with (x ∷ gs) (suc i) g position at more other = ap (λ es. changes_of_position position x.items ++ es) (there_with gs i g position at more other)
 
   pub logged_with : (gs : List (Vec LoggedChange)) (g : Vec LoggedChange) (position : ℕ) → slice_get gs (e.position % GROUPS) ≡ Some g → h.items ≡ g.items ++ e ∷ [] → AreGrouped 0 gs
       → logged (set gs (e.position % GROUPS) h) position ≡ (if e.position == position then logged gs position ++ e ∷ [] else logged gs position)

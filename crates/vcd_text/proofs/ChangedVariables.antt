@@ -15,7 +15,7 @@ use Rattle.vcd_text.specs.declared.fault.Fault.TheVariants as faults
 use Rattle.vcd_text.specs.Letters.{letters_of_digits, extension}
 use Rattle.vcd_text.specs.Grammar.{VariableDeclaration, ValueChange, Context, is_skipped, variable_of, is_binary_number, takes_binary_number, told_value_changes, with_value_change}
 use Rattle.vcd_text.specs.Meaning.{latest_value}
-use Rattle.vcd_text.specs.inside.ChangeLog.{logged_letters, GivesValues, logged, AreGrouped}
+use Rattle.vcd_text.specs.inside.ChangeLog.{logged_letters, GivesLoggedValues, logged, AreGrouped}
 use Rattle.vcd_text.specs.inside.ValueDigits.{WritesValue}
 use Rattle.vcd_text.specs.inside.Variables.{declaration, owner_of, HasWave, Stands, HasFirst, HasLogs, Knows, Sets, RefusesBinaryNumber, BinaryNumberFault, no_value, too_long, TakesChange}
 use Rattle.vcd_text.specs.declared.reading.change_log.LoggedChange.{LoggedChange}
@@ -121,8 +121,8 @@ module _ (old : Variables) (list : Vec Variable) (log : ChangeLog) (c : Context)
     (had : owner_of old code ≡ Some (Kept first)) (is_first : v ≡ (own_wave old c code digits first k had).3.first)
     (items : list.items ≡ set old.kept.items first w) (same : declaration w ≡ declaration v) (same_first : w.first ≡ v.first)
     (value : IsTrue (is_binary_number digits)) (short : length digits ≤ v.signal.wave.width) (grouped : AreGrouped 0 log.groups.items)
-    (takes : (f : ℕ → List Bit) → GivesValues v.signal.wave.width c.tick f v.signal.wave.changes (logged old.log.groups.items first)
-    → GivesValues v.signal.wave.width c.tick (λ t. if nat_le c.tick t then extension v.signal.wave.width (letters_of_digits digits) else f t) w.signal.wave.changes (logged log.groups.items first))
+    (takes : (f : ℕ → List Bit) → GivesLoggedValues v.signal.wave.width c.tick f v.signal.wave.changes (logged old.log.groups.items first)
+    → GivesLoggedValues v.signal.wave.width c.tick (λ t. if nat_le c.tick t then extension v.signal.wave.width (letters_of_digits digits) else f t) w.signal.wave.changes (logged log.groups.items first))
     (others : (position : ℕ) → first ≢ position → logged log.groups.items position ≡ logged old.log.groups.items position) where
   stood : slice_get old.kept.items first ≡ Some v
   stood = (own_wave old c code digits first k had).3.stands ∙ ap Some (sym is_first)
@@ -160,13 +160,13 @@ module _ (old : Variables) (list : Vec Variable) (log : ChangeLog) (c : Context)
       let is : v ≡ wave.first = same_Some v wave.first (sym stood ∙ ap (slice_get old.kept.items) at ∙ wave.stands) in
       let old_size : v.signal.wave.width ≡ size = ap (λ (u : Variable). u.signal.wave.width) is ∙ wave.sized in
       let before : ℕ → List Bit = λ t. latest_value size key t (all_x size) c.value_changes in
-      let had_values : GivesValues v.signal.wave.width c.tick before v.signal.wave.changes (logged old.log.groups.items first) =
-      subst (λ n. GivesValues n c.tick before v.signal.wave.changes (logged old.log.groups.items first)) (sym old_size)
-      (subst (λ p. GivesValues size c.tick before v.signal.wave.changes (logged old.log.groups.items p)) (sym at)
-      (subst (λ (u : Variable). GivesValues size c.tick before u.signal.wave.changes (logged old.log.groups.items position)) (sym is) wave.gives)) in
-      let has_values : GivesValues size c.tick (λ t. if nat_le c.tick t then extension size (letters_of_digits digits) else before t) w.signal.wave.changes (logged log.groups.items position) =
-      subst (λ p. GivesValues size c.tick (λ t. if nat_le c.tick t then extension size (letters_of_digits digits) else before t) w.signal.wave.changes (logged log.groups.items p)) at
-      (subst (λ n. GivesValues n c.tick (λ t. if nat_le c.tick t then extension n (letters_of_digits digits) else before t) w.signal.wave.changes (logged log.groups.items first)) old_size (takes before had_values)) in
+      let had_values : GivesLoggedValues v.signal.wave.width c.tick before v.signal.wave.changes (logged old.log.groups.items first) =
+      subst (λ n. GivesLoggedValues n c.tick before v.signal.wave.changes (logged old.log.groups.items first)) (sym old_size)
+      (subst (λ p. GivesLoggedValues size c.tick before v.signal.wave.changes (logged old.log.groups.items p)) (sym at)
+      (subst (λ (u : Variable). GivesLoggedValues size c.tick before u.signal.wave.changes (logged old.log.groups.items position)) (sym is) wave.gives)) in
+      let has_values : GivesLoggedValues size c.tick (λ t. if nat_le c.tick t then extension size (letters_of_digits digits) else before t) w.signal.wave.changes (logged log.groups.items position) =
+      subst (λ p. GivesLoggedValues size c.tick (λ t. if nat_le c.tick t then extension size (letters_of_digits digits) else before t) w.signal.wave.changes (logged log.groups.items p)) at
+      (subst (λ n. GivesLoggedValues n c.tick (λ t. if nat_le c.tick t then extension n (letters_of_digits digits) else before t) w.signal.wave.changes (logged log.groups.items first)) old_size (takes before had_values)) in
       record {
         first = w;
         stands = ap (λ vs. slice_get vs position) items ∙ ap (slice_get (set old.kept.items first w)) (sym at) ∙ set_here old.kept.items first v w stood;
@@ -203,7 +203,7 @@ module _ (old : Variables) (list : Vec Variable) (log : ChangeLog) (c : Context)
             (λ t.
             ap (λ b. if b && nat_le c.tick t then extension size (letters_of_digits digits) else latest_value size key t (all_x size) c.value_changes) (sym other)
             ∙ sym (value_with size key t (all_x size) c.value_changes (record { tick = c.tick; code = code; letters = letters_of_digits digits })))
-            (subst (GivesValues size c.tick (λ t. latest_value size key t (all_x size) c.value_changes) wave.first.signal.wave.changes) (sym (others position apart)) wave.gives);
+            (subst (GivesLoggedValues size c.tick (λ t. latest_value size key t (all_x size) c.value_changes) wave.first.signal.wave.changes) (sym (others position apart)) wave.gives);
       }
 
   changed_variables : Variables
@@ -308,7 +308,7 @@ narrow_changes old log c code digits first width e k had row narrow at_tick at w
     changed old old.kept log c code digits first v v k had refl (same_set old.kept.items first v (own_wave old c code digits first k had).3.stands) refl refl
     writes.0 (omega (arith, writes.1, size)) grouped
     (λ f g.
-    subst (GivesValues v.signal.wave.width c.tick (λ t. if nat_le c.tick t then extension v.signal.wave.width (letters_of_digits digits) else f t) v.signal.wave.changes)
+    subst (GivesLoggedValues v.signal.wave.width c.tick (λ t. if nat_le c.tick t then extension v.signal.wave.width (letters_of_digits digits) else f t) v.signal.wave.changes)
     (sym (more first ∙ ap (λ b. if b then logged old.log.groups.items first ++ e ∷ [] else logged old.log.groups.items first) here))
     (gives_appended v.signal.wave.width c.tick f v.signal.wave.changes (extension v.signal.wave.width (letters_of_digits digits)) (logged old.log.groups.items first) e at_tick
     (omega (arith, narrow, size)) (subst (λ n. logged_letters n e ≡ extension n (letters_of_digits digits)) (sym size) writes.2) g))

@@ -20,7 +20,7 @@ use Rattle.vcd_core.specs.Decimal.{number_of}
 use Rattle.vcd_core.specs.Word.{is_skipped_kind}
 use Rattle.vcd_text.specs.Grammar.{VariableDeclaration, ValueChange, Context, is_skipped, kept_variables, variable_of, may_have_code, has_room}
 use Rattle.vcd_text.specs.Meaning.{latest_value}
-use Rattle.vcd_text.specs.inside.ChangeLog.{GivesValues, logged, AreGrouped}
+use Rattle.vcd_text.specs.inside.ChangeLog.{GivesLoggedValues, logged, AreGrouped}
 use Rattle.vcd_text.specs.declared.reading.change_log.LoggedChange.{LoggedChange}
 use Rattle.vcd_text.specs.declared.reading.change_log.ChangeLog.{ChangeLog}
 use Rattle.vcd_text.proofs.LoggedValues.{gives_as, gives_nothing}
@@ -224,8 +224,8 @@ module _ (old new : Variables) (c : Context) (scopes : List ScopeName) (code : L
     stands = last_of old.kept.items (variable_at code s first);
     coded = refl;
     sized = refl;
-    gives = subst (GivesValues s.wave.width c.tick (λ t. latest_value s.wave.width code t (all_x s.wave.width) c.value_changes) s.wave.changes) (sym log_silent)
-        (subst (λ cs. GivesValues s.wave.width c.tick (λ t. latest_value s.wave.width code t (all_x s.wave.width) c.value_changes) cs []) (sym silent)
+    gives = subst (GivesLoggedValues s.wave.width c.tick (λ t. latest_value s.wave.width code t (all_x s.wave.width) c.value_changes) s.wave.changes) (sym log_silent)
+        (subst (λ cs. GivesLoggedValues s.wave.width c.tick (λ t. latest_value s.wave.width code t (all_x s.wave.width) c.value_changes) cs []) (sym silent)
         (gives_as s.wave.width c.tick (λ t. all_x s.wave.width) [] (λ t. latest_value s.wave.width code t (all_x s.wave.width) c.value_changes) []
         (λ t. sym (ap (latest_value s.wave.width code t (all_x s.wave.width)) value_changes)) (gives_nothing s.wave.width c.tick)));
   }

@@ -14,7 +14,7 @@ use Rattle.vcd_text.specs.Meaning.{latest_value, declared_signal}
 use Rattle.vcd_text.specs.inside.Variables.{declaration, HasWave, Stands, Knows, Finishes}
 use Rattle.vcd_text.specs.declared.reading.variables.Variable.{Variable}
 use Rattle.vcd_text.specs.declared.reading.variables.Variables.{Variables}
-use Rattle.vcd_text.specs.inside.ChangeLog.{GivesValues, logged}
+use Rattle.vcd_text.specs.inside.ChangeLog.{GivesLoggedValues, logged}
 use Rattle.vcd_text.proofs.LoggedValues.{gives_late}
 use Rattle.vcd_text.proofs.CopiedWaves.{Ended, ended_upto}
 use Rattle.vcd_text.proofs.Owners.{stands_kept}
@@ -59,7 +59,7 @@ module _ (vs : Variables) (c : Context) (yielded rest : List Variable) (v : Vari
       let wave = own_wave.3 in
       let same : wave.first ≡ v = same_Some wave.first v (sym wave.stands ∙ ap (slice_get vs.kept.items) end ∙ stands_at) in
       let size : v.signal.wave.width ≡ own_wave.0.size = ap (λ (u : Variable). u.signal.wave.width) (sym same) ∙ wave.sized in
-      let gives = subst (λ gs. GivesValues own_wave.0.size c.tick (λ t. latest_value own_wave.0.size v.code t (all_x own_wave.0.size) c.value_changes) wave.first.signal.wave.changes (logged gs v.first)) empty wave.gives in
+      let gives = subst (λ gs. GivesLoggedValues own_wave.0.size c.tick (λ t. latest_value own_wave.0.size v.code t (all_x own_wave.0.size) c.value_changes) wave.first.signal.wave.changes (logged gs v.first)) empty wave.gives in
       let ticks = gives_late own_wave.0.size c.tick (λ t. latest_value own_wave.0.size v.code t (all_x own_wave.0.size) c.value_changes) wave.first.signal.wave.changes [] gives in
       let changes : v.signal.wave.changes ≡ changes_by v.signal.wave.width v.code =
       wave_is v.signal.wave.width c.tick v.signal.wave.changes (λ t. latest_value v.signal.wave.width v.code t (all_x v.signal.wave.width) c.value_changes) is

@@ -1,6 +1,7 @@
 -- The scopes that the reader holds, as scopes are opened and closed and variables declared.
-use Rattle.std.proofs.Common.{◌≡◌, ℕ, zero, suc, ◌+◌, ◌-◌, ◌<◌, ◌≤◌, min, Bool, true, false, not, cond, List, [], ◌∷◌, ◌++◌, length, take, map, get_or, Option, None, Some, refl, sym, ap, subst, ◌∙◌, arith}
+use Rattle.std.proofs.Common.{inl, inr, ◌≡◌, ℕ, zero, suc, ◌+◌, ◌-◌, ◌<◌, ◌≤◌, min, Bool, true, false, not, cond, List, [], ◌∷◌, ◌++◌, length, take, map, get_or, Option, None, Some, refl, sym, ap, subst, ◌∙◌, arith}
 use Rattle.std.specs.Prelude.{option_to_list}
+use Rattle.std.proofs.lemmas.Bool.{cases_lt}
 use Rattle.std.proofs.lemmas.List.{append-nil, map-append, length-map, length-append, length_push, take_all, take-append-le, length-take-le, get_or_append_left}
 use Rattle.std.proofs.Math.Seq.{get_or-append_seam, take-append_seam}
 use Rattle.std.proofs.lemmas.List.Elements.{filter-append}
@@ -8,7 +9,7 @@ use Rattle.std.proofs.lemmas.Option.{same_Some}
 use Rattle.vcd_core.specs.declared.capture.ScopeName.{ScopeName}
 use Rattle.vcd_text.specs.Items.{variable}
 use Rattle.vcd_text.specs.Grammar.{VariableDeclaration, Context, kept_variables, declaration_of, told_after_item, is_skipped}
-use Rattle.vcd_text.specs.inside.Scopes.{chains_of, chain_at, scopes_at, AreWithin, HoldsScopes}
+use Rattle.vcd_text.specs.inside.Scopes.{chains_of, chain_at, scopes_at, AreWithin, AreReached, HoldsScopes}
 use Rattle.vcd_text.specs.declared.reading.scopes.ScopePlace.{ScopePlace}
 use Rattle.vcd_text.specs.declared.reading.scopes.Scopes.{Scopes}
 
@@ -41,7 +42,27 @@ grows_by_scope (c ∷ cs) chain s (suc k) within =
     let g = grows_by_scope cs chain s k (omega (arith, within)) in
     (omega (arith, g.0), g.1)
 
+-- ---- how far places reach
+
+-- no place is in a chain that begins behind those of the places
+reached_by_none : (cs : List (List ScopeName)) (ps : List ScopePlace) (n reach : ℕ) → length cs ≤ n → AreWithin cs ps → AreReached n reach ps
+reached_by_none cs [] n reach behind within = tt
+reached_by_none cs (p ∷ ps) n reach behind (here, count, later) =
+    (λ is. absurd (omega (arith, is, here, behind)), reached_by_none cs ps n reach behind later)
+
+-- one place more
+reached_more : (n reach further : ℕ) (ps : List ScopePlace) (p : ScopePlace) → reach ≤ further → p.count ≤ further → AreReached n reach ps → AreReached n further (ps ++ p ∷ [])
+reached_more n reach further [] p far count tt = (λ _. count, tt)
+reached_more n reach further (q ∷ ps) p far count (one, others) = (λ is. let low = one is in omega (arith, low, far), reached_more n reach further ps p far count others)
+
 -- ---- what the reader holds
+
+-- the chains, the reach and the places stay
+reach_kept : (old new : Scopes) → new.chains.items ≡ old.chains.items → new.reach ≡ old.reach → new.places.items ≡ old.places.items
+    → AreReached (length old.chains.items) old.reach old.places.items → AreReached (length new.chains.items) new.reach new.places.items
+reach_kept old new chains reach places reached =
+    subst (λ (cs : List (List ScopeName)). AreReached (length cs) new.reach new.places.items) (sym chains)
+    (subst (λ r. AreReached (length old.chains.items) r new.places.items) (sym reach) (subst (AreReached (length old.chains.items) old.reach) (sym places) reached))
 
 -- another chain begins, with the scopes that are open
 pub chain_begins : (old new : Scopes) (c : Context) → new.chains.items ≡ old.chains.items ++ old.chain.items ∷ [] → new.chain.items ≡ take old.depth old.chain.items
@@ -54,13 +75,15 @@ chain_begins old new c chains chain depth places h =
       within = omega (arith, long, depth);
       inner = take_all new.depth new.chain.items (omega (arith, long, depth)) ∙ chain ∙ h.inner;
       places = subst (λ cs. AreWithin cs new.places.items) (sym all) (subst (AreWithin (chains_of old ++ new.chain.items ∷ [])) (sym places) stay.0);
+      reached = subst (AreReached (length new.chains.items) new.reach) (sym places)
+          (reached_by_none (chains_of old) old.places.items (length new.chains.items) new.reach (omega (arith, ap (length {A = List ScopeName}) chains)) h.places);
       paths = (λ i. map (scopes_at (all i)) (places i)) ∙ stay.1 ∙ h.paths;
     }
 
 -- a scope is opened at the end of the chain
 pub scope_entered : (old new : Scopes) (c : Context) (s : ScopeName) → old.depth ≡ length old.chain.items → new.chains.items ≡ old.chains.items
-    → new.chain.items ≡ old.chain.items ++ s ∷ [] → new.depth ≡ old.depth + 1 → new.places.items ≡ old.places.items → HoldsScopes old c.scopes c.declared → HoldsScopes new (c.scopes ++ s ∷ []) c.declared
-scope_entered old new c s end chains chain depth places h =
+    → new.chain.items ≡ old.chain.items ++ s ∷ [] → new.depth ≡ old.depth + 1 → new.reach ≡ old.reach → new.places.items ≡ old.places.items → HoldsScopes old c.scopes c.declared → HoldsScopes new (c.scopes ++ s ∷ []) c.declared
+scope_entered old new c s end chains chain depth reach places h =
     let all : chains_of new ≡ old.chains.items ++ (old.chain.items ++ s ∷ []) ∷ [] = λ i. chains i ++ chain i ∷ [] in
     let stay = places_stay (chains_of old) (old.chains.items ++ (old.chain.items ++ s ∷ []) ∷ []) old.places.items (grows_by_scope old.chains.items old.chain.items s) h.places in
     let long : length new.chain.items ≡ new.depth = ap (length {A = ScopeName}) chain ∙ length_push old.chain.items s ∙ omega (arith, end, depth) in
@@ -69,6 +92,7 @@ scope_entered old new c s end chains chain depth places h =
       within = omega (arith, long);
       inner = take_all new.depth new.chain.items (omega (arith, long)) ∙ chain ∙ ap (λ ss. ss ++ s ∷ []) were;
       places = subst (λ cs. AreWithin cs new.places.items) (sym all) (subst (AreWithin (old.chains.items ++ (old.chain.items ++ s ∷ []) ∷ [])) (sym places) stay.0);
+      reached = reach_kept old new chains reach places h.reached;
       paths = (λ i. map (scopes_at (all i)) (places i)) ∙ stay.1 ∙ h.paths;
     }
 
@@ -84,8 +108,8 @@ take_fewer (suc n) (suc m) (s ∷ ss) fewer = ap (λ l. s ∷ l) (take_fewer n m
 
 -- the innermost scope is closed
 pub scope_left : (old new : Scopes) (c : Context) → new.chains.items ≡ old.chains.items → new.chain.items ≡ old.chain.items → new.depth ≡ old.depth - 1
-    → new.places.items ≡ old.places.items → HoldsScopes old c.scopes c.declared → HoldsScopes new (take (length c.scopes - 1) c.scopes) c.declared
-scope_left old new c chains chain depth places h =
+    → new.reach ≡ old.reach → new.places.items ≡ old.places.items → HoldsScopes old c.scopes c.declared → HoldsScopes new (take (length c.scopes - 1) c.scopes) c.declared
+scope_left old new c chains chain depth reach places h =
     let all : chains_of new ≡ chains_of old = λ i. chains i ++ chain i ∷ [] in
     record {
       within = omega (arith, ap (length {A = ScopeName}) chain, depth, h.within);
@@ -94,7 +118,51 @@ scope_left old new c chains chain depth places h =
           ∙ sym (take_fewer old.depth (old.depth - 1) old.chain.items (omega arith))
           ∙ (λ i. take (sym (so_deep old c h) i - 1) (h.inner i));
       places = subst (λ cs. AreWithin cs new.places.items) (sym all) (subst (AreWithin (chains_of old)) (sym places) h.places);
+      reached = reach_kept old new chains reach places h.reached;
       paths = (λ i. map (scopes_at (all i)) (places i)) ∙ h.paths;
+    }
+
+-- places that do not reach further have the scopes that they had, where the last chain is cut
+places_cut : (cs : List (List ScopeName)) (chain : List ScopeName) (depth reach : ℕ) (ps : List ScopePlace) → reach ≤ depth → depth ≤ length chain → AreReached (length cs) reach ps
+    → AreWithin (cs ++ chain ∷ []) ps → AreWithin (cs ++ take depth chain ∷ []) ps × (map (scopes_at (cs ++ take depth chain ∷ [])) ps ≡ map (scopes_at (cs ++ chain ∷ [])) ps)
+places_cut cs chain depth reach [] low within reached places = (tt, refl)
+places_cut cs chain depth reach (p ∷ ps) low within (one, others) (here, count, later) =
+    let rest = places_cut cs chain depth reach ps low within others later in
+    let placed : (p.chain < length (cs ++ take depth chain ∷ [])) × (p.count ≤ length (chain_at (cs ++ take depth chain ∷ []) p.chain)) × (scopes_at (cs ++ take depth chain ∷ []) p ≡ scopes_at (cs ++ chain ∷ []) p) =
+    elim (cases_lt p.chain (length cs)) [
+      | inl before ↦
+          let new_at : chain_at (cs ++ take depth chain ∷ []) p.chain ≡ chain_at cs p.chain = get_or_append_left cs (take depth chain ∷ []) [] p.chain before in
+          let old_at : chain_at (cs ++ chain ∷ []) p.chain ≡ chain_at cs p.chain = get_or_append_left cs (chain ∷ []) [] p.chain before in (
+            omega (arith, before, length_push cs (take depth chain)),
+            omega (arith, count, ap (length {A = ScopeName}) new_at, ap (length {A = ScopeName}) old_at),
+            ap (take p.count) (new_at ∙ sym old_at),
+          )
+      | inr last ↦
+          let is : p.chain ≡ length cs = omega (arith, last, here, length_push cs chain) in
+          let few : p.count ≤ reach = one is in
+          let new_at : chain_at (cs ++ take depth chain ∷ []) p.chain ≡ take depth chain = ap (chain_at (cs ++ take depth chain ∷ [])) is ∙ get_or-append_seam cs (take depth chain) [] [] in
+          let old_at : chain_at (cs ++ chain ∷ []) p.chain ≡ chain = ap (chain_at (cs ++ chain ∷ [])) is ∙ get_or-append_seam cs chain [] [] in
+          let long : length (take depth chain) ≡ depth = length-take-le depth chain within in (
+            omega (arith, is, length_push cs (take depth chain)),
+            omega (arith, few, low, long, ap (length {A = ScopeName}) new_at),
+            ap (take p.count) new_at ∙ take_fewer depth p.count chain (omega (arith, few, low)) ∙ ap (take p.count) (sym old_at),
+          )
+    ] in
+    ((placed.0, placed.1, rest.0), λ i. placed.2 i ∷ rest.1 i)
+
+-- the chain is cut back to the scopes that are open
+pub chain_cut : (old new : Scopes) (c : Context) → new.chains.items ≡ old.chains.items → new.chain.items ≡ take old.depth old.chain.items → new.depth ≡ old.depth
+    → new.reach ≡ old.reach → new.places.items ≡ old.places.items → old.reach ≤ old.depth → HoldsScopes old c.scopes c.declared → HoldsScopes new c.scopes c.declared
+chain_cut old new c chains chain depth reach places low h =
+    let all : chains_of new ≡ old.chains.items ++ take old.depth old.chain.items ∷ [] = λ i. chains i ++ chain i ∷ [] in
+    let stay = places_cut old.chains.items old.chain.items old.depth old.reach old.places.items low h.within h.reached h.places in
+    let long : length new.chain.items ≡ old.depth = ap (length {A = ScopeName}) chain ∙ length-take-le old.depth old.chain.items h.within in
+    record {
+      within = omega (arith, long, depth);
+      inner = take_all new.depth new.chain.items (omega (arith, long, depth)) ∙ chain ∙ h.inner;
+      places = subst (λ cs. AreWithin cs new.places.items) (sym all) (subst (AreWithin (old.chains.items ++ take old.depth old.chain.items ∷ [])) (sym places) stay.0);
+      reached = reach_kept old new chains reach places h.reached;
+      paths = (λ i. map (scopes_at (all i)) (places i)) ∙ stay.1 ∙ h.paths;
     }
 
 -- ---- variables
@@ -117,14 +185,15 @@ one_more : (ds : List VariableDeclaration) (d : VariableDeclaration) → kept_va
 one_more ds d = filter-append (λ (e : VariableDeclaration). not (is_skipped e)) ds (d ∷ [])
 
 -- no variable more is kept
-passed : (s new : Scopes) (c : Context) (o : Option VariableDeclaration) → new.chains.items ≡ s.chains.items → new.chain.items ≡ s.chain.items → new.depth ≡ s.depth
+passed : (s new : Scopes) (c : Context) (o : Option VariableDeclaration) → new.chains.items ≡ s.chains.items → new.chain.items ≡ s.chain.items → new.depth ≡ s.depth → new.reach ≡ s.reach
     → new.places.items ≡ s.places.items → length (kept_variables (and_then c o).declared) ≤ length s.places.items → HoldsScopes s c.scopes c.declared → HoldsScopes new c.scopes (and_then c o).declared
-passed s new c o chains chain depth places few h =
+passed s new c o chains chain depth reach places few h =
     let all : chains_of new ≡ chains_of s = λ i. chains i ++ chain i ∷ [] in
     record {
       within = omega (arith, ap (length {A = ScopeName}) chain, depth, h.within);
       inner = (λ i. take (depth i) (chain i)) ∙ h.inner;
       places = subst (λ cs. AreWithin cs new.places.items) (sym all) (subst (AreWithin (chains_of s)) (sym places) h.places);
+      reached = reach_kept s new chains reach places h.reached;
       paths = (λ i. map (scopes_at (all i)) (places i)) ∙ h.paths ∙ ap (map (λ (d : VariableDeclaration). d.scopes)) (still o few);
     }
   where
@@ -139,13 +208,13 @@ passed s new c o chains chain depth places few h =
     still (Some d) few = by_test d (is_skipped d) refl few
 
 -- one variable more is kept, in the scopes that are open
-noted : (s new : Scopes) (c : Context) (o : Option VariableDeclaration) → new.chains.items ≡ s.chains.items → new.chain.items ≡ s.chain.items → new.depth ≡ s.depth
+noted : (s new : Scopes) (c : Context) (o : Option VariableDeclaration) → new.chains.items ≡ s.chains.items → new.chain.items ≡ s.chain.items → new.depth ≡ s.depth → s.reach ≤ new.reach → s.depth ≤ new.reach
     → new.places.items ≡ s.places.items ++ record { chain = length s.chains.items; count = s.depth } ∷ []
     → length s.places.items < length (kept_variables (and_then c o).declared) → ((d : VariableDeclaration) → o ≡ Some d → d.scopes ≡ c.scopes)
     → HoldsScopes s c.scopes c.declared → HoldsScopes new c.scopes (and_then c o).declared
-noted s new c None chains chain depth places more inside h =
+noted s new c None chains chain depth far reach places more inside h =
     absurd (omega (arith, more, as_many s c h, ap (λ ds. length (kept_variables ds)) (append-nil c.declared)))
-noted s new c (Some d) chains chain depth places more inside h =
+noted s new c (Some d) chains chain depth far reach places more inside h =
     let all : chains_of new ≡ chains_of s = λ i. chains i ++ chain i ∷ [] in
     let p : ScopePlace = record { chain = length s.chains.items; count = s.depth } in
     let here : chain_at (chains_of s) (length s.chains.items) ≡ s.chain.items = get_or-append_seam s.chains.items s.chain.items [] [] in
@@ -155,6 +224,8 @@ noted s new c (Some d) chains chain depth places more inside h =
       inner = (λ i. take (depth i) (chain i)) ∙ h.inner;
       places = subst (λ cs. AreWithin cs new.places.items) (sym all) (subst (AreWithin (chains_of s)) (sym places)
           (within_more (chains_of s) s.places.items p h.places (omega (arith, length_push s.chains.items s.chain.items)) (omega (arith, h.within, ap (length {A = ScopeName}) here))));
+      reached = subst (λ (cs : List (List ScopeName)). AreReached (length cs) new.reach new.places.items) (sym chains)
+          (subst (AreReached (length s.chains.items) new.reach) (sym places) (reached_more (length s.chains.items) s.reach new.reach s.places.items p far reach h.reached));
       paths =
           (λ i. map (scopes_at (all i)) (places i))
           ∙ map-append (scopes_at (chains_of s)) s.places.items (p ∷ [])
@@ -178,13 +249,13 @@ declared_inside c (kind ∷ size ∷ code ∷ []) d is = let never : None ≡ So
 declared_inside c (kind ∷ size ∷ code ∷ name ∷ names) d is = ap (λ (e : VariableDeclaration). e.scopes) (sym (same_Some _ d is))
 
 -- a place more is noted where a variable more is kept
-pub place_noted : (s new : Scopes) (c : Context) (words : List (List ℕ)) → new.chains.items ≡ s.chains.items → new.chain.items ≡ s.chain.items → new.depth ≡ s.depth
+pub place_noted : (s new : Scopes) (c : Context) (words : List (List ℕ)) → new.chains.items ≡ s.chains.items → new.chain.items ≡ s.chain.items → new.depth ≡ s.depth → s.reach ≤ new.reach → s.depth ≤ new.reach
     → new.places.items ≡ s.places.items ++ record { chain = length s.chains.items; count = s.depth } ∷ []
     → length s.places.items < length (kept_variables (told_after_item c (variable words)).declared)
     → HoldsScopes s c.scopes c.declared → HoldsScopes new c.scopes (told_after_item c (variable words)).declared
-place_noted s new c words chains chain depth places more h = noted s new c (declaration_of c words) chains chain depth places more (declared_inside c words) h
+place_noted s new c words chains chain depth far reach places more h = noted s new c (declaration_of c words) chains chain depth far reach places more (declared_inside c words) h
 
 -- and none where none is
 pub no_place : (s : Scopes) (c : Context) (words : List (List ℕ)) → length (kept_variables (told_after_item c (variable words)).declared) ≤ length s.places.items
     → HoldsScopes s c.scopes c.declared → HoldsScopes s c.scopes (told_after_item c (variable words)).declared
-no_place s c words few h = passed s s c (declaration_of c words) refl refl refl refl few h
+no_place s c words few h = passed s s c (declaration_of c words) refl refl refl refl refl few h

@@ -5,13 +5,13 @@ use Rattle.vcd_core.specs.declared.bit.Bit.{Bit}
 use Rattle.vcd_core.specs.declared.wave.Change.{Change}
 use Rattle.vcd_core.specs.Value.{all_x}
 use Rattle.vcd_core.specs.Wave.{value_from, value_at}
-use Rattle.vcd_text.specs.inside.ChangeLog.{logged_letters, value_behind, RisesTo, GivesValues}
+use Rattle.vcd_text.specs.inside.ChangeLog.{logged_letters, value_after_changes, RisesTo, GivesLoggedValues}
 use Rattle.vcd_text.specs.declared.reading.change_log.LoggedChange.{LoggedChange}
 
-value_behind-more : (width t : ℕ) (before : List Bit) (es : List LoggedChange) (e : LoggedChange)
-    → value_behind width t before (es ++ e ∷ []) ≡ (if nat_le e.tick t then logged_letters width e else value_behind width t before es)
-value_behind-more width t before [] e = refl
-value_behind-more width t before (d ∷ es) e = value_behind-more width t (if nat_le d.tick t then logged_letters width d else before) es e
+value_after_changes-more : (width t : ℕ) (before : List Bit) (es : List LoggedChange) (e : LoggedChange)
+    → value_after_changes width t before (es ++ e ∷ []) ≡ (if nat_le e.tick t then logged_letters width e else value_after_changes width t before es)
+value_after_changes-more width t before [] e = refl
+value_after_changes-more width t before (d ∷ es) e = value_after_changes-more width t (if nat_le d.tick t then logged_letters width d else before) es e
 
 -- ---- ticks
 
@@ -34,33 +34,33 @@ module _ (width tick : ℕ) (f : ℕ → List Bit) (cs : List Change) where
   -- ---- a wave with what stands behind it
 
   -- no change of the wave is past the tick
-  pub gives_late : (es : List LoggedChange) → GivesValues width tick f cs es → All (λ (c : Change). c.tick ≤ tick) cs
+  pub gives_late : (es : List LoggedChange) → GivesLoggedValues width tick f cs es → All (λ (c : Change). c.tick ≤ tick) cs
   gives_late es g = ends_later cs g.floor tick (rises_past g.floor tick es g.rises) g.ticks
 
   -- the tick may be a later one
-  pub gives_further : (late : ℕ) (es : List LoggedChange) → tick ≤ late → GivesValues width tick f cs es → GivesValues width late f cs es
+  pub gives_further : (late : ℕ) (es : List LoggedChange) → tick ≤ late → GivesLoggedValues width tick f cs es → GivesLoggedValues width late f cs es
   gives_further late es later g = record { floor = g.floor; ticks = g.ticks; rises = rises_further g.floor tick late es later g.rises; narrow = g.narrow; values = g.values }
 
-  pub gives_as : (g : ℕ → List Bit) (es : List LoggedChange) → ((t : ℕ) → f t ≡ g t) → GivesValues width tick f cs es → GivesValues width tick g cs es
+  pub gives_as : (g : ℕ → List Bit) (es : List LoggedChange) → ((t : ℕ) → f t ≡ g t) → GivesLoggedValues width tick f cs es → GivesLoggedValues width tick g cs es
   gives_as g es same h = record { floor = h.floor; ticks = h.ticks; rises = h.rises; narrow = h.narrow; values = λ t. h.values t ∙ same t }
 
   -- ---- a change more
 
   -- one that is put behind the others in the log
-  pub gives_appended : (v : List Bit) (es : List LoggedChange) (e : LoggedChange) → e.tick ≡ tick → width ≤ 64 → logged_letters width e ≡ v → GivesValues width tick f cs es
-      → GivesValues width tick (λ t. if nat_le tick t then v else f t) cs (es ++ e ∷ [])
+  pub gives_appended : (v : List Bit) (es : List LoggedChange) (e : LoggedChange) → e.tick ≡ tick → width ≤ 64 → logged_letters width e ≡ v → GivesLoggedValues width tick f cs es
+      → GivesLoggedValues width tick (λ t. if nat_le tick t then v else f t) cs (es ++ e ∷ [])
   gives_appended v es e at narrow letters g = record {
     floor = g.floor;
     ticks = g.ticks;
     rises = rises_more g.floor tick es e at g.rises;
     narrow = λ _. narrow;
-    values = λ t. value_behind-more width t (value_at width cs t) es e ∙ (λ i. if nat_le (at i) t then letters i else g.values t i);
+    values = λ t. value_after_changes-more width t (value_at width cs t) es e ∙ (λ i. if nat_le (at i) t then letters i else g.values t i);
   }
 
   -- one that a wide wave takes
   pub gives_pushed : (v : List Bit) (ds : List Change) (es : List LoggedChange) → 64 < width → All (λ (c : Change). c.tick ≤ tick) ds
-      → ((t : ℕ) → value_at width ds t ≡ (if nat_le tick t then v else value_at width cs t)) → GivesValues width tick f cs es
-      → GivesValues width tick (λ t. if nat_le tick t then v else f t) ds es
+      → ((t : ℕ) → value_at width ds t ≡ (if nat_le tick t then v else value_at width cs t)) → GivesLoggedValues width tick f cs es
+      → GivesLoggedValues width tick (λ t. if nat_le tick t then v else f t) ds es
   gives_pushed v ds [] wide ended values g = record {
     floor = tick;
     ticks = ended;
@@ -73,26 +73,26 @@ module _ (width tick : ℕ) (f : ℕ → List Bit) (cs : List Change) where
   -- ---- a change of the log less
 
   -- the wave can take the first change of the log
-  pub gives_narrow : (e : LoggedChange) (es : List LoggedChange) → GivesValues width tick f cs (e ∷ es) → width ≤ 64
+  pub gives_narrow : (e : LoggedChange) (es : List LoggedChange) → GivesLoggedValues width tick f cs (e ∷ es) → width ≤ 64
   gives_narrow e es g = g.narrow (omega arith)
 
-  pub gives_first : (e : LoggedChange) (es : List LoggedChange) → GivesValues width tick f cs (e ∷ es) → All (λ (c : Change). c.tick ≤ e.tick) cs
+  pub gives_first : (e : LoggedChange) (es : List LoggedChange) → GivesLoggedValues width tick f cs (e ∷ es) → All (λ (c : Change). c.tick ≤ e.tick) cs
   gives_first e es g = ends_later cs g.floor e.tick g.rises.0 g.ticks
 
   -- and has it then
   pub gives_settled : (ds : List Change) (e : LoggedChange) (es : List LoggedChange) → All (λ (c : Change). c.tick ≤ e.tick) ds
       → ((t : ℕ) → value_at width ds t ≡ (if nat_le e.tick t then logged_letters width e else value_at width cs t))
-      → GivesValues width tick f cs (e ∷ es) → GivesValues width tick f ds es
+      → GivesLoggedValues width tick f cs (e ∷ es) → GivesLoggedValues width tick f ds es
   gives_settled ds e es ended values g = record {
     floor = e.tick;
     ticks = ended;
     rises = g.rises.1;
     narrow = λ _. g.narrow (omega arith);
-    values = λ t. ap (λ b. value_behind width t b es) (values t) ∙ g.values t;
+    values = λ t. ap (λ b. value_after_changes width t b es) (values t) ∙ g.values t;
   }
 
 -- a wave with no change, where the log has none for it
-pub gives_nothing : (width tick : ℕ) → GivesValues width tick (λ t. all_x width) [] []
+pub gives_nothing : (width tick : ℕ) → GivesLoggedValues width tick (λ t. all_x width) [] []
 unfolding value_from
 gives_nothing width tick = record {
   floor = 0;

@@ -9,7 +9,7 @@ use Rattle.vcd_core.specs.Value.{all_x}
 use Rattle.vcd_core.specs.Wave.{value_at}
 use Rattle.vcd_text.specs.Grammar.{Context, variable_of}
 use Rattle.vcd_text.specs.Meaning.{latest_value}
-use Rattle.vcd_text.specs.inside.ChangeLog.{GivesValues, changes_at, logged, AreGrouped, CanTake, TakesLogged, TakesAt, CanSettle, Becomes, Settles}
+use Rattle.vcd_text.specs.inside.ChangeLog.{GivesLoggedValues, changes_of_position, logged, AreGrouped, CanTake, TakesLogged, TakesAt, CanSettle, Becomes, Settles}
 use Rattle.vcd_text.specs.inside.Variables.{declaration, owner_of, HasWave, HasFirst, Knows}
 use Rattle.vcd_text.specs.declared.reading.variables.Owner.TheVariants.{Kept}
 use Rattle.vcd_text.specs.declared.reading.change_log.LoggedChange.{LoggedChange}
@@ -45,7 +45,7 @@ becomes_taken e v w es takes = record {
   width = takes.width;
   first = takes.first;
   gives = λ tick f g.
-      subst (λ n. GivesValues n tick f w.signal.wave.changes es) (sym takes.width)
+      subst (λ n. GivesLoggedValues n tick f w.signal.wave.changes es) (sym takes.width)
       (gives_settled v.signal.wave.width tick f v.signal.wave.changes w.signal.wave.changes e es takes.last
       (λ t. ap (λ n. value_at n w.signal.wave.changes t) (sym takes.width) ∙ takes.values t) g);
 }
@@ -76,13 +76,13 @@ module _ (e : LoggedChange) (es : List LoggedChange) (rest : ℕ → List Logged
   own_place = grind arith
 
   -- the first change of a group can be taken
-  pub can_take : (kept : List Variable) → CanSettle kept (λ position. changes_at position (e ∷ es) ++ rest position) → CanTake kept e
+  pub can_take : (kept : List Variable) → CanSettle kept (λ position. changes_of_position position (e ∷ es) ++ rest position) → CanTake kept e
   can_take kept can =
-      let front : List LoggedChange = changes_at e.position es ++ rest e.position in
-      let is : cond (e.position == e.position) (e ∷ changes_at e.position es) (changes_at e.position es) ++ rest e.position ≡ e ∷ front =
-      ap (λ b. cond b (e ∷ changes_at e.position es) (changes_at e.position es) ++ rest e.position) own_place in
+      let front : List LoggedChange = changes_of_position e.position es ++ rest e.position in
+      let is : cond (e.position == e.position) (e ∷ changes_of_position e.position es) (changes_of_position e.position es) ++ rest e.position ≡ e ∷ front =
+      ap (λ b. cond b (e ∷ changes_of_position e.position es) (changes_of_position e.position es) ++ rest e.position) own_place in
       let (v, stands, tick, f, gives) = can e.position (omega (arith, ap (length {A = LoggedChange}) is)) in
-      let first : GivesValues v.signal.wave.width tick f v.signal.wave.changes (e ∷ front) = subst (GivesValues v.signal.wave.width tick f v.signal.wave.changes) is gives in
+      let first : GivesLoggedValues v.signal.wave.width tick f v.signal.wave.changes (e ∷ front) = subst (GivesLoggedValues v.signal.wave.width tick f v.signal.wave.changes) is gives in
       record {
         before = v;
         stands = stands;
@@ -91,7 +91,7 @@ module _ (e : LoggedChange) (es : List LoggedChange) (rest : ℕ → List Logged
       }
 
   -- and then the others are left
-  pub settles_one : (old new : List Variable) → TakesAt e old new → Settles old new (λ position. changes_at position (e ∷ es) ++ rest position) (λ position. changes_at position es ++ rest position)
+  pub settles_one : (old new : List Variable) → TakesAt e old new → Settles old new (λ position. changes_of_position position (e ∷ es) ++ rest position) (λ position. changes_of_position position es ++ rest position)
   settles_one old new takes = record {
     long = ap (length {A = Variable}) takes.others ∙ same_length old e.position takes.after;
     each = λ position v at. elim (cases_Bool (e.position == position)) [
@@ -100,16 +100,16 @@ module _ (e : LoggedChange) (es : List LoggedChange) (rest : ℕ → List Logged
           let is : takes.before ≡ v = same_Some takes.before v (sym takes.stands ∙ ap (slice_get old) here ∙ at) in (
             takes.after,
             ap (λ vs. slice_get vs position) takes.others ∙ ap (slice_get (set old e.position takes.after)) (sym here) ∙ set_here old e.position takes.before takes.after takes.stands,
-            subst (λ b. Becomes v takes.after (cond b (e ∷ changes_at position es) (changes_at position es) ++ rest position) (changes_at position es ++ rest position)) (sym same)
-                (becomes_taken e v takes.after (changes_at position es ++ rest position) (subst (λ u. TakesLogged e u takes.after) is takes.takes)),
+            subst (λ b. Becomes v takes.after (cond b (e ∷ changes_of_position position es) (changes_of_position position es) ++ rest position) (changes_of_position position es ++ rest position)) (sym same)
+                (becomes_taken e v takes.after (changes_of_position position es ++ rest position) (subst (λ u. TakesLogged e u takes.after) is takes.takes)),
           )
       | inr other ↦ (
         v,
         ap (λ vs. slice_get vs position) takes.others
             ∙ set_there old e.position position takes.after (λ same. let both : true ≡ false = sym own_place ∙ ap (λ p. e.position == p) same ∙ other in absurd (cc))
             ∙ at,
-        subst (λ b. Becomes v v (cond b (e ∷ changes_at position es) (changes_at position es) ++ rest position) (changes_at position es ++ rest position)) (sym other)
-            (becomes_same v (changes_at position es ++ rest position)),
+        subst (λ b. Becomes v v (cond b (e ∷ changes_of_position position es) (changes_of_position position es) ++ rest position) (changes_of_position position es ++ rest position)) (sym other)
+            (becomes_same v (changes_of_position position es ++ rest position)),
       )
     ];
   }
@@ -122,10 +122,10 @@ can_still old new log rest some settles can = λ position left.
     (w.0, w.1, tick, f, w.2.gives tick f gives)
 
 -- what is left of a group stood in it
-pub more_left : (e : LoggedChange) (es rest : List LoggedChange) (position : ℕ) → 0 < length (changes_at position es ++ rest) → 0 < length (changes_at position (e ∷ es) ++ rest)
+pub more_left : (e : LoggedChange) (es rest : List LoggedChange) (position : ℕ) → 0 < length (changes_of_position position es ++ rest) → 0 < length (changes_of_position position (e ∷ es) ++ rest)
 more_left e es rest position some = choose (e.position == position)
   where
-    choose : (b : Bool) → 0 < length (cond b (e ∷ changes_at position es) (changes_at position es) ++ rest)
+    choose : (b : Bool) → 0 < length (cond b (e ∷ changes_of_position position es) (changes_of_position position es) ++ rest)
     choose true = omega arith
     choose false = some
 
@@ -138,7 +138,7 @@ knows_can_settle vs c k = λ position some.
     let own = own_wave vs c u.0.code [] position k had in
     let f : ℕ → List Bit = λ t. latest_value own.0.size u.0.code t (all_x own.0.size) c.value_changes in
     let wave = own.3 in
-    (wave.first, wave.stands, c.tick, f, subst (λ n. GivesValues n c.tick f wave.first.signal.wave.changes (logged vs.log.groups.items position)) (sym wave.sized) wave.gives)
+    (wave.first, wave.stands, c.tick, f, subst (λ n. GivesLoggedValues n c.tick f wave.first.signal.wave.changes (logged vs.log.groups.items position)) (sym wave.sized) wave.gives)
 
 same_all : {B : Type 0} (f : Variable → B) (vs ws : List Variable) → length ws ≡ length vs
     → ((position : ℕ) (v : Variable) → slice_get vs position ≡ Some v → (w : Variable) × (slice_get ws position ≡ Some w) × (f w ≡ f v)) → map f ws ≡ map f vs
@@ -171,15 +171,15 @@ module _ (old : Variables) (list : Vec Variable) (log : ChangeLog) (c : Context)
   settled_wave position code size wave =
       let u = settles.each position wave.first wave.stands in
       let f : ℕ → List Bit = λ t. latest_value size code t (all_x size) c.value_changes in
-      let before : GivesValues wave.first.signal.wave.width c.tick f wave.first.signal.wave.changes (logged old.log.groups.items position) =
-      subst (λ n. GivesValues n c.tick f wave.first.signal.wave.changes (logged old.log.groups.items position)) (sym wave.sized) wave.gives in
+      let before : GivesLoggedValues wave.first.signal.wave.width c.tick f wave.first.signal.wave.changes (logged old.log.groups.items position) =
+      subst (λ n. GivesLoggedValues n c.tick f wave.first.signal.wave.changes (logged old.log.groups.items position)) (sym wave.sized) wave.gives in
       record {
         first = u.0;
         stands = u.1;
         coded = u.2.code ∙ wave.coded;
         sized = u.2.width ∙ wave.sized;
-        gives = subst (λ gs. GivesValues size c.tick f u.0.signal.wave.changes (logged gs position)) (sym empty)
-            (subst (λ n. GivesValues n c.tick f u.0.signal.wave.changes []) (u.2.width ∙ wave.sized) (u.2.gives c.tick f before));
+        gives = subst (λ gs. GivesLoggedValues size c.tick f u.0.signal.wave.changes (logged gs position)) (sym empty)
+            (subst (λ n. GivesLoggedValues n c.tick f u.0.signal.wave.changes []) (u.2.width ∙ wave.sized) (u.2.gives c.tick f before));
       }
 
   settled_firsts : (position : ℕ) (w : Variable) → slice_get list.items position ≡ Some w → HasFirst settled position w

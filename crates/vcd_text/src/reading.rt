@@ -47,13 +47,14 @@ pub struct Loaded {
 /// space follows them, are looked at first: a fault in them is answered. `ReadFault` is answered only where the
 /// source has failed.
 ///
-/// One step for each byte; for each change besides it one look-up of its code, and a push: of a variable of at most
-/// 64 bits one into the log, and at the end one out of it into the wave; for each variable one look-up or two, and a
-/// copy of its code, its name and the scopes that are open; for each later variable of a code a copy of the changes.
+/// One step for each byte; for each change one look-up of its code and, for a variable of at most 64 bits, one into the
+/// log and two out of it at the end; for each variable one look-up or two, and a copy of its code and its name; for each
+/// scope behind one that was closed, in which a variable stands, a copy of the scopes that are open; for each later
+/// variable of a code a copy of the changes, up to `COPIES_LIMIT` in all, and `NoMemory` above.
 /// At most 4,096 bytes are asked for at a time, and none behind a fault that is sure.
-/// Memory: those bytes, the longest word, 32 bytes for each change in the log, of which one group of `GROUPS` after
+/// Memory: those bytes, the longest word, 32 bytes for each change in the log, of which one group of 128 after
 /// another is given back as its waves are made, and the capture, of which each change takes a tick and a value of
-/// `WIDTH_LIMIT` bits; beside each signal its own copy of the code, each code once more in the table, its width, and
+/// `WIDTH_LIMIT` bits; beside each signal its own copy of the code, each code once more in the map, its width, and
 /// four bytes for each code of up to three bytes that might come before the last of those that are declared.
 pub fn read<R: Source>(alloc: Global, reader: &mut R) -> Result<Loaded, ReadError>
     requires ready { R.has_failed reader.old ≡ false }

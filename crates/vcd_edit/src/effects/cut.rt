@@ -9,7 +9,7 @@ ghost use Rattle.vcd_edit.specs.inside.Records.{piece_view};
 ghost use Rattle.vcd_edit.specs.inside.Plans.{IsPlan, GivesValues, LeadEach};
 ghost use Rattle.vcd_edit.specs.declared.edit.Edit.TheVariants as edits;
 
-use crate::effects::making::{offset_back, put_change, value_at_tick_before};
+use crate::effects::making::{offset_back, put_change, value_just_before};
 use crate::record::{Piece, Record};
 use std::alloc::Global;
 use vcd_core::{Capture, END_LIMIT, NoMemory, Signal, Wave};
@@ -77,7 +77,7 @@ pub(crate) fn cut_piece(
     let mut changes = Vec::new(alloc);
     put_change(
         &mut changes,
-        value_at_tick_before(wave, from),
+        value_just_before(wave, from),
         from,
         wave.at(to),
     )?;

@@ -9,7 +9,7 @@ ghost use Rattle.vcd_edit.specs.inside.Plans.{IsPlan, GivesValues};
 ghost use Rattle.vcd_edit.specs.declared.edit.Edit.TheVariants as edits;
 
 use crate::effects::making::{
-    one_piece, piece_between, put_change, signal_there, value_at_tick_before,
+    one_piece, piece_between, put_change, signal_there, value_just_before,
 };
 use crate::record::{Piece, Record};
 use std::alloc::Global;
@@ -52,7 +52,7 @@ fn forced(
 {
     let wave = &signal.wave;
     let mut changes = Vec::new(alloc);
-    put_change(&mut changes, value_at_tick_before(wave, from), from, value)?;
+    put_change(&mut changes, value_just_before(wave, from), from, value)?;
     if to > end {
         return Ok(piece_between(wave, position, from, to, changes));
     }

@@ -7,7 +7,7 @@ ghost use Rattle.vcd_core.specs.Value.{all_x, same_letters};
 ghost use Rattle.vcd_core.specs.Wave.{change, unless_same, value_at};
 ghost use Rattle.vcd_edit.specs.Allowed.{is_no_signal};
 ghost use Rattle.vcd_edit.specs.inside.Records.{piece_view};
-ghost use Rattle.vcd_edit.specs.inside.Ranges.{value_just_before as value_just_before};
+ghost use Rattle.vcd_edit.specs.inside.Ranges.{value_just_before};
 
 use crate::record::{Piece, Record};
 use std::alloc::Global;
@@ -25,7 +25,7 @@ pub(crate) fn signal_there(capture: &Capture, position: usize) -> &Signal
 }
 
 /// The value at the tick before `tick`: all x before tick 0.
-pub(crate) fn value_at_tick_before(wave: &Wave, tick: u64) -> Value
+pub(crate) fn value_just_before(wave: &Wave, tick: u64) -> Value
     ensures { result ≡ value_just_before wave.now.width
         (value_at wave.now.width wave.now.changes) tick }
 {

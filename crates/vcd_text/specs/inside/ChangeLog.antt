@@ -17,9 +17,9 @@ abbrev pub logged_letters : ℕ → LoggedChange → List Bit
 logged_letters width e = letters_of width (e.low ∷ []) (e.high ∷ [])
 
 -- the value at a tick, where these changes come behind a value
-abbrev pub value_behind : ℕ → ℕ → List Bit → List LoggedChange → List Bit
-value_behind width t before [] = before
-value_behind width t before (e ∷ es) = value_behind width t (if nat_le e.tick t then logged_letters width e else before) es
+abbrev pub value_after_changes : ℕ → ℕ → List Bit → List LoggedChange → List Bit
+value_after_changes width t before [] = before
+value_after_changes width t before (e ∷ es) = value_after_changes width t (if nat_le e.tick t then logged_letters width e else before) es
 
 -- the ticks do not fall, from `floor` to `tick`
 abbrev pub RisesTo : (floor tick : ℕ) → List LoggedChange → Type 0
@@ -27,23 +27,23 @@ RisesTo floor tick [] = floor ≤ tick
 RisesTo floor tick (e ∷ es) = (floor ≤ e.tick) × RisesTo e.tick tick es
 
 -- a wave with changes of the log behind its own has the values of f, and no change is past the tick
-pub record GivesValues (width tick : ℕ) (f : ℕ → List Bit) (changes : List Change) (behind : List LoggedChange) : Type 0 where
+pub record GivesLoggedValues (width tick : ℕ) (f : ℕ → List Bit) (changes : List Change) (behind : List LoggedChange) : Type 0 where
   pub floor : ℕ
   pub ticks : All (λ (c : Change). c.tick ≤ floor) changes
   pub rises : RisesTo floor tick behind
   pub narrow : 0 < length behind → width ≤ 64
-  pub values : (t : ℕ) → value_behind width t (value_at width changes t) behind ≡ f t
+  pub values : (t : ℕ) → value_after_changes width t (value_at width changes t) behind ≡ f t
 
 -- ---- groups
 
 -- the changes of the variable at a position
-abbrev pub changes_at : ℕ → List LoggedChange → List LoggedChange
-changes_at position group = filter (λ (e : LoggedChange). e.position == position) group
+abbrev pub changes_of_position : ℕ → List LoggedChange → List LoggedChange
+changes_of_position position group = filter (λ (e : LoggedChange). e.position == position) group
 
 -- the same of all groups
 abbrev pub logged : List (Vec LoggedChange) → ℕ → List LoggedChange
 logged [] position = []
-logged (g ∷ gs) position = changes_at position g.items ++ logged gs position
+logged (g ∷ gs) position = changes_of_position position g.items ++ logged gs position
 
 -- each group has changes of positions with one remainder alone
 abbrev pub AreGrouped : ℕ → List (Vec LoggedChange) → Type 0
@@ -84,7 +84,7 @@ abbrev pub CanSettle : List Variable → (ℕ → List LoggedChange) → Type 0
 CanSettle kept log =
     (position : ℕ) → 0 < length (log position)
     → (v : Variable) × (slice_get kept position ≡ Some v) × (tick : ℕ) × (f : ℕ → List Bit)
-    × GivesValues v.signal.wave.width tick f v.signal.wave.changes (log position)
+    × GivesLoggedValues v.signal.wave.width tick f v.signal.wave.changes (log position)
 
 -- a variable is what it was, and its wave with what is left of the log has the values that it had
 pub record Becomes (old new : Variable) (log rest : List LoggedChange) : Type 0 where
@@ -94,8 +94,8 @@ pub record Becomes (old new : Variable) (log rest : List LoggedChange) : Type 0 
   pub words : new.signal.words ≡ old.signal.words
   pub width : new.signal.wave.width ≡ old.signal.wave.width
   pub first : new.first ≡ old.first
-  pub gives : (tick : ℕ) (f : ℕ → List Bit) → GivesValues old.signal.wave.width tick f old.signal.wave.changes log
-      → GivesValues new.signal.wave.width tick f new.signal.wave.changes rest
+  pub gives : (tick : ℕ) (f : ℕ → List Bit) → GivesLoggedValues old.signal.wave.width tick f old.signal.wave.changes log
+      → GivesLoggedValues new.signal.wave.width tick f new.signal.wave.changes rest
 
 -- the variables have taken what is no more left of the log
 pub record Settles (old new : List Variable) (log rest : ℕ → List LoggedChange) : Type 0 where

@@ -23,11 +23,17 @@ abbrev pub AreWithin : List (List ScopeName) → List ScopePlace → Type 0
 AreWithin chains [] = Unit {0}
 AreWithin chains (p ∷ ps) = (p.chain < length chains) × (p.count ≤ length (chain_at chains p.chain)) × AreWithin chains ps
 
+-- each of these places that is one in the chain of this number has at most so many scopes
+abbrev pub AreReached : (chain reach : ℕ) → List ScopePlace → Type 0
+AreReached chain reach [] = Unit {0}
+AreReached chain reach (p ∷ ps) = (p.chain ≡ chain → p.count ≤ reach) × AreReached chain reach ps
+
 -- the reader holds the scopes that are open, and those of each variable that is kept of those declared
 pub record HoldsScopes (s : Scopes) (scopes : List ScopeName) (declared : List VariableDeclaration) : Type 0 where
   pub within : s.depth ≤ length s.chain.items
   pub inner : take s.depth s.chain.items ≡ scopes
   pub places : AreWithin (chains_of s) s.places.items
+  pub reached : AreReached (length s.chains.items) s.reach s.places.items
   pub paths : map (scopes_at (chains_of s)) s.places.items ≡ map (λ (d : VariableDeclaration). d.scopes) (kept_variables declared)
 
 -- the scopes of a place, and none where there is no place

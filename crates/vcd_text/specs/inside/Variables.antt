@@ -14,7 +14,7 @@ use Rattle.vcd_text.specs.Items.{variable}
 use Rattle.vcd_text.specs.Grammar.{VariableDeclaration, ValueChange, Context, is_skipped, kept_variables, declaration_of, variable_of, may_have_code, has_room, is_binary_number, takes_binary_number, told_after_item, with_value_change}
 use Rattle.vcd_text.specs.Meaning.{latest_value}
 use Rattle.vcd_text.specs.inside.ShortCodes.{code_owner}
-use Rattle.vcd_text.specs.inside.ChangeLog.{GivesValues, logged, AreGrouped}
+use Rattle.vcd_text.specs.inside.ChangeLog.{GivesLoggedValues, logged, AreGrouped}
 use Rattle.vcd_text.specs.declared.reading.change_log.LoggedChange.{LoggedChange}
 use Rattle.vcd_text.specs.declared.reading.variables.Owner.{Owner}
 use Rattle.vcd_text.specs.declared.reading.variables.Owner.TheVariants.{Skipped, Kept}
@@ -49,7 +49,7 @@ pub record HasWave (vs : List Variable) (log : ℕ → List LoggedChange) (posit
   pub stands : slice_get vs position ≡ Some first
   pub coded : first.code ≡ code
   pub sized : first.signal.wave.width ≡ size
-  pub gives : GivesValues size tick (λ t. latest_value size code t (all_x size) value_changes) first.signal.wave.changes (log position)
+  pub gives : GivesLoggedValues size tick (λ t. latest_value size code t (all_x size) value_changes) first.signal.wave.changes (log position)
 
 -- what a code stands for agrees with the first variable that was declared with it
 abbrev pub Stands : List Variable → (ℕ → List LoggedChange) → List ValueChange → ℕ → List ℕ → Option Owner → Option VariableDeclaration → Type 0

@@ -21,7 +21,7 @@ pub enum BinaryNumberError {
 }
 
 /// The letter that a binary digit writes; none for any other byte.
-pub fn letter_in_digit(digit: u8) -> Option<Bit>
+pub fn letter_of_digit(digit: u8) -> Option<Bit>
     ensures { result ≡ letter_of_digit digit }
 {
     match digit {
@@ -113,7 +113,7 @@ fn are_binary_digits(bytes: &[u8]) -> bool
 pub fn is_binary_digit(byte: u8) -> bool
     ensures { result ≡ digit_test byte }
 {
-    letter_in_digit(byte).is_some()
+    letter_of_digit(byte).is_some()
 }
 
 /// The digits as letters, with those that are wanting on the left, a word of 64 at a time; none where one is no
@@ -163,7 +163,7 @@ fn word_read(pad: Bit, digits: &[u8]) -> Option<LetterWord>
     let mut low = repeated(pad.is_low());
     let mut high = repeated(pad.is_high());
     for digit in digits {
-        let letter = letter_in_digit(*digit)?;
+        let letter = letter_of_digit(*digit)?;
         low = with_lowest(low, letter.is_low());
         high = with_lowest(high, letter.is_high());
     }
@@ -194,5 +194,5 @@ fn pad_of(digits: &[u8]) -> Bit
 fn bit_or_x(digit: u8) -> Bit
     ensures { result ≡ unwrap_or (letter_of_digit digit) X }
 {
-    letter_in_digit(digit).unwrap_or(Bit::X)
+    letter_of_digit(digit).unwrap_or(Bit::X)
 }

@@ -2,7 +2,7 @@
 //! at the end, some at a time, so that neither a wave nor its last change is waited for at each change.
 
 ghost use Rattle.std.specs.Prelude.{◌≡◌, ◌+◌, ◌++◌, ◌==◌, ◌≤◌, ℕ, List, [], ◌∷◌, length, if◌then◌else◌, OnOk};
-ghost use Rattle.vcd_text.specs.inside.ChangeLog.{logged, changes_at, AreGrouped, CanTake, TakesAt, CanSettle, Settles};
+ghost use Rattle.vcd_text.specs.inside.ChangeLog.{logged, changes_of_position, AreGrouped, CanTake, TakesAt, CanSettle, Settles};
 
 use crate::reading::variables::Variable;
 use std::alloc::Global;
@@ -156,9 +156,9 @@ fn settle_group(
     group: &[LoggedChange],
 ) -> Result<(), NoMemory>
     requires { (rest : ℕ → List LoggedChange) ×
-        CanSettle kept.old.items (λ position. changes_at position group.now ++ rest position) }
+        CanSettle kept.old.items (λ position. changes_of_position position group.now ++ rest position) }
     ensures { OnOk result ((rest : ℕ → List LoggedChange) → Settles kept.old.items kept.new.items
-        (λ position. changes_at position group.now ++ rest position) rest) }
+        (λ position. changes_of_position position group.now ++ rest position) rest) }
 {
     for change in group {
         let more = take_count(demands, change.position / GROUPS);

@@ -77,7 +77,8 @@ impl Reader {
         Ok(())
     }
 
-    /// Takes the `$end` of the item that is open. The words that it keeps are moved, and not copied.
+    /// Takes the `$end` of the item that is open. The words of a header entry and of a scope
+    /// are moved, those of a variable are copied.
     ///
     /// `BadTimescale` for words that spell no timescale, `BadScope` for a scope without a kind, and for a
     /// variable what `Variables::declare` answers.

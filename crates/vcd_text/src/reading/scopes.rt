@@ -18,8 +18,9 @@ pub struct ScopePlace {
 /// The scopes that have been declared: those that are open, and those of each variable that is kept.
 ///
 /// They stand in chains, each scope in the one before it, so that scopes nested to any depth are held once. A
-/// scope that is declared behind one that was closed begins a chain, with a copy of the scopes that are open:
-/// many scopes at a great depth, each beside the others, take the product of the two.
+/// scope that is declared behind one that was closed takes its place, where no variable stands in that, and else
+/// begins a chain, with a copy of the scopes that are open: many scopes at a great depth, each with a variable and
+/// beside the others, take the product of the two.
 #[derive(Drop)]
 pub struct Scopes {
     /// The chains that do not go on.
@@ -28,6 +29,8 @@ pub struct Scopes {
     pub chain: Vec<ScopeName>,
     /// How many of its scopes are open.
     pub depth: usize,
+    /// How many of its scopes variables stand in, at the most.
+    pub reach: usize,
     /// Where the scopes of each kept variable stand.
     pub places: Vec<ScopePlace>,
     ghost within: { depth ≤ length chain.items },
@@ -50,6 +53,7 @@ impl Scopes {
             chains: Vec::new(alloc),
             chain: Vec::new(alloc),
             depth: 0,
+            reach: 0,
             places: Vec::new(alloc),
         }
     }
@@ -61,7 +65,8 @@ impl Scopes {
         self.depth == 0
     }
 
-    /// Opens a scope in the innermost.
+    /// Opens a scope in the innermost. Behind a scope that was closed, in which a variable stands, it copies those that
+    /// are open.
     pub fn enter(&mut self, alloc: Global, scope: ScopeName) -> Result<(), NoMemory>
         ensures { (c : Context) → HoldsScopes self.old c.scopes c.declared →
             OnOk result (HoldsScopes self.new (c.scopes ++ scope ∷ []) c.declared) }
@@ -72,7 +77,7 @@ impl Scopes {
         Ok(())
     }
 
-    /// Begins another chain, where the scopes of this one are not all open.
+    /// Cuts the chain back to the scopes that are open, where no variable stands in the others, or begins another.
     fn go_to_end(&mut self, alloc: Global) -> Result<(), NoMemory>
         ensures same { (c : Context) → HoldsScopes self.old c.scopes c.declared →
             OnOk result (HoldsScopes self.new c.scopes c.declared) }
@@ -81,8 +86,22 @@ impl Scopes {
         if self.depth == self.chain.len() {
             return Ok(());
         }
+        if self.reach <= self.depth {
+            self.cut_chain();
+            return Ok(());
+        }
         self.begin_chain(alloc)?;
         Ok(())
+    }
+
+    /// Takes the scopes that are closed out of the chain.
+    fn cut_chain(&mut self)
+        requires reached { self.old.reach ≤ self.old.depth }
+        ensures same { (c : Context) → HoldsScopes self.old c.scopes c.declared →
+            HoldsScopes self.new c.scopes c.declared }
+        ensures end { self.new.depth ≡ length self.new.chain.items }
+    {
+        self.chain.truncate(self.depth);
     }
 
     /// Begins another chain, with a copy of the scopes that are open.
@@ -94,6 +113,7 @@ impl Scopes {
         let outer = copy_scopes(alloc, &self.chain[..self.depth])?;
         let chain = replace(&mut self.chain, outer);
         self.chains.push(ScopePath::shared(chain)?)?;
+        self.reach = 0;
         Ok(())
     }
 
@@ -116,6 +136,7 @@ impl Scopes {
             let chain = self.chains.len();
             let count = self.depth;
             self.places.push(ScopePlace { chain, count })?;
+            self.reach = self.reach.max(count);
         }
         Ok(())
     }

@@ -85,7 +85,7 @@ fn word_of_digits(width: u64, digits: &[u8]) -> Result<LetterWord, Fault>
 }
 
 /// How many changes the copies of waves may have together that later variables of one code get. A short file can
-/// ask for more than any memory holds: what is above is answered as want of memory before it is.
+/// ask for more than any memory holds: more than these are answered as want of memory.
 pub const COPIES_LIMIT: usize = 33_554_432;
 
 /// What a code stands for.
@@ -129,7 +129,10 @@ impl Variables {
     /// Declares a variable, but for its scopes, by the words of a `$var` behind the keyword.
     ///
     /// It looks the code up at most twice. A variable that is kept takes a copy of its words and of its code, and
-    /// the first of its code another copy of the code, in the table; one that is skipped at most that of the table.
+    /// the first of its code another copy of the code, in the map; one that is skipped at most that of the map.
+    ///
+    /// `BadVar` where a part is missing, `MixedCode` where the code stands for another size or for what is skipped,
+    /// `TooManySignals`.
     pub fn declare(&mut self, alloc: Global, words: &[Word]) -> Result<(), Fault>
         requires size { IsTrue (has_good_size words.now) }
         requires few { self.old.skipped + 1 < 2 ^ 64 }
@@ -333,7 +336,7 @@ impl Variables {
     /// The signals that the kept variables have become, in their order, without their scopes.
     ///
     /// The waves are made of the log first. A signal is moved, but a wave that several variables share is copied for
-    /// the later ones.
+    /// the later ones, up to `COPIES_LIMIT` changes in all.
     pub fn into_signals(self, alloc: Global) -> Result<Vec<Signal>, NoMemory>
         requires { (c : Context) × Knows self c }
         ensures { IfOk result (λ signals. (c : Context) → Knows self c →

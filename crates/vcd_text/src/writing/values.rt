@@ -14,7 +14,7 @@ use super::codes::write_code;
 use vcd_core::{Bit, Sink, Value};
 
 /// Writes the line that gives a value to the signal at `position`. A step for each letter that is
-/// written, and for each run of the same letters that is left out.
+/// written, and for each run of the same letters, within a word of 64, that is left out.
 pub fn write_value<W: Sink>(
     buffer: &mut WriteBuffer,
     writer: &mut W,

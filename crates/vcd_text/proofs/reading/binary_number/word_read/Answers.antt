@@ -22,7 +22,7 @@ loop-digit-preserved c =
     let digits = c.args.digits.now in
     let digit = get_or digits i 0 in
     let within : i < length digits = omega (arith, c.loop-digit-test.true) in
-    let read : Some c.in_ok-letter.letter ≡ letter_of_digit digit = sym c.in_ok-letter.was ∙ c.letter_in_digit.ensures in
+    let read : Some c.in_ok-letter.letter ≡ letter_of_digit digit = sym c.in_ok-letter.was ∙ c.letter_of_digit.ensures in
     let letter : c.in_ok-letter.letter ≡ unwrap_or (letter_of_digit digit) X = ap (λ o. unwrap_or o X) read in
     let more : letters_of_digits (take i digits) ++ c.in_ok-letter.letter ∷ [] ≡ letters_of_digits (take (i + 1) digits) =
     ap (λ b. letters_of_digits (take i digits) ++ b ∷ []) letter

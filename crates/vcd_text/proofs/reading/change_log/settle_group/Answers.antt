@@ -1,6 +1,6 @@
 use Rattle.std.proofs.Common.{◌+◌, ◌++◌, ◌<◌, length, drop, get_or, List, subst, sym, arith}
 use Rattle.std.proofs.lemmas.List.{drop_more, drop_all}
-use Rattle.vcd_text.specs.inside.ChangeLog.{changes_at, CanSettle, Settles}
+use Rattle.vcd_text.specs.inside.ChangeLog.{changes_of_position, CanSettle, Settles}
 use Rattle.vcd_text.specs.declared.reading.change_log.LoggedChange.{LoggedChange}
 use Rattle.vcd_text.proofs.SettledVariables.{can_take, settles_one, settles_then, can_still, more_left}
 use Rattle.vcd_text.proofs.reading.change_log.settle_group.Goals as goal
@@ -13,7 +13,7 @@ settle_change-requires c =
     let e = get_or group i none in
     let (rest, can) = c.loop-change.invariant.0 in
     can_take e (drop (i + 1) group) rest c.loop-change.kept.items
-    (subst (λ (es : List LoggedChange). CanSettle c.loop-change.kept.items (λ position. changes_at position es ++ rest position))
+    (subst (λ (es : List LoggedChange). CanSettle c.loop-change.kept.items (λ position. changes_of_position position es ++ rest position))
     (drop_more group i none c.loop-change-test.true) can)
 
 pub loop-change-preserved : goal.loop-change-preserved
@@ -30,23 +30,23 @@ loop-change-preserved c =
     let takes = c.in_ok-settle_change.ensures in (
       (
         after,
-        can_still now new (λ position. changes_at position (drop i group) ++ after position) (λ position. changes_at position left ++ after position)
+        can_still now new (λ position. changes_of_position position (drop i group) ++ after position) (λ position. changes_of_position position left ++ after position)
             (λ position some.
-            subst (λ (es : List LoggedChange). 0 < length (changes_at position es ++ after position)) (sym more) (more_left e left (after position) position some))
-            (subst (λ (es : List LoggedChange). Settles now new (λ position. changes_at position es ++ after position) (λ position. changes_at position left ++ after position)) (sym more)
+            subst (λ (es : List LoggedChange). 0 < length (changes_of_position position es ++ after position)) (sym more) (more_left e left (after position) position some))
+            (subst (λ (es : List LoggedChange). Settles now new (λ position. changes_of_position position es ++ after position) (λ position. changes_of_position position left ++ after position)) (sym more)
             (settles_one e left after now new takes))
             can,
       ),
       λ rest.
-          settles_then c.args.kept.now.items now new (λ position. changes_at position group ++ rest position)
-          (λ position. changes_at position (drop i group) ++ rest position) (λ position. changes_at position left ++ rest position)
+          settles_then c.args.kept.now.items now new (λ position. changes_of_position position group ++ rest position)
+          (λ position. changes_of_position position (drop i group) ++ rest position) (λ position. changes_of_position position left ++ rest position)
           (c.loop-change.invariant.1 rest)
-          (subst (λ (es : List LoggedChange). Settles now new (λ position. changes_at position es ++ rest position) (λ position. changes_at position left ++ rest position)) (sym more)
+          (subst (λ (es : List LoggedChange). Settles now new (λ position. changes_of_position position es ++ rest position) (λ position. changes_of_position position left ++ rest position)) (sym more)
           (settles_one e left rest now new takes)),
     )
 
 pub returns : goal.returns
 returns c = λ rest.
-    subst (λ (es : List LoggedChange). Settles c.args.kept.now.items c.loop-change.kept.items (λ position. changes_at position c.args.group.now ++ rest position)
-    (λ position. changes_at position es ++ rest position))
+    subst (λ (es : List LoggedChange). Settles c.args.kept.now.items c.loop-change.kept.items (λ position. changes_of_position position c.args.group.now ++ rest position)
+    (λ position. changes_of_position position es ++ rest position))
     (drop_all c.loop-change.change-index c.args.group.now (omega (arith, c.loop-change-test.false))) (c.loop-change.invariant.1 rest)

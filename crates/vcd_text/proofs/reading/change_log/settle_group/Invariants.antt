@@ -1,5 +1,5 @@
 use Rattle.std.proofs.Common.{ℕ, ◌++◌, List, drop}
-use Rattle.vcd_text.specs.inside.ChangeLog.{changes_at, CanSettle, Settles}
+use Rattle.vcd_text.specs.inside.ChangeLog.{changes_of_position, CanSettle, Settles}
 use Rattle.vcd_text.specs.declared.reading.change_log.LoggedChange.{LoggedChange}
 use Rattle.vcd_text.proofs.reading.change_log.settle_group.Given as goal
 
@@ -7,6 +7,6 @@ use Rattle.vcd_text.proofs.reading.change_log.settle_group.Given as goal
 abbrev pub invariant-loop-change : goal.invariant-loop-change
 invariant-loop-change l =
     ((rest : ℕ → List LoggedChange)
-    × CanSettle l.kept.items (λ position. changes_at position (drop l.change-index l.group) ++ rest position))
+    × CanSettle l.kept.items (λ position. changes_of_position position (drop l.change-index l.group) ++ rest position))
     × ((rest : ℕ → List LoggedChange) → Settles l.fn.kept.items l.kept.items
-    (λ position. changes_at position l.group ++ rest position) (λ position. changes_at position (drop l.change-index l.group) ++ rest position))
+    (λ position. changes_of_position position l.group ++ rest position) (λ position. changes_of_position position (drop l.change-index l.group) ++ rest position))
