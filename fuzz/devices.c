@@ -1,6 +1,6 @@
 /* Preloaded over the program (LD_PRELOAD), it makes memory, readers and writers hostile:
 
-     GROWTH_REFUSED=N   the Nth growth (malloc, calloc, realloc to more) is refused; the file that GROWTH_MARK names is
+     GROWTH_REFUSED=N   the Nth growth (malloc, calloc, realloc) is refused; the file that GROWTH_MARK names is
                         then made, so that a run in which no growth was refused can be told apart
      GROWTHS_MARKED=1   growths are counted only between the lines `refuse` and `allow` that the program writes to
                         standard output, each by one write
