@@ -23,36 +23,33 @@ use Rattle.vcd_text.proofs.Owners.{stands_moved}
 -- ---- one variable
 
 becomes_same : (v : Variable) (es : List LoggedChange) → Becomes v v es es
-becomes_same v es = record { code = refl; scopes = refl; kind = refl; words = refl; width = refl; first = refl; gives = λ tick f g. g }
+becomes_same v es = record { same = record { code = refl; scopes = refl; kind = refl; words = refl; width = refl; first = refl }; gives = λ tick f g. g }
 
 becomes_then : (u v w : Variable) (es fs gs : List LoggedChange) → Becomes u v es fs → Becomes v w fs gs → Becomes u w es gs
 becomes_then u v w es fs gs a b = record {
-  code = b.code ∙ a.code;
-  scopes = b.scopes ∙ a.scopes;
-  kind = b.kind ∙ a.kind;
-  words = b.words ∙ a.words;
-  width = b.width ∙ a.width;
-  first = b.first ∙ a.first;
+  same = record {
+    code = b.same.code ∙ a.same.code;
+    scopes = b.same.scopes ∙ a.same.scopes;
+    kind = b.same.kind ∙ a.same.kind;
+    words = b.same.words ∙ a.same.words;
+    width = b.same.width ∙ a.same.width;
+    first = b.same.first ∙ a.same.first;
+  };
   gives = λ tick f g. b.gives tick f (a.gives tick f g);
 }
 
 becomes_taken : (e : LoggedChange) (v w : Variable) (es : List LoggedChange) → TakesLogged e v w → Becomes v w (e ∷ es) es
 becomes_taken e v w es takes = record {
-  code = takes.code;
-  scopes = takes.scopes;
-  kind = takes.kind;
-  words = takes.words;
-  width = takes.width;
-  first = takes.first;
+  same = takes.same;
   gives = λ tick f g.
-      subst (λ n. GivesLoggedValues n tick f w.signal.wave.changes es) (sym takes.width)
+      subst (λ n. GivesLoggedValues n tick f w.signal.wave.changes es) (sym takes.same.width)
       (gives_settled v.signal.wave.width tick f v.signal.wave.changes w.signal.wave.changes e es takes.last
-      (λ t. ap (λ n. value_at n w.signal.wave.changes t) (sym takes.width) ∙ takes.values t) g);
+      (λ t. ap (λ n. value_at n w.signal.wave.changes t) (sym takes.same.width) ∙ takes.values t) g);
 }
 
 -- what is declared stays
 pub same_declaration : (v w : Variable) (es fs : List LoggedChange) → Becomes v w es fs → declaration w ≡ declaration v
-same_declaration v w es fs b = λ i. record { scopes = b.scopes i; kind = b.kind i; size = b.width i; code = b.code i; words = b.words i }
+same_declaration v w es fs b = λ i. record { scopes = b.same.scopes i; kind = b.same.kind i; size = b.same.width i; code = b.same.code i; words = b.same.words i }
 
 -- ---- all variables
 
@@ -176,10 +173,10 @@ module _ (old : Variables) (list : Vec Variable) (log : ChangeLog) (c : Context)
       record {
         first = u.0;
         stands = u.1;
-        coded = u.2.code ∙ wave.coded;
-        sized = u.2.width ∙ wave.sized;
+        coded = u.2.same.code ∙ wave.coded;
+        sized = u.2.same.width ∙ wave.sized;
         gives = subst (λ gs. GivesLoggedValues size c.tick f u.0.signal.wave.changes (logged gs position)) (sym empty)
-            (subst (λ n. GivesLoggedValues n c.tick f u.0.signal.wave.changes []) (u.2.width ∙ wave.sized) (u.2.gives c.tick f before));
+            (subst (λ n. GivesLoggedValues n c.tick f u.0.signal.wave.changes []) (u.2.same.width ∙ wave.sized) (u.2.gives c.tick f before));
       }
 
   settled_firsts : (position : ℕ) (w : Variable) → slice_get list.items position ≡ Some w → HasFirst settled position w
@@ -188,11 +185,11 @@ module _ (old : Variables) (list : Vec Variable) (log : ChangeLog) (c : Context)
       let v = stood position w at in
       let before = k.firsts position v.0 v.1 in
       record {
-        owned = ap (owner_of old) v.2.code ∙ before.owned ∙ ap (λ n. Some (Kept n)) (sym v.2.first);
-        no_later = omega (arith, v.2.first, before.no_later);
+        owned = ap (owner_of old) v.2.same.code ∙ before.owned ∙ ap (λ n. Some (Kept n)) (sym v.2.same.first);
+        no_later = omega (arith, v.2.same.first, before.no_later);
         same_size = λ x there.
             let y = stood w.first x there in
-            y.2.width ∙ before.same_size y.0 (subst (λ n. slice_get old.kept.items n ≡ Some y.0) v.2.first y.1) ∙ sym v.2.width;
+            y.2.same.width ∙ before.same_size y.0 (subst (λ n. slice_get old.kept.items n ≡ Some y.0) v.2.same.first y.1) ∙ sym v.2.same.width;
       }
 
   -- what the log had, the waves have
@@ -203,7 +200,7 @@ module _ (old : Variables) (list : Vec Variable) (log : ChangeLog) (c : Context)
         (λ position v at. let w = settles.each position v at in (w.0, w.1, same_declaration v w.0 (logged old.log.groups.items position) [] w.2)));
     skipped = k.skipped;
     widths = k.widths ∙ sym (same_all (λ (v : Variable). v.signal.wave.width) old.kept.items list.items settles.long
-        (λ position v at. let w = settles.each position v at in (w.0, w.1, w.2.width)));
+        (λ position v at. let w = settles.each position v at in (w.0, w.1, w.2.same.width)));
     stand = λ code.
         stands_moved old.kept.items list.items (logged old.log.groups.items) (logged log.groups.items) c.value_changes c.value_changes c.tick c.tick code (owner_of old code) (variable_of c code)
         (λ position size _ wave. settled_wave position code size wave) (k.stand code);

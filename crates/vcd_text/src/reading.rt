@@ -16,6 +16,7 @@ mod change_log;
 mod changes;
 mod chunks;
 mod declarations;
+mod finished_signals;
 mod keywords;
 mod owners;
 mod reader;

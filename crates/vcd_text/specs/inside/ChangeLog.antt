@@ -59,14 +59,18 @@ pub record CanTake (kept : List Variable) (e : LoggedChange) : Type 0 where
   pub narrow : before.signal.wave.width ≤ 64
   pub late : All (λ (c : Change). c.tick ≤ e.tick) before.signal.wave.changes
 
--- it has taken it
-pub record TakesLogged (e : LoggedChange) (old new : Variable) : Type 0 where
+-- a variable is what it was, but for the changes of its wave
+pub record IsSameVariable (old new : Variable) : Type 0 where
   pub code : new.code ≡ old.code
   pub scopes : new.signal.scopes ≡ old.signal.scopes
   pub kind : new.signal.kind ≡ old.signal.kind
   pub words : new.signal.words ≡ old.signal.words
   pub width : new.signal.wave.width ≡ old.signal.wave.width
   pub first : new.first ≡ old.first
+
+-- it has taken it
+pub record TakesLogged (e : LoggedChange) (old new : Variable) : Type 0 where
+  pub same : IsSameVariable old new
   pub last : All (λ (c : Change). c.tick ≤ e.tick) new.signal.wave.changes
   pub values : (t : ℕ) → value_at new.signal.wave.width new.signal.wave.changes t
       ≡ (if nat_le e.tick t then logged_letters old.signal.wave.width e else value_at old.signal.wave.width old.signal.wave.changes t)
@@ -88,12 +92,7 @@ CanSettle kept log =
 
 -- a variable is what it was, and its wave with what is left of the log has the values that it had
 pub record Becomes (old new : Variable) (log rest : List LoggedChange) : Type 0 where
-  pub code : new.code ≡ old.code
-  pub scopes : new.signal.scopes ≡ old.signal.scopes
-  pub kind : new.signal.kind ≡ old.signal.kind
-  pub words : new.signal.words ≡ old.signal.words
-  pub width : new.signal.wave.width ≡ old.signal.wave.width
-  pub first : new.first ≡ old.first
+  pub same : IsSameVariable old new
   pub gives : (tick : ℕ) (f : ℕ → List Bit) → GivesLoggedValues old.signal.wave.width tick f old.signal.wave.changes log
       → GivesLoggedValues new.signal.wave.width tick f new.signal.wave.changes rest
 

@@ -87,7 +87,8 @@ fn add_groups(
     Ok(())
 }
 
-/// How many changes a wave will have at most, as far as a group has been counted, and the words of the last one.
+/// How many changes a wave will have at most, as far as a group has been counted, and the words of the last one. It is
+/// about room alone, of which no contract speaks.
 #[derive(Clone, Copy)]
 struct Demand {
     count: usize,
@@ -104,8 +105,8 @@ const NO_CHANGE: Demand = Demand {
 
 /// Gives each variable the changes of the log, in their order. Each group is freed before the next.
 ///
-/// It takes two steps for each change. A wave takes memory at most once, for no more changes than those that differ
-/// from the one before.
+/// It takes two steps for each change. A wave is given room once, for the changes of the log that differ from the one
+/// before, and for the first.
 pub fn settle(
     alloc: Global,
     kept: &mut Vec<Variable>,

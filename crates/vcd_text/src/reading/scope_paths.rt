@@ -36,6 +36,7 @@ fn path_at(
 {
     match places.get(index) {
         Some(place) => path_of(alloc, chains, *place),
+        // never met: each kept variable has a place
         None => Ok(ScopePath::from_vec(Vec::new(alloc))),
     }
 }
@@ -44,6 +45,7 @@ fn path_at(
 fn path_of(alloc: Global, chains: &[ScopePath], place: ScopePlace) -> Result<ScopePath, NoMemory>
     ensures { IfOk result (λ path. path ≡ scopes_at chains.now place) }
 {
+    // a place is always within its chain: the least of the two, and no scopes for no chain, spare the reader a premise
     match chains.get(place.chain) {
         Some(chain) => chain.front(alloc, place.count.min(chain.as_slice().len())),
         None => Ok(ScopePath::from_vec(Vec::new(alloc))),

@@ -1,9 +1,8 @@
 //! The variables that a file declares, with their waves so far.
 
-ghost use Rattle.std.specs.Prelude.{◌≡◌, ◌⊎◌, ◌<◌, ◌≤◌, ◌+◌, ◌++◌, ◌^◌, ◌==◌, ◌||◌, nat_lt, ℕ, List, [], ◌∷◌, map, length, slice_get, is_some, false, Some, IsTrue, IsFalse, IfOk, IfErr, OnOk, OnErr, All, if◌then◌else◌, bytes_eq, MatchResult};
+ghost use Rattle.std.specs.Prelude.{◌≡◌, ◌⊎◌, ◌<◌, ◌≤◌, ◌+◌, ◌++◌, ◌^◌, ◌==◌, ◌||◌, nat_lt, ℕ, List, [], ◌∷◌, map, length, slice_get, is_some, false, Some, IsTrue, IsFalse, IfOk, IfErr, OnOk, All, if◌then◌else◌, bytes_eq, MatchResult};
 ghost use Rattle.std.specs.Option.{option_map_or};
 ghost use Rattle.vcd_core.specs.Contents.{signal_contents};
-ghost use Rattle.vcd_core.specs.Wave.{IsWave};
 ghost use Rattle.vcd_core.specs.WordRows.{letters_of};
 ghost use Rattle.vcd_core.specs.declared.capture.ScopeName.{ScopeName};
 ghost use Rattle.vcd_core.specs.declared.value.TheConstants.{WIDTH_LIMIT};
@@ -12,13 +11,14 @@ ghost use Rattle.vcd_text.specs.Grammar.{Context, VariableDeclaration, variable_
 ghost use Rattle.vcd_text.specs.Meaning.{declared_signal};
 ghost use Rattle.vcd_text.specs.inside.ChangeLog.{TakesLogged};
 ghost use Rattle.vcd_text.specs.inside.ValueDigits.{WritesValue};
-ghost use Rattle.vcd_text.specs.inside.Variables.{owner_of, declaration_in, without_scopes, Knows, Declares, DeclaresAs, TakesChange, Sets, RefusesBinaryNumber, Finishes};
+ghost use Rattle.vcd_text.specs.inside.Variables.{owner_of, declaration_in, without_scopes, Knows, Declares, DeclaresAs, TakesChange, Sets, RefusesBinaryNumber};
 ghost use Rattle.vcd_text.specs.declared.fault.Fault.TheVariants.{NoMemory as NoMemoryFault, TooManySignals};
 ghost use Rattle.vcd_text.specs.declared.reading.variables.Owner.TheVariants.{Kept as KeptAt};
 
 use crate::fault::Fault;
 use crate::reading::binary_number::{BinaryNumberError, LetterWord, read_value, read_word};
 use crate::reading::change_log::{ChangeLog, LoggedChange, settle};
+use crate::reading::finished_signals::{COPIES_LIMIT, push_signal};
 use crate::reading::owners::Owners;
 use crate::reading::ticks_and_sizes::size_of;
 use std::alloc::Global;
@@ -83,10 +83,6 @@ fn word_of_digits(width: u64, digits: &[u8]) -> Result<LetterWord, Fault>
         Err(BinaryNumberError::TooLong) => Err(Fault::ValueTooLong),
     }
 }
-
-/// How many changes the copies of waves may have together that later variables of one code get. A short file can
-/// ask for more than any memory holds: more than these are answered as want of memory.
-pub const COPIES_LIMIT: usize = 33_554_432;
 
 /// What a code stands for.
 #[derive(Clone, Copy, Debug, PartialEq, Eq)]
@@ -397,91 +393,4 @@ fn silent_signal(alloc: Global, kind: &Word, width: u64, name: &[Word]) -> Resul
         words: copy_words(alloc, name)?,
         wave: Wave::new(alloc, width),
     })
-}
-
-/// Adds the signal of a variable behind those of the variables before it.
-fn push_signal(
-    alloc: Global,
-    signals: &mut Vec<Signal>,
-    variable: Variable,
-    copies_left: &mut usize,
-) -> Result<(), NoMemory>
-    ensures { OnOk result ((signal : Signal) × Finishes variable
-        (slice_get signals.old.items variable.first) signal ×
-        (signals.new.items ≡ signals.old.items ++ signal ∷ [])) }
-{
-    let signal = finished_signal(alloc, variable, signals.as_slice(), copies_left)?;
-    signals.push(signal)?;
-    Ok(())
-}
-
-/// The signal of a variable, behind those of the variables before it.
-fn finished_signal(
-    alloc: Global,
-    variable: Variable,
-    before: &[Signal],
-    copies_left: &mut usize,
-) -> Result<Signal, NoMemory>
-    ensures { IfOk result (Finishes variable (slice_get before.now variable.first)) }
-{
-    let Variable { signal, first, .. } = variable;
-    match before.get(first) {
-        Some(shared) => {
-            take_copies(copies_left, shared.wave.changes().len())?;
-            with_wave_of(alloc, signal, shared)
-        }
-        None => Ok(with_form(signal)),
-    }
-}
-
-/// Takes so many changes from those that copies may still have.
-fn take_copies(copies_left: &mut usize, changes: usize) -> Result<(), NoMemory>
-    ensures taken { OnOk result (copies_left.new + changes ≡ copies_left.old) }
-    ensures refused { OnErr result (copies_left.old < changes) }
-{
-    if *copies_left < changes {
-        return Err(NoMemory);
-    }
-    *copies_left -= changes;
-    Ok(())
-}
-
-/// A signal with a copy of the wave of another in place of its own.
-fn with_wave_of(alloc: Global, signal: Signal, shared: &Signal) -> Result<Signal, NoMemory>
-    ensures scopes { IfOk result (λ copy. copy.scopes ≡ signal.scopes) }
-    ensures kind { IfOk result (λ copy. copy.kind ≡ signal.kind) }
-    ensures words { IfOk result (λ copy. copy.words ≡ signal.words) }
-    ensures width { IfOk result (λ copy. copy.wave.width ≡ shared.now.wave.width) }
-    ensures changes { IfOk result (λ copy. copy.wave.changes ≡ shared.now.wave.changes) }
-{
-    let mut copy = signal;
-    copy.wave = copy_wave(alloc, &shared.wave)?;
-    Ok(copy)
-}
-
-/// The signal itself, with what its type says of its wave: that wave is the one of its values.
-fn with_form(signal: Signal) -> Signal
-    ensures same { result ≡ signal }
-    ensures form { IsWave result.wave.width result.wave.changes }
-{
-    // Called for its clause alone, by which the wave is in the one form.
-    signal.wave.changes();
-    signal
-}
-
-/// A copy of a wave, made at one go.
-fn copy_wave(alloc: Global, wave: &Wave) -> Result<Wave, NoMemory>
-    ensures width { IfOk result (λ copy. copy.width ≡ wave.now.width) }
-    ensures changes { IfOk result (λ copy. copy.changes ≡ wave.now.changes) }
-{
-    let mut copy = Wave::new(alloc, wave.width());
-    let changes = wave.changes();
-    copy.reserve(changes.len())?;
-    for change in changes {
-        copy.push(change.tick, change.value)?;
-    }
-    // Called for its clause alone, by which the copy is in the one form: two waves of the same values are
-    // the same.
-    copy.changes();
-    Ok(copy)
 }

@@ -1,7 +1,7 @@
 use Rattle.std.proofs.Common.{◌≡◌, ◌≤◌, ℕ, All, take}
 use Rattle.vcd_core.specs.declared.wave.Change.{Change}
 use Rattle.vcd_core.specs.Wave.{value_at}
-use Rattle.vcd_text.proofs.reading.variables.copy_wave.Given as goal
+use Rattle.vcd_text.proofs.reading.finished_signals.copy_wave.Given as goal
 
 abbrev pub invariant-loop-change : goal.invariant-loop-change
 invariant-loop-change l =

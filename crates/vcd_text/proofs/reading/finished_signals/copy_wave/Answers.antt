@@ -4,7 +4,7 @@ use Rattle.std.proofs.lemmas.List.Elements.{All-weaker}
 use Rattle.vcd_core.specs.declared.wave.Change.{Change}
 use Rattle.vcd_core.specs.Wave.{value_at, IsWave}
 use Rattle.vcd_text.proofs.CopiedWaves.{Ended, ended_at, ended_here, wide_at, value_next, copy_is}
-use Rattle.vcd_text.proofs.reading.variables.copy_wave.Goals as goal
+use Rattle.vcd_text.proofs.reading.finished_signals.copy_wave.Goals as goal
 
 pub push-requires-clause-width : goal.push-requires-clause-width
 push-requires-clause-width c =
