@@ -67,7 +67,7 @@ same_length [] i w = refl
 same_length (u ∷ vs) zero w = refl
 same_length (u ∷ vs) (suc i) w = ap suc (same_length vs i w)
 
--- ---- a record more
+-- ---- a value change more
 
 value_with : (width : ℕ) (code : List ℕ) (t : ℕ) (before : List Bit) (rs : List ValueChange) (r : ValueChange)
     → latest_value width code t before (rs ++ r ∷ []) ≡ (if bytes_eq r.code code && nat_le r.tick t then extension width r.letters else latest_value width code t before rs)
@@ -145,15 +145,15 @@ module _ (old : Variables) (list : Vec Variable) (log : ChangeLog) (c : Context)
         | inr apart ↦ (u, sym (set_there old.kept.items first position w apart) ∙ there, refl, refl)
       ]
 
-  -- the record of the change
-  change_record : ValueChange
-  change_record = record { tick = c.tick; code = code; letters = letters_of_digits digits }
+  -- the value change
+  new_value_change : ValueChange
+  new_value_change = record { tick = c.tick; code = code; letters = letters_of_digits digits }
 
   -- the wave of the code takes the value
   wave_changed : (key : List ℕ) (position size : ℕ) → code ≡ key → owner_of old key ≡ Some (Kept position)
       → HasWave old.kept.items (logged old.log.groups.items) position key size c.value_changes c.tick
-      → HasWave list.items (logged log.groups.items) position key size (c.value_changes ++ change_record ∷ []) c.tick
-  unfolding change_record
+      → HasWave list.items (logged log.groups.items) position key size (c.value_changes ++ new_value_change ∷ []) c.tick
+  unfolding new_value_change
   wave_changed key position size equal owned wave =
       let kept_at : Kept first ≡ Kept position = same_Some (Kept first) (Kept position) (sym had ∙ ap (owner_of old) equal ∙ owned) in
       let at : first ≡ position = ap position_of kept_at in
@@ -184,8 +184,8 @@ module _ (old : Variables) (list : Vec Variable) (log : ChangeLog) (c : Context)
   -- that of another code stays
   wave_kept : (key : List ℕ) (position size : ℕ) → bytes_eq code key ≡ false
       → HasWave old.kept.items (logged old.log.groups.items) position key size c.value_changes c.tick
-      → HasWave list.items (logged log.groups.items) position key size (c.value_changes ++ change_record ∷ []) c.tick
-  unfolding change_record
+      → HasWave list.items (logged log.groups.items) position key size (c.value_changes ++ new_value_change ∷ []) c.tick
+  unfolding new_value_change
   wave_kept key position size other wave =
       let apart : first ≢ position = λ at.
       let is : v ≡ wave.first = same_Some v wave.first (sym stood ∙ ap (slice_get old.kept.items) at ∙ wave.stands) in
@@ -224,18 +224,18 @@ module _ (old : Variables) (list : Vec Variable) (log : ChangeLog) (c : Context)
             ∙ ap (λ (d : VariableDeclaration). d.size) (sym t.2);
       }
 
-  changed_stands : (key : List ℕ) → Stands list.items (logged log.groups.items) (c.value_changes ++ change_record ∷ []) c.tick key (owner_of old key) (variable_of c key)
+  changed_stands : (key : List ℕ) → Stands list.items (logged log.groups.items) (c.value_changes ++ new_value_change ∷ []) c.tick key (owner_of old key) (variable_of c key)
   changed_stands key =
-      stands_moved old.kept.items list.items (logged old.log.groups.items) (logged log.groups.items) c.value_changes (c.value_changes ++ change_record ∷ []) c.tick c.tick key (owner_of old key) (variable_of c key)
+      stands_moved old.kept.items list.items (logged old.log.groups.items) (logged log.groups.items) c.value_changes (c.value_changes ++ new_value_change ∷ []) c.tick c.tick key (owner_of old key) (variable_of c key)
       (λ position size owned wave. elim (cases_Bool (bytes_eq code key)) [
         | inl equal ↦ wave_changed key position size (same_code code key equal) owned wave
         | inr other ↦ wave_kept key position size other wave
       ])
       (k.stand key)
 
-  records_are : told_value_changes c code (letters_of_digits digits) (variable_of c code) ≡ change_record ∷ []
-  unfolding change_record
-  records_are =
+  told_are : told_value_changes c code (letters_of_digits digits) (variable_of c code) ≡ new_value_change ∷ []
+  unfolding new_value_change
+  told_are =
       ap (told_value_changes c code (letters_of_digits digits)) (own_wave old c code digits first k had).1
       ∙ ap (λ b. if b then [] else record { tick = c.tick; code = code; letters = letters_of_digits digits } ∷ []) (own_wave old c code digits first k had).2
 
@@ -252,14 +252,14 @@ module _ (old : Variables) (list : Vec Variable) (log : ChangeLog) (c : Context)
         (u.0, ap (λ vs. slice_get vs position) items ∙ set_there old.kept.items first position w apart ∙ u.1, u.2)
   ]
 
-  -- the variables hold the record of the change
+  -- the variables hold the value change
   changed_knows : Knows (record { kept = list; widths = old.widths; owners = old.owners; skipped = old.skipped; log = log }) (with_value_change c code (letters_of_digits digits))
   unfolding changed_variables
   changed_knows = record {
     kept = k.kept ∙ sym (ap (map declaration) items ∙ same_map declaration old.kept.items first v w stood same);
     skipped = k.skipped;
     widths = k.widths ∙ sym (ap (map (λ (u : Variable). u.signal.wave.width)) items ∙ same_map (λ (u : Variable). u.signal.wave.width) old.kept.items first v w stood same_width);
-    stand = λ key. subst (λ rs. Stands list.items (logged log.groups.items) (c.value_changes ++ rs) c.tick key (owner_of old key) (variable_of c key)) (sym records_are) (changed_stands key);
+    stand = λ key. subst (λ rs. Stands list.items (logged log.groups.items) (c.value_changes ++ rs) c.tick key (owner_of old key) (variable_of c key)) (sym told_are) (changed_stands key);
     firsts = changed_firsts;
     few = subst (λ n. n ≤ SIGNAL_LIMIT) (sym (ap (length {A = Variable}) items ∙ same_length old.kept.items first w)) k.few;
     grouped = grouped;

@@ -61,7 +61,7 @@ agrees_still m c item line agrees = record {
   silent = agrees.silent;
 }
 
--- one more record among the changes
+-- one more value change among the changes
 agrees_set : (m : Reader) (c : Context) (vs : Variables) (value_changes : List ValueChange) (item : OpenItem) → Agrees m c → m.changing ≡ true
     → Knows vs (record c { value_changes = value_changes }) → Agrees (record m { variables = vs; item = item }) (record c { value_changes = value_changes })
 agrees_set m c vs value_changes item agrees changing knows = record {

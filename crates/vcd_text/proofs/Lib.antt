@@ -11,7 +11,7 @@ pub mod WeakerTests
 pub mod ReadValues
 pub mod DeclaredSignals
 pub mod TextChanges
-pub mod RecordedWaves
+pub mod LatestValues
 pub mod TextMeaning
 pub mod TextReadBack
 pub mod CasesOfWords

@@ -82,7 +82,7 @@ pub record IsCleanDeclaration (d : VariableDeclaration) : Type 0 where
 abbrev IsAgreed : Context → VariableDeclaration → Type 0
 IsAgreed c d = is_skipped d ≡ false → IsSomeAnd (variable_of c d.code) (λ e. (e.size ≡ d.size) × (is_skipped e ≡ false))
 
--- the variable of the record's code takes its letters
+-- the variable of the value change's code takes its letters
 abbrev Fits : Context → ValueChange → Type 0
 Fits c r = IsSomeAnd (variable_of c r.code) (λ e. length r.letters ≤ e.size)
 
@@ -125,10 +125,10 @@ some_taken digits (Some e) takes = λ keeps.
 
 -- ---- one item
 
--- one more record
-clean_record : (c : Context) (code : List ℕ) (letters : List Bit) → IsClean c → IsTrue c.changing → IsSomeAnd (variable_of c code) (λ e. is_skipped e ≡ false → length letters ≤ e.size)
+-- one more value change
+clean_value_change : (c : Context) (code : List ℕ) (letters : List Bit) → IsClean c → IsTrue c.changing → IsSomeAnd (variable_of c code) (λ e. is_skipped e ≡ false → length letters ≤ e.size)
     → IsClean (with_value_change c code letters)
-clean_record c code letters clean changing fits = record {
+clean_value_change c code letters clean changing fits = record {
   header = clean.header;
   timescale = clean.timescale;
   scopes = clean.scopes;
@@ -197,7 +197,7 @@ clean_variable c (kind ∷ size ∷ code ∷ name ∷ names) clean all allows =
     clean_declared c (record { scopes = c.scopes; kind = kind; size = number_of size; code = code; words = name ∷ names }) clean allows.0
     (record { scopes = clean.scopes; kind = p.0; named = omega arith; words = r.1 }) allows.3.0 allows.3.1
 
--- what stays clean where neither variables nor value_changes come
+-- what stays clean where neither variables nor value changes come
 clean_beside : (c : Context) (header : List Header) (time : Option Timescale) (scopes : List ScopeName) (changing : Bool) (tick : ℕ) → IsClean c
     → list_all is_sound_header header ≡ true → IfSome time (λ t. is_sound_timescale t ≡ true) → list_all is_sound_scope scopes ≡ true
     → (changing ≡ false → c.value_changes ≡ []) → tick ≤ END_LIMIT
@@ -226,9 +226,9 @@ clean_item c end_definitions clean all allows = clean_beside c _ _ _ _ _ clean
 clean_item c (stamp digits) clean all allows = clean_beside c _ _ _ _ _ clean
     clean.header clean.timescale clean.scopes clean.silent (leb-true (number_of digits) END_LIMIT (and_parts (is_number digits) (nat_le (number_of digits) END_LIMIT) allows.1).1)
 clean_item c (scalar letter code) clean all allows =
-    clean_record c code (letters_of_digits (letter ∷ [])) clean allows.0 (some_kept (variable_of c code) allows.3)
+    clean_value_change c code (letters_of_digits (letter ∷ [])) clean allows.0 (some_kept (variable_of c code) allows.3)
 clean_item c (vector first digits code) clean all allows =
-    clean_record c code (letters_of_digits digits) clean allows.0 (some_taken digits (variable_of c code) allows.2)
+    clean_value_change c code (letters_of_digits digits) clean allows.0 (some_taken digits (variable_of c code) allows.2)
 clean_item c (real_or_string first text code) clean all allows = clean
 clean_item c (bracket word_on) clean all allows = clean
 clean_item c (other word_on words) clean all allows = clean
@@ -245,22 +245,22 @@ length-ext : (width : ℕ) (s : List Bit) → length s ≤ width → length (ext
 length-ext width s fits =
     length-append (replicate (width - length s) (pad_letter s)) s ∙ ap (λ n. n + length s) (length-replicate (width - length s) (pad_letter s)) ∙ omega arith
 
--- a record of this code has letters for so many bits
+-- a value change of this code has letters for so many bits
 abbrev FitsWidth : ℕ → List ℕ → ValueChange → Type 0
 FitsWidth width code r = bytes_eq r.code code ≡ true → length r.letters ≤ width
 
-recorded_length : (width : ℕ) (code : List ℕ) (t : ℕ) (before : List Bit) (rs : List ValueChange) → length before ≡ width
+latest_length : (width : ℕ) (code : List ℕ) (t : ℕ) (before : List Bit) (rs : List ValueChange) → length before ≡ width
     → All (FitsWidth width code) rs → length (latest_value width code t before rs) ≡ width
 unfolding latest_value
-recorded_length width code t before [] long all = long
-recorded_length width code t before (r ∷ rs) long all =
-    recorded_length width code t (cond (bytes_eq r.code code && nat_le r.tick t) (extension width r.letters) before) rs
+latest_length width code t before [] long all = long
+latest_length width code t before (r ∷ rs) long all =
+    latest_length width code t (cond (bytes_eq r.code code && nat_le r.tick t) (extension width r.letters) before) rs
     (by_test (λ b. length (cond b (extension width r.letters) before) ≡ width) (bytes_eq r.code code && nat_le r.tick t)
     (λ here. length-ext width r.letters (All-head (FitsWidth width code) r rs all (and_parts (bytes_eq r.code code) (nat_le r.tick t) here).0)) (λ _. long)) (All-tail (FitsWidth width code) r rs all)
 
--- the value_changes of a code that is kept fit its width
-records_fit : (c : Context) (d : VariableDeclaration) → IsAgreed c d → is_skipped d ≡ false → All (Fits c) c.value_changes → All (FitsWidth d.size d.code) c.value_changes
-records_fit c d agrees keeps fit = All-weaker (Fits c) (FitsWidth d.size d.code)
+-- the value changes of a code that is kept fit its width
+value_changes_fit : (c : Context) (d : VariableDeclaration) → IsAgreed c d → is_skipped d ≡ false → All (Fits c) c.value_changes → All (FitsWidth d.size d.code) c.value_changes
+value_changes_fit c d agrees keeps fit = All-weaker (Fits c) (FitsWidth d.size d.code)
     (λ r fits same. let code : r.code ≡ d.code = (bytes_eq-Decides r.code d.code).0 same in
     joined r (variable_of c d.code) (subst (λ k. IsSomeAnd (variable_of c k) (λ e. length r.letters ≤ e.size)) code fits) (agrees keeps)) c.value_changes fit
   where
@@ -272,7 +272,7 @@ sound_signal : (c : Context) (d : VariableDeclaration) → IsClean c → IsClean
 sound_signal c d clean is agrees keeps =
     let width = kept_is d keeps in
     let values : (t : ℕ) → length (latest_value d.size d.code t (all_x d.size) c.value_changes) ≡ d.size = λ t.
-    recorded_length d.size d.code t (all_x d.size) c.value_changes (length-replicate d.size X) (records_fit c d agrees keeps clean.fit) in
+    latest_length d.size d.code t (all_x d.size) c.value_changes (length-replicate d.size X) (value_changes_fit c d agrees keeps clean.fit) in
     record {
       scopes = is.scopes;
       kind = is.kind;

@@ -9,17 +9,17 @@ use Rattle.vcd_text.specs.Meaning.{declared_signal, meaning, latest_value, skipp
 use Rattle.vcd_text.specs.Text.{code_of}
 use Rattle.vcd_text.proofs.DeclaredSignals.{all_sound_kept, declared_as, declared_of, none_skipped}
 use Rattle.vcd_text.proofs.ReadValues.{length-value_at}
-use Rattle.vcd_text.proofs.RecordedWaves.{recorded_is}
-use Rattle.vcd_text.proofs.TextChanges.{records_of, told_at}
+use Rattle.vcd_text.proofs.LatestValues.{latest_is}
+use Rattle.vcd_text.proofs.TextChanges.{value_changes_of, told_at}
 
--- a signal of a capture is what the value_changes say of its declaration
+-- a signal of a capture is what the value changes say of its declaration
 signal_means : (c : Contents) → IsSound c → (k : ℕ) (d : SignalContents) → k < length c.signals
-    → declared_signal (records_of c) c.end (declared_as k (get_or c.signals k d)) ≡ get_or c.signals k d
+    → declared_signal (value_changes_of c) c.end (declared_as k (get_or c.signals k d)) ≡ get_or c.signals k d
 signal_means c sound k d inside =
     let s : SignalContents = get_or c.signals k d in
     let is : IsSoundSignal c.end s = sound.signals k d inside in
-    let wave = wave_is s.width c.end s.changes (λ t. latest_value s.width (code_of k) t (all_x s.width) (records_of c)) is.wave is.ticks
-    (λ t to. sym (recorded_is c.signals k t d inside (λ u. length-value_at s.width u s.changes is.wave) c.end to)) in
+    let wave = wave_is s.width c.end s.changes (λ t. latest_value s.width (code_of k) t (all_x s.width) (value_changes_of c)) is.wave is.ticks
+    (λ t to. sym (latest_is c.signals k t d inside (λ u. length-value_at s.width u s.changes is.wave) c.end to)) in
     λ i. record { scopes = s.scopes; kind = s.kind; words = s.words; width = s.width; changes = sym wave i }
 
 -- what gives back each signal gives back all
@@ -33,16 +33,16 @@ signals_back f j (s ∷ ss) each =
     let rest = signals_back f (suc j) ss (λ i k d at within. each (suc i) k d (omega arith) (omega arith)) in
     λ i. first i ∷ rest i
 
-signals_mean : (c : Contents) → IsSound c → map (declared_signal (records_of c) c.end) (kept_variables (declared_of 0 c.signals)) ≡ c.signals
+signals_mean : (c : Contents) → IsSound c → map (declared_signal (value_changes_of c) c.end) (kept_variables (declared_of 0 c.signals)) ≡ c.signals
 signals_mean c sound =
-    ap (map (declared_signal (records_of c) c.end)) (all_sound_kept c.end 0 c.signals sound.signals)
-    ∙ signals_back (declared_signal (records_of c) c.end) 0 c.signals
-    (λ i k d at within. let here : i ≡ k = omega arith in ap (λ n. declared_signal (records_of c) c.end (declared_as n (get_or c.signals i d))) (sym here) ∙ signal_means c sound i d within)
+    ap (map (declared_signal (value_changes_of c) c.end)) (all_sound_kept c.end 0 c.signals sound.signals)
+    ∙ signals_back (declared_signal (value_changes_of c) c.end) 0 c.signals
+    (λ i k d at within. let here : i ≡ k = omega arith in ap (λ n. declared_signal (value_changes_of c) c.end (declared_as n (get_or c.signals i d))) (sym here) ∙ signal_means c sound i d within)
 
 -- the text of a sound capture means the capture
-pub text_means : (c : Contents) → IsSound c → c ≡ meaning (told_at c (records_of c) c.end)
+pub text_means : (c : Contents) → IsSound c → c ≡ meaning (told_at c (value_changes_of c) c.end)
 text_means c sound = λ i. record { header = c.header; timescale = c.timescale; end = c.end; signals = sym (signals_mean c sound) i }
 
 -- and skips nothing
-pub text_skips_nothing : (c : Contents) → IsSound c → 0 ≡ skipped_count (told_at c (records_of c) c.end)
+pub text_skips_nothing : (c : Contents) → IsSound c → 0 ≡ skipped_count (told_at c (value_changes_of c) c.end)
 text_skips_nothing c sound = sym (none_skipped c.end 0 c.signals sound.signals)

@@ -43,7 +43,7 @@ declaration v = declaration_by v.code v.signal
 abbrev pub owner_of : Variables → List ℕ → Option Owner
 owner_of vs code = code_owner vs.owners.codes code
 
--- the variable of this code and size stands at this position, and its wave with the changes that the log has for it follows the value_changes, the last of which is at the tick or before
+-- the variable of this code and size stands at this position, and its wave with the changes that the log has for it follows the value changes, the last of which is at the tick or before
 pub record HasWave (vs : List Variable) (log : ℕ → List LoggedChange) (position : ℕ) (code : List ℕ) (size : ℕ) (value_changes : List ValueChange) (tick : ℕ) : Type 0 where
   pub first : Variable
   pub stands : slice_get vs position ≡ Some first
@@ -68,7 +68,7 @@ pub record HasFirst (vs : Variables) (position : ℕ) (v : Variable) : Type 0 wh
 abbrev pub HasLogs : List Variable → (ℕ → List LoggedChange) → Type 0
 HasLogs vs log = (position : ℕ) → 0 < length (log position) → (v : Variable) × (slice_get vs position ≡ Some v) × (v.first ≡ position)
 
--- the variables hold what has been told of them: declarations without their scopes, and value_changes up to the tick
+-- the variables hold what has been told of them: declarations without their scopes, and value changes up to the tick
 pub record Knows (vs : Variables) (c : Context) : Type 0 where
   pub kept : map without_scopes (kept_variables c.declared) ≡ map declaration vs.kept.items
   pub skipped : vs.skipped ≡ count_by is_skipped c.declared
@@ -139,7 +139,7 @@ pub data BinaryNumberFault (c : Context) (code digits : List ℕ) (fault : Fault
   too_long : (d : VariableDeclaration) → variable_of c code ≡ Some d → IsFalse (is_skipped d) → IsTrue (is_binary_number digits) → d.size < length digits
       → fault ≡ faults.ValueTooLong → BinaryNumberFault c code digits fault
 
--- what comes of the change: it is recorded, or shows a fault, or memory runs out
+-- what comes of the change: it is held, or shows a fault, or memory runs out
 abbrev pub TakesChange : Context → (code digits : List ℕ) → Result (Unit {0}) Fault → Variables → Type 0
 TakesChange c code digits (Ok x) new =
     IsSomeAnd (variable_of c code) (λ d. IsTrue (takes_binary_number d digits)) × Knows new (with_value_change c code (letters_of_digits digits))
