@@ -1,10 +1,10 @@
 -- The bits of two planes, after writes to their words.
-use Rattle.std.proofs.Common.{◌≡◌, ◌≢◌, ℕ, zero, suc, ◌+◌, ◌-◌, ◌*◌, ◌/◌, ◌%◌, ◌^◌, ◌<◌, ◌≤◌, min, List, length, replicate, get_or, sym, ap, ◌∙◌, arith, inl, inr}
+use Rattle.std.proofs.Common.{◌≡◌, ◌≢◌, ℕ, zero, suc, ◌+◌, ◌-◌, ◌*◌, ◌/◌, ◌%◌, ◌^◌, ◌<◌, ◌≤◌, min, List, [], ◌∷◌, length, replicate, get_or, sym, ap, ◌∙◌, arith, inl, inr}
 use Rattle.std.proofs.Math.ListN.{set}
 use Rattle.std.specs.Int.{bit_at}
 use Rattle.std.specs.Int.Bits.{bit_and}
 use Rattle.std.proofs.lemmas.Nat.Bits.{bit_at_ones, bit_at_ones_above, bit_at-zero, bit_at-lt, bit_at_and}
-use Rattle.std.proofs.lemmas.List.{get_or-set_same, get_or-set_other, get_or-replicate, length-set}
+use Rattle.std.proofs.lemmas.List.{get_or-set_same, get_or-set_other, get_or-replicate, length-replicate, length-set}
 use Rattle.std.proofs.lemmas.Bool.{cases_eq}
 use Rattle.vcd_core.specs.WordRows.{row_bit}
 use Rattle.vcd_core.specs.inside.Planes.{plane_bit}
@@ -117,3 +117,8 @@ none_held n width low high = record {
   high = λ k below _. absurd (omega arith);
   clear = λ plane k which _ below. ap (λ w. bit_at w (k % 64)) (get_or-replicate (2 * n) (2 * (k / 64) + plane) 0 0 (omega arith)) ∙ bit_at-zero (k % 64);
 }
+
+-- a word of each plane, the others zero
+pub word_held : (n width low high mask : ℕ) → 0 < n → mask ≡ 2 ^ min width 64 - 1 → HoldsRows n width 1 (both_set (replicate (2 * n) 0) 0 (bit_and low mask) (bit_and high mask)) (low ∷ []) (high ∷ [])
+word_held n width low high mask some is =
+    rw is (one_more n width 0 width (replicate (2 * n) 0) (low ∷ []) (high ∷ []) (length-replicate (2 * n) 0) some (omega arith) (none_held n width (low ∷ []) (high ∷ [])))

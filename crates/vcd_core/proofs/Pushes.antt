@@ -135,6 +135,9 @@ added_rise floor tick before value (c ∷ cs) (from, other, same, rest) at wide 
           rw before_out (at, further, wide, tt)
     ]
 
+pub kept_wave : (width tick : ℕ) (cs kept : List Change) → kept ≡ changes_before tick cs → IsWave width cs → IsWave width kept
+kept_wave width tick cs kept is wave = subst (IsWave width) (sym is) (record { rise = kept_rise 0 tick (all_x width) cs wave.rise })
+
 kept_upto : (tick : ℕ) (cs : List Change) → AllUpTo tick (changes_before tick cs)
 kept_upto tick [] = tt
 kept_upto tick (c ∷ cs) =
@@ -222,6 +225,12 @@ last_value-added before (x ∷ cs) c = last_value-added x.value cs c
 -- the last value, where the list is split at its last change
 pub last_value-split : (before : List Bit) (cs rest : List Change) (c : Change) → cs ≡ rest ++ c ∷ [] → c.value ≡ last_value before cs
 last_value-split before cs rest c split = sym (ap (last_value before) split ∙ last_value-added before rest c)
+
+-- the last value has the width of the others
+pub last_value-long : (floor : ℕ) (before : List Bit) (cs : List Change) → AreChangesFrom floor before cs → length (last_value before cs) ≡ length before
+unfolding last_value
+last_value-long floor before [] rise = refl
+last_value-long floor before (c ∷ cs) (from, other, wide, rest) = last_value-long (c.tick + 1) c.value cs rest ∙ wide
 
 -- the last change stands at the tick, and is taken off
 pub taken_off : (width tick : ℕ) (cs : List Change) (n : ℕ) (last : Change) → IsWave width cs → n + 1 ≡ length cs → last ≡ get_or cs n last → last.tick ≡ tick

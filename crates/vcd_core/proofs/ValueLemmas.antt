@@ -1,18 +1,21 @@
 -- The letters that two planes show.
-use Rattle.std.proofs.Common.{◌≡◌, ◌≢◌, ℕ, ◌+◌, ◌-◌, ◌*◌, ◌/◌, ◌%◌, ◌<◌, ◌≤◌, inl, inr, if◌then◌else◌, nat_lt, List, length, take, replicate, get_or, refl, sym, ap, ◌∙◌, arith}
+use Rattle.std.proofs.Common.{◌≡◌, ◌≢◌, ℕ, ◌+◌, ◌-◌, ◌*◌, ◌/◌, ◌%◌, ◌<◌, ◌≤◌, inl, inr, if◌then◌else◌, nat_lt, List, [], ◌∷◌, ◌↔◌, min, ◌^◌, length, take, replicate, get_or, refl, sym, ap, ◌∙◌, arith}
 use Rattle.std.proofs.Math.ListN.{set}
 use Rattle.std.specs.Int.{bit_at}
+use Rattle.std.specs.Int.Bits.{bit_and, mask_lt}
 use Rattle.std.proofs.lemmas.List.{ext_get_or, get_or-set_same, get_or-set_other, get_or-replicate, get_or-take, length-replicate, length-set}
 use Rattle.std.proofs.lemmas.List.FromFn.{get_or-map-range_with_len, length-map-range_with_len}
-use Rattle.std.proofs.lemmas.Nat.Bits.{bit_at-lt}
+use Rattle.std.proofs.lemmas.Nat.Bits.{bit_at-lt, same_from_bits_below}
 use Rattle.std.proofs.lemmas.Bool.{cases_lt, lt-ltb, le-ltb}
+use Rattle.std.proofs.Math.Pow.{pow_mono}
 use Rattle.vcd_core.specs.declared.bit.Bit.{Bit}
 use Rattle.vcd_core.specs.declared.bit.Bit.TheVariants.{Zero, One, X, Z}
 use Rattle.vcd_core.specs.declared.value.Value.TheInside.{Inside}
 use Rattle.vcd_core.specs.Value.{letter_at}
 use Rattle.vcd_core.specs.WordRows.{row_bit, letter_of, low_of, high_of, letters_of}
 use Rattle.vcd_core.specs.inside.Planes.{plane_bit, letters_in, view_value, bit_in, IsValue}
-use Rattle.vcd_core.specs.inside.PlaneLaws.{letter_at-letters_in, length-letters_in, bit_in-letter_of}
+use Rattle.vcd_core.specs.inside.PlaneLaws.{letter_at-letters_in, length-letters_in, bit_in-letter_of, low_of-letter_of, high_of-letter_of}
+use Rattle.vcd_core.proofs.PlaneBits.{masked, masked_above}
 
 pub letter_of-letter : (b : Bit) → letter_of (low_of b) (high_of b) ≡ b
 letter_of-letter Zero = refl
@@ -133,3 +136,60 @@ module _ (v : List Bit) (inside : Inside) (is : IsValue inside) (shows : view_va
         | inl in_value ↦ rw (lt-ltb (64 * k + i) (length v) in_value) (bit-shown plane (64 * k + i) which in_value)
         | inr past ↦ rw (le-ltb (64 * k + i) (length v) past) (is.planes.clear plane (64 * k + i) which (omega (arith, length-shown)) (omega (arith, length-shown, is.most)))
       ]
+
+  -- the first words of a narrow value are those of two rows of one word that have its letters, cut at its width
+  pub first_word : (plane w mask : ℕ) → plane < 2 → 1 ≤ length v → length v ≤ 64 → mask ≡ 2 ^ min inside.width 64 - 1
+      → ((k : ℕ) → k < length v → bit_in plane (letter_at v k) ≡ bit_at w k) → get_or inside.planes plane 0 ≡ bit_and w mask
+  first_word plane w mask which some narrow is_mask same = rw is_mask (
+      same_from_bits_below 64 _ _ (is.planes.small plane 0 (omega (arith, is.planes.sized, word_within plane 0 which (omega arith)))) small (λ i below.
+      let place : plane ≡ 2 * 0 + plane = omega arith in
+      let bit : 64 * 0 + i ≡ i = omega arith in
+      ap (λ j. bit_at (get_or inside.planes j 0) i) place ∙ word-shown plane 0 i which (omega arith) below
+      ∙ ap (λ k. if nat_lt k (length v) then bit_in plane (letter_at v k) else 0) bit ∙ elim (cases_lt i (length v)) [
+        | inl in_value ↦ rw (lt-ltb i (length v) in_value) (same i in_value ∙ sym (masked w inside.width i (omega (arith, length-shown)) below))
+        | inr past ↦ rw (le-ltb i (length v) past) (sym (masked_above w inside.width i (omega (arith, length-shown)) below))
+      ]))
+    where
+      small : bit_and w (2 ^ min inside.width 64 - 1) < 2 ^ 64
+      small = omega (arith, mask_lt w (min inside.width 64), pow_mono {i = min inside.width 64} {j = 64} (omega arith))
+
+  -- and such words give the letters
+  pub letters_by_first_words : (low high mask : ℕ) → length v ≤ 64 → mask ≡ 2 ^ min inside.width 64 - 1
+      → get_or inside.planes 0 0 ≡ bit_and low mask → get_or inside.planes 1 0 ≡ bit_and high mask → letters_of (length v) (low ∷ []) (high ∷ []) ≡ v
+  unfolding view_value plane_bit row_bit
+  letters_by_first_words low high mask narrow is_mask first second =
+      ap (λ n. letters_of n (low ∷ []) (high ∷ [])) length-shown
+      ∙ sym (letters_in-rows inside.width inside.planes (low ∷ []) (high ∷ []) (λ k below. bits 0 low k below first) (λ k below. bits 1 high k below second))
+      ∙ shows
+    where
+      bits : (plane w k : ℕ) → k < inside.width → get_or inside.planes plane 0 ≡ bit_and w mask → plane_bit plane inside.planes k ≡ row_bit (w ∷ []) k
+      bits plane w k below word =
+          let none : k / 64 ≡ 0 = omega (arith, length-shown) in
+          let place : 2 * (k / 64) + plane ≡ plane = omega (arith, none) in
+          ap (λ j. bit_at (get_or inside.planes j 0) (k % 64)) place ∙ ap (λ x. bit_at x (k % 64)) (word ∙ ap (bit_and w) is_mask)
+          ∙ masked w inside.width (k % 64) (omega arith) (omega arith)
+          ∙ ap (λ j. bit_at (get_or (w ∷ []) j 0) (k % 64)) (sym none)
+
+  -- so the comparison of the words decides whether the letters are the same
+  pub first_words-Decides : (low high mask : ℕ) → length v ≤ 64 → mask ≡ 2 ^ min inside.width 64 - 1
+      → (get_or inside.planes 0 0 ≡ bit_and low mask) × (get_or inside.planes 1 0 ≡ bit_and high mask) ↔ (letters_of (length v) (low ∷ []) (high ∷ []) ≡ v)
+  unfolding row_bit
+  first_words-Decides low high mask narrow is_mask = (
+    (λ (first, second). letters_by_first_words low high mask narrow is_mask first second),
+    (λ same.
+        let some : 1 ≤ length v = omega (arith, length-shown, is.least) in
+        let letter : (k : ℕ) → k < length v → letter_at v k ≡ letter_of (row_bit (low ∷ []) k) (row_bit (high ∷ []) k) =
+        λ k within. ap (λ l. letter_at l k) (sym same) ∙ letter_at-letters_of (length v) (low ∷ []) (high ∷ []) k within in (
+          first_word 0 low mask (omega arith) some narrow is_mask (λ k within. ap low_of (letter k within) ∙ low_of-letter_of _ _ (row_bit-lt low k) ∙ one_row low k (omega arith)),
+          first_word 1 high mask (omega arith) some narrow is_mask (λ k within. ap high_of (letter k within) ∙ high_of-letter_of _ _ (row_bit-lt high k) ∙ one_row high k (omega arith)),
+        )),
+  )
+    where
+      row_bit-lt : (w k : ℕ) → row_bit (w ∷ []) k < 2
+      row_bit-lt w k = bit_at-lt _ _
+
+      one_row : (w k : ℕ) → k < 64 → row_bit (w ∷ []) k ≡ bit_at w k
+      one_row w k below =
+          let none : k / 64 ≡ 0 = omega arith in
+          let rest : k % 64 ≡ k = omega arith in
+          ap (λ j. bit_at (get_or (w ∷ []) j 0) (k % 64)) none ∙ ap (bit_at w) rest

@@ -1,8 +1,9 @@
 //! What a wave does with its list of changes.
 
-ghost use Rattle.std.specs.Prelude.{◌≡◌, ◌≢◌, ℕ, List, ◌<◌, ◌≤◌, ◌↔◌, IsTrue, length, All, IsOk, OnOk, OnErr, vec_len, vec_capacity};
+ghost use Rattle.std.specs.Prelude.{◌≡◌, ◌≢◌, ℕ, List, [], ◌∷◌, ◌<◌, ◌≤◌, ◌↔◌, IsTrue, length, All, IsOk, OnOk, OnErr, vec_len, vec_capacity};
 ghost use Rattle.vcd_core.specs.Value.{all_x, same_letters};
 ghost use Rattle.vcd_core.specs.Wave.{last_value, AreChangesFrom, IsWave, AllUpTo, changes_before, changes_after_push};
+ghost use Rattle.vcd_core.specs.WordRows.{letters_of};
 ghost use Rattle.vcd_core.specs.declared.bit.Bit.{Bit as BitLetter};
 
 use crate::bit::Bit;
@@ -79,6 +80,55 @@ pub(crate) fn push_change(
     pop_at(changes, tick);
     if !has_last_value(changes.as_slice(), &value) {
         changes.push(Change { tick, value })?;
+    }
+    Ok(())
+}
+
+/// Whether the value after all changes is the one of `width` bits, at most 64, whose low and high
+/// bits these words hold, that before the first change being all x.
+fn has_last_word(changes: &[Change], width: u64, low: u64, high: u64) -> bool
+    requires least { 1 ≤ width }
+    requires most { width ≤ 64 }
+    requires form { IsWave width changes.now }
+    ensures { result ≡ same_letters (letters_of width (low ∷ []) (high ∷ []))
+        (last_value (all_x width) changes.now) }
+{
+    match changes.split_last() {
+        Some((last, _)) => last.value.has_word(low, high),
+        None => Value::filled(width, Bit::X).has_word(low, high),
+    }
+}
+
+/// Does what [`push_change`] does with the value of `width` bits, at most 64, whose low and high
+/// bits these words hold.
+///
+/// No value is built but the one that is added, which LLVM writes at its place in the list.
+pub(crate) fn push_word_change(
+    changes: &mut Vec<Change>,
+    width: u64,
+    tick: u64,
+    low: u64,
+    high: u64,
+) -> Result<(), NoMemory>
+    requires least { 1 ≤ width }
+    requires most { width ≤ 64 }
+    requires form { IsWave width changes.old.items }
+    requires late { All (λ c. c.tick ≤ tick) changes.old.items }
+    ensures pushed { let value = letters_of width (low ∷ []) (high ∷ []) in OnOk result
+        (changes.new.items ≡ changes_after_push width changes.old.items tick value) }
+    ensures refused { OnErr result (changes.new.items ≡ changes.old.items) }
+    ensures in_place { vec_len changes.old < vec_capacity changes.old → IsOk result }
+    ensures replaces { changes_before tick changes.old.items ≢ changes.old.items → IsOk result }
+    ensures adds_none { let value = letters_of width (low ∷ []) (high ∷ []) in
+        last_value (all_x width) (changes_before tick changes.old.items) ≡ value → IsOk result }
+    ensures capacity { vec_capacity changes.old ≤ vec_capacity changes.new }
+{
+    pop_at(changes, tick);
+    if !has_last_word(changes.as_slice(), width, low, high) {
+        changes.push(Change {
+            tick,
+            value: Value::from_word(width, low, high),
+        })?;
     }
     Ok(())
 }

@@ -1,6 +1,6 @@
 //! The two planes of bits that hold a value, in words of 64 bits that belong to the two in turn.
 
-ghost use Rattle.std.specs.Prelude.{◌≡◌, ◌==◌, ℕ, ◌+◌, ◌-◌, ◌*◌, ◌/◌, ◌%◌, ◌^◌, ◌<◌, ◌≤◌, ◌≢◌, ◌↔◌, min, length, replicate, slice_index, All, IsTrue, if◌then◌else◌};
+ghost use Rattle.std.specs.Prelude.{◌≡◌, ◌==◌, ℕ, [], ◌∷◌, ◌+◌, ◌-◌, ◌*◌, ◌/◌, ◌%◌, ◌^◌, ◌<◌, ◌≤◌, ◌≢◌, ◌↔◌, min, length, replicate, slice_index, All, IsTrue, if◌then◌else◌};
 ghost use Rattle.std.specs.Int.{bit_at};
 ghost use Rattle.vcd_core.specs.WordRows.{row_bit, letter_of, low_of, high_of};
 ghost use Rattle.vcd_core.specs.inside.Planes.{plane_bit as bit_of_plane, ArePlanes};
@@ -69,7 +69,7 @@ pub(crate) fn plane_word(words: &[u64], plane: usize, k: usize) -> u64
 }
 
 /// `count` ones, at most 64, at the low end of a word.
-fn ones(count: u64) -> u64
+pub(crate) fn ones(count: u64) -> u64
     ensures { result ≡ 2 ^ min count 64 - 1 }
 {
     if count < 64 {
@@ -117,6 +117,24 @@ pub(crate) fn planes_of_rows(width: u64, low: &[u64], high: &[u64]) -> [u64; 2 *
 {
     let mut words = [0; 2 * WORDS];
     write_rows(&mut words, width, low, high);
+    words
+}
+
+/// The planes of the bits of two words that are below `width`.
+///
+/// Straight code, so that LLVM writes them where the value is to stand, with no copy.
+pub(crate) fn planes_of_words(width: u64, low: u64, high: u64) -> [u64; 2 * WORDS]
+    requires { width ≤ 64 }
+    ensures low { (k : ℕ) → k < width → bit_of_plane 0 result k ≡ row_bit (low ∷ []) k }
+    ensures high { (k : ℕ) → k < width → bit_of_plane 1 result k ≡ row_bit (high ∷ []) k }
+    ensures planes { ArePlanes WORDS width result }
+{
+    let mask = ones(width);
+    let mut words = [0; 2 * WORDS];
+    words[0] = low & mask;
+    words[1] = high & mask;
+    // Its clause is what is known of a word after the writes.
+    words_fit(&words);
     words
 }
 

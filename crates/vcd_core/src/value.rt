@@ -1,11 +1,12 @@
-ghost use Rattle.std.specs.Prelude.{◌≡◌, ℕ, ◌+◌, ◌-◌, ◌*◌, ◌<◌, ◌≤◌, ◌↔◌, length, replicate, slice_set, IsTrue};
+ghost use Rattle.std.specs.Prelude.{◌≡◌, ℕ, [], ◌∷◌, ◌+◌, ◌-◌, ◌*◌, ◌<◌, ◌≤◌, ◌↔◌, length, replicate, slice_set, IsTrue};
 ghost use Rattle.std.specs.Int.{bit_at};
 ghost use Rattle.vcd_core.specs.Value.{letter_at, all_x, same_letters};
 ghost use Rattle.vcd_core.specs.WordRows.{letters_of, low_bit, high_bit};
 
 use crate::bit::Bit;
 use crate::planes::{
-    letter, plane_bit, plane_word, planes_of_rows, repeated, words_fit, words_in, write_plane_bit,
+    letter, ones, plane_bit, plane_word, planes_of_rows, planes_of_words, repeated, words_fit,
+    words_in, write_plane_bit,
 };
 use std::fmt;
 use std::marker::Model;
@@ -73,6 +74,30 @@ impl Value {
             width,
             planes: planes_of_rows(width, low, high),
         }
+    }
+
+    /// The value of `width` bits, at most 64, whose low and high bits two words hold, bit 0 the
+    /// lowest. What they hold from `width` on is not looked at.
+    pub(crate) fn from_word(width: u64, low: u64, high: u64) -> Value
+        requires least { 1 ≤ width }
+        requires most { width ≤ 64 }
+        ensures { result ≡ letters_of width (low ∷ []) (high ∷ []) }
+    {
+        Value {
+            width,
+            planes: planes_of_words(width, low, high),
+        }
+    }
+
+    /// Whether the value, of at most 64 bits, is the one whose low and high bits two words hold:
+    /// [`Value::from_word`] of its width, which is not built.
+    pub(crate) fn has_word(&self, low: u64, high: u64) -> bool
+        requires { length self.now ≤ 64 }
+        ensures { result ≡ same_letters
+            (letters_of (length self.now) (low ∷ []) (high ∷ [])) self.now }
+    {
+        let mask = ones(self.width);
+        (self.planes[0] == low & mask) & (self.planes[1] == high & mask)
     }
 
     /// How many bits the value has.

@@ -3,7 +3,7 @@ ghost use Rattle.vcd_core.specs.Wave.{value_at, IsWave, changes_after_push};
 ghost use Rattle.vcd_core.specs.WordRows.{letters_of};
 ghost use Rattle.vcd_core.specs.Splice.{TicksFit, spliced_changes};
 
-use crate::change_list::{last_value, push_change};
+use crate::change_list::{last_value, push_change, push_word_change};
 use crate::memory::NoMemory;
 use crate::searching::count_near;
 use crate::splicing::splice_changes;
@@ -157,8 +157,8 @@ impl Wave {
         ensures room { length self.old.changes + self.old.room
             ≤ length self.new.changes + self.new.room }
     {
-        let value = Value::from_words(self.width, &[low], &[high]);
-        self.push(tick, value)
+        push_word_change(&mut self.changes, self.width, tick, low, high)?;
+        Ok(())
     }
 
     /// Makes room for `more` changes. The wave stays as it is, also where the memory is refused.

@@ -1,7 +1,44 @@
-use Rattle.std.proofs.Common.{◌∙◌, ap, length}
+use Rattle.std.proofs.Common.{◌∙◌, ◌≡◌, ◌≤◌, ◌∷◌, [], if◌then◌else◌, nat_le, sym, ap, subst, All, Any, inl, inr}
+use Rattle.std.proofs.lemmas.List.{length-replicate}
+use Rattle.vcd_core.specs.declared.wave.Change.{Change}
+use Rattle.vcd_core.specs.Value.{all_x}
+use Rattle.vcd_core.specs.WordRows.{letters_of}
+use Rattle.vcd_core.specs.Wave.{value_at, IsWave}
 use Rattle.vcd_core.specs.WaveView.{WaveView}
+use Rattle.vcd_core.proofs.Pushes.{pushed_wave, pushed_upto, value_at-pushed, all_from_upto, upto_from_all, last_before, one_at_tick}
 use Rattle.vcd_core.proofs.ValueLemmas.{length-letters_of}
 use Rattle.vcd_core.proofs.wave.Wave.push_word.Goals as goal
 
-pub push-requires-clause-width : goal.push-requires-clause-width
-push-requires-clause-width c = ap length c.from_words-value.ensures ∙ length-letters_of _ _ _ ∙ ap (λ (w : WaveView). w.width) c.self.view_is
+pub invariant_of-self-2 : goal.invariant_of-self-2
+invariant_of-self-2 c =
+    let wide = length-letters_of c.self.inside.width (c.args.low ∷ []) (c.args.high ∷ []) ∙ sym (length-replicate c.self.inside.width _) in (
+      c.self.invariant.0,
+      c.self.invariant.1,
+      subst (IsWave c.self.inside.width) (sym c.in_ok-push_word_change.ensures.pushed) (pushed_wave c.self.inside.width _ c.args.tick _ c.self.invariant.2 wide),
+    )
+
+pub returns-clause-values : goal.returns-clause-values
+returns-clause-values c t =
+    ap (λ l. value_at c.self.inside.width l t) c.in_ok-push_word_change.ensures.pushed
+    ∙ value_at-pushed c.self.inside.width _ c.args.tick _ t c.self.invariant.2
+    ∙ ap (λ (w : WaveView). if nat_le c.args.tick t then letters_of w.width (c.args.low ∷ []) (c.args.high ∷ []) else value_at w.width w.changes t) c.self.view_is
+
+pub returns-clause-last : goal.returns-clause-last
+returns-clause-last c = subst (All (λ (x : Change). x.tick ≤ c.args.tick)) (sym c.in_ok-push_word_change.ensures.pushed) (all_from_upto c.args.tick _ (pushed_upto c.self.inside.width _ c.args.tick _))
+
+-- a refusal of `push_word_change` shows that none of these held
+pub returns-in_err-push_word_change-clause-replaces : goal.returns-in_err-push_word_change-clause-replaces
+returns-in_err-push_word_change-clause-replaces c some =
+    let here = subst (Any (λ (x : Change). x.tick ≡ c.args.tick)) (ap (λ (w : WaveView). w.changes) (sym c.self.view_is)) some in
+    let e = c.in_err-push_word_change.ensures.replaces (one_at_tick c.args.tick _ here) in
+    absurd (cc e)
+
+pub returns-in_err-push_word_change-clause-adds_none : goal.returns-in_err-push_word_change-clause-adds_none
+returns-in_err-push_word_change-clause-adds_none c same =
+    let upto = upto_from_all c.args.tick _ (subst (λ (w : WaveView). All (λ (x : Change). x.tick ≤ c.args.tick) w.changes) (sym c.self.view_is) c.requires.late) in
+    elim (last_before 0 c.args.tick (all_x c.self.inside.width) (all_x c.self.inside.width) _ c.self.invariant.2.rise upto) [
+      | inl last ↦
+          let e = c.in_err-push_word_change.ensures.adds_none (sym last ∙ ap (λ (w : WaveView). value_at w.width w.changes c.args.tick) c.self.view_is ∙ same ∙ ap (λ (w : WaveView). letters_of w.width (c.args.low ∷ []) (c.args.high ∷ [])) (sym c.self.view_is)) in
+          absurd (cc e)
+      | inr stands ↦ let e = c.in_err-push_word_change.ensures.replaces stands in absurd (cc e)
+    ]
