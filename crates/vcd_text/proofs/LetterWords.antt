@@ -1,11 +1,13 @@
--- Letters that are read 64 at a time, from the last: what one letter more makes of a word, and one word more of a row.
-use Rattle.std.proofs.Common.{◌≡◌, ◌≢◌, ℕ, zero, suc, ◌+◌, ◌-◌, ◌*◌, ◌/◌, ◌%◌, ◌<◌, ◌≤◌, Bool, true, false, if◌then◌else◌, ◌&&◌, List, [], ◌∷◌, ◌++◌, length, take, drop, replicate, get_or, slice_range, refl, sym, ap, ◌∙◌, arith, inl, inr, add-one}
+-- Letters that are read 64 at a time, from the last: what one letter more makes of a word, and eight more, and one word more of a row.
+use Rattle.std.proofs.Common.{◌≡◌, ◌≢◌, ℕ, zero, suc, ◌+◌, ◌-◌, ◌*◌, ◌/◌, ◌%◌, ◌<◌, ◌≤◌, Bool, true, false, if◌then◌else◌, ◌&&◌, List, [], ◌∷◌, ◌++◌, length, take, drop, replicate, get_or, refl, sym, ap, subst, ◌∙◌, arith, inl, inr, add-one}
 use Rattle.std.specs.Prelude.{unwrap_or}
 use Rattle.std.specs.List.{list_all}
 use Rattle.std.specs.Int.{bit_at}
+use Rattle.std.specs.Simd.{first_chunks}
+use Rattle.std.proofs.Math.Seq.{take-add}
 use Rattle.std.proofs.Math.ListN.{set}
 use Rattle.std.proofs.lemmas.Bool.{cases_lt, cases_eq, lt-ltb, le-ltb, and_from}
-use Rattle.std.proofs.lemmas.List.{get_or-take, get_or-drop, get_or_append_left, get_or-append_right, get_or-replicate, get_or-set_same, get_or-set_other, length-append, length-take-le, length-drop, length-map, length-replicate, take-map, drop-map}
+use Rattle.std.proofs.lemmas.List.{get_or-take, get_or-drop, get_or_append_left, get_or-append_right, get_or-replicate, get_or-set_same, get_or-set_other, length-append, length-take-le, length-drop, length-map, length-replicate, take-map, drop-map, map-append, take-append-drop, drop-drop}
 use Rattle.std.proofs.lemmas.List.Folds.{drop_split, list_all-append}
 use Rattle.vcd_core.specs.declared.bit.Bit.{Bit}
 use Rattle.vcd_core.specs.declared.bit.Bit.TheVariants.{X}
@@ -13,7 +15,7 @@ use Rattle.vcd_core.specs.Value.{letter_at}
 use Rattle.vcd_core.specs.WordRows.{row_bit, letter_of, low_of, high_of, letters_of}
 use Rattle.vcd_core.proofs.ValueLemmas.{same_letter_at, length-letters_of, letter_at-letters_of, letter_of-letter}
 use Rattle.vcd_text.specs.Letters.{is_binary_digit, letter_of_digit, letters_of_digits, pad_letter, extension}
-use Rattle.vcd_text.specs.inside.LetterWords.{digits_of, letter_or, HoldsLetters}
+use Rattle.vcd_text.specs.inside.LetterWords.{digits_of, letter_or, HoldsLetters, AddsLetters}
 
 -- ---- one letter more
 
@@ -51,7 +53,7 @@ none_held pad low high lows highs = record {
 }
 
 -- words whose lowest bit is a letter's, and whose others are those of words that hold letters
-pub holds_more : (pad : Bit) (s : List Bit) (b : Bit) (low high low' high' : ℕ) → HoldsLetters pad s low high
+holds_more : (pad : Bit) (s : List Bit) (b : Bit) (low high low' high' : ℕ) → HoldsLetters pad s low high
     → bit_at low' 0 ≡ low_of b → ((i : ℕ) → i + 1 < 64 → bit_at low' (i + 1) ≡ bit_at low i)
     → bit_at high' 0 ≡ high_of b → ((i : ℕ) → i + 1 < 64 → bit_at high' (i + 1) ≡ bit_at high i)
     → HoldsLetters pad (s ++ b ∷ []) low' high'
@@ -70,6 +72,41 @@ holds_more pad s b low high low' high' holds first rest first' rest' = record { 
         let more : i + 1 ≡ suc i = add-one i in
         ap (bit_at high') (sym more) ∙ rest' i (omega arith) ∙ holds.high i (omega arith)
         ∙ sym (ap high_of (ap (letter_or pad (s ++ b ∷ [])) (sym more) ∙ other_letter pad s b i))
+
+-- ---- more letters below those that words hold
+
+pub adds_one : (b : Bit) (low high low' high' : ℕ)
+    → bit_at low' 0 ≡ low_of b → ((i : ℕ) → i + 1 < 64 → bit_at low' (i + 1) ≡ bit_at low i)
+    → bit_at high' 0 ≡ high_of b → ((i : ℕ) → i + 1 < 64 → bit_at high' (i + 1) ≡ bit_at high i)
+    → AddsLetters (b ∷ []) low high low' high'
+adds_one b low high low' high' first rest first' rest' = λ pad s holds. holds_more pad s b low high low' high' holds first rest first' rest'
+
+-- eight digits of those in eights
+pub eight_at : (count i : ℕ) (digits : List ℕ) → i < count → get_or (first_chunks 8 count digits) i [] ≡ take 8 (drop (8 * i) digits)
+eight_at zero i digits within = absurd (omega arith)
+eight_at (suc count) zero digits within = refl
+eight_at (suc count) (suc i) digits within =
+    let place : 8 + 8 * i ≡ 8 * suc i = omega arith in
+    eight_at count i (drop 8 digits) (omega arith) ∙ ap (take 8) (drop-drop (8 * i) 8 digits ∙ ap (λ n. drop n digits) place)
+
+-- the digits up to eight, and these
+pub eight_more : (digits : List ℕ) (i : ℕ) → take (8 * i) digits ++ take 8 (drop (8 * i) digits) ≡ take (8 * (i + 1)) digits
+eight_more digits i =
+    let place : 8 * i + 8 ≡ 8 * (i + 1) = omega arith in
+    sym (take-add (8 * i) 8 digits) ∙ ap (λ n. take n digits) place
+
+-- digits in front, and others behind them
+pub holds_both : (pad : Bit) (front back all : List ℕ) (low high low' high' : ℕ) → front ++ back ≡ all
+    → HoldsLetters pad (letters_of_digits front) low high → AddsLetters (letters_of_digits back) low high low' high'
+    → HoldsLetters pad (letters_of_digits all) low' high'
+holds_both pad front back all low high low' high' whole holds adds =
+    subst (λ t. HoldsLetters pad t low' high') (sym (map-append (λ b. unwrap_or (letter_of_digit b) X) front back) ∙ ap letters_of_digits whole)
+    (adds pad (letters_of_digits front) holds)
+
+pub both_are_digits : (front back all : List ℕ) → front ++ back ≡ all → list_all is_binary_digit front ≡ true → list_all is_binary_digit back ≡ true
+    → list_all is_binary_digit all ≡ true
+both_are_digits front back all whole first second =
+    ap (list_all is_binary_digit) (sym whole) ∙ list_all-append is_binary_digit front back ∙ and_from _ _ first second
 
 -- ---- one word more
 
@@ -139,21 +176,26 @@ letters_more digits k behind here =
     ap (λ n. list_all is_binary_digit (drop n digits)) start ∙ ap (list_all is_binary_digit) (drop_split digits (end - 64) end (omega arith))
     ∙ list_all-append is_binary_digit (digits_of digits k) (drop end digits) ∙ and_from _ _ here behind
 
+-- where not all behind a place, or before it, are, not all are
+pub not_all_behind : (n : ℕ) (digits : List ℕ) → list_all is_binary_digit (drop n digits) ≡ false → list_all is_binary_digit digits ≡ false
+not_all_behind n digits none =
+    ap (list_all is_binary_digit) (sym (take-append-drop n digits)) ∙ list_all-append is_binary_digit (take n digits) (drop n digits)
+    ∙ ap (λ b. list_all is_binary_digit (take n digits) && b) none ∙ no_both (list_all is_binary_digit (take n digits))
+  where
+    no_both : (b : Bool) → (b && false) ≡ false
+    no_both true = refl
+    no_both false = refl
+
+pub not_all_before : (n : ℕ) (digits : List ℕ) → list_all is_binary_digit (take n digits) ≡ false → list_all is_binary_digit digits ≡ false
+not_all_before n digits none =
+    ap (list_all is_binary_digit) (sym (take-append-drop n digits)) ∙ list_all-append is_binary_digit (take n digits) (drop n digits)
+    ∙ ap (λ b. b && list_all is_binary_digit (drop n digits)) none
+
 -- where one of a word is none, not all are
 pub no_letter : (digits : List ℕ) (k : ℕ) → list_all is_binary_digit (digits_of digits k) ≡ false → list_all is_binary_digit digits ≡ false
 no_letter digits k none =
     let end : ℕ = length digits - 64 * k in
-    let from : ℕ = end - 64 in
-    let part = list_all is_binary_digit (digits_of digits k) in
-    let behind : list_all is_binary_digit (drop from digits) ≡ false =
-    ap (list_all is_binary_digit) (drop_split digits from end (omega arith)) ∙ list_all-append is_binary_digit (digits_of digits k) (drop end digits)
-    ∙ ap (λ b. b && list_all is_binary_digit (drop end digits)) none in
-    ap (list_all is_binary_digit) (drop_split digits 0 from (omega arith)) ∙ list_all-append is_binary_digit (slice_range digits 0 from) (drop from digits)
-    ∙ ap (λ b. list_all is_binary_digit (slice_range digits 0 from) && b) behind ∙ none_behind (list_all is_binary_digit (slice_range digits 0 from))
-  where
-    none_behind : (b : Bool) → (b && false) ≡ false
-    none_behind true = refl
-    none_behind false = refl
+    not_all_behind (end - 64) digits (not_all_before (end - (end - 64)) (drop (end - 64) digits) none)
 
 -- ---- all words
 

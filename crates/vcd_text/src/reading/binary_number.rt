@@ -7,7 +7,7 @@ ghost use Rattle.vcd_core.specs.declared.bit.Bit.TheVariants.{X};
 ghost use Rattle.vcd_core.specs.WordRows.{letters_of};
 ghost use Rattle.vcd_text.specs.Letters.{letter_of_digit, is_binary_digit as digit_test, letters_of_digits, value_of_digits as digits_value, pad_letter, extension};
 ghost use Rattle.vcd_text.specs.inside.ValueDigits.{WritesValue, WritesNoValue};
-ghost use Rattle.vcd_text.specs.inside.LetterWords.{digits_of, HoldsLetters};
+ghost use Rattle.vcd_text.specs.inside.LetterWords.{digits_of, HoldsLetters, AddsLetters, is_two_state};
 
 use vcd_core::{Bit, Value, WIDTH_LIMIT, WORDS, repeated, words_in};
 
@@ -160,14 +160,99 @@ fn word_read(pad: Bit, digits: &[u8]) -> Option<LetterWord>
         (list_all digit_test digits.now ≡ true) ×
         HoldsLetters pad (letters_of_digits digits.now) word.low word.high) }
 {
-    let mut low = repeated(pad.is_low());
-    let mut high = repeated(pad.is_high());
-    for digit in digits {
-        let letter = letter_of_digit(*digit)?;
-        low = with_lowest(low, letter.is_low());
-        high = with_lowest(high, letter.is_high());
+    let mut word = LetterWord {
+        low: repeated(pad.is_low()),
+        high: repeated(pad.is_high()),
+    };
+    let (eights, rest) = digits.as_chunks::<8>();
+    for eight in eights {
+        word = with_eight_digits(word, eight)?;
     }
-    Some(LetterWord { low, high })
+    with_digits(word, rest)
+}
+
+/// The word with the letters of eight digits below the others; none where one is no binary digit.
+fn with_eight_digits(word: LetterWord, digits: &[u8; 8]) -> Option<LetterWord>
+    ensures { MatchOption result (list_all digit_test digits.now ≡ false) (λ more.
+        (list_all digit_test digits.now ≡ true) ×
+        AddsLetters (letters_of_digits digits.now) word.low word.high more.low more.high) }
+{
+    // nearly all digits of captures are 0 or 1: eight of these take one test and no branch
+    if are_two_state(digits) {
+        return Some(with_two_state_digits(word, digits));
+    }
+    with_digits(word, digits)
+}
+
+/// Whether all digits are 0 or 1.
+fn are_two_state(digits: &[u8; 8]) -> bool
+    ensures { result ≡ list_all is_two_state digits.now }
+{
+    let mut all = true;
+    for digit in digits {
+        // no early end, so that eight digits are one comparison
+        all &= is_two_state(*digit);
+    }
+    all
+}
+
+/// Whether a digit is 0 or 1.
+fn is_two_state(digit: u8) -> bool
+    ensures { result ≡ is_two_state digit }
+{
+    digit == b'0' || digit == b'1'
+}
+
+/// The word with the letters of eight digits, each 0 or 1, below the others.
+fn with_two_state_digits(word: LetterWord, digits: &[u8; 8]) -> LetterWord
+    requires { list_all is_two_state digits.now ≡ true }
+    ensures { AddsLetters (letters_of_digits digits.now) word.low word.high result.low result.high }
+{
+    let mut word = word;
+    for digit in digits {
+        word = with_two_state_digit(word, *digit);
+    }
+    word
+}
+
+/// The word with the letters of the digits below the others; none where one is no binary digit.
+fn with_digits(word: LetterWord, digits: &[u8]) -> Option<LetterWord>
+    ensures { MatchOption result (list_all digit_test digits.now ≡ false) (λ more.
+        (list_all digit_test digits.now ≡ true) ×
+        AddsLetters (letters_of_digits digits.now) word.low word.high more.low more.high) }
+{
+    let mut word = word;
+    for digit in digits {
+        word = with_digit(word, *digit)?;
+    }
+    Some(word)
+}
+
+/// The word with the letter of a digit below the others; none where it is no binary digit.
+fn with_digit(word: LetterWord, digit: u8) -> Option<LetterWord>
+    ensures { MatchOption result (digit_test digit ≡ false) (λ more.
+        (digit_test digit ≡ true) ×
+        AddsLetters (letters_of_digits (digit ∷ [])) word.low word.high more.low more.high) }
+{
+    if is_two_state(digit) {
+        return Some(with_two_state_digit(word, digit));
+    }
+    let letter = letter_of_digit(digit)?;
+    Some(LetterWord {
+        low: with_lowest(word.low, letter.is_low()),
+        high: with_lowest(word.high, letter.is_high()),
+    })
+}
+
+/// The word with the letter of a digit, 0 or 1, below the others.
+fn with_two_state_digit(word: LetterWord, digit: u8) -> LetterWord
+    requires { is_two_state digit ≡ true }
+    ensures { AddsLetters (letters_of_digits (digit ∷ [])) word.low word.high result.low result.high }
+{
+    LetterWord {
+        low: with_lowest(word.low, digit == b'1'),
+        high: with_lowest(word.high, false),
+    }
 }
 
 /// The word with another bit below the others, of which the highest is lost.

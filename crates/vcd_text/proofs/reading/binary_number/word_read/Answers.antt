@@ -1,46 +1,60 @@
-use Rattle.std.proofs.Common.{◌≡◌, ◌+◌, ◌<◌, ◌∷◌, [], ◌++◌, length, take, get_or, is_some, Some, refl, sym, ap, subst, ◌∙◌, arith}
-use Rattle.std.specs.Prelude.{unwrap_or}
+use Rattle.std.proofs.Common.{◌≡◌, ◌+◌, ◌*◌, ◌/◌, ◌<◌, true, false, ℕ, [], List, Option, Some, None, length, take, drop, get_or, rules, sym, ap, subst, ◌∙◌, arith}
+use Rattle.std.specs.Prelude.{MatchOption}
 use Rattle.std.specs.List.{list_all}
-use Rattle.std.proofs.lemmas.Bool.{and_from}
-use Rattle.std.proofs.lemmas.List.{take_all, take_more, map-append}
-use Rattle.std.proofs.lemmas.List.Folds.{list_all_more}
-use Rattle.vcd_core.specs.declared.bit.Bit.TheVariants.{X}
-use Rattle.vcd_text.specs.Letters.{is_binary_digit, letter_of_digit, letters_of_digits}
-use Rattle.vcd_text.specs.inside.LetterWords.{HoldsLetters}
-use Rattle.vcd_text.proofs.LetterWords.{holds_more, none_held}
+use Rattle.std.specs.Simd.{first_chunks}
+use Rattle.std.proofs.lemmas.List.{take-append-drop}
+use Rattle.vcd_core.specs.declared.bit.Bit.{Bit}
+use Rattle.vcd_text.specs.declared.reading.binary_number.LetterWord.{LetterWord}
+use Rattle.vcd_text.specs.Letters.{is_binary_digit, letters_of_digits}
+use Rattle.vcd_text.specs.inside.LetterWords.{HoldsLetters, AddsLetters}
+use Rattle.vcd_text.proofs.LetterWords.{eight_at, eight_more, holds_both, both_are_digits, not_all_behind, not_all_before}
 use Rattle.vcd_text.proofs.reading.binary_number.word_read.Goals as goal
 
-pub loop-digit-init : goal.loop-digit-init
-loop-digit-init c = record {
-  holds = none_held _ _ _ (λ i inside. c.repeated-low.ensures i inside ∙ sym c.is_low.ensures) (λ i inside. c.repeated-high.ensures i inside ∙ sym c.is_high.ensures);
-  letters = refl;
-}
+-- the digits of one of the eights
+eight_digits : (digits : List ℕ) (eights : List (List ℕ)) (i : ℕ) → eights ≡ first_chunks 8 (length digits / 8) digits → i < length digits / 8
+    → get_or eights i [] ≡ take 8 (drop (8 * i) digits)
+eight_digits digits eights i front within = ap (λ l. get_or l i []) front ∙ eight_at (length digits / 8) i digits within
 
-pub loop-digit-preserved : goal.loop-digit-preserved
-loop-digit-preserved c =
-    let i = c.loop-digit.digit-index in
+pub returns-in_err-word : goal.returns-in_err-word
+returns-in_err-word c =
     let digits = c.args.digits.now in
-    let digit = get_or digits i 0 in
-    let within : i < length digits = omega (arith, c.loop-digit-test.true) in
-    let read : Some c.in_ok-letter.letter ≡ letter_of_digit digit = sym c.in_ok-letter.was ∙ c.letter_of_digit.ensures in
-    let letter : c.in_ok-letter.letter ≡ unwrap_or (letter_of_digit digit) X = ap (λ o. unwrap_or o X) read in
-    let more : letters_of_digits (take i digits) ++ c.in_ok-letter.letter ∷ [] ≡ letters_of_digits (take (i + 1) digits) =
-    ap (λ b. letters_of_digits (take i digits) ++ b ∷ []) letter
-    ∙ sym (ap letters_of_digits (take_more digits i 0 within) ∙ map-append (λ b. unwrap_or (letter_of_digit b) X) (take i digits) (digit ∷ [])) in
+    let i = c.loop-eight.eight-index in
+    let at = eight_digits digits _ i c.as_chunks.ensures.front (omega (arith, c.loop-eight-test.true, c.as_chunks.ensures.front_len)) in
+    let none : list_all is_binary_digit digits ≡ false =
+    not_all_behind (8 * i) digits (not_all_before 8 (drop (8 * i) digits) (sym (ap (list_all is_binary_digit) at) ∙ c.in_err-word.ensures)) in
+    search rules
+
+pub loop-eight-preserved : goal.loop-eight-preserved
+loop-eight-preserved c =
+    let digits = c.args.digits.now in
+    let i = c.loop-eight.eight-index in
+    let at = eight_digits digits _ i c.as_chunks.ensures.front (omega (arith, c.loop-eight-test.true, c.as_chunks.ensures.front_len)) in
+    let eight = take 8 (drop (8 * i) digits) in
+    let word = c.in_ok-word.word in
     record {
-      holds = subst (λ s. HoldsLetters c.args.pad s c.with_lowest-low.result c.with_lowest-high.result) more
-          (holds_more c.args.pad (letters_of_digits (take i digits)) c.in_ok-letter.letter _ _ _ _ c.loop-digit.invariant.holds
-          (c.with_lowest-low.ensures.first ∙ sym c.is_low-in-loop-digit.ensures) c.with_lowest-low.ensures.rest
-          (c.with_lowest-high.ensures.first ∙ sym c.is_high-in-loop-digit.ensures) c.with_lowest-high.ensures.rest);
-      letters =
-          list_all_more is_binary_digit digits i 0 within
-          ∙ and_from (list_all is_binary_digit (take i digits)) (is_binary_digit digit) c.loop-digit.invariant.letters (ap is_some (sym read));
+      holds = holds_both c.args.pad (take (8 * i) digits) eight (take (8 * (i + 1)) digits) _ _ word.low word.high (eight_more digits i) c.loop-eight.invariant.holds
+          (subst (λ l. AddsLetters (letters_of_digits l) c.loop-eight.word.low c.loop-eight.word.high word.low word.high) at c.in_ok-word.ensures.1);
+      letters = both_are_digits (take (8 * i) digits) eight (take (8 * (i + 1)) digits) (eight_more digits i) c.loop-eight.invariant.letters
+          (sym (ap (list_all is_binary_digit) at) ∙ c.in_ok-word.ensures.0);
     }
+
+-- the letters of the eights, and of the rest behind them
+of_the_rest : (pad : Bit) (digits : List ℕ) (n low high : ℕ) (o : Option LetterWord) → list_all is_binary_digit (take n digits) ≡ true
+    → HoldsLetters pad (letters_of_digits (take n digits)) low high
+    → MatchOption o (list_all is_binary_digit (drop n digits) ≡ false)
+    (λ w. (list_all is_binary_digit (drop n digits) ≡ true) × AddsLetters (letters_of_digits (drop n digits)) low high w.low w.high)
+    → MatchOption o (list_all is_binary_digit digits ≡ false) (λ w. (list_all is_binary_digit digits ≡ true) × HoldsLetters pad (letters_of_digits digits) w.low w.high)
+of_the_rest pad digits n low high None letters holds none = not_all_behind n digits none
+of_the_rest pad digits n low high (Some w) letters holds (behind, adds) = (
+  both_are_digits (take n digits) (drop n digits) digits (take-append-drop n digits) letters behind,
+  holds_both pad (take n digits) (drop n digits) digits low high w.low w.high (take-append-drop n digits) holds adds,
+)
 
 pub returns : goal.returns
 returns c =
     let digits = c.args.digits.now in
-    let all : take c.loop-digit.digit-index digits ≡ digits = take_all c.loop-digit.digit-index digits c.loop-digit-test.false in (
-      ap (list_all is_binary_digit) (sym all) ∙ c.loop-digit.invariant.letters,
-      subst (λ l. HoldsLetters c.args.pad (letters_of_digits l) c.loop-digit.low c.loop-digit.high) all c.loop-digit.invariant.holds,
-    )
+    let end : length digits / 8 * 8 ≡ 8 * c.loop-eight.eight-index = omega (arith, c.loop-eight-test.false, c.as_chunks.ensures.front_len) in
+    let back = c.as_chunks.ensures.back ∙ ap (λ n. drop n digits) end in
+    of_the_rest c.args.pad digits (8 * c.loop-eight.eight-index) _ _ c.with_digits.result c.loop-eight.invariant.letters c.loop-eight.invariant.holds
+    (subst (λ l. MatchOption c.with_digits.result (list_all is_binary_digit l ≡ false)
+    (λ w. (list_all is_binary_digit l ≡ true) × AddsLetters (letters_of_digits l) c.loop-eight.word.low c.loop-eight.word.high w.low w.high)) back c.with_digits.ensures)
