@@ -1,77 +1,302 @@
--- Letters by their two bits, and letters that are repeated within a word of each plane.
-use Rattle.std.proofs.Common.{◌≡◌, ℕ, suc, ◌+◌, ◌-◌, ◌*◌, ◌/◌, ◌%◌, ◌^◌, ◌<◌, ◌≤◌, min, max, List, length, if◌then◌else◌, refl, sym, ap, ◌∙◌, arith}
-use Rattle.std.specs.Int.{bit_at}
+-- Letters by the bits of two words, and which of them the extension puts on the left of the next.
+use Rattle.std.proofs.Common.{◌≡◌, ℕ, zero, suc, ◌+◌, ◌-◌, ◌*◌, ◌/◌, ◌%◌, ◌^◌, ◌<◌, ◌≤◌, min, max, Bool, true, false, List, [], ◌∷◌, ◌++◌, length, drop, get_or, slice_range, if◌then◌else◌, pow-suc, refl, sym, ap, ◌∙◌, arith, inl, inr}
+use Rattle.std.specs.Int.{bit_at, bit_not}
 use lib.Bits.{and_le_r}
 use Rattle.std.specs.Int.Bits.{bit_and, bit_or, bit_xor}
 use Rattle.std.specs.Int.Count.{count_leading_zeros}
-use Rattle.std.proofs.lemmas.Bool.{lt-ltb}
-use Rattle.std.proofs.lemmas.Nat.{leading_le, leading_length}
-use Rattle.std.proofs.lemmas.Nat.Bits.{bit_at-lt, bit_at-suc, bit_at_above, bit_at_and, bit_at_ones, bit_at_or, bit_at_xor}
+use Rattle.std.proofs.Math.ListN.{set}
+use Rattle.std.proofs.lemmas.Bool.{cases_eq, cases_lt, lt-ltb}
+use Rattle.std.proofs.lemmas.List.{ext_get_or, get_or-drop, get_or-map, get_or-set_other, get_or-set_same, get_or-take, length-drop, length-map, length-set, length-take-le, map-append, take_all}
+use Rattle.std.proofs.lemmas.List.Folds.{drop_split}
+use Rattle.std.proofs.lemmas.Nat.{leading_length}
+use Rattle.std.proofs.lemmas.Nat.Bits.{bit_at-lt, bit_at-suc, bit_at_above, bit_at_and, bit_at_cat_high, bit_at_not, bit_at_ones, bit_at_ones_above, bit_at_or, bit_at_xor}
+use Rattle.std.proofs.Common.{w64}
 use Rattle.vcd_core.specs.declared.bit.Bit.{Bit}
-use Rattle.vcd_core.specs.declared.bit.Bit.TheVariants.{Zero, One, X, Z}
-use Rattle.vcd_core.specs.Value.{letter_at}
-use Rattle.vcd_core.specs.WordRows.{high_bit, high_of, letter_of, low_bit, low_of}
+use Rattle.vcd_core.specs.declared.bit.Bit.TheVariants.{X}
+use Rattle.vcd_core.specs.Value.{letter_at, printed_letter, same_letter}
+use Rattle.vcd_core.specs.WordRows.{high_bit, high_of, letter_of, letters_of, low_bit, low_of, row_bit}
+use Rattle.vcd_core.proofs.ValueLemmas.{letter_at-letters_of, letter_of-letter, length-letters_of, same_letter_at}
+use Rattle.vcd_text.specs.Letters.{pad_letter, printed_letters}
+use Rattle.vcd_text.specs.inside.ValueFronts.{is_spare_above, word_letter}
 
-bits_again : (b : Bit) → letter_of (low_of b) (high_of b) ≡ b
-bits_again Zero = refl
-bits_again One = refl
-bits_again X = refl
-bits_again Z = refl
+-- ---- the letters of words
 
 -- the letter that has the two bits at a place
-pub letter_by_bits : (v : List Bit) (k : ℕ) → k < length v → letter_of (low_bit v k) (high_bit v k) ≡ letter_at v k
+letter_by_bits : (v : List Bit) (k : ℕ) → k < length v → letter_of (low_bit v k) (high_bit v k) ≡ letter_at v k
 letter_by_bits v k inside =
     ap (λ n. letter_of n (high_bit v k)) (ap (λ b. if b then low_of (letter_at v k) else 0) (lt-ltb k (length v) inside))
     ∙ ap (λ n. letter_of (low_of (letter_at v k)) n) (ap (λ b. if b then high_of (letter_at v k) else 0) (lt-ltb k (length v) inside))
-    ∙ bits_again (letter_at v k)
+    ∙ letter_of-letter (letter_at v k)
 
--- bits next to each other that do not differ
-same_bits : (w j : ℕ) → bit_at (bit_xor w (w / 2 ^ 1)) j ≡ 0 → bit_at w (j + 1) ≡ bit_at w j
-same_bits w j none =
-    let next : bit_at w (suc j) ≡ bit_at (w / 2) j = bit_at-suc w j in
-    let sum : bit_at (bit_xor w (w / 2)) j ≡ (bit_at w j + bit_at (w / 2) j) % 2 = bit_at_xor w (w / 2) j in
-    let same : bit_at w j ≡ bit_at (w / 2) j = omega (arith, sum, none, bit_at-lt w j, bit_at-lt (w / 2) j) in
-    ap (bit_at w) (let e : j + 1 ≡ suc j = omega arith in e) ∙ next ∙ sym same
+-- two words hold the letters of a value from a bit on
+pub record HoldsFrom (v : List Bit) (from low high : ℕ) : Type 0 where
+  pub lows : (i : ℕ) → i < 64 → bit_at low i ≡ low_bit v (from + i)
+  pub highs : (i : ℕ) → i < 64 → bit_at high i ≡ high_bit v (from + i)
 
--- where the bits of two words differ from the next higher ones
-abbrev differing : ℕ → ℕ → ℕ
-differing low high = bit_or (bit_xor low (low / 2 ^ 1)) (bit_xor high (high / 2 ^ 1))
+pub held_letter : (v : List Bit) (from low high i : ℕ) → HoldsFrom v from low high → i < 64 → from + i < length v → word_letter low high i ≡ letter_at v (from + i)
+held_letter v from low high i holds inside within =
+    (λ p. letter_of (holds.lows i inside p) (holds.highs i inside p)) ∙ letter_by_bits v (from + i) within
 
--- no bit is set from where the leading zeros begin
-none_set : (m j : ℕ) → m < 2 ^ 64 → 64 ≤ count_leading_zeros 64 m + j → bit_at m j ≡ 0
-none_set m j small past =
+-- a letter of the value that two words give
+pub given_letter : (width low high k : ℕ) → width ≤ 64 → k < width → letter_at (letters_of width (low ∷ []) (high ∷ [])) k ≡ word_letter low high k
+unfolding row_bit
+given_letter width low high k narrow within =
+    let none : k / 64 ≡ 0 = omega arith in
+    let same : k % 64 ≡ k = omega arith in
+    let bit : (w : ℕ) → row_bit (w ∷ []) k ≡ bit_at w k = λ w. (λ p. bit_at (get_or (w ∷ []) (none p) 0) (same p)) in
+    letter_at-letters_of width (low ∷ []) (high ∷ []) k within ∙ (λ p. letter_of (bit low p) (bit high p))
+
+-- words that hold a whole value give it
+pub given_whole : (v : List Bit) (low high : ℕ) → length v ≤ 64 → HoldsFrom v 0 low high → letters_of (length v) (low ∷ []) (high ∷ []) ≡ v
+given_whole v low high narrow holds =
+    let long = length-letters_of (length v) (low ∷ []) (high ∷ []) in
+    same_letter_at _ v long (λ k below.
+    let within : k < length v = omega (arith, below, long) in
+    let place : 0 + k ≡ k = omega arith in
+    given_letter (length v) low high k narrow within ∙ held_letter v 0 low high k holds (omega arith) (omega arith) ∙ ap (letter_at v) place)
+
+-- ---- the lowest letters
+
+-- the lowest letters of a value
+abbrev pub lowest : ℕ → List Bit → List Bit
+lowest n v = drop (length v - n) v
+
+pub length-lowest : (n : ℕ) (v : List Bit) → n ≤ length v → length (lowest n v) ≡ n
+length-lowest n v within = length-drop (length v - n) v ∙ omega arith
+
+pub letter_at-lowest : (n : ℕ) (v : List Bit) (k : ℕ) → n ≤ length v → k < n → letter_at (lowest n v) k ≡ letter_at v k
+letter_at-lowest n v k within below =
+    let place : length v - n + (length (lowest n v) - 1 - k) ≡ length v - 1 - k = omega (arith, length-lowest n v within) in
+    get_or-drop (length v - n) v (length (lowest n v) - 1 - k) X ∙ ap (λ i. get_or v i X) place
+
+-- the lowest letters of words
+pub lowest_given : (width count low high : ℕ) → width ≤ 64 → count ≤ width → lowest count (letters_of width (low ∷ []) (high ∷ [])) ≡ letters_of count (low ∷ []) (high ∷ [])
+lowest_given width count low high narrow within =
+    let v = letters_of width (low ∷ []) (high ∷ []) in
+    let long = length-letters_of width (low ∷ []) (high ∷ []) in
+    let few = length-letters_of count (low ∷ []) (high ∷ []) in
+    let fits : count ≤ length v = omega (arith, long) in
+    same_letter_at _ _ (length-lowest count v fits ∙ sym few) (λ k below.
+    let inside : k < count = omega (arith, below, length-lowest count v fits) in
+    letter_at-lowest count v k fits inside ∙ given_letter width low high k narrow (omega (arith, inside))
+    ∙ sym (given_letter count low high k (omega arith) inside))
+
+-- ---- letters in a row
+
+-- two letters more, before those at the end of a row
+pub pair_written : (f : ℕ → ℕ) (row : List ℕ) (k a b : ℕ) → length row ≡ 64 → k < 32 → ((i : ℕ) → i < 2 * k → get_or row (63 - i) 0 ≡ f i)
+    → a ≡ f (2 * k + 1) → b ≡ f (2 * k + 0) → (i : ℕ) → i < 2 * (k + 1) → get_or (set (set row (62 - 2 * k) a) (63 - 2 * k) b) (63 - i) 0 ≡ f i
+pair_written f row k a b long inside written upper lower i within =
+    let second = set row (62 - 2 * k) a in
+    let long' : length second ≡ 64 = length-set row (62 - 2 * k) a ∙ long in
+    elim (cases_lt i (2 * k)) [
+      | inl before ↦
+          get_or-set_other second (63 - 2 * k) (63 - i) b 0 (omega arith) ∙ get_or-set_other row (62 - 2 * k) (63 - i) a 0 (omega arith)
+          ∙ written i before
+      | inr from ↦ elim (cases_eq i (2 * k)) [
+        | inl last ↦
+            let place : 63 - i ≡ 63 - 2 * k = omega arith in
+            let at : 2 * k + 0 ≡ i = omega arith in
+            ap (λ n. get_or (set second (63 - 2 * k) b) n 0) place ∙ get_or-set_same second (63 - 2 * k) b 0 (omega (arith, long')) ∙ lower ∙ ap f at
+        | inr other ↦
+            let place : 63 - i ≡ 62 - 2 * k = omega arith in
+            let at : 2 * k + 1 ≡ i = omega arith in
+            get_or-set_other second (63 - 2 * k) (63 - i) b 0 (omega arith) ∙ ap (λ n. get_or second n 0) place
+            ∙ get_or-set_same row (62 - 2 * k) a 0 (omega (arith, long)) ∙ upper ∙ ap f at
+      ]
+    ]
+
+-- the end of a row of letters
+pub row_end : (row : List ℕ) (count low high : ℕ) → length row ≡ 64 → count ≤ 64 → ((i : ℕ) → i < count → get_or row (63 - i) 0 ≡ printed_letter (word_letter low high i))
+    → slice_range row (64 - count) 64 ≡ printed_letters (letters_of count (low ∷ []) (high ∷ []))
+row_end row count low high long fits written =
+    let v = letters_of count (low ∷ []) (high ∷ []) in
+    let few : length v ≡ count = length-letters_of count (low ∷ []) (high ∷ []) in
+    let rest : length (drop (64 - count) row) ≡ count = length-drop (64 - count) row ∙ omega (arith, long, fits) in
+    take_all (64 - (64 - count)) (drop (64 - count) row) (omega (arith, rest))
+    ∙ ext_get_or 0 _ _ (rest ∙ sym (length-map v printed_letter ∙ few)) (λ i below.
+    let inside : i < count = omega (arith, below, rest) in
+    let k : ℕ = count - 1 - i in
+    let place : 64 - count + i ≡ 63 - k = omega (arith, inside, fits) in
+    let back : length v - 1 - k ≡ i = omega (arith, inside, few) in
+    get_or-drop (64 - count) row i 0 ∙ ap (λ n. get_or row n 0) place ∙ written k (omega (arith, inside))
+    ∙ ap printed_letter (sym (given_letter count low high k fits (omega (arith, inside))) ∙ ap (λ n. get_or v n X) back)
+    ∙ sym (get_or-map printed_letter v i X 0 (omega (arith, inside, few))))
+
+-- the letters of a word of a value stand before the lower ones
+pub word_and_rest : (v : List Bit) (left from low high : ℕ) → from ≤ left → left ≤ from + 64 → left ≤ length v → HoldsFrom v from low high
+    → printed_letters (lowest left v) ≡ printed_letters (letters_of (left - from) (low ∷ []) (high ∷ [])) ++ printed_letters (lowest from v)
+word_and_rest v left from low high most fits within holds =
+    let count : ℕ = left - from in
+    let start : ℕ = length v - left in
+    let end : ℕ = length v - from in
+    let part = slice_range v start end in
+    let few : length (letters_of count (low ∷ []) (high ∷ [])) ≡ count = length-letters_of count (low ∷ []) (high ∷ []) in
+    let long : length part ≡ count = length-take-le (end - start) (drop start v) (omega (arith, length-drop start v)) ∙ omega (arith, most, within) in
+    let same : part ≡ letters_of count (low ∷ []) (high ∷ []) = same_letter_at part _ (long ∙ sym few) (λ k below.
+    let inside : k < count = omega (arith, below, long) in
+    let place : start + (length part - 1 - k) ≡ length v - 1 - (from + k) = omega (arith, inside, long, within) in
+    get_or-take (end - start) (drop start v) (length part - 1 - k) X (omega (arith, inside, long)) ∙ get_or-drop start v (length part - 1 - k) X
+    ∙ ap (λ i. get_or v i X) place ∙ sym (held_letter v from low high k holds (omega (arith, inside)) (omega (arith, inside)))
+    ∙ sym (given_letter count low high k (omega arith) inside)) in
+    ap printed_letters (drop_split v start end (omega arith) ∙ ap (λ l. l ++ drop end v) same) ∙ map-append printed_letter (letters_of count (low ∷ []) (high ∷ [])) (drop end v)
+
+-- ---- spare letters
+
+-- whether the extension puts the letter of bit i + 1 of a value on the left of that of bit i
+abbrev pub is_spare_in : List Bit → ℕ → Bool
+is_spare_in v i = same_letter (pad_letter (letter_at v i ∷ [])) (letter_at v (i + 1))
+
+pub spare_held : (v : List Bit) (from low high i : ℕ) → HoldsFrom v from low high → i + 1 < 64 → from + i + 1 < length v → is_spare_above low high i ≡ is_spare_in v (from + i)
+spare_held v from low high i holds inside within =
+    let next : from + (i + 1) ≡ from + i + 1 = omega arith in
+    let one = held_letter v from low high i holds (omega arith) (omega arith) in
+    let two : word_letter low high (i + 1) ≡ letter_at v (from + i + 1) = held_letter v from low high (i + 1) holds inside (omega arith) ∙ ap (letter_at v) next in
+    (λ p. same_letter (pad_letter (one p ∷ [])) (two p))
+
+pub spare_given : (width low high i : ℕ) → width ≤ 64 → i + 1 < width → is_spare_above low high i ≡ is_spare_in (letters_of width (low ∷ []) (high ∷ [])) i
+spare_given width low high i narrow within =
+    let one = sym (given_letter width low high i narrow (omega arith)) in
+    let two = sym (given_letter width low high (i + 1) narrow within) in
+    (λ p. same_letter (pad_letter (one p ∷ [])) (two p))
+
+abbrev bit : Bool → ℕ
+bit true = 1
+bit false = 0
+
+bit_again : (b : ℕ) → b < 2 → (s : Bool) × (b ≡ bit s)
+bit_again zero small = (false, refl)
+bit_again (suc zero) small = (true, refl)
+bit_again (suc (suc _)) small = absurd (omega arith)
+
+-- which bits are set, by those of a letter and of the next
+abbrev mark : ℕ → ℕ → ℕ → ℕ → ℕ
+mark h' h l' l = max (max ((h' + h) % 2) (min l' (1 - h'))) (min h' ((l' + l) % 2))
+
+mark_tells : (h' h l' l : Bool) → mark (bit h') (bit h) (bit l') (bit l) ≡ (if same_letter (pad_letter (letter_of (bit l) (bit h) ∷ [])) (letter_of (bit l') (bit h')) then 0 else 1)
+mark_tells false false false false = refl
+mark_tells false false false true = refl
+mark_tells false false true false = refl
+mark_tells false false true true = refl
+mark_tells false true false false = refl
+mark_tells false true false true = refl
+mark_tells false true true false = refl
+mark_tells false true true true = refl
+mark_tells true false false false = refl
+mark_tells true false false true = refl
+mark_tells true false true false = refl
+mark_tells true false true true = refl
+mark_tells true true false false = refl
+mark_tells true true false true = refl
+mark_tells true true true false = refl
+mark_tells true true true true = refl
+
+mark_is : (h' h l' l : ℕ) → h' < 2 → h < 2 → l' < 2 → l < 2 → mark h' h l' l ≡ (if same_letter (pad_letter (letter_of l h ∷ [])) (letter_of l' h') then 0 else 1)
+mark_is h' h l' l small_h' small_h small_l' small_l =
+    let a = bit_again h' small_h' in
+    let b = bit_again h small_h in
+    let c = bit_again l' small_l' in
+    let d = bit_again l small_l in
+    (λ p. mark (a.1 p) (b.1 p) (c.1 p) (d.1 p)) ∙ mark_tells a.0 b.0 c.0 d.0
+    ∙ sym (λ p. if same_letter (pad_letter (letter_of (d.1 p) (b.1 p) ∷ [])) (letter_of (c.1 p) (a.1 p)) then 0 else 1)
+
+-- a word halved has the bits of the next letters
+halved : (w i : ℕ) → bit_at (w / 2) i ≡ bit_at w (i + 1)
+halved w i = sym (bit_at-suc w i) ∙ ap (bit_at w) (let e : suc i ≡ i + 1 = omega arith in e)
+
+-- shifted by two letters
+pub later_pair : (w i : ℕ) → bit_at (w / 4) i ≡ bit_at w (i + 2)
+later_pair w i =
+    let twice : w / 4 ≡ w / 2 / 2 = omega arith in
+    let next : i + 1 + 1 ≡ i + 2 = omega arith in
+    ap (λ n. bit_at n i) twice ∙ halved (w / 2) i ∙ halved w (i + 1) ∙ ap (bit_at w) next
+
+pub needed_bit : (low high i : ℕ) → low < 2 ^ 64 → high < 2 ^ 64 → i < 64
+    → bit_at (bit_or (bit_or (bit_xor (high / 2) high) (bit_and (low / 2) (bit_not w64 (high / 2)))) (bit_and (high / 2) (bit_xor (low / 2) low))) i
+    ≡ (if is_spare_above low high i then 0 else 1)
+needed_bit low high i small_low small_high inside =
+    let h = halved high i in
+    let l = halved low i in
+    let other : bit_at (bit_xor (high / 2) high) i ≡ (bit_at high (i + 1) + bit_at high i) % 2 = bit_at_xor (high / 2) high i ∙ ap (λ n. (n + bit_at high i) % 2) h in
+    let one : bit_at (bit_and (low / 2) (bit_not w64 (high / 2))) i ≡ min (bit_at low (i + 1)) (1 - bit_at high (i + 1)) =
+    bit_at_and (low / 2) (bit_not w64 (high / 2)) i ∙ ap (λ n. min n (bit_at (bit_not w64 (high / 2)) i)) l
+    ∙ ap (min (bit_at low (i + 1))) (bit_at_not w64 (high / 2) i (omega (arith, small_high)) inside ∙ ap (λ n. 1 - n) h) in
+    let both : bit_at (bit_and (high / 2) (bit_xor (low / 2) low)) i ≡ min (bit_at high (i + 1)) ((bit_at low (i + 1) + bit_at low i) % 2) =
+    bit_at_and (high / 2) (bit_xor (low / 2) low) i ∙ ap (λ n. min n (bit_at (bit_xor (low / 2) low) i)) h
+    ∙ ap (min (bit_at high (i + 1))) (bit_at_xor (low / 2) low i ∙ ap (λ n. (n + bit_at low i) % 2) l) in
+    bit_at_or (bit_or (bit_xor (high / 2) high) (bit_and (low / 2) (bit_not w64 (high / 2)))) (bit_and (high / 2) (bit_xor (low / 2) low)) i
+    ∙ ap (λ n. max n (bit_at (bit_and (high / 2) (bit_xor (low / 2) low)) i)) (bit_at_or (bit_xor (high / 2) high) (bit_and (low / 2) (bit_not w64 (high / 2))) i)
+    ∙ (λ p. max (max (other p) (one p)) (both p))
+    ∙ mark_is (bit_at high (i + 1)) (bit_at high i) (bit_at low (i + 1)) (bit_at low i) (bit_at-lt _ _) (bit_at-lt _ _) (bit_at-lt _ _) (bit_at-lt _ _)
+
+-- ---- the highest set bit
+
+-- the bits up to the highest one that is set
+record HasLength (m n : ℕ) : Type 0 where
+  counted : count_leading_zeros 64 m + n ≡ 64
+  top : 1 ≤ n → bit_at m (n - 1) ≡ 1
+  above : (i : ℕ) → n ≤ i → bit_at m i ≡ 0
+
+has_length : (m : ℕ) → m < 2 ^ 64 → (n : ℕ) × HasLength m n
+has_length m small =
     let length = leading_length 64 m small in
-    bit_at_above m length.0 j length.2 (omega (arith, length.1, past))
+    (length.0, record { counted = length.1; top = by length.0 length.2 length.3; above = λ i past. bit_at_above m length.0 i length.2 past })
+  where
+    by : (n : ℕ) → m < 2 ^ n → 2 ^ n ≤ 2 * m + 1 → 1 ≤ n → bit_at m (n - 1) ≡ 1
+    by zero below from some = absurd (omega arith)
+    by (suc j) below from some =
+        let half : 2 ^ suc j ≡ 2 ^ j * 2 = pow-suc 2 j in
+        let rest : ℕ = m - 2 ^ j in
+        let parts : m ≡ 1 * 2 ^ j + rest = omega (arith, half) in
+        let last : suc j - 1 ≡ j = omega arith in
+        let none : j - j ≡ 0 = omega arith in
+        ap (bit_at m) last ∙ ap (λ n. bit_at n j) parts ∙ bit_at_cat_high 1 j rest j (omega (arith, half)) (omega arith) ∙ ap (bit_at 1) none
 
--- below the bit where the mask ends
-neither : (low high top j : ℕ) → j < top → bit_at (bit_and (differing low high) (2 ^ top - 1)) j ≡ 0
-    → (bit_at (bit_xor low (low / 2 ^ 1)) j ≡ 0) × (bit_at (bit_xor high (high / 2 ^ 1)) j ≡ 0)
-neither low high top j below none =
-    let a = bit_xor low (low / 2 ^ 1) in
-    let b = bit_xor high (high / 2 ^ 1) in
-    let masked : bit_at (bit_and (bit_or a b) (2 ^ top - 1)) j ≡ min (bit_at (bit_or a b) j) (bit_at (2 ^ top - 1) j) = bit_at_and (bit_or a b) (2 ^ top - 1) j in
-    let both : bit_at (bit_or a b) j ≡ max (bit_at a j) (bit_at b j) = bit_at_or a b j in
-    let one : bit_at (2 ^ top - 1) j ≡ 1 = bit_at_ones top j below in
-    (omega (arith, masked, both, one, none), omega (arith, masked, both, one, none))
+-- what the leading zeros tell of the letters that are left
+pub record IsKept (count low high kept : ℕ) : Type 0 where
+  pub least : 1 ≤ kept
+  pub most : kept ≤ count
+  pub spare : (i : ℕ) → kept ≤ i + 1 → i + 1 < count → is_spare_above low high i ≡ true
+  pub needed : 1 < kept → is_spare_above low high (kept - 2) ≡ false
 
--- letters that are repeated, from that of bit k downward
-pub repeated : (v : List Bit) (k low high mask run : ℕ) → k < length v
-    → ((i : ℕ) → i < 64 → bit_at low i ≡ low_bit v (64 * (k / 64) + i)) → ((i : ℕ) → i < 64 → bit_at high i ≡ high_bit v (64 * (k / 64) + i))
-    → mask ≡ 2 ^ (k % 64) - 1 → mask < 2 ^ 64 → run ≡ count_leading_zeros 64 (bit_and (differing low high) mask)
-    → (i : ℕ) → i < k % 64 + run - 64 → letter_at v (k - i) ≡ letter_at v (k - i - 1)
-repeated v k low high mask run inside is_low is_high is_mask small counted i within =
-    let m : ℕ = bit_and (differing low high) mask in
-    let fits : m < 2 ^ 64 = omega (arith, and_le_r (differing low high) mask, small) in
-    let most : run ≤ 64 = omega (arith, counted, leading_le 64 m) in
-    let j : ℕ = k % 64 - 1 - i in
-    let below : j < k % 64 = omega (arith, within, most) in
-    let none = none_set m j fits (omega (arith, counted, within, most)) in
-    let same = neither low high (k % 64) j below (sym (ap (λ n. bit_at (bit_and (differing low high) n) j) is_mask) ∙ none) in
-    let here : 64 * (k / 64) + (j + 1) ≡ k - i = omega (arith, within, most) in
-    let next : 64 * (k / 64) + j ≡ k - i - 1 = omega (arith, within, most) in
-    let lows : low_bit v (k - i) ≡ low_bit v (k - i - 1) =
-    ap (low_bit v) (sym here) ∙ sym (is_low (j + 1) (omega (arith, below))) ∙ same_bits low j same.0 ∙ is_low j (omega (arith, below)) ∙ ap (low_bit v) next in
-    let highs : high_bit v (k - i) ≡ high_bit v (k - i - 1) =
-    ap (high_bit v) (sym here) ∙ sym (is_high (j + 1) (omega (arith, below))) ∙ same_bits high j same.1 ∙ is_high j (omega (arith, below)) ∙ ap (high_bit v) next in
-    sym (letter_by_bits v (k - i) (omega (arith, inside))) ∙ ap (λ n. letter_of n (high_bit v (k - i))) lows
-    ∙ ap (λ n. letter_of (low_bit v (k - i - 1)) n) highs ∙ letter_by_bits v (k - i - 1) (omega (arith, inside))
+spare_where_none : (b : Bool) (n : ℕ) → n ≡ (if b then 0 else 1) → n ≡ 0 → b ≡ true
+spare_where_none true n is none = refl
+spare_where_none false n is none = absurd (omega arith)
+
+needed_where_one : (b : Bool) (n : ℕ) → n ≡ (if b then 0 else 1) → n ≡ 1 → b ≡ false
+needed_where_one true n is one = absurd (omega arith)
+needed_where_one false n is one = refl
+
+pub kept_is : (count low high marks mask : ℕ) → 1 ≤ count → count ≤ 64 → mask < 2 ^ 64 → mask ≡ 2 ^ (count - 1) - 1
+    → ((i : ℕ) → i < 64 → bit_at marks i ≡ (if is_spare_above low high i then 0 else 1))
+    → IsKept count low high (65 - count_leading_zeros 64 (bit_and marks mask))
+kept_is count low high marks mask least most fits is_mask tells =
+    let m : ℕ = bit_and marks mask in
+    let small : m < 2 ^ 64 = omega (arith, and_le_r marks mask, fits) in
+    let length = has_length m small in
+    let n : ℕ = length.0 in
+    let kept : 65 - count_leading_zeros 64 m ≡ n + 1 = omega (arith, length.1.counted) in
+    let masked : (i : ℕ) → bit_at m i ≡ min (bit_at marks i) (bit_at (2 ^ (count - 1) - 1) i) = λ i.
+    bit_at_and marks mask i ∙ ap (λ w. min (bit_at marks i) (bit_at w i)) is_mask in
+    let both : 1 ≤ n → (bit_at marks (n - 1) ≡ 1) × (bit_at (2 ^ (count - 1) - 1) (n - 1) ≡ 1) = λ some. (
+      omega (arith, masked (n - 1), length.1.top some, bit_at-lt marks (n - 1), bit_at-lt (2 ^ (count - 1) - 1) (n - 1)),
+      omega (arith, masked (n - 1), length.1.top some, bit_at-lt marks (n - 1), bit_at-lt (2 ^ (count - 1) - 1) (n - 1)),
+    ) in
+    record {
+      least = omega (arith, kept);
+      most = elim (cases_lt (n - 1) (count - 1)) [
+        | inl within ↦ omega (arith, kept, within)
+        | inr past ↦ elim (cases_lt 0 n) [
+          | inl some ↦ absurd (omega (arith, (both (omega arith)).1, bit_at_ones_above (count - 1) (n - 1) past))
+          | inr none ↦ omega (arith, kept, none)
+        ]
+      ];
+      spare = λ i past below.
+          let set : bit_at (2 ^ (count - 1) - 1) i ≡ 1 = bit_at_ones (count - 1) i (omega arith) in
+          let none : bit_at marks i ≡ 0 = omega (arith, masked i, length.1.above i (omega (arith, kept)), set) in
+          spare_where_none _ _ (tells i (omega arith)) none;
+      needed = λ some.
+          let place : 65 - count_leading_zeros 64 m - 2 ≡ n - 1 = omega (arith, kept) in
+          let one = (both (omega (arith, kept))).0 in
+          ap (is_spare_above low high) place ∙ needed_where_one _ _ (tells (n - 1) (omega (arith, length.1.counted))) one;
+    }

@@ -1,14 +1,18 @@
 -- The short form of a value: a letter at the front is left out where it is what the extension puts there.
-use Rattle.std.proofs.Common.{◌≡◌, ℕ, zero, suc, ◌+◌, ◌-◌, ◌<◌, ◌≤◌, Bool, true, false, cond, ◌&&◌, List, [], ◌∷◌, ◌++◌, length, replicate, drop, get_or, max, refl, sym, ap, ◌∙◌, arith, Option, Some, None}
+use Rattle.std.proofs.Common.{◌≡◌, ℕ, zero, suc, ◌+◌, ◌-◌, ◌<◌, ◌≤◌, Bool, true, false, cond, ◌&&◌, List, [], ◌∷◌, ◌++◌, length, replicate, drop, get_or, refl, sym, ap, ◌∙◌, arith, Option, Some, None, ◌⊎◌, inl, inr}
 use Rattle.std.specs.Prelude.{find, unwrap_or}
 use Rattle.std.specs.Option.{option_or}
+use Rattle.std.proofs.lemmas.Bool.{cases_lt}
 use Rattle.std.proofs.lemmas.List.{drop_more}
 use Rattle.std.proofs.lemmas.List.Folds.{find-append}
 use Rattle.vcd_core.specs.declared.bit.Bit.{Bit}
 use Rattle.vcd_core.specs.declared.bit.Bit.TheVariants.{Zero, One, X, Z}
-use Rattle.vcd_core.specs.Value.{same_letter, same_letters}
+use Rattle.vcd_core.specs.Value.{letter_at, same_letter, same_letters}
+use Rattle.vcd_core.specs.WordRows.{letters_of}
 use Rattle.vcd_core.specs.inside.ValueLaws.{same_letters-Decides}
+use Rattle.vcd_core.proofs.ValueLemmas.{length-letters_of}
 use Rattle.vcd_text.specs.Letters.{pad_letter, extension, suffixes, short_form}
+use Rattle.vcd_text.proofs.LetterBits.{HoldsFrom, IsKept, is_spare_in, lowest, lowest_given, spare_given, spare_held}
 
 -- the front letters left out one after another
 unfoldable pub shortened : List Bit → List Bit
@@ -120,7 +124,7 @@ two_letters v k within =
     drop_more v k X (omega arith) ∙ ap (λ l. get_or v k X ∷ l) (drop_more v (k + 1) X within ∙ ap (λ n. get_or v (k + 1) X ∷ drop n v) (let e : k + 1 + 1 ≡ k + 2 = omega arith in e))
 
 -- the letter at k is spare
-pub spare_at : (v : List Bit) (k : ℕ) → k + 1 < length v → same_letter (pad_letter (get_or v (k + 1) X ∷ [])) (get_or v k X) ≡ true
+spare_at : (v : List Bit) (k : ℕ) → k + 1 < length v → same_letter (pad_letter (get_or v (k + 1) X ∷ [])) (get_or v k X) ≡ true
     → shortened (drop k v) ≡ shortened (drop (k + 1) v)
 unfolding shortened
 spare_at v k within spare =
@@ -128,33 +132,8 @@ spare_at v k within spare =
     ∙ ap (λ r. cond r (shortened (get_or v (k + 1) X ∷ drop (k + 2) v)) (get_or v k X ∷ get_or v (k + 1) X ∷ drop (k + 2) v)) spare
     ∙ sym (ap shortened (drop_more v (k + 1) X within ∙ ap (λ n. get_or v (k + 1) X ∷ drop n v) (let e : k + 1 + 1 ≡ k + 2 = omega arith in e)))
 
--- spare letters at k and behind it that are the same, one after another
-run_spare : (v : List Bit) (k run : ℕ) → k + run < length v → ((i : ℕ) → i < run → get_or v (k + i) X ≡ get_or v (k + i + 1) X)
-    → (0 < run → same_letter (pad_letter (get_or v (k + 1) X ∷ [])) (get_or v k X) ≡ true) → shortened (drop k v) ≡ shortened (drop (k + run) v)
-run_spare v k zero within same spare = ap (λ n. shortened (drop n v)) (let e : k ≡ k + 0 = omega arith in e)
-run_spare v k (suc run) within same spare =
-    let at : k + 0 ≡ k = omega arith in
-    let here : get_or v k X ≡ get_or v (k + 1) X =
-    ap (λ n. get_or v n X) (sym at) ∙ same 0 (omega arith) ∙ ap (λ n. get_or v n X) (let e : k + 0 + 1 ≡ k + 1 = omega arith in e) in
-    let further : (i : ℕ) → i < run → get_or v (k + 1 + i) X ≡ get_or v (k + 1 + i + 1) X = λ i less.
-    ap (λ n. get_or v n X) (let e : k + 1 + i ≡ k + (i + 1) = omega arith in e) ∙ same (i + 1) (omega (arith, less))
-    ∙ ap (λ n. get_or v n X) (let e : k + (i + 1) + 1 ≡ k + 1 + i + 1 = omega arith in e) in
-    let next : 0 < run → same_letter (pad_letter (get_or v (k + 1 + 1) X ∷ [])) (get_or v (k + 1) X) ≡ true = λ some.
-    let second : get_or v (k + 1) X ≡ get_or v (k + 1 + 1) X = ap (λ n. get_or v n X) (let e : k + 1 ≡ k + 1 + 0 = omega arith in e) ∙ further 0 some ∙ ap (λ n. get_or v n X) (let e : k + 1 + 0 + 1 ≡ k + 1 + 1 = omega arith in e) in
-    ap (λ a. same_letter (pad_letter (a ∷ [])) (get_or v (k + 1) X)) (sym second) ∙ ap (λ a. same_letter (pad_letter (get_or v (k + 1) X ∷ [])) a) (sym here) ∙ spare (omega arith) in
-    spare_at v k (omega arith) (spare (omega arith)) ∙ run_spare v (k + 1) run (omega arith) further next
-    ∙ ap (λ n. shortened (drop n v)) (let e : k + 1 + run ≡ k + suc run = omega arith in e)
-
--- the letter at k is spare, and so are those behind it that are the same: one letter is passed at least
-pub passed_spare : (v : List Bit) (k run : ℕ) → k + max run 1 < length v → ((i : ℕ) → i < run → get_or v (k + i) X ≡ get_or v (k + i + 1) X)
-    → same_letter (pad_letter (get_or v (k + 1) X ∷ [])) (get_or v k X) ≡ true → shortened (drop k v) ≡ shortened (drop (k + max run 1) v)
-passed_spare v k zero within same spare = spare_at v k (omega arith) spare ∙ ap (λ n. shortened (drop n v)) (let e : k + 1 ≡ k + max 0 1 = omega arith in e)
-passed_spare v k (suc run) within same spare =
-    let most : max (suc run) 1 ≡ suc run = omega arith in
-    run_spare v k (suc run) (omega (arith, within, most)) same (λ some. spare) ∙ ap (λ n. shortened (drop (k + n) v)) (sym most)
-
 -- the letter at k is not
-pub kept_at : (v : List Bit) (k : ℕ) → k + 1 < length v → same_letter (pad_letter (get_or v (k + 1) X ∷ [])) (get_or v k X) ≡ false
+kept_at : (v : List Bit) (k : ℕ) → k + 1 < length v → same_letter (pad_letter (get_or v (k + 1) X ∷ [])) (get_or v k X) ≡ false
     → shortened (drop k v) ≡ drop k v
 unfolding shortened
 kept_at v k within kept =
@@ -163,7 +142,7 @@ kept_at v k within kept =
     ∙ sym (two_letters v k within)
 
 -- the last letter is never left out
-pub last_kept : (v : List Bit) (k : ℕ) → k + 1 ≡ length v → shortened (drop k v) ≡ drop k v
+last_kept : (v : List Bit) (k : ℕ) → k + 1 ≡ length v → shortened (drop k v) ≡ drop k v
 unfolding shortened
 last_kept v k last =
     let one : drop k v ≡ get_or v k X ∷ [] = drop_more v k X (omega arith) ∙ ap (λ l. get_or v k X ∷ l) (none v (k + 1) (omega arith)) in
@@ -175,13 +154,72 @@ last_kept v k last =
     none (x ∷ xs) zero le = absurd (omega arith)
     none (x ∷ xs) (suc n) le = none xs n (omega arith)
 
--- what the two letters told, counted from the other end
-pub told_at : (v : List Bit) (k last : ℕ) (letter next : Bit) (r b : Bool) → last + 1 ≡ length v → k < last
-    → letter ≡ get_or v (length v - 1 - (last - k)) X → next ≡ get_or v (length v - 1 - (last - k - 1)) X
-    → r ≡ same_letter (pad_letter (next ∷ [])) letter → r ≡ b → same_letter (pad_letter (get_or v (k + 1) X ∷ [])) (get_or v k X) ≡ b
-told_at v k last letter next r b all within at_k at_next told is =
-    let here : length v - 1 - (last - k) ≡ k = omega arith in
-    let there : length v - 1 - (last - k - 1) ≡ k + 1 = omega arith in
-    ap (λ a. same_letter (pad_letter (get_or v (k + 1) X ∷ [])) a) (sym (at_k ∙ ap (λ i. get_or v i X) here))
-    ∙ ap (λ a. same_letter (pad_letter (a ∷ [])) letter) (sym (at_next ∙ ap (λ i. get_or v i X) there))
-    ∙ sym told ∙ is
+-- ---- letters counted from the other end
+
+-- letters that are spare, from that below bit `left` on
+pub left_out : (v : List Bit) (left kept : ℕ) → 1 ≤ kept → kept ≤ left → left ≤ length v → ((i : ℕ) → kept ≤ i + 1 → i + 1 < left → is_spare_in v i ≡ true)
+    → shortened (lowest left v) ≡ shortened (lowest kept v)
+left_out v left kept least most within spare = by (left - kept) left (omega arith) within spare
+  where
+    by : (more left : ℕ) → left ≡ kept + more → left ≤ length v → ((i : ℕ) → kept ≤ i + 1 → i + 1 < left → is_spare_in v i ≡ true)
+        → shortened (lowest left v) ≡ shortened (lowest kept v)
+    by zero left is within spare = ap (λ n. shortened (lowest n v)) (let e : left ≡ kept = omega arith in e)
+    by (suc more) left is within spare =
+        let k : ℕ = length v - left in
+        let here : length v - 1 - (left - 2 + 1) ≡ k = omega arith in
+        let there : length v - 1 - (left - 2) ≡ k + 1 = omega arith in
+        let further : k + 1 ≡ length v - (left - 1) = omega arith in
+        let told : same_letter (pad_letter (get_or v (k + 1) X ∷ [])) (get_or v k X) ≡ true =
+        (λ p. same_letter (pad_letter (get_or v (sym there p) X ∷ [])) (get_or v (sym here p) X)) ∙ spare (left - 2) (omega arith) (omega arith) in
+        spare_at v k (omega arith) told ∙ ap (λ n. shortened (drop n v)) further
+        ∙ by more (left - 1) (omega arith) (omega arith) (λ i past below. spare i past (omega arith))
+
+-- the letter below bit `kept` stays: it is the last, or not spare
+pub stays : (v : List Bit) (kept : ℕ) → 1 ≤ kept → kept ≤ length v → (1 < kept → is_spare_in v (kept - 2) ≡ false) → shortened (lowest kept v) ≡ lowest kept v
+stays v kept least within needed = elim (cases_lt 1 kept) [
+  | inl more ↦
+      let k : ℕ = length v - kept in
+      let here : length v - 1 - (kept - 2 + 1) ≡ k = omega arith in
+      let there : length v - 1 - (kept - 2) ≡ k + 1 = omega arith in
+      kept_at v k (omega arith) ((λ p. same_letter (pad_letter (get_or v (sym there p) X ∷ [])) (get_or v (sym here p) X)) ∙ needed more)
+  | inr one ↦ last_kept v (length v - kept) (omega arith)
+]
+
+-- the short form of a value of one word
+pub short_given : (width low high kept : ℕ) → width ≤ 64 → IsKept width low high kept
+    → letters_of kept (low ∷ []) (high ∷ []) ≡ short_form (letters_of width (low ∷ []) (high ∷ []))
+short_given width low high kept narrow is =
+    let v = letters_of width (low ∷ []) (high ∷ []) in
+    let long : length v ≡ width = length-letters_of width (low ∷ []) (high ∷ []) in
+    let all : length v - width ≡ 0 = omega (arith, long) in
+    sym (lowest_given width kept low high narrow is.most)
+    ∙ sym (stays v kept is.least (omega (arith, is.most, long)) (λ more. sym (spare_given width low high (kept - 2) narrow (omega (arith, is.most))) ∙ is.needed more))
+    ∙ sym (left_out v width kept is.least is.most (omega (arith, long)) (λ i past below. sym (spare_given width low high i narrow below) ∙ is.spare i past below))
+    ∙ ap (λ n. shortened (drop n v)) all ∙ sym (short_is v)
+
+-- the letters of a word are left out, or stay
+pub word_left_out : (v : List Bit) (from low high left kept : ℕ) → HoldsFrom v from low high → from < left → left ≤ from + 64 → left ≤ length v
+    → IsKept (left - from) low high kept → shortened (lowest left v) ≡ shortened (lowest (from + kept) v)
+word_left_out v from low high left kept holds some fits within is =
+    left_out v left (from + kept) (omega (arith, is.least)) (omega (arith, is.most)) within (λ i past below.
+    let j : ℕ = i - from in
+    let place : from + j ≡ i = omega (arith, is.least) in
+    ap (is_spare_in v) (sym place) ∙ sym (spare_held v from low high j holds (omega (arith, is.least)) (omega (arith, is.least)))
+    ∙ is.spare j (omega (arith, is.least)) (omega (arith, is.least)))
+
+pub word_stays : (v : List Bit) (from low high left kept : ℕ) → HoldsFrom v from low high → from < left → left ≤ from + 64 → left ≤ length v
+    → IsKept (left - from) low high kept → (from ≡ 0) ⊎ (1 < kept) → shortened (lowest (from + kept) v) ≡ lowest (from + kept) v
+word_stays v from low high left kept holds some fits within is last =
+    stays v (from + kept) (omega (arith, is.least)) (omega (arith, is.most)) (λ more.
+    let enough : 1 < kept = elim last [ inl first ↦ omega (arith, first, more) | inr enough ↦ enough ] in
+    let place : from + (kept - 2) ≡ from + kept - 2 = omega (arith, enough) in
+    ap (is_spare_in v) (sym place) ∙ sym (spare_held v from low high (kept - 2) holds (omega (arith, is.most, enough)) (omega (arith, is.most, enough)))
+    ∙ is.needed enough)
+
+-- what two letters told
+pub told_at : (v : List Bit) (k : ℕ) (letter next : Bit) (r b : Bool) → 1 ≤ k → letter ≡ letter_at v k → next ≡ letter_at v (k - 1)
+    → r ≡ same_letter (pad_letter (next ∷ [])) letter → r ≡ b → is_spare_in v (k - 1) ≡ b
+told_at v k letter next r b some at_k at_next told is =
+    let here : k - 1 + 1 ≡ k = omega arith in
+    let upper : letter_at v (k - 1 + 1) ≡ letter = ap (letter_at v) here ∙ sym at_k in
+    (λ p. same_letter (pad_letter (sym at_next p ∷ [])) (upper p)) ∙ sym told ∙ is

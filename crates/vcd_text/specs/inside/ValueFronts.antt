@@ -1,10 +1,20 @@
 -- What stands before the code on the line of a value.
-use Rattle.std.specs.Prelude.{ℕ, List, [], ◌∷◌, ◌++◌}
+use Rattle.std.specs.Prelude.{ℕ, Bool, ◌+◌, List, [], ◌∷◌, ◌++◌}
+use Rattle.std.specs.Int.{bit_at}
 use Rattle.vcd_core.specs.declared.bit.Bit.{Bit}
-use Rattle.vcd_core.specs.Value.{printed_letter}
-use Rattle.vcd_text.specs.Letters.{printed_letters, short_form}
+use Rattle.vcd_core.specs.Value.{printed_letter, same_letter}
+use Rattle.vcd_core.specs.WordRows.{letter_of}
+use Rattle.vcd_text.specs.Letters.{pad_letter, printed_letters, short_form}
 
 -- one letter, or `b` (98), the short form and a space (32)
 abbrev pub value_front : List Bit → List ℕ
 value_front (b ∷ []) = printed_letter b ∷ []
 value_front value = (98 ∷ []) ++ (printed_letters (short_form value) ++ 32 ∷ [])
+
+-- the letter whose low and high bits stand at bit i of two words
+abbrev pub word_letter : ℕ → ℕ → ℕ → Bit
+word_letter low high i = letter_of (bit_at low i) (bit_at high i)
+
+-- whether the extension puts the letter of bit i + 1 of two words on the left of that of bit i
+abbrev pub is_spare_above : ℕ → ℕ → ℕ → Bool
+is_spare_above low high i = same_letter (pad_letter (word_letter low high i ∷ [])) (word_letter low high (i + 1))

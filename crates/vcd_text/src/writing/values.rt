@@ -1,20 +1,21 @@
 //! Values as they are printed: one letter, or `b` and the short form.
 
-ghost use Rattle.std.specs.Prelude.{◌≡◌, ◌<◌, ◌≤◌, ◌-◌, ◌^◌, ◌∷◌, [], ℕ, length, drop};
+ghost use Rattle.std.specs.Prelude.{◌≡◌, ◌<◌, ◌≤◌, ◌+◌, ◌-◌, ◌*◌, ◌^◌, ◌∷◌, ◌++◌, [], ℕ, true, false, if◌then◌else◌, length, drop, slice_index};
 ghost use Rattle.std.specs.Int.{bit_at};
-ghost use Rattle.vcd_core.specs.Value.{letter_at, same_letter};
+ghost use Rattle.vcd_core.specs.Value.{printed_letter, same_letter};
+ghost use Rattle.vcd_core.specs.WordRows.{letters_of};
 ghost use Rattle.vcd_core.specs.declared.capture.TheConstants.{SIGNAL_LIMIT};
 ghost use Rattle.vcd_text.specs.Letters.{pad_letter, printed_letters, short_form};
 ghost use Rattle.vcd_text.specs.Text.{code_of, item_line, value_item};
-ghost use Rattle.vcd_text.specs.inside.ValueFronts.{value_front};
+ghost use Rattle.vcd_text.specs.inside.ValueFronts.{is_spare_above, value_front, word_letter};
 ghost use Rattle.vcd_text.specs.inside.Written.{Writes};
 
-use super::buffer::{WriteBuffer, write_byte};
+use super::buffer::{WriteBuffer, write_byte, write_piece};
 use super::codes::write_code;
 use vcd_core::{Bit, Sink, Value};
 
-/// Writes the line that gives a value to the signal at `position`. A step for each letter that is
-/// written, and for each run of the same letters, within a word of 64, that is left out.
+/// Writes the line that gives a value to the signal at `position`. A step for two letters that are written, and
+/// for each word of 64 letters that is left out.
 pub fn write_value<W: Sink>(
     buffer: &mut WriteBuffer,
     writer: &mut W,
@@ -26,81 +27,173 @@ pub fn write_value<W: Sink>(
         buffer.new (W.taken writer.new) (W.has_failed writer.new)
         (item_line (value_item (code_of position) value.now)) }
 {
-    write_digits(buffer, writer, value);
+    let width = value.width();
+    if width <= 64 {
+        let (low, high) = (value.word_low(0), value.word_high(0));
+        write_word_value(buffer, writer, position, width, low, high);
+        return;
+    }
+    write_byte(buffer, writer, b'b');
+    write_lowest(buffer, writer, value, kept_letters(value));
+    write_byte(buffer, writer, b' ');
+    write_code(buffer, writer, position);
+    write_byte(buffer, writer, b'\n');
+}
+
+/// Writes the line that gives the value of at most 64 bits, whose low and high bits these two words hold, to the
+/// signal at `position`. What the words hold from `width` on is not looked at. A step for two letters that are written.
+pub fn write_word_value<W: Sink>(
+    buffer: &mut WriteBuffer,
+    writer: &mut W,
+    position: usize,
+    width: u64,
+    low: u64,
+    high: u64,
+)
+    requires position { position < SIGNAL_LIMIT }
+    requires least { 1 ≤ width }
+    requires most { width ≤ 64 }
+    ensures { Writes buffer.old (W.taken writer.old) (W.has_failed writer.old)
+        buffer.new (W.taken writer.new) (W.has_failed writer.new)
+        (item_line (value_item (code_of position) (letters_of width (low ∷ []) (high ∷ [])))) }
+{
+    write_word_front(buffer, writer, width, low, high);
     write_code(buffer, writer, position);
     write_byte(buffer, writer, b'\n');
 }
 
 /// Writes what stands before the code: one letter, or `b`, the short form and a space.
-fn write_digits<W: Sink>(buffer: &mut WriteBuffer, writer: &mut W, value: &Value)
+fn write_word_front<W: Sink>(
+    buffer: &mut WriteBuffer,
+    writer: &mut W,
+    width: u64,
+    low: u64,
+    high: u64,
+)
+    requires least { 1 ≤ width }
+    requires most { width ≤ 64 }
     ensures { Writes buffer.old (W.taken writer.old) (W.has_failed writer.old)
-        buffer.new (W.taken writer.new) (W.has_failed writer.new) (value_front value.now) }
+        buffer.new (W.taken writer.new) (W.has_failed writer.new)
+        (value_front (letters_of width (low ∷ []) (high ∷ []))) }
 {
-    if value.width() == 1 {
-        write_byte(buffer, writer, bit_by_words(value, 0).letter());
+    if width == 1 {
+        write_byte(buffer, writer, letter_pair(low, high)[1]);
         return;
     }
     write_byte(buffer, writer, b'b');
-    write_short(buffer, writer, value);
+    write_letters(buffer, writer, kept_in_word(width, low, high), low, high);
     write_byte(buffer, writer, b' ');
 }
 
-/// Writes the letters of the shortest text whose extension is the value (IEEE 1364-2005, 18.2).
-fn write_short<W: Sink>(buffer: &mut WriteBuffer, writer: &mut W, value: &Value)
+/// Writes the letters of a value that are below bit `count`, a word at a time.
+fn write_lowest<W: Sink>(buffer: &mut WriteBuffer, writer: &mut W, value: &Value, count: u64)
+    requires { count ≤ length value.now }
     ensures { Writes buffer.old (W.taken writer.old) (W.has_failed writer.old)
         buffer.new (W.taken writer.new) (W.has_failed writer.new)
-        (printed_letters (short_form value.now)) }
+        (printed_letters (drop (length value.now - count) value.now)) }
 {
-    write_letters_from(buffer, writer, value, spare_letters(value));
-}
-
-/// Writes the letters of a value from the one at `first` on, counted from the most significant.
-fn write_letters_from<W: Sink>(buffer: &mut WriteBuffer, writer: &mut W, value: &Value, first: u64)
-    requires { first ≤ length value.now }
-    ensures { Writes buffer.old (W.taken writer.old) (W.has_failed writer.old)
-        buffer.new (W.taken writer.new) (W.has_failed writer.new)
-        (printed_letters (drop first value.now)) }
-{
-    let width = value.width();
-    for k in first..width {
-        write_byte(buffer, writer, bit_by_words(value, width - 1 - k).letter());
+    let mut left = count;
+    while left > 0 {
+        let word = (left - 1) / 64;
+        let low = value.word_low(word as usize);
+        let high = value.word_high(word as usize);
+        write_letters(buffer, writer, left - 64 * word, low, high);
+        left = 64 * word;
     }
 }
 
-/// How many letters at the front the short form leaves out: those that the extension puts there again. Letters
-/// that are repeated within a word are passed at once.
-fn spare_letters(value: &Value) -> u64
-    ensures within { result < length value.now }
-    ensures rest { drop result value.now ≡ short_form value.now }
+/// Writes the `count` lowest letters of two words.
+fn write_letters<W: Sink>(buffer: &mut WriteBuffer, writer: &mut W, count: u64, low: u64, high: u64)
+    requires { count ≤ 64 }
+    ensures { Writes buffer.old (W.taken writer.old) (W.has_failed writer.old)
+        buffer.new (W.taken writer.new) (W.has_failed writer.new)
+        (printed_letters (letters_of count (low ∷ []) (high ∷ []))) }
 {
-    let last = value.width() - 1;
-    let mut k = 0;
-    while k < last {
-        let letter = bit_by_words(value, last - k);
-        let next = bit_by_words(value, last - k - 1);
-        if !is_spare(letter, next) {
-            return k;
+    let mut letters = [0; 64];
+    fill_letters(&mut letters, count as usize, low, high);
+    write_piece(buffer, writer, &letters[64 - count as usize..]);
+}
+
+/// Fills the end of a row with the `count` lowest letters of two words, the lowest last. They come in pairs, so
+/// that the letter before them may be written too.
+fn fill_letters(letters: &mut [u8], count: usize, low: u64, high: u64)
+    requires sized { length letters.old ≡ 64 }
+    requires count { count ≤ 64 }
+    ensures sized { length letters.new ≡ 64 }
+    ensures letters { (i : ℕ) → i < count →
+        slice_index letters.new (63 - i) ≡ printed_letter (word_letter low high i) }
+{
+    let mut low = low;
+    let mut high = high;
+    for k in 0..(count + 1) / 2 {
+        let pair = letter_pair(low, high);
+        letters[62 - 2 * k] = pair[0];
+        letters[63 - 2 * k] = pair[1];
+        low >>= 2;
+        high >>= 2;
+    }
+}
+
+/// Two letters by the two bits of each in the low plane, and four times those in the high plane.
+const LETTER_PAIRS: [[u8; 2]; 16] = [
+    *b"00", *b"01", *b"10", *b"11", *b"0z", *b"0x", *b"1z", *b"1x", //
+    *b"z0", *b"z1", *b"x0", *b"x1", *b"zz", *b"zx", *b"xz", *b"xx",
+];
+
+/// The letters of bits 1 and 0 of two words.
+fn letter_pair(low: u64, high: u64) -> [u8; 2]
+    ensures first { slice_index result 0 ≡ printed_letter (word_letter low high 1) }
+    ensures second { slice_index result 1 ≡ printed_letter (word_letter low high 0) }
+{
+    LETTER_PAIRS[(low % 4 + 4 * (high % 4)) as usize]
+}
+
+/// How many letters the short form keeps: the lowest ones (IEEE 1364-2005, 18.2). A step for each word.
+fn kept_letters(value: &Value) -> u64
+    ensures most { result ≤ length value.now }
+    ensures rest { drop (length value.now - result) value.now ≡ short_form value.now }
+{
+    let mut left = value.width();
+    while left > 64 {
+        let word = (left - 1) / 64;
+        let below = 64 * word;
+        let low = value.word_low(word as usize);
+        let high = value.word_high(word as usize);
+        let kept = kept_in_word(left - below, low, high);
+        if kept > 1 {
+            return below + kept;
         }
-        k += repeated_letters(value, last - k).max(1);
+        if !is_spare(value.bit(below), value.bit(below - 1)) {
+            return below + 1;
+        }
+        left = below;
     }
-    last
+    kept_in_word(left, value.word_low(0), value.word_high(0))
 }
 
-/// How many letters from that of bit `k` downward are the same as the next lower one. It does not look past the
-/// word that holds the bit.
-fn repeated_letters(value: &Value, k: u64) -> u64
-    requires { k < length value.now }
-    ensures within { result ≤ k }
-    ensures same { (i : ℕ) → i < result →
-        letter_at value.now (k - i) ≡ letter_at value.now (k - i - 1) }
+/// How many of the `count` lowest letters of two words are left, where those at the front go that the extension
+/// puts there again. The last letter stays.
+fn kept_in_word(count: u64, low: u64, high: u64) -> u64
+    requires least { 1 ≤ count }
+    requires most { count ≤ 64 }
+    ensures least { 1 ≤ result }
+    ensures most { result ≤ count }
+    ensures spare { (i : ℕ) → result ≤ i + 1 → i + 1 < count → is_spare_above low high i ≡ true }
+    ensures kept { 1 < result → is_spare_above low high (result - 2) ≡ false }
 {
-    let word = (k / 64) as usize;
-    let top = k % 64;
-    let low = value.word_low(word);
-    let high = value.word_high(word);
-    let differs = (low ^ (low >> 1)) | (high ^ (high >> 1));
-    let run = (differs & ones(top)).leading_zeros();
-    (top + run as u64).saturating_sub(64)
+    let needed = needed_above(low, high) & ones(count - 1);
+    65 - needed.leading_zeros() as u64
+}
+
+/// A word whose bit `i` is set where the extension does not put the letter of bit `i + 1` on the left of that of
+/// bit `i`: where one of them is x or z and the other not, the higher one is 1, or they are x and z.
+fn needed_above(low: u64, high: u64) -> u64
+    ensures { (i : ℕ) → i < 64 →
+        bit_at result i ≡ (if is_spare_above low high i then 0 else 1) }
+{
+    let next_low = low >> 1;
+    let next_high = high >> 1;
+    (next_high ^ high) | (next_low & !next_high) | (next_high & (next_low ^ low))
 }
 
 /// A word whose `count` lowest bits are set.
@@ -119,27 +212,4 @@ fn is_spare(letter: Bit, next: Bit) -> bool
         (letter, next),
         (Bit::Zero, Bit::Zero | Bit::One) | (Bit::X, Bit::X) | (Bit::Z, Bit::Z)
     )
-}
-
-/// The letters by the bits of the two planes: that of the low plane, and twice that of the high one.
-const LETTERS: [Bit; 4] = [Bit::Zero, Bit::One, Bit::Z, Bit::X];
-
-/// The bit at `k` of a value, read where the value stands: the method of the same meaning takes a copy.
-fn bit_by_words(value: &Value, k: u64) -> Bit
-    requires { k < length value.now }
-    ensures { result ≡ letter_at value.now k }
-{
-    let word = (k / 64) as usize;
-    let low = bit_in_word(value.word_low(word), k % 64);
-    let high = bit_in_word(value.word_high(word), k % 64);
-    LETTERS[low + 2 * high]
-}
-
-/// A bit of a word, as a number.
-fn bit_in_word(word: u64, k: u64) -> usize
-    requires { k < 64 }
-    ensures bit { result ≡ bit_at word k }
-    ensures small { result < 2 }
-{
-    ((word >> k) & 1) as usize
 }

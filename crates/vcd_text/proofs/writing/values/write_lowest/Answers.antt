@@ -1,0 +1,26 @@
+-- A word more each turn.
+use Rattle.std.proofs.Common.{◌-◌, ◌*◌, ◌/◌, ℕ, length, refl, ap, arith}
+use Rattle.std.proofs.lemmas.List.{drop_all}
+use Rattle.vcd_text.specs.Letters.{printed_letters}
+use Rattle.vcd_text.proofs.LetterBits.{lowest, word_and_rest}
+use Rattle.vcd_text.proofs.Written.{front_begun, front_grows, front_whole}
+use Rattle.vcd_text.proofs.writing.values.write_lowest.Goals as goal
+
+pub loop-left-init : goal.loop-left-init
+loop-left-init g c = record { front = front_begun refl; within = c.requires }
+
+pub loop-left-preserved : goal.loop-left-preserved
+loop-left-preserved g c =
+    let v = c.args.value.now in
+    let left = c.loop-left.left in
+    let from : ℕ = 64 * ((left - 1) / 64) in
+    record {
+      front = front_grows (printed_letters (lowest from v)) c.loop-left.invariant.front c.write_letters.ensures
+          (word_and_rest v left from _ _ (omega arith) (omega arith) c.loop-left.invariant.within (record { lows = c.word_low-low.ensures; highs = c.word_high-high.ensures }));
+      within = omega (arith, c.loop-left.invariant.within);
+    }
+
+pub returns : goal.returns
+returns g c =
+    let v = c.args.value.now in
+    front_whole c.loop-left.invariant.front (ap printed_letters (drop_all (length v - c.loop-left.left) v (omega (arith, c.loop-left-test.false))))

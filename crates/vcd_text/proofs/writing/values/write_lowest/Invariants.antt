@@ -1,0 +1,16 @@
+-- What is written and the letters that are left are those of the value.
+use Rattle.std.proofs.Common.{◌≤◌, length}
+use Rattle.vcd_text.specs.Letters.{printed_letters}
+use Rattle.vcd_text.proofs.Written.{WritesFront}
+use Rattle.vcd_text.proofs.LetterBits.{lowest}
+use Rattle.vcd_text.proofs.writing.values.write_lowest.Given as goal
+
+abbrev pub invariant-loop-left : goal.invariant-loop-left
+invariant-loop-left g l = record {
+  front : WritesFront l.initial.buffer (g.W.Sink.taken l.initial.writer) (g.W.Sink.has_failed l.initial.writer) l.buffer (g.W.Sink.taken l.writer) (g.W.Sink.has_failed l.writer)
+      (printed_letters (lowest l.left l.value)) (printed_letters (lowest l.count l.value));
+  within : l.left ≤ length l.value;
+}
+
+abbrev pub decreases-loop-left : goal.decreases-loop-left
+decreases-loop-left g l = l.left
