@@ -1,11 +1,9 @@
 -- The changes of all waves are, by tick, the signals that differ from the tick before.
 use Rattle.std.proofs.Common.{◌≡◌, ◌≢◌, ◌⊎◌, inl, inr, ◌<◌, ◌≤◌, ◌+◌, ◌-◌, ℕ, zero, suc, Bool, true, false, cond, not, ◌&&◌, ◌==◌, nat_le, nat_lt, List, [], ◌∷◌, ◌++◌, length, map, All, refl, sym, ap, subst, ◌∙◌, arith, append_assoc, eq-eqb}
 use Rattle.std.specs.List.{filter, enumerate_from}
-use Rattle.std.specs.List.Sorted.{IsPermutation, IsSorted}
 use Rattle.std.proofs.lemmas.Bool.{cases_lt, cases_eq, ne_eqb, le-leb, lt-leb, lt-ltb, le-ltb}
 use Rattle.std.proofs.lemmas.List.{length-append}
-use Rattle.std.proofs.lemmas.List.Elements.{All-cons, All-head, All-tail}
-use Rattle.std.proofs.lemmas.List.Sorted.{All-permutation}
+use Rattle.std.proofs.lemmas.List.Elements.{All-head, All-tail}
 use Rattle.vcd_core.specs.declared.bit.Bit.{Bit}
 use Rattle.vcd_core.specs.declared.wave.Change.{Change}
 use Rattle.vcd_core.specs.Value.{all_x, same_letters}
@@ -17,7 +15,7 @@ use Rattle.vcd_core.proofs.Waves.{value_past, value_skip, value_early}
 use Rattle.vcd_text.specs.declared.writing.transitions.Transition.{Transition}
 use Rattle.vcd_text.specs.inside.Transitions.{transition_of, transitions_at, transitions_from, is_in_window, window_of_signal, window_by_signal}
 use Rattle.vcd_text.specs.Text.{differs_at}
-use Rattle.vcd_text.proofs.Sorting.{counted, once, times, times-append, times_permuted, RisesFrom, same_transitions, by_place, sorted_rises}
+use Rattle.vcd_text.proofs.Sorting.{counted, once, times, times-append, RisesFrom}
 
 -- a number where it holds, else 0
 abbrev if_so : Bool → ℕ → ℕ
@@ -111,7 +109,7 @@ rises_at f g t j (s ∷ ss) ys reach rise =
     step true put left = (reach, put)
     step false put left = left
 
-rises_from : (signals : List SignalContents) (t n : ℕ) → RisesFrom t 0 (transitions_from signals t n)
+pub rises_from : (signals : List SignalContents) (t n : ℕ) → RisesFrom t 0 (transitions_from signals t n)
 unfolding transitions_from
 rises_from signals t zero = tt
 rises_from signals t (suc n) = rises_at t 0 t 0 signals (transitions_from signals (suc t) n) (inr (refl, omega arith)) (rises_from signals (suc t) n)
@@ -250,7 +248,7 @@ listed_outside from to t k j (s ∷ ss) out =
     times-append t k (window_of_signal from to j s.changes) (window_by_signal from to (j + 1) ss)
     ∙ omega (arith, times_outside from to t k j s.changes out, listed_outside from to t k (j + 1) ss out)
 
-same_times : (end from n : ℕ) (ss : List SignalContents) → 1 ≤ from → All (IsSoundSignal end) ss → (t k : ℕ) → times t k (window_by_signal from (from + n) 0 ss) ≡ times t k (transitions_from ss from n)
+pub same_times : (end from n : ℕ) (ss : List SignalContents) → 1 ≤ from → All (IsSoundSignal end) ss → (t k : ℕ) → times t k (window_by_signal from (from + n) 0 ss) ≡ times t k (transitions_from ss from n)
 same_times end from n ss some sound zero k = listed_outside from (from + n) 0 k 0 ss (before_window from (from + n) 0 (omega arith)) ∙ sym (earlier ss from n 0 k (omega arith))
 same_times end from n ss some sound (suc t) k =
     elim (cases_lt (suc t) from) [
@@ -260,13 +258,6 @@ same_times end from n ss some sound (suc t) k =
         | inr late ↦ listed_outside from (from + n) (suc t) k 0 ss (behind_window from (from + n) (suc t) late) ∙ sym (later ss from n (suc t) k late)
       ]
     ]
-
--- the sorted changes of a window are those by tick
-pub sorted_are : (end from n : ℕ) (ss : List SignalContents) (listed sorted : List Transition) → 1 ≤ from → listed ≡ window_by_signal from (from + n) 0 ss → IsPermutation listed sorted
-    → IsSorted by_place sorted → All (IsSoundSignal end) ss → sorted ≡ transitions_from ss from n
-sorted_are end from n ss listed sorted some is moved up sound =
-    same_transitions sorted (transitions_from ss from n) 0 0 from 0 (sorted_rises sorted up) (rises_from ss from n)
-    (λ t k. times_permuted t k listed sorted moved ∙ ap (times t k) is ∙ same_times end from n ss some sound t k)
 
 -- ---- one tick
 
@@ -315,37 +306,3 @@ transitions_split signals t (suc n) m =
     ap (transitions_from signals t) (let e : suc n + m ≡ suc (n + m) = omega arith in e)
     ∙ ap (λ l. transitions_at t (enumerate_from 0 signals) ++ l) (transitions_split signals (suc t) n m ∙ ap (λ u. transitions_from signals (suc t) n ++ transitions_from signals u m) there)
     ∙ sym (append_assoc (transitions_at t (enumerate_from 0 signals)) (transitions_from signals (suc t) n) (transitions_from signals (t + suc n) m))
-
--- ---- positions
-
-abbrev AllBelow : ℕ → List Transition → Type 0
-AllBelow n [] = Unit {0}
-AllBelow n (m ∷ ms) = (m.position < n) × AllBelow n ms
-
-below_both : (n : ℕ) (xs ys : List Transition) → AllBelow n xs → AllBelow n ys → AllBelow n (xs ++ ys)
-below_both n [] ys a b = b
-below_both n (x ∷ xs) ys (first, rest) b = (first, below_both n xs ys rest b)
-
-below_window : (n from to j : ℕ) (cs : List Change) → j < n → AllBelow n (window_of_signal from to j cs)
-below_window n from to j [] small = tt
-below_window n from to j (c ∷ cs) small = step (is_in_window from to c.tick) (below_window n from to j cs small)
-  where
-    step : (b : Bool) → AllBelow n (window_of_signal from to j cs)
-        → AllBelow n (map (λ c. transition_of c.tick j) (cond b (c ∷ filter (λ c. is_in_window from to c.tick) cs) (filter (λ c. is_in_window from to c.tick) cs)))
-    step true rest = (small, rest)
-    step false rest = rest
-
-below_listed : (n from to j : ℕ) (ss : List SignalContents) → j + length ss ≤ n → AllBelow n (window_by_signal from to j ss)
-unfolding window_by_signal
-below_listed n from to j [] small = tt
-below_listed n from to j (s ∷ ss) small =
-    below_both n (window_of_signal from to j s.changes) (window_by_signal from to (j + 1) ss) (below_window n from to j s.changes (omega arith)) (below_listed n from to (j + 1) ss (omega arith))
-
-each_below : (n : ℕ) (ms : List Transition) → AllBelow n ms → All (λ m. m.position < n) ms
-each_below n [] all = λ k d inside. absurd (omega arith)
-each_below n (m ∷ ms) (first, rest) = All-cons (λ m. m.position < n) m ms first (each_below n ms rest)
-
-pub sorted_within : (n from to : ℕ) (ss : List SignalContents) (listed sorted : List Transition) → listed ≡ window_by_signal from to 0 ss → IsPermutation listed sorted → length ss ≤ n
-    → All (λ m. m.position < n) sorted
-sorted_within n from to ss listed sorted is moved small =
-    All-permutation (λ m. m.position < n) listed sorted moved (subst (All (λ (m : Transition). m.position < n)) (sym is) (each_below n (window_by_signal from to 0 ss) (below_listed n from to 0 ss (omega arith))))

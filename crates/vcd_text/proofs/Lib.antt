@@ -33,6 +33,9 @@ pub mod Near
 pub mod Sorting
 pub mod Counts
 pub mod Listing
+pub mod NextChanges
+pub mod Rows
+pub mod Orders
 pub mod Texts
 pub mod TextLengths
 pub mod CopiedWaves

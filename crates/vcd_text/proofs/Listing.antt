@@ -22,10 +22,10 @@ count_to t cs = count_by (λ c. nat_le c.tick t) cs
 count_cons : (t : ℕ) (c : Change) (cs : List Change) → count_to t (c ∷ cs) ≡ cond (nat_le c.tick t) 1 0 + count_to t cs
 count_cons t c cs = sum_by-cons (λ (x : Change). cond (nat_le x.tick t) 1 0) c cs
 
-counts : (t : ℕ) (c : Change) (cs : List Change) → c.tick ≤ t → count_to t (c ∷ cs) ≡ suc (count_to t cs)
+pub counts : (t : ℕ) (c : Change) (cs : List Change) → c.tick ≤ t → count_to t (c ∷ cs) ≡ suc (count_to t cs)
 counts t c cs low = count_cons t c cs ∙ ap (λ b. cond b 1 0 + count_to t cs) (le-leb c.tick t low) ∙ omega arith
 
-skips : (t : ℕ) (c : Change) (cs : List Change) → t < c.tick → count_to t (c ∷ cs) ≡ count_to t cs
+pub skips : (t : ℕ) (c : Change) (cs : List Change) → t < c.tick → count_to t (c ∷ cs) ≡ count_to t cs
 skips t c cs high = count_cons t c cs ∙ ap (λ b. cond b 1 0 + count_to t cs) (lt-leb c.tick t high) ∙ omega arith
 
 none_to : (floor t : ℕ) (before : List Bit) (cs : List Change) → AreChangesFrom floor before cs → t < floor → count_to t cs ≡ 0

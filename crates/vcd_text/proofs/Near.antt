@@ -6,7 +6,7 @@ use Rattle.vcd_core.specs.Wave.{value_from, AreChangesFrom}
 use Rattle.vcd_core.proofs.Waves.{value_past, value_early}
 
 -- a change is at the floor or past it
-from_floor : (floor : ℕ) (before : List Bit) (cs : List Change) (k : ℕ) (d : Change) → AreChangesFrom floor before cs → k < length cs → floor ≤ (get_or cs k d).tick
+pub from_floor : (floor : ℕ) (before : List Bit) (cs : List Change) (k : ℕ) (d : Change) → AreChangesFrom floor before cs → k < length cs → floor ≤ (get_or cs k d).tick
 from_floor floor before [] k d rise inside = absurd (omega arith)
 from_floor floor before (c ∷ cs) zero d (from, other, wide, rest) inside = from
 from_floor floor before (c ∷ cs) (suc k) d (from, other, wide, rest) inside =

@@ -1,11 +1,8 @@
 -- Two lists of transitions that rise, with each move equally often, are the same.
-use Rattle.std.proofs.Common.{◌≡◌, ◌≢◌, ◌⊎◌, inl, inr, ◌<◌, ◌≤◌, ◌+◌, ℕ, suc, Bool, true, false, cond, ◌&&◌, ◌==◌, List, [], ◌∷◌, ◌++◌, length, get_or, refl, sym, ap, subst, ◌∙◌, arith, eq-eqb}
+use Rattle.std.proofs.Common.{◌≡◌, ◌≢◌, ◌⊎◌, inl, inr, ◌<◌, ◌≤◌, ◌+◌, ℕ, Bool, true, false, ◌&&◌, ◌==◌, List, [], ◌∷◌, ◌++◌, refl, sym, ap, ◌∙◌, arith, eq-eqb}
 use Rattle.std.specs.List.{sum_by}
-use Rattle.std.specs.List.Sorted.{IsPermutation, IsSorted}
-use Rattle.std.specs.declared.cmp.Ordering.{Ordering}
-use Rattle.std.specs.declared.cmp.Ordering.TheVariants.{Less, Equal, Greater}
-use Rattle.std.specs.Ordering.{nat_cmp, ordering_then, is_lt}
-use Rattle.std.proofs.lemmas.Bool.{cases_lt, lt-ltb, le-ltb, ne_eqb}
+use Rattle.std.specs.List.Sorted.{IsPermutation}
+use Rattle.std.proofs.lemmas.Bool.{cases_lt, ne_eqb}
 use Rattle.std.proofs.lemmas.List.Sums.{sum_by-cons}
 use Rattle.std.proofs.lemmas.List.Sorted.{sum_by-IsPermutation}
 use Rattle.vcd_text.specs.declared.writing.transitions.Transition.{Transition}
@@ -39,7 +36,7 @@ once_itself : (m : Transition) → once m.tick m.position m ≡ 1
 once_itself m = ap (λ b. counted (b && (m.position == m.position))) (eq-eqb m.tick m.tick refl) ∙ ap (λ b. counted (true && b)) (eq-eqb m.position m.position refl)
 
 -- a move is at a place or behind it, and a place before a place
-abbrev AtLeast : ℕ → ℕ → Transition → Type 0
+abbrev pub AtLeast : ℕ → ℕ → Transition → Type 0
 AtLeast t k m = (t < m.tick) ⊎ ((t ≡ m.tick) × (k ≤ m.position))
 
 abbrev Before : ℕ → ℕ → ℕ → ℕ → Type 0
@@ -105,47 +102,3 @@ same_transitions (x ∷ xs) (y ∷ ys) a b t k (first_x, rest_x) (first_y, rest_
           (λ u j. omega (arith, same u j, ap (once u j) equal)) in
           (λ i. equal i ∷ rest i)
     ]
-
--- ---- what a sort gives
-
-abbrev pub by_place : Transition → Transition → Ordering
-by_place x y = ordering_then (nat_cmp x.tick y.tick) (nat_cmp x.position y.position)
-
--- a move that is not before another is at its place or behind it
-not_less : (x y : Transition) → is_lt (by_place y x) ≡ false → AtLeast x.tick x.position y
-not_less x y is =
-    elim (cases_lt x.tick y.tick) [
-      | inl later ↦ inl later
-      | inr not_later ↦ elim (cases_lt y.tick x.tick) [
-        | inl earlier ↦
-            let less : nat_cmp y.tick x.tick ≡ Less = ap (λ b. cond b Less (cond (y.tick == x.tick) Equal Greater)) (lt-ltb y.tick x.tick earlier) in
-            let wrong : true ≡ false = sym (ap (λ o. is_lt (ordering_then o (nat_cmp y.position x.position))) less) ∙ is in
-            absurd (cc)
-        | inr not_earlier ↦ elim (cases_lt y.position x.position) [
-          | inl before ↦
-              let same : y.tick ≡ x.tick = omega arith in
-              let equal : nat_cmp y.tick x.tick ≡ Equal =
-              ap (λ b. cond b Less (cond (y.tick == x.tick) Equal Greater)) (le-ltb y.tick x.tick (omega arith)) ∙ ap (λ b. cond b Equal Greater) (eq-eqb y.tick x.tick same) in
-              let less : nat_cmp y.position x.position ≡ Less = ap (λ b. cond b Less (cond (y.position == x.position) Equal Greater)) (lt-ltb y.position x.position before) in
-              let wrong : true ≡ false = sym (ap (λ o. is_lt (ordering_then o (nat_cmp y.position x.position))) equal ∙ ap (λ o. is_lt o) less) ∙ is in
-              absurd (cc)
-          | inr not_before ↦ inr (omega arith, not_before)
-        ]
-      ]
-    ]
-
-rises_behind : (m : Transition) (ms : List Transition) → ((k : ℕ) (d : Transition) → k + 1 < length (m ∷ ms) → is_lt (by_place (get_or (m ∷ ms) (k + 1) d) (get_or (m ∷ ms) k d)) ≡ false)
-    → RisesFrom m.tick m.position ms
-rises_behind m [] up = tt
-rises_behind m (n ∷ ms) up = (
-  not_less m n (up 0 m (omega arith)),
-  rises_behind n ms (λ k d within. subst (λ i. is_lt (by_place (get_or (m ∷ n ∷ ms) i d) (get_or (n ∷ ms) k d)) ≡ false) (let e : suc k + 1 ≡ suc (k + 1) = omega arith in e) (up (suc k) d (omega arith))),
-)
-
-pub sorted_rises : (ms : List Transition) → IsSorted by_place ms → RisesFrom 0 0 ms
-sorted_rises [] up = tt
-sorted_rises (m ∷ ms) up = (from_zero (cases_lt 0 m.tick), rises_behind m ms (λ k d within. up k d (omega arith) within))
-  where
-    from_zero : (0 < m.tick) ⊎ (m.tick ≤ 0) → AtLeast 0 0 m
-    from_zero (inl later) = inl later
-    from_zero (inr none) = inr (omega arith, omega arith)

@@ -17,3 +17,5 @@ pub mod WordWalk
 pub mod Written
 pub mod ValueFronts
 pub mod TextParts
+pub mod NextChanges
+pub mod Windows

@@ -12,6 +12,7 @@ mod codes;
 mod counting;
 mod declarations;
 mod lines;
+mod next_changes;
 mod transitions;
 mod values;
 mod windows;
@@ -20,10 +21,11 @@ use crate::fault::WriteError;
 use buffer::{WriteBuffer, finish};
 use counting::check_countable;
 use declarations::write_declarations;
+use next_changes::first_changes;
 use std::alloc::Global;
-use transitions::{later_places, write_first_values, write_transitions};
+use transitions::{write_first_values, write_transitions};
 use vcd_core::{Capture, Sink};
-use windows::window_row;
+use windows::Window;
 
 /// Writes the text of a capture, and flushes the writer once behind its last byte. All memory is taken before
 /// the first byte goes out.
@@ -31,8 +33,8 @@ use windows::window_row;
 /// At `NoMemory` the writer took nothing and has not failed. At `WriteFault` it has failed and took exactly the
 /// first `written` bytes of the text, all of them where it failed in the flush.
 ///
-/// It takes the time of sorts of the changes, a part at a time, and never looks at ticks without one. It holds 56
-/// bytes a signal and some 128 KiB. The declarations are made twice: they are counted before the first byte.
+/// It takes the time of sorts of the changes, a part at a time, and never looks at ticks without one. It holds 72
+/// bytes a signal and some 300 KiB. The declarations are made twice: they are counted before the first byte.
 pub fn write<W: Sink>(alloc: Global, capture: &Capture, writer: &mut W) -> Result<(), WriteError>
     requires sound { IsSound (contents capture.now) }
     requires ready { W.has_failed writer.old ≡ false }
@@ -44,8 +46,8 @@ pub fn write<W: Sink>(alloc: Global, capture: &Capture, writer: &mut W) -> Resul
 {
     let signals = capture.signals();
     check_countable(alloc, capture)?;
-    let mut row = window_row(alloc, signals)?;
-    let mut places = later_places(alloc, signals)?;
+    let mut window = Window::new(alloc, signals)?;
+    let mut nexts = first_changes(alloc, signals)?;
     let mut buffer = WriteBuffer::new(alloc)?;
     write_declarations(&mut buffer, writer, capture);
     write_first_values(&mut buffer, writer, signals);
@@ -53,8 +55,8 @@ pub fn write<W: Sink>(alloc: Global, capture: &Capture, writer: &mut W) -> Resul
         &mut buffer,
         writer,
         signals,
-        &mut row,
-        &mut places,
+        &mut window,
+        nexts.as_mut_slice(),
         capture.end(),
     );
     finish(buffer, writer)

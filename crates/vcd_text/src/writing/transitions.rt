@@ -6,22 +6,42 @@ ghost use Rattle.vcd_core.specs.Contents.{signal_contents};
 ghost use Rattle.vcd_core.specs.Wave.{value_at};
 ghost use Rattle.vcd_core.specs.Sound.{IsSoundSignal};
 ghost use Rattle.vcd_core.specs.declared.capture.TheConstants.{END_LIMIT, SIGNAL_LIMIT};
-ghost use Rattle.vcd_text.specs.inside.Transitions.{last_tick, transition_items};
+ghost use Rattle.vcd_text.specs.inside.NextChanges.{AreNext};
+ghost use Rattle.vcd_text.specs.inside.Transitions.{last_tick, transition_items, transition_value};
+ghost use Rattle.vcd_text.specs.inside.Windows.{IsListed, IsKeyIn, in_order};
 ghost use Rattle.vcd_text.specs.inside.Written.{Writes};
+ghost use Rattle.vcd_text.specs.declared.writing.windows.TheConstants.{PLACES};
 ghost use Rattle.vcd_text.specs.Text.{all_values, code_of, end_items, first_items, item_line, stamp_of, tick_items, value_item};
 
 use super::buffer::{WriteBuffer, write_byte, write_piece};
-use super::values::write_value;
-use super::windows::fill_window;
+use super::next_changes::NextChange;
+use super::values::{write_value, write_word_value};
+use super::windows::{Window, fill_window, place_of};
 use itoa::Buffer;
-use std::alloc::Global;
-use vcd_core::{NoMemory, Signal, Sink, Wave};
+use vcd_core::{Signal, Sink, Wave};
 
-/// A signal changes at a tick. Transitions are ordered by tick, then by the signal's position.
-#[derive(Clone, Copy, PartialEq, Eq, PartialOrd, Ord)]
+/// A signal changes at a tick.
+#[derive(Clone, Copy)]
 pub struct Transition {
     pub tick: u64,
     pub position: usize,
+}
+
+/// A value that a signal changes to, as a row keeps it: its width in bits, and the low and the high bits of its last 64
+/// letters, so that a narrow one is printed with no look at its wave. A wider one stands in the wave, at the place.
+#[derive(Clone, Copy)]
+pub struct NewValue {
+    pub width: u64,
+    pub low: u64,
+    pub high: u64,
+    pub place: usize,
+}
+
+/// A transition with its value: 48 bytes.
+#[derive(Clone, Copy)]
+pub struct ListedTransition {
+    pub transition: Transition,
+    pub value: NewValue,
 }
 
 /// Writes the values at tick 0.
@@ -48,27 +68,31 @@ fn write_all_values<W: Sink>(buffer: &mut WriteBuffer, writer: &mut W, signals: 
     }
 }
 
-/// Writes what changes after tick 0, and the end, window by window. The ticks between are not looked at. `places`
-/// has for each signal the place of its next change, by which a value is found at once. It ends early where the writer
-/// has failed.
+/// Writes what changes after tick 0, and the end, window by window. The ticks between are not looked at. `nexts` has for
+/// each signal its first change after tick 0. It ends early where the writer has failed.
 pub fn write_transitions<W: Sink>(
     buffer: &mut WriteBuffer,
     writer: &mut W,
     signals: &[Signal],
-    row: &mut Vec<Transition>,
-    places: &mut Vec<usize>,
+    window: &mut Window,
+    nexts: &mut [NextChange],
     end: u64,
 )
     requires few { length signals.now ≤ SIGNAL_LIMIT }
     requires sound { All (IsSoundSignal end) (map signal_contents signals.now) }
     requires end { end ≤ END_LIMIT }
-    requires placed { length places.old.items ≡ length signals.now }
-    requires room { length signals.now ≤ vec_capacity row.old }
+    requires next { AreNext 1 signals.now nexts.old }
+    requires all { length signals.now ≤ window.old.room }
+    requires places { window.old.room ≤ PLACES }
+    requires row { window.old.room ≤ vec_capacity window.old.row }
+    requires order { window.old.room ≤ vec_capacity window.old.order }
     ensures { Writes buffer.old (W.taken writer.old) (W.has_failed writer.old)
         buffer.new (W.taken writer.new) (W.has_failed writer.new)
         (flat_map item_line (tick_items (map signal_contents signals.now) 1 end
         ++ end_items (map signal_contents signals.now) end)) }
 {
+    let Window { row, order, room } = window;
+    let room = *room;
     let mut last = 0;
     let mut from = 1;
     let mut most = end.max(1);
@@ -77,15 +101,22 @@ pub fn write_transitions<W: Sink>(
             return;
         }
         let ticks = most.min(end - from + 1);
-        let count = fill_window(row, signals, places.as_slice(), from, ticks, end);
-        last = write_part(buffer, writer, signals, row.as_slice(), places, last);
-        most = next_most(count, row.len(), row.capacity());
+        let count = fill_window(row, order, room, signals, nexts, from, ticks, end);
+        last = write_listed(
+            buffer,
+            writer,
+            signals,
+            row.as_slice(),
+            order.as_slice(),
+            last,
+        );
+        most = next_most(count, order.len(), room);
         from += count;
     }
     write_last_stamp(buffer, writer, last, end);
 }
 
-/// How many ticks the next window may have: twice as many where this one used less than a quarter of the row.
+/// How many ticks the next window may have: twice as many where this one used less than a quarter of its room.
 fn next_most(count: u64, used: usize, room: usize) -> u64
     requires { 1 ≤ count }
     ensures { 1 ≤ result }
@@ -96,106 +127,55 @@ fn next_most(count: u64, used: usize, room: usize) -> u64
     count
 }
 
-/// How many transitions are looked up before they are written: enough that the waits for memory overlap.
-const PART: usize = 64;
-
-/// Writes transitions with their values, behind what stands at tick `last`, and answers the last tick.
-fn write_part<W: Sink>(
+/// Writes the transitions of a row in the order of keys, behind what stands at tick `last`, and answers the last tick.
+fn write_listed<W: Sink>(
     buffer: &mut WriteBuffer,
     writer: &mut W,
     signals: &[Signal],
-    transitions: &[Transition],
-    places: &mut Vec<usize>,
+    row: &[ListedTransition],
+    order: &[u64],
     last: u64,
 ) -> u64
     requires few { length signals.now ≤ SIGNAL_LIMIT }
-    requires within { All (λ m. m.position < length signals.now) transitions.now }
-    requires placed { length places.old.items ≡ length signals.now }
+    requires listed { All (IsListed (map signal_contents signals.now)) row.now }
+    requires keys { All (IsKeyIn row.now) order.now }
     ensures text { Writes buffer.old (W.taken writer.old) (W.has_failed writer.old)
         buffer.new (W.taken writer.new) (W.has_failed writer.new) (flat_map item_line
-        (transition_items (map signal_contents signals.now) last transitions.now)) }
-    ensures last { result ≡ last_tick last transitions.now }
-    ensures placed { length places.new.items ≡ length places.old.items }
+        (transition_items (map signal_contents signals.now) last (in_order row.now order.now))) }
+    ensures last { result ≡ last_tick last (in_order row.now order.now) }
 {
-    let mut found = [0; PART];
     let mut last = last;
-    let mut rest = transitions;
-    while rest.len() > 0 {
-        let (part, later) = rest.split_at(rest.len().min(PART));
-        find_places(&mut found, signals, part, places);
-        last = write_found(buffer, writer, signals, part, &found, last);
-        rest = later;
+    for key in order {
+        let listed = row[place_of(*key)];
+        write_new_stamp(buffer, writer, last, listed.transition.tick);
+        write_new_value(buffer, writer, signals, listed);
+        last = listed.transition.tick;
     }
     last
 }
 
-/// Finds the places of the changes of these transitions, each expected where the next change of its signal stands.
-fn find_places(
-    found: &mut [usize],
+/// Writes the value of a transition.
+fn write_new_value<W: Sink>(
+    buffer: &mut WriteBuffer,
+    writer: &mut W,
     signals: &[Signal],
-    transitions: &[Transition],
-    places: &mut Vec<usize>,
+    listed: ListedTransition,
 )
-    requires room { length transitions.now ≤ length found.old }
-    requires within { All (λ m. m.position < length signals.now) transitions.now }
-    requires placed { length places.old.items ≡ length signals.now }
-    ensures placed { length places.new.items ≡ length places.old.items }
-{
-    for (k, next) in transitions.iter().enumerate() {
-        let place = place_near(
-            &signals[next.position].wave,
-            next.tick,
-            places[next.position],
-        );
-        places[next.position] = place.saturating_add(1);
-        found[k] = place;
-    }
-}
-
-/// The place of the change at `tick`, expected at `place`.
-fn place_near(wave: &Wave, tick: u64, place: usize) -> usize {
-    match wave.changes().get(place) {
-        Some(change) if change.tick == tick => place,
-        _ => wave.count_until(tick),
-    }
-}
-
-/// Writes transitions whose changes were found, behind what stands at tick `last`, and answers the last tick.
-fn write_found<W: Sink>(
-    buffer: &mut WriteBuffer,
-    writer: &mut W,
-    signals: &[Signal],
-    transitions: &[Transition],
-    found: &[usize],
-    last: u64,
-) -> u64
     requires few { length signals.now ≤ SIGNAL_LIMIT }
-    requires within { All (λ m. m.position < length signals.now) transitions.now }
-    requires found { length transitions.now ≤ length found.now }
-    ensures text { Writes buffer.old (W.taken writer.old) (W.has_failed writer.old)
-        buffer.new (W.taken writer.new) (W.has_failed writer.new) (flat_map item_line
-        (transition_items (map signal_contents signals.now) last transitions.now)) }
-    ensures last { result ≡ last_tick last transitions.now }
+    requires listed { IsListed (map signal_contents signals.now) listed }
+    ensures { Writes buffer.old (W.taken writer.old) (W.has_failed writer.old)
+        buffer.new (W.taken writer.new) (W.has_failed writer.new)
+        (item_line (value_item (code_of listed.transition.position)
+        (transition_value (map signal_contents signals.now) listed.transition))) }
 {
-    let mut last = last;
-    for (k, next) in transitions.iter().enumerate() {
-        write_new_stamp(buffer, writer, last, next.tick);
-        let wave = &signals[next.position].wave;
-        write_value_near(buffer, writer, next.position, wave, next.tick, found[k]);
-        last = next.tick;
+    let ListedTransition { transition, value } = listed;
+    let position = transition.position;
+    if value.width <= 64 {
+        write_word_value(buffer, writer, position, value.width, value.low, value.high);
+        return;
     }
-    last
-}
-
-/// For each signal the place of its first change after tick 0.
-pub fn later_places(alloc: Global, signals: &[Signal]) -> Result<Vec<usize>, NoMemory>
-    ensures { IfOk result (λ places. length places.items ≡ length signals.now) }
-{
-    let mut places = Vec::with_capacity(alloc, signals.len())?;
-    for signal in signals {
-        places.push(signal.wave.count_until(1))?;
-    }
-    Ok(places)
+    let wave = &signals[position].wave;
+    write_value_near(buffer, writer, position, wave, transition.tick, value.place);
 }
 
 /// Writes the value at `tick`. Where the change at `place` has that tick, it is that of the change, with no search.

@@ -19,7 +19,7 @@ on_ok (Ok x) f p = f p
 on_ok (Err e) f p = tt
 
 -- the whole text is written
-all_written : (g : given.Over) (c : goal.After-drop-row-2 g)
+all_written : (g : given.Over) (c : goal.After-drop-window-3 g)
     → IsWritten (g.W.Sink.taken c.args.writer.now) (g.W.Sink.taken c.write_transitions.new.writer) (g.W.Sink.has_failed c.write_transitions.new.writer) c.write_transitions.new.buffer (text (contents c.args.capture.now))
 all_written g c =
     let declarations = declarations_text (contents c.args.capture.now) in
@@ -32,7 +32,7 @@ all_written g c =
     whole_written c.in_ok-buffer.ensures.waiting c.in_ok-buffer.ensures.sent
     (writes_as same (writes_both c.write_declarations.ensures (writes_both c.write_first_values.ensures c.write_transitions.ensures)))
 
-countable : (g : given.Over) (c : goal.After-drop-row-2 g) → length (text (contents c.args.capture.now)) < 2 ^ 128 - 1
+countable : (g : given.Over) (c : goal.After-drop-window-3 g) → length (text (contents c.args.capture.now)) < 2 ^ 128 - 1
 countable g c = text_countable (contents c.args.capture.now) c.requires.sound c.in_ok-check_countable.ensures
 
 pub returns-clause-written : goal.returns-clause-written

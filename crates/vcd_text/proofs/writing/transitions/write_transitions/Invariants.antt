@@ -1,8 +1,9 @@
 -- The ticks before a window are written; the ticks behind it are left.
-use Rattle.std.proofs.Common.{◌≡◌, ◌≤◌, ◌+◌, ◌-◌, ◌++◌, length, map, vec_capacity}
+use Rattle.std.proofs.Common.{◌≤◌, ◌+◌, ◌-◌, ◌++◌, map, vec_capacity}
 use Rattle.std.specs.List.{flat_map}
 use Rattle.vcd_core.specs.Contents.{signal_contents}
 use Rattle.vcd_text.specs.Text.{end_items, item_line, tick_items}
+use Rattle.vcd_text.specs.inside.NextChanges.{AreNext}
 use Rattle.vcd_text.specs.inside.Transitions.{transitions_from}
 use Rattle.vcd_text.proofs.Walks.{walk}
 use Rattle.vcd_text.proofs.Written.{WritesFront}
@@ -14,8 +15,9 @@ invariant-loop-from g l =
       text : WritesFront l.initial.buffer (g.W.Sink.taken l.initial.writer) (g.W.Sink.has_failed l.initial.writer) l.buffer (g.W.Sink.taken l.writer) (g.W.Sink.has_failed l.writer)
           (flat_map item_line (walk (map signal_contents l.signals) l.end l.last (transitions_from (map signal_contents l.signals) l.from (l.end + 1 - l.from))))
           (flat_map item_line (tick_items (map signal_contents l.signals) 1 l.end ++ end_items (map signal_contents l.signals) l.end));
-      places : length l.places.items ≡ length l.signals;
-      room : length l.signals ≤ vec_capacity l.row;
+      next : AreNext l.from l.signals l.nexts;
+      row : l.room ≤ vec_capacity l.row;
+      order : l.room ≤ vec_capacity l.order;
       from : 1 ≤ l.from;
       within : l.from ≤ l.end + 1;
       some : 1 ≤ l.most;

@@ -1,5 +1,5 @@
 -- The part between the two counts is the window.
-use Rattle.std.proofs.Common.{◌≡◌, ◌≤◌, ◌+◌, ◌-◌, List, take, drop, ap, subst, ◌∙◌, arith}
+use Rattle.std.proofs.Common.{◌≡◌, ◌+◌, ◌-◌, List, take, drop, ap, subst, ◌∙◌, arith}
 use Rattle.std.specs.List.{filter}
 use Rattle.vcd_core.specs.declared.wave.Change.{Change}
 use Rattle.vcd_core.specs.Value.{all_x}
@@ -8,15 +8,13 @@ use Rattle.vcd_text.specs.inside.Transitions.{is_in_window}
 use Rattle.vcd_text.proofs.Listing.{count_rises, count_to, part_is_window}
 use Rattle.vcd_text.proofs.writing.windows.changes_within.Goals as goal
 
-count_within : (c : goal.After-changes) → c.count_near-start.result ≤ c.count_near-stop.result
-count_within c =
-    omega (arith, c.count_near-start.ensures, c.count_near-stop.ensures, count_rises (c.args.from - 1) (c.args.to - 1) c.args.wave.now.changes (omega arith))
+pub slice_bounds-result-start : goal.slice_bounds-result-start
+slice_bounds-result-start c =
+    omega (arith, c.requires.next.place, c.requires.stop, count_rises (c.args.from - 1) (c.args.to - 1) c.args.wave.now.changes (omega arith))
 
 pub slice_bounds-result-count : goal.slice_bounds-result-count
-slice_bounds-result-count c = count_within c
-
-pub slice_bounds-result-start : goal.slice_bounds-result-start
-slice_bounds-result-start c = count_within c
+slice_bounds-result-count c =
+    omega (arith, c.requires.next.place, c.requires.stop, count_rises (c.args.from - 1) (c.args.to - 1) c.args.wave.now.changes (omega arith))
 
 pub returns : goal.returns
 returns c =
@@ -26,9 +24,9 @@ returns c =
     let rise = subst (AreChangesFrom 0 (all_x c.args.wave.now.width)) c.changes.ensures.changes c.changes.ensures.form.rise in
     let low : a + 1 ≡ c.args.from = omega arith in
     let high : b + 1 ≡ c.args.to = omega arith in
-    ap (λ (l : List Change). take (c.count_near-stop.result - c.count_near-start.result) (drop c.count_near-start.result l)) c.changes.ensures.changes
-    ∙ ap (λ n. take (c.count_near-stop.result - n) (drop n cs)) c.count_near-start.ensures
-    ∙ ap (λ n. take (n - count_to a cs) (drop (count_to a cs) cs)) c.count_near-stop.ensures
+    ap (λ (l : List Change). take (c.args.stop - c.args.next.place) (drop c.args.next.place l)) c.changes.ensures.changes
+    ∙ ap (λ n. take (c.args.stop - n) (drop n cs)) c.requires.next.place
+    ∙ ap (λ n. take (n - count_to a cs) (drop (count_to a cs) cs)) c.requires.stop
     ∙ part_is_window a b 0 (all_x c.args.wave.now.width) cs (omega arith) rise
     ∙ ap (λ n. filter (λ (x : Change). is_in_window n (b + 1) x.tick) cs) low
     ∙ ap (λ n. filter (λ (x : Change). is_in_window c.args.from n x.tick) cs) high

@@ -1,12 +1,23 @@
 -- The transitions of the signals passed are listed.
-use Rattle.std.proofs.Common.{◌≡◌, ◌≤◌, ◌++◌, drop, map, vec_capacity}
+use Rattle.std.proofs.Common.{◌≡◌, ◌<◌, ◌≤◌, ◌++◌, ℕ, length, drop, map, get_or, All, vec_capacity}
+use Rattle.vcd_core.specs.declared.capture.Signal.{Signal}
 use Rattle.vcd_core.specs.Contents.{signal_contents}
+use Rattle.vcd_text.specs.declared.writing.next_changes.NextChange.{NextChange}
+use Rattle.vcd_text.specs.declared.writing.windows.TheConstants.{AHEAD}
+use Rattle.vcd_text.specs.inside.NextChanges.{IsNext}
 use Rattle.vcd_text.specs.inside.Transitions.{window_by_signal}
+use Rattle.vcd_text.specs.inside.Windows.{IsListed, transitions_of}
 use Rattle.vcd_text.proofs.writing.windows.fill_row.Given as goal
 
 abbrev pub invariant-loop-position : goal.invariant-loop-position
 invariant-loop-position l =
     record {
-      listed : l.row.items ++ window_by_signal l.from l.to l.position (map signal_contents (drop l.position l.signals)) ≡ window_by_signal l.from l.to 0 (map signal_contents l.signals);
+      all : transitions_of l.row.items ++ window_by_signal l.from l.to l.position (map signal_contents (drop l.position l.signals)) ≡ window_by_signal l.from l.to 0 (map signal_contents l.signals);
+      listed : All (IsListed (map signal_contents l.signals)) l.row.items;
+      guesses : length l.guesses ≡ AHEAD;
+      all_next : length l.nexts ≡ length l.signals;
+      passed : (k : ℕ) (s : Signal) (n : NextChange) → k < l.position → IsNext l.to (get_or l.signals k s).wave.changes (get_or l.nexts k n);
+      left : (k : ℕ) (s : Signal) (n : NextChange) → l.position ≤ k → k < length l.signals → IsNext l.from (get_or l.signals k s).wave.changes (get_or l.nexts k n);
+      few : length l.row.items ≤ l.room;
       room : vec_capacity l.fn.row ≤ vec_capacity l.row;
     }

@@ -1,0 +1,16 @@
+-- The next change of each signal from a tick on.
+use Rattle.std.specs.Prelude.{◌≡◌, ◌<◌, ◌≤◌, ◌-◌, ℕ, nat_le, nat_lt, List, length, slice_index_or}
+use Rattle.std.specs.List.{count_by}
+use Rattle.vcd_core.specs.declared.capture.Signal.{Signal}
+use Rattle.vcd_core.specs.declared.wave.Change.{Change}
+use Rattle.vcd_text.specs.declared.writing.next_changes.NextChange.{NextChange}
+
+-- so many changes come before a tick; no other comes before the tick of the next
+pub record IsNext (from : ℕ) (changes : List Change) (next : NextChange) : Type 0 where
+  pub place : next.place ≡ count_by (λ c. nat_le c.tick (from - 1)) changes
+  pub quiet : count_by (λ c. nat_lt c.tick next.tick) changes ≤ next.place
+
+-- each signal has its next change
+pub record AreNext (from : ℕ) (signals : List Signal) (nexts : List NextChange) : Type 0 where
+  pub all : length nexts ≡ length signals
+  pub each : (k : ℕ) (s : Signal) (n : NextChange) → k < length signals → IsNext from (slice_index_or signals k s).wave.changes (slice_index_or nexts k n)
