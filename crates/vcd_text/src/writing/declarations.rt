@@ -80,6 +80,7 @@ fn write_timescale<W: Sink>(buffer: &mut WriteBuffer, writer: &mut W, timescale:
 }
 
 /// Writes the declarations of all signals, with the scopes that are opened and closed between them.
+/// Its time grows with the scopes of all signals, those that several stand in counted for each.
 fn write_signals<W: Sink>(buffer: &mut WriteBuffer, writer: &mut W, signals: &[Signal])
     requires { length signals.now ≤ SIGNAL_LIMIT }
     ensures { Writes buffer.old (W.taken writer.old) (W.has_failed writer.old)
@@ -167,12 +168,13 @@ fn write_scope<W: Sink>(buffer: &mut WriteBuffer, writer: &mut W, name: &ScopeNa
     write_end(buffer, writer);
 }
 
-/// How many scopes at the front two paths share.
+/// How many scopes at the front two paths share. Its time grows with their words.
 fn shared_len(opened: &[ScopeName], path: &[ScopeName]) -> usize
     ensures shared { result ≡ common_prefix_len same_scope opened.now path.now }
     ensures in_opened { result ≤ length opened.now }
     ensures in_path { result ≤ length path.now }
 {
+    // Fronts of one list are compared by name as well: `ptr_eq` promises nothing of what two lists hold.
     let most = opened.len().min(path.len());
     for k in 0..most {
         if !is_same_scope(&opened[k], &path[k]) {
