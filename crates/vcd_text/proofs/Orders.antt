@@ -1,12 +1,13 @@
 -- The order of keys is that of their transitions: by tick, then by position.
-use Rattle.std.proofs.Common.{◌≡◌, ◌⊎◌, ◌==◌, ◌<◌, ◌≤◌, ◌+◌, ◌-◌, ◌*◌, ◌/◌, ◌%◌, inl, inr, ℕ, zero, suc, Bool, true, false, cond, if◌then◌else◌, List, [], ◌∷◌, ◌++◌, length, map, drop, get_or, All, refl, sym, ap, subst, ◌∙◌, arith}
+use Rattle.std.proofs.Common.{◌≡◌, ◌⊎◌, ◌==◌, ◌<◌, ◌≤◌, ◌+◌, ◌-◌, ◌*◌, ◌/◌, ◌%◌, inl, inr, ℕ, zero, suc, Bool, true, false, cond, if◌then◌else◌, List, [], ◌∷◌, ◌++◌, length, map, take, drop, get_or, All, refl, sym, ap, subst, ◌∙◌, arith}
 use Rattle.std.specs.List.{filter, flat_map}
 use Rattle.std.specs.List.Sorted.{IsPermutation, IsSorted}
+use Rattle.std.proofs.Math.ListN.{set}
 use Rattle.std.specs.declared.cmp.Ordering.TheVariants.{Less, Equal, Greater}
 use Rattle.std.specs.Ordering.{nat_cmp, is_lt}
 use Rattle.std.proofs.lemmas.Bool.{cases_lt, lt-ltb}
-use Rattle.std.proofs.lemmas.List.{get_or-map, get_or-drop, drop-drop, drop-map, drop_all, length-drop, length-map}
-use Rattle.std.proofs.lemmas.List.Elements.{All-cons, All-head, All-tail}
+use Rattle.std.proofs.lemmas.List.{get_or-map, get_or-drop, drop-drop, drop-map, drop_all, length-drop, length-map, map-append, take_more}
+use Rattle.std.proofs.lemmas.List.Elements.{All-append, All-cons, All-head, All-tail}
 use Rattle.std.proofs.lemmas.List.Sorted.{All-permutation, IsPermutation-map}
 use Rattle.vcd_core.specs.declared.wave.Change.{Change}
 use Rattle.vcd_core.specs.Contents.{SignalContents}
@@ -15,7 +16,7 @@ use Rattle.vcd_text.specs.declared.writing.transitions.Transition.{Transition}
 use Rattle.vcd_text.specs.declared.writing.transitions.ListedTransition.{ListedTransition}
 use Rattle.vcd_text.specs.declared.writing.windows.TheConstants.{PLACES}
 use Rattle.vcd_text.specs.inside.Transitions.{is_in_window, last_tick, transition_items, transition_of, transition_value, transitions_from, window_by_signal, window_of_signal}
-use Rattle.vcd_text.specs.inside.Windows.{IsKeyIn, in_order, keys_from, transition_in, transitions_of}
+use Rattle.vcd_text.specs.inside.Windows.{IsKeyIn, IsListed, in_order, keys_from, transition_in, transitions_of}
 use Rattle.vcd_text.specs.Text.{code_of, item_line, stamp_of, value_item}
 use Rattle.vcd_text.proofs.Counts.{rises_from, same_times, window_bounds}
 use Rattle.vcd_text.proofs.Walks.{one_walked, one_later}
@@ -203,26 +204,66 @@ order_at row order k place key none d inside is of_key =
     ap (λ n. (get_or row n none).transition) is ∙ sym (transition_at row (get_or order k key % PLACES) none (transition_of 0 0) of_key.inside)
     ∙ sym (get_or-map (transition_in row) order k key d inside)
 
-pub one_ordered : (signals : List SignalContents) (last k : ℕ) (row : List ListedTransition) (order : List ℕ) (m : Transition) → k < length order → m ≡ get_or (in_order row order) k m
-    → flat_map item_line (transition_items signals last (in_order row (drop k order)))
-    ≡ (flat_map item_line (if m.tick == last then [] else stamp_of m.tick ∷ []) ++ item_line (value_item (code_of m.position) (transition_value signals m)))
-    ++ flat_map item_line (transition_items signals m.tick (in_order row (drop (k + 1) order)))
-one_ordered signals last k row order m inside at =
-    ap (λ l. flat_map item_line (transition_items signals last l)) (sym (drop-map (transition_in row) k order))
-    ∙ one_walked signals last (in_order row order) k m m (omega (arith, inside, length-map order (transition_in row))) at
-    ∙ ap (λ l. (flat_map item_line (if m.tick == last then [] else stamp_of m.tick ∷ []) ++ item_line (value_item (code_of m.position) (transition_value signals m))) ++ flat_map item_line (transition_items signals m.tick l))
-    (drop-map (transition_in row) (k + 1) order)
+pub one_found : (signals : List SignalContents) (last k : ℕ) (found : List ListedTransition) (m : ListedTransition) → k < length found → m ≡ get_or found k m
+    → flat_map item_line (transition_items signals last (transitions_of (drop k found)))
+    ≡ (flat_map item_line (if m.transition.tick == last then [] else stamp_of m.transition.tick ∷ []) ++ item_line (value_item (code_of m.transition.position) (transition_value signals m.transition)))
+    ++ flat_map item_line (transition_items signals m.transition.tick (transitions_of (drop (k + 1) found)))
+one_found signals last k found m inside at =
+    let long = length-map found (λ (x : ListedTransition). x.transition) in
+    let there : m.transition ≡ get_or (transitions_of found) k m.transition = ap (λ (x : ListedTransition). x.transition) at ∙ sym (transition_at found k m m.transition inside) in
+    ap (λ l. flat_map item_line (transition_items signals last l)) (sym (drop-map (λ (x : ListedTransition). x.transition) k found))
+    ∙ one_walked signals last (transitions_of found) k m.transition m.transition (omega (arith, inside, long)) there
+    ∙ ap (λ l. (flat_map item_line (if m.transition.tick == last then [] else stamp_of m.transition.tick ∷ []) ++ item_line (value_item (code_of m.transition.position) (transition_value signals m.transition))) ++ flat_map item_line (transition_items signals m.transition.tick l))
+    (drop-map (λ (x : ListedTransition). x.transition) (k + 1) found)
 
-pub later_ordered : (last k whole : ℕ) (row : List ListedTransition) (order : List ℕ) (m : Transition) → k < length order → m ≡ get_or (in_order row order) k m
-    → last_tick last (in_order row (drop k order)) ≡ whole → last_tick m.tick (in_order row (drop (k + 1) order)) ≡ whole
-later_ordered last k whole row order m inside at all =
-    ap (last_tick m.tick) (sym (drop-map (transition_in row) (k + 1) order))
-    ∙ one_later last (in_order row order) k m m whole (omega (arith, inside, length-map order (transition_in row))) at (ap (last_tick last) (drop-map (transition_in row) k order) ∙ all)
+pub later_found : (last k whole : ℕ) (found : List ListedTransition) (m : ListedTransition) → k < length found → m ≡ get_or found k m
+    → last_tick last (transitions_of (drop k found)) ≡ whole → last_tick m.transition.tick (transitions_of (drop (k + 1) found)) ≡ whole
+later_found last k whole found m inside at all =
+    let long = length-map found (λ (x : ListedTransition). x.transition) in
+    let there : m.transition ≡ get_or (transitions_of found) k m.transition = ap (λ (x : ListedTransition). x.transition) at ∙ sym (transition_at found k m m.transition inside) in
+    ap (last_tick m.transition.tick) (sym (drop-map (λ (x : ListedTransition). x.transition) (k + 1) found))
+    ∙ one_later last (transitions_of found) k m.transition m.transition whole (omega (arith, inside, long)) there (ap (last_tick last) (drop-map (λ (x : ListedTransition). x.transition) k found) ∙ all)
 
-pub none_ordered : (signals : List SignalContents) (last k : ℕ) (row : List ListedTransition) (order : List ℕ) → length order ≤ k → flat_map item_line (transition_items signals last (in_order row (drop k order))) ≡ []
+pub none_found : (signals : List SignalContents) (last k : ℕ) (found : List ListedTransition) → length found ≤ k → flat_map item_line (transition_items signals last (transitions_of (drop k found))) ≡ []
 unfolding transition_items
-none_ordered signals last k row order past = ap (λ l. flat_map item_line (transition_items signals last (in_order row l))) (drop_all k order past)
+none_found signals last k found past = ap (λ l. flat_map item_line (transition_items signals last (transitions_of l))) (drop_all k found past)
 
-pub last_ordered : (last k whole : ℕ) (row : List ListedTransition) (order : List ℕ) → length order ≤ k → last_tick last (in_order row (drop k order)) ≡ whole → last ≡ whole
+pub last_found : (last k whole : ℕ) (found : List ListedTransition) → length found ≤ k → last_tick last (transitions_of (drop k found)) ≡ whole → last ≡ whole
 unfolding last_tick
-last_ordered last k whole row order past all = sym (ap (λ l. last_tick last (in_order row l)) (drop_all k order past)) ∙ all
+last_found last k whole found past all = sym (ap (λ l. last_tick last (transitions_of l)) (drop_all k found past)) ∙ all
+
+-- one more at the end of the front
+front_put : (xs : List ListedTransition) (k : ℕ) (x : ListedTransition) → k < length xs → take (k + 1) (set xs k x) ≡ take k xs ++ x ∷ []
+front_put [] k x inside = absurd (omega arith)
+front_put (y ∷ ys) zero x inside = refl
+front_put (y ∷ ys) (suc k) x inside =
+    ap (λ n. take n (y ∷ set ys k x)) (let e : suc k + 1 ≡ suc (k + 1) = omega arith in e) ∙ ap (λ l. y ∷ l) (front_put ys k x (omega arith))
+
+pub one_more_listed : (signals : List SignalContents) (row found : List ListedTransition) (order : List ℕ) (k place key : ℕ) (none : ListedTransition) → k < length found → place ≡ get_or order k key % PLACES → IsKeyIn row (get_or order k key)
+    → All (IsListed signals) row → All (IsListed signals) (take k found) → All (IsListed signals) (take (k + 1) (set found k (get_or row place none)))
+one_more_listed signals row found order k place key none room is of_key rows before =
+    subst (All (IsListed signals)) (sym (front_put found k (get_or row place none) room))
+    (All-append (IsListed signals) (take k found) (get_or row place none ∷ []) before (All-cons (IsListed signals) (get_or row place none) [] (rows place none (omega (arith, is, of_key.inside))) (λ i d empty. absurd (omega arith))))
+
+-- what the keys passed name stands at the front
+pub one_looked_up : (row found : List ListedTransition) (order : List ℕ) (k place key : ℕ) (none : ListedTransition) → k < length order → k < length found → place ≡ get_or order k key % PLACES → IsKeyIn row (get_or order k key)
+    → transitions_of (take k found) ≡ in_order row (take k order) → transitions_of (take (k + 1) (set found k (get_or row place none))) ≡ in_order row (take (k + 1) order)
+one_looked_up row found order k place key none inside room is of_key before =
+    let m = get_or row place none in
+    ap transitions_of (front_put found k m room)
+    ∙ map-append (λ (x : ListedTransition). x.transition) (take k found) (m ∷ [])
+    ∙ (λ i. before i ++ order_at row order k place key none (transition_of 0 0) inside is of_key i ∷ [])
+    ∙ ap (λ (t : Transition). in_order row (take k order) ++ t ∷ []) (get_or-map (transition_in row) order k key (transition_of 0 0) inside)
+    ∙ sym (map-append (transition_in row) (take k order) (get_or order k key ∷ []))
+    ∙ ap (in_order row) (sym (take_more order k key inside))
+
+-- no key is left
+pub none_ordered : (signals : List SignalContents) (last : ℕ) (row : List ListedTransition) (order : List ℕ) → length order ≤ 0 → flat_map item_line (transition_items signals last (in_order row order)) ≡ []
+unfolding transition_items
+none_ordered signals last row [] past = refl
+none_ordered signals last row (key ∷ keys) past = absurd (omega arith)
+
+pub last_ordered : (last whole : ℕ) (row : List ListedTransition) (order : List ℕ) → length order ≤ 0 → last_tick last (in_order row order) ≡ whole → last ≡ whole
+unfolding last_tick
+last_ordered last whole row [] past all = all
+last_ordered last whole row (key ∷ keys) past all = absurd (omega arith)

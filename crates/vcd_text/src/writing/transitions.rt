@@ -1,14 +1,14 @@
 //! The values of a capture: those at tick 0, and after it the changes by tick (IEEE 1364-2005, 18.2).
 
-ghost use Rattle.std.specs.Prelude.{◌≡◌, ◌==◌, ◌<◌, ◌≤◌, ◌++◌, ◌∷◌, [], if◌then◌else◌, nat_lt, length, map, All, vec_capacity, IfOk};
+ghost use Rattle.std.specs.Prelude.{◌≡◌, ◌==◌, ◌<◌, ◌≤◌, ◌++◌, ◌∷◌, [], List, if◌then◌else◌, nat_lt, length, map, take, All, vec_capacity};
 ghost use Rattle.std.specs.List.{flat_map};
-ghost use Rattle.vcd_core.specs.Contents.{signal_contents};
+ghost use Rattle.vcd_core.specs.Contents.{SignalContents, signal_contents};
 ghost use Rattle.vcd_core.specs.Wave.{value_at};
 ghost use Rattle.vcd_core.specs.Sound.{IsSoundSignal};
 ghost use Rattle.vcd_core.specs.declared.capture.TheConstants.{END_LIMIT, SIGNAL_LIMIT};
 ghost use Rattle.vcd_text.specs.inside.NextChanges.{AreNext};
 ghost use Rattle.vcd_text.specs.inside.Transitions.{last_tick, transition_items, transition_value};
-ghost use Rattle.vcd_text.specs.inside.Windows.{IsListed, IsKeyIn, in_order};
+ghost use Rattle.vcd_text.specs.inside.Windows.{IsListed, IsKeyIn, in_order, transitions_of};
 ghost use Rattle.vcd_text.specs.inside.Written.{Writes};
 ghost use Rattle.vcd_text.specs.declared.writing.windows.TheConstants.{PLACES};
 ghost use Rattle.vcd_text.specs.Text.{all_values, code_of, end_items, first_items, item_line, stamp_of, tick_items, value_item};
@@ -127,6 +127,23 @@ fn next_most(count: u64, used: usize, room: usize) -> u64
     count
 }
 
+/// How many transitions are looked up before they are written: enough that the waits for memory overlap.
+const PART: usize = 32;
+
+/// What stands where nothing was looked up yet.
+const NO_TRANSITION: ListedTransition = ListedTransition {
+    transition: Transition {
+        tick: 0,
+        position: 0,
+    },
+    value: NewValue {
+        width: 0,
+        low: 0,
+        high: 0,
+        place: 0,
+    },
+};
+
 /// Writes the transitions of a row in the order of keys, behind what stands at tick `last`, and answers the last tick.
 fn write_listed<W: Sink>(
     buffer: &mut WriteBuffer,
@@ -144,11 +161,51 @@ fn write_listed<W: Sink>(
         (transition_items (map signal_contents signals.now) last (in_order row.now order.now))) }
     ensures last { result ≡ last_tick last (in_order row.now order.now) }
 {
+    let mut found = [NO_TRANSITION; PART];
     let mut last = last;
-    for key in order {
-        let listed = row[place_of(*key)];
+    let mut left = order;
+    while left.len() > 0 {
+        let (part, later) = left.split_at(left.len().min(PART));
+        look_up(&mut found, row, part);
+        last = write_found(buffer, writer, signals, &found[..part.len()], last);
+        left = later;
+    }
+    last
+}
+
+/// Looks up what keys name.
+fn look_up(found: &mut [ListedTransition], row: &[ListedTransition], keys: &[u64])
+    requires room { length keys.now ≤ length found.old }
+    requires keys { All (IsKeyIn row.now) keys.now }
+    ensures sized { length found.new ≡ length found.old }
+    ensures all { transitions_of (take (length keys.now) found.new) ≡ in_order row.now keys.now }
+    ensures listed { (signals : List SignalContents) → All (IsListed signals) row.now →
+        All (IsListed signals) (take (length keys.now) found.new) }
+{
+    for (k, key) in keys.iter().enumerate() {
+        found[k] = row[place_of(*key)];
+    }
+}
+
+/// Writes transitions that were looked up, behind what stands at tick `last`, and answers the last tick.
+fn write_found<W: Sink>(
+    buffer: &mut WriteBuffer,
+    writer: &mut W,
+    signals: &[Signal],
+    found: &[ListedTransition],
+    last: u64,
+) -> u64
+    requires few { length signals.now ≤ SIGNAL_LIMIT }
+    requires listed { All (IsListed (map signal_contents signals.now)) found.now }
+    ensures text { Writes buffer.old (W.taken writer.old) (W.has_failed writer.old)
+        buffer.new (W.taken writer.new) (W.has_failed writer.new) (flat_map item_line
+        (transition_items (map signal_contents signals.now) last (transitions_of found.now))) }
+    ensures last { result ≡ last_tick last (transitions_of found.now) }
+{
+    let mut last = last;
+    for listed in found {
         write_new_stamp(buffer, writer, last, listed.transition.tick);
-        write_new_value(buffer, writer, signals, listed);
+        write_new_value(buffer, writer, signals, *listed);
         last = listed.transition.tick;
     }
     last

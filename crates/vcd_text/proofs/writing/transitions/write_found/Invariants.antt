@@ -1,0 +1,18 @@
+-- The transitions passed are written; the last tick stays.
+use Rattle.std.proofs.Common.{◌≡◌, drop, map}
+use Rattle.std.specs.List.{flat_map}
+use Rattle.vcd_core.specs.Contents.{signal_contents}
+use Rattle.vcd_text.specs.Text.{item_line}
+use Rattle.vcd_text.specs.inside.Transitions.{last_tick, transition_items}
+use Rattle.vcd_text.specs.inside.Windows.{transitions_of}
+use Rattle.vcd_text.proofs.Written.{WritesFront}
+use Rattle.vcd_text.proofs.writing.transitions.write_found.Given as goal
+
+abbrev pub invariant-loop-listed : goal.invariant-loop-listed
+invariant-loop-listed g l =
+    record {
+      text : WritesFront l.initial.buffer (g.W.Sink.taken l.initial.writer) (g.W.Sink.has_failed l.initial.writer) l.buffer (g.W.Sink.taken l.writer) (g.W.Sink.has_failed l.writer)
+          (flat_map item_line (transition_items (map signal_contents l.signals) l.last (transitions_of (drop l.listed-index l.found))))
+          (flat_map item_line (transition_items (map signal_contents l.signals) l.initial.last (transitions_of l.found)));
+      last : last_tick l.last (transitions_of (drop l.listed-index l.found)) ≡ last_tick l.initial.last (transitions_of l.found);
+    }
