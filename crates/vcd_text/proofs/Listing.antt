@@ -9,7 +9,7 @@ use Rattle.vcd_core.specs.declared.capture.Signal.{Signal}
 use Rattle.vcd_core.specs.declared.wave.Change.{Change}
 use Rattle.vcd_core.specs.Contents.{signal_contents}
 use Rattle.vcd_core.specs.Wave.{AreChangesFrom}
-use Rattle.vcd_text.specs.declared.writing.transitions.Transition.{Transition}
+use Rattle.vcd_text.specs.declared.writing.rows.Transition.{Transition}
 use Rattle.vcd_text.specs.inside.Transitions.{is_in_window, transition_of, window_by_signal, window_of_signal}
 use Rattle.vcd_text.proofs.Counts.{before_window, behind_window, in_window}
 

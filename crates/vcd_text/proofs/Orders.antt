@@ -12,9 +12,9 @@ use Rattle.std.proofs.lemmas.List.Sorted.{All-permutation, IsPermutation-map}
 use Rattle.vcd_core.specs.declared.wave.Change.{Change}
 use Rattle.vcd_core.specs.Contents.{SignalContents}
 use Rattle.vcd_core.specs.Sound.{IsSoundSignal}
-use Rattle.vcd_text.specs.declared.writing.transitions.Transition.{Transition}
-use Rattle.vcd_text.specs.declared.writing.transitions.ListedTransition.{ListedTransition}
-use Rattle.vcd_text.specs.declared.writing.windows.TheConstants.{PLACES}
+use Rattle.vcd_text.specs.declared.writing.rows.Transition.{Transition}
+use Rattle.vcd_text.specs.declared.writing.rows.ListedTransition.{ListedTransition}
+use Rattle.vcd_text.specs.declared.writing.keys.TheConstants.{PLACES}
 use Rattle.vcd_text.specs.inside.Transitions.{is_in_window, last_tick, transition_items, transition_of, transition_value, transitions_from, window_by_signal, window_of_signal}
 use Rattle.vcd_text.specs.inside.Windows.{IsKeyIn, IsListed, in_order, keys_from, transition_in, transitions_of}
 use Rattle.vcd_text.specs.Text.{code_of, item_line, stamp_of, value_item}

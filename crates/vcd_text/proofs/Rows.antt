@@ -8,9 +8,9 @@ use Rattle.vcd_core.specs.declared.wave.Change.{Change}
 use Rattle.vcd_core.specs.Contents.{SignalContents, no_signal, signal_contents, signal_value}
 use Rattle.vcd_core.specs.Value.{all_x}
 use Rattle.vcd_core.specs.Wave.{AreChangesFrom, value_at}
-use Rattle.vcd_text.specs.declared.writing.transitions.Transition.{Transition}
-use Rattle.vcd_text.specs.declared.writing.transitions.ListedTransition.{ListedTransition}
-use Rattle.vcd_text.specs.declared.writing.windows.TheConstants.{PLACES}
+use Rattle.vcd_text.specs.declared.writing.rows.Transition.{Transition}
+use Rattle.vcd_text.specs.declared.writing.rows.ListedTransition.{ListedTransition}
+use Rattle.vcd_text.specs.declared.writing.keys.TheConstants.{PLACES}
 use Rattle.vcd_text.specs.inside.Transitions.{is_in_window, transition_of, transition_value}
 use Rattle.vcd_text.specs.inside.Windows.{IsListed, KeepsValue, keys_from, transitions_of}
 use Rattle.vcd_text.proofs.Near.{value_standing}

@@ -4,7 +4,7 @@ use Rattle.std.specs.List.{filter, enumerate_from}
 use Rattle.vcd_core.specs.declared.bit.Bit.{Bit}
 use Rattle.vcd_core.specs.declared.wave.Change.{Change}
 use Rattle.vcd_core.specs.Contents.{SignalContents, no_signal, signal_value}
-use Rattle.vcd_text.specs.declared.writing.transitions.Transition.{Transition}
+use Rattle.vcd_text.specs.declared.writing.rows.Transition.{Transition}
 use Rattle.vcd_text.specs.Items.{Item}
 use Rattle.vcd_text.specs.Text.{code_of, differs_at, stamp_of, value_item}
 

@@ -3,10 +3,10 @@ use Rattle.std.specs.Prelude.{◌≡◌, ◌<◌, ◌≤◌, ◌+◌, ◌-◌, �
 use Rattle.vcd_core.specs.declared.bit.Bit.{Bit}
 use Rattle.vcd_core.specs.Contents.{SignalContents}
 use Rattle.vcd_core.specs.WordRows.{letters_of}
-use Rattle.vcd_text.specs.declared.writing.transitions.Transition.{Transition}
-use Rattle.vcd_text.specs.declared.writing.transitions.NewValue.{NewValue}
-use Rattle.vcd_text.specs.declared.writing.transitions.ListedTransition.{ListedTransition}
-use Rattle.vcd_text.specs.declared.writing.windows.TheConstants.{PLACES}
+use Rattle.vcd_text.specs.declared.writing.rows.Transition.{Transition}
+use Rattle.vcd_text.specs.declared.writing.rows.NewValue.{NewValue}
+use Rattle.vcd_text.specs.declared.writing.rows.ListedTransition.{ListedTransition}
+use Rattle.vcd_text.specs.declared.writing.keys.TheConstants.{PLACES}
 use Rattle.vcd_text.specs.inside.Transitions.{transition_of, transition_value}
 
 -- a value as a row keeps it: its width, and its letters where they are at most 64

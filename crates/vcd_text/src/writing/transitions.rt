@@ -10,39 +10,17 @@ ghost use Rattle.vcd_text.specs.inside.NextChanges.{AreNext};
 ghost use Rattle.vcd_text.specs.inside.Transitions.{last_tick, transition_items, transition_value};
 ghost use Rattle.vcd_text.specs.inside.Windows.{IsListed, IsKeyIn, in_order, transitions_of};
 ghost use Rattle.vcd_text.specs.inside.Written.{Writes};
-ghost use Rattle.vcd_text.specs.declared.writing.windows.TheConstants.{PLACES};
+ghost use Rattle.vcd_text.specs.declared.writing.keys.TheConstants.{PLACES};
 ghost use Rattle.vcd_text.specs.Text.{all_values, code_of, end_items, first_items, item_line, stamp_of, tick_items, value_item};
 
 use super::buffer::{WriteBuffer, write_byte, write_piece};
+use super::keys::place_of;
 use super::next_changes::NextChange;
+use super::rows::{ListedTransition, NewValue, Transition};
 use super::values::{write_value, write_word_value};
-use super::windows::{Window, fill_window, place_of};
+use super::windows::{Window, fill_window};
 use itoa::Buffer;
 use vcd_core::{Signal, Sink, Wave};
-
-/// A signal changes at a tick.
-#[derive(Clone, Copy)]
-pub struct Transition {
-    pub tick: u64,
-    pub position: usize,
-}
-
-/// A value that a signal changes to, as a row keeps it: its width in bits, and the low and the high bits of its last 64
-/// letters, so that a narrow one is printed with no look at its wave. A wider one stands in the wave, at the place.
-#[derive(Clone, Copy)]
-pub struct NewValue {
-    pub width: u64,
-    pub low: u64,
-    pub high: u64,
-    pub place: usize,
-}
-
-/// A transition with its value: 48 bytes.
-#[derive(Clone, Copy)]
-pub struct ListedTransition {
-    pub transition: Transition,
-    pub value: NewValue,
-}
 
 /// Writes the values at tick 0.
 pub fn write_first_values<W: Sink>(buffer: &mut WriteBuffer, writer: &mut W, signals: &[Signal])

@@ -2,7 +2,7 @@
 use Rattle.std.proofs.Common.{◌<◌, length, map, get_or, refl, arith}
 use Rattle.std.proofs.lemmas.List.{get_or_default}
 use Rattle.vcd_core.specs.Contents.{signal_contents}
-use Rattle.vcd_text.specs.declared.writing.transitions.ListedTransition.{ListedTransition}
+use Rattle.vcd_text.specs.declared.writing.rows.ListedTransition.{ListedTransition}
 use Rattle.vcd_text.proofs.Orders.{last_found, later_found, none_found, one_found}
 use Rattle.vcd_text.proofs.Written.{front_begun, front_grows, front_whole, writes_both}
 use Rattle.vcd_text.proofs.writing.transitions.write_found.Goals as goal

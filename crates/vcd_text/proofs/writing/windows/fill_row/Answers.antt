@@ -5,7 +5,7 @@ use Rattle.std.proofs.lemmas.List.{get_or-map, length-map, length-set}
 use Rattle.vcd_core.specs.declared.wave.Change.{Change}
 use Rattle.vcd_core.specs.Contents.{SignalContents, no_signal, signal_contents}
 use Rattle.vcd_core.specs.Wave.{IsWave}
-use Rattle.vcd_text.specs.declared.writing.transitions.ListedTransition.{ListedTransition}
+use Rattle.vcd_text.specs.declared.writing.rows.ListedTransition.{ListedTransition}
 use Rattle.vcd_text.specs.inside.Transitions.{is_in_window, transition_of}
 use Rattle.vcd_text.proofs.Listing.{one_listed, all_listed, longer_than}
 use Rattle.vcd_text.proofs.NextChanges.{left_next, passed_next}

@@ -3,7 +3,7 @@ use Rattle.std.proofs.Common.{◌≡◌, ◌<◌, ◌≤◌, ◌++◌, ℕ, leng
 use Rattle.vcd_core.specs.declared.capture.Signal.{Signal}
 use Rattle.vcd_core.specs.Contents.{signal_contents}
 use Rattle.vcd_text.specs.declared.writing.next_changes.NextChange.{NextChange}
-use Rattle.vcd_text.specs.declared.writing.windows.TheConstants.{AHEAD}
+use Rattle.vcd_text.specs.declared.writing.rows.TheConstants.{AHEAD}
 use Rattle.vcd_text.specs.inside.NextChanges.{IsNext}
 use Rattle.vcd_text.specs.inside.Transitions.{window_by_signal}
 use Rattle.vcd_text.specs.inside.Windows.{IsListed, transitions_of}

@@ -1,7 +1,7 @@
 -- The ticks of a row are in its window.
 use Rattle.std.proofs.Common.{◌<◌, map, All, subst, sym}
 use Rattle.vcd_core.specs.Contents.{signal_contents}
-use Rattle.vcd_text.specs.declared.writing.transitions.ListedTransition.{ListedTransition}
+use Rattle.vcd_text.specs.declared.writing.rows.ListedTransition.{ListedTransition}
 use Rattle.vcd_text.proofs.Orders.{ticks_within}
 use Rattle.vcd_text.proofs.writing.windows.fits.Goals as goal
 

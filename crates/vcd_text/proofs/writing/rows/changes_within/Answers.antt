@@ -6,7 +6,7 @@ use Rattle.vcd_core.specs.Value.{all_x}
 use Rattle.vcd_core.specs.Wave.{AreChangesFrom}
 use Rattle.vcd_text.specs.inside.Transitions.{is_in_window}
 use Rattle.vcd_text.proofs.Listing.{count_rises, count_to, part_is_window}
-use Rattle.vcd_text.proofs.writing.windows.changes_within.Goals as goal
+use Rattle.vcd_text.proofs.writing.rows.changes_within.Goals as goal
 
 pub slice_bounds-result-start : goal.slice_bounds-result-start
 slice_bounds-result-start c =

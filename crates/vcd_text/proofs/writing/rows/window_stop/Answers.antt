@@ -2,7 +2,7 @@
 use Rattle.std.proofs.Common.{arith}
 use Rattle.vcd_core.specs.Value.{all_x}
 use Rattle.vcd_text.proofs.NextChanges.{reached, stopped}
-use Rattle.vcd_text.proofs.writing.windows.window_stop.Goals as goal
+use Rattle.vcd_text.proofs.writing.rows.window_stop.Goals as goal
 
 pub loop-stop-preserved : goal.loop-stop-preserved
 loop-stop-preserved c =

@@ -3,7 +3,7 @@ use Rattle.std.proofs.Common.{◌≡◌, ◌<◌, ◌≤◌, ◌+◌, ◌++◌, 
 use Rattle.vcd_core.specs.Contents.{SignalContents}
 use Rattle.vcd_text.specs.inside.Transitions.{transition_of, transition_value}
 use Rattle.vcd_text.specs.inside.Windows.{IsListed, transitions_of}
-use Rattle.vcd_text.proofs.writing.windows.list_changes.Given as goal
+use Rattle.vcd_text.proofs.writing.rows.list_changes.Given as goal
 
 abbrev pub invariant-loop-k : goal.invariant-loop-k
 invariant-loop-k l =

@@ -3,7 +3,7 @@ use Rattle.std.proofs.Common.{◌<◌, ◌-◌, length, subst, arith}
 use Rattle.vcd_core.specs.declared.wave.Change.{Change}
 use Rattle.vcd_core.specs.Value.{all_x}
 use Rattle.vcd_text.proofs.NextChanges.{reached}
-use Rattle.vcd_text.proofs.writing.windows.sure_stop.Goals as goal
+use Rattle.vcd_text.proofs.writing.rows.sure_stop.Goals as goal
 
 pub returns-in-Some-clause-high : goal.returns-in-Some-clause-high
 returns-in-Some-clause-high c =

@@ -1,9 +1,9 @@
 -- Each turn lists one key more.
 use Rattle.std.proofs.Common.{◌+◌, ◌*◌, ℕ, length, ap, ◌∙◌, arith}
 use Rattle.std.proofs.lemmas.List.{length_push}
-use Rattle.vcd_text.specs.declared.writing.windows.TheConstants.{PLACES}
+use Rattle.vcd_text.specs.declared.writing.keys.TheConstants.{PLACES}
 use Rattle.vcd_text.proofs.Rows.{all_keys, one_key}
-use Rattle.vcd_text.proofs.writing.windows.list_keys.Goals as goal
+use Rattle.vcd_text.proofs.writing.keys.list_keys.Goals as goal
 
 pub loop-place-preserved : goal.loop-place-preserved
 loop-place-preserved c =

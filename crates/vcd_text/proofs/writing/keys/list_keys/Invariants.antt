@@ -1,7 +1,7 @@
 -- The keys of the transitions passed are listed.
 use Rattle.std.proofs.Common.{◌≡◌, ◌≤◌, ◌++◌, drop, length, vec_capacity}
 use Rattle.vcd_text.specs.inside.Windows.{keys_from}
-use Rattle.vcd_text.proofs.writing.windows.list_keys.Given as goal
+use Rattle.vcd_text.proofs.writing.keys.list_keys.Given as goal
 
 abbrev pub invariant-loop-place : goal.invariant-loop-place
 invariant-loop-place l =

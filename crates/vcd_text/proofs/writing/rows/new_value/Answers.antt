@@ -2,7 +2,7 @@
 use Rattle.std.proofs.Common.{◌∷◌, [], ap, ◌∙◌, arith}
 use Rattle.vcd_core.specs.WordRows.{letters_of}
 use Rattle.vcd_text.proofs.LetterBits.{given_whole}
-use Rattle.vcd_text.proofs.writing.windows.new_value.Goals as goal
+use Rattle.vcd_text.proofs.writing.rows.new_value.Goals as goal
 
 pub returns : goal.returns
 returns c = record {

@@ -4,14 +4,14 @@ use Rattle.std.specs.List.{filter}
 use Rattle.std.proofs.lemmas.List.{append-nil, length-append, length-map}
 use Rattle.vcd_core.specs.declared.wave.Change.{Change}
 use Rattle.vcd_core.specs.Value.{all_x}
-use Rattle.vcd_text.specs.declared.writing.transitions.Transition.{Transition}
-use Rattle.vcd_text.specs.declared.writing.transitions.ListedTransition.{ListedTransition}
+use Rattle.vcd_text.specs.declared.writing.rows.Transition.{Transition}
+use Rattle.vcd_text.specs.declared.writing.rows.ListedTransition.{ListedTransition}
 use Rattle.vcd_text.specs.inside.Transitions.{is_in_window, transition_of}
 use Rattle.vcd_text.specs.inside.Windows.{transitions_of}
 use Rattle.vcd_text.proofs.Listing.{count_rises}
 use Rattle.vcd_text.proofs.NextChanges.{stays_next, still_window, window_length}
 use Rattle.vcd_text.proofs.Rows.{window_values}
-use Rattle.vcd_text.proofs.writing.windows.list_signal.Goals as goal
+use Rattle.vcd_text.proofs.writing.rows.list_signal.Goals as goal
 
 pub returns-then-next-to-clause-all : goal.returns-then-next-to-clause-all
 returns-then-next-to-clause-all c =

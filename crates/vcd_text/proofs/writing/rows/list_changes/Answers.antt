@@ -1,9 +1,9 @@
 -- Each turn lists one transition more.
 use Rattle.std.proofs.Common.{length, ap, ◌∙◌, refl, arith}
 use Rattle.std.proofs.lemmas.List.{length_push}
-use Rattle.vcd_text.specs.declared.writing.transitions.ListedTransition.{ListedTransition}
+use Rattle.vcd_text.specs.declared.writing.rows.ListedTransition.{ListedTransition}
 use Rattle.vcd_text.proofs.Rows.{one_kept, one_more}
-use Rattle.vcd_text.proofs.writing.windows.list_changes.Goals as goal
+use Rattle.vcd_text.proofs.writing.rows.list_changes.Goals as goal
 
 pub loop-k-preserved : goal.loop-k-preserved
 loop-k-preserved c =

@@ -1,0 +1,210 @@
+//! A row of the transitions of a window of ticks with their values, signal by signal.
+
+ghost use Rattle.std.specs.Prelude.{◌≡◌, ◌<◌, ◌≤◌, ◌+◌, ◌-◌, ◌++◌, ◌∷◌, [], ℕ, List, nat_le, length, map, count_by, All, vec_capacity, IfSome, IfNone};
+ghost use Rattle.std.specs.List.{filter};
+ghost use Rattle.vcd_core.specs.Contents.{SignalContents};
+ghost use Rattle.vcd_core.specs.Wave.{IsWave, value_at};
+ghost use Rattle.vcd_text.specs.inside.NextChanges.{IsNext};
+ghost use Rattle.vcd_text.specs.inside.Transitions.{is_in_window, transition_of, transition_value, window_of_signal};
+ghost use Rattle.vcd_text.specs.inside.Windows.{IsListed, KeepsValue, transitions_of};
+
+use super::next_changes::{NextChange, next_at};
+use vcd_core::{Change, Signal, Value, Wave};
+
+/// A signal changes at a tick.
+#[derive(Clone, Copy)]
+pub struct Transition {
+    pub tick: u64,
+    pub position: usize,
+}
+
+/// A value that a signal changes to, as a row keeps it: its width in bits, and the low and the high bits of its last 64
+/// letters, so that a narrow one is printed with no look at its wave. A wider one stands in the wave, at the place.
+#[derive(Clone, Copy)]
+pub struct NewValue {
+    pub width: u64,
+    pub low: u64,
+    pub high: u64,
+    pub place: usize,
+}
+
+/// A transition with its value: 48 bytes.
+#[derive(Clone, Copy)]
+pub struct ListedTransition {
+    pub transition: Transition,
+    pub value: NewValue,
+}
+
+/// For how many signals it is guessed where their changes in a window stop, before these are listed: enough that the
+/// waits for memory overlap.
+pub const AHEAD: usize = 32;
+
+/// Guesses where the changes of a window stop, for each of the next signals where the position is a multiple of their
+/// number.
+pub fn look_ahead(
+    guesses: &mut [usize],
+    signals: &[Signal],
+    nexts: &[NextChange],
+    position: usize,
+    to: u64,
+)
+    requires guesses { length guesses.old ≡ AHEAD }
+    requires within { position ≤ length signals.now }
+    requires next { length nexts.now ≡ length signals.now }
+    ensures { length guesses.new ≡ AHEAD }
+{
+    if position % AHEAD != 0 {
+        return;
+    }
+    for k in 0..AHEAD.min(signals.len() - position) {
+        guesses[k] = guessed_stop(&signals[position + k].wave, nexts[position + k], to);
+    }
+}
+
+/// Where the changes of a window stop that begin with the next one, if there are two at most. It waits for no answer of
+/// the memory before it goes on.
+fn guessed_stop(wave: &Wave, next: NextChange, to: u64) -> usize {
+    if next.tick >= to {
+        return next.place;
+    }
+    let behind = next.place.saturating_add(1);
+    match (wave.changes().get(next.place), wave.changes().get(behind)) {
+        (Some(first), Some(second)) => next.place.saturating_add(
+            usize::from(first.tick < to) + usize::from(second.tick < to),
+        ),
+        _ => behind,
+    }
+}
+
+/// Lists the transitions of the signal at `position` in a window, and answers its next change behind it; none where
+/// there is no room. Where the next change is behind the window already, the wave is not looked at.
+pub fn list_signal(
+    row: &mut Vec<ListedTransition>,
+    room: usize,
+    position: usize,
+    wave: &Wave,
+    next: NextChange,
+    guess: usize,
+    from: u64,
+    to: u64,
+) -> Option<NextChange>
+    requires form { IsWave wave.now.width wave.now.changes }
+    requires next { IsNext from wave.now.changes next }
+    requires few { length row.old.items ≤ room }
+    requires room { room ≤ vec_capacity row.old }
+    requires from { 1 ≤ from }
+    requires order { from ≤ to }
+    ensures all { IfSome result (λ _. transitions_of row.new.items ≡
+        transitions_of row.old.items ++ window_of_signal from to position wave.now.changes) }
+    ensures listed { (signals : List SignalContents) → position < length signals →
+        ((t : ℕ) → transition_value signals (transition_of t position)
+        ≡ value_at wave.now.width wave.now.changes t) →
+        All (IsListed signals) row.old.items → All (IsListed signals) row.new.items }
+    ensures few { length row.new.items ≤ room }
+    ensures next { IfSome result (λ later. IsNext to wave.now.changes later) }
+    ensures full { IfNone result
+        (room < length row.old.items + length (window_of_signal from to position wave.now.changes)) }
+    ensures room { vec_capacity row.old ≤ vec_capacity row.new }
+{
+    if next.tick >= to {
+        return Some(next);
+    }
+    let Some(stop) = window_stop(wave, next.place, guess, room - row.len(), to) else {
+        return None;
+    };
+    let changes = changes_within(wave, next, stop, from, to);
+    list_changes(row, position, changes, next.place);
+    Some(next_at(wave, stop))
+}
+
+/// Where the changes of a window stop that begin at a place: that of the first one from the tick `to` on. None where
+/// there are more than `most`. A step for each of them, or for those behind a guess that is right.
+fn window_stop(wave: &Wave, start: usize, guess: usize, most: usize, to: u64) -> Option<usize>
+    requires start { start ≤ count_by (λ c. nat_le c.tick (to - 1)) wave.now.changes }
+    requires to { 1 ≤ to }
+    ensures stop { IfSome result (λ stop.
+        stop ≡ count_by (λ c. nat_le c.tick (to - 1)) wave.now.changes) }
+    ensures few { IfSome result (λ stop. stop ≤ start + most) }
+    ensures full { IfNone result
+        (start + most < count_by (λ c. nat_le c.tick (to - 1)) wave.now.changes) }
+{
+    let changes = wave.changes();
+    let mut stop = sure_stop(wave, start, guess, most, to);
+    while stop < changes.len() && changes[stop].tick < to {
+        if stop - start >= most {
+            return None;
+        }
+        stop += 1;
+    }
+    Some(stop)
+}
+
+/// A guess behind which a search may set out, since the change before it comes before the tick `to`; else the start.
+fn sure_stop(wave: &Wave, start: usize, guess: usize, most: usize, to: u64) -> usize
+    requires start { start ≤ count_by (λ c. nat_le c.tick (to - 1)) wave.now.changes }
+    requires to { 1 ≤ to }
+    ensures low { start ≤ result }
+    ensures few { result ≤ start + most }
+    ensures high { result ≤ count_by (λ c. nat_le c.tick (to - 1)) wave.now.changes }
+{
+    if guess <= start || guess - start > most {
+        return start;
+    }
+    match wave.changes().get(guess - 1) {
+        Some(change) if change.tick < to => guess,
+        _ => start,
+    }
+}
+
+/// The changes of a wave in a window, from the next one on up to before a place.
+fn changes_within(wave: &Wave, next: NextChange, stop: usize, from: u64, to: u64) -> &[Change]
+    requires next { IsNext from wave.now.changes next }
+    requires stop { stop ≡ count_by (λ c. nat_le c.tick (to - 1)) wave.now.changes }
+    requires from { 1 ≤ from }
+    requires order { from ≤ to }
+    ensures { result.now ≡ filter (λ c. is_in_window from to c.tick) wave.now.changes }
+{
+    let start = next.place;
+    &wave.changes()[start..stop]
+}
+
+/// Lists the transitions of changes of the signal at `position`, the first of which stands at a place of its wave.
+fn list_changes(row: &mut Vec<ListedTransition>, position: usize, changes: &[Change], first: usize)
+    requires room { length row.old.items + length changes.now ≤ vec_capacity row.old }
+    ensures all { transitions_of row.new.items ≡
+        transitions_of row.old.items ++ map (λ c. transition_of c.tick position) changes.now }
+    ensures listed { (signals : List SignalContents) → position < length signals →
+        All (λ c. transition_value signals (transition_of c.tick position) ≡ c.value) changes.now →
+        All (IsListed signals) row.old.items → All (IsListed signals) row.new.items }
+    ensures room { vec_capacity row.old ≤ vec_capacity row.new }
+{
+    for (k, change) in changes.iter().enumerate() {
+        let transition = Transition {
+            tick: change.tick,
+            position,
+        };
+        let value = new_value(&change.value, first.saturating_add(k));
+        push_in_room(row, ListedTransition { transition, value });
+    }
+}
+
+/// A value as a row keeps it.
+fn new_value(value: &Value, place: usize) -> NewValue
+    ensures { KeepsValue value.now result }
+{
+    NewValue {
+        width: value.width(),
+        low: value.word_low(0),
+        high: value.word_high(0),
+        place,
+    }
+}
+
+/// Puts an item behind those of a list that has room for it.
+pub fn push_in_room<T: Copy>(list: &mut Vec<T>, item: T)
+    requires { length list.old.items < vec_capacity list.old }
+    ensures items { list.new.items ≡ list.old.items ++ item ∷ [] }
+    ensures room { vec_capacity list.old ≤ vec_capacity list.new }
+{
+    let _ = list.push(item);
+}
