@@ -87,13 +87,13 @@ record IsKeyOf (from : ℕ) (row : List ListedTransition) (key : ℕ) : Type 0 w
   tick : (transition_in row key).tick ≡ from + key / PLACES
 
 -- what stands at a place of a row
-at_place : (k : ℕ) (row : List ListedTransition) (m : ListedTransition) (ms : List ListedTransition) → drop k row ≡ m ∷ ms → (k < length row) × (get_or row k m ≡ m) × (drop (k + 1) row ≡ ms)
-at_place k row m ms is =
+at_place : (k : ℕ) (listed : List ListedTransition) (m : ListedTransition) (ms : List ListedTransition) → drop k listed ≡ m ∷ ms → (k < length listed) × (get_or listed k m ≡ m) × (drop (k + 1) listed ≡ ms)
+at_place k listed m ms is =
     let long = ap (length {A = ListedTransition}) is in
     let here : k ≡ k + 0 = omega arith in (
-      omega (arith, long, length-drop k row),
-      ap (λ n. get_or row n m) here ∙ sym (get_or-drop k row 0 m) ∙ ap (λ l. get_or l 0 m) is,
-      sym (drop-drop 1 k row) ∙ ap (drop 1) is,
+      omega (arith, long, length-drop k listed),
+      ap (λ n. get_or listed n m) here ∙ sym (get_or-drop k listed 0 m) ∙ ap (λ l. get_or l 0 m) is,
+      sym (drop-drop 1 k listed) ∙ ap (drop 1) is,
     )
 
 place_in : (t k : ℕ) → k < PLACES → (t * PLACES + k) % PLACES ≡ k

@@ -5,7 +5,7 @@ use Rattle.vcd_core.specs.declared.capture.Signal.{Signal}
 use Rattle.vcd_core.specs.declared.wave.Change.{Change}
 use Rattle.vcd_text.specs.declared.writing.next_changes.NextChange.{NextChange}
 
--- so many changes come before a tick; no other comes before the tick of the next
+-- so many changes come before a tick, and no other before the tick of the next one
 pub record IsNext (from : ℕ) (changes : List Change) (next : NextChange) : Type 0 where
   pub place : next.place ≡ count_by (λ c. nat_le c.tick (from - 1)) changes
   pub quiet : count_by (λ c. nat_lt c.tick next.tick) changes ≤ next.place

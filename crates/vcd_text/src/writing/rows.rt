@@ -61,8 +61,8 @@ pub fn look_ahead(
     }
 }
 
-/// Where the changes of a window stop that begin with the next one, if there are two at most. It waits for no answer of
-/// the memory before it goes on.
+/// Where the changes of a window stop that begin with the next one, if there are two at most: a hint, which the search
+/// tests. It waits for no answer of the memory before it goes on.
 fn guessed_stop(wave: &Wave, next: NextChange, to: u64) -> usize {
     if next.tick >= to {
         return next.place;

@@ -111,15 +111,15 @@ fn fill_some(
     ensures room { vec_capacity row.old ≤ vec_capacity row.new }
 {
     let mut count = most;
-    while !fits(row, room, signals, nexts, from, from + count, end) {
+    while !fill_ticks(row, room, signals, nexts, from, from + count, end) {
         count /= 2;
     }
     count
 }
 
 /// Fills a row with the transitions of a window. It answers whether all have room, and are near enough to be put in
-/// order by keys. The next changes are then those behind the window.
-fn fits(
+/// order by keys. The next changes are then those behind the window, and otherwise those from its first tick on.
+fn fill_ticks(
     row: &mut Vec<ListedTransition>,
     room: usize,
     signals: &[Signal],

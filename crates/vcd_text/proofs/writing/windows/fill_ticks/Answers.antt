@@ -3,7 +3,7 @@ use Rattle.std.proofs.Common.{◌<◌, map, All, subst, sym}
 use Rattle.vcd_core.specs.Contents.{signal_contents}
 use Rattle.vcd_text.specs.declared.writing.rows.ListedTransition.{ListedTransition}
 use Rattle.vcd_text.proofs.Orders.{ticks_within}
-use Rattle.vcd_text.proofs.writing.windows.fits.Goals as goal
+use Rattle.vcd_text.proofs.writing.windows.fill_ticks.Goals as goal
 
 pub are_near-requires-clause-within : goal.are_near-requires-clause-within
 are_near-requires-clause-within c =
