@@ -113,7 +113,8 @@ fn are_binary_digits(bytes: &[u8]) -> bool
 pub fn is_binary_digit(byte: u8) -> bool
     ensures { result ≡ digit_test byte }
 {
-    letter_of_digit(byte).is_some()
+    // nearly all are 0 or 1
+    is_two_state(byte) || letter_of_digit(byte).is_some()
 }
 
 /// The digits as letters, with those that are wanting on the left, a word of 64 at a time; none where one is no
@@ -268,6 +269,7 @@ fn pad_of(digits: &[u8]) -> Bit
     ensures { result ≡ pad_letter (letters_of_digits digits.now) }
 {
     match digits {
+        [first, ..] if is_two_state(*first) => Bit::Zero,
         [first, ..] => match bit_or_x(*first) {
             Bit::Zero | Bit::One => Bit::Zero,
             letter => letter,

@@ -37,7 +37,7 @@ impl Owners {
         if let Some(position) = self.position_of_short(code) {
             return Some(Owner::Kept(position));
         }
-        self.codes.get(code).copied()
+        owner_in(&self.codes, code)
     }
 
     /// The position that a short code stands for, where the table knows it.
@@ -71,6 +71,13 @@ impl Owners {
         self.short = table_of(alloc, &self.codes)?;
         Ok(())
     }
+}
+
+/// What a code stands for by the map.
+fn owner_in(codes: &IndexMap<Vec<u8>, Owner>, code: &[u8]) -> Option<Owner>
+    ensures { result ≡ code_owner codes.now code.now }
+{
+    codes.get(code).copied()
 }
 
 /// The table of the short codes of a map.
@@ -113,7 +120,7 @@ fn enter(
     let Some(place) = short_place(code) else {
         return Ok(());
     };
-    let Some(Owner::Kept(position)) = codes.get(code).copied() else {
+    let Some(Owner::Kept(position)) = owner_in(codes, code) else {
         return Ok(());
     };
     if position >= SIGNAL_LIMIT {

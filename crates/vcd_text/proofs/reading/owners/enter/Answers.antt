@@ -8,6 +8,6 @@ use Rattle.vcd_text.proofs.reading.owners.enter.Goals as goal
 pub returns : goal.returns
 returns c =
     let owner = code_owner c.args.codes.now in
-    let owned : owner c.args.code.now ≡ Some (Kept c.in-Some-Kept.position) = sym c.get.ensures.value ∙ sym c.in-Some-Kept.ensures ∙ ap Some c.in-Some-Kept.field-0-is in
+    let owned : owner c.args.code.now ≡ Some (Kept c.in-Some-Kept.position) = sym c.owner_in.ensures ∙ c.in-Some-Kept.is ∙ ap Some c.in-Some-Kept.field-0-is in
     on_ok_weaker c.put.result
     (agrees_more owner c.args.table.now.items c.put.new.table.items c.args.code.now c.in-Some.place c.in-Some-Kept.position c.requires c.in-Some.ensures.place owned) c.put.ensures
