@@ -24,7 +24,7 @@ use vcd_core::{FromRead, Sink, Source, ToWrite};
 use vcd_journal::DEPTH_LIMIT;
 use vcd_text::{Fault, ReadError};
 
-/// How many bytes the replies and the output are gathered in before they go out.
+/// How many bytes the replies are gathered in before they go out.
 const BUFFER: usize = 65_536;
 
 /// The capture could not be opened: a read fault before its first line ends.
@@ -141,7 +141,7 @@ fn run_inputs<R: Runtime + AllocGlobal, C: Source, S: Source>(
     result
 }
 
-/// Runs with the output gathered for the file at `output`, where one is named.
+/// Runs with the file at `output` for the output, where one is named.
 fn run_devices<R: Runtime + AllocGlobal, C: Source, S: Source, P: Sink>(
     rt: &R,
     capture: &mut C,
@@ -168,15 +168,12 @@ fn run_devices<R: Runtime + AllocGlobal, C: Source, S: Source, P: Sink>(
     ensures replies { LeavesReplyWriter result
         (P.taken replies.old) (P.taken replies.new) (P.has_failed replies.new) }
 {
+    // no buffer, since `write` of `vcd_text` has its own
     let mut out = match output {
-        Some(path) => Some(ToWrite::new(new_buffer(rt, LateFile::new(rt, path))?)),
+        Some(path) => Some(ToWrite::new(LateFile::new(rt, path))),
         None => None,
     };
-    let result = run(rt.alloc(), capture, script, replies, out.as_mut(), depth);
-    if let Some(out) = out {
-        close_device(out);
-    }
-    result
+    run(rt.alloc(), capture, script, replies, out.as_mut(), depth)
 }
 
 /// A writer that gathers what another is given.
