@@ -12,8 +12,7 @@ use Rattle.vcd_core.specs.Wave.{value_from, AreChangesFrom}
 use Rattle.vcd_core.specs.Contents.{SignalContents, signal_value}
 use Rattle.vcd_core.specs.Sound.{IsSoundSignal}
 use Rattle.vcd_core.proofs.Waves.{value_past, value_skip, value_early}
-use Rattle.vcd_text.specs.declared.writing.rows.Transition.{Transition}
-use Rattle.vcd_text.specs.inside.Transitions.{transition_of, transitions_at, transitions_from, is_in_window, window_of_signal, window_by_signal}
+use Rattle.vcd_text.specs.inside.Transitions.{Transition, transition_of, transitions_at, transitions_from, is_in_window, window_of_signal, window_by_signal}
 use Rattle.vcd_text.specs.Text.{differs_at}
 use Rattle.vcd_text.proofs.Sorting.{counted, once, times, times-append, RisesFrom}
 

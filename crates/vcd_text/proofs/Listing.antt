@@ -9,8 +9,7 @@ use Rattle.vcd_core.specs.declared.capture.Signal.{Signal}
 use Rattle.vcd_core.specs.declared.wave.Change.{Change}
 use Rattle.vcd_core.specs.Contents.{signal_contents}
 use Rattle.vcd_core.specs.Wave.{AreChangesFrom}
-use Rattle.vcd_text.specs.declared.writing.rows.Transition.{Transition}
-use Rattle.vcd_text.specs.inside.Transitions.{is_in_window, transition_of, window_by_signal, window_of_signal}
+use Rattle.vcd_text.specs.inside.Transitions.{Transition, is_in_window, transition_of, window_by_signal, window_of_signal}
 use Rattle.vcd_text.proofs.Counts.{before_window, behind_window, in_window}
 
 -- ---- one wave
@@ -28,7 +27,7 @@ counts t c cs low = count_cons t c cs ∙ ap (λ b. cond b 1 0 + count_to t cs) 
 pub skips : (t : ℕ) (c : Change) (cs : List Change) → t < c.tick → count_to t (c ∷ cs) ≡ count_to t cs
 skips t c cs high = count_cons t c cs ∙ ap (λ b. cond b 1 0 + count_to t cs) (lt-leb c.tick t high) ∙ omega arith
 
-none_to : (floor t : ℕ) (before : List Bit) (cs : List Change) → AreChangesFrom floor before cs → t < floor → count_to t cs ≡ 0
+pub none_to : (floor t : ℕ) (before : List Bit) (cs : List Change) → AreChangesFrom floor before cs → t < floor → count_to t cs ≡ 0
 none_to floor t before [] rise early = refl
 none_to floor t before (c ∷ cs) (from, other, wide, rest) early = skips t c cs (omega arith) ∙ none_to (c.tick + 1) t c.value cs rest (omega arith)
 

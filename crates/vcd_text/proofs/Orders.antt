@@ -12,11 +12,10 @@ use Rattle.std.proofs.lemmas.List.Sorted.{All-permutation, IsPermutation-map}
 use Rattle.vcd_core.specs.declared.wave.Change.{Change}
 use Rattle.vcd_core.specs.Contents.{SignalContents}
 use Rattle.vcd_core.specs.Sound.{IsSoundSignal}
-use Rattle.vcd_text.specs.declared.writing.rows.Transition.{Transition}
 use Rattle.vcd_text.specs.declared.writing.rows.ListedTransition.{ListedTransition}
 use Rattle.vcd_text.specs.declared.writing.keys.TheConstants.{PLACES}
-use Rattle.vcd_text.specs.inside.Transitions.{is_in_window, last_tick, transition_items, transition_of, transition_value, transitions_from, window_by_signal, window_of_signal}
-use Rattle.vcd_text.specs.inside.Windows.{IsKeyIn, IsListed, in_order, keys_from, transition_in, transitions_of}
+use Rattle.vcd_text.specs.inside.Transitions.{Transition, is_in_window, last_tick, transition_items, transition_of, transition_value, transitions_from, window_by_signal, window_of_signal}
+use Rattle.vcd_text.specs.inside.Windows.{listed_transition, IsKeyIn, IsListed, in_order, keys_from, transition_in, transitions_of}
 use Rattle.vcd_text.specs.Text.{code_of, item_line, stamp_of, value_item}
 use Rattle.vcd_text.proofs.Counts.{rises_from, same_times, window_bounds}
 use Rattle.vcd_text.proofs.Walks.{one_walked, one_later}
@@ -68,14 +67,14 @@ Lists from to ss row = transitions_of row ≡ window_by_signal from to 0 ss
 listed_row : (from to : ℕ) (ss : List SignalContents) (row : List ListedTransition) → Lists from to ss row → AreListed from to 0 (transitions_of row)
 listed_row from to ss row is = subst (AreListed from to 0) (sym is) (by_signal from to 0 ss)
 
-transition_at : (row : List ListedTransition) (k : ℕ) (d : ListedTransition) (e : Transition) → k < length row → get_or (transitions_of row) k e ≡ (get_or row k d).transition
-transition_at row k d e inside = get_or-map (λ (m : ListedTransition). m.transition) row k d e inside
+transition_at : (row : List ListedTransition) (k : ℕ) (d : ListedTransition) (e : Transition) → k < length row → get_or (transitions_of row) k e ≡ listed_transition (get_or row k d)
+transition_at row k d e inside = get_or-map listed_transition row k d e inside
 
 -- the ticks of a row are in its window
-pub ticks_within : (from to : ℕ) (ss : List SignalContents) (row : List ListedTransition) → transitions_of row ≡ window_by_signal from to 0 ss → All (λ (m : ListedTransition). m.transition.tick < to) row
+pub ticks_within : (from to : ℕ) (ss : List SignalContents) (row : List ListedTransition) → transitions_of row ≡ window_by_signal from to 0 ss → All (λ (m : ListedTransition). m.change.tick < to) row
 ticks_within from to ss row is = λ k d inside.
     let there = transition_at row k d (transition_of 0 0) inside in
-    let long = length-map row (λ (m : ListedTransition). m.transition) in
+    let long = length-map row listed_transition in
     let bounds = ticks_at from to 0 (transitions_of row) k (transition_of 0 0) (listed_row from to ss row is) (omega (arith, long)) in
     subst (λ (m : Transition). m.tick < to) there bounds.1
 
@@ -104,11 +103,11 @@ ticks_in t k small = omega arith
 
 -- the transition that a key of a row names
 named : (from k : ℕ) (row : List ListedTransition) (m : ListedTransition) (ms : List ListedTransition) → length row ≤ PLACES → drop k row ≡ m ∷ ms
-    → transition_in row ((m.transition.tick - from) * PLACES + k) ≡ m.transition
+    → transition_in row ((m.change.tick - from) * PLACES + k) ≡ listed_transition m
 named from k row m ms few is =
     let at = at_place k row m ms is in
-    ap (λ n. get_or (transitions_of row) n (transition_of 0 0)) (place_in (m.transition.tick - from) k (omega (arith, at.0)))
-    ∙ transition_at row k m (transition_of 0 0) at.0 ∙ ap (λ (x : ListedTransition). x.transition) at.1
+    ap (λ n. get_or (transitions_of row) n (transition_of 0 0)) (place_in (m.change.tick - from) k (omega (arith, at.0)))
+    ∙ transition_at row k m (transition_of 0 0) at.0 ∙ ap listed_transition at.1
 
 -- in the order of a row's own keys stand its transitions
 own_order : (from k : ℕ) (row rest : List ListedTransition) → length row ≤ PLACES → drop k row ≡ rest → in_order row (keys_from from k rest) ≡ transitions_of rest
@@ -123,13 +122,13 @@ unfolding keys_from
 each_key from to k ss row [] is few left = λ i d none. absurd (omega arith)
 each_key from to k ss row (m ∷ ms) is few left =
     let at = at_place k row m ms left in
-    let t = m.transition.tick - from in
-    let long = length-map row (λ (x : ListedTransition). x.transition) in
+    let t = m.change.tick - from in
+    let long = length-map row listed_transition in
     let bounds = ticks_at from to 0 (transitions_of row) k (transition_of 0 0) (listed_row from to ss row is) (omega (arith, long, at.0)) in
-    let same : (get_or (transitions_of row) k (transition_of 0 0)).tick ≡ m.transition.tick = ap (λ (x : Transition). x.tick) (transition_at row k m (transition_of 0 0) at.0 ∙ ap (λ (x : ListedTransition). x.transition) at.1) in
+    let same : (get_or (transitions_of row) k (transition_of 0 0)).tick ≡ m.change.tick = ap (λ (x : Transition). x.tick) (transition_at row k m (transition_of 0 0) at.0 ∙ ap listed_transition at.1) in
     let here : IsKeyOf from row (t * PLACES + k) = record {
       inside = omega (arith, place_in t k (omega (arith, at.0)), at.0);
-      tick = ap (λ (x : Transition). x.tick) (named from k row m ms few left) ∙ (let e : m.transition.tick ≡ from + (t * PLACES + k) / PLACES = omega (arith, ticks_in t k (omega (arith, at.0)), bounds.0, same) in e);
+      tick = ap (λ (x : Transition). x.tick) (named from k row m ms few left) ∙ (let e : m.change.tick ≡ from + (t * PLACES + k) / PLACES = omega (arith, ticks_in t k (omega (arith, at.0)), bounds.0, same) in e);
     } in
     All-cons (IsKeyOf from row) (t * PLACES + k) (keys_from from (k + 1) ms) here (each_key from to (k + 1) ss row ms is few at.2)
 
@@ -137,7 +136,7 @@ each_key from to k ss row (m ∷ ms) is few left =
 not_below : (from to : ℕ) (ss : List SignalContents) (row : List ListedTransition) (a b : ℕ) → Lists from to ss row → IsKeyOf from row a → IsKeyOf from row b → a ≤ b
     → AtLeast (transition_in row a).tick (transition_in row a).position (transition_in row b)
 not_below from to ss row a b is of_a of_b up =
-    let long = length-map row (λ (x : ListedTransition). x.transition) in
+    let long = length-map row listed_transition in
     elim (cases_lt (a / PLACES) (b / PLACES)) [
       | inl earlier ↦ inl (omega (arith, of_a.tick, of_b.tick, earlier))
       | inr not_earlier ↦
@@ -199,30 +198,30 @@ ordered_in end from n ss row keys sorted is few own moved =
 
 -- what the key at a place of the order names
 pub order_at : (row : List ListedTransition) (order : List ℕ) (k place key : ℕ) (none : ListedTransition) (d : Transition) → k < length order → place ≡ get_or order k key % PLACES → IsKeyIn row (get_or order k key)
-    → (get_or row place none).transition ≡ get_or (in_order row order) k d
+    → listed_transition (get_or row place none) ≡ get_or (in_order row order) k d
 order_at row order k place key none d inside is of_key =
-    ap (λ n. (get_or row n none).transition) is ∙ sym (transition_at row (get_or order k key % PLACES) none (transition_of 0 0) of_key.inside)
+    ap (λ n. listed_transition (get_or row n none)) is ∙ sym (transition_at row (get_or order k key % PLACES) none (transition_of 0 0) of_key.inside)
     ∙ sym (get_or-map (transition_in row) order k key d inside)
 
 pub one_found : (signals : List SignalContents) (last k : ℕ) (found : List ListedTransition) (m : ListedTransition) → k < length found → m ≡ get_or found k m
     → flat_map item_line (transition_items signals last (transitions_of (drop k found)))
-    ≡ (flat_map item_line (if m.transition.tick == last then [] else stamp_of m.transition.tick ∷ []) ++ item_line (value_item (code_of m.transition.position) (transition_value signals m.transition)))
-    ++ flat_map item_line (transition_items signals m.transition.tick (transitions_of (drop (k + 1) found)))
+    ≡ (flat_map item_line (if m.change.tick == last then [] else stamp_of m.change.tick ∷ []) ++ item_line (value_item (code_of m.position) (transition_value signals (listed_transition m))))
+    ++ flat_map item_line (transition_items signals m.change.tick (transitions_of (drop (k + 1) found)))
 one_found signals last k found m inside at =
-    let long = length-map found (λ (x : ListedTransition). x.transition) in
-    let there : m.transition ≡ get_or (transitions_of found) k m.transition = ap (λ (x : ListedTransition). x.transition) at ∙ sym (transition_at found k m m.transition inside) in
-    ap (λ l. flat_map item_line (transition_items signals last l)) (sym (drop-map (λ (x : ListedTransition). x.transition) k found))
-    ∙ one_walked signals last (transitions_of found) k m.transition m.transition (omega (arith, inside, long)) there
-    ∙ ap (λ l. (flat_map item_line (if m.transition.tick == last then [] else stamp_of m.transition.tick ∷ []) ++ item_line (value_item (code_of m.transition.position) (transition_value signals m.transition))) ++ flat_map item_line (transition_items signals m.transition.tick l))
-    (drop-map (λ (x : ListedTransition). x.transition) (k + 1) found)
+    let long = length-map found listed_transition in
+    let there : listed_transition m ≡ get_or (transitions_of found) k (listed_transition m) = ap listed_transition at ∙ sym (transition_at found k m (listed_transition m) inside) in
+    ap (λ l. flat_map item_line (transition_items signals last l)) (sym (drop-map listed_transition k found))
+    ∙ one_walked signals last (transitions_of found) k (listed_transition m) (listed_transition m) (omega (arith, inside, long)) there
+    ∙ ap (λ l. (flat_map item_line (if m.change.tick == last then [] else stamp_of m.change.tick ∷ []) ++ item_line (value_item (code_of m.position) (transition_value signals (listed_transition m)))) ++ flat_map item_line (transition_items signals m.change.tick l))
+    (drop-map listed_transition (k + 1) found)
 
 pub later_found : (last k whole : ℕ) (found : List ListedTransition) (m : ListedTransition) → k < length found → m ≡ get_or found k m
-    → last_tick last (transitions_of (drop k found)) ≡ whole → last_tick m.transition.tick (transitions_of (drop (k + 1) found)) ≡ whole
+    → last_tick last (transitions_of (drop k found)) ≡ whole → last_tick m.change.tick (transitions_of (drop (k + 1) found)) ≡ whole
 later_found last k whole found m inside at all =
-    let long = length-map found (λ (x : ListedTransition). x.transition) in
-    let there : m.transition ≡ get_or (transitions_of found) k m.transition = ap (λ (x : ListedTransition). x.transition) at ∙ sym (transition_at found k m m.transition inside) in
-    ap (last_tick m.transition.tick) (sym (drop-map (λ (x : ListedTransition). x.transition) (k + 1) found))
-    ∙ one_later last (transitions_of found) k m.transition m.transition whole (omega (arith, inside, long)) there (ap (last_tick last) (drop-map (λ (x : ListedTransition). x.transition) k found) ∙ all)
+    let long = length-map found listed_transition in
+    let there : listed_transition m ≡ get_or (transitions_of found) k (listed_transition m) = ap listed_transition at ∙ sym (transition_at found k m (listed_transition m) inside) in
+    ap (last_tick m.change.tick) (sym (drop-map listed_transition (k + 1) found))
+    ∙ one_later last (transitions_of found) k (listed_transition m) (listed_transition m) whole (omega (arith, inside, long)) there (ap (last_tick last) (drop-map listed_transition k found) ∙ all)
 
 pub none_found : (signals : List SignalContents) (last k : ℕ) (found : List ListedTransition) → length found ≤ k → flat_map item_line (transition_items signals last (transitions_of (drop k found))) ≡ []
 unfolding transition_items
@@ -251,7 +250,7 @@ pub one_looked_up : (row found : List ListedTransition) (order : List ℕ) (k pl
 one_looked_up row found order k place key none inside room is of_key before =
     let m = get_or row place none in
     ap transitions_of (front_put found k m room)
-    ∙ map-append (λ (x : ListedTransition). x.transition) (take k found) (m ∷ [])
+    ∙ map-append listed_transition (take k found) (m ∷ [])
     ∙ (λ i. before i ++ order_at row order k place key none (transition_of 0 0) inside is of_key i ∷ [])
     ∙ ap (λ (t : Transition). in_order row (take k order) ++ t ∷ []) (get_or-map (transition_in row) order k key (transition_of 0 0) inside)
     ∙ sym (map-append (transition_in row) (take k order) (get_or order k key ∷ []))

@@ -5,7 +5,7 @@ use Rattle.std.specs.List.Sorted.{IsPermutation}
 use Rattle.std.proofs.lemmas.Bool.{cases_lt, ne_eqb}
 use Rattle.std.proofs.lemmas.List.Sums.{sum_by-cons}
 use Rattle.std.proofs.lemmas.List.Sorted.{sum_by-IsPermutation}
-use Rattle.vcd_text.specs.declared.writing.rows.Transition.{Transition}
+use Rattle.vcd_text.specs.inside.Transitions.{Transition}
 
 -- 1 where it holds
 abbrev pub counted : Bool → ℕ

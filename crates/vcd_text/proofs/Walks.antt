@@ -5,10 +5,9 @@ use Rattle.std.proofs.lemmas.Bool.{lt-ltb, le-ltb, ne_eqb}
 use Rattle.std.proofs.lemmas.Grind.{flat_map-append}
 use Rattle.std.proofs.lemmas.List.{append-nil, drop_all, drop_more, get_or-drop, drop-drop}
 use Rattle.vcd_core.specs.Contents.{SignalContents, no_signal, signal_value}
-use Rattle.vcd_text.specs.declared.writing.rows.Transition.{Transition}
 use Rattle.vcd_text.proofs.Counts.{transitions_split}
 use Rattle.vcd_text.specs.Items.{Item}
-use Rattle.vcd_text.specs.inside.Transitions.{transition_of, transition_value, transitions_from, last_tick, transition_items}
+use Rattle.vcd_text.specs.inside.Transitions.{Transition, transition_of, transition_value, transitions_from, last_tick, transition_items}
 use Rattle.vcd_text.specs.Text.{code_of, differs_at, end_items, item_line, new_values, stamp_of, with_stamp, tick_items, value_item, value_items}
 
 -- what is written over transitions, where the last stamp was that of a tick

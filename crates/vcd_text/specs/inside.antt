@@ -17,5 +17,6 @@ pub mod WordWalk
 pub mod Written
 pub mod ValueFronts
 pub mod TextParts
+pub mod KeptChanges
 pub mod NextChanges
 pub mod Windows

@@ -11,6 +11,7 @@ mod buffer;
 mod codes;
 mod counting;
 mod declarations;
+mod kept_changes;
 mod keys;
 mod lines;
 mod next_changes;
@@ -35,7 +36,7 @@ use windows::Window;
 /// At `NoMemory` the writer took nothing and has not failed. At `WriteFault` it has failed and took exactly the
 /// first `written` bytes of the text, all of them where it failed in the flush.
 ///
-/// It takes the time of sorts of the changes, a part at a time, and never looks at ticks without one. It holds 72
+/// It takes the time of sorts of the changes, a part at a time, and never looks at ticks without one. It holds 80
 /// bytes a signal and some 300 KiB. The declarations are made twice: they are counted before the first byte.
 pub fn write<W: Sink>(alloc: Global, capture: &Capture, writer: &mut W) -> Result<(), WriteError>
     requires sound { IsSound (contents capture.now) }

@@ -4,9 +4,13 @@ use Rattle.std.specs.List.{filter, enumerate_from}
 use Rattle.vcd_core.specs.declared.bit.Bit.{Bit}
 use Rattle.vcd_core.specs.declared.wave.Change.{Change}
 use Rattle.vcd_core.specs.Contents.{SignalContents, no_signal, signal_value}
-use Rattle.vcd_text.specs.declared.writing.rows.Transition.{Transition}
 use Rattle.vcd_text.specs.Items.{Item}
 use Rattle.vcd_text.specs.Text.{code_of, differs_at, stamp_of, value_item}
+
+-- a signal changes at a tick
+pub record Transition : Type 0 where
+  pub tick : ℕ
+  pub position : ℕ
 
 -- the signal at this position changes at this tick
 abbrev pub transition_of : ℕ → ℕ → Transition

@@ -14,19 +14,20 @@ pub const SPAN: u64 = u64::MAX / PLACES;
 /// at only where the window is long.
 pub fn are_near(row: &[ListedTransition], from: u64, to: u64) -> bool
     requires order { from ≤ to }
-    requires within { All (λ m. m.transition.tick < to) row.now }
-    ensures near { result ≡ true → All (λ m. m.transition.tick < from + SPAN) row.now }
+    requires within { All (λ m. m.change.tick < to) row.now }
+    ensures near { result ≡ true → All (λ m. m.change.tick < from + SPAN) row.now }
     ensures far { result ≡ false → from + SPAN < to }
 {
     if to - from <= SPAN {
         return true;
     }
-    row.iter().all(|listed| listed.transition.tick.saturating_sub(from) < SPAN)
+    row.iter()
+        .all(|listed| listed.change.tick.saturating_sub(from) < SPAN)
 }
 
 /// Lists the keys of a row.
 pub fn list_keys(order: &mut Vec<u64>, row: &[ListedTransition], from: u64)
-    requires near { All (λ m. m.transition.tick < from + SPAN) row.now }
+    requires near { All (λ m. m.change.tick < from + SPAN) row.now }
     requires few { length row.now ≤ PLACES }
     requires room { length row.now ≤ vec_capacity order.old }
     ensures keys { order.new.items ≡ keys_from from 0 row.now }
@@ -34,7 +35,7 @@ pub fn list_keys(order: &mut Vec<u64>, row: &[ListedTransition], from: u64)
 {
     order.clear();
     for (place, listed) in row.iter().enumerate() {
-        let ticks = listed.transition.tick.saturating_sub(from);
+        let ticks = listed.change.tick.saturating_sub(from);
         push_in_room(order, key_of(ticks, place));
     }
 }

@@ -4,35 +4,22 @@ ghost use Rattle.std.specs.Prelude.{◌≡◌, ◌<◌, ◌≤◌, ◌+◌, ◌-
 ghost use Rattle.std.specs.List.{filter};
 ghost use Rattle.vcd_core.specs.Contents.{SignalContents};
 ghost use Rattle.vcd_core.specs.Wave.{IsWave, value_at};
+ghost use Rattle.vcd_core.specs.declared.value.TheConstants.{WIDTH_LIMIT};
+ghost use Rattle.vcd_text.specs.declared.writing.keys.TheConstants.{PLACES};
 ghost use Rattle.vcd_text.specs.inside.NextChanges.{IsNext};
 ghost use Rattle.vcd_text.specs.inside.Transitions.{is_in_window, transition_of, transition_value, window_of_signal};
-ghost use Rattle.vcd_text.specs.inside.Windows.{IsListed, KeepsValue, transitions_of};
+ghost use Rattle.vcd_text.specs.inside.Windows.{IsListed, transitions_of};
 
-use super::next_changes::{NextChange, next_at};
-use vcd_core::{Change, Signal, Value, Wave};
+use super::kept_changes::{KeptChange, kept_change};
+use super::next_changes::next_at;
+use vcd_core::{Change, Signal, Wave};
 
-/// A signal changes at a tick.
-#[derive(Clone, Copy)]
-pub struct Transition {
-    pub tick: u64,
-    pub position: usize,
-}
-
-/// A value that a signal changes to, as a row keeps it: its width in bits, and the low and the high bits of its last 64
-/// letters, so that a narrow one is printed with no look at its wave. A wider one stands in the wave, at the place.
-#[derive(Clone, Copy)]
-pub struct NewValue {
-    pub width: u64,
-    pub low: u64,
-    pub high: u64,
-    pub place: usize,
-}
-
-/// A transition with its value: 48 bytes.
+/// A change of the signal at a position, with the width of its values: 40 bytes.
 #[derive(Clone, Copy)]
 pub struct ListedTransition {
-    pub transition: Transition,
-    pub value: NewValue,
+    pub change: KeptChange,
+    pub position: u32,
+    pub width: u32,
 }
 
 /// For how many signals it is guessed where their changes in a window stop, before these are listed: enough that the
@@ -44,7 +31,7 @@ pub const AHEAD: usize = 32;
 pub fn look_ahead(
     guesses: &mut [usize],
     signals: &[Signal],
-    nexts: &[NextChange],
+    nexts: &[KeptChange],
     position: usize,
     to: u64,
 )
@@ -62,32 +49,32 @@ pub fn look_ahead(
 }
 
 /// Where the changes of a window stop that begin with the next one, if there are two at most: a hint, which the search
-/// tests. It waits for no answer of the memory before it goes on.
-fn guessed_stop(wave: &Wave, next: NextChange, to: u64) -> usize {
+/// tests. It looks at the second alone, and waits for no answer of the memory before it goes on.
+fn guessed_stop(wave: &Wave, next: KeptChange, to: u64) -> usize {
     if next.tick >= to {
         return next.place;
     }
     let behind = next.place.saturating_add(1);
-    match (wave.changes().get(next.place), wave.changes().get(behind)) {
-        (Some(first), Some(second)) => next.place.saturating_add(
-            usize::from(first.tick < to) + usize::from(second.tick < to),
-        ),
-        _ => behind,
+    match wave.changes().get(behind) {
+        Some(second) => behind.saturating_add(usize::from(second.tick < to)),
+        None => behind,
     }
 }
 
 /// Lists the transitions of the signal at `position` in a window, and answers its next change behind it; none where
-/// there is no room. Where the next change is behind the window already, the wave is not looked at.
+/// there is no room. The first of them is the next change. Where that is behind the window already, the wave is not
+/// looked at.
 pub fn list_signal(
     row: &mut Vec<ListedTransition>,
     room: usize,
     position: usize,
     wave: &Wave,
-    next: NextChange,
+    next: KeptChange,
     guess: usize,
     from: u64,
     to: u64,
-) -> Option<NextChange>
+) -> Option<KeptChange>
+    requires position { position < PLACES }
     requires form { IsWave wave.now.width wave.now.changes }
     requires next { IsNext from wave.now.changes next }
     requires few { length row.old.items ≤ room }
@@ -109,11 +96,58 @@ pub fn list_signal(
     if next.tick >= to {
         return Some(next);
     }
-    let Some(stop) = window_stop(wave, next.place, guess, room - row.len(), to) else {
+    if row.len() >= room {
+        return None;
+    }
+    push_in_room(row, listed_change(next, position, wave.width()));
+    let start = place_behind(wave.changes(), next.place);
+    list_behind(row, room, position, wave, start, guess, next.tick + 1, to)
+}
+
+/// The place behind that of a change.
+fn place_behind(changes: &[Change], place: usize) -> usize
+    requires { place < length changes.now }
+    ensures { result ≡ place + 1 }
+{
+    place + 1
+}
+
+/// Lists the transitions of the signal at `position` in a window whose changes begin at a place of its wave, and answers
+/// its next change behind the window; none where there is no room.
+fn list_behind(
+    row: &mut Vec<ListedTransition>,
+    room: usize,
+    position: usize,
+    wave: &Wave,
+    start: usize,
+    guess: usize,
+    from: u64,
+    to: u64,
+) -> Option<KeptChange>
+    requires position { position < PLACES }
+    requires form { IsWave wave.now.width wave.now.changes }
+    requires start { start ≡ count_by (λ c. nat_le c.tick (from - 1)) wave.now.changes }
+    requires few { length row.old.items ≤ room }
+    requires room { room ≤ vec_capacity row.old }
+    requires from { 1 ≤ from }
+    requires order { from ≤ to }
+    ensures all { IfSome result (λ _. transitions_of row.new.items ≡
+        transitions_of row.old.items ++ window_of_signal from to position wave.now.changes) }
+    ensures listed { (signals : List SignalContents) → position < length signals →
+        ((t : ℕ) → transition_value signals (transition_of t position)
+        ≡ value_at wave.now.width wave.now.changes t) →
+        All (IsListed signals) row.old.items → All (IsListed signals) row.new.items }
+    ensures few { length row.new.items ≤ room }
+    ensures next { IfSome result (λ later. IsNext to wave.now.changes later) }
+    ensures full { IfNone result
+        (room < length row.old.items + length (window_of_signal from to position wave.now.changes)) }
+    ensures room { vec_capacity row.old ≤ vec_capacity row.new }
+{
+    let Some(stop) = window_stop(wave, start, guess, room - row.len(), to) else {
         return None;
     };
-    let changes = changes_within(wave, next, stop, from, to);
-    list_changes(row, position, changes, next.place);
+    let changes = changes_within(wave, start, stop, from, to);
+    list_changes(row, position, changes, start);
     Some(next_at(wave, stop))
 }
 
@@ -156,20 +190,20 @@ fn sure_stop(wave: &Wave, start: usize, guess: usize, most: usize, to: u64) -> u
     }
 }
 
-/// The changes of a wave in a window, from the next one on up to before a place.
-fn changes_within(wave: &Wave, next: NextChange, stop: usize, from: u64, to: u64) -> &[Change]
-    requires next { IsNext from wave.now.changes next }
+/// The changes of a wave in a window, from one place on up to before another.
+fn changes_within(wave: &Wave, start: usize, stop: usize, from: u64, to: u64) -> &[Change]
+    requires start { start ≡ count_by (λ c. nat_le c.tick (from - 1)) wave.now.changes }
     requires stop { stop ≡ count_by (λ c. nat_le c.tick (to - 1)) wave.now.changes }
     requires from { 1 ≤ from }
     requires order { from ≤ to }
     ensures { result.now ≡ filter (λ c. is_in_window from to c.tick) wave.now.changes }
 {
-    let start = next.place;
     &wave.changes()[start..stop]
 }
 
 /// Lists the transitions of changes of the signal at `position`, the first of which stands at a place of its wave.
 fn list_changes(row: &mut Vec<ListedTransition>, position: usize, changes: &[Change], first: usize)
+    requires position { position < PLACES }
     requires room { length row.old.items + length changes.now ≤ vec_capacity row.old }
     ensures all { transitions_of row.new.items ≡
         transitions_of row.old.items ++ map (λ c. transition_of c.tick position) changes.now }
@@ -179,24 +213,23 @@ fn list_changes(row: &mut Vec<ListedTransition>, position: usize, changes: &[Cha
     ensures room { vec_capacity row.old ≤ vec_capacity row.new }
 {
     for (k, change) in changes.iter().enumerate() {
-        let transition = Transition {
-            tick: change.tick,
-            position,
-        };
-        let value = new_value(&change.value, first.saturating_add(k));
-        push_in_room(row, ListedTransition { transition, value });
+        let kept = kept_change(change, first.saturating_add(k));
+        push_in_room(row, listed_change(kept, position, change.value.width()));
     }
 }
 
-/// A value as a row keeps it.
-fn new_value(value: &Value, place: usize) -> NewValue
-    ensures { KeepsValue value.now result }
+/// A change of the signal at `position`, with the width of its values, as a row lists it.
+fn listed_change(change: KeptChange, position: usize, width: u64) -> ListedTransition
+    requires position { position < PLACES }
+    requires width { width ≤ WIDTH_LIMIT }
+    ensures change { result.change ≡ change }
+    ensures position { result.position ≡ position }
+    ensures width { result.width ≡ width }
 {
-    NewValue {
-        width: value.width(),
-        low: value.word_low(0),
-        high: value.word_high(0),
-        place,
+    ListedTransition {
+        change,
+        position: position as u32,
+        width: width as u32,
     }
 }
 

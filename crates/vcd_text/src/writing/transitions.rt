@@ -8,15 +8,15 @@ ghost use Rattle.vcd_core.specs.Sound.{IsSoundSignal};
 ghost use Rattle.vcd_core.specs.declared.capture.TheConstants.{END_LIMIT, SIGNAL_LIMIT};
 ghost use Rattle.vcd_text.specs.inside.NextChanges.{AreNext};
 ghost use Rattle.vcd_text.specs.inside.Transitions.{last_tick, transition_items, transition_value};
-ghost use Rattle.vcd_text.specs.inside.Windows.{IsListed, IsKeyIn, in_order, transitions_of};
+ghost use Rattle.vcd_text.specs.inside.Windows.{IsListed, IsKeyIn, in_order, listed_transition, transitions_of};
 ghost use Rattle.vcd_text.specs.inside.Written.{Writes};
 ghost use Rattle.vcd_text.specs.declared.writing.keys.TheConstants.{PLACES};
 ghost use Rattle.vcd_text.specs.Text.{all_values, code_of, end_items, first_items, item_line, stamp_of, tick_items, value_item};
 
 use super::buffer::{WriteBuffer, write_byte, write_piece};
+use super::kept_changes::KeptChange;
 use super::keys::place_of;
-use super::next_changes::NextChange;
-use super::rows::{ListedTransition, NewValue, Transition};
+use super::rows::ListedTransition;
 use super::values::{write_value, write_word_value};
 use super::windows::{Window, fill_window};
 use itoa::Buffer;
@@ -53,7 +53,7 @@ pub fn write_transitions<W: Sink>(
     writer: &mut W,
     signals: &[Signal],
     window: &mut Window,
-    nexts: &mut [NextChange],
+    nexts: &mut [KeptChange],
     end: u64,
 )
     requires few { length signals.now ≤ SIGNAL_LIMIT }
@@ -110,16 +110,14 @@ const PART: usize = 32;
 
 /// What stands where nothing was looked up yet.
 const NO_TRANSITION: ListedTransition = ListedTransition {
-    transition: Transition {
+    change: KeptChange {
+        place: 0,
         tick: 0,
-        position: 0,
-    },
-    value: NewValue {
-        width: 0,
         low: 0,
         high: 0,
-        place: 0,
     },
+    position: 0,
+    width: 0,
 };
 
 /// Writes the transitions of a row in the order of keys, behind what stands at tick `last`, and answers the last tick.
@@ -182,9 +180,9 @@ fn write_found<W: Sink>(
 {
     let mut last = last;
     for listed in found {
-        write_new_stamp(buffer, writer, last, listed.transition.tick);
+        write_new_stamp(buffer, writer, last, listed.change.tick);
         write_new_value(buffer, writer, signals, *listed);
-        last = listed.transition.tick;
+        last = listed.change.tick;
     }
     last
 }
@@ -200,17 +198,28 @@ fn write_new_value<W: Sink>(
     requires listed { IsListed (map signal_contents signals.now) listed }
     ensures { Writes buffer.old (W.taken writer.old) (W.has_failed writer.old)
         buffer.new (W.taken writer.new) (W.has_failed writer.new)
-        (item_line (value_item (code_of listed.transition.position)
-        (transition_value (map signal_contents signals.now) listed.transition))) }
+        (item_line (value_item (code_of listed.position)
+        (transition_value (map signal_contents signals.now) (listed_transition listed)))) }
 {
-    let ListedTransition { transition, value } = listed;
-    let position = transition.position;
-    if value.width <= 64 {
-        write_word_value(buffer, writer, position, value.width, value.low, value.high);
+    let ListedTransition {
+        change,
+        position,
+        width,
+    } = listed;
+    let position = position as usize;
+    if width <= 64 {
+        write_word_value(
+            buffer,
+            writer,
+            position,
+            width as u64,
+            change.low,
+            change.high,
+        );
         return;
     }
     let wave = &signals[position].wave;
-    write_value_near(buffer, writer, position, wave, transition.tick, value.place);
+    write_value_near(buffer, writer, position, wave, change.tick, change.place);
 }
 
 /// Writes the value at `tick`. Where the change at `place` has that tick, it is that of the change, with no search.

@@ -10,8 +10,9 @@ ghost use Rattle.vcd_text.specs.inside.NextChanges.{AreNext};
 ghost use Rattle.vcd_text.specs.inside.Transitions.{transitions_from, window_by_signal};
 ghost use Rattle.vcd_text.specs.inside.Windows.{IsListed, IsKeyIn, in_order, transitions_of};
 
+use super::kept_changes::KeptChange;
 use super::keys::{are_near, list_keys};
-use super::next_changes::{NextChange, find_next_changes};
+use super::next_changes::find_next_changes;
 use super::rows::{AHEAD, ListedTransition, list_signal, look_ahead};
 use std::alloc::Global;
 use vcd_core::{NoMemory, Signal};
@@ -31,8 +32,8 @@ pub struct Window {
 }
 
 impl Window {
-    /// An empty window with room for the transitions of any one tick, and of several where signals change seldom: 56
-    /// bytes a signal, 224 KiB at least.
+    /// An empty window with room for the transitions of any one tick, and of several where signals change seldom: 48
+    /// bytes a signal, 192 KiB at least.
     pub fn new(alloc: Global, signals: &[Signal]) -> Result<Window, NoMemory>
         requires { length signals.now ≤ SIGNAL_LIMIT }
         ensures all { IfOk result (λ window. length signals.now ≤ window.room) }
@@ -54,7 +55,7 @@ pub fn fill_window(
     order: &mut Vec<u64>,
     room: usize,
     signals: &[Signal],
-    nexts: &mut [NextChange],
+    nexts: &mut [KeptChange],
     from: u64,
     most: u64,
     end: u64,
@@ -88,13 +89,14 @@ fn fill_some(
     row: &mut Vec<ListedTransition>,
     room: usize,
     signals: &[Signal],
-    nexts: &mut [NextChange],
+    nexts: &mut [KeptChange],
     from: u64,
     most: u64,
     end: u64,
 ) -> u64
     requires next { AreNext from signals.now nexts.old }
     requires all { length signals.now ≤ room }
+    requires few { room ≤ PLACES }
     requires room { room ≤ vec_capacity row.old }
     requires sound { All (IsSoundSignal end) (map signal_contents signals.now) }
     requires from { 1 ≤ from }
@@ -105,7 +107,7 @@ fn fill_some(
     ensures all { transitions_of row.new.items ≡
         window_by_signal from (from + result) 0 (map signal_contents signals.now) }
     ensures listed { All (IsListed (map signal_contents signals.now)) row.new.items }
-    ensures near { All (λ m. m.transition.tick < from + SPAN) row.new.items }
+    ensures near { All (λ m. m.change.tick < from + SPAN) row.new.items }
     ensures few { length row.new.items ≤ room }
     ensures next { AreNext (from + result) signals.now nexts.new }
     ensures room { vec_capacity row.old ≤ vec_capacity row.new }
@@ -123,11 +125,12 @@ fn fill_ticks(
     row: &mut Vec<ListedTransition>,
     room: usize,
     signals: &[Signal],
-    nexts: &mut [NextChange],
+    nexts: &mut [KeptChange],
     from: u64,
     to: u64,
     end: u64,
 ) -> bool
+    requires few { length signals.now ≤ PLACES }
     requires next { AreNext from signals.now nexts.old }
     requires room { room ≤ vec_capacity row.old }
     requires sound { All (IsSoundSignal end) (map signal_contents signals.now) }
@@ -136,7 +139,7 @@ fn fill_ticks(
     ensures all { result ≡ true → transitions_of row.new.items ≡
         window_by_signal from to 0 (map signal_contents signals.now) }
     ensures listed { result ≡ true → All (IsListed (map signal_contents signals.now)) row.new.items }
-    ensures near { result ≡ true → All (λ m. m.transition.tick < from + SPAN) row.new.items }
+    ensures near { result ≡ true → All (λ m. m.change.tick < from + SPAN) row.new.items }
     ensures few { length row.new.items ≤ room }
     ensures next { AreNext (if result then to else from) signals.now nexts.new }
     ensures full { result ≡ false → (from + SPAN < to) ⊎
@@ -157,11 +160,12 @@ fn fill_row(
     row: &mut Vec<ListedTransition>,
     room: usize,
     signals: &[Signal],
-    nexts: &mut [NextChange],
+    nexts: &mut [KeptChange],
     from: u64,
     to: u64,
     end: u64,
 ) -> bool
+    requires few { length signals.now ≤ PLACES }
     requires next { AreNext from signals.now nexts.old }
     requires room { room ≤ vec_capacity row.old }
     requires sound { All (IsSoundSignal end) (map signal_contents signals.now) }

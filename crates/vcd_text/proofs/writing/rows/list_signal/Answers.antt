@@ -1,16 +1,20 @@
--- The changes of the window have the values of their wave; where the next change is behind it, there is none.
-use Rattle.std.proofs.Common.{◌-◌, List, ◌++◌, length, map, sym, ap, ◌∙◌, arith}
-use Rattle.std.specs.List.{filter}
-use Rattle.std.proofs.lemmas.List.{append-nil, length-append, length-map}
+-- The first transition is that of the next change; where that is behind the window, there is none.
+use Rattle.std.proofs.Common.{◌≡◌, ◌<◌, ◌+◌, ◌-◌, List, [], ◌∷◌, ◌++◌, length, map, get_or, IfNone, refl, sym, ap, subst, ◌∙◌, arith}
+use Rattle.std.proofs.lemmas.List.{append-nil, length_push}
+use Rattle.std.proofs.lemmas.Option.{IfSome_then}
 use Rattle.vcd_core.specs.declared.wave.Change.{Change}
 use Rattle.vcd_core.specs.Value.{all_x}
-use Rattle.vcd_text.specs.declared.writing.rows.Transition.{Transition}
+use Rattle.vcd_core.specs.Wave.{change}
+use Rattle.vcd_text.specs.declared.writing.kept_changes.KeptChange.{KeptChange}
 use Rattle.vcd_text.specs.declared.writing.rows.ListedTransition.{ListedTransition}
-use Rattle.vcd_text.specs.inside.Transitions.{is_in_window, transition_of}
-use Rattle.vcd_text.specs.inside.Windows.{transitions_of}
-use Rattle.vcd_text.proofs.Listing.{count_rises}
-use Rattle.vcd_text.proofs.NextChanges.{stays_next, still_window, window_length}
-use Rattle.vcd_text.proofs.Rows.{window_values}
+use Rattle.vcd_text.specs.inside.KeptChanges.{KeepsChange}
+use Rattle.vcd_text.specs.inside.Transitions.{Transition, transition_of, window_of_signal}
+use Rattle.vcd_text.specs.inside.Windows.{listed_transition, transitions_of}
+use Rattle.vcd_text.proofs.CopiedWaves.{wide_at}
+use Rattle.vcd_text.proofs.Listing.{count_to}
+use Rattle.vcd_text.proofs.Near.{value_standing}
+use Rattle.vcd_text.proofs.NextChanges.{behind_next, first_transition, stays_next, still_window}
+use Rattle.vcd_text.proofs.Rows.{is_listed, listed_more, one_put}
 use Rattle.vcd_text.proofs.writing.rows.list_signal.Goals as goal
 
 pub returns-then-next-to-clause-all : goal.returns-then-next-to-clause-all
@@ -19,53 +23,62 @@ returns-then-next-to-clause-all c =
     let none = still_window c.args.from c.args.to 0 (all_x c.args.wave.now.width) c.args.wave.now.changes c.args.next c.requires.form.rise c.requires.next c.requires.from c.requires.order (omega arith) in
     sym (append-nil row) ∙ ap (λ (l : List Change). row ++ map (λ (x : Change). transition_of x.tick c.args.position) l) (sym none)
 
-pub returns-clause-listed : goal.returns-clause-listed
-returns-clause-listed c = λ signals inside values before.
-    c.list_changes.ensures.listed signals inside
-    (window_values signals c.args.position c.args.from c.args.to c.args.wave.now.width c.args.wave.now.changes c.changes_within-changes.result.now c.requires.form.rise c.changes_within-changes.ensures values) before
-
 pub returns-then-next-to-clause-next : goal.returns-then-next-to-clause-next
 returns-then-next-to-clause-next c = stays_next c.args.from c.args.to c.args.wave.now.changes c.args.next c.requires.next c.requires.from c.requires.order (omega arith)
 
-pub window_stop-requires-clause-start : goal.window_stop-requires-clause-start
-window_stop-requires-clause-start c = omega (arith, c.requires.next.place, count_rises (c.args.from - 1) (c.args.to - 1) c.args.wave.now.changes (omega arith))
+pub place_behind-start-requires : goal.place_behind-start-requires
+place_behind-start-requires c = subst (λ (l : List Change). c.args.next.place < length l) (sym c.changes.ensures.changes) (c.requires.next.inside (omega arith))
 
-pub returns-in_default-clause-full : goal.returns-in_default-clause-full
-returns-in_default-clause-full c =
+pub list_behind-requires-clause-start : goal.list_behind-requires-clause-start
+list_behind-requires-clause-start c =
     let cs = c.args.wave.now.changes in
-    let count = window_length c.args.from c.args.to 0 (all_x c.args.wave.now.width) cs c.requires.form.rise c.requires.from c.requires.order in
-    let part = length-map (filter (λ (x : Change). is_in_window c.args.from c.args.to x.tick) cs) (λ (x : Change). transition_of x.tick c.args.position) in
-    omega (arith, c.in_default.ensures.full, c.requires.next.place, count, part, c.len.ensures)
+    let next = c.args.next in
+    let here : next.tick ≡ next.tick + 1 - 1 = omega arith in
+    c.place_behind-start.ensures
+    ∙ behind_next c.args.from 0 (all_x c.args.wave.now.width) cs next c.requires.form.rise c.requires.next (c.requires.next.inside (omega arith))
+    ∙ ap (λ t. count_to t cs) here
 
-pub list_changes-requires : goal.list_changes-requires
-list_changes-requires c =
+-- the first transition of the window, and the others
+first : (c : goal.After-list_behind) → window_of_signal c.args.from c.args.to c.args.position c.args.wave.now.changes
+    ≡ transition_of c.args.next.tick c.args.position ∷ window_of_signal (c.args.next.tick + 1) c.args.to c.args.position c.args.wave.now.changes
+first c =
+    first_transition c.args.from c.args.to c.args.position 0 (all_x c.args.wave.now.width) c.args.wave.now.changes c.args.next c.requires.form.rise c.requires.next (c.requires.next.inside (omega arith))
+    c.requires.from c.requires.order (omega arith)
+
+pub returns-then-len-room-clause-full : goal.returns-then-len-room-clause-full
+returns-then-len-room-clause-full c =
+    let some =
+    first_transition c.args.from c.args.to c.args.position 0 (all_x c.args.wave.now.width) c.args.wave.now.changes c.args.next c.requires.form.rise c.requires.next (c.requires.next.inside (omega arith))
+    c.requires.from c.requires.order (omega arith) in
+    omega (arith, ap (length {A = Transition}) some, c.len.ensures)
+
+pub returns-clause-all : goal.returns-clause-all
+returns-clause-all c =
+    let m = c.listed_change.result in
+    let row = c.args.row.now.items in
+    let rest = window_of_signal (c.args.next.tick + 1) c.args.to c.args.position c.args.wave.now.changes in
+    let is : listed_transition m ≡ transition_of c.args.next.tick c.args.position = λ i. transition_of (c.listed_change.ensures.change i).tick (c.listed_change.ensures.position i) in
+    IfSome_then c.list_behind.result c.list_behind.ensures.all
+    (λ _ all. all ∙ one_put row c.push_in_room.new.list.items m (transition_of c.args.next.tick c.args.position) rest c.push_in_room.ensures.items is ∙ ap (λ l. transitions_of row ++ l) (sym (first c)))
+
+pub returns-clause-listed : goal.returns-clause-listed
+returns-clause-listed c = λ signals inside values before.
+    let m = c.listed_change.result in
     let cs = c.args.wave.now.changes in
-    let count = window_length c.args.from c.args.to 0 (all_x c.args.wave.now.width) cs c.requires.form.rise c.requires.from c.requires.order in
-    let long = ap (length {A = Change}) c.changes_within-changes.ensures in
-    record { room = omega (arith, c.in-Some.ensures.stop, c.in-Some.ensures.few, c.requires.next.place, count, long, c.len.ensures, c.requires.few, c.requires.room) }
+    let next = c.args.next in
+    let width = c.args.wave.now.width in
+    let x = get_or cs next.place (change 0 []) in
+    let there : next.place < length cs = c.requires.next.inside (omega arith) in
+    let keeps : KeepsChange x m.change = subst (λ (l : KeptChange). KeepsChange x l) (sym c.listed_change.ensures.change) (c.requires.next.kept (change 0 []) there) in
+    let value = values x.tick ∙ value_standing 0 (all_x width) cs next.place x.tick (change 0 []) c.requires.form.rise there refl in
+    let wide = c.listed_change.ensures.width ∙ c.width.ensures.width ∙ sym (wide_at width cs next.place (change 0 []) c.requires.form there) in
+    let here = is_listed signals c.args.position x m c.listed_change.ensures.position keeps wide (omega (arith, c.listed_change.ensures.width, c.width.ensures.least)) inside value in
+    c.list_behind.ensures.listed signals inside values (listed_more signals m c.args.row.now.items c.push_in_room.new.list.items here c.push_in_room.ensures.items before)
 
-pub returns-clause-few : goal.returns-clause-few
-returns-clause-few c =
-    let cs = c.args.wave.now.changes in
-    let count = window_length c.args.from c.args.to 0 (all_x c.args.wave.now.width) cs c.requires.form.rise c.requires.from c.requires.order in
-    let long = ap (length {A = Change}) c.changes_within-changes.ensures in
-    let part = c.changes_within-changes.result.now in
-    let grown = ap (length {A = Transition}) c.list_changes.ensures.all in
-    omega (
-      arith,
-      c.in-Some.ensures.stop,
-      c.in-Some.ensures.few,
-      c.requires.next.place,
-      count,
-      long,
-      c.len.ensures,
-      c.requires.few,
-      grown,
-      length-append (transitions_of c.args.row.now.items) (map (λ (x : Change). transition_of x.tick c.args.position) part),
-      length-map part (λ (x : Change). transition_of x.tick c.args.position),
-      length-map c.args.row.now.items (λ (m : ListedTransition). m.transition),
-      length-map c.list_changes.new.row.items (λ (m : ListedTransition). m.transition),
-    )
-
-pub returns-clause-next : goal.returns-clause-next
-returns-clause-next c = c.next_at.ensures c.args.to c.in-Some.ensures.stop
+pub returns-clause-full : goal.returns-clause-full
+returns-clause-full c =
+    let rest = window_of_signal (c.args.next.tick + 1) c.args.to c.args.position c.args.wave.now.changes in
+    let whole = window_of_signal c.args.from c.args.to c.args.position c.args.wave.now.changes in
+    let grown = ap (length {A = ListedTransition}) c.push_in_room.ensures.items ∙ length_push c.args.row.now.items c.listed_change.result in
+    let same : length c.push_in_room.new.list.items + length rest ≡ length c.args.row.now.items + length whole = omega (arith, grown, ap (length {A = Transition}) (first c)) in
+    subst (λ n. IfNone c.list_behind.result (c.args.room < n)) same c.list_behind.ensures.full

@@ -14,7 +14,7 @@ pub loop-listed-preserved : goal.loop-listed-preserved
 loop-listed-preserved g c =
     let found = c.args.found.now in
     let k = c.loop-listed.listed-index in
-    let none : ListedTransition = record { transition = record { tick = 0; position = 0 }; value = record { width = 0; low = 0; high = 0; place = 0 } } in
+    let none : ListedTransition = record { change = record { place = 0; tick = 0; low = 0; high = 0 }; position = 0; width = 0 } in
     let m = get_or found k none in
     let inside : k < length found = omega arith in
     let at = get_or_default found k none m inside in

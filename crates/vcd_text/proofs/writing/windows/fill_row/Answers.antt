@@ -5,8 +5,8 @@ use Rattle.std.proofs.lemmas.List.{get_or-map, length-map, length-set}
 use Rattle.vcd_core.specs.declared.wave.Change.{Change}
 use Rattle.vcd_core.specs.Contents.{SignalContents, no_signal, signal_contents}
 use Rattle.vcd_core.specs.Wave.{IsWave}
-use Rattle.vcd_text.specs.declared.writing.rows.ListedTransition.{ListedTransition}
 use Rattle.vcd_text.specs.inside.Transitions.{is_in_window, transition_of}
+use Rattle.vcd_text.specs.inside.Windows.{listed_transition}
 use Rattle.vcd_text.proofs.Listing.{one_listed, all_listed, longer_than}
 use Rattle.vcd_text.proofs.NextChanges.{left_next, passed_next}
 use Rattle.vcd_text.proofs.Rows.{value_there}
@@ -29,7 +29,7 @@ returns-in-None-clause-full c = λ _.
     let k = c.loop-position.position in
     let longer = longer_than c.args.from c.args.to k c.args.signals.now c.index-signals-position.result _ _ (omega arith) c.index-signals-position.is c.loop-position.invariant.all in
     let part = length-map (filter (λ (x : Change). is_in_window c.args.from c.args.to x.tick) c.index-signals-position.result.wave.changes) (λ (x : Change). transition_of x.tick k) in
-    omega (arith, longer, part, c.in-None.ensures.full, length-map c.loop-position.row.items (λ (m : ListedTransition). m.transition))
+    omega (arith, longer, part, c.in-None.ensures.full, length-map c.loop-position.row.items listed_transition)
 
 pub loop-position-preserved : goal.loop-position-preserved
 loop-position-preserved c =

@@ -2,7 +2,7 @@
 use Rattle.std.proofs.Common.{◌≡◌, ◌<◌, ◌≤◌, ◌++◌, ℕ, length, drop, map, get_or, All, vec_capacity}
 use Rattle.vcd_core.specs.declared.capture.Signal.{Signal}
 use Rattle.vcd_core.specs.Contents.{signal_contents}
-use Rattle.vcd_text.specs.declared.writing.next_changes.NextChange.{NextChange}
+use Rattle.vcd_text.specs.declared.writing.kept_changes.KeptChange.{KeptChange}
 use Rattle.vcd_text.specs.declared.writing.rows.TheConstants.{AHEAD}
 use Rattle.vcd_text.specs.inside.NextChanges.{IsNext}
 use Rattle.vcd_text.specs.inside.Transitions.{window_by_signal}
@@ -16,8 +16,8 @@ invariant-loop-position l =
       listed : All (IsListed (map signal_contents l.signals)) l.row.items;
       guesses : length l.guesses ≡ AHEAD;
       all_next : length l.nexts ≡ length l.signals;
-      passed : (k : ℕ) (s : Signal) (n : NextChange) → k < l.position → IsNext l.to (get_or l.signals k s).wave.changes (get_or l.nexts k n);
-      left : (k : ℕ) (s : Signal) (n : NextChange) → l.position ≤ k → k < length l.signals → IsNext l.from (get_or l.signals k s).wave.changes (get_or l.nexts k n);
+      passed : (k : ℕ) (s : Signal) (n : KeptChange) → k < l.position → IsNext l.to (get_or l.signals k s).wave.changes (get_or l.nexts k n);
+      left : (k : ℕ) (s : Signal) (n : KeptChange) → l.position ≤ k → k < length l.signals → IsNext l.from (get_or l.signals k s).wave.changes (get_or l.nexts k n);
       few : length l.row.items ≤ l.room;
       room : vec_capacity l.fn.row ≤ vec_capacity l.row;
     }
