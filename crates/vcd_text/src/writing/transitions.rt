@@ -42,7 +42,7 @@ fn write_all_values<W: Sink>(buffer: &mut WriteBuffer, writer: &mut W, signals: 
         (flat_map item_line (all_values (map signal_contents signals.now) 0)) }
 {
     for (position, signal) in signals.iter().enumerate() {
-        write_value(buffer, writer, position, &signal.wave.at(0));
+        write_value_near(buffer, writer, position, &signal.wave, 0, 0);
     }
 }
 
@@ -73,7 +73,7 @@ pub fn write_transitions<W: Sink>(
     let room = *room;
     let mut last = 0;
     let mut from = 1;
-    let mut most = end.max(1);
+    let mut most = first_most(signals, room, end);
     while from <= end {
         if writer.failed() {
             return;
@@ -92,6 +92,23 @@ pub fn write_transitions<W: Sink>(
         from += count;
     }
     write_last_stamp(buffer, writer, last, end);
+}
+
+/// How many ticks the first window may have: as many as use seven eighths of its room, if the changes are spread evenly.
+fn first_most(signals: &[Signal], room: usize, end: u64) -> u64
+    ensures { 1 ≤ result }
+{
+    let windows = change_count(signals) / (room / 8).saturating_mul(7).max(1);
+    (end / (windows as u64).saturating_add(1)).max(1)
+}
+
+/// How many changes signals have.
+fn change_count(signals: &[Signal]) -> usize {
+    let mut count: usize = 0;
+    for signal in signals {
+        count = count.saturating_add(signal.wave.changes().len());
+    }
+    count
 }
 
 /// How many ticks the next window may have: twice as many where this one used less than a quarter of its room.
