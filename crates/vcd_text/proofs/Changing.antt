@@ -15,7 +15,7 @@ use Rattle.vcd_core.specs.declared.value.TheConstants.{WIDTH_LIMIT}
 use Rattle.vcd_text.specs.Faults.{ChangeFault, no_tick, tick_goes_back, value_alone, value_of_none, pair_of_none, no_value, value_too_long, declaration_late, no_change, among_changes, WordFault, pair_prefixes}
 use Rattle.vcd_text.specs.inside.Variables.{Knows, BinaryNumberFault, TakesChange}
 use Rattle.vcd_text.specs.inside.Variables as variables
-use Rattle.vcd_text.specs.inside.Reading.{Agrees, AwaitsCode, IsBegun, At, goes_on, ends_item, TakesOrRefuses}
+use Rattle.vcd_text.specs.inside.Reading.{Agrees, AwaitsCode, IsBegun, At, TakesWord, goes_on, ends_item, TakesOrRefuses}
 use Rattle.vcd_text.specs.declared.reading.reader.Reader.{Reader}
 use Rattle.vcd_text.specs.declared.reading.reader.OpenItem.{OpenItem}
 use Rattle.vcd_text.specs.declared.reading.reader.OpenItem.TheVariants as items
@@ -29,7 +29,7 @@ not_both : {A : Type 0} {b : Bool} → b ≡ true → b ≡ false → A
 not_both is isnt = let both : true ≡ false = sym is ∙ isnt in absurd (cc)
 
 -- no word has been taken of an item that is not open
-none_begun : (m : Reader) (begun : List PlacedWord) → m.item ≡ items.Nothing → IsBegun m begun m.item → begun ≡ []
+pub none_begun : (m : Reader) (begun : List PlacedWord) → m.item ≡ items.Nothing → IsBegun m begun m.item → begun ≡ []
 none_begun m begun between taken = subst (IsBegun m begun) between taken
 
 -- a word that is a whole item
@@ -234,21 +234,34 @@ vector_shows c first digits code fault is (variables.unknown none which) = pair_
 vector_shows c first digits code fault is (variables.no_value d found keeps isnt which) = no_value first digits d refl is found keeps isnt which
 vector_shows c first digits code fault is (variables.too_long d found keeps value long which) = value_too_long first digits d refl is found keeps value long which
 
+-- all words of a change of several bits have been taken
+pub whole_vector : (m : Reader) (c : Context) (vs : Variables) (item : OpenItem) (words : List PlacedWord) (letter : ℕ) (digits code : List ℕ) → Agrees m c → m.changing ≡ true
+    → item ≡ items.Nothing → is_among vector_prefixes letter ≡ true → (letter ∷ digits) ∷ code ∷ [] ≡ word_texts words → TakesChange c code digits (Ok tt) vs
+    → TakesWord c words (record m { variables = vs; item = item })
+whole_vector m c vs item words letter digits code agrees changing closed is spelled change =
+    ends_item (vector letter digits code) spelled (sym agrees.changing ∙ changing, is, change.0) (
+      agrees_set m c vs (told_after_item c (vector letter digits code)).value_changes item agrees changing change.1,
+      subst (IsBegun (record m { variables = vs; item = item }) []) (sym closed) refl,
+    )
+
+-- the code of a change of several bits shows a fault
+pub vector_shown : (m : Reader) (c : Context) (letter : ℕ) (digits code : List ℕ) (fault : Fault) → Agrees m c → m.changing ≡ true
+    → is_among vector_prefixes letter ≡ true → BinaryNumberFault c code digits fault → WordFault c ((letter ∷ digits) ∷ []) code fault
+vector_shown m c letter digits code fault agrees changing is row = among_changes (sym agrees.changing ∙ changing) (vector_shows c letter digits code fault is row)
+
 pub ends_vector : (m : Reader) (vs : Variables) (code : List ℕ) (line : ℕ) (r : Result (Unit {0}) Fault) → m.item ≡ items.Vector
     → ((c : Context) → c.tick ≡ m.tick → Knows m.variables c → TakesChange c code m.text.items r vs)
     → TakesOrRefuses m (word_on code line) r (record m { variables = vs; item = items.Nothing })
 ends_vector m vs code line (Ok x) item takes = λ c begun (agrees, taken).
     let b : AwaitsCode m begun vector_prefixes m.text.items = subst (IsBegun m begun) item taken in
-    let change = takes c (sym agrees.tick) agrees.variables in
-    ends_item (vector b.letter m.text.items code) (texts_whole m begun vector_prefixes m.text.items code line b)
-    (sym agrees.changing ∙ b.changes, b.among, change.0)
-    (agrees_set m c vs (told_after_item c (vector b.letter m.text.items code)).value_changes items.Nothing agrees b.changes change.1, refl)
+    whole_vector m c vs items.Nothing (begun ++ word_on code line ∷ []) b.letter m.text.items code agrees b.changes refl b.among
+    (texts_whole m begun vector_prefixes m.text.items code line b) (takes c (sym agrees.tick) agrees.variables)
 ends_vector m vs code line (Err fault) item takes = λ c begun (agrees, taken).
     let b : AwaitsCode m begun vector_prefixes m.text.items = subst (IsBegun m begun) item taken in
     elim (takes c (sym agrees.tick) agrees.variables) [
       | inl memory ↦ inl memory
-      | inr row ↦ inr (among_changes (sym agrees.changing ∙ b.changes)
-          (subst (λ ts. ChangeFault c ts code fault) (sym (texts_begun m begun vector_prefixes m.text.items b)) (vector_shows c b.letter m.text.items code fault b.among row)))
+      | inr row ↦ inr (subst (λ ts. WordFault c ts code fault) (sym (texts_begun m begun vector_prefixes m.text.items b))
+          (vector_shown m c b.letter m.text.items code fault agrees b.changes b.among row))
     ]
 
 pub ends_dropped : (m : Reader) (code : List ℕ) (line : ℕ) → m.item ≡ items.Dropped

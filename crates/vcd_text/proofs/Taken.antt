@@ -1,23 +1,27 @@
--- One more word, from the first word of the file on.
+-- One more word, or both of a change of several bits, from the first word of the file on.
 use Rattle.std.specs.Prelude.{Bool, true, false, IsTrue, IsFalse, ◌==◌, ◌&&◌, not}
-use Rattle.std.proofs.Common.{◌≡◌, ◌⊎◌, inl, inr, cond, List, [], ◌∷◌, ◌++◌, refl, sym, ap, subst, ◌∙◌, append_assoc}
+use Rattle.std.proofs.Common.{◌≡◌, ◌⊎◌, inl, inr, cond, Ok, Err, List, [], ◌∷◌, ◌++◌, refl, sym, ap, subst, ◌∙◌, append_assoc}
 use Rattle.std.proofs.lemmas.List.{append-nil, map-append}
 use Rattle.std.proofs.lemmas.Bool.{and_parts, eqb-true, false≢true}
 use Rattle.std.specs.Prelude.{ℕ}
 use Rattle.vcd_text.specs.declared.fault.Fault.{Fault}
-use Rattle.vcd_text.specs.Words.{PlacedWord}
+use Rattle.vcd_text.specs.declared.fault.ReadError.{ReadError}
+use Rattle.vcd_text.specs.Words.{PlacedWord, word_on}
 use Rattle.vcd_text.specs.Letters.{is_among}
 use Rattle.vcd_core.specs.Word.{is_one_of}
 use Rattle.vcd_text.specs.Items.{Item, spelling, spellings, is_other, begins_declaration, declaring_words, dump_words, vector_prefixes}
 use Rattle.vcd_text.specs.Grammar.{Context, Allows, AllowsAll, told_after, told_after_item, nothing_told, word_texts}
 use Rattle.vcd_text.specs.Faults.{WordFault, among_declarations, among_changes, ChangeFault, no_tick, tick_goes_back, value_alone, value_of_none, pair_of_none, no_value, value_too_long, declaration_late, no_change, pair_prefixes, ShowsFault, fault_line}
 use Rattle.vcd_text.specs.inside.OpenItems.{shown_line}
-use Rattle.vcd_text.specs.inside.Reading.{Reads, TakesWord, goes_on, ends_item, Agrees, IsBegun, is_want_of_memory, error_at}
+use Rattle.vcd_text.specs.inside.Reading.{Reads, TakesWord, goes_on, ends_item, Agrees, IsBegun, is_want_of_memory, error_at, BeginsVector, Steps}
+use Rattle.vcd_text.specs.inside.Variables.{Knows, BinaryNumberFault, TakesChange}
 use Rattle.vcd_text.specs.Refusals.{memory_error}
 use Rattle.vcd_text.specs.declared.fault.Fault.TheVariants.{NoMemory}
 use Rattle.vcd_text.specs.declared.reading.reader.OpenItem.{OpenItem}
 use Rattle.vcd_text.specs.declared.reading.reader.OpenItem.TheVariants as items
 use Rattle.vcd_text.specs.declared.reading.reader.Reader.{Reader}
+use Rattle.vcd_text.specs.declared.reading.variables.Variables.{Variables}
+use Rattle.vcd_text.proofs.Changing.{none_begun, whole_vector, vector_shown}
 
 allowed_more : (c : Context) (is : List Item) (i : Item) → AllowsAll c is → Allows (told_after c is) i → AllowsAll c (is ++ i ∷ [])
 allowed_more c [] i all here = (here, tt)
@@ -31,29 +35,29 @@ spelled_more : (is : List Item) (i : Item) → spellings (is ++ i ∷ []) ≡ sp
 spelled_more [] i = append-nil (spelling i)
 spelled_more (j ∷ is) i = ap (λ ws. spelling j ++ ws) (spelled_more is i) ∙ sym (append_assoc (spelling j) (spellings is) (spelling i))
 
--- the word goes on with the open item, or ends it
-pub one_taken : (old new : Reader) (words : List PlacedWord) (w : PlacedWord) (r : Reads old words) → TakesWord r.told (r.begun ++ w ∷ []) new → Reads new (words ++ w ∷ [])
-one_taken old new words w r (goes_on at) = record {
+-- words that go on with the open item, or end it
+pub words_taken : (old new : Reader) (taken words : List PlacedWord) (r : Reads old taken) → TakesWord r.told (r.begun ++ words) new → Reads new (taken ++ words)
+words_taken old new taken words r (goes_on at) = record {
   items = r.items;
   whole = r.whole;
-  begun = r.begun ++ w ∷ [];
+  begun = r.begun ++ words;
   told = r.told;
-  parts = ap (λ ws. ws ++ w ∷ []) r.parts ∙ append_assoc r.whole r.begun (w ∷ []);
+  parts = ap (λ ws. ws ++ words) r.parts ∙ append_assoc r.whole r.begun words;
   spelled = r.spelled;
   allowed = r.allowed;
   tells = r.tells;
   at = at;
 }
-one_taken old new words w r (ends_item i spelled allows at) = record {
+words_taken old new taken words r (ends_item i spelled allows at) = record {
   items = r.items ++ i ∷ [];
-  whole = words ++ w ∷ [];
+  whole = taken ++ words;
   begun = [];
   told = told_after_item r.told i;
-  parts = sym (append-nil (words ++ w ∷ []));
+  parts = sym (append-nil (taken ++ words));
   spelled =
-      ap word_texts (ap (λ ws. ws ++ w ∷ []) r.parts ∙ append_assoc r.whole r.begun (w ∷ []))
-      ∙ map-append (λ (v : PlacedWord). v.text) r.whole (r.begun ++ w ∷ [])
-      ∙ ap (λ ws. ws ++ word_texts (r.begun ++ w ∷ [])) r.spelled
+      ap word_texts (ap (λ ws. ws ++ words) r.parts ∙ append_assoc r.whole r.begun words)
+      ∙ map-append (λ (v : PlacedWord). v.text) r.whole (r.begun ++ words)
+      ∙ ap (λ ws. ws ++ word_texts (r.begun ++ words)) r.spelled
       ∙ ap (λ ws. spellings r.items ++ ws) (sym spelled)
       ∙ sym (spelled_more r.items i);
   allowed = allowed_more nothing_told r.items i r.allowed (subst (λ c. Allows c i) (sym r.tells) allows);
@@ -61,21 +65,33 @@ one_taken old new words w r (ends_item i spelled allows at) = record {
   at = at;
 }
 
--- the word shows a fault, whatever follows it
-pub one_refused : (old : Reader) (words more : List PlacedWord) (w : PlacedWord) (r : Reads old words) (line : ℕ) (fault : Fault) → WordFault r.told (word_texts r.begun) w.text fault
-    → line ≡ fault_line r.told.changing r.begun w → ShowsFault (words ++ w ∷ more) line fault
-one_refused old words more w r line fault decided at = record {
+-- behind the whole items a word shows a fault, whatever follows it
+shown_behind : (old : Reader) (taken words begun more : List PlacedWord) (w : PlacedWord) (r : Reads old taken) (line : ℕ) (fault : Fault) → words ≡ r.whole ++ (begun ++ w ∷ more)
+    → WordFault r.told (word_texts begun) w.text fault → line ≡ fault_line r.told.changing begun w → ShowsFault words line fault
+shown_behind old taken words begun more w r line fault parts decided at = record {
   items = r.items;
   whole = r.whole;
-  begun = r.begun;
+  begun = begun;
   word = w;
   more = more;
-  parts = ap (λ ws. ws ++ w ∷ more) r.parts ∙ append_assoc r.whole r.begun (w ∷ more);
+  parts = parts;
   spelled = r.spelled;
   allowed = r.allowed;
-  decided = subst (λ c. WordFault c (word_texts r.begun) w.text fault) (sym r.tells) decided;
-  at = at ∙ ap (λ c. fault_line c.changing r.begun w) (sym r.tells);
+  decided = subst (λ c. WordFault c (word_texts begun) w.text fault) (sym r.tells) decided;
+  at = at ∙ ap (λ c. fault_line c.changing begun w) (sym r.tells);
 }
+
+-- a fault with its line is shown; want of memory has none
+error_shown : (words : List PlacedWord) (line : ℕ) (fault : Fault) → (fault ≡ NoMemory) ⊎ ShowsFault words line fault
+    → (error_at line fault ≡ memory_error) ⊎ ShowsFault words (error_at line fault).line (error_at line fault).fault
+error_shown words line fault (inl none) = inl (ap (error_at line) none)
+error_shown words line fault (inr shows) =
+    by_test (λ b. let e : ReadError = cond b memory_error (record { line = line; fault = fault }) in (e ≡ memory_error) ⊎ ShowsFault words e.line e.fault)
+    (is_want_of_memory fault) (inl refl) (inr shows)
+  where
+    by_test : (P : Bool → Type 0) (b : Bool) → P true → P false → P b
+    by_test P true t f = t
+    by_test P false t f = f
 
 -- ---- lines
 
@@ -126,15 +142,42 @@ line_shown m c begun w fault items.Vector agrees is decided = is.line ∙ sym ((
 line_shown m c begun w fault items.Dropped agrees (text, is) decided = is.line ∙ sym ((λ i. fault_line (sym agrees.changing i) (is.is i) w) ∙ ap (λ b. fault_line b (is.word ∷ []) w) is.changes)
 
 -- the fault of a word is that of the definition, with its line, whatever follows
-pub one_shown : (old : Reader) (words more : List PlacedWord) (w : PlacedWord) (r : Reads old words) (fault : Fault) → (fault ≡ NoMemory) ⊎ WordFault r.told (word_texts r.begun) w.text fault
-    → (error_at (shown_line old.item old.line w.line) fault ≡ memory_error) ⊎ ShowsFault (words ++ w ∷ more) (error_at (shown_line old.item old.line w.line) fault).line (error_at (shown_line old.item old.line w.line) fault).fault
-one_shown old words more w r fault (inl none) = inl (ap (error_at (shown_line old.item old.line w.line)) none)
-one_shown old words more w r fault (inr decided) =
-    let line : ℕ = shown_line old.item old.line w.line in
-    by_test (λ b. (cond b memory_error (record { line = line; fault = fault }) ≡ memory_error)
-    ⊎ ShowsFault (words ++ w ∷ more) (cond b memory_error (record { line = line; fault = fault })).line (cond b memory_error (record { line = line; fault = fault })).fault)
-    (is_want_of_memory fault) (inl refl) (inr (one_refused old words more w r line fault decided (line_shown old r.told r.begun w fault old.item r.at.0 r.at.1 decided)))
-  where
-    by_test : (P : Bool → Type 0) (b : Bool) → P true → P false → P b
-    by_test P true t f = t
-    by_test P false t f = f
+pub one_shown : (old : Reader) (taken more : List PlacedWord) (w : PlacedWord) (r : Reads old taken) (fault : Fault) → (fault ≡ NoMemory) ⊎ WordFault r.told (word_texts r.begun) w.text fault
+    → (let e : ReadError = error_at (shown_line old.item old.line w.line) fault in (e ≡ memory_error) ⊎ ShowsFault (taken ++ w ∷ more) e.line e.fault)
+one_shown old taken more w r fault refused =
+    let line = shown_line old.item old.line w.line in
+    let words : List PlacedWord = taken ++ w ∷ more in
+    let parts : words ≡ r.whole ++ (r.begun ++ w ∷ more) = ap (λ ws. ws ++ w ∷ more) r.parts ∙ append_assoc r.whole r.begun (w ∷ more) in
+    error_shown words line fault (elim refused [
+      | inl memory ↦ inl memory
+      | inr row ↦ inr (shown_behind old taken words r.begun more w r line fault parts row (line_shown old r.told r.begun w fault old.item r.at.0 r.at.1 row))
+    ])
+
+-- ---- both words of a change of several bits
+
+-- they are taken at once
+pub whole_vector_taken : (m : Reader) (vs : Variables) (text digits code : List ℕ) (line code_line : ℕ) → BeginsVector m text digits
+    → ((c : Context) → c.tick ≡ m.tick → Knows m.variables c → TakesChange c code digits (Ok tt) vs)
+    → Steps m (word_on text line ∷ word_on code code_line ∷ []) (Ok tt) (record m { variables = vs })
+whole_vector_taken m vs text digits code line code_line b takes taken r =
+    let words : List PlacedWord = word_on text line ∷ word_on code code_line ∷ [] in
+    let none = none_begun m r.begun b.between r.at.1 in
+    words_taken m (record m { variables = vs }) taken words r
+    (whole_vector m r.told vs m.item (r.begun ++ words) b.letter digits code r.at.0 b.changes b.between b.among
+    (sym (ap (λ bs. word_texts (bs ++ words)) none ∙ ap (λ t. t ∷ code ∷ []) b.spelled)) (takes r.told (sym r.at.0.tick) r.at.0.variables))
+
+-- the code shows a fault, with the line of the first
+pub whole_vector_refused : (m new : Reader) (text digits code : List ℕ) (line code_line : ℕ) (fault : Fault) → BeginsVector m text digits
+    → ((c : Context) → c.tick ≡ m.tick → Knows m.variables c → (fault ≡ NoMemory) ⊎ BinaryNumberFault c code digits fault)
+    → Steps m (word_on text line ∷ word_on code code_line ∷ []) (Err (error_at line fault)) new
+whole_vector_refused m new text digits code line code_line fault b refuses taken more r =
+    let first = word_on text line in
+    let words : List PlacedWord = taken ++ first ∷ word_on code code_line ∷ more in
+    let none = none_begun m r.begun b.between r.at.1 in
+    let parts : words ≡ r.whole ++ first ∷ word_on code code_line ∷ more = ap (λ ws. ws ++ first ∷ word_on code code_line ∷ more) (r.parts ∙ ap (λ bs. r.whole ++ bs) none ∙ append-nil r.whole) in
+    error_shown words line fault (elim (refuses r.told (sym r.at.0.tick) r.at.0.variables) [
+      | inl memory ↦ inl memory
+      | inr row ↦ inr (shown_behind m taken words (first ∷ []) more (word_on code code_line) r line fault parts
+          (subst (λ t. WordFault r.told (t ∷ []) code fault) (sym b.spelled) (vector_shown m r.told b.letter digits code fault r.at.0 b.changes b.among row))
+          (ap (λ changing. fault_line changing (first ∷ []) (word_on code code_line)) (sym b.changes ∙ r.at.0.changing)))
+    ])

@@ -113,10 +113,10 @@ is_want_of_memory fault = false
 abbrev pub error_at : ℕ → Fault → ReadError
 error_at line fault = if is_want_of_memory fault then memory_error else record { line = line; fault = fault }
 
--- a word more has been taken, or it shows a fault whatever follows, or memory has run out
-abbrev pub Steps : Reader → PlacedWord → Result (Unit {0}) ReadError → Reader → Type 0
-Steps old w (Ok x) new = (words : List PlacedWord) → Reads old words → Reads new (words ++ w ∷ [])
-Steps old w (Err e) new = (words more : List PlacedWord) → Reads old words → (e ≡ memory_error) ⊎ ShowsFault (words ++ w ∷ more) e.line e.fault
+-- these words more have been taken, or one of them shows a fault whatever follows, or memory has run out
+abbrev pub Steps : Reader → List PlacedWord → Result (Unit {0}) ReadError → Reader → Type 0
+Steps old words (Ok x) new = (taken : List PlacedWord) → Reads old taken → Reads new (taken ++ words)
+Steps old words (Err e) new = (taken more : List PlacedWord) → Reads old taken → (e ≡ memory_error) ⊎ ShowsFault (taken ++ (words ++ more)) e.line e.fault
 
 -- these words can be taken behind those that have been
 abbrev pub HasRoomFor : Reader → List PlacedWord → Type 0
@@ -130,6 +130,14 @@ ReadsMore taken words (Err e) new = (e ≡ memory_error) ⊎ ShowsFault (taken +
 -- nothing is open, and `$enddefinitions $end` has come
 abbrev pub is_complete : Reader → Bool
 is_complete m = m.changing && is_nothing m.item
+
+-- as the next word, this one begins a change of several bits with these digits
+pub record BeginsVector (m : Reader) (text digits : List ℕ) : Type 0 where
+  pub between : m.item ≡ items.Nothing
+  pub changes : IsTrue m.changing
+  pub letter : ℕ
+  pub spelled : text ≡ letter ∷ digits
+  pub among : IsTrue (is_among vector_prefixes letter)
 
 -- the file whose words have been taken means these contents, with so many variables skipped
 pub record Means (m : Reader) (contents : Contents) (skipped : ℕ) : Type 0 where

@@ -1,13 +1,13 @@
 //! The words of changes: stamps, values, brackets of dumps, and commands that are passed over.
 //!
 //! A change takes one look-up of its code and one push, that of a narrow variable into the log. Only the digits of
-//! a change of several bits are kept till its code comes, in room that stays.
+//! a change of several bits whose code is not there yet are kept till it comes, in room that stays.
 
-ghost use Rattle.std.specs.Prelude.{◌≡◌, ◌<◌, ◌∷◌, ℕ, List, true, false, length, Ok, codes};
+ghost use Rattle.std.specs.Prelude.{◌≡◌, ◌<◌, ◌∷◌, ℕ, List, true, false, length, Ok, IfSome, codes};
 ghost use Rattle.vcd_text.specs.Words.{word_on};
 ghost use Rattle.vcd_text.specs.Letters.{is_among, is_binary_digit as digit_test};
 ghost use Rattle.vcd_text.specs.Items.{is_command, vector_prefixes, dropped_prefixes};
-ghost use Rattle.vcd_text.specs.inside.Reading.{IsUnderway, TakesOrRefuses};
+ghost use Rattle.vcd_text.specs.inside.Reading.{IsUnderway, TakesOrRefuses, BeginsVector};
 ghost use Rattle.vcd_text.specs.declared.reading.reader.OpenItem.TheVariants as items;
 
 use crate::fault::Fault;
@@ -107,6 +107,19 @@ impl Reader {
         let digits = [digit];
         self.variables
             .change(alloc, code, self.tick, digits.as_slice())
+    }
+
+    /// The digits of the change of several bits that this word begins as the next one, if it begins one.
+    pub fn digits_of_vector<'a>(&self, text: &'a [u8]) -> Option<&'a [u8]>
+        ensures { IfSome result (λ digits. BeginsVector self.now text.now digits.now) }
+    {
+        if self.item != OpenItem::Nothing {
+            return None;
+        }
+        match text {
+            [first, digits @ ..] if self.changing && is_vector_prefix(*first) => Some(digits),
+            _ => None,
+        }
     }
 
     /// Begins a change of several bits, and keeps its digits.

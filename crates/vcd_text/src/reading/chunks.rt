@@ -1,23 +1,24 @@
 //! A file in chunks: of each the words that are sure are taken before the next is asked for.
 
-ghost use Rattle.std.specs.Prelude.{◌≡◌, ◌⊎◌, ◌+◌, ◌<◌, ◌≤◌, ℕ, true, false, not, List, [], ◌++◌, length, take, drop, count_by, ◌==◌, Option, IfOk, IfErr, IfSome, OnOk, IsErrOf};
+ghost use Rattle.std.specs.Prelude.{◌≡◌, ◌⊎◌, ◌∷◌, ◌+◌, ◌<◌, ◌≤◌, ℕ, true, false, not, List, [], ◌++◌, length, take, drop, count_by, ◌==◌, Option, IfOk, IfErr, IfSome, OnOk, IsErrOf};
 ghost use Rattle.std.specs.List.{list_all};
 ghost use Rattle.std.specs.Io.KnownBytes.{Consumes, Keeps, IsAtEnd};
 ghost use Rattle.vcd_core.specs.Word.{is_white_space as white};
 ghost use Rattle.vcd_core.specs.Contents.{contents};
 ghost use Rattle.vcd_core.specs.Sound.{IsSound};
-ghost use Rattle.vcd_text.specs.Words.{words_from, PlacedWord};
+ghost use Rattle.vcd_text.specs.Words.{words_from, PlacedWord as WordInFile};
+ghost use Rattle.vcd_text.specs.LentWords.{word_at};
 ghost use Rattle.vcd_text.specs.Meaning.{FileMeans};
 ghost use Rattle.vcd_text.specs.Faults.{FileFault};
 ghost use Rattle.vcd_text.specs.Refusals.{memory_error, IsRefusal};
 ghost use Rattle.vcd_text.specs.inside.Spaces.{is_closed};
-ghost use Rattle.vcd_text.specs.inside.Reading.{Reads, HasRoomFor, ReadsMore};
+ghost use Rattle.vcd_text.specs.inside.Reading.{Reads, IsUnderway, Steps, HasRoomFor, ReadsMore};
 ghost use Rattle.vcd_text.specs.inside.Chunks.{Holds, StandsAt, HasCome, TakesChunk};
 
 use crate::fault::{Fault, ReadError};
 use crate::reading::reader::Reader;
 use crate::reading::{FILE_LIMIT, Loaded};
-use crate::words::Words;
+use crate::words::{PlacedWord, Words};
 use std::alloc::Global;
 use vcd_core::{Incomplete, Source, is_white_space};
 
@@ -184,14 +185,34 @@ fn closed_len(bytes: &[u8], from: usize) -> usize
 /// Takes words one after another, up to the first that shows a fault.
 fn read_words(reader: &mut Reader, alloc: Global, all: Words) -> Result<(), ReadError>
     requires { HasRoomFor reader.old all }
-    ensures { (taken : List PlacedWord) → Reads reader.old taken →
+    ensures { (taken : List WordInFile) → Reads reader.old taken →
         ReadsMore taken all.entry result reader.new }
 {
     let mut words = all;
-    while let Some(word) = words.next_word() {
-        reader.take_word(alloc, word.text, word.line)?;
+    while let Some(first) = words.next_word() {
+        take_from(reader, alloc, first, &mut words)?;
     }
     Ok(())
+}
+
+/// Takes this word, and with it the code behind it where it begins a change of several bits.
+fn take_from(
+    reader: &mut Reader,
+    alloc: Global,
+    first: PlacedWord,
+    words: &mut Words,
+) -> Result<(), ReadError>
+    requires reading { IsUnderway reader.old }
+    requires word { 0 < length first.text.now }
+    ensures { (behind : List WordInFile) × (words.old ≡ behind ++ words.new)
+        × Steps reader.old (word_at first.entry ∷ behind) result reader.new }
+{
+    if let Some(digits) = reader.digits_of_vector(first.text) {
+        if let Some(code) = words.next_word() {
+            return reader.take_vector(alloc, digits, code.text, first.line);
+        }
+    }
+    reader.take_word(alloc, first.text, first.line)
 }
 
 /// How many line feeds there are.

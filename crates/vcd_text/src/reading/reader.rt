@@ -1,12 +1,12 @@
 //! The reader, which takes one word after another.
 
-ghost use Rattle.std.specs.Prelude.{◌≡◌, ◌<◌, [], true, length, IfOk};
+ghost use Rattle.std.specs.Prelude.{◌≡◌, ◌<◌, ◌∷◌, [], ℕ, List, true, length, IfOk};
 ghost use Rattle.vcd_text.specs.Grammar.{Context};
 ghost use Rattle.vcd_text.specs.inside.Variables.{Knows};
 ghost use Rattle.vcd_core.specs.Contents.{contents};
 ghost use Rattle.vcd_text.specs.Words.{word_on};
 ghost use Rattle.vcd_text.specs.inside.OpenItems.{shown_line};
-ghost use Rattle.vcd_text.specs.inside.Reading.{Reads, IsUnderway, TakesOrRefuses, Steps, error_at, is_complete, Means};
+ghost use Rattle.vcd_text.specs.inside.Reading.{Reads, IsUnderway, TakesOrRefuses, Steps, error_at, is_complete, BeginsVector, Means};
 
 use crate::fault::{Fault, ReadError};
 use crate::reading::Loaded;
@@ -77,12 +77,31 @@ impl Reader {
     pub fn take_word(&mut self, alloc: Global, text: &[u8], line: u64) -> Result<(), ReadError>
         requires reading { IsUnderway self.old }
         requires word { 0 < length text.now }
-        ensures { Steps self.old (word_on text.now line) result self.new }
+        ensures { Steps self.old (word_on text.now line ∷ []) result self.new }
     {
         let shown = self.shown_line(line);
         match self.take(alloc, text, line) {
             Ok(()) => Ok(()),
             Err(fault) => Err(error_at(shown, fault)),
+        }
+    }
+
+    /// Takes the two words of a change of several bits at once: these digits, behind the letter of the first, which
+    /// stands on this line, and the code.
+    pub fn take_vector(
+        &mut self,
+        alloc: Global,
+        digits: &[u8],
+        code: &[u8],
+        line: u64,
+    ) -> Result<(), ReadError>
+        requires reading { IsUnderway self.old }
+        ensures { (text : List ℕ) (code_line : ℕ) → BeginsVector self.old text digits.now →
+            Steps self.old (word_on text line ∷ word_on code.now code_line ∷ []) result self.new }
+    {
+        match self.variables.change(alloc, code, self.tick, digits) {
+            Ok(()) => Ok(()),
+            Err(fault) => Err(error_at(line, fault)),
         }
     }
 

@@ -1,41 +1,56 @@
-use Rattle.std.proofs.Common.{◌≡◌, ◌⊎◌, Err, [], ◌∷◌, ◌++◌, length, sym, ap, subst, ◌∙◌, arith, append_assoc, append-nil, length-append, refl}
+use Rattle.std.proofs.Common.{◌≡◌, ◌⊎◌, Err, List, [], ◌∷◌, ◌++◌, length, sym, ap, subst, ◌∙◌, arith, append_assoc, append-nil, length-append, refl}
 use Rattle.std.proofs.lemmas.Result.{err_from_is_err_and}
 use Rattle.vcd_text.specs.declared.fault.ReadError.{ReadError}
-use Rattle.vcd_text.specs.Words.{PlacedWord, word_on}
+use Rattle.vcd_text.specs.Words.{PlacedWord}
+use Rattle.vcd_text.specs.LentWords.{word_at}
 use Rattle.vcd_text.specs.Faults.{ShowsFault}
 use Rattle.vcd_text.specs.Refusals.{memory_error}
 use Rattle.vcd_text.specs.inside.Reading.{Reads, ReadsMore}
 use Rattle.vcd_text.proofs.reading.chunks.read_words.Goals as goal
 
-pub loop-word-init : goal.loop-word-init
-loop-word-init c = ([], refl, λ taken reads. subst (Reads c.args.reader.now) (sym (append-nil taken)) reads)
+-- what came, this word and those behind it that have been taken with it, and what is left
+in_turn : (all came words behind left : List PlacedWord) (first : PlacedWord) (rest : List PlacedWord) → all ≡ came ++ words → words ≡ first ∷ rest → rest ≡ behind ++ left
+    → all ≡ came ++ (first ∷ behind) ++ left
+in_turn all came words behind left first rest parts next taken = parts ∙ ap (λ ws. came ++ ws) (next ∙ ap (λ ws. first ∷ ws) taken) ∙ sym (append_assoc came (first ∷ behind) left)
 
-pub take_word-requires-clause-reading : goal.take_word-requires-clause-reading
-take_word-requires-clause-reading c =
-    let came = c.loop-word.invariant.0 in
+pub loop-first-init : goal.loop-first-init
+loop-first-init c = ([], refl, λ taken reads. subst (Reads c.args.reader.now) (sym (append-nil taken)) reads)
+
+pub take_from-requires-clause-reading : goal.take_from-requires-clause-reading
+take_from-requires-clause-reading c =
+    let came = c.loop-first.invariant.0 in
     let (taken, reads, few) = c.requires in
     record {
       words = taken ++ came;
-      reads = c.loop-word.invariant.2 taken reads;
-      few = omega (arith, few, length-append taken came, length-append came c.loop-word.words, ap (length {A = PlacedWord}) c.loop-word.invariant.1);
+      reads = c.loop-first.invariant.2 taken reads;
+      few = omega (arith, few, length-append taken came, length-append came c.loop-first.words, ap (length {A = PlacedWord}) c.loop-first.invariant.1);
     }
 
-pub loop-word-preserved : goal.loop-word-preserved
-loop-word-preserved c =
-    let came = c.loop-word.invariant.0 in
-    let w = word_on c.in-Some.word.text.now c.in-Some.word.line in (
-      came ++ w ∷ [],
-      c.loop-word.invariant.1 ∙ ap (λ left. came ++ left) c.in-Some.ensures.words ∙ sym (append_assoc came (w ∷ []) _),
-      λ taken reads. subst (Reads c.take_word.new.self) (append_assoc taken came (w ∷ [])) (c.in_ok-take_word.ensures (taken ++ came) (c.loop-word.invariant.2 taken reads)),
+pub loop-first-smaller : goal.loop-first-smaller
+loop-first-smaller c =
+    let (behind, left, steps) = c.in_ok-take_from.ensures in
+    omega (arith, length-append behind c.take_from.new.words, ap (length {A = PlacedWord}) left, ap (length {A = PlacedWord}) c.in-Some.ensures.words)
+
+pub loop-first-preserved : goal.loop-first-preserved
+loop-first-preserved c =
+    let came = c.loop-first.invariant.0 in
+    let (behind, left, steps) = c.in_ok-take_from.ensures in
+    let more = word_at c.in-Some.first ∷ behind in (
+      came ++ more,
+      in_turn c.args.all came c.loop-first.words behind c.take_from.new.words (word_at c.in-Some.first) c.next_word.new.self c.loop-first.invariant.1 c.in-Some.ensures.words left,
+      λ taken reads. subst (Reads c.take_from.new.reader) (append_assoc taken came more) (steps (taken ++ came) (c.loop-first.invariant.2 taken reads)),
     )
 
-pub returns-in_err-take_word : goal.returns-in_err-take_word
-returns-in_err-take_word c = λ taken reads.
-    let came = c.loop-word.invariant.0 in
-    let w = word_on c.in-Some.word.text.now c.in-Some.word.line in
+pub returns-in_err-take_from : goal.returns-in_err-take_from
+returns-in_err-take_from c = λ taken reads.
+    let came = c.loop-first.invariant.0 in
+    let (behind, left, steps) = c.in_err-take_from.ensures in
     let refused = err_from_is_err_and c.from_residual.result c.from_residual.ensures.1 in
-    let all : (taken ++ came) ++ w ∷ c.next_word.new.self ≡ taken ++ c.args.all =
-    append_assoc taken came _ ∙ ap (λ words. taken ++ words) (sym (c.loop-word.invariant.1 ∙ ap (λ left. came ++ left) c.in-Some.ensures.words)) in
-    let e : ReadError = c.in_err-take_word.field-0.0 in
-    subst (λ r. ReadsMore taken c.args.all r c.take_word.new.self) (sym (refused.1 ∙ ap Err refused.2))
-    (subst (λ words. (e ≡ memory_error) ⊎ ShowsFault words e.line e.fault) all (c.in_err-take_word.ensures (taken ++ came) c.next_word.new.self (c.loop-word.invariant.2 taken reads)))
+    let first = word_at c.in-Some.first in
+    let more = c.take_from.new.words in
+    let parts = in_turn c.args.all came c.loop-first.words behind more first c.next_word.new.self c.loop-first.invariant.1 c.in-Some.ensures.words left in
+    let all : (taken ++ came) ++ first ∷ (behind ++ more) ≡ taken ++ c.args.all =
+    append_assoc taken came _ ∙ ap (λ words. taken ++ words) (sym (append_assoc came (first ∷ behind) more) ∙ sym parts) in
+    let e : ReadError = c.in_err-take_from.field-0.0 in
+    subst (λ r. ReadsMore taken c.args.all r c.take_from.new.reader) (sym (refused.1 ∙ ap Err refused.2))
+    (subst (λ words. (e ≡ memory_error) ⊎ ShowsFault words e.line e.fault) all (steps (taken ++ came) more (c.loop-first.invariant.2 taken reads)))

@@ -1,18 +1,18 @@
-use Rattle.std.proofs.Common.{◌≡◌, ◌∷◌, ◌++◌, ◌⊎◌, ap, sym, subst, ◌∙◌}
+use Rattle.std.proofs.Common.{◌≡◌, ◌∷◌, ◌++◌, ◌⊎◌, [], ap, sym, subst, ◌∙◌}
 use Rattle.vcd_text.specs.Words.{word_on}
 use Rattle.vcd_text.specs.inside.Reading.{error_at}
 use Rattle.vcd_text.specs.Refusals.{memory_error}
 use Rattle.vcd_text.specs.Faults.{ShowsFault}
 use Rattle.vcd_text.specs.declared.fault.ReadError.{ReadError}
-use Rattle.vcd_text.proofs.Taken.{one_taken, one_shown}
+use Rattle.vcd_text.proofs.Taken.{words_taken, one_shown}
 use Rattle.vcd_text.proofs.reading.reader.Reader.take_word.Goals as goal
 
 pub returns-in-Ok : goal.returns-in-Ok
-returns-in-Ok c = λ words r. one_taken c.args.self.now c.take.new.self words (word_on c.args.text.now c.args.line) r (c.in-Ok.ensures r.told r.begun r.at)
+returns-in-Ok c = λ taken r. words_taken c.args.self.now c.take.new.self taken (word_on c.args.text.now c.args.line ∷ []) r (c.in-Ok.ensures r.told r.begun r.at)
 
 pub returns-in-Err : goal.returns-in-Err
-returns-in-Err c = λ words more r.
+returns-in-Err c = λ taken more r.
     let w = word_on c.args.text.now c.args.line in
     let is = ap (λ line. error_at line c.in-Err.fault) (sym c.shown_line-shown.ensures) ∙ sym c.error_at.ensures in
-    subst (λ (e : ReadError). (e ≡ memory_error) ⊎ ShowsFault (words ++ w ∷ more) e.line e.fault) is
-    (one_shown c.args.self.now words more w r c.in-Err.fault (c.in-Err.ensures r.told r.begun r.at))
+    subst (λ (e : ReadError). (e ≡ memory_error) ⊎ ShowsFault (taken ++ w ∷ more) e.line e.fault) is
+    (one_shown c.args.self.now taken more w r c.in-Err.fault (c.in-Err.ensures r.told r.begun r.at))
