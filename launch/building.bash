@@ -1,0 +1,95 @@
+# What ./vcdedit and ./first-look share, up to the program that they run: both say $me, and read $top.
+
+# Says one line on standard error.
+say() {
+    echo "$me: $*" >&2
+}
+
+# Says what was asked for where the answer needs no program: help and the version stand in the tree, as cases.
+answer_from_the_tree() { # WORD
+    local answer
+    case "$1" in
+        -h | --help) answer=help ;;
+        -V | --version) answer=version ;;
+        *) return ;;
+    esac
+    if ! cat "$top/cases/$answer/replies.txt" 2>/dev/null; then
+        echo "vcdedit: replies: write fault" >&2
+        exit 4
+    fi
+    exit 0
+}
+
+# Whether a program is missing, or older than a source of it.
+is_old() { # PROGRAM
+    [[ ! -x "$1" || -n "$(newer_source "$1")" ]]
+}
+
+newer_source() { # PROGRAM
+    find "$top/crates.txt" "$top/crates" -name out -prune -o \
+        \( -name '*.rt' -o -name '*.antt' -o -name crates.txt \) -newer "$1" -print -quit
+}
+
+# Ends where the toolchain is not there.
+want_rt() {
+    if ! command -v rt > /dev/null; then
+        say "rt is not on the path: the Rattle kit has it in bin/; begin with START-HERE.md, the kit's first page" \
+            "(README.md names the kit's version)"
+        exit 70
+    fi
+}
+
+# Runs MAKER where the program is old; of several calls at once the first does.
+make_once() { # PROGRAM MAKER
+    local lock
+    mkdir -p "$(dirname "$1")"
+    exec {lock}> "$1.lock"
+    flock "$lock"
+    if is_old "$1"; then
+        "$2" {lock}>&-
+    fi
+    exec {lock}>&-
+}
+
+# Starts a command in a process group of its own, whose number is $started: it ends with this script.
+start() { # COMMAND..
+    set -m
+    "$@" &
+    started=$!
+    set +m
+    trap 'kill -- "-$started" 2>/dev/null; exit 130' INT TERM HUP
+}
+
+# Waits for what was started, and gives its status; a terminal shows meanwhile how long it runs, and how far it is.
+finish() { # LOG
+    local status=0
+    while [[ -t 2 ]] && kill -0 "$started" 2>/dev/null; do
+        printf '\r\e[K%s: %s%s' "$me" "$(duration "$SECONDS")" "$(progress "$1")" >&2
+        sleep 1
+    done
+    [[ ! -t 2 ]] || printf '\r\e[K' >&2
+    wait "$started" || status=$?
+    trap - INT TERM HUP
+    return "$status"
+}
+
+# Seconds as a reader takes them.
+duration() { # SECONDS
+    if (($1 < 60)); then
+        echo "$1 s"
+    else
+        echo "$(($1 / 60)) min $(($1 % 60)) s"
+    fi
+}
+
+# How far the prover is, by its log: the crate, and how many of its functions are checked.
+progress() { # LOG
+    local crate="" functions="" line
+    while IFS= read -r line; do
+        case "$line" in
+            "rt: chose --jobs "*" for "*) crate=${line##* for } functions= ;;
+            "so far: "*" functions checked"*) functions=${line#so far: } functions=${functions%% functions checked*} ;;
+        esac
+    done < <(grep -aE '^(rt: chose --jobs|so far:)' "$1" 2>/dev/null)
+    echo "${crate:+: $crate}${functions:+, $functions functions}"
+}
