@@ -2,12 +2,16 @@
 """Measures reading and writing, beside GTKWave's converters in the same run.
 
     bench/compare.py PROGRAM FOLDER MEGABYTES [ROUNDS]
+    bench/compare.py PROGRAM FOLDER shared [ROUNDS]
 
 For each shape of make_captures.py, whose files lie in FOLDER: PROGRAM reads the capture with an empty script and
 writes it, and vcd2fst and fst2vcd turn it to FST and back. The figure that counts is the CPU time (user and system), the
 least of ROUNDS (3 if absent): a machine that others use adds to it, and never takes from it. The rounds go over all
-works in turn, so that a slow minute falls on all. Memory is the most that one process had; the floor is that of this
-program, some 10 MB.
+works in turn, so that a slow minute falls on all. Memory is the most that one process had, beside the changes in the
+file; the floor is that of this program, some 10 MB.
+
+`shared` takes the captures of many variables of one code, and PROGRAM alone: it lists them, and reads and writes that
+of 3,000 variables.
 """
 
 import os
@@ -16,7 +20,9 @@ import sys
 import tempfile
 import time
 
-SHAPES = ("analyser", "simulator", "wide")
+SHAPES = ("analyser", "simulator", "wide", "hierarchy")
+CONVERTERS = "vcd2fst, fst2vcd"
+SHARED = ("clock_of_100_scopes", "60000_of_one_code", "3000_of_one_code")
 
 
 class Cost:
@@ -50,9 +56,17 @@ def works(program, capture, work):
     return {
         "vcdedit: read": [[program, "-i", capture, "--script", script]],
         "vcdedit: read, write": [[program, "-i", capture, "--script", script, "-o", written]],
-        "vcd2fst, fst2vcd": [["vcd2fst", capture, packed], ["fst2vcd", packed, "-o", written]],
+        CONVERTERS: [["vcd2fst", capture, packed], ["fst2vcd", packed, "-o", written]],
         "cat": [["cat", capture]],
     }
+
+
+def shared_works(program, capture, work):
+    """The same of many variables of one code. The written text is as long as all of them, so only one is written."""
+    found = {"vcdedit: list": [[program, "-i", capture]]}
+    if "/3000_" in capture:
+        found["vcdedit: read, write"] = works(program, capture, work)["vcdedit: read, write"]
+    return found
 
 
 def measured(commands):
@@ -62,33 +76,44 @@ def measured(commands):
     return total
 
 
-def compare(program, capture, rounds):
+def compare(works, rounds):
     """The least cost of each work, by its name."""
     found = {}
-    with tempfile.TemporaryDirectory() as work:
-        for _ in range(rounds):
-            for name, commands in works(program, capture, work).items():
-                cost = measured(commands)
-                found[name] = cost.least(found[name]) if name in found else cost
+    for _ in range(rounds):
+        for name, commands in works.items():
+            cost = measured(commands)
+            found[name] = cost.least(found[name]) if name in found else cost
     return found
+
+
+def changes_in(capture):
+    """How many lines of a file are changes."""
+    with open(capture, "rb") as file:
+        return sum(line[0] in b"01xzb" for line in file)
+
+
+def print_costs(title, capture, costs, peer):
+    size, changes = os.path.getsize(capture), changes_in(capture)
+    for name, cost in costs.items():
+        print("| %s | %s | %.2f | %.2f | %.0f | %.0f | %.1f | %.0f | %s |" % (
+            title, name, cost.cpu, cost.wall, size / 1e6 / max(cost.cpu, 1e-3), cost.memory / 1e6, cost.memory / size,
+            cost.memory / changes, "%.2f" % (cost.cpu / peer) if peer else ""), flush=True)
 
 
 def main():
     if len(sys.argv) not in (4, 5):
         sys.exit(__doc__)
-    program, folder, megabytes = os.path.abspath(sys.argv[1]), sys.argv[2], int(sys.argv[3])
+    program, folder, megabytes = os.path.abspath(sys.argv[1]), sys.argv[2], sys.argv[3]
     rounds = int(sys.argv[4]) if len(sys.argv) > 4 else 3
-    print("| Capture | Work | CPU s | Wall s | MB/s of CPU | Memory MB | Memory / file | CPU / converters |")
-    print("|---|---|---|---|---|---|---|---|")
-    for shape in SHAPES:
-        capture = os.path.join(folder, "%s_%d.vcd" % (shape, megabytes))
-        size = os.path.getsize(capture)
-        costs = compare(program, capture, rounds)
-        peer = costs["vcd2fst, fst2vcd"].cpu
-        for name, cost in costs.items():
-            print("| %s | %s | %.2f | %.2f | %.0f | %.0f | %.1f | %.2f |" % (
-                shape, name, cost.cpu, cost.wall, size / 1e6 / max(cost.cpu, 1e-3), cost.memory / 1e6,
-                cost.memory / size, cost.cpu / peer), flush=True)
+    columns = "Capture", "Work", "CPU s", "Wall s", "MB/s of CPU", "Memory MB", "Memory / file", "Memory / change"
+    print("| %s | CPU / converters |\n|%s" % (" | ".join(columns), "---|" * (len(columns) + 1)))
+    for shape in SHARED if megabytes == "shared" else SHAPES:
+        name = shape if megabytes == "shared" else "%s_%s" % (shape, megabytes)
+        capture = os.path.join(folder, name + ".vcd")
+        with tempfile.TemporaryDirectory() as work:
+            make_works = shared_works if megabytes == "shared" else works
+            costs = compare(make_works(program, capture, work), rounds)
+        print_costs(shape, capture, costs, costs[CONVERTERS].cpu if CONVERTERS in costs else None)
 
 
 if __name__ == "__main__":

@@ -2,16 +2,26 @@
 """Writes large captures to measure with.
 
     bench/make_captures.py FOLDER MEGABYTES [SHAPE..]
+    bench/make_captures.py FOLDER shared
 
 The file of a shape is FOLDER/SHAPE_MEGABYTES.vcd; one that is there is left alone. The same bytes come each time.
 
     analyser   16 lines of one bit, as a logic analyser sees them: UART, SPI, I2C, a counter, glitches, noise
     simulator  2,000 signals of 1 to 64 bits in 200 scopes; a clock, and some 120 changes at each rising edge
     wide       65,000 signals of 1 to 32 bits in 650 scopes, each with few changes
+    hierarchy  16 x 8 modules as Icarus Verilog writes them, 852 variables of 404 codes: clock and reset in each of 145
+               scopes, vectors that one module drives and the next reads, parameters
+
+Those of many variables of one code have a size of their own, as FOLDER/NAME.vcd:
+
+    clock_of_100_scopes      one clock of 400,000 edges, in each of 100 scopes
+    60000_of_one_code        60,000 variables of one code, 1,000 changes
+    3000_of_one_code         3,000 variables of one code, 3,000 changes
 """
 
 import heapq
 import itertools
+import math
 import os
 import random
 import sys
@@ -162,13 +172,121 @@ def wide(chance):
             yield change(letters_of(widths[k], chance), code(k))
 
 
-SHAPES = {"analyser": analyser, "simulator": simulator, "wide": wide}
+# The hierarchy: in each of ROWS rows a chain of CELLS cells. A cell reads what the one before it drives.
+
+ROWS, CELLS, WIDTH = 16, 8, 16
 
 
-def make(path, shape, size):
+class Codes:
+    """A new code for each variable that drives its net, in the order of the file."""
+
+    def __init__(self):
+        self.count = 0
+
+    def new(self):
+        self.count += 1
+        return code(self.count - 1)
+
+
+def variable(kind, width, name, word):
+    return "$var %s %d %s %s%s $end\n" % (kind, width, name, word, "" if width == 1 else " [%d:0]" % (width - 1))
+
+
+def scope(name, lines):
+    return "$scope module %s $end\n%s$upscope $end\n" % (name, lines)
+
+
+def cell(codes, number, common, data, parameters):
+    """The declarations of a cell, with the codes of what it drives; its parameter's value is noted."""
+    driven, count, parameter = codes.new(), codes.new(), codes.new()
+    parameters[parameter] = number
+    lines = "$var parameter 32 %s ID [31:0] $end\n" % parameter + common + variable("wire", WIDTH, data, "d")
+    lines += variable("reg", WIDTH, driven, "q") + variable("reg", 8, count, "count")
+    return scope("cell%d" % number, lines), driven, count
+
+
+def row(codes, number, common, data, parameters):
+    """The same of a row, with the codes of its cells' outputs and counters."""
+    parameter, inner, driven, counts, last = codes.new(), "", [], [], data
+    parameters[parameter] = number
+    for k in range(CELLS):
+        lines, last, count = cell(codes, k, common, last, parameters)
+        inner, driven, counts = inner + lines, driven + [last], counts + [count]
+    lines = "$var parameter 32 %s ROW [31:0] $end\n" % parameter + common
+    lines += variable("wire", WIDTH, data, "data_in") + variable("wire", WIDTH, last, "data_out")
+    return scope("row%d" % number, lines + inner), driven, counts
+
+
+def values_of(names, letters):
+    return "".join(change(letters, name) for name in names)
+
+
+def hierarchy(chance):
+    codes, parameters = Codes(), {}
+    clock, reset, source, rows = codes.new(), codes.new(), codes.new(), codes.new()
+    parameters[rows] = ROWS
+    common = variable("wire", 1, clock, "clk") + variable("wire", 1, reset, "rst")
+    lines, outputs, counters, last = "", [], [], source
+    for number in range(ROWS):
+        more, driven, counts = row(codes, number, common, last, parameters)
+        lines, outputs, counters, last = lines + more, outputs + driven, counters + counts, driven[-1]
+    own = "$var parameter 32 %s ROWS [31:0] $end\n" % rows + common.replace("wire", "reg")
+    yield "$date\n\tMon Nov 23 12:00:00 2026\n$end\n$version\n\tIcarus Verilog\n$end\n$timescale\n\t1ps\n$end\n"
+    yield scope("tb", own + variable("reg", WIDTH, source, "source") + lines) + "$enddefinitions $end\n"
+    yield "$comment Show the parameter values. $end\n$dumpall\n"
+    yield "".join(change(format(value, "032b"), name) for name, value in parameters.items()) + "$end\n#0\n$dumpvars\n"
+    yield values_of([source, *outputs], "x" * WIDTH) + values_of(counters, "x" * 8)
+    yield "1%s\n0%s\n$end\n" % (reset, clock)
+    yield from clocked(chance, clock, reset, [source, *outputs], counters)
+
+
+def clocked(chance, clock, reset, chain, counters):
+    """At each rising edge the chain of registers moves on by one, and half of the counters count."""
+    values, counts = [0] * len(chain), [0] * len(counters)
+    for tick in itertools.count(5000, 10000):
+        yield "#%d\n1%s\n" % (tick, clock)
+        if tick == 5000:
+            yield values_of(chain, "0" * WIDTH) + values_of(counters, "0" * 8)
+        else:
+            moved = [chance.choice((values[0], chance.getrandbits(WIDTH)))] + values[:-1]
+            later = [(name, new) for name, new, old in zip(chain, moved, values) if new != old]
+            yield "".join(change(format(new, "016b"), name) for name, new in later)
+            counting = [k for k in range(len(counters)) if chance.random() < 0.5]
+            for k in counting:
+                counts[k] = (counts[k] + 1) % 256
+            yield "".join(change(format(counts[k], "08b"), counters[k]) for k in counting)
+            values = moved
+        yield "#%d\n0%s\n" % (tick + 5000, clock) + ("0%s\n" % reset if tick == 5000 else "")
+
+
+# Captures of which many variables share one code.
+
+
+def of_one_code(declarations, changes):
+    yield "$timescale 1 ns $end\n" + declarations + "$enddefinitions $end\n#0\n$dumpvars\n0!\n$end\n"
+    yield "".join("#%d\n%d!\n" % (tick, tick % 2) for tick in range(1, changes + 1))
+
+
+def clock_of_100_scopes(_):
+    return of_one_code("".join(scope("u%d" % k, variable("wire", 1, "!", "clk")) for k in range(100)), 400000)
+
+
+def variables_of_one_code(count, changes):
+    return lambda _: of_one_code("".join(variable("wire", 1, "!", "v%d" % k) for k in range(count)), changes)
+
+
+SHAPES = {"analyser": analyser, "simulator": simulator, "wide": wide, "hierarchy": hierarchy}
+SHARED = {
+    "clock_of_100_scopes": clock_of_100_scopes,
+    "60000_of_one_code": variables_of_one_code(60000, 1000),
+    "3000_of_one_code": variables_of_one_code(3000, 3000),
+}
+
+
+def make(path, shape, pieces, size):
     written = 0
     with open(path + ".part", "w") as file:
-        for piece in SHAPES[shape](random.Random(shape)):
+        for piece in pieces(random.Random(shape)):
             written += file.write(piece)
             if written >= size:
                 break
@@ -178,12 +296,17 @@ def make(path, shape, size):
 def main():
     if len(sys.argv) < 3 or not set(sys.argv[3:]) <= set(SHAPES):
         sys.exit(__doc__)
-    folder, megabytes = sys.argv[1], int(sys.argv[2])
+    folder, megabytes = sys.argv[1], sys.argv[2]
     os.makedirs(folder, exist_ok=True)
-    for shape in sys.argv[3:] or SHAPES:
-        path = os.path.join(folder, "%s_%d.vcd" % (shape, megabytes))
+    if megabytes == "shared":
+        wanted = [(name, name, pieces, math.inf) for name, pieces in SHARED.items()]
+    else:
+        size = int(megabytes) * 1000000
+        wanted = [("%s_%s" % (shape, megabytes), shape, SHAPES[shape], size) for shape in sys.argv[3:] or SHAPES]
+    for name, shape, pieces, size in wanted:
+        path = os.path.join(folder, name + ".vcd")
         if not os.path.exists(path):
-            make(path, shape, megabytes * 1000000)
+            make(path, shape, pieces, size)
         print(path, os.path.getsize(path))
 
 
