@@ -79,7 +79,7 @@ whole_list n new old all = take-append-le n new (drop (length new) old) (omega a
 
 -- ---- no later change moves
 
-moved_nowhere : (cs : List Change) → map (moved_change (pos 0)) cs ≡ cs
+pub moved_nowhere : (cs : List Change) → map (moved_change (pos 0)) cs ≡ cs
 unfolding moved_change
 moved_nowhere [] = refl
 moved_nowhere (c ∷ cs) =
