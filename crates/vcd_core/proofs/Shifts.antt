@@ -133,7 +133,7 @@ module _ (at : ℤ) (xs ys : List Change) (n gap left : ℕ) (d : Change) (all :
 -- a piece that was put behind a list goes into the gap
 pub put_into_gap : (f : Change → Change) (xs piece whole lifts list new : List Change) (from gap : ℕ) → gap ≡ length piece → from ≤ length xs → whole ≡ xs ++ piece
     → lifts ≡ take (from + gap) whole ++ map f (drop from (take (length whole - gap) whole)) → list ≡ lifts
-    → new ≡ take from list ++ take gap piece ++ drop (from + gap) list → new ≡ take from xs ++ piece ++ map f (drop from xs)
+    → new ≡ take from list ++ piece ++ drop (from + gap) list → new ≡ take from xs ++ piece ++ map f (drop from xs)
 put_into_gap f xs piece whole lifts list new from gap count within both up same is =
     let front = take (from + gap) (xs ++ piece) in
     let tail = map f (drop from xs) in
@@ -144,10 +144,4 @@ put_into_gap f xs piece whole lifts list new from gap count within both up same 
     let first : take from (front ++ tail) ≡ take from xs =
     take-append-le from front tail (omega (arith, long)) ∙ take-take from (from + gap) (xs ++ piece) (omega arith) ∙ take-append-le from xs piece within in
     let behind : drop (from + gap) (front ++ tail) ≡ tail = ap (λ n. drop n (front ++ tail)) (sym long) ∙ drop-append_seam front tail in
-    is ∙ (λ p. take from (made p) ++ take gap piece ++ drop (from + gap) (made p))
-    ∙ (λ p. first p ++ take_all gap piece (omega arith) p ++ behind p)
-
--- a piece that is empty changes nothing
-pub empty_piece : (xs piece rest : List Change) → length piece ≡ 0 → xs ++ rest ≡ xs ++ piece ++ rest
-empty_piece xs [] rest none = ap (λ l. l ++ rest) (sym (append-nil xs))
-empty_piece xs (c ∷ cs) rest none = absurd (omega arith)
+    is ∙ (λ p. take from (made p) ++ piece ++ drop (from + gap) (made p)) ∙ (λ p. first p ++ piece ++ behind p)

@@ -1,47 +1,63 @@
 -- Lists after a part of one and a piece changed places, and the splice that undoes a splice.
-use Rattle.std.proofs.Common.{◌≡◌, ℕ, ◌+◌, ◌-◌, ◌^◌, ◌<◌, ◌≤◌, All, ℤ, pos, ◌+ℤ◌, unsigned_abs, List, [], ◌∷◌, ◌++◌, length, take, drop, map, set, get_or, slice_range, Option, Some, None, SomeIff, is_some, true, subst, refl, sym, ap, ◌∙◌, arith}
+use Rattle.std.proofs.Common.{◌≡◌, ℕ, ◌+◌, ◌-◌, ◌^◌, ◌<◌, ◌≤◌, All, ℤ, pos, ◌+ℤ◌, unsigned_abs, List, [], ◌∷◌, ◌++◌, length, take, drop, map, slice_range, Option, Some, None, SomeIff, is_some, true, subst, refl, sym, ap, ◌∙◌, arith}
 use Rattle.std.specs.Int.{w64, FitsUnsigned}
 use Rattle.std.proofs.Math.Seq.{take-add, take-append_seam}
-use Rattle.std.proofs.lemmas.List.{append_assoc, append-nil, length-append, length-take-le, take_all, drop_all, take-append-le, drop-append-le, take-append-drop, drop-drop, length-map, get_or-drop, get_or-append_right}
+use Rattle.std.proofs.lemmas.List.{append_assoc, append-nil, length-append, length-drop, length-take-le, take_all, drop_all, take-append-le, drop-append-le, take-append-drop, drop-drop}
 use Rattle.std.proofs.lemmas.List.Elements.{All-head, All-tail, All-map, All-drop}
-use Rattle.std.proofs.lemmas.List.Edits.{map_over_more}
 use Rattle.std.proofs.lemmas.List.Folds.{drop_split}
 use Rattle.std.proofs.lemmas.Slice.{drop-append-drop}
 use Rattle.std.proofs.lemmas.Int.{ints}
 use Rattle.vcd_core.specs.declared.wave.Change.{Change}
 use Rattle.vcd_core.specs.Splice.{moved_change, TickFits, TicksFit, spliced_changes}
 
--- ---- a whole piece for the front of a part
+-- ---- the first changes of a piece for as many of a list
 
--- a list with its `from` first elements and a piece before the rest of another
-module _ {X : Type 0} (xs piece : List X) (from to n : ℕ) (count : n ≡ length piece) (ordered : from + n ≤ to) (within : to ≤ length xs) where
-  -- the front of the part is exchanged with the whole piece
-  abbrev exchanged : List X
-  exchanged = take from xs ++ take n piece ++ drop (from + n) xs
-
+-- the list and the piece then
+module _ (xs piece list : List Change) (from to n : ℕ) (some : n ≤ length piece) (ordered : from + n ≤ to) (within : to ≤ length xs) (is : list ≡ take from xs ++ take n piece ++ drop (from + n) xs) where
   front_long : length (take from xs ++ take n piece) ≡ from + n
   front_long = omega (arith, length-append (take from xs) (take n piece), length-take-le from xs (omega arith), length-take-le n piece (omega arith))
 
-  -- without the rest of the part
-  pub list_after_rest : take (from + n) exchanged ++ drop to exchanged ≡ take from xs ++ piece ++ drop to xs
-  list_after_rest =
+  front_is_swapped : take (from + n) list ≡ take from xs ++ take n piece
+  front_is_swapped =
       let front = take from xs ++ take n piece in
-      let kept : take (from + n) exchanged ≡ front =
-      take-append-le (from + n) front (drop (from + n) xs) (omega (arith, front_long)) ∙ take_all (from + n) front (omega (arith, front_long)) in
-      let later : drop to exchanged ≡ drop to xs = drop-append-drop (from + n) xs front to ordered front_long in
-      (λ i. kept i ++ later i) ∙ ap (λ p. take from xs ++ p ++ drop to xs) (take_all n piece (omega arith))
+      ap (take (from + n)) is ∙ take-append-le (from + n) front (drop (from + n) xs) (omega (arith, front_long)) ∙ take_all (from + n) front (omega (arith, front_long))
 
-  -- the piece has the whole part
-  pub piece_after_rest : take n (drop from xs) ++ drop n piece ++ take (to - (from + n)) (drop (from + n) exchanged) ≡ slice_range xs from to
-  piece_after_rest =
-      let front = take from xs ++ take n piece in
-      let none : take n (drop from xs) ++ drop n piece ≡ take n (drop from xs) =
-      ap (λ l. take n (drop from xs) ++ l) (drop_all n piece (omega arith)) ∙ append-nil (take n (drop from xs)) in
-      let later : drop (from + n) exchanged ≡ drop n (drop from xs) =
-      drop-append-drop (from + n) xs front (from + n) (omega arith) front_long ∙ sym (drop-drop n from xs) in
-      (λ i. none i ++ take (to - (from + n)) (later i))
-      ∙ sym (take-add n (to - (from + n)) (drop from xs))
-      ∙ ap (λ k. take k (drop from xs)) {x = n + (to - (from + n))} {y = to - from} (omega arith)
+  later_stay : drop to list ≡ drop to xs
+  later_stay = ap (drop to) is ∙ drop-append-drop (from + n) xs (take from xs ++ take n piece) to ordered front_long
+
+  pub later_fit : (by at : ℤ) → at ≡ by → TicksFit by (drop to xs) → TicksFit at (drop to list)
+  later_fit by at same fits = subst (TicksFit at) (sym later_stay) (subst (λ z. TicksFit z (drop to xs)) (sym same) fits)
+
+  -- the piece is the shorter one: the rest of the part goes to it
+  module _ (all : n ≡ length piece) where
+    pub spliced_without_rest : (by at : ℤ) (new : List Change) → at ≡ by → new ≡ take (from + n) list ++ map (moved_change at) (drop to list) → new ≡ spliced_changes xs from to piece by
+    unfolding spliced_changes
+    spliced_without_rest by at new same moves =
+        moves ∙ (λ i. front_is_swapped i ++ map (moved_change (same i)) (later_stay i))
+        ∙ ap (λ l. take from xs ++ l ++ map (moved_change by) (drop to xs)) (take_all n piece (omega arith))
+
+    pub piece_with_rest : take n (drop from xs) ++ drop n piece ++ slice_range list (from + n) to ≡ slice_range xs from to
+    piece_with_rest =
+        let none : take n (drop from xs) ++ drop n piece ≡ take n (drop from xs) =
+        ap (λ l. take n (drop from xs) ++ l) (drop_all n piece (omega arith)) ∙ append-nil (take n (drop from xs)) in
+        let later : drop (from + n) list ≡ drop n (drop from xs) =
+        ap (drop (from + n)) is ∙ drop-append-drop (from + n) xs (take from xs ++ take n piece) (from + n) (omega arith) front_long ∙ sym (drop-drop n from xs) in
+        (λ i. none i ++ take (to - (from + n)) (later i))
+        ∙ sym (take-add n (to - (from + n)) (drop from xs))
+        ∙ ap (λ k. take k (drop from xs)) {x = n + (to - (from + n))} {y = to - from} (omega arith)
+
+  -- the part is the shorter one: the rest of the piece follows its front
+  pub spliced_with_rest : (by at : ℤ) (new held : List Change) → from + n ≡ to → at ≡ by → held ≡ take n (drop from xs) ++ drop n piece
+      → new ≡ take to list ++ drop n held ++ map (moved_change at) (drop to list) → new ≡ spliced_changes xs from to piece by
+  unfolding spliced_changes
+  spliced_with_rest by at new held all same holds moves =
+      let later = map (moved_change by) (drop to xs) in
+      let first : take to list ≡ take from xs ++ take n piece = ap (λ k. take k list) (sym all) ∙ front_is_swapped in
+      let part : length (take n (drop from xs)) ≡ n = length-take-le n (drop from xs) (omega (arith, length-drop from xs)) in
+      let rest : drop n held ≡ drop n piece =
+      ap (drop n) holds ∙ drop-append-le n (take n (drop from xs)) (drop n piece) (omega (arith, part)) ∙ ap (λ l. l ++ drop n piece) (drop_all n (take n (drop from xs)) (omega (arith, part))) in
+      moves ∙ (λ i. first i ++ rest i ++ map (moved_change (same i)) (later_stay i))
+      ∙ ap (λ l. l ++ later) (append_assoc (take from xs) (take n piece) (drop n piece) ∙ ap (λ l. take from xs ++ l) (take-append-drop n piece))
 
 -- ---- a later tick
 
@@ -57,66 +73,22 @@ tick_is tick by at sum later same told is =
     (subst (λ o. SomeIff o (FitsUnsigned w64 (pos tick +ℤ at)) (unsigned_abs (pos tick +ℤ at))) is told).1
     ∙ ap (λ z. unsigned_abs (pos tick +ℤ z)) same
 
--- ---- changes moved in place, up to position `i`
-
-element_here : (f : Change → Change) (xs ys : List Change) (i : ℕ) (d : Change) → i < length xs → ys ≡ map f (take i xs) ++ drop i xs → get_or ys i d ≡ get_or xs i d
-element_here f xs ys i d within is =
-    ap (λ l. get_or l i d) is
-    ∙ get_or-append_right (map f (take i xs)) (drop i xs) i i d (length-map (take i xs) f ∙ length-take-le i xs (omega arith)) (omega arith)
-    ∙ get_or-drop i xs (i - i) d
-    ∙ ap (λ k. get_or xs k d) {x = i + (i - i)} {y = i} (omega arith)
-
--- the change there is still the old one, whose tick fits
-pub fits_here : (by at : ℤ) (xs ys : List Change) (i : ℕ) (x c : Change) → at ≡ by → TicksFit by xs → i < length xs
-    → ys ≡ map (moved_change at) (take i xs) ++ drop i xs → x ≡ get_or ys i x → c ≡ x → TickFits at c
-fits_here by at xs ys i x c same fits within is here read =
-    subst (λ z. TickFits z c) (sym same) (subst (TickFits by) (sym (read ∙ here ∙ element_here (moved_change at) xs ys i x within is)) (fits i x within))
-
-pub moved_more : (at : ℤ) (xs ys : List Change) (i : ℕ) (x c next : Change) → i < length xs
-    → ys ≡ map (moved_change at) (take i xs) ++ drop i xs → x ≡ get_or ys i x → next ≡ moved_change at c → c ≡ x
-    → set ys i next ≡ map (moved_change at) (take (i + 1) xs) ++ drop (i + 1) xs
-moved_more at xs ys i x c next within is here told read =
-    ap (set ys i) (told ∙ ap (moved_change at) read) ∙ map_over_more (moved_change at) xs ys i x within is here
-
--- ---- the later changes of a list, moved after the exchange
-
 -- what a slice leaves in its list, where it is the whole list
 pub whole_list : (n : ℕ) (new old : List Change) → n ≡ length new → take n (new ++ drop (length new) old) ≡ new
 whole_list n new old all = take-append-le n new (drop (length new) old) (omega arith) ∙ take_all n new (omega arith)
 
-pub length_kept : (f : Change → Change) (xs ys : List Change) (n : ℕ) → ys ≡ take n xs ++ map f (drop n xs) → length ys ≡ length xs
-length_kept f xs ys n is =
-    omega (
-      arith,
-      ap length is,
-      length-append (take n xs) (map f (drop n xs)),
-      length-map (drop n xs) f,
-      ap length (take-append-drop n xs),
-      length-append (take n xs) (drop n xs),
-    )
+-- ---- no later change moves
 
-module _ (cs piece list : List Change) (from to seam : ℕ) (by at : ℤ) (same : at ≡ by) (all : seam ≡ from + length piece) (ordered : from ≤ to) (within : to ≤ length cs) (is : list ≡ take from cs ++ piece ++ drop to cs) where
-  front_to_seam : length (take from cs ++ piece) ≡ seam
-  front_to_seam = omega (arith, all, length-append (take from cs) piece, length-take-le from cs (omega arith))
+pub moved_nowhere : (cs : List Change) → map (moved_change (pos 0)) cs ≡ cs
+unfolding moved_change
+moved_nowhere [] = refl
+moved_nowhere (c ∷ cs) =
+    let tick : unsigned_abs (pos c.tick +ℤ pos 0) ≡ c.tick = omega (arith, ints) in
+    λ i. record { tick = tick i; value = c.value } ∷ moved_nowhere cs i
 
-  after_seam : drop seam list ≡ drop to cs
-  after_seam =
-      ap (drop seam) is
-      ∙ drop-append-le seam (take from cs ++ piece) (drop to cs) (omega (arith, front_to_seam))
-      ∙ ap (λ l. l ++ drop to cs) (drop_all seam (take from cs ++ piece) (omega (arith, front_to_seam)))
-
-  before_seam : take seam list ≡ take from cs ++ piece
-  before_seam =
-      ap (take seam) is
-      ∙ take-append-le seam (take from cs ++ piece) (drop to cs) (omega (arith, front_to_seam))
-      ∙ take_all seam (take from cs ++ piece) (omega (arith, front_to_seam))
-
-  pub tail_fits : TicksFit by (drop to cs) → TicksFit at (drop seam list)
-  tail_fits fits = subst (TicksFit at) (sym after_seam) (subst (λ z. TicksFit z (drop to cs)) (sym same) fits)
-
-  pub spliced_is : (new : List Change) → new ≡ take seam list ++ map (moved_change at) (drop seam list) → new ≡ spliced_changes cs from to piece by
-  unfolding spliced_changes
-  spliced_is new moves = moves ∙ (λ i. before_seam i ++ map (moved_change (same i)) (after_seam i))
+pub list_stays : (xs : List Change) (from to : ℕ) (by : ℤ) → from ≡ to → by ≡ pos 0 → xs ≡ take from xs ++ map (moved_change by) (drop to xs)
+list_stays xs from to by none stay =
+    sym ((λ i. take (none i) xs ++ map (moved_change (stay i)) (drop to xs)) ∙ ap (λ l. take to xs ++ l) (moved_nowhere (drop to xs)) ∙ take-append-drop to xs)
 
 -- ---- a splice and the one that undoes it
 

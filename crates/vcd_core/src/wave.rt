@@ -194,8 +194,7 @@ impl Wave {
     /// and the later changes move by `by` ticks.
     ///
     /// It takes no memory, so each list has the room for what the other gives. The cost is the piece
-    /// and the changes from `from` on; where the piece or the range is empty, each later change is
-    /// copied once.
+    /// and the range; where `by` is not 0, or their lengths differ, each later change is copied once.
     pub fn splice(&mut self, from: usize, to: usize, piece: &mut Vec<Change>, by: i64)
         requires ordered { from ≤ to }
         requires within { to ≤ length self.old.changes }

@@ -1,11 +1,14 @@
 -- The wave of a derived signal, from the edges of its operands.
-use Rattle.std.proofs.Common.{◌≡◌, ℕ, zero, suc, ◌+◌, ◌-◌, ◌<◌, ◌≤◌, ◌||◌, not, Bool, true, false, cond, nat_le, if◌then◌else◌, List, [], ◌∷◌, length, map, replicate, get_or, All, Some, None, inl, inr, refl, sym, ap, subst, ◌∙◌, arith}
+use Rattle.std.proofs.Common.{◌≡◌, ℕ, zero, suc, ◌+◌, ◌-◌, ◌<◌, ◌≤◌, ◌||◌, not, Bool, true, false, cond, nat_le, if◌then◌else◌, List, [], ◌∷◌, length, map, replicate, get_or, drop, All, Some, None, inl, inr, refl, sym, ap, subst, ◌∙◌, arith}
 use Rattle.std.specs.List.{filter, range_with_len, list_any}
 use Rattle.std.proofs.lemmas.Bool.{cases_eq}
+use Rattle.std.proofs.lemmas.List.{drop_more, drop_all, length-replicate}
 use Rattle.std.proofs.lemmas.List.Elements.{All-nil, All-cons}
 use Rattle.vcd_core.specs.declared.bit.Bit.{Bit}
 use Rattle.vcd_core.specs.declared.bit.Bit.TheVariants.{X}
 use Rattle.vcd_core.specs.declared.edges.Edge.{Edge}
+use Rattle.vcd_core.specs.declared.bit_edges.BitEdge.{BitEdge}
+use Rattle.vcd_core.specs.BitEdges.{bit_edge}
 use Rattle.vcd_core.specs.declared.wave.Change.{Change}
 use Rattle.vcd_core.specs.Value.{all_x, letter_at, same_letters}
 use Rattle.vcd_core.specs.inside.ValueLaws.{same_letters-Decides}
@@ -18,8 +21,8 @@ use Rattle.vcd_edit.specs.declared.edit.Rule.{Rule}
 use Rattle.vcd_edit.specs.declared.edit.Rule.TheVariants.{Not, And, Or, Xor, BitOf}
 use Rattle.vcd_edit.specs.inside.Thinned.{TicksRise}
 use Rattle.vcd_edit.specs.inside.Ranges.{value_just_before}
-use Rattle.vcd_edit.specs.inside.Derived.{operator_bit, edge_bit, edge_change, IsMade}
-use Rattle.vcd_edit.proofs.ThinnedLists.{rise_lower, early_value}
+use Rattle.vcd_edit.specs.inside.Derived.{has_two_operands, operator_bit, bit_of_two, edge_bit, edge_change, operand_change, IsMade}
+use Rattle.vcd_edit.proofs.ThinnedLists.{rise_lower, early_value, wave_rises, mapped_upto, mapped_value}
 
 -- ---- one change after another
 
@@ -60,18 +63,45 @@ pub late_enough : (all rest : List Change) (c : Change) (w : WaveView) → IsMad
 late_enough all rest c w made = λ k d less. made.before k d less 0 c (omega arith)
 
 -- the same of an edge
-pub edge_made : (rule : Rule) (all left rest : List Edge) (e : Edge) (value : List Bit) (old new : WaveView) → left ≡ e ∷ rest → value ≡ edge_bit rule e.at ∷ []
+pub edge_made : (rule : Rule) (all left rest : List BitEdge) (e : BitEdge) (value : List Bit) (old new : WaveView) → left ≡ e ∷ rest → value ≡ edge_bit rule e.at ∷ []
     → IsMade (map (edge_change rule) all) (map (edge_change rule) left) old → new.width ≡ old.width
     → ((t : ℕ) → value_at new.width new.changes t ≡ (if nat_le e.tick t then value else value_at old.width old.changes t)) → All (λ d. d.tick ≤ e.tick) new.changes
     → IsMade (map (edge_change rule) all) (map (edge_change rule) rest) new
 edge_made rule all left rest e value old new steps is made width values last =
     made_more (map (edge_change rule) all) (map (edge_change rule) rest) (edge_change rule e) old new
-    (subst (λ (es : List Edge). IsMade (map (edge_change rule) all) (map (edge_change rule) es) old) steps made) width
+    (subst (λ (es : List BitEdge). IsMade (map (edge_change rule) all) (map (edge_change rule) es) old) steps made) width
     (λ t. values t ∙ ap (λ v. if nat_le e.tick t then v else value_at old.width old.changes t) is) last
 
-pub edge_late : (rule : Rule) (all left rest : List Edge) (e : Edge) (w : WaveView) → left ≡ e ∷ rest → IsMade (map (edge_change rule) all) (map (edge_change rule) left) w → All (λ d. d.tick ≤ e.tick) w.changes
+pub edge_late : (rule : Rule) (all left rest : List BitEdge) (e : BitEdge) (w : WaveView) → left ≡ e ∷ rest → IsMade (map (edge_change rule) all) (map (edge_change rule) left) w → All (λ d. d.tick ≤ e.tick) w.changes
 edge_late rule all left rest e w steps made =
-    late_enough (map (edge_change rule) all) (map (edge_change rule) rest) (edge_change rule e) w (subst (λ (es : List Edge). IsMade (map (edge_change rule) all) (map (edge_change rule) es) w) steps made)
+    late_enough (map (edge_change rule) all) (map (edge_change rule) rest) (edge_change rule e) w (subst (λ (es : List BitEdge). IsMade (map (edge_change rule) all) (map (edge_change rule) es) w) steps made)
+
+-- the same of a change of the one operand
+pub operand_made : (rule : Rule) (cs : List Change) (i : ℕ) (c : Change) (value : List Bit) (old new : WaveView) → i < length cs → c ≡ get_or cs i c → value ≡ operator_bit rule c.value c.value ∷ []
+    → IsMade (map (operand_change rule) cs) (map (operand_change rule) (drop i cs)) old → new.width ≡ old.width
+    → ((t : ℕ) → value_at new.width new.changes t ≡ (if nat_le c.tick t then value else value_at old.width old.changes t)) → All (λ d. d.tick ≤ c.tick) new.changes
+    → IsMade (map (operand_change rule) cs) (map (operand_change rule) (drop (i + 1) cs)) new
+operand_made rule cs i c value old new within at is made width values last =
+    let here : drop i cs ≡ c ∷ drop (i + 1) cs = drop_more cs i c within ∙ ap (λ d. d ∷ drop (i + 1) cs) (sym at) in
+    made_more (map (operand_change rule) cs) (map (operand_change rule) (drop (i + 1) cs)) (operand_change rule c) old new
+    (subst (λ (l : List Change). IsMade (map (operand_change rule) cs) (map (operand_change rule) l) old) here made) width
+    (λ t. values t ∙ ap (λ v. if nat_le c.tick t then v else value_at old.width old.changes t) is) last
+
+pub operand_late : (rule : Rule) (cs : List Change) (i : ℕ) (c : Change) (w : WaveView) → i < length cs → c ≡ get_or cs i c
+    → IsMade (map (operand_change rule) cs) (map (operand_change rule) (drop i cs)) w → All (λ d. d.tick ≤ c.tick) w.changes
+operand_late rule cs i c w within at made =
+    let here : drop i cs ≡ c ∷ drop (i + 1) cs = drop_more cs i c within ∙ ap (λ d. d ∷ drop (i + 1) cs) (sym at) in
+    late_enough (map (operand_change rule) cs) (map (operand_change rule) (drop (i + 1) cs)) (operand_change rule c) w (subst (λ (l : List Change). IsMade (map (operand_change rule) cs) (map (operand_change rule) l) w) here made)
+
+pub operand_rise : (rule : Rule) (width floor : ℕ) (cs : List Change) → TicksRise width floor cs → TicksRise 1 floor (map (operand_change rule) cs)
+operand_rise rule width floor [] rise = tt
+operand_rise rule width floor (c ∷ cs) (from, wide, rest) = (from, refl, operand_rise rule width (c.tick + 1) cs rest)
+
+pub operands_rise : (rule : Rule) (width : ℕ) (cs : List Change) → IsWave width cs → TicksRise 1 0 (map (operand_change rule) cs)
+operands_rise rule width cs is = operand_rise rule width 0 cs (wave_rises width 0 (all_x width) cs (length-replicate width X) is.rise)
+
+pub none_to_make : (rule : Rule) (cs : List Change) (i : ℕ) (w : WaveView) → length cs ≤ i → IsMade (map (operand_change rule) cs) (map (operand_change rule) (drop i cs)) w → IsMade (map (operand_change rule) cs) [] w
+none_to_make rule cs i w done made = subst (λ (l : List Change). IsMade (map (operand_change rule) cs) (map (operand_change rule) l) w) (drop_all i cs done) made
 
 -- all is made
 pub made_is : (all : List Change) (w : WaveView) (end : ℕ) (f : ℕ → List Bit) → IsMade all [] w → IsWave w.width w.changes → AllUpTo end all
@@ -187,20 +217,60 @@ module _ (rule : Rule) (a b : WaveView) where
       from_both zero one two = (λ i. operator_bit rule (one i) (two i) ∷ []) ∙ ap (λ (x : Bit). x ∷ []) (x_bit rule a.width b.width)
       from_both (suc u) one two = λ i. operator_bit rule (one i) (two i) ∷ []
 
-  edge_changes : (end : ℕ) → map (edge_change rule) (edges end) ≡ map (λ u. change u (rule_value u)) (filter (λ t. list_any (changes_at t) lines) (range_with_len 0 (suc end)))
-  unfolding edges_on
-  edge_changes end = map-map (edge_change rule) (edge_on lines) (filter (λ t. list_any (changes_at t) lines) (range_with_len 0 (suc end)))
+  -- one bit of each operand tells
+  pair_is : has_two_operands rule ≡ true → (v w : List Bit) → bit_of_two rule (letter_at v 0) (letter_at w 0) ≡ operator_bit rule v w
+  pair_is two v w = for_each rule two
+    where
+      for_each : (rule : Rule) → has_two_operands rule ≡ true → bit_of_two rule (letter_at v 0) (letter_at w 0) ≡ operator_bit rule v w
+      for_each (Not a) two = refl
+      for_each (And a b) two = refl
+      for_each (Or a b) two = refl
+      for_each (Xor a b) two = refl
+      for_each (BitOf a k) two = absurd (cc)
 
-  pub edges_rise : (end : ℕ) (es : List Edge) → es ≡ edges end → TicksRise 1 0 (map (edge_change rule) es)
-  edges_rise end es is =
-      subst (TicksRise 1 0) (sym (ap (map (edge_change rule)) is ∙ edge_changes end)) (sampled_rise (λ t. list_any (changes_at t) lines) rule_value 0 (suc end) (λ u. refl))
+  abbrev bit_edges : ℕ → List BitEdge
+  bit_edges end = map bit_edge (edges end)
+
+  edge_changes : has_two_operands rule ≡ true → (end : ℕ) → map (edge_change rule) (bit_edges end) ≡ map (λ u. change u (rule_value u)) (filter (λ t. list_any (changes_at t) lines) (range_with_len 0 (suc end)))
+  unfolding edges_on
+  edge_changes two end =
+      let ticks = filter (λ t. list_any (changes_at t) lines) (range_with_len 0 (suc end)) in
+      map-map (edge_change rule) bit_edge (edges end) ∙ map-map (λ e. edge_change rule (bit_edge e)) (edge_on lines) ticks
+      ∙ (λ i. map (λ u. change u (pair_is two (value_at a.width a.changes u) (value_at b.width b.changes u) i ∷ [])) ticks)
+
+  pub edges_rise : has_two_operands rule ≡ true → (end : ℕ) (es : List BitEdge) → es ≡ bit_edges end → TicksRise 1 0 (map (edge_change rule) es)
+  edges_rise two end es is =
+      subst (TicksRise 1 0) (sym (ap (map (edge_change rule)) is ∙ edge_changes two end)) (sampled_rise (λ t. list_any (changes_at t) lines) rule_value 0 (suc end) (λ u. refl))
 
   -- what is made of the edges has the rule's bit at each tick
-  pub derived_is : (end : ℕ) (es : List Edge) (w : WaveView) → es ≡ edges end → IsMade (map (edge_change rule) es) [] w → IsWave w.width w.changes
+  pub derived_is : has_two_operands rule ≡ true → (end : ℕ) (w : WaveView) → IsMade (map (edge_change rule) (bit_edges end)) [] w → IsWave w.width w.changes
       → w.changes ≡ changes_of 1 end rule_value
-  derived_is end es w is made form =
-      let all = ap (map (edge_change rule)) is ∙ edge_changes end in
-      made_is (map (edge_change rule) es) w end rule_value made form
+  derived_is two end w made form =
+      let all = edge_changes two end in
+      made_is (map (edge_change rule) (bit_edges end)) w end rule_value made form
       (subst (AllUpTo end) (sym all) (sampled_upto (λ t. list_any (changes_at t) lines) rule_value 0 (suc end) end (omega arith)))
       (λ t to. ap (λ (cs : List Change). value_from (all_x 1) cs t) all
       ∙ sampled (λ t. list_any (changes_at t) lines) rule_value 0 (suc end) (all_x 1) refl (λ u. refl) still t (omega arith) (omega arith))
+
+  -- one operand tells
+  alone_is : has_two_operands rule ≡ false → (u v w : List Bit) → operator_bit rule u v ≡ operator_bit rule u w
+  alone_is one u v w = for_each rule one
+    where
+      for_each : (rule : Rule) → has_two_operands rule ≡ false → operator_bit rule u v ≡ operator_bit rule u w
+      for_each (Not a) one = refl
+      for_each (And a b) one = absurd (cc)
+      for_each (Or a b) one = absurd (cc)
+      for_each (Xor a b) one = absurd (cc)
+      for_each (BitOf a k) one = refl
+
+  pub alone_changes : has_two_operands rule ≡ false → (end : ℕ)
+      → changes_of 1 end (λ t. operator_bit rule (value_at a.width a.changes t) (value_at a.width a.changes t) ∷ []) ≡ changes_of 1 end rule_value
+  alone_changes one end = λ i. changes_of 1 end (λ t. alone_is one (value_at a.width a.changes t) (value_at a.width a.changes t) (value_at b.width b.changes t) i ∷ [])
+
+-- what is made of the changes of one operand has the rule's bit at each tick
+pub derived_of_one_is : (rule : Rule) (a : WaveView) (end : ℕ) (w : WaveView) → AllUpTo end a.changes → IsMade (map (operand_change rule) a.changes) [] w → IsWave w.width w.changes
+    → w.changes ≡ changes_of 1 end (λ t. operator_bit rule (value_at a.width a.changes t) (value_at a.width a.changes t) ∷ [])
+derived_of_one_is rule a end w upto made form =
+    let h : List Bit → List Bit = λ v. operator_bit rule v v ∷ [] in
+    made_is (map (operand_change rule) a.changes) w end (λ t. h (value_at a.width a.changes t)) made form (mapped_upto end h a.changes upto)
+    (λ t to. ap (λ (x : Bit). value_from (x ∷ []) (map (operand_change rule) a.changes) t) (sym (x_bit rule a.width a.width)) ∙ mapped_value h (all_x a.width) a.changes t)

@@ -1,14 +1,14 @@
 -- What it says of an edit that it has no fault.
 use Rattle.std.proofs.Common.{◌≡◌, ◌<◌, ℕ, ◌||◌, not, Bool, true, false, if◌then◌else◌, IsTrue, length, Option, Some, None, refl, arith}
 use Rattle.std.proofs.lemmas.Bool.Decides.{nat_tests}
-use Rattle.vcd_core.specs.Contents.{Contents}
+use Rattle.vcd_core.specs.Contents.{Contents, signal_at}
 use Rattle.vcd_edit.specs.declared.edit.Edit.{Edit}
 use Rattle.vcd_edit.specs.declared.edit.Rule.{Rule}
 use Rattle.vcd_edit.specs.declared.edit.Rule.TheVariants.{Not, And, Or, Xor, BitOf}
 use Rattle.vcd_edit.specs.declared.fault.EditError.{EditError}
 use Rattle.vcd_edit.specs.Effect.{first_operand}
-use Rattle.vcd_edit.specs.inside.Derived.{last_operand}
-use Rattle.vcd_edit.specs.Allowed.{is_no_signal, lacks_operand, lacks_signal, joins_wide_signal, lacks_bit, has_bad_range, has_bad_count, has_bad_value, gives_no_word, takes_name, adds_too_many, edit_fault}
+use Rattle.vcd_edit.specs.inside.Derived.{last_operand, has_two_operands}
+use Rattle.vcd_edit.specs.Allowed.{is_no_signal, is_wide, has_wide_operand, lacks_operand, lacks_signal, joins_wide_signal, lacks_bit, has_bad_range, has_bad_count, has_bad_value, gives_no_word, takes_name, adds_too_many, edit_fault}
 
 -- none of the nine tests holds
 pub record HasNoFault (e : Edit) (c : Contents) : Type 0 where
@@ -80,3 +80,18 @@ last_there c (BitOf a k) none = none
 pub holds_where_not : (b : Bool) → not b ≡ false → IsTrue b
 holds_where_not true none = refl
 holds_where_not false none = absurd (cc)
+
+-- both operands of an operator have one bit where neither is wider
+narrow : (c : Contents) (k : ℕ) → is_wide c k ≡ false → (signal_at c k).width ≡ 1
+narrow c k none = grind (arith, nat_tests)
+
+both_narrow : (c : Contents) (a b : ℕ) → (is_wide c a || is_wide c b) ≡ false → ((signal_at c a).width ≡ 1) × ((signal_at c b).width ≡ 1)
+both_narrow c a b none = (narrow c a (neither (is_wide c a) (is_wide c b) none), narrow c b (other (is_wide c a) (is_wide c b) none))
+
+pub operands_narrow : (c : Contents) (rule : Rule) → has_wide_operand rule c ≡ false → has_two_operands rule ≡ true
+    → ((signal_at c (first_operand rule)).width ≡ 1) × ((signal_at c (last_operand rule)).width ≡ 1)
+operands_narrow c (Not a) none two = absurd (cc)
+operands_narrow c (And a b) none two = both_narrow c a b none
+operands_narrow c (Or a b) none two = both_narrow c a b none
+operands_narrow c (Xor a b) none two = both_narrow c a b none
+operands_narrow c (BitOf a k) none two = absurd (cc)

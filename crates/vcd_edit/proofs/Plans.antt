@@ -3,7 +3,7 @@ use Rattle.std.proofs.Common.{◌≡◌, ◌<◌, ℕ, ◌||◌, ◌+◌, nat_le
 use Rattle.std.specs.Borrow.{Bor}
 use Rattle.std.specs.Prelude.{ℤ, pos, neg_ℤ, Result, Ok, Err, IfOk}
 use Rattle.std.proofs.lemmas.Bool.Decides.{nat_tests}
-use Rattle.std.proofs.lemmas.List.{get_or-map, length-map}
+use Rattle.std.proofs.lemmas.List.{get_or-map, length-map, set-get_or}
 use Rattle.std.proofs.lemmas.List.Elements.{All-nil, All-cons}
 use Rattle.vcd_core.specs.declared.bit.Bit.{Bit}
 use Rattle.vcd_core.specs.declared.capture.Signal.{Signal}
@@ -127,3 +127,17 @@ force_is_wave k from to value c = refl
 -- the ticks of a force
 pub force_ticks : (k from to : ℕ) (value : List Bit) (c : Contents) → edit_fault (Force k from to value) c ≡ None → (from < to) × (to ≤ c.end + 1)
 force_ticks k from to value c none = let free : (nat_le to from || nat_lt (c.end + 1) to) ≡ false = (no_fault (Force k from to value) c none).range in (grind (arith, nat_tests), grind (arith, nat_tests))
+
+-- ---- nothing to do
+
+-- an edit that gives a signal the changes that it has
+pub nothing_plan : (e : Edit) (c : Contents) (k : ℕ) (f : SignalContents → ℕ → List Bit) (s : SignalContents) (r : RecordView) → r ≡ record { pieces = []; word = None; signal = None; other_end = None }
+    → IsSound c → edit_fault e c ≡ None → signal_at c k ≡ s → effect e c ≡ with_wave c k (f (signal_at c k)) → edit_pairing e c ≡ stays → changes_of s.width c.end (f s) ≡ s.changes → IsPlan e c r
+unfolding back with_pieces
+nothing_plan e c k f s r is sound none here gives pairing same =
+    let still : effect e c ≡ c =
+    gives ∙ ap (λ (s : SignalContents). with_signal c k (signal_with_changes s (changes_of s.width c.end (f s)))) here ∙ ap (λ (cs : List Change). with_signal c k (signal_with_changes s cs)) same
+    ∙ ap (with_signal c k) (sym here) ∙ ap (λ (ss : List SignalContents). record c { signals = ss }) (set-get_or c.signals k no_signal) in
+    subst (IsPlan e c) (sym is)
+    (is_plan e c (record { pieces = []; word = None; signal = None; other_end = None }) sound none (sym still)
+    (All-nil (PieceFits c)) tt tt (All-nil (λ (p : PieceView). edit_offset e ≡ neg_ℤ p.by)) (sym pairing))

@@ -1,20 +1,19 @@
 -- Runs of one value, and the values without the short ones.
-use Rattle.std.proofs.Common.{◌≡◌, ◌≢◌, ℕ, zero, suc, ◌+◌, ◌-◌, ◌<◌, ◌≤◌, ◌==◌, ◌||◌, Bool, true, false, nat_le, if◌then◌else◌, List, [], ◌∷◌, ◌++◌, length, take, drop, get_or, inl, inr, refl, sym, ap, subst, ◌∙◌, arith}
+use Rattle.std.proofs.Common.{◌≡◌, ◌≢◌, ℕ, zero, suc, ◌+◌, ◌-◌, ◌<◌, ◌≤◌, ◌==◌, ◌||◌, Bool, true, false, nat_le, if◌then◌else◌, List, [], ◌∷◌, length, inl, inr, refl, sym, ap, subst, ◌∙◌, arith}
 use Rattle.std.proofs.lemmas.Bool.{cases_lt, cases_eq}
 use Rattle.std.proofs.lemmas.Bool.Decides.{nat_tests}
-use Rattle.std.proofs.lemmas.List.{length-replicate, append-nil, take_all}
+use Rattle.std.proofs.lemmas.List.{length-replicate}
 use Rattle.vcd_core.specs.declared.bit.Bit.{Bit}
 use Rattle.vcd_core.specs.declared.bit.Bit.TheVariants.{X}
 use Rattle.vcd_core.specs.declared.wave.Change.{Change}
 use Rattle.vcd_core.specs.Value.{all_x, same_letters}
 use Rattle.vcd_core.specs.inside.ValueLaws.{same_letters-Decides}
-use Rattle.vcd_core.specs.Wave.{change, unless_same, value_from, changes_of, AreChangesFrom, IsWave, AllUpTo}
+use Rattle.vcd_core.specs.Wave.{change, value_from, changes_of, AreChangesFrom, IsWave, AllUpTo}
 use Rattle.vcd_core.specs.Contents.{Contents, SignalContents, signal_at, signal_value}
 use Rattle.vcd_core.proofs.Waves.{value_past, value_early}
 use Rattle.vcd_edit.specs.declared.edit.Edit.TheVariants.{Deglitch}
 use Rattle.vcd_edit.specs.Effect.{run_start, run_end, is_steady, steady_value, with_wave, effect}
 use Rattle.vcd_edit.specs.inside.Thinned.{TicksRise, thinned_list, begins_steady, steady_changes}
-use Rattle.vcd_edit.proofs.Inverses.{thinned_more}
 use Rattle.vcd_edit.proofs.ThinnedLists.{rise_lower, early_value, wave_rises, thinned_is}
 
 -- ---- a choice by whether two values are the same
@@ -211,41 +210,3 @@ steady_are n end s is upto =
 pub deglitch_is_wave : (k n : ℕ) (c : Contents) → effect (Deglitch k n) c ≡ with_wave c k (steady_value n c.end (signal_value (signal_at c k)))
 unfolding effect
 deglitch_is_wave k n c = refl
-
--- ---- the loop over the changes
-
--- a change that is left out
-pub steady_skip : (n : ℕ) (c : Change) (cs : List Change) → begins_steady n c cs ≡ false → steady_changes n (c ∷ cs) ≡ steady_changes n cs
-unfolding steady_changes
-steady_skip n c cs out = ap (λ q. if q then c ∷ steady_changes n cs else steady_changes n cs) out
-
-pub steady_keep : (n : ℕ) (c : Change) (cs : List Change) → begins_steady n c cs ≡ true → steady_changes n (c ∷ cs) ≡ c ∷ steady_changes n cs
-unfolding steady_changes
-steady_keep n c cs kept = ap (λ q. if q then c ∷ steady_changes n cs else steady_changes n cs) kept
-
-pub steady_done : (n : ℕ) (last : List Bit) (cs out all : List Change) → cs ≡ [] → out ++ thinned_list last (steady_changes n cs) ≡ all → out ≡ all
-unfolding steady_changes thinned_list
-steady_done n last cs out all none is = sym (append-nil out) ∙ ap (λ (l : List Change). out ++ thinned_list last (steady_changes n l)) (sym none) ∙ is
-
--- the changes behind the first
-abbrev pub behind_first : List Change → List Change
-behind_first left = take (length left - 1) (drop 1 left)
-
-first_and_others : (left : List Change) (c : Change) → 1 ≤ length left → c ≡ get_or left 0 c → left ≡ c ∷ behind_first left
-first_and_others [] c some at = absurd (omega arith)
-first_and_others (x ∷ xs) c some at = λ i. sym at i ∷ sym (take_all (length (x ∷ xs) - 1) xs (omega arith)) i
-
-module _ (n : ℕ) (last : List Bit) (left out all : List Change) (c : Change) (some : 1 ≤ length left) (at : c ≡ get_or left 0 c) (was : out ++ thinned_list last (steady_changes n left) ≡ all) where
-  pub glitch_left_out : begins_steady n c (behind_first left) ≡ false → out ++ thinned_list last (steady_changes n (behind_first left)) ≡ all
-  glitch_left_out short =
-      ap (λ (cs : List Change). out ++ thinned_list last cs) (sym (ap (steady_changes n) (first_and_others left c some at) ∙ steady_skip n c (behind_first left) short)) ∙ was
-
-  pub steady_listed : begins_steady n c (behind_first left) ≡ true → (more : List Change) → more ≡ out ++ unless_same (same_letters c.value last) (change c.tick c.value) []
-      → more ++ thinned_list c.value (steady_changes n (behind_first left)) ≡ all
-  steady_listed long more put =
-      thinned_more [] last c out more (steady_changes n (behind_first left)) all
-      (ap (λ (cs : List Change). out ++ thinned_list last cs) (sym (ap (steady_changes n) (first_and_others left c some at) ∙ steady_keep n c (behind_first left) long)) ∙ was) put
-
-pub none_left : (left : List Change) → length left < 1 → left ≡ []
-none_left [] none = refl
-none_left (c ∷ cs) none = absurd (omega arith)

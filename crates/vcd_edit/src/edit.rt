@@ -1,6 +1,6 @@
 ghost use Rattle.std.specs.Prelude.{◌≡◌};
 ghost use Rattle.vcd_edit.specs.Effect.{first_operand};
-ghost use Rattle.vcd_edit.specs.inside.Derived.{last_operand};
+ghost use Rattle.vcd_edit.specs.inside.Derived.{last_operand, has_two_operands};
 
 use vcd_core::Value;
 
@@ -80,6 +80,16 @@ impl Rule {
         match self {
             Rule::And(_, b) | Rule::Or(_, b) | Rule::Xor(_, b) => b,
             Rule::Not(a) | Rule::BitOf(a, _) => a,
+        }
+    }
+
+    /// Whether there are two operands.
+    pub(crate) fn has_two_operands(self) -> bool
+        ensures { result ≡ has_two_operands self }
+    {
+        match self {
+            Rule::And(_, _) | Rule::Or(_, _) | Rule::Xor(_, _) => true,
+            Rule::Not(_) | Rule::BitOf(_, _) => false,
         }
     }
 

@@ -121,19 +121,34 @@ fn splice(
 }
 
 /// Where the wave of the rows has its changes.
-const WAVE: &str = "1@3 0@5 1@7";
+const WAVE: &str = "1@3 0@5 1@7 0@9 z@11";
 
-/// The place, by how many ticks the later changes move, the piece, and the changes after the splice: of
-/// nothing, at the front, in the middle, at the end, with an empty piece, of the whole list, and far up.
+/// The place, by how many ticks the later changes move, the piece, and the changes after the splice: of nothing;
+/// at the front, in the middle and at the end, with a piece as long as its part, longer, shorter and empty; of the
+/// whole list, and far up.
 const SPLICES: &str = "\
-0 0 0:: 1@3 0@5 1@7
-0 1 4: z@1 1@2: z@1 1@2 0@9 1@11
-1 2 -1: z@4: 1@3 z@4 1@6
-3 3 0: x@8: 1@3 0@5 1@7 x@8
-0 1 -1:: 0@4 1@6
-1 3 0:: 1@3
-0 3 0: z@6: z@6
-2 2 9223372036854775799: x@6: 1@3 0@5 x@6 1@9223372036854775806";
+0 0 0:: 1@3 0@5 1@7 0@9 z@11
+0 1 0: z@1: z@1 0@5 1@7 0@9 z@11
+0 1 2: z@1: z@1 0@7 1@9 0@11 z@13
+0 1 0: z@1 1@2: z@1 1@2 0@5 1@7 0@9 z@11
+0 1 4: z@1 1@2: z@1 1@2 0@9 1@11 0@13 z@15
+0 3 0: 1@6: 1@6 0@9 z@11
+0 3 -3: 1@4: 1@4 0@6 z@8
+0 1 -1:: 0@4 1@6 0@8 z@10
+1 3 0: x@4 1@6: 1@3 x@4 1@6 0@9 z@11
+1 2 -1: z@4: 1@3 z@4 1@6 0@8 z@10
+1 2 0: z@4 0@5 z@6: 1@3 z@4 0@5 z@6 1@7 0@9 z@11
+2 3 3: x@6 1@7: 1@3 0@5 x@6 1@7 0@12 z@14
+1 4 0: x@8: 1@3 x@8 z@11
+1 4 -2: x@8: 1@3 x@8 z@9
+1 3 0:: 1@3 0@9 z@11
+4 5 0: 1@12: 1@3 0@5 1@7 0@9 1@12
+4 5 0: 1@10 x@12: 1@3 0@5 1@7 0@9 1@10 x@12
+5 5 0: x@12: 1@3 0@5 1@7 0@9 z@11 x@12
+2 5 0: x@6: 1@3 0@5 x@6
+3 5 0:: 1@3 0@5 1@7
+0 5 0: z@6: z@6
+4 4 9223372036854775795: x@10: 1@3 0@5 1@7 0@9 x@10 z@9223372036854775806";
 
 fn place_of(alloc: Global, text: &str) -> Result<Place, Fail> {
     let words: Vec<&str> = text.split(' ').collect(alloc)?;
@@ -201,11 +216,11 @@ fn a_piece_with_room_keeps_it(rt: HostRuntime) -> Result<(), Fail> {
     let room = held.capacity();
     let whole = Place {
         from: 0,
-        to: 3,
+        to: 5,
         by: 0,
     };
     splice(&rt, rt.alloc(), &mut wave, whole, &mut held)?;
-    assert!(rt; held.len() == 3);
+    assert!(rt; held.len() == 5);
     assert!(rt; room <= held.capacity());
     Ok(())
 }

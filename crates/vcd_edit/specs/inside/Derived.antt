@@ -1,8 +1,8 @@
 -- How a derived signal is made from the edges of its operands.
-use Rattle.std.specs.Prelude.{◌≡◌, ℕ, ◌≤◌, List, [], ◌∷◌, Option, Some, All}
+use Rattle.std.specs.Prelude.{◌≡◌, ℕ, ◌≤◌, Bool, true, false, List, [], ◌∷◌, Option, Some, All}
 use Rattle.vcd_core.specs.declared.bit.Bit.{Bit}
 use Rattle.vcd_core.specs.declared.bit.Bit.TheVariants.{X}
-use Rattle.vcd_core.specs.declared.edges.Edge.{Edge}
+use Rattle.vcd_core.specs.declared.bit_edges.BitEdge.{BitEdge}
 use Rattle.vcd_core.specs.declared.wave.Change.{Change}
 use Rattle.vcd_core.specs.Value.{all_x, letter_at}
 use Rattle.vcd_core.specs.Wave.{change, value_from, value_at, AllUpTo}
@@ -28,14 +28,34 @@ operator_bit (Or a b) v w = or_bit (letter_at v 0) (letter_at w 0)
 operator_bit (Xor a b) v w = xor_bit (letter_at v 0) (letter_at w 0)
 operator_bit (BitOf a k) v w = letter_at v k
 
--- what it gives for the values at an edge
-abbrev pub edge_bit : Rule → List (Option (List Bit)) → Bit
-edge_bit rule (Some v ∷ Some w ∷ others) = operator_bit rule v w
-edge_bit rule values = X
+-- whether it has two operands
+abbrev pub has_two_operands : Rule → Bool
+has_two_operands (Not a) = false
+has_two_operands (And a b) = true
+has_two_operands (Or a b) = true
+has_two_operands (Xor a b) = true
+has_two_operands (BitOf a k) = false
+
+-- what an operator gives for one bit of each operand
+abbrev pub bit_of_two : Rule → Bit → Bit → Bit
+bit_of_two (Not a) x y = not_bit x
+bit_of_two (And a b) x y = and_bit x y
+bit_of_two (Or a b) x y = or_bit x y
+bit_of_two (Xor a b) x y = xor_bit x y
+bit_of_two (BitOf a k) x y = x
+
+-- what it gives for the bits at an edge
+abbrev pub edge_bit : Rule → List (Option Bit) → Bit
+edge_bit rule (Some x ∷ Some y ∷ others) = bit_of_two rule x y
+edge_bit rule bits = X
 
 -- the change of the derived signal at an edge of its operands
-abbrev pub edge_change : Rule → Edge → Change
+abbrev pub edge_change : Rule → BitEdge → Change
 edge_change rule e = change e.tick (edge_bit rule e.at ∷ [])
+
+-- and at a change of its one operand
+abbrev pub operand_change : Rule → Change → Change
+operand_change rule c = change c.tick (operator_bit rule c.value c.value ∷ [])
 
 -- the wave and the changes that are left give the values of all of them
 pub record IsMade (all left : List Change) (w : WaveView) : Type 0 where

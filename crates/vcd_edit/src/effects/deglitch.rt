@@ -1,19 +1,21 @@
 //! Short runs of one value taken out.
 
-ghost use Rattle.std.specs.Prelude.{◌≡◌, None, IfOk};
+ghost use Rattle.std.specs.Prelude.{◌≡◌, ◌≤◌, ◌++◌, None, IfOk, length, take, drop};
 ghost use Rattle.vcd_core.specs.Contents.{contents};
 ghost use Rattle.vcd_core.specs.Sound.{IsSound};
+ghost use Rattle.vcd_core.specs.Wave.{last_value as value_after};
 ghost use Rattle.vcd_edit.specs.Allowed.{edit_fault};
-ghost use Rattle.vcd_edit.specs.inside.Thinned.{thinned_list, begins_steady as steady_test, steady_changes};
+ghost use Rattle.vcd_edit.specs.inside.Thinned.{begins_steady as steady_test, is_kept as kept_test, kept_changes};
 ghost use Rattle.vcd_edit.specs.inside.Plans.{IsPlan};
 ghost use Rattle.vcd_edit.specs.declared.edit.Edit.TheVariants as edits;
 
-use crate::effects::making::{one_piece, put_change, signal_there, whole_piece, x_value};
-use crate::record::Record;
+use crate::effects::making::{no_piece, one_piece, signal_there, x_value};
+use crate::record::{Piece, Record};
 use std::alloc::Global;
-use vcd_core::{Capture, Change, NoMemory, Value};
+use vcd_core::{Capture, Change, NoMemory, Value, last_value};
 
-/// The record of the whole list of changes.
+/// The record of the changes from the first to the last that is taken out, or of nothing, without memory,
+/// where none is.
 pub(crate) fn plan(
     alloc: Global,
     capture: &Capture,
@@ -25,31 +27,103 @@ pub(crate) fn plan(
     ensures { IfOk result (IsPlan (edits.Deglitch signal ticks) (contents capture.now)) }
 {
     let wave = &signal_there(capture, signal).wave;
-    let changes = without_glitches(alloc, wave.changes(), x_value(wave), ticks)?;
-    one_piece(alloc, whole_piece(wave, signal, changes))
+    let changes = wave.changes();
+    let x = x_value(wave);
+    let from = count_kept_in_front(changes, &x, ticks);
+    if from == changes.len() {
+        return Ok(no_piece(alloc));
+    }
+    let before = last_value(&changes[..from], wave.width());
+    let later = &changes[from..];
+    let part = part_with_glitches(later, &before, ticks);
+    let piece = Piece {
+        signal,
+        from,
+        to: from + part.to,
+        changes: kept_list(alloc, later, &before, ticks, part)?,
+        by: 0,
+    };
+    one_piece(alloc, piece)
 }
 
-/// The changes that begin steady runs, behind the value `before`, those left out that change nothing.
-fn without_glitches(
-    alloc: Global,
-    changes: &[Change],
-    before: Value,
-    ticks: u64,
-) -> Result<Vec<Change>, NoMemory>
-    ensures { IfOk result (λ kept. kept.items ≡ thinned_list before (steady_changes ticks changes.now)) }
+/// How many changes are left before the first that is taken out.
+fn count_kept_in_front(changes: &[Change], before: &Value, ticks: u64) -> usize
+    ensures within { result ≤ length changes.now }
+    ensures kept { kept_changes ticks before.now changes.now ≡ take result changes.now
+        ++ kept_changes ticks (value_after before.now (take result changes.now))
+        (drop result changes.now) }
 {
-    let mut kept = Vec::new(alloc);
     let mut last = before;
-    let mut left = changes;
-    while let [change, later @ ..] = left {
-        left = later;
-        if !begins_steady(change, later, ticks) {
+    for i in 0..changes.len() {
+        let change = &changes[i];
+        if !is_kept(change, &changes[i + 1..], last, ticks) {
+            return i;
+        }
+        last = &change.value;
+    }
+    changes.len()
+}
+
+/// A part of a list of changes from its front on: those before the position `to`, of which `kept` are left.
+#[derive(Clone, Copy)]
+struct Part {
+    kept: usize,
+    to: usize,
+}
+
+/// The part behind which no change is taken out.
+fn part_with_glitches(changes: &[Change], before: &Value, ticks: u64) -> Part
+    ensures within { result.to ≤ length changes.now }
+    ensures kept { kept_changes ticks before.now changes.now
+        ≡ take result.kept (kept_changes ticks before.now changes.now) ++ drop result.to changes.now }
+{
+    let mut last = before;
+    let mut part = Part { kept: 0, to: 0 };
+    for i in 0..changes.len() {
+        let change = &changes[i];
+        if is_kept(change, &changes[i + 1..], last, ticks) {
+            last = &change.value;
             continue;
         }
-        put_change(&mut kept, last, change.tick, change.value)?;
-        last = change.value;
+        part.kept += i - part.to;
+        part.to = i + 1;
+    }
+    part
+}
+
+/// The changes that are left of a part, with room for those that it has now.
+fn kept_list(
+    alloc: Global,
+    changes: &[Change],
+    before: &Value,
+    ticks: u64,
+    part: Part,
+) -> Result<Vec<Change>, NoMemory>
+    ensures { IfOk result (λ kept. kept.items
+        ≡ take part.kept (kept_changes ticks before.now changes.now)) }
+{
+    let mut kept = Vec::new(alloc);
+    kept.reserve_exact(part.to)?;
+    let mut last = before;
+    for i in 0..changes.len() {
+        if kept.len() >= part.kept {
+            break;
+        }
+        let change = &changes[i];
+        if !is_kept(change, &changes[i + 1..], last, ticks) {
+            continue;
+        }
+        kept.push(*change)?;
+        last = &change.value;
     }
     Ok(kept)
+}
+
+/// Whether a change is left, behind the value that is left before it.
+fn is_kept(change: &Change, later: &[Change], before: &Value, ticks: u64) -> bool
+    ensures { result ≡ kept_test ticks before.now change.now later.now }
+{
+    begins_steady(change, later, ticks) && change.value != *before
 }
 
 /// Whether the run that begins with a change holds tick 0, or the end, or at least so many ticks.

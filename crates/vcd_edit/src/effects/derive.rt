@@ -1,14 +1,14 @@
 //! A signal made of others.
 
-ghost use Rattle.std.specs.Prelude.{◌≡◌, ◌≤◌, ℕ, [], ◌∷◌, Some, None, IfOk, false, length, map};
+ghost use Rattle.std.specs.Prelude.{◌≡◌, ◌≤◌, ℕ, [], ◌∷◌, Some, None, IfOk, true, false, length, map};
 ghost use Rattle.vcd_core.specs.Contents.{contents, signal_contents};
 ghost use Rattle.vcd_core.specs.Sound.{IsSound};
 ghost use Rattle.vcd_core.specs.Value.{letter_at};
-ghost use Rattle.vcd_core.specs.Wave.{value_at, changes_of, AllUpTo};
+ghost use Rattle.vcd_core.specs.Wave.{value_at, changes_of, IsWave, AllUpTo};
 ghost use Rattle.vcd_edit.specs.Effect.{derived_signal};
-ghost use Rattle.vcd_edit.specs.Allowed.{lacks_operand, edit_fault};
+ghost use Rattle.vcd_edit.specs.Allowed.{lacks_operand, has_wide_operand, edit_fault};
 ghost use Rattle.vcd_edit.specs.inside.Thinned.{TicksRise};
-ghost use Rattle.vcd_edit.specs.inside.Derived.{operator_bit, edge_bit as bit_at_edge, edge_change, IsMade};
+ghost use Rattle.vcd_edit.specs.inside.Derived.{has_two_operands, operator_bit, bit_of_two, edge_bit as bit_at_edge, edge_change, operand_change, IsMade};
 ghost use Rattle.vcd_edit.specs.inside.Plans.{IsPlan};
 ghost use Rattle.vcd_edit.specs.declared.edit.Edit.TheVariants as edits;
 
@@ -17,7 +17,9 @@ use crate::effects::making::signal_there;
 use crate::effects::operators::{and, not, or, xor};
 use crate::record::Record;
 use std::alloc::Global;
-use vcd_core::{Bit, Capture, Edges, NoMemory, Seq, Signal, Value, Wave, Word, copy_word};
+use vcd_core::{
+    Bit, BitEdges, Capture, Change, NoMemory, Seq, Signal, Value, Wave, Word, copy_word,
+};
 
 /// The record that puts the new signal in behind the last.
 pub(crate) fn plan(
@@ -43,6 +45,7 @@ pub(crate) fn plan(
 fn derived(alloc: Global, capture: &Capture, word: &[u8], rule: Rule) -> Result<Signal, NoMemory>
     requires sound { IsSound (contents capture.now) }
     requires there { lacks_operand rule (contents capture.now) ≡ false }
+    requires narrow { has_wide_operand rule (contents capture.now) ≡ false }
     ensures { IfOk result (λ s. signal_contents s
         ≡ derived_signal word.now rule (contents capture.now)) }
 {
@@ -65,31 +68,92 @@ fn name_of_one_word(alloc: Global, word: &[u8]) -> Result<Seq<Word>, NoMemory>
 }
 
 /// The wave that has the rule's bit at each tick.
-fn derived_wave<'a>(
-    alloc: Global,
-    first: &'a Wave,
-    last: &'a Wave,
-    rule: Rule,
-) -> Result<Wave, NoMemory>
-    requires { (end : ℕ) × AllUpTo end first.now.changes × AllUpTo end last.now.changes }
+fn derived_wave(alloc: Global, first: &Wave, last: &Wave, rule: Rule) -> Result<Wave, NoMemory>
+    requires end { (end : ℕ) × AllUpTo end first.now.changes × AllUpTo end last.now.changes }
+    requires one_bit { has_two_operands rule ≡ true →
+        (first.now.width ≡ 1) × (last.now.width ≡ 1) }
     ensures { (end : ℕ) → AllUpTo end first.now.changes → AllUpTo end last.now.changes
         → IfOk result (λ w. (w.width ≡ 1) × (w.changes ≡ changes_of 1 end (λ t. operator_bit rule
         (value_at first.now.width first.now.changes t)
         (value_at last.now.width last.now.changes t) ∷ []))) }
 {
-    let edges = Edges::new(Some(first), Some(last), None, None);
-    let wave = wave_by_rule(alloc, edges, rule)?;
+    if rule.has_two_operands() {
+        return wave_of_two(alloc, first, last, rule);
+    }
+    wave_of_one(alloc, first, rule)
+}
+
+/// The wave that a rule of one operand makes.
+fn wave_of_one(alloc: Global, operand: &Wave, rule: Rule) -> Result<Wave, NoMemory>
+    ensures { (end : ℕ) → AllUpTo end operand.now.changes → IfOk result (λ w. (w.width ≡ 1)
+        × (w.changes ≡ changes_of 1 end (λ t.
+        let value = value_at operand.now.width operand.now.changes t in
+        operator_bit rule value value ∷ []))) }
+{
+    let wave = wave_at_changes(alloc, operand.changes(), rule)?;
     // The call tells the proof that the list has the form of a wave's.
     let _changes = wave.changes();
     Ok(wave)
 }
 
-/// The wave that has the rule's bit at each edge.
-fn wave_by_rule(alloc: Global, edges: Edges, rule: Rule) -> Result<Wave, NoMemory>
+/// The wave that has the rule's bit at each change of its one operand, with just the room for that.
+fn wave_at_changes(alloc: Global, changes: &[Change], rule: Rule) -> Result<Wave, NoMemory>
+    requires { (width : ℕ) × IsWave width changes.now }
+    ensures { IfOk result (IsMade (map (operand_change rule) changes.now) []) }
+{
+    let mut wave = Wave::new(alloc, 1);
+    wave.reserve_exact(count_at_changes(changes, rule))?;
+    for change in changes {
+        let bit = bit_of_one(rule, &change.value);
+        wave.push(change.tick, Value::filled(1, bit))?;
+    }
+    Ok(wave)
+}
+
+/// How many changes that wave has.
+fn count_at_changes(changes: &[Change], rule: Rule) -> usize {
+    let mut count = 0usize;
+    let mut last = Bit::X;
+    for change in changes {
+        let bit = bit_of_one(rule, &change.value);
+        if bit != last {
+            count = count.saturating_add(1);
+        }
+        last = bit;
+    }
+    count
+}
+
+/// The wave that a rule of two operands makes.
+fn wave_of_two<'a>(
+    alloc: Global,
+    first: &'a Wave,
+    last: &'a Wave,
+    rule: Rule,
+) -> Result<Wave, NoMemory>
+    requires two { has_two_operands rule ≡ true }
+    requires end { (end : ℕ) × AllUpTo end first.now.changes × AllUpTo end last.now.changes }
+    requires one_bit { (first.now.width ≡ 1) × (last.now.width ≡ 1) }
+    ensures { (end : ℕ) → AllUpTo end first.now.changes → AllUpTo end last.now.changes
+        → IfOk result (λ w. (w.width ≡ 1) × (w.changes ≡ changes_of 1 end (λ t. operator_bit rule
+        (value_at first.now.width first.now.changes t)
+        (value_at last.now.width last.now.changes t) ∷ []))) }
+{
+    let count = count_at_edges(BitEdges::new(Some(first), Some(last), None, None), rule);
+    let edges = BitEdges::new(Some(first), Some(last), None, None);
+    let wave = wave_at_edges(alloc, edges, rule, count)?;
+    // The call tells the proof that the list has the form of a wave's.
+    let _changes = wave.changes();
+    Ok(wave)
+}
+
+/// The wave that has the rule's bit at each edge, with room for so many changes.
+fn wave_at_edges(alloc: Global, edges: BitEdges, rule: Rule, count: usize) -> Result<Wave, NoMemory>
     requires { TicksRise 1 0 (map (edge_change rule) edges) }
     ensures { IfOk result (IsMade (map (edge_change rule) edges.entry) []) }
 {
     let mut wave = Wave::new(alloc, 1);
+    wave.reserve_exact(count)?;
     for edge in edges {
         let bit = edge_bit(rule, edge.at);
         wave.push(edge.tick, Value::filled(1, bit))?;
@@ -97,34 +161,60 @@ fn wave_by_rule(alloc: Global, edges: Edges, rule: Rule) -> Result<Wave, NoMemor
     Ok(wave)
 }
 
+/// How many changes that wave has.
+fn count_at_edges(edges: BitEdges, rule: Rule) -> usize {
+    let mut count = 0usize;
+    let mut last = Bit::X;
+    for edge in edges {
+        let bit = edge_bit(rule, edge.at);
+        if bit != last {
+            count = count.saturating_add(1);
+        }
+        last = bit;
+    }
+    count
+}
+
 /// The rule's bit at an edge.
-fn edge_bit(rule: Rule, values: [Option<Value>; 4]) -> Bit
-    ensures { result ≡ bit_at_edge rule values }
+fn edge_bit(rule: Rule, bits: [Option<Bit>; 4]) -> Bit
+    ensures { result ≡ bit_at_edge rule bits }
 {
-    match values {
-        [Some(first), Some(last), _, _] => operate(rule, first, last),
+    match bits {
+        [Some(first), Some(last), _, _] => bit_of_two(rule, first, last),
         _ => Bit::X,
     }
 }
 
-/// The rule's bit for the values of its first and its last operand.
-fn operate(rule: Rule, first: Value, last: Value) -> Bit
-    ensures { result ≡ operator_bit rule first last }
+/// What a rule gives for the value of its one operand.
+fn bit_of_one(rule: Rule, value: &Value) -> Bit
+    ensures { result ≡ operator_bit rule value.now value.now }
 {
-    let a = value_bit(first, 0);
-    let b = value_bit(last, 0);
+    let bit = value_bit(value, 0);
+    match rule {
+        Rule::Not(_) => not(bit),
+        Rule::And(_, _) => and(bit, bit),
+        Rule::Or(_, _) => or(bit, bit),
+        Rule::Xor(_, _) => xor(bit, bit),
+        Rule::BitOf(_, k) => value_bit(value, k),
+    }
+}
+
+/// What an operator gives for one bit of each operand.
+fn bit_of_two(rule: Rule, a: Bit, b: Bit) -> Bit
+    ensures { result ≡ bit_of_two rule a b }
+{
     match rule {
         Rule::Not(_) => not(a),
         Rule::And(_, _) => and(a, b),
         Rule::Or(_, _) => or(a, b),
         Rule::Xor(_, _) => xor(a, b),
-        Rule::BitOf(_, k) => value_bit(first, k),
+        Rule::BitOf(_, _) => a,
     }
 }
 
 /// Bit `k`, or the last bit where there are not so many.
-fn value_bit(value: Value, k: u64) -> Bit
-    ensures { result ≡ letter_at value k }
+fn value_bit(value: &Value, k: u64) -> Bit
+    ensures { result ≡ letter_at value.now k }
 {
     let most = value.width() - 1;
     value.bit(k.min(most))

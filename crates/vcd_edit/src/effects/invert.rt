@@ -30,7 +30,8 @@ pub(crate) fn plan(alloc: Global, capture: &Capture, signal: usize) -> Result<Re
     one_piece(alloc, whole_piece(wave, signal, changes))
 }
 
-/// The changes to the inverse values, behind the value `before`, those left out that change nothing.
+/// The changes to the inverse values, behind the value `before`, those left out that change nothing; with
+/// room for as many as there were.
 fn inverse_changes(
     alloc: Global,
     changes: &[Change],
@@ -40,6 +41,7 @@ fn inverse_changes(
         ≡ thinned_list before (map (with_value (map not_bit)) changes.now)) }
 {
     let mut inverse = Vec::new(alloc);
+    inverse.reserve_exact(changes.len())?;
     let mut last = before;
     for change in changes {
         let value = inverse_of(&change.value);

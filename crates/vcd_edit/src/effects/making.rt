@@ -35,7 +35,8 @@ pub(crate) fn value_just_before(wave: &Wave, tick: u64) -> Value
     wave.at(tick - 1)
 }
 
-/// Lists a change to `value` at `tick`, where `before` is another value.
+/// Lists a change to `value` at `tick`, where `before` is another value. Where the list has no room, it gets
+/// that for this change alone.
 pub(crate) fn put_change(
     changes: &mut Vec<Change>,
     before: Value,
@@ -46,6 +47,7 @@ pub(crate) fn put_change(
         ≡ changes.old.items ++ unless_same (same_letters value before) (change tick value) []) }
 {
     if value != before {
+        changes.reserve_exact(1)?;
         changes.push(Change { tick, value })?;
     }
     Ok(())
@@ -111,12 +113,25 @@ pub(crate) fn whole_piece(wave: &Wave, position: usize, changes: Vec<Change>) ->
     }
 }
 
+/// The record of nothing.
+pub(crate) fn no_piece(alloc: Global) -> Record
+    ensures { result ≡ record { pieces = []; word = None; signal = None; other_end = None } }
+{
+    Record {
+        pieces: Vec::new(alloc),
+        word: None,
+        signal: None,
+        other_end: None,
+    }
+}
+
 /// The record of one piece and nothing else.
 pub(crate) fn one_piece(alloc: Global, piece: Piece) -> Result<Record, NoMemory>
     ensures { IfOk result (λ r. r
         ≡ record { pieces = piece_view piece ∷ []; word = None; signal = None; other_end = None }) }
 {
     let mut pieces = Vec::new(alloc);
+    pieces.reserve_exact(1)?;
     pieces.push(piece)?;
     Ok(Record {
         pieces,

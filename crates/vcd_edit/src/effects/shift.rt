@@ -108,7 +108,7 @@ fn come_later(
         signal: position,
         from: 0,
         to: changes.len(),
-        changes: later_changes(alloc, &changes[..kept], ticks)?,
+        changes: later_changes(alloc, &changes[..kept], ticks, changes.len())?,
         by,
     })
 }
@@ -136,12 +136,18 @@ fn one_value(
     })
 }
 
-/// Copies of the changes, some ticks later.
-fn later_changes(alloc: Global, changes: &[Change], ticks: u64) -> Result<Vec<Change>, NoMemory>
+/// Copies of the changes, some ticks later, with room for as many as are asked for.
+fn later_changes(
+    alloc: Global,
+    changes: &[Change],
+    ticks: u64,
+    room: usize,
+) -> Result<Vec<Change>, NoMemory>
     requires { All (λ c. c.tick + ticks < 2 ^ 64) changes.now }
     ensures { IfOk result (λ copies. copies.items ≡ map (moved_change (pos ticks)) changes.now) }
 {
     let mut copies = Vec::new(alloc);
+    copies.reserve_exact(room)?;
     for change in changes {
         let tick = change.tick + ticks;
         copies.push(Change {

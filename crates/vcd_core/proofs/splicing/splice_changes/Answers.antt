@@ -1,22 +1,27 @@
-use Rattle.std.proofs.Common.{rules, w64, ℤ, ◌≡◌, ◌++◌, length, take, drop, map, ap, ◌∙◌}
+use Rattle.std.proofs.Common.{w64, ◌+◌, ◌-◌, ◌++◌, slice_range, ap, ◌∙◌, arith}
 use Rattle.std.proofs.lemmas.Int.{to_z-of_z}
-use Rattle.vcd_core.specs.Splice.{moved_change, spliced_changes}
-use Rattle.vcd_core.proofs.Shifts.{empty_piece}
+use Rattle.vcd_core.proofs.Splices.{later_fit, spliced_without_rest, piece_with_rest, spliced_with_rest}
 use Rattle.vcd_core.proofs.splicing.splice_changes.Goals as goal
 
-pub returns-then-is_empty-clause-changes : goal.returns-then-is_empty-clause-changes
-unfolding spliced_changes
-returns-then-is_empty-clause-changes c =
-    let xs = c.args.changes.now.items in
-    let none : length c.args.piece.now.items ≡ 0 = search rules in
-    c.take_out.ensures.changes ∙ ap (λ (by : ℤ). take c.args.from xs ++ map (moved_change by) (drop c.args.to xs)) (to_z-of_z w64 c.args.by c.ranges.by)
-    ∙ empty_piece (take c.args.from xs) c.args.piece.now.items _ none
+pub take_out-requires-clause-fit : goal.take_out-requires-clause-fit
+take_out-requires-clause-fit c =
+    later_fit c.args.changes.now.items c.args.piece.now.items c.swap_fronts.new.changes.items c.args.from c.args.to c.len-come.result (omega arith) (omega arith) (omega arith)
+    c.swap_fronts.ensures.changes c.args.by _ (to_z-of_z w64 c.args.by c.ranges.by) c.requires.fit
 
-pub returns-then-from-to-clause-changes : goal.returns-then-from-to-clause-changes
-unfolding spliced_changes
-returns-then-from-to-clause-changes c =
-    let xs = c.args.changes.now.items in
-    let piece = c.args.piece.now.items in
-    c.put_in.ensures.changes
-    ∙ ap (λ (by : ℤ). take c.args.from xs ++ piece ++ map (moved_change by) (drop c.args.from xs)) (to_z-of_z w64 c.args.by c.ranges.by)
-    ∙ ap (λ n. take c.args.from xs ++ piece ++ map (moved_change c.args.by) (drop n xs)) c.if-from-to.true
+pub returns-then-come-part-clause-changes : goal.returns-then-come-part-clause-changes
+returns-then-come-part-clause-changes c =
+    spliced_without_rest c.args.changes.now.items c.args.piece.now.items c.swap_fronts.new.changes.items c.args.from c.args.to c.len-come.result (omega arith) (omega arith) (omega arith)
+    c.swap_fronts.ensures.changes (omega arith) c.args.by _ c.take_out.new.changes.items (to_z-of_z w64 c.args.by c.ranges.by) c.take_out.ensures.changes
+
+pub returns-then-come-part-clause-piece : goal.returns-then-come-part-clause-piece
+returns-then-come-part-clause-piece c =
+    c.take_out.ensures.piece
+    ∙ ap (λ l. l ++ slice_range c.swap_fronts.new.changes.items (c.args.from + c.len-come.result) c.args.to) c.swap_fronts.ensures.piece
+    ∙ piece_with_rest c.args.changes.now.items c.args.piece.now.items c.swap_fronts.new.changes.items c.args.from c.args.to c.len-come.result (omega arith) (omega arith) (omega arith)
+    c.swap_fronts.ensures.changes (omega arith)
+
+pub returns-else-come-part-clause-changes : goal.returns-else-come-part-clause-changes
+returns-else-come-part-clause-changes c =
+    spliced_with_rest c.args.changes.now.items c.args.piece.now.items c.swap_fronts-else-come-part.new.changes.items c.args.from c.args.to (c.args.to - c.args.from) (omega arith) (omega arith) (omega arith)
+    c.swap_fronts-else-come-part.ensures.changes c.args.by _ c.put_in.new.changes.items c.swap_fronts-else-come-part.new.piece.items (omega arith) (to_z-of_z w64 c.args.by c.ranges.by)
+    c.swap_fronts-else-come-part.ensures.piece c.put_in.ensures.changes

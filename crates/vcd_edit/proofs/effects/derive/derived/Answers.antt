@@ -1,5 +1,6 @@
 use Rattle.std.proofs.Common.{ℕ, sym, ap, ◌∙◌}
 use Rattle.vcd_core.specs.Contents.{Contents, SignalContents, contents, signal_contents, signal_at}
+use Rattle.vcd_edit.proofs.Faults.{operands_narrow}
 use Rattle.vcd_edit.proofs.DerivedSignals.{derived_parts}
 use Rattle.vcd_edit.proofs.effects.derive.derived.Goals as goal
 
@@ -13,3 +14,11 @@ returns c =
     (ap (λ (k : ℕ). signal_at d k) (sym c.last_operand.ensures) ∙ c.signal_there-last.ensures.is)
     c.in_ok-share.ensures c.in_ok-copy_word.ensures c.in_ok-name_of_one_word.ensures
     (c.in_ok-derived_wave.ensures d.end c.signal_there-first.ensures.sound.ticks c.signal_there-last.ensures.sound.ticks)
+
+pub derived_wave-requires-clause-one_bit : goal.derived_wave-requires-clause-one_bit
+derived_wave-requires-clause-one_bit c = λ two.
+    let d : Contents = contents c.args.capture.now in
+    let narrow = operands_narrow d c.args.rule c.requires.narrow two in
+    let first = ap (λ (k : ℕ). signal_at d k) (sym c.first_operand.ensures) ∙ c.signal_there-first.ensures.is in
+    let last = ap (λ (k : ℕ). signal_at d k) (sym c.last_operand.ensures) ∙ c.signal_there-last.ensures.is in
+    (sym (ap (λ (s : SignalContents). s.width) first) ∙ narrow.0, sym (ap (λ (s : SignalContents). s.width) last) ∙ narrow.1)

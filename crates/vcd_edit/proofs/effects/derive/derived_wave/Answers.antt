@@ -1,15 +1,16 @@
-use Rattle.std.proofs.Common.{subst}
-use Rattle.vcd_core.specs.Wave.{IsWave}
-use Rattle.vcd_edit.proofs.DerivedWaves.{edges_rise, derived_is}
+use Rattle.std.proofs.Common.{◌≡◌, [], ◌∷◌, sym, ◌∙◌}
+use Rattle.vcd_core.specs.WaveView.{WaveView}
+use Rattle.vcd_core.specs.Wave.{value_at, changes_of}
+use Rattle.vcd_edit.specs.inside.Derived.{operator_bit}
+use Rattle.vcd_edit.proofs.Plans.{at_ok}
+use Rattle.vcd_edit.proofs.DerivedWaves.{alone_changes}
 use Rattle.vcd_edit.proofs.effects.derive.derived_wave.Goals as goal
 
-pub wave_by_rule-requires : goal.wave_by_rule-requires
-wave_by_rule-requires c =
-    edges_rise c.args.rule c.args.first.now c.args.last.now c.requires.0 c.new-edges.result (c.new-edges.ensures.edges c.requires.0 (c.requires.1, (c.requires.2, (tt, (tt, tt)))))
-
 pub returns : goal.returns
-returns c = λ end first last. (
-  c.in_ok-wave.ensures.width,
-  derived_is c.args.rule c.args.first.now c.args.last.now end c.new-edges.result c.in_ok-wave.wave (c.new-edges.ensures.edges end (first, (last, (tt, (tt, tt))))) c.in_ok-wave.ensures
-      (subst (IsWave c.in_ok-wave.wave.width) c.changes-changes.ensures.changes c.changes-changes.ensures.form),
-)
+returns c = λ end first last.
+    let a = c.args.first.now in
+    let b = c.args.last.now in
+    at_ok c.wave_of_one.result
+    (λ (w : WaveView). (w.width ≡ 1) × (w.changes ≡ changes_of 1 end (λ t. operator_bit c.args.rule (value_at a.width a.changes t) (value_at a.width a.changes t) ∷ [])))
+    (λ (w : WaveView). (w.width ≡ 1) × (w.changes ≡ changes_of 1 end (λ t. operator_bit c.args.rule (value_at a.width a.changes t) (value_at b.width b.changes t) ∷ [])))
+    (λ w told. (told.0, told.1 ∙ alone_changes c.args.rule a b (sym c.has_two_operands.ensures ∙ c.if-has_two_operands.false) end)) (c.wave_of_one.ensures end first)

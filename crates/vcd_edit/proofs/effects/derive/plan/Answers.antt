@@ -9,6 +9,9 @@ use Rattle.vcd_edit.proofs.effects.derive.plan.Goals as goal
 pub derived-requires-clause-there : goal.derived-requires-clause-there
 derived-requires-clause-there c = (no_fault (Derive c.args.word c.args.rule) (contents c.args.capture.now) c.requires.allowed).signals
 
+pub derived-requires-clause-narrow : goal.derived-requires-clause-narrow
+derived-requires-clause-narrow c = (no_fault (Derive c.args.word c.args.rule) (contents c.args.capture.now) c.requires.allowed).scalars
+
 pub returns : goal.returns
 returns c =
     derive_plan (contents c.args.capture.now) c.args.word c.args.rule (length c.signals.result.now) (signal_contents c.in_ok-signal.signal) c.new.result.items c.requires.sound c.requires.allowed

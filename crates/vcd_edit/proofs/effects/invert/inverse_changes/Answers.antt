@@ -1,8 +1,9 @@
+use Rattle.std.proofs.Common.{◌∙◌}
 use Rattle.vcd_edit.proofs.Inverses.{inverse_more, inverse_done, inverse_none}
 use Rattle.vcd_edit.proofs.effects.invert.inverse_changes.Goals as goal
 
 pub loop-change-init : goal.loop-change-init
-loop-change-init c = inverse_none c.args.before c.args.changes.now c.new-inverse.result.items c.new-inverse.ensures.items
+loop-change-init c = inverse_none c.args.before c.args.changes.now c.reserve_exact.new.self.items (c.in_ok-reserve_exact.ensures.items ∙ c.new-inverse.ensures.items)
 
 pub loop-change-preserved : goal.loop-change-preserved
 loop-change-preserved c =

@@ -1,6 +1,6 @@
 use Rattle.std.proofs.Common.{map}
 use Rattle.vcd_edit.specs.inside.Derived.{edge_change, IsMade}
-use Rattle.vcd_edit.proofs.effects.derive.wave_by_rule.Given as goal
+use Rattle.vcd_edit.proofs.effects.derive.wave_at_edges.Given as goal
 
 -- the wave and the edges that are left are all
 abbrev pub invariant-loop-edge : goal.invariant-loop-edge

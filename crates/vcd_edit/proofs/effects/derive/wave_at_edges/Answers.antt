@@ -1,14 +1,14 @@
 use Rattle.std.proofs.Common.{List, [], ◌∷◌, map, ap, subst, sym, ◌∙◌}
 use Rattle.vcd_core.specs.declared.bit.Bit.{Bit}
-use Rattle.vcd_core.specs.declared.edges.Edge.{Edge}
+use Rattle.vcd_core.specs.declared.bit_edges.BitEdge.{BitEdge}
 use Rattle.vcd_edit.specs.inside.Derived.{edge_change, IsMade}
 use Rattle.vcd_edit.proofs.DerivedWaves.{none_made, edge_made, edge_late}
-use Rattle.vcd_edit.proofs.effects.derive.wave_by_rule.Goals as goal
+use Rattle.vcd_edit.proofs.effects.derive.wave_at_edges.Goals as goal
 
 pub loop-edge-init : goal.loop-edge-init
 loop-edge-init c =
-    subst (λ (es : List Edge). IsMade (map (edge_change c.args.rule) c.args.edges) (map (edge_change c.args.rule) es) c.new-wave.result) (sym c.into_iter-edge-iterator.ensures.into_iter_gives)
-    (none_made (map (edge_change c.args.rule) c.args.edges) c.new-wave.result c.new-wave.ensures.width c.new-wave.ensures.changes c.requires)
+    subst (λ (es : List BitEdge). IsMade (map (edge_change c.args.rule) c.args.edges) (map (edge_change c.args.rule) es) c.reserve_exact.new.self) (sym c.into_iter-edge-iterator.ensures.into_iter_gives)
+    (none_made (map (edge_change c.args.rule) c.args.edges) c.reserve_exact.new.self (c.in_ok-reserve_exact.ensures.width ∙ c.new-wave.ensures.width) (c.in_ok-reserve_exact.ensures.changes ∙ c.new-wave.ensures.changes) c.requires)
 
 pub push-requires-clause-late : goal.push-requires-clause-late
 push-requires-clause-late c = edge_late c.args.rule c.args.edges c.loop-edge.edge-iterator c.next.new.self c.in-Some.edge c.loop-edge.wave c.in-Some.ensures.steps c.loop-edge.invariant
