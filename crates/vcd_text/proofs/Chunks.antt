@@ -1,12 +1,12 @@
 -- A file in chunks: what one more chunk adds to what has been taken, and what is answered where no more comes.
 use Rattle.std.proofs.Common.{◌≡◌, ◌⊎◌, inl, inr, ℕ, zero, suc, ◌+◌, ◌-◌, ◌<◌, ◌≤◌, Bool, true, false, not, cond, ◌==◌, List, [], ◌∷◌, ◌++◌, length, take, drop, get_or, Option, Some, None, IfSome, refl, sym, ap, subst, ◌∙◌, arith, append_assoc, length-append}
-use Rattle.std.specs.Prelude.{count_by, IsTrue, IsFalse}
+use Rattle.std.specs.Prelude.{IsTrue, IsFalse}
 use Rattle.std.specs.List.{list_all}
 use Rattle.std.specs.Io.KnownBytes.{Consumes, Keeps, IsAtEnd}
 use Rattle.std.proofs.KnownBytes.{Consumes-trans, Consumes-kept}
 use Rattle.std.proofs.Math.Seq.{take-append-add, take-append_seam}
 use Rattle.std.proofs.lemmas.List.{append-nil, take-append-drop, length-drop}
-use Rattle.std.proofs.lemmas.List.Sums.{sum_by-append, count_by-le-length}
+use Rattle.std.proofs.lemmas.List.Sums.{count_by-le-length}
 use Rattle.std.proofs.lemmas.Bool.{cases_lt}
 use Rattle.vcd_core.specs.Word.{is_white_space}
 use Rattle.vcd_text.specs.declared.reading.TheConstants.{FILE_LIMIT}
@@ -22,19 +22,13 @@ use Rattle.vcd_text.specs.Refusals.{IsRefusal, has_fault, too_large, no_memory, 
 use Rattle.vcd_text.specs.inside.Spaces.{is_closed}
 use Rattle.vcd_text.specs.inside.Reading.{Reads}
 use Rattle.vcd_text.specs.inside.Chunks.{HasTaken, HasCome}
+use Rattle.vcd_text.specs.inside.WordWalk.{feeds}
 use Rattle.vcd_text.proofs.Ended.{no_fault as shows_none}
 use Rattle.vcd_text.proofs.FrontAnswers.{larger, failing}
 use Rattle.vcd_text.proofs.FrontFaults.{front_fault_stays, longer_front_fault}
-use Rattle.vcd_text.proofs.WordLaws.{both, not_true, black_is_no_feed, word_part}
+use Rattle.vcd_text.proofs.WordLaws.{feeds_both, no_feeds, word_part}
 
 -- ---- line feeds
-
--- how many there are
-abbrev pub feeds : List ℕ → ℕ
-feeds bytes = count_by (λ b. b == 10) bytes
-
-feeds_both : (xs ys : List ℕ) → feeds (xs ++ ys) ≡ feeds xs + feeds ys
-feeds_both xs ys = sum_by-append (λ b. cond (b == 10) 1 0) xs ys
 
 line_one : (b line : ℕ) → line_behind b line ≡ line + feeds (b ∷ [])
 line_one b line = by_test (b == 10)
@@ -45,15 +39,6 @@ line_one b line = by_test (b == 10)
 
 line_more : (b line : ℕ) (bs : List ℕ) → line_behind b line + feeds bs ≡ line + feeds (b ∷ bs)
 line_more b line bs = let all : feeds (b ∷ bs) ≡ feeds (b ∷ []) + feeds bs = feeds_both (b ∷ []) bs in omega (arith, all, line_one b line)
-
--- a word has none
-no_feeds : (word : List ℕ) → list_all (λ b. not (is_white_space b)) word ≡ true → feeds word ≡ 0
-no_feeds [] black = refl
-no_feeds (b ∷ bs) black =
-    let parts = both (not (is_white_space b)) (list_all (λ b. not (is_white_space b)) bs) black in
-    let all : feeds (b ∷ bs) ≡ feeds (b ∷ []) + feeds bs = feeds_both (b ∷ []) bs in
-    let one : feeds (b ∷ []) ≡ 0 = ap (λ t. 0 + cond t 1 0) (black_is_no_feed b (not_true (is_white_space b) parts.0)) in
-    omega (arith, all, one, no_feeds bs parts.1)
 
 -- ---- text up to white space
 
@@ -290,19 +275,29 @@ is_no_file_failure bytes e (inr (too_early stops line fault)) is = absurd (cc)
 -- ---- a chunk behind what has been taken
 
 -- it has come behind the word that may go on
-pub has_come : (p : Progress) (word : List ℕ) (left : ℕ) (before chunk : List ℕ) → p.word.items ≡ word ++ chunk → left ≡ p.left + length chunk → HasTaken p.reader word p.passed left before
-    → HasCome p (length word) (before ++ chunk)
-has_come p word left before chunk text fits taken =
-    record { before = before; word = word; chunk = chunk; taken = subst (λ left. HasTaken p.reader word p.passed left before) fits taken; text = text; len = refl; all = refl }
+pub has_come : (p now : Progress) (from count : ℕ) (before word chunk : List ℕ) → HasTaken p.reader p.buffer.bytes p.passed p.left before → now.reader ≡ p.reader → now.passed ≡ p.passed
+    → now.buffer.bytes ≡ word ++ chunk → word ≡ p.buffer.bytes → count ≡ length chunk → count ≤ p.left → now.left ≡ p.left - count → from ≡ length word → HasCome now from (before ++ chunk)
+has_come p now from count before word chunk taken reader passed text same many within left len =
+    let fits : p.left ≡ now.left + length chunk = omega (arith, left, many, within) in
+    record {
+      before = before;
+      word = p.buffer.bytes;
+      chunk = chunk;
+      taken = subst (λ m. HasTaken m p.buffer.bytes now.passed (now.left + length chunk) before) (sym reader)
+          (subst (λ n. HasTaken p.reader p.buffer.bytes n (now.left + length chunk) before) (sym passed) (subst (λ left. HasTaken p.reader p.buffer.bytes p.passed left before) fits taken));
+      text = text ∙ ap (λ word. word ++ chunk) same;
+      len = len ∙ ap (length {A = ℕ}) same;
+      all = refl;
+    }
 
 -- the words that are sure have been taken
 pub now_taken : (p : Progress) (from len : ℕ) (bytes : List ℕ) (new : Reader) (closed : List ℕ) (words : List PlacedWord) → (come : HasCome p from bytes)
-    → is_closed (take len p.word.items) ≡ true → list_all (λ b. not (is_white_space b)) (drop len p.word.items) ≡ true → closed ≡ take len p.word.items → words ≡ words_from true (p.passed + 1) closed
-    → Reads new (closed_words come.before ++ words) → HasTaken new (drop len p.word.items) (p.passed + feeds closed) p.left bytes
+    → is_closed (take len p.buffer.bytes) ≡ true → list_all (λ b. not (is_white_space b)) (drop len p.buffer.bytes) ≡ true → closed ≡ take len p.buffer.bytes → words ≡ words_from true (p.passed + 1) closed
+    → Reads new (closed_words come.before ++ words) → HasTaken new (drop len p.buffer.bytes) (p.passed + feeds closed) p.left bytes
 now_taken p from len bytes new closed words come ends black front is reads =
     let text = come.text in
-    subst (λ bytes. HasTaken new (drop len p.word.items) (p.passed + feeds closed) p.left bytes) (sym come.all)
-    (subst (λ n. HasTaken new (drop len p.word.items) n p.left (come.before ++ come.chunk)) (ap (λ l. p.passed + feeds l) (sym (front ∙ ap (take len) text)))
+    subst (λ bytes. HasTaken new (drop len p.buffer.bytes) (p.passed + feeds closed) p.left bytes) (sym come.all)
+    (subst (λ n. HasTaken new (drop len p.buffer.bytes) n p.left (come.before ++ come.chunk)) (ap (λ l. p.passed + feeds l) (sym (front ∙ ap (take len) text)))
     (subst (λ l. HasTaken new l (p.passed + feeds (take len (come.word ++ come.chunk))) p.left (come.before ++ come.chunk)) (sym (ap (drop len) text))
     (taken_now p.reader come.word p.passed (p.left + length come.chunk) come.before come.taken come.chunk len (sym (ap (λ l. is_closed (take len l)) text) ∙ ends)
     (sym (ap (λ l. list_all (λ b. not (is_white_space b)) (drop len l)) text) ∙ black) new p.left (omega arith)
@@ -310,7 +305,7 @@ now_taken p from len bytes new closed words come ends black front is reads =
 
 -- or one of them shows a fault
 pub now_shown : (p : Progress) (from len : ℕ) (bytes : List ℕ) (e : ReadError) (closed : List ℕ) (words : List PlacedWord) → (come : HasCome p from bytes)
-    → is_closed (take len p.word.items) ≡ true → list_all (λ b. not (is_white_space b)) (drop len p.word.items) ≡ true → closed ≡ take len p.word.items → words ≡ words_from true (p.passed + 1) closed
+    → is_closed (take len p.buffer.bytes) ≡ true → list_all (λ b. not (is_white_space b)) (drop len p.buffer.bytes) ≡ true → closed ≡ take len p.buffer.bytes → words ≡ words_from true (p.passed + 1) closed
     → (e ≡ memory_error) ⊎ ShowsFault (closed_words come.before ++ words) e.line e.fault → (e ≡ memory_error) ⊎ FrontFault bytes e.line e.fault
 now_shown p from len bytes e closed words come ends black front is shows =
     let text = come.text in
@@ -321,7 +316,7 @@ now_shown p from len bytes e closed words come ends black front is shows =
 
 -- the first bytes of the text are those of the word that may go on
 pub word_is_first : (p : Progress) (from : ℕ) (bytes : List ℕ) → HasCome p from bytes
-    → (from ≤ length p.word.items) × (list_all (λ b. not (is_white_space b)) (take from p.word.items) ≡ true) × (length bytes + p.left ≡ FILE_LIMIT) × (length p.word.items ≤ length bytes) × (p.passed ≤ length bytes)
+    → (from ≤ length p.buffer.bytes) × (list_all (λ b. not (is_white_space b)) (take from p.buffer.bytes) ≡ true) × (length bytes + p.left ≡ FILE_LIMIT) × (length p.buffer.bytes ≤ length bytes) × (p.passed ≤ length bytes)
 word_is_first p from bytes come =
     let long = ap (length {A = ℕ}) come.text ∙ length-append come.word come.chunk in
     let all = ap (length {A = ℕ}) come.all ∙ length-append come.before come.chunk in

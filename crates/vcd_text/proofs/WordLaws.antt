@@ -2,11 +2,13 @@
 use Rattle.std.proofs.Common.{◌≡◌, ℕ, zero, suc, ◌+◌, ◌<◌, ◌≤◌, Bool, true, false, not, cond, ◌&&◌, ◌==◌, List, [], ◌∷◌, ◌++◌, length, map, take, drop, refl, sym, ap, subst, ◌∙◌, arith}
 use Rattle.std.specs.List.{All, list_all}
 use Rattle.std.proofs.lemmas.List.{take-append-drop}
+use Rattle.std.proofs.lemmas.List.Sums.{sum_by-append}
 use Rattle.std.proofs.lemmas.List.Elements.{All-nil, All-cons, All-head, All-tail}
 use Rattle.std.proofs.lemmas.Bool.Decides.{Decides-eqb}
 use Rattle.std.proofs.lemmas.Bool.{ne_eqb}
 use Rattle.vcd_core.specs.Word.{is_word, is_white_space}
 use Rattle.vcd_text.specs.Items.{is_end_word}
+use Rattle.vcd_text.specs.inside.WordWalk.{feeds}
 use Rattle.vcd_text.specs.inside.Spaces.{begins_with_space}
 use Rattle.vcd_text.specs.Words.{line_behind, ends_before, with_longer_first, with_byte, PlacedWord, word_on, words_from}
 
@@ -29,6 +31,34 @@ black_is_no_feed b black = choose (b == 10) refl
         let ten : b ≡ 10 = (Decides-eqb b 10).0 e in
         let no : true ≡ false = sym (ap is_white_space ten) ∙ black in
         absurd (cc)
+
+-- ---- line feeds
+
+pub feeds_both : (xs ys : List ℕ) → feeds (xs ++ ys) ≡ feeds xs + feeds ys
+feeds_both xs ys = sum_by-append (λ b. cond (b == 10) 1 0) xs ys
+
+-- one at the front, or none
+pub feed_first : (b : ℕ) (bs text : List ℕ) → text ≡ b ∷ bs → b ≡ 10 → feeds text ≡ 1 + feeds bs
+feed_first b bs text is feed =
+    let one : feeds (b ∷ []) ≡ 1 = ap (λ t. 0 + cond t 1 0) ((Decides-eqb b 10).1 feed) in
+    omega (arith, ap feeds is, feeds_both (b ∷ []) bs, one)
+
+pub other_first : (b : ℕ) (bs text : List ℕ) → text ≡ b ∷ bs → (b == 10) ≡ false → feeds text ≡ feeds bs
+other_first b bs text is other =
+    let none : feeds (b ∷ []) ≡ 0 = ap (λ t. 0 + cond t 1 0) other in
+    omega (arith, ap feeds is, feeds_both (b ∷ []) bs, none)
+
+-- a word has none
+pub no_feeds : (word : List ℕ) → list_all (λ b. not (is_white_space b)) word ≡ true → feeds word ≡ 0
+no_feeds [] black = refl
+no_feeds (b ∷ bs) black =
+    let parts = both (not (is_white_space b)) (list_all (λ b. not (is_white_space b)) bs) black in
+    other_first b bs (b ∷ bs) refl (black_is_no_feed b (not_true (is_white_space b) parts.0)) ∙ no_feeds bs parts.1
+
+pub feeds_behind : (n : ℕ) (text : List ℕ) → list_all (λ b. not (is_white_space b)) (take n text) ≡ true → feeds (drop n text) ≡ feeds text
+feeds_behind n text black = omega (arith, ap feeds (take-append-drop n text), feeds_both (take n text) (drop n text), no_feeds (take n text) black)
+
+-- ---- words at the front
 
 pub same_line : (b line : ℕ) → is_white_space b ≡ false → line_behind b line ≡ line
 same_line b line black = ap (λ t. cond t (line + 1) line) (black_is_no_feed b black)

@@ -19,4 +19,5 @@ pub mod ValueFronts
 pub mod TextParts
 pub mod KeptChanges
 pub mod NextChanges
+pub mod Waiting
 pub mod Windows

@@ -3,6 +3,7 @@
 ghost use Rattle.std.specs.Prelude.{◌≡◌};
 ghost use Rattle.vcd_text.specs.FaultNames.{fault_name, write_error_name};
 ghost use Rattle.vcd_text.specs.Refusals.{memory_error};
+ghost use Rattle.vcd_text.specs.inside.Reading.{error_at};
 ghost use Rattle.vcd_text.specs.declared.fault.Fault.TheVariants.{NoMemory};
 ghost use Rattle.vcd_text.specs.declared.fault.WriteError.TheVariants as write_errors;
 
@@ -121,18 +122,12 @@ pub struct ReadError {
 }
 
 impl ReadError {
-    /// A fault, decided at this line.
-    pub fn at(line: u64, fault: Fault) -> ReadError
-        ensures { result ≡ record { line = line; fault = fault } }
+    /// A fault, decided at this line; want of memory is decided at no line, and has 0.
+    pub(crate) fn at(line: u64, fault: Fault) -> ReadError
+        ensures { result ≡ error_at line fault }
     {
+        let line = if fault == Fault::NoMemory { 0 } else { line };
         ReadError { line, fault }
-    }
-
-    /// Want of memory, which is decided at no line.
-    pub fn no_memory() -> ReadError
-        ensures { result ≡ memory_error }
-    {
-        ReadError::at(0, Fault::NoMemory)
     }
 
     /// The name of the fault. It takes no memory.
@@ -140,6 +135,14 @@ impl ReadError {
         ensures { result.now ≡ fault_name self.now.fault }
     {
         self.fault.name()
+    }
+}
+
+impl From<vcd_core::NoMemory> for ReadError {
+    ghost from_gives = { λ _ e. e ≡ memory_error };
+
+    fn from(refused: vcd_core::NoMemory) -> ReadError {
+        ReadError::at(0, refused.into())
     }
 }
 

@@ -19,6 +19,7 @@ mod declarations;
 mod finished_signals;
 mod keywords;
 mod owners;
+mod read_buffer;
 mod reader;
 mod scope_paths;
 mod scopes;
@@ -27,7 +28,7 @@ mod timescale;
 mod variables;
 
 use crate::fault::ReadError;
-use crate::reading::chunks::{CHUNK, Progress};
+use crate::reading::chunks::Progress;
 pub use binary_number::value_of_digits;
 use std::alloc::Global;
 use vcd_core::{Capture, Source};
@@ -71,8 +72,7 @@ pub fn read<R: Source>(alloc: Global, reader: &mut R) -> Result<Loaded, ReadErro
     ensures too_large { IfErr result (λ e. e.fault ≡ Fault.TooLarge →
         R.has_failed reader.new ≡ false) }
 {
-    let mut block = [0u8; CHUNK];
     let mut progress = Progress::new(alloc);
-    while progress.take_chunk(alloc, reader, &mut block)? {}
+    while progress.take_chunk(alloc, reader)? {}
     progress.finish(alloc)
 }

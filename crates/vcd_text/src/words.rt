@@ -6,6 +6,7 @@ ghost use Rattle.vcd_core.specs.Word.{is_white_space as white};
 ghost use Rattle.vcd_text.specs.Words.{ends_before as ends_word, words_from, words_of};
 ghost use Rattle.vcd_text.specs.LentWords.{word_at};
 ghost use Rattle.vcd_text.specs.inside.Spaces.{begins_with_space};
+ghost use Rattle.vcd_text.specs.inside.WordWalk.{feeds, words_left, feeds_at_end, LinesFit};
 
 use std::marker::Model;
 use vcd_core::is_white_space;
@@ -21,9 +22,7 @@ pub struct PlacedWord<'a> {
 /// no memory.
 #[derive(Drop)]
 pub struct Words<'a> {
-    rest: &'a [u8],
-    // the line feeds so far
-    passed: u64,
+    walk: WordWalk<'a>,
 }
 
 impl<'a> Model for Words<'a> {
@@ -34,9 +33,9 @@ impl<'a> Model for Words<'a> {
 
     ghost use Rattle.vcd_text.specs.inside.WordWalk.{words_left, LinesFit};
 
-    ghost view = { words_left };
+    ghost view = { λ words. words_left words.walk };
 
-    ghost invariant = { LinesFit };
+    ghost invariant = { λ words. LinesFit words.walk };
 }
 
 impl<'a> Words<'a> {
@@ -47,19 +46,11 @@ impl<'a> Words<'a> {
         ensures few { length result < 2 ^ 63 }
     {
         Words {
-            rest: text,
-            passed: 0,
+            walk: WordWalk {
+                rest: text,
+                passed: 0,
+            },
         }
-    }
-
-    /// All words of a text that so many line feeds come before.
-    #[tactic(auto, using(crate::proofs::WordLaws::words_are_few))]
-    pub fn behind(text: &'a [u8], passed: u64) -> Words<'a>
-        requires room { passed + length text.now < 2 ^ 64 }
-        ensures words { result ≡ words_from true (passed + 1) text.now }
-        ensures few { length result ≤ length text.now }
-    {
-        Words { rest: text, passed }
     }
 
     /// The next word, if there is one.
@@ -69,17 +60,7 @@ impl<'a> Words<'a> {
         ensures some { IfSome result (λ word. 0 < length word.text.now) }
         ensures over { IfNone result (self.new ≡ []) }
     {
-        let (rest, passed) = behind_space(self.rest, self.passed);
-        let (text, behind) = rest.split_at(word_len(rest));
-        self.passed = passed;
-        self.rest = behind;
-        if text.is_empty() {
-            return None;
-        }
-        Some(PlacedWord {
-            text,
-            line: passed + 1,
-        })
+        self.walk.next_word()
     }
 }
 
@@ -97,12 +78,46 @@ impl<'a> Iterator for Words<'a> {
     }
 }
 
+/// What is left of a text, behind so many line feeds.
+#[derive(Drop)]
+pub struct WordWalk<'a> {
+    pub rest: &'a [u8],
+    pub passed: u64,
+}
+
+impl<'a> WordWalk<'a> {
+    /// Goes on behind the next word, or to the end where there is none.
+    pub fn next_word(&mut self) -> Option<PlacedWord<'a>>
+        requires room { LinesFit self.old }
+        ensures words { MatchOption result (words_left self.old ≡ []) (λ word.
+            words_left self.old ≡ word_at word ∷ words_left self.new) }
+        ensures some { IfSome result (λ word. 0 < length word.text.now) }
+        ensures over { IfNone result (words_left self.new ≡ []) }
+        ensures end { IfNone result (self.new.rest.now ≡ []) }
+        ensures room { LinesFit self.new }
+        ensures feeds { feeds_at_end self.new ≡ feeds_at_end self.old }
+    {
+        let (rest, passed) = behind_space(self.rest, self.passed);
+        let (text, behind) = rest.split_at(word_len(rest));
+        self.passed = passed;
+        self.rest = behind;
+        if text.is_empty() {
+            return None;
+        }
+        Some(PlacedWord {
+            text,
+            line: passed + 1,
+        })
+    }
+}
+
 /// What follows the white space at the front of a text, and how many line feeds come before it.
 fn behind_space(text: &[u8], passed: u64) -> (&[u8], u64)
     requires { passed + length text.now < 2 ^ 64 }
     ensures words { (whole : Bool) →
         words_from whole (result.1 + 1) result.0.now ≡ words_from whole (passed + 1) text.now }
     ensures room { result.1 + length result.0.now ≤ passed + length text.now }
+    ensures feeds { result.1 + feeds result.0.now ≡ passed + feeds text.now }
     ensures black { begins_with_space result.0.now ≡ false }
 {
     let mut rest = text;

@@ -23,7 +23,7 @@ pub record HasTaken (m : Reader) (word : List ℕ) (passed left : ℕ) (bytes : 
 
 -- so far these bytes have come
 abbrev pub Holds : Progress → List ℕ → Type 0
-Holds p bytes = HasTaken p.reader p.word.items p.passed p.left bytes
+Holds p bytes = HasTaken p.reader p.buffer.bytes p.passed p.left bytes
 
 -- of bytes that may be known these are left, and what came between has been taken
 abbrev pub StandsAt : Option (List ℕ) → Option (List ℕ) → Progress → Type 0
@@ -35,7 +35,7 @@ pub record HasCome (p : Progress) (from : ℕ) (bytes : List ℕ) : Type 0 where
   pub word : List ℕ
   pub chunk : List ℕ
   pub taken : HasTaken p.reader word p.passed (p.left + length chunk) before
-  pub text : p.word.items ≡ word ++ chunk
+  pub text : p.buffer.bytes ≡ word ++ chunk
   pub len : from ≡ length word
   pub all : bytes ≡ before ++ chunk
 

@@ -123,8 +123,8 @@ abbrev pub HasRoomFor : Reader → List PlacedWord → Type 0
 HasRoomFor m words = (taken : List PlacedWord) × Reads m taken × (length taken + length words < 2 ^ 63)
 
 -- all words of a list have been taken behind others, or one shows a fault, or memory has run out
-abbrev pub ReadsMore : List PlacedWord → List PlacedWord → Result (Unit {0}) ReadError → Reader → Type 0
-ReadsMore taken words (Ok x) new = Reads new (taken ++ words)
+abbrev pub ReadsMore : List PlacedWord → List PlacedWord → Result ℕ ReadError → Reader → Type 0
+ReadsMore taken words (Ok passed) new = Reads new (taken ++ words)
 ReadsMore taken words (Err e) new = (e ≡ memory_error) ⊎ ShowsFault (taken ++ words) e.line e.fault
 
 -- nothing is open, and `$enddefinitions $end` has come

@@ -1,12 +1,20 @@
 -- The walk over the words of a text: what is left of it, and the room that its count of line feeds has.
-use Rattle.std.specs.Prelude.{ℕ, ◌+◌, ◌<◌, ◌^◌, true, List, length}
+use Rattle.std.specs.Prelude.{ℕ, ◌+◌, ◌<◌, ◌^◌, true, List, length, ◌==◌, count_by}
 use Rattle.vcd_text.specs.Words.{PlacedWord, words_from}
-use Rattle.vcd_text.specs.declared.words.Words.TheInside.{Inside}
+use Rattle.vcd_text.specs.declared.words.WordWalk.{WordWalk}
+
+-- how many line feeds there are
+abbrev pub feeds : List ℕ → ℕ
+feeds bytes = count_by (λ b. b == 10) bytes
 
 -- the words that are still to come
-abbrev pub words_left : Inside → List PlacedWord
+abbrev pub words_left : WordWalk → List PlacedWord
 words_left w = words_from true (w.passed + 1) w.rest.now
 
+-- the line feeds before the end of the text
+abbrev pub feeds_at_end : WordWalk → ℕ
+feeds_at_end w = w.passed + feeds w.rest.now
+
 -- each byte that is left may be a line feed, and none makes the count too great
-abbrev pub LinesFit : Inside → Type 0
+abbrev pub LinesFit : WordWalk → Type 0
 LinesFit w = w.passed + length {A = ℕ} w.rest.now < 2 ^ 64

@@ -1,6 +1,6 @@
 //! A file in chunks: of each the words that are sure are taken before the next is asked for.
 
-ghost use Rattle.std.specs.Prelude.{◌≡◌, ◌⊎◌, ◌∷◌, ◌+◌, ◌<◌, ◌≤◌, ℕ, true, false, not, List, [], ◌++◌, length, take, drop, count_by, ◌==◌, Option, IfOk, IfErr, IfSome, OnOk, IsErrOf};
+ghost use Rattle.std.specs.Prelude.{◌≡◌, ◌⊎◌, ◌∷◌, ◌+◌, ◌<◌, ◌≤◌, ℕ, true, false, not, List, [], ◌++◌, length, take, drop, Option, IfOk, IfErr, IfSome, OnOk};
 ghost use Rattle.std.specs.List.{list_all};
 ghost use Rattle.std.specs.Io.KnownBytes.{Consumes, Keeps, IsAtEnd};
 ghost use Rattle.vcd_core.specs.Word.{is_white_space as white};
@@ -12,18 +12,17 @@ ghost use Rattle.vcd_text.specs.Meaning.{FileMeans};
 ghost use Rattle.vcd_text.specs.Faults.{FileFault};
 ghost use Rattle.vcd_text.specs.Refusals.{memory_error, IsRefusal};
 ghost use Rattle.vcd_text.specs.inside.Spaces.{is_closed};
-ghost use Rattle.vcd_text.specs.inside.Reading.{Reads, IsUnderway, Steps, HasRoomFor, ReadsMore};
+ghost use Rattle.vcd_text.specs.inside.Reading.{Reads, IsUnderway, Steps, HasRoomFor, ReadsMore, is_complete};
+ghost use Rattle.vcd_text.specs.inside.WordWalk.{words_left, feeds_at_end, LinesFit};
 ghost use Rattle.vcd_text.specs.inside.Chunks.{Holds, StandsAt, HasCome, TakesChunk};
 
 use crate::fault::{Fault, ReadError};
+use crate::reading::read_buffer::ReadBuffer;
 use crate::reading::reader::Reader;
 use crate::reading::{FILE_LIMIT, Loaded};
-use crate::words::{PlacedWord, Words};
+use crate::words::{PlacedWord, WordWalk};
 use std::alloc::Global;
-use vcd_core::{Incomplete, Source, is_white_space};
-
-/// The most bytes that are asked for at a time.
-pub const CHUNK: usize = 4096;
+use vcd_core::{Source, is_white_space};
 
 /// How far a file has been read.
 #[derive(Drop)]
@@ -31,7 +30,7 @@ pub struct Progress {
     /// What the words that are sure have told.
     pub reader: Reader,
     /// The bytes behind the last white space: a word that may go on.
-    pub word: Vec<u8>,
+    pub buffer: ReadBuffer,
     /// The line feeds so far.
     pub passed: u64,
     /// How many bytes more the file may have.
@@ -45,22 +44,20 @@ impl Progress {
     {
         Progress {
             reader: Reader::new(alloc),
-            word: Vec::new(alloc),
+            buffer: ReadBuffer::new(alloc),
             passed: 0,
             left: FILE_LIMIT,
         }
     }
 
-    /// Reads a chunk, into `block` first, and takes the words that are sure then. Answers whether the file goes on.
+    /// Reads a chunk and takes the words that are sure then. Answers whether the file goes on.
     pub fn take_chunk<R: Source>(
         &mut self,
         alloc: Global,
         source: &mut R,
-        block: &mut [u8],
     ) -> Result<bool, ReadError>
         requires ready { R.has_failed source.old ≡ false }
         requires stands { (bytes : List ℕ) × Holds self.old bytes }
-        requires block { 0 < length block.old }
         ensures taken { OnOk result ((coming : Option (List ℕ)) →
             StandsAt coming (R.coming source.old) self.old →
             StandsAt coming (R.coming source.new) self.new) }
@@ -75,17 +72,17 @@ impl Progress {
         ensures too_large { IfErr result (λ e. e.fault ≡ Fault.TooLarge →
             R.has_failed source.new ≡ false) }
     {
-        let from = self.word.len();
-        match read_chunk(source, self.left, &mut self.word, block) {
-            Ok(count) => {
-                self.left -= count;
-                self.take_words(alloc, from)?;
-                Ok(count > 0)
-            }
-            Err(Incomplete::TooLarge) => Err(ReadError::at(self.passed + 1, Fault::TooLarge)),
-            Err(Incomplete::ReadFault) => Err(ReadError::at(self.passed + 1, Fault::ReadFault)),
-            Err(Incomplete::NoMemory) => Err(ReadError::no_memory()),
+        self.buffer.make_room()?;
+        let from = self.buffer.len();
+        let Ok(count) = self.buffer.read_from(source, self.left) else {
+            return Err(ReadError::at(self.passed + 1, Fault::ReadFault));
+        };
+        if count > self.left {
+            return Err(ReadError::at(self.passed + 1, Fault::TooLarge));
         }
+        self.left -= count;
+        self.take_words(alloc, from)?;
+        Ok(count > 0)
     }
 
     /// Takes the words that are sure, where the first `from` bytes that are kept are no white space.
@@ -95,11 +92,13 @@ impl Progress {
             TakesChunk bytes result self.new }
         ensures left { self.new.left ≡ self.old.left }
     {
-        let len = closed_len(self.word.as_slice(), from);
-        let closed = &self.word.as_slice()[..len];
-        read_words(&mut self.reader, alloc, Words::behind(closed, self.passed))?;
-        self.passed += feeds_in(closed);
-        drop_bytes(&mut self.word, len);
+        let len = closed_len(self.buffer.as_slice(), from);
+        let closed = WordWalk {
+            rest: &self.buffer.as_slice()[..len],
+            passed: self.passed,
+        };
+        self.passed = read_words(&mut self.reader, alloc, closed)?;
+        self.buffer.drop_front(len);
         Ok(())
     }
 
@@ -114,54 +113,30 @@ impl Progress {
     {
         let Progress {
             mut reader,
-            word,
+            buffer,
             passed,
             ..
         } = self;
-        read_words(&mut reader, alloc, Words::behind(word.as_slice(), passed))?;
-        if !reader.is_complete() {
-            return Err(ReadError::at(passed + 1, Fault::Truncated));
-        }
-        match reader.finish(alloc) {
-            Ok(loaded) => Ok(loaded),
-            Err(_) => Err(ReadError::no_memory()),
-        }
+        let word = WordWalk {
+            rest: buffer.as_slice(),
+            passed,
+        };
+        read_words(&mut reader, alloc, word)?;
+        check_complete(&reader, passed + 1)?;
+        Ok(reader.finish(alloc)?)
     }
 }
 
-/// Appends what one read gives, of which there may be `left` bytes, and answers how many bytes these are. None
-/// means that the file ends.
-fn read_chunk<R: Source>(
-    source: &mut R,
-    left: usize,
-    bytes: &mut Vec<u8>,
-    block: &mut [u8],
-) -> Result<usize, Incomplete>
-    requires ready { R.has_failed source.old ≡ false }
-    requires block { 0 < length block.old }
-    ensures more { IfOk result (λ count. (chunk : List ℕ)
-        × Consumes (R.coming source.old) (R.coming source.new) chunk
-        × (bytes.new.items ≡ bytes.old.items ++ chunk)
-        × (count ≡ length chunk)) }
-    ensures within { IfOk result (λ count. count ≤ left) }
-    ensures ended { IfOk result (λ count. count ≡ 0 → IsAtEnd (R.coming source.new)) }
-    ensures ready { OnOk result (R.has_failed source.new ≡ false) }
-    ensures too_large { IsErrOf result Incomplete.TooLarge → (chunk : List ℕ)
-        × Consumes (R.coming source.old) (R.coming source.new) chunk
-        × (left ≡ 0) × (0 < length chunk) }
-    ensures too_large_only { IsErrOf result Incomplete.TooLarge →
-        R.has_failed source.new ≡ false }
-    ensures failed { IsErrOf result Incomplete.ReadFault → R.has_failed source.new ≡ true }
-    ensures kept { IsErrOf result Incomplete.ReadFault →
-        Keeps (R.coming source.old) (R.coming source.new) }
+/// `Truncated`, at the line that the file ends on, where its words are not a whole file.
+fn check_complete(reader: &Reader, line: u64) -> Result<(), ReadError>
+    ensures whole { OnOk result (is_complete reader.now ≡ true) }
+    ensures truncated { IfErr result (λ e. (is_complete reader.now ≡ false)
+        × (e ≡ record { line = line; fault = Fault.Truncated })) }
 {
-    let wanted = left.min(block.len()).max(1);
-    let count = source.read(&mut block[..wanted])?;
-    if left < count {
-        return Err(Incomplete::TooLarge);
+    if !reader.is_complete() {
+        return Err(ReadError::at(line, Fault::Truncated));
     }
-    bytes.extend_from_slice(&block[..count])?;
-    Ok(count)
+    Ok(())
 }
 
 /// How many bytes come up to the last white space, which is not among the first `from`.
@@ -182,17 +157,20 @@ fn closed_len(bytes: &[u8], from: usize) -> usize
     0
 }
 
-/// Takes words one after another, up to the first that shows a fault.
-fn read_words(reader: &mut Reader, alloc: Global, all: Words) -> Result<(), ReadError>
-    requires { HasRoomFor reader.old all }
-    ensures { (taken : List WordInFile) → Reads reader.old taken →
-        ReadsMore taken all.entry result reader.new }
+/// Takes words one after another, up to the first that shows a fault. Answers how many line feeds come before the end
+/// of their text.
+fn read_words(reader: &mut Reader, alloc: Global, words: WordWalk) -> Result<u64, ReadError>
+    requires room { HasRoomFor reader.old (words_left words) }
+    requires lines { LinesFit words }
+    ensures words { (taken : List WordInFile) → Reads reader.old taken →
+        ReadsMore taken (words_left words.entry) result reader.new }
+    ensures feeds { IfOk result (λ passed. passed ≡ feeds_at_end words.entry) }
 {
-    let mut words = all;
-    while let Some(first) = words.next_word() {
-        take_from(reader, alloc, first, &mut words)?;
+    let mut left = words;
+    while let Some(first) = left.next_word() {
+        take_from(reader, alloc, first, &mut left)?;
     }
-    Ok(())
+    Ok(left.passed)
 }
 
 /// Takes this word, and with it the code behind it where it begins a change of several bits.
@@ -200,12 +178,15 @@ fn take_from(
     reader: &mut Reader,
     alloc: Global,
     first: PlacedWord,
-    words: &mut Words,
+    words: &mut WordWalk,
 ) -> Result<(), ReadError>
     requires reading { IsUnderway reader.old }
     requires word { 0 < length first.text.now }
-    ensures { (behind : List WordInFile) × (words.old ≡ behind ++ words.new)
+    requires lines { LinesFit words.old }
+    ensures words { (behind : List WordInFile) × (words_left words.old ≡ behind ++ words_left words.new)
         × Steps reader.old (word_at first.entry ∷ behind) result reader.new }
+    ensures lines { LinesFit words.new }
+    ensures feeds { feeds_at_end words.new ≡ feeds_at_end words.old }
 {
     if let Some(digits) = reader.digits_of_vector(first.text) {
         if let Some(code) = words.next_word() {
@@ -213,30 +194,4 @@ fn take_from(
         }
     }
     reader.take_word(alloc, first.text, first.line)
-}
-
-/// How many line feeds there are.
-fn feeds_in(bytes: &[u8]) -> u64
-    ensures { result ≡ count_by (λ b. b == 10) bytes.now }
-{
-    let mut count = 0;
-    for byte in bytes {
-        // no branch, so that many bytes are one comparison
-        count += u64::from(*byte == b'\n');
-    }
-    count
-}
-
-/// Takes the first bytes away. It takes a step for each byte that is left, or none where none is taken away: a long
-/// word is not moved at each chunk.
-fn drop_bytes(bytes: &mut Vec<u8>, count: usize)
-    requires { count ≤ length bytes.old.items }
-    ensures { bytes.new.items ≡ drop count bytes.old.items }
-{
-    if count == 0 {
-        return;
-    }
-    let kept = bytes.len() - count;
-    bytes.copy_within(count.., 0);
-    bytes.truncate(kept);
 }

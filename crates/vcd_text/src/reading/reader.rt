@@ -6,7 +6,7 @@ ghost use Rattle.vcd_text.specs.inside.Variables.{Knows};
 ghost use Rattle.vcd_core.specs.Contents.{contents};
 ghost use Rattle.vcd_text.specs.Words.{word_on};
 ghost use Rattle.vcd_text.specs.inside.OpenItems.{shown_line};
-ghost use Rattle.vcd_text.specs.inside.Reading.{Reads, IsUnderway, TakesOrRefuses, Steps, error_at, is_complete, BeginsVector, Means};
+ghost use Rattle.vcd_text.specs.inside.Reading.{Reads, IsUnderway, TakesOrRefuses, Steps, is_complete, BeginsVector, Means};
 
 use crate::fault::{Fault, ReadError};
 use crate::reading::Loaded;
@@ -82,7 +82,7 @@ impl Reader {
         let shown = self.shown_line(line);
         match self.take(alloc, text, line) {
             Ok(()) => Ok(()),
-            Err(fault) => Err(error_at(shown, fault)),
+            Err(fault) => Err(ReadError::at(shown, fault)),
         }
     }
 
@@ -101,7 +101,7 @@ impl Reader {
     {
         match self.variables.change(alloc, code, self.tick, digits) {
             Ok(()) => Ok(()),
-            Err(fault) => Err(error_at(line, fault)),
+            Err(fault) => Err(ReadError::at(line, fault)),
         }
     }
 
@@ -157,15 +157,5 @@ impl Reader {
         scopes.place_signals(alloc, &mut signals)?;
         let capture = Capture::new(header, timescale, tick, signals);
         Ok(Loaded { capture, skipped })
-    }
-}
-
-/// A fault with its line; want of memory has none.
-fn error_at(line: u64, fault: Fault) -> ReadError
-    ensures { result ≡ error_at line fault }
-{
-    match fault {
-        Fault::NoMemory => ReadError::no_memory(),
-        _ => ReadError::at(line, fault),
     }
 }

@@ -3,7 +3,7 @@ use Rattle.std.proofs.lemmas.Bool.Decides.{Decides-eqb}
 use Rattle.std.proofs.lemmas.Bool.{ne_eqb}
 use Rattle.vcd_core.specs.Word.{is_white_space}
 use Rattle.vcd_text.specs.Words.{words_from}
-use Rattle.vcd_text.proofs.WordLaws.{space_passed}
+use Rattle.vcd_text.proofs.WordLaws.{space_passed, feed_first, other_first}
 use Rattle.vcd_text.proofs.words.behind_space.Goals as goal
 
 -- a line feed, or other white space, is passed
@@ -20,12 +20,18 @@ pub loop-byte-preserved-then-byte-eq10 : goal.loop-byte-preserved-then-byte-eq10
 loop-byte-preserved-then-byte-eq10 c =
     let front : c.loop-byte.rest.now ≡ c.in-Some.byte.now ∷ c.in-Some.behind.now = search rules in
     let space : is_white_space c.in-Some.byte.now ≡ true = sym c.is_white_space.ensures ∙ c.if-not-is_white_space.false in
-    let long = ap (length {A = ℕ}) front in
-    (λ whole. passed_feed whole (c.loop-byte.lines + 1) _ _ _ front space c.if-byte-eq10.true ∙ c.loop-byte.invariant.0 whole, omega (arith, c.loop-byte.invariant.1, long))
+    let long = ap (length {A = ℕ}) front in (
+      λ whole. passed_feed whole (c.loop-byte.lines + 1) _ _ _ front space c.if-byte-eq10.true ∙ c.loop-byte.invariant.0 whole,
+      omega (arith, c.loop-byte.invariant.1, long),
+      omega (arith, c.loop-byte.invariant.2, feed_first _ _ _ front c.if-byte-eq10.true),
+    )
 
 pub loop-byte-preserved : goal.loop-byte-preserved
 loop-byte-preserved c =
     let front : c.loop-byte.rest.now ≡ c.in-Some.byte.now ∷ c.in-Some.behind.now = search rules in
     let space : is_white_space c.in-Some.byte.now ≡ true = sym c.is_white_space.ensures ∙ c.if-not-is_white_space.false in
-    let long = ap (length {A = ℕ}) front in
-    (λ whole. passed_other whole (c.loop-byte.lines + 1) _ _ _ front space (ne_eqb _ _ c.if-byte-eq10.false) ∙ c.loop-byte.invariant.0 whole, omega (arith, c.loop-byte.invariant.1, long))
+    let long = ap (length {A = ℕ}) front in (
+      λ whole. passed_other whole (c.loop-byte.lines + 1) _ _ _ front space (ne_eqb _ _ c.if-byte-eq10.false) ∙ c.loop-byte.invariant.0 whole,
+      omega (arith, c.loop-byte.invariant.1, long),
+      omega (arith, c.loop-byte.invariant.2, other_first _ _ _ front (ne_eqb _ _ c.if-byte-eq10.false)),
+    )

@@ -10,12 +10,13 @@ use Rattle.vcd_text.proofs.Ended.{stops}
 use Rattle.vcd_text.proofs.WordLaws.{words_are_few}
 use Rattle.vcd_text.proofs.reading.chunks.Progress.finish.Goals as goal
 
-pub read_words-requires : goal.read_words-requires
-read_words-requires c =
+pub read_words-requires-clause-room : goal.read_words-requires-clause-room
+read_words-requires-clause-room c =
+    let p = c.args.self in
     let (bytes, taken) = c.requires in (
       closed_words bytes,
       taken.reads,
-      omega (arith, words_are_few false 1 bytes, c.behind.ensures.few, ap (length {A = ℕ}) c.as_slice.ensures.value, taken.short, taken.room),
+      omega (arith, words_are_few false 1 bytes, words_are_few true (p.passed + 1) c.as_slice.result.now, ap (length {A = ℕ}) c.as_slice.ensures, taken.short, taken.room),
     )
 
 pub returns-in_err-read_words-clause-fault : goal.returns-in_err-read_words-clause-fault
@@ -23,40 +24,40 @@ returns-in_err-read_words-clause-fault c =
     let p = c.args.self in
     let refused = err_from_is_err_and c.from_residual.result c.from_residual.ensures.1 in
     subst (λ r. IfErr r (λ (e : ReadError). (bytes : List ℕ) → Holds p bytes → (e ≡ memory_error) ⊎ FileFault bytes e.line e.fault)) (sym (refused.1 ∙ ap Err refused.2))
-    (λ bytes taken. last_shown p.reader p.word.items p.passed p.left bytes c.behind.result c.in_err-read_words.field-0.0 taken
-    (c.behind.ensures.words ∙ ap (words_from true (p.passed + 1)) c.as_slice.ensures.value) (c.in_err-read_words.ensures (closed_words bytes) taken.reads))
+    (λ bytes taken. last_shown p.reader p.buffer.bytes p.passed p.left bytes (words_from true (p.passed + 1) c.as_slice.result.now) c.in_err-read_words.field-0.0 taken
+    (ap (words_from true (p.passed + 1)) c.as_slice.ensures) (c.in_err-read_words.ensures.words (closed_words bytes) taken.reads))
 
-pub returns-then-not-is_complete-clause-fault : goal.returns-then-not-is_complete-clause-fault
-returns-then-not-is_complete-clause-fault c = λ bytes taken.
+pub returns-in_err-check_complete-clause-fault : goal.returns-in_err-check_complete-clause-fault
+returns-in_err-check_complete-clause-fault c =
     let p = c.args.self in
     let m = c.read_words.new.reader in
-    let reads = last_taken p.reader m p.word.items p.passed p.left bytes c.behind.result taken (c.behind.ensures.words ∙ ap (words_from true (p.passed + 1)) c.as_slice.ensures.value)
-    (c.in_ok-read_words.ensures (closed_words bytes) taken.reads) in
-    inr (too_early (stops m _ reads (sym c.is_complete.ensures ∙ c.if-not-is_complete.true))
-    (ap (λ (e : ReadError). e.line) c.at.ensures ∙ sym taken.lines) (ap (λ (e : ReadError). e.fault) c.at.ensures))
-
-pub returns-in-Ok-clause-means : goal.returns-in-Ok-clause-means
-returns-in-Ok-clause-means c = λ bytes taken.
-    let p = c.args.self in
-    let m = c.read_words.new.reader in
-    let reads = last_taken p.reader m p.word.items p.passed p.left bytes c.behind.result taken (c.behind.ensures.words ∙ ap (words_from true (p.passed + 1)) c.as_slice.ensures.value)
-    (c.in_ok-read_words.ensures (closed_words bytes) taken.reads) in
-    c.in-Ok.ensures.means bytes reads
-
-pub returns-in-Ok-clause-sound : goal.returns-in-Ok-clause-sound
-returns-in-Ok-clause-sound c =
-    let (bytes, taken) = c.requires in
-    let p = c.args.self in
-    let m = c.read_words.new.reader in
-    let reads = last_taken p.reader m p.word.items p.passed p.left bytes c.behind.result taken (c.behind.ensures.words ∙ ap (words_from true (p.passed + 1)) c.as_slice.ensures.value)
-    (c.in_ok-read_words.ensures (closed_words bytes) taken.reads) in
-    c.in-Ok.ensures.sound bytes reads
+    let refused = err_from_is_err_and c.from_residual-in_err-check_complete.result c.from_residual-in_err-check_complete.ensures.1 in
+    let (open_still, truncated) = c.in_err-check_complete.ensures.truncated in
+    subst (λ r. IfErr r (λ (e : ReadError). (bytes : List ℕ) → Holds p bytes → (e ≡ memory_error) ⊎ FileFault bytes e.line e.fault)) (sym (refused.1 ∙ ap Err refused.2))
+    (λ bytes taken.
+    let reads = last_taken p.reader m p.buffer.bytes p.passed p.left bytes (words_from true (p.passed + 1) c.as_slice.result.now) taken (ap (words_from true (p.passed + 1)) c.as_slice.ensures)
+    (c.in_ok-read_words.ensures.words (closed_words bytes) taken.reads) in
+    inr (too_early (stops m _ reads open_still) (ap (λ (e : ReadError). e.line) truncated ∙ sym taken.lines) (ap (λ (e : ReadError). e.fault) truncated)))
 
 pub finish-requires-clause-known : goal.finish-requires-clause-known
 finish-requires-clause-known c =
     let (bytes, taken) = c.requires in
     let p = c.args.self in
-    let m = c.read_words.new.reader in
-    let reads = last_taken p.reader m p.word.items p.passed p.left bytes c.behind.result taken (c.behind.ensures.words ∙ ap (words_from true (p.passed + 1)) c.as_slice.ensures.value)
-    (c.in_ok-read_words.ensures (closed_words bytes) taken.reads) in
+    let reads = last_taken p.reader c.read_words.new.reader p.buffer.bytes p.passed p.left bytes (words_from true (p.passed + 1) c.as_slice.result.now) taken
+    (ap (words_from true (p.passed + 1)) c.as_slice.ensures) (c.in_ok-read_words.ensures.words (closed_words bytes) taken.reads) in
     (reads.told, reads.at.0.variables)
+
+pub returns-clause-means : goal.returns-clause-means
+returns-clause-means c = λ bytes taken.
+    let p = c.args.self in
+    let reads = last_taken p.reader c.read_words.new.reader p.buffer.bytes p.passed p.left bytes (words_from true (p.passed + 1) c.as_slice.result.now) taken
+    (ap (words_from true (p.passed + 1)) c.as_slice.ensures) (c.in_ok-read_words.ensures.words (closed_words bytes) taken.reads) in
+    c.in_ok-finish.ensures.means bytes reads
+
+pub returns-clause-sound : goal.returns-clause-sound
+returns-clause-sound c =
+    let (bytes, taken) = c.requires in
+    let p = c.args.self in
+    let reads = last_taken p.reader c.read_words.new.reader p.buffer.bytes p.passed p.left bytes (words_from true (p.passed + 1) c.as_slice.result.now) taken
+    (ap (words_from true (p.passed + 1)) c.as_slice.ensures) (c.in_ok-read_words.ensures.words (closed_words bytes) taken.reads) in
+    c.in_ok-finish.ensures.sound bytes reads

@@ -1,47 +1,51 @@
-use Rattle.std.proofs.Common.{ℕ, ◌+◌, false, not, Err, take, drop, length, sym, ap, subst, ◌∙◌, arith}
+use Rattle.std.proofs.Common.{ℕ, ◌+◌, true, false, not, Err, take, drop, length, refl, sym, ap, subst, ◌∙◌, arith}
 use Rattle.std.specs.List.{list_all}
 use Rattle.std.proofs.lemmas.Result.{err_from_is_err_and}
 use Rattle.std.proofs.lemmas.List.{length-take, length-append}
 use Rattle.vcd_core.specs.Word.{is_white_space}
-use Rattle.vcd_text.specs.Words.{closed_words}
+use Rattle.vcd_text.specs.Words.{words_from, closed_words}
 use Rattle.vcd_text.specs.inside.Spaces.{is_closed}
 use Rattle.vcd_text.specs.inside.Chunks.{TakesChunk, HasTaken}
 use Rattle.vcd_text.proofs.Chunks.{now_taken, now_shown, word_is_first}
 use Rattle.vcd_text.proofs.WordLaws.{words_are_few}
 use Rattle.vcd_text.proofs.reading.chunks.Progress.take_words.Goals as goal
 
-pub read_words-requires : goal.read_words-requires
-read_words-requires c =
+pub read_words-requires-clause-room : goal.read_words-requires-clause-room
+read_words-requires-clause-room c =
+    let p = c.args.self.now in
     let (bytes, come) = c.requires in
-    let bounds = word_is_first c.args.self.now c.args.from bytes come in
+    let bounds = word_is_first p c.args.from bytes come in
     let all = ap (length {A = ℕ}) come.all ∙ length-append come.before come.chunk in
-    let text = ap (length {A = ℕ}) c.as_slice-2.ensures.value in
-    let front = length-take {A = ℕ} c.closed_len-len.result c.as_slice-2.result.now in (
+    let text = ap (length {A = ℕ}) c.as_slice-2.ensures in
+    let front = length-take {A = ℕ} c.closed_len-len.result c.as_slice-2.result.now in
+    let few = words_are_few true (p.passed + 1) (take c.closed_len-len.result c.as_slice-2.result.now) in (
       closed_words come.before,
       come.taken.reads,
-      omega (arith, words_are_few false 1 come.before, c.behind.ensures.few, all, text, front, bounds.2, bounds.3),
+      omega (arith, words_are_few false 1 come.before, few, all, text, front, bounds.2, bounds.3),
     )
 
-pub returns-in_err-read_words-clause-taken : goal.returns-in_err-read_words-clause-taken
-returns-in_err-read_words-clause-taken c = λ bytes come.
+pub returns-in_err-self-clause-taken : goal.returns-in_err-self-clause-taken
+returns-in_err-self-clause-taken c = λ bytes come.
     let p = c.args.self.now in
     let len = c.closed_len-len.result in
-    let value = c.as_slice.ensures.value in
+    let value = c.as_slice.ensures in
+    let front = c.as_slice-2.ensures in
     let refused = err_from_is_err_and c.from_residual.result c.from_residual.ensures.1 in
-    subst (λ r. TakesChunk bytes r (record { reader = c.read_words.new.reader; word = p.word; passed = p.passed; left = p.left })) (sym (refused.1 ∙ ap Err refused.2))
-    (now_shown p c.args.from len bytes c.in_err-read_words.field-0.0 (take len c.as_slice-2.result.now) c.behind.result come
+    subst (λ r. TakesChunk bytes r (record p { reader = c.read_words.new.reader })) (sym (refused.1 ∙ ap Err refused.2))
+    (now_shown p c.args.from len bytes c.in_err-self.field-0.0 (take len c.as_slice-2.result.now) (words_from true (p.passed + 1) (take len c.as_slice-2.result.now)) come
     (ap (λ l. is_closed (take len l)) (sym value) ∙ c.closed_len-len.ensures.closed)
     (ap (λ l. list_all (λ b. not (is_white_space b)) (drop len l)) (sym value) ∙ c.closed_len-len.ensures.black)
-    (ap (take len) c.as_slice-2.ensures.value) c.behind.ensures.words (c.in_err-read_words.ensures (closed_words come.before) come.taken.reads))
+    (ap (take len) front) refl (c.in_err-self.ensures.words (closed_words come.before) come.taken.reads))
 
 pub returns-clause-taken : goal.returns-clause-taken
 returns-clause-taken c = λ bytes come.
     let p = c.args.self.now in
     let len = c.closed_len-len.result in
-    let value = c.as_slice.ensures.value in
-    let taken = now_taken p c.args.from len bytes c.read_words.new.reader (take len c.as_slice-2.result.now) c.behind.result come
+    let value = c.as_slice.ensures in
+    let front = c.as_slice-2.ensures in
+    let taken = now_taken p c.args.from len bytes c.read_words.new.reader (take len c.as_slice-2.result.now) (words_from true (p.passed + 1) (take len c.as_slice-2.result.now)) come
     (ap (λ l. is_closed (take len l)) (sym value) ∙ c.closed_len-len.ensures.closed)
     (ap (λ l. list_all (λ b. not (is_white_space b)) (drop len l)) (sym value) ∙ c.closed_len-len.ensures.black)
-    (ap (take len) c.as_slice-2.ensures.value) c.behind.ensures.words (c.in_ok-read_words.ensures (closed_words come.before) come.taken.reads) in
-    subst (λ word. HasTaken c.read_words.new.reader word (p.passed + c.feeds_in.result) p.left bytes) (sym c.drop_bytes.ensures)
-    (subst (λ n. HasTaken c.read_words.new.reader (drop len p.word.items) (p.passed + n) p.left bytes) (sym c.feeds_in.ensures) taken)
+    (ap (take len) front) refl (c.in_ok-self.ensures.words (closed_words come.before) come.taken.reads) in
+    subst (λ word. HasTaken c.read_words.new.reader word c.in_ok-self.field-0 p.left bytes) (sym c.drop_front.ensures)
+    (subst (λ n. HasTaken c.read_words.new.reader (drop len p.buffer.bytes) n p.left bytes) (sym c.in_ok-self.ensures.feeds) taken)

@@ -14,5 +14,5 @@ returns-in-Err c = λ text code_line begins.
     let old = c.args.self.now in
     let new = record old { variables = c.change.new.self } in
     let code = c.args.code.now in
-    subst (λ (e : ReadError). Steps old (word_on text c.args.line ∷ word_on code code_line ∷ []) (Err e) new) (sym c.error_at.ensures)
+    subst (λ (e : ReadError). Steps old (word_on text c.args.line ∷ word_on code code_line ∷ []) (Err e) new) (sym c.at.ensures)
     (whole_vector_refused old new text c.args.digits.now code c.args.line code_line c.in-Err.fault begins c.in-Err.ensures)

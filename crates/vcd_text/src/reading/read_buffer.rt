@@ -1,0 +1,108 @@
+//! The bytes of a file that have come and are not taken yet.
+
+ghost use Rattle.std.specs.Prelude.{◌≡◌, ◌<◌, ◌≤◌, ◌+◌, ◌++◌, ℕ, List, [], false, true, length, take, drop, vec_len, IfOk, OnOk, OnErr};
+ghost use Rattle.std.specs.Io.KnownBytes.{Consumes, Keeps, IsAtEnd};
+
+use std::alloc::Global;
+use std::marker::Model;
+use vcd_core::{DeviceFault, NoMemory, Source};
+
+/// The most bytes that are asked for at a time.
+const CHUNK: usize = 4096;
+
+/// The bytes that have come and are not taken yet, in the front of the room that the next ones are read into.
+///
+/// Contracts see these bytes, and for how many more there is room.
+#[derive(Drop)]
+pub struct ReadBuffer {
+    room: Vec<u8>,
+    len: usize,
+}
+
+impl Model for ReadBuffer {
+    ghost use Rattle.std.specs.Prelude.{◌-◌, ◌≤◌, take, vec_len};
+    ghost use Rattle.vcd_text.specs.inside.Waiting.{Waiting};
+
+    ghost Value = { Waiting };
+
+    ghost view = { λ b. record {
+      bytes = take b.len b.room.items;
+      room = vec_len b.room - b.len;
+    } };
+
+    ghost invariant = { λ b. b.len ≤ vec_len b.room };
+}
+
+impl ReadBuffer {
+    /// No bytes and no room. It takes no memory.
+    pub fn new(alloc: Global) -> ReadBuffer
+        ensures { result.bytes ≡ [] }
+    {
+        ReadBuffer {
+            room: Vec::new(alloc),
+            len: 0,
+        }
+    }
+
+    /// The bytes.
+    pub fn as_slice(&self) -> &[u8]
+        ensures { result.now ≡ self.now.bytes }
+    {
+        &self.room.as_slice()[..self.len]
+    }
+
+    /// How many bytes there are.
+    pub fn len(&self) -> usize
+        ensures { result ≡ length self.now.bytes }
+    {
+        self.len
+    }
+
+    /// Makes room where there is none: at first, and behind a word that fills the buffer.
+    pub fn make_room(&mut self) -> Result<(), NoMemory>
+        ensures same { OnOk result (self.new.bytes ≡ self.old.bytes) }
+        ensures room { OnOk result (0 < self.new.room) }
+    {
+        if self.len == self.room.len() {
+            self.room.resize(self.len + CHUNK, 0)?;
+        }
+        Ok(())
+    }
+
+    /// Reads at most `most` bytes, or one where that is 0, behind those that there are, and answers how many came.
+    /// None means that the source is at its end.
+    pub fn read_from<S: Source>(
+        &mut self,
+        source: &mut S,
+        most: usize,
+    ) -> Result<usize, DeviceFault>
+        requires ready { S.has_failed source.old ≡ false }
+        requires room { 0 < self.old.room }
+        ensures more { IfOk result (λ count. (chunk : List ℕ)
+            × Consumes (S.coming source.old) (S.coming source.new) chunk
+            × (self.new.bytes ≡ self.old.bytes ++ chunk)
+            × (count ≡ length chunk)) }
+        ensures within { IfOk result (λ count. most < count → most ≡ 0) }
+        ensures ended { IfOk result (λ count. count ≡ 0 → IsAtEnd (S.coming source.new)) }
+        ensures ready { OnOk result (S.has_failed source.new ≡ false) }
+        ensures failed { OnErr result (S.has_failed source.new ≡ true) }
+        ensures kept { OnErr result (Keeps (S.coming source.old) (S.coming source.new)) }
+    {
+        let end = self.len + most.min(CHUNK).max(1).min(self.room.len() - self.len);
+        let count = source.read(&mut self.room[self.len..end])?;
+        self.len += count;
+        Ok(count)
+    }
+
+    /// Takes the first bytes away, and moves the others to the front. A long word is not moved at each chunk: where
+    /// none are taken away, none move.
+    pub fn drop_front(&mut self, count: usize)
+        requires { count ≤ length self.old.bytes }
+        ensures { self.new.bytes ≡ drop count self.old.bytes }
+    {
+        if count > 0 {
+            self.room.copy_within(count..self.len, 0);
+            self.len -= count;
+        }
+    }
+}
