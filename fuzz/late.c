@@ -1,11 +1,7 @@
 /* A program that is wrong on purpose. For `growths` to find: called `late-reply` it writes half a reply before a growth,
    called `late-output` it empties its output before one. That comes before its reply too, for `devices` to find. For
    `library_growths`: called `late-call` it changes what it holds before a growth. */
-#include <fcntl.h>
-#include <stdio.h>
-#include <stdlib.h>
-#include <string.h>
-#include <unistd.h>
+#include "libc.h"
 
 static int starve(void) {
     static const char line[] = "vcdedit: out of memory\n";
