@@ -1,7 +1,7 @@
 //! Full names compared byte by byte, so that none has to be built.
 
-ghost use Rattle.std.specs.Prelude.{◌≡◌, ◌∷◌, [], MatchOption, map};
-ghost use Rattle.std.specs.List.{list_any};
+ghost use Rattle.std.specs.Prelude.{◌≡◌, ◌∷◌, ◌++◌, ℕ, List, [], IsTrue, MatchOption, map};
+ghost use Rattle.std.specs.List.{concat, list_any};
 ghost use Rattle.std.specs.Str.{bytes_eq};
 ghost use Rattle.vcd_core.specs.Contents.{signal_contents};
 ghost use Rattle.vcd_core.specs.Names.{name_in, full_name, full_names};
@@ -11,8 +11,9 @@ use crate::capture::{ScopeName, Signal, Word};
 /// A full name: the names of scopes, outermost first, and a name, joined by `.`; a name of several
 /// words is these run together.
 ///
-/// It borrows its parts and is never built. Contracts see its bytes. A comparison takes no memory,
-/// and ends at the first byte that differs.
+/// It borrows its parts and is never built. Contracts see its bytes. A comparison takes no memory.
+/// It looks at the ends first, since signals share the beginnings of their names: most differ in
+/// their last word.
 #[derive(Clone, Copy)]
 pub struct FullName<'a> {
     /// What is left of the word at hand.
@@ -29,6 +30,7 @@ pub struct FullName<'a> {
 }
 
 impl<'a> FullName<'a> {
+    ghost use Rattle.std.specs.Prelude.{List, ℕ, ◌++◌};
     ghost use Rattle.vcd_core.specs.FullName.{name_bytes};
     ghost use Rattle.vcd_core.specs.inside.NameParts.{IsDrained};
 
@@ -83,6 +85,9 @@ impl<'a> FullName<'a> {
     pub fn is_text(self, text: &[u8]) -> bool
         ensures { result ≡ bytes_eq text.now (name_bytes self.entry) }
     {
+        if !text.ends_with(self.last_word()) {
+            return false;
+        }
         let mut name = self;
         let mut rest = text;
         while let [byte, behind @ ..] = rest {
@@ -98,6 +103,9 @@ impl<'a> FullName<'a> {
     fn has_same_bytes(self, other: FullName) -> bool
         ensures { result ≡ bytes_eq (name_bytes self.entry) (name_bytes other.entry) }
     {
+        if !may_end_alike(self.last_word(), other.last_word()) {
+            return false;
+        }
         let mut mine = self;
         let mut others = other;
         while let Some(byte) = mine.next_byte() {
@@ -106,6 +114,16 @@ impl<'a> FullName<'a> {
             }
         }
         others.next_byte().is_none()
+    }
+
+    /// The last word, or what is left of it.
+    fn last_word(&self) -> &'a [u8]
+        ensures { (front : List ℕ) × (name_bytes self.now ≡ front ++ result.now) }
+    {
+        if self.in_scope {
+            return last_of(self.first, self.others);
+        }
+        last_of(self.text, self.words)
     }
 
     /// Takes the next byte.
@@ -161,4 +179,24 @@ impl<'a> FullName<'a> {
         }
         Some(b'.')
     }
+}
+
+/// The last of several words, the first of which is given apart.
+fn last_of<'a>(first: &'a [u8], others: &'a [Word]) -> &'a [u8]
+    ensures { (front : List ℕ) × (first.now ++ concat others.now ≡ front ++ result.now) }
+{
+    match others {
+        [.., last] => last.as_slice(),
+        [] => first,
+    }
+}
+
+/// Whether two texts that end with these may be the same: the shorter one ends the longer one.
+fn may_end_alike(a: &[u8], b: &[u8]) -> bool
+    ensures { (x y : List ℕ) → x ++ a.now ≡ y ++ b.now → IsTrue result }
+{
+    if a.len() < b.len() {
+        return b.ends_with(a);
+    }
+    a.ends_with(b)
 }

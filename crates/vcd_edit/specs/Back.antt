@@ -44,6 +44,11 @@ abbrev pub with_moved_signal : Option (ℕ × Option SignalContents) → Content
 with_moved_signal None c = c
 with_moved_signal (Some m) c = record c { signals = with_signal_moved m.0 m.1 c.signals }
 
+-- no signal is put in
+abbrev pub PutsNoneIn : Option (ℕ × Option SignalContents) → Type 0
+PutsNoneIn None = Unit {0}
+PutsNoneIn (Some m) = m.1 ≡ None
+
 -- the capture with another end
 abbrev pub with_end : Option ℕ → Contents → Contents
 with_end None c = c

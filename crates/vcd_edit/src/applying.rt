@@ -1,9 +1,9 @@
 //! Edits made.
 
-ghost use Rattle.std.specs.Prelude.{◌≡◌, ◌≤◌, None, IfOk, OnOk, IfErr, OnErr};
+ghost use Rattle.std.specs.Prelude.{◌≡◌, ◌≤◌, None, IsOk, IfOk, OnOk, IfErr, OnErr};
 ghost use Rattle.vcd_core.specs.Contents.{contents};
 ghost use Rattle.vcd_core.specs.Sound.{IsSound};
-ghost use Rattle.vcd_edit.specs.Effect.{effect as edit_effect};
+ghost use Rattle.vcd_edit.specs.Effect.{effect as edit_effect, IsRemove};
 ghost use Rattle.vcd_edit.specs.Allowed.{edit_fault, MayRefuse};
 ghost use Rattle.vcd_edit.specs.Back.{back, Fits};
 ghost use Rattle.vcd_edit.specs.Touched.{stored_changes};
@@ -21,7 +21,7 @@ use vcd_core::Capture;
 /// Makes an edit of a capture, and gives the record that takes it back.
 ///
 /// An edit that has a fault, as [`check`] tells it, is refused by it, without memory; want of memory comes
-/// after every fault. After any refusal the capture is as it was. The record holds touched changes alone.
+/// after every fault, and never for a remove. After any refusal the capture is as it was. The record holds touched changes alone.
 ///
 /// A force and a shift take a search by halves, the changes that they put in and take out, and one move of
 /// the later ones, a cut that in every signal with changes from its first tick on. An invert, a deglitch, and
@@ -38,6 +38,8 @@ pub fn apply(alloc: Global, capture: &mut Capture, edit: &Edit) -> Result<Record
         (λ r. stored_changes r ≤ touched_by_edit edit.now (contents capture.old)) }
     ensures sound { OnOk result (IsSound (contents capture.new)) }
     ensures refused { IfErr result (MayRefuse (edit_fault edit.now (contents capture.old))) }
+    ensures never { IsRemove edit.now → edit_fault edit.now (contents capture.old) ≡ None →
+        IsOk result }
     ensures unchanged { OnErr result (contents capture.new ≡ contents capture.old) }
 {
     check(capture, edit)?;

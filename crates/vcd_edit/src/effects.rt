@@ -1,9 +1,11 @@
 //! What each edit asks for: a record that leads to its effect. Nothing is written here.
 
-ghost use Rattle.std.specs.Prelude.{◌≡◌, None, IfOk};
+ghost use Rattle.std.specs.Prelude.{◌≡◌, [], None, IsOk, IfOk};
 ghost use Rattle.vcd_core.specs.Contents.{contents};
 ghost use Rattle.vcd_core.specs.Sound.{IsSound};
 ghost use Rattle.vcd_edit.specs.Allowed.{edit_fault};
+ghost use Rattle.vcd_edit.specs.Back.{PutsNoneIn};
+ghost use Rattle.vcd_edit.specs.Effect.{IsRemove};
 ghost use Rattle.vcd_edit.specs.inside.Plans.{IsPlan};
 
 mod cut;
@@ -26,7 +28,9 @@ use vcd_core::{Capture, NoMemory};
 pub(crate) fn plan(alloc: Global, capture: &Capture, edit: &Edit) -> Result<Record, NoMemory>
     requires sound { IsSound (contents capture.now) }
     requires allowed { edit_fault edit.now (contents capture.now) ≡ None }
-    ensures { IfOk result (IsPlan edit.now (contents capture.now)) }
+    ensures plan { IfOk result (IsPlan edit.now (contents capture.now)) }
+    ensures never { IsRemove edit.now → IsOk result }
+    ensures taken_out { IsRemove edit.now → IfOk result (λ r. (r.pieces ≡ []) × PutsNoneIn r.signal) }
 {
     match *edit {
         Edit::Rename { signal, word } => rename::plan(alloc, capture, signal, word),

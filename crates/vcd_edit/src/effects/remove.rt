@@ -1,9 +1,10 @@
 //! A signal taken out.
 
-ghost use Rattle.std.specs.Prelude.{◌≡◌, None};
+ghost use Rattle.std.specs.Prelude.{◌≡◌, [], None};
 ghost use Rattle.vcd_core.specs.Contents.{contents};
 ghost use Rattle.vcd_core.specs.Sound.{IsSound};
 ghost use Rattle.vcd_edit.specs.Allowed.{edit_fault};
+ghost use Rattle.vcd_edit.specs.Back.{PutsNoneIn};
 ghost use Rattle.vcd_edit.specs.inside.Plans.{IsPlan};
 ghost use Rattle.vcd_edit.specs.declared.edit.Edit.TheVariants as edits;
 
@@ -15,7 +16,8 @@ use vcd_core::Capture;
 pub(crate) fn plan(alloc: Global, capture: &Capture, signal: usize) -> Record
     requires sound { IsSound (contents capture.now) }
     requires allowed { edit_fault (edits.Remove signal) (contents capture.now) ≡ None }
-    ensures { IsPlan (edits.Remove signal) (contents capture.now) result }
+    ensures plan { IsPlan (edits.Remove signal) (contents capture.now) result }
+    ensures taken_out { (result.pieces ≡ []) × PutsNoneIn result.signal }
 {
     Record {
         pieces: Vec::new(alloc),

@@ -5,7 +5,7 @@ ghost use Rattle.std.specs.List.{insert, remove};
 ghost use Rattle.vcd_core.specs.Contents.{contents, signal_contents, signal_at, with_signal};
 ghost use Rattle.vcd_core.specs.Sound.{IsSound};
 ghost use Rattle.vcd_edit.specs.Effect.{renamed_signal};
-ghost use Rattle.vcd_edit.specs.Back.{with_first_word, with_moved_signal, with_end, WordFits, MovedSignalFits};
+ghost use Rattle.vcd_edit.specs.Back.{with_first_word, with_moved_signal, PutsNoneIn, with_end, WordFits, MovedSignalFits};
 ghost use Rattle.vcd_edit.specs.inside.Records.{word_view, moved_signal_view};
 ghost use Rattle.vcd_edit.specs.inside.Opposites.{opposite_word, opposite_move, opposite_end, IsNamedAt};
 
@@ -109,7 +109,7 @@ pub(crate) fn exchange_signal(
         ≡ opposite_move (moved_signal_view signal) (contents capture.old)) }
     ensures unchanged { OnErr result (contents capture.new ≡ contents capture.old) }
     ensures kept { IfErr result (λ m. moved_signal_view m ≡ moved_signal_view signal) }
-    ensures never { signal ≡ None → IsOk result }
+    ensures never { PutsNoneIn (moved_signal_view signal) → IsOk result }
     ensures still { signal ≡ None → capture.new ≡ capture.old }
 {
     match signal {
