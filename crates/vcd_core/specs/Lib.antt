@@ -14,6 +14,7 @@ pub mod Laws
 pub mod Names
 pub mod FullName
 pub mod Device
+pub mod IncompleteNames
 pub mod Edges
 pub mod BitEdges
 pub mod inside

@@ -150,7 +150,7 @@ impl Value {
     }
 
     /// Whether each bit is x.
-    pub fn is_all_x(&self) -> bool
+    pub(crate) fn is_all_x(&self) -> bool
         ensures { result ≡ same_letters self.now (all_x (length self.now)) }
     {
         *self == Value::filled(self.width, Bit::X)

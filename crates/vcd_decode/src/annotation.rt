@@ -18,7 +18,8 @@ pub enum Kind {
     ParityError(u16),
     /// A frame with a stop bit that is 0.
     FrameError,
-    /// A frame, byte or acknowledge with a bit that is neither 0 nor 1.
+    /// A frame, byte or acknowledge with a bit that is unknown: x or z on a line of UART, x alone on a bus of
+    /// I2C, where z is high.
     Unknown,
     /// A frame that the capture's end cuts off.
     Partial,

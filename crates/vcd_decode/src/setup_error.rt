@@ -3,7 +3,6 @@
 ghost use Rattle.std.specs.Prelude.{◌≡◌};
 ghost use Rattle.vcd_decode.specs.SetupErrorNames.{setup_error_name};
 
-use std::fmt;
 use thiserror::Error;
 
 /// Why a decoder cannot be set up: the first four of UART, the other two of SPI, each decided in this order.
@@ -12,16 +11,22 @@ use thiserror::Error;
 #[derive(Clone, Copy, Debug, PartialEq, Eq, Error)]
 pub enum SetupError {
     /// A number of the ratio that gives a bit's length is outside 1 to `RATIO_LIMIT`.
+    #[error("BadRatio")]
     BadRatio,
     /// A bit lasts fewer than two ticks.
+    #[error("BitTooShort")]
     BitTooShort,
     /// The number of data bits is outside 5 to 9.
+    #[error("BadData")]
     BadData,
     /// The number of stop bits is neither 1 nor 2.
+    #[error("BadStop")]
     BadStop,
     /// The mode is above `GREATEST_MODE`.
+    #[error("BadMode")]
     BadMode,
     /// The number of bits of a word is outside 1 to `WORD_BITS_LIMIT`.
+    #[error("BadBits")]
     BadBits,
 }
 
@@ -38,11 +43,5 @@ impl SetupError {
             SetupError::BadMode => "BadMode",
             SetupError::BadBits => "BadBits",
         }
-    }
-}
-
-impl fmt::Display for SetupError {
-    fn fmt<W: fmt::Write>(&self, f: &mut fmt::Formatter<W>) -> fmt::Result {
-        f.write_str(self.name())
     }
 }

@@ -72,6 +72,13 @@ impl Spi {
         Ok(Spi { mode, bits, order })
     }
 
+    /// The mode: the polarity of the clock times two, and its phase.
+    pub fn mode(&self) -> u64
+        ensures { result ≡ self.now.mode }
+    {
+        self.mode
+    }
+
     /// How many bits a word has.
     pub fn bits(&self) -> u64
         ensures bits { result ≡ self.now.bits }

@@ -100,6 +100,34 @@ impl Uart {
         })
     }
 
+    /// The number of ticks that `denominator` bits last.
+    pub fn numerator(&self) -> u64
+        ensures { result ≡ self.now.numerator }
+    {
+        self.numerator
+    }
+
+    /// The number of bits that last `numerator` ticks.
+    pub fn denominator(&self) -> u64
+        ensures { result ≡ self.now.denominator }
+    {
+        self.denominator
+    }
+
+    /// The parity bit of a frame.
+    pub fn parity(&self) -> Parity
+        ensures { result ≡ self.now.parity }
+    {
+        self.parity
+    }
+
+    /// How many stop bits a frame has: 1 or 2.
+    pub fn stop_bits(&self) -> u64
+        ensures { result ≡ self.now.stop_bits }
+    {
+        self.stop_bits
+    }
+
     /// How many data bits a frame has: 5 to 9.
     pub fn data_bits(&self) -> usize
         ensures count { result ≡ self.now.data_bits }

@@ -6,8 +6,8 @@ use vcd_core::Value;
 
 /// A change to a capture.
 ///
-/// Signals are positions in the capture, counted from 0. All other numbers are ticks, and a range of ticks
-/// goes from its first tick up to before its last.
+/// Signals are positions in the capture, counted from 0. The other numbers of these variants are ticks, and a
+/// range of ticks has `from` and not `to`.
 #[derive(Clone, Copy, Debug, PartialEq)]
 pub enum Edit<'a> {
     /// The first word of the signal's name becomes `word`.

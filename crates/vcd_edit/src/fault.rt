@@ -4,8 +4,6 @@ ghost use Rattle.std.specs.Prelude.{◌≡◌};
 ghost use Rattle.vcd_edit.specs.EditErrorNames.{edit_error_name};
 ghost use Rattle.vcd_edit.specs.declared.fault.EditError.TheVariants as errors;
 
-use std::alloc::AllocError;
-use std::fmt;
 use thiserror::Error;
 
 /// Why an edit is refused.
@@ -14,24 +12,34 @@ use thiserror::Error;
 #[derive(Clone, Copy, Debug, PartialEq, Eq, Error)]
 pub enum EditError {
     /// A position is not below the number of signals.
+    #[error("NoSuchSignal")]
     NoSuchSignal,
     /// An operand of a logical operator is wider than one bit.
+    #[error("NotScalar")]
     NotScalar,
     /// A bit is not below the width of its signal.
+    #[error("BadBit")]
     BadBit,
     /// A range of ticks is empty or goes past the end.
+    #[error("BadRange")]
     BadRange,
     /// A count of ticks is 0.
+    #[error("BadCount")]
     BadCount,
     /// A value has another width than its signal.
+    #[error("BadValue")]
     BadValue,
     /// A name is empty, has white space or is `$end`.
+    #[error("BadWord")]
     BadWord,
     /// Another signal already has the full name that would arise.
+    #[error("NameTaken")]
     NameTaken,
     /// There are as many signals as a capture may have.
+    #[error("TooManySignals")]
     TooManySignals,
     /// Memory was refused.
+    #[error("NoMemory")]
     NoMemory,
 }
 
@@ -55,24 +63,10 @@ impl EditError {
     }
 }
 
-impl fmt::Display for EditError {
-    fn fmt<W: fmt::Write>(&self, f: &mut fmt::Formatter<W>) -> fmt::Result {
-        f.write_str(self.name())
-    }
-}
-
 impl From<vcd_core::NoMemory> for EditError {
     ghost from_gives = { λ _ e. e ≡ errors.NoMemory };
 
     fn from(_refused: vcd_core::NoMemory) -> EditError {
-        EditError::NoMemory
-    }
-}
-
-impl From<AllocError> for EditError {
-    ghost from_gives = { λ _ e. e ≡ errors.NoMemory };
-
-    fn from(_refused: AllocError) -> EditError {
         EditError::NoMemory
     }
 }

@@ -20,5 +20,5 @@ pub use checking::check;
 pub use edit::{Edit, Rule};
 pub use fault::EditError;
 pub use laws::effect_is_sound;
-pub use record::{Piece, Record};
+pub use record::Record;
 pub use reverting::{Kept, revert};

@@ -176,6 +176,15 @@ impl Session {
         &self.capture
     }
 
+    /// Gives the capture now up, and drops the history. It takes no memory.
+    pub fn into_capture(self) -> Capture
+        ensures now { contents result ≡ self.now }
+        ensures sound { IsSound (contents result) }
+    {
+        let Session { capture, .. } = self;
+        capture
+    }
+
     /// How many steps can be taken back. It takes no memory.
     pub fn undoable(&self) -> usize
         ensures count { result ≡ length self.now.past }

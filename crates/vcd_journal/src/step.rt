@@ -3,7 +3,6 @@
 ghost use Rattle.std.specs.Prelude.{◌≡◌};
 ghost use Rattle.vcd_journal.specs.StepErrorNames.{step_error_name};
 
-use std::fmt;
 use thiserror::Error;
 use vcd_core::NoMemory;
 use vcd_edit::{Edit, EditError};
@@ -29,16 +28,22 @@ pub enum Step<'a> {
 #[derive(Clone, Copy, Debug, PartialEq, Eq, Error)]
 pub enum StepError {
     /// The edit is refused.
+    #[error(transparent)]
     Edit(EditError),
     /// No edit is held that could be taken back.
+    #[error("NothingToUndo")]
     NothingToUndo,
     /// No edit is held that could be made again.
+    #[error("NothingToRedo")]
     NothingToRedo,
     /// The depth is not from 1 to [`DEPTH_LIMIT`].
+    #[error("BadDepth")]
     BadDepth,
     /// More edits are held that could be made again.
+    #[error("DepthTooSmall")]
     DepthTooSmall,
     /// Memory was refused for an undo, a redo or a greater depth.
+    #[error("NoMemory")]
     NoMemory,
 }
 
@@ -55,12 +60,6 @@ impl StepError {
             StepError::DepthTooSmall => "DepthTooSmall",
             StepError::NoMemory => "NoMemory",
         }
-    }
-}
-
-impl fmt::Display for StepError {
-    fn fmt<W: fmt::Write>(&self, f: &mut fmt::Formatter<W>) -> fmt::Result {
-        f.write_str(self.name())
     }
 }
 

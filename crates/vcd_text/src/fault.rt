@@ -8,8 +8,6 @@ ghost use Rattle.vcd_text.specs.declared.fault.Fault.TheVariants.{NoMemory};
 ghost use Rattle.vcd_text.specs.declared.fault.WriteError.TheVariants as write_errors;
 
 use std::alloc::{AllocError, AllocFailed};
-use std::fmt;
-use std::fmt::Display;
 use thiserror::Error;
 
 /// What is wrong with a capture file, or kept it from being read.
@@ -19,37 +17,53 @@ use thiserror::Error;
 #[derive(Clone, Copy, Debug, PartialEq, Eq, Error)]
 pub enum Fault {
     /// The words end before `$enddefinitions $end`, inside an item, or where a code is due.
+    #[error("Truncated")]
     Truncated,
     /// A word that may not stand at its place.
+    #[error("UnexpectedWord")]
     UnexpectedWord,
     /// A timescale that is not 1, 10 or 100 of a unit from `s` to `fs`.
+    #[error("BadTimescale")]
     BadTimescale,
     /// A `$scope` without a kind.
+    #[error("BadScope")]
     BadScope,
     /// `$upscope` where no scope is open.
+    #[error("UpscopeAtTop")]
     UpscopeAtTop,
     /// A `$var` without kind, size, code or name, or with a size that is no decimal number.
+    #[error("BadVar")]
     BadVar,
     /// A code of two kept variables of two sizes, or of one that is kept and one that is skipped. Variables
     /// that are skipped may share a code whatever their kinds and sizes.
+    #[error("MixedCode")]
     MixedCode,
     /// A time stamp that is no decimal number, or above the greatest tick, `END_LIMIT`.
+    #[error("BadTime")]
     BadTime,
     /// A time stamp below the one before it.
+    #[error("TimeBackwards")]
     TimeBackwards,
     /// A change that is none, or without its code, or with a byte that is no binary digit.
+    #[error("BadChange")]
     BadChange,
     /// A change of a code that no `$var` declared.
+    #[error("UnknownCode")]
     UnknownCode,
     /// More digits than the variable has bits.
+    #[error("ValueTooLong")]
     ValueTooLong,
     /// More kept variables than a capture may have signals.
+    #[error("TooManySignals")]
     TooManySignals,
     /// The file has more than `FILE_LIMIT` bytes.
+    #[error("TooLarge")]
     TooLarge,
     /// The reader failed.
+    #[error("ReadFault")]
     ReadFault,
     /// Memory ran out, or the waves of variables that share codes would have more copies than `COPIES_LIMIT`.
+    #[error("NoMemory")]
     NoMemory,
 }
 
@@ -76,13 +90,6 @@ impl Fault {
             Fault::ReadFault => "ReadFault",
             Fault::NoMemory => "NoMemory",
         }
-    }
-}
-
-// By hand: the derived message of a type of many variants takes long to prove.
-impl Display for Fault {
-    fn fmt<W: fmt::Write>(&self, f: &mut fmt::Formatter<W>) -> fmt::Result {
-        f.write_str(self.name())
     }
 }
 
@@ -116,6 +123,7 @@ impl<T: Drop> From<AllocFailed<T>> for Fault {
 /// change. `Truncated`, `TooLarge` and `ReadFault` have the line on which the bytes end that were taken. Want of
 /// memory has none: its line is 0.
 #[derive(Clone, Copy, Debug, PartialEq, Eq, Error)]
+#[error("{fault}")]
 pub struct ReadError {
     pub line: u64,
     pub fault: Fault,
@@ -146,18 +154,14 @@ impl From<vcd_core::NoMemory> for ReadError {
     }
 }
 
-impl Display for ReadError {
-    fn fmt<W: fmt::Write>(&self, f: &mut fmt::Formatter<W>) -> fmt::Result {
-        f.write_str(self.name())
-    }
-}
-
 /// Why a capture could not be written.
 #[derive(Clone, Copy, Debug, PartialEq, Eq, Error)]
 pub enum WriteError {
     /// Memory ran out; no byte was written.
+    #[error("NoMemory")]
     NoMemory,
     /// The writer failed. It took exactly the first `written` bytes of the text.
+    #[error("WriteFault")]
     WriteFault { written: u128 },
 }
 
@@ -170,12 +174,6 @@ impl WriteError {
             WriteError::NoMemory => "NoMemory",
             WriteError::WriteFault { .. } => "WriteFault",
         }
-    }
-}
-
-impl Display for WriteError {
-    fn fmt<W: fmt::Write>(&self, f: &mut fmt::Formatter<W>) -> fmt::Result {
-        f.write_str(self.name())
     }
 }
 

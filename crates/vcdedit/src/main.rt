@@ -19,7 +19,7 @@ pub use laws::{
 };
 pub use running::{RunError, SCRIPT_LIMIT, Summary, run};
 pub use script::{Command, LineError, parse_line};
-pub use shell::{report, status_of_program};
+pub use shell::{LateFile, report, status_of_program};
 use std::process::ExitCode;
 use vcd_core::ToWrite;
 

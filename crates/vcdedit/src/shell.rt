@@ -7,5 +7,6 @@ mod opening;
 mod program;
 mod reporting;
 
+pub use late_file::LateFile;
 pub use program::status_of_program;
 pub use reporting::report;

@@ -12,6 +12,17 @@ pub struct ShortWrite {
     pub written: u128,
 }
 
+impl ShortWrite {
+    ghost use lib.Chars.{codes};
+
+    /// The name of the fault. It takes no memory.
+    pub fn name(self) -> &'static str
+        ensures { result.now ≡ codes "ShortWrite" }
+    {
+        "ShortWrite"
+    }
+}
+
 /// Writes all of `bytes`, in order. It takes no memory.
 ///
 /// An error means that the sink has failed, and says how many of the bytes it took before that:

@@ -19,6 +19,21 @@ pub enum Incomplete {
     NoMemory,
 }
 
+impl Incomplete {
+    ghost use Rattle.vcd_core.specs.IncompleteNames.{incomplete_name};
+
+    /// The name of the fault. It takes no memory.
+    pub fn name(self) -> &'static str
+        ensures { result.now ≡ incomplete_name self }
+    {
+        match self {
+            Incomplete::TooLarge => "TooLarge",
+            Incomplete::ReadFault => "ReadFault",
+            Incomplete::NoMemory => "NoMemory",
+        }
+    }
+}
+
 impl From<DeviceFault> for Incomplete {
     ghost from_gives = { λ _ e. e ≡ ReadFault };
 

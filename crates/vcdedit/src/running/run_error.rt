@@ -4,7 +4,6 @@ ghost use Rattle.std.specs.Prelude.{◌≡◌};
 ghost use Rattle.vcdedit.specs.Report.{run_error_name};
 ghost use Rattle.vcdedit.specs.declared.running.run_error.RunError.TheVariants as run_errors;
 
-use std::fmt;
 use thiserror::Error;
 use vcd_text::{ReadError, WriteError};
 
@@ -21,17 +20,23 @@ pub struct Summary {
 #[derive(Clone, Copy, Debug, PartialEq, Eq, Error)]
 pub enum RunError {
     /// The capture could not be read.
+    #[error(transparent)]
     Capture(ReadError),
     /// The script has more than `SCRIPT_LIMIT` bytes.
+    #[error("ScriptTooLarge")]
     ScriptTooLarge,
     /// The script's reader failed.
+    #[error("ScriptReadFault")]
     ScriptReadFault,
     /// Memory ran out at this line of the script, counted from 1, or at 0 before the first. Exactly the replies
     /// to the lines before it were written.
+    #[error("NoMemory")]
     NoMemory { line: u64 },
     /// The writer of the replies failed. It took exactly their first `written` bytes.
+    #[error("ReplyFault")]
     ReplyFault { written: u128 },
     /// The output could not be written.
+    #[error(transparent)]
     Write(WriteError),
 }
 
@@ -48,12 +53,6 @@ impl RunError {
             RunError::ReplyFault { .. } => "ReplyFault",
             RunError::Write(error) => error.name(),
         }
-    }
-}
-
-impl fmt::Display for RunError {
-    fn fmt<W: fmt::Write>(&self, f: &mut fmt::Formatter<W>) -> fmt::Result {
-        f.write_str(self.name())
     }
 }
 

@@ -3,7 +3,6 @@
 ghost use Rattle.std.specs.Prelude.{◌≡◌};
 ghost use Rattle.vcdedit.specs.LineErrorNames.{line_error_name};
 
-use std::fmt;
 use thiserror::Error;
 use vcd_decode::SetupError;
 
@@ -11,20 +10,28 @@ use vcd_decode::SetupError;
 #[derive(Clone, Copy, Debug, PartialEq, Eq, Error)]
 pub enum LineError {
     /// The first word is the name of no command.
+    #[error("UnknownCommand")]
     UnknownCommand,
     /// The command takes another number of words.
+    #[error("WrongCount")]
     WrongCount,
     /// A word is not a decimal number, or the number is too large.
+    #[error("BadNumber")]
     BadNumber,
     /// No signal has this name.
+    #[error("NoSuchName")]
     NoSuchName,
     /// A value has a letter that is none, or more letters than its signal has bits.
+    #[error("BadValueText")]
     BadValueText,
     /// A word is none of those that may stand in its place.
+    #[error("BadOption")]
     BadOption,
     /// A decoder's signal is wider than one bit.
+    #[error("NotScalar")]
     NotScalar,
     /// The numbers of a decoder's setup are none that it can have.
+    #[error(transparent)]
     Setup(SetupError),
 }
 
@@ -43,11 +50,5 @@ impl LineError {
             LineError::NotScalar => "NotScalar",
             LineError::Setup(fault) => fault.name(),
         }
-    }
-}
-
-impl fmt::Display for LineError {
-    fn fmt<W: fmt::Write>(&self, f: &mut fmt::Formatter<W>) -> fmt::Result {
-        f.write_str(self.name())
     }
 }

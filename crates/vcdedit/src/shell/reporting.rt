@@ -9,8 +9,8 @@ use itoa::Buffer;
 use vcd_core::{ShortWrite, Sink, write_all};
 use vcd_text::{Fault, ReadError, WriteError};
 
-/// Writes the line that says what ended a run, and gives the exit status. A fault of the writer is passed
-/// over. It takes no memory.
+/// Writes the line that says what ended a run, flushes the writer, and gives the exit status. A fault of the
+/// writer is passed over. It takes no memory.
 pub fn report<W: Sink>(error: &RunError, writer: &mut W) -> u8
     requires { W.has_failed writer.old ≡ false }
     ensures most { result ≤ 5 }
@@ -18,7 +18,9 @@ pub fn report<W: Sink>(error: &RunError, writer: &mut W) -> u8
     ensures line { W.has_failed writer.new ≡ false →
         Appends (W.taken writer.old) (W.taken writer.new) (error_line error.now) }
 {
-    let _ = write_line(error, writer);
+    if write_line(error, writer).is_ok() {
+        let _ = writer.flush();
+    }
     error_status(error)
 }
 
