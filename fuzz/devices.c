@@ -9,6 +9,8 @@
      REPLY_ROOM=N       standard output takes N bytes in all, and then fails as a full disc does
      OUTPUT_ROOM=N      each file that is written does so
      TAKES_NONE=1       where it would fail so, a write takes no byte instead
+     FAILS_ONCE=1       where it would fail so, it does once, and then takes all
+     WRITES_COUNTED=F   each write to standard output or to a file makes the file F longer by a line: `reply` or `output`
 
    It takes no memory itself. */
 #include "libc.h"
@@ -73,11 +75,14 @@ ssize_t read(int device, void *bytes, size_t size) {
 
 #define DEVICES 1024
 
+/* Whether a device failed once, and takes all since. */
+static char has_recovered[DEVICES];
+
 /* How many of so many bytes a device still takes, where it has a room at all. */
 static size_t room_left(int device, size_t size) {
     static size_t taken[DEVICES];
     const char *room = device == 2 ? NULL : getenv(device == 1 ? "REPLY_ROOM" : "OUTPUT_ROOM");
-    if (!room || device < 0 || device >= DEVICES)
+    if (!room || device < 0 || device >= DEVICES || has_recovered[device])
         return size;
     size_t left = (size_t)atol(room) - taken[device];
     size = size < left ? size : left;
@@ -85,15 +90,33 @@ static size_t room_left(int device, size_t size) {
     return size;
 }
 
+/* Writes to a device, whatever it is to do. */
+static ssize_t pass_on(int device, const void *bytes, size_t size) {
+    struct iovec piece = {(void *)bytes, size};
+    return writev(device, &piece, 1);
+}
+
+static void note_write(int device) {
+    const char *name = device == 2 ? NULL : getenv("WRITES_COUNTED");
+    if (!name)
+        return;
+    int file = open(name, O_CREAT | O_WRONLY | O_APPEND, 0600);
+    const char *line = device == 1 ? "reply\n" : "output\n";
+    pass_on(file, line, strlen(line));
+    close(file);
+}
+
 ssize_t write(int device, const void *bytes, size_t size) {
     look_for_mark(device, bytes, size);
+    note_write(device);
     size_t taken = room_left(device, at_most("WRITE_AT_MOST", size));
     if (taken == 0 && size > 0 && !number_of("TAKES_NONE")) {
+        if (number_of("FAILS_ONCE"))
+            has_recovered[device] = 1;
         errno = ENOSPC;
         return -1;
     }
-    struct iovec piece = {(void *)bytes, taken};
-    return writev(device, &piece, 1);
+    return pass_on(device, bytes, taken);
 }
 
 ssize_t __write(int device, const void *bytes, size_t size) { return write(device, bytes, size); }

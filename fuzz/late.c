@@ -1,11 +1,29 @@
-/* A program that is wrong on purpose. For `growths` to find: called `late-reply` it writes half a reply before a growth,
-   called `late-output` it empties its output before one. That comes before its reply too, for `devices` to find. For
-   `library_growths`: called `late-call` it changes what it holds before a growth. */
+/* Programs that are wrong on purpose, by the name that they are called by. Each is right but for one thing:
+
+     late-reply    where a growth is refused, half of the next reply goes out
+     late-silent   where a growth is refused, no reply goes out
+     late-output   the output is emptied before the last growth, and before the replies
+     late-count    refused lines are counted in a byte, so that 256 of them end with status 0
+     late-again    what a device refused is sent to it again
+     late-lines    20,000 lines go to both devices, each by a call of its own
+     late-call     a call of the program `vcd_growths` that changes what it holds before its growth
+
+   The first four are for `growths`, `late-output`, `late-again` and `late-lines` for `devices`, and the last for
+   `library_growths`. A program of the first five refuses each line of its script, with a growth for each and one
+   behind them, and then writes its output. */
 #include "libc.h"
 
-static int starve(void) {
-    static const char line[] = "vcdedit: out of memory\n";
-    return write(2, line, sizeof line - 1) < 0 ? 1 : 5;
+static const char *name;
+
+/* Whether the program is this one. */
+static int is(const char *other) { return strstr(name, other) != NULL; }
+
+/* Ends with a line on standard error, also where a write takes few bytes. */
+static int end(int status, const char *line) {
+    for (; *line; line++)
+        if (write(2, line, 1) < 0)
+            return 1;
+    return status;
 }
 
 static void say(const char *line) {
@@ -27,20 +45,66 @@ static int call(int makes) {
     return 0;
 }
 
+/* Whether a device took all bytes. */
+static int send_all(int device, const char *bytes, size_t size) {
+    for (size_t taken = 0; taken < size;) {
+        ssize_t count = write(device, bytes + taken, size - taken);
+        if (count <= 0) {
+            if (is("late-again") && write(device, bytes + taken, size - taken) < 0)
+                return 0;
+            return 0;
+        }
+        taken += (size_t)count;
+    }
+    return 1;
+}
+
+/* Many lines, each by a call, to both devices. */
+static int write_lines(const char *output) {
+    int file = open(output, O_CREAT | O_WRONLY | O_TRUNC, 0600);
+    for (int line = 0; line < 20000; line++)
+        if (write(1, "12345678 0\n", 11) < 0 || write(file, "12345678 0\n", 11) < 0)
+            return 4;
+    return 0;
+}
+
+/* How many lines a file has. */
+static int lines_in(const char *path) {
+    int file = open(path, O_RDONLY), count = 0;
+    for (char byte; read(file, &byte, 1) == 1;)
+        count += byte == '\n';
+    close(file);
+    return count;
+}
+
+/* Refuses each line of a script. */
+static int refuse_lines(const char *script, const char *output) {
+    static char replies[65536];
+    int lines = lines_in(script);
+    size_t size = 0;
+    for (int line = 1; line <= lines + 1; line++) {
+        if (line == lines + 1 && is("late-output"))
+            close(open(output, O_WRONLY | O_TRUNC));
+        size_t next = (size_t)sprintf(replies + size, "line %d: refused: UnknownCommand\n", line);
+        void *volatile held = malloc(64);
+        if (!held) {
+            if (!is("late-silent") && !send_all(1, replies, size + (is("late-reply") ? next / 2 : 0)))
+                return 1;
+            return end(5, "vcdedit: out of memory\n");
+        }
+        free(held);
+        size += line <= lines ? next : 0;
+    }
+    if (!send_all(1, replies, size))
+        return end(4, "vcdedit: replies: write fault\n");
+    if (!send_all(open(output, O_WRONLY | O_TRUNC), "#0\n", 3))
+        return end(4, "vcdedit: output: write fault\n");
+    return is("late-count") ? lines % 256 > 0 : lines > 0;
+}
+
 int main(int count, char **words) {
-    const char *output = words[count - 1];
-    void *volatile held;
-    if (strstr(words[0], "late-call"))
+    name = words[0];
+    if (is("late-call"))
         return call(!strcmp(words[1], "make"));
-    if (!(held = malloc(64)))
-        return starve();
-    free(held);
-    if (strstr(words[0], "late-output"))
-        close(open(output, O_WRONLY | O_TRUNC));
-    else if (write(1, "o", 1) < 0)
-        return 4;
-    if (!(held = malloc(64)))
-        return starve();
-    free(held);
-    return write(1, "k\n", 2) < 0 ? 4 : 0;
+    return is("late-lines") ? write_lines(words[count - 1]) : refuse_lines(words[4], words[count - 1]);
 }

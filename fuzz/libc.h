@@ -3,9 +3,11 @@ typedef __SIZE_TYPE__ size_t;
 typedef __PTRDIFF_TYPE__ ssize_t;
 
 #define NULL ((void *)0)
+#define O_RDONLY 0
 #define O_WRONLY 01
 #define O_CREAT 0100
 #define O_TRUNC 01000
+#define O_APPEND 02000
 #define ENOMEM 12
 #define ENOSPC 28
 
@@ -27,9 +29,11 @@ extern int memcmp(const void *, const void *, size_t);
 extern int strcmp(const char *, const char *);
 extern size_t strlen(const char *);
 extern char *strstr(const char *, const char *);
+extern int sprintf(char *, const char *, ...);
 
 extern int open(const char *, int, ...);
 extern int close(int);
+extern ssize_t read(int, void *, size_t);
 extern ssize_t write(int, const void *, size_t);
 extern ssize_t readv(int, const struct iovec *, int);
 extern ssize_t writev(int, const struct iovec *, int);

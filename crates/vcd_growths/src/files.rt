@@ -5,6 +5,7 @@ ghost use Rattle.vcd_core.specs.Contents.{contents};
 ghost use Rattle.vcd_core.specs.Sound.{IsSound};
 
 use crate::calls::Call;
+use crate::counting::CountingSink;
 use crate::telling::{DONE, Stopped, allow, refuse, tell_capture};
 use std::alloc::Global;
 use std::io;
@@ -56,4 +57,19 @@ pub fn call_write<R: Runtime + AllocGlobal>(rt: &R, call: &Call) -> Result<(), S
     println!(rt; "failed {}, written:", sink.failed())?;
     io::writer(rt).write_all(sink.into_inner().as_slice())?;
     tell_capture(rt, &capture)
+}
+
+/// `write`, to a sink that counts: how it was called. No memory is refused.
+pub fn count_write<R: Runtime + AllocGlobal>(rt: &R, call: &Call) -> Result<(), Stopped> {
+    let capture = capture_of_text(rt.alloc(), call.text)?;
+    let mut sink = CountingSink::new();
+    if write(rt.alloc(), &capture, &mut sink).is_err() {
+        return Err(Stopped);
+    }
+    println!(rt;
+        "{} bytes, {} writes, {} flushes",
+        sink.bytes, sink.writes, sink.flushes
+    )?;
+    println!(rt; "flushed last {}", sink.is_flushed)?;
+    Ok(())
 }

@@ -5,10 +5,11 @@
 //! standard input. The program makes all that the call needs and writes `refuse`; then it makes the call, and writes
 //! `allow`, `done` or the name of a fault, and last all that the call left. Whoever refuses growths of memory between
 //! the two lines can compare that with what `omit` writes, which leaves out the call alone, of `run` the step at that
-//! position alone.
+//! position alone. The call `counted` writes the capture to a sink that counts, and tells how that was called.
 #![tactic(auto)]
 
 mod calls;
+mod counting;
 mod decoders;
 mod edits;
 mod files;
