@@ -1,9 +1,9 @@
 #!/usr/bin/env python3
 """Rewrites docs/DEFINITIONS.md from the comments of the files in specs/, and its numbers of lines.
 
-    python3 docs/definitions.py
+    python3 docs/definitions.py [--print]
 
-What stands before the first crate is kept, but for the numbers in its table. Files keep the order that they have in
+With --print the page is printed and not written. What stands before the first crate is kept, but for the numbers in its table. Files keep the order that they have in
 the document; new ones come last. A definition or file without a comment is named, and the status is then 1.
 """
 import itertools
@@ -13,7 +13,7 @@ import sys
 
 ROOT = pathlib.Path(__file__).resolve().parent.parent
 PAGE = ROOT / "docs" / "DEFINITIONS.md"
-DEFINITION = re.compile(r"^(?:\s*(?:abbrev|unfoldable) pub|pub data|pub record) ([^\s:({]+)")
+DEFINITION = re.compile(r"^\s*(?:(?:abbrev|unfoldable) pub|pub data|pub record) ([^\s:({]+)")
 missing = []
 
 
@@ -92,9 +92,13 @@ def main():
     text.append("")
     for crate in crates:
         text += section(crate, order.get(crate, []))
-    PAGE.write_text("\n".join(text).rstrip() + "\n")
+    made = "\n".join(text).rstrip() + "\n"
+    if "--print" in sys.argv:
+        sys.stdout.write(made)
+    else:
+        PAGE.write_text(made)
     for name in missing:
-        print(f"no comment: {name}")
+        print(f"no comment: {name}", file=sys.stderr)
     return 1 if missing else 0
 
 

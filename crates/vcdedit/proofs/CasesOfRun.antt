@@ -1,5 +1,5 @@
 -- Worked cases: what scripts answer and what they write, byte for byte.
-use Rattle.std.proofs.Common.{◌≡◌, Some, refl, arith}
+use Rattle.std.proofs.Common.{◌≡◌, ℕ, List, Some, None, Err, false, true, refl, arith}
 use Rattle.std.specs.Prelude.{[], ◌∷◌, codes}
 use Rattle.std.specs.Fmt.{digits}
 use Rattle.vcd_core.specs.Wave.{value_from}
@@ -12,8 +12,11 @@ use Rattle.vcd_edit.specs.Effect.{effect}
 use Rattle.vcd_edit.specs.Allowed.{edit_fault}
 use Rattle.vcdedit.specs.Script.{script_lines, command_of_line}
 use Rattle.vcdedit.specs.Reply.{line_reply}
-use Rattle.vcdedit.specs.Run.{machine_after_line, machine_after_lines, line_replies, refusal_count, run_outcome, RunOutcome, RunWrites}
-use Rattle.vcdedit.specs.RunEnds.{RunStopsAtLine, RunStopsInReplies}
+use Rattle.vcdedit.specs.Run.{machine_after_line, machine_after_lines, refusal_count, RunOutcome}
+use Rattle.vcdedit.specs.RunOutcomes.{line_replies, run_outcome, RunWrites}
+use Rattle.vcdedit.specs.RunEnds.{ReaderEnd, RunEnds}
+use Rattle.vcdedit.specs.declared.running.run_error.RunError.TheVariants as run_errors
+use Rattle.vcdedit.proofs.RunReplays.{run_is_of_replays}
 use Rattle.vcd_text.proofs.CasesOfFiles.{one_scalar as one_scalar_file, one_scalar_contents, one_scalar_means}
 use Rattle.vcd_text.proofs.CasesOfText.{one_scalar, one_scalar_text, capture, wire, top, from}
 
@@ -60,11 +63,32 @@ undo_of_file : RunWrites one_scalar_file (codes "rename top.a b\nundo\n") 100 un
 unfolding undone script_lines words_from command_of_line lookup name_in edit_fault effect line_reply machine_after_line machine_after_lines line_replies refusal_count text items_of signal_items code_digits tick_items value_from short_form digits
 undo_of_file = record { contents = one_scalar_contents; skipped = 0; means = one_scalar_means; run = refl }
 
--- where memory runs out at its second line, the reply to the first was told; where five bytes are taken, these are that and two letters of the second
-stops_of_file : RunStopsAtLine (Some one_scalar_file) (Some (codes "rename top.a b\nundo\n")) 100 2 (λ told. told ≡ codes "ok\n")
-    × RunStopsInReplies (Some one_scalar_file) (Some (codes "rename top.a b\nundo\n")) 100 5 (λ told. told ≡ codes "ok\nok")
+-- a reader that was read to its end
+abbrev read_whole : List ℕ → ReaderEnd
+read_whole bytes = record { coming = Some bytes; left = Some []; has_failed = false }
+
+-- where memory runs out at its second line, the reply to the first was told
+stops_at_second_line : RunEnds (Err (run_errors.NoMemory 2)) 100 (read_whole one_scalar_file) (read_whole (codes "rename top.a b\nundo\n"))
+    (record { before = Some []; after = Some (codes "ok\n"); has_failed = false }) None
 unfolding undone
-stops_of_file = ((undone, undo_of_file, (search arith, refl)), (undone, undo_of_file, (search arith, refl)))
+stops_at_second_line = (
+  ((refl, refl), (search arith, one_scalar_contents, 0, one_scalar_means)),
+  ((refl, refl), search arith),
+  tt,
+  (undone, run_is_of_replays one_scalar_file (codes "rename top.a b\nundo\n") 100 undone undo_of_file, (search arith, refl)),
+)
+
+-- where five bytes are taken, these are that and two letters of the second
+stops_in_second_reply : RunEnds (Err (run_errors.ReplyFault 5)) 100 (read_whole one_scalar_file) (read_whole (codes "rename top.a b\nundo\n"))
+    (record { before = Some []; after = Some (codes "ok\nok"); has_failed = true }) None
+unfolding undone
+stops_in_second_reply = (
+  ((refl, refl), (search arith, one_scalar_contents, 0, one_scalar_means)),
+  ((refl, refl), search arith),
+  refl,
+  tt,
+  (undone, run_is_of_replays one_scalar_file (codes "rename top.a b\nundo\n") 100 undone undo_of_file, (search arith, refl)),
+)
 
 -- two signals in one scope
 abbrev pub two_signals : Contents

@@ -13,6 +13,8 @@ pub mod Answered
 pub mod LinesLeft
 pub mod LinesStopped
 pub mod RunParts
+pub mod ProgramRuns
+pub mod SoundCaptures
 pub mod RunReplays
 pub mod HexDigits
 pub mod AskedDepths

@@ -1,8 +1,14 @@
 -- What a run writes is of replays: the captures after its lines, its replies and its output.
-use Rattle.std.proofs.Common.{◌≡◌, ◌≤◌, ◌<◌, ℕ, zero, suc, ◌+◌, Bool, true, false, List, [], ◌∷◌, length, take, get_or, Option, Some, None, Result, Ok, Err, is_err, refl, sym, ◌∙◌, ap, arith}
+use Rattle.std.proofs.Common.{◌≡◌, ◌≤◌, ◌<◌, ℕ, zero, suc, ◌+◌, Bool, true, false, List, [], ◌∷◌, length, take, get_or, Option, Some, None, Result, Ok, Err, is_err, refl, sym, ◌∙◌, ap, subst, arith}
 use Rattle.vcd_core.specs.Contents.{Contents}
 use Rattle.vcd_text.specs.Text.{text}
 use Rattle.vcd_text.proofs.OneAnswer.{one_meaning}
+use Rattle.vcd_text.proofs.TextReadBack.{read_back}
+use Rattle.vcd_text.proofs.SoundMeaning.{meaning_is_sound}
+use Rattle.vcd_text.specs.Meaning.{FileMeans}
+use Rattle.vcd_core.specs.Sound.{IsSound}
+use Rattle.std.proofs.Math.Seq.{take-length}
+use Rattle.std.proofs.lemmas.List.{ext_get_or}
 use Rattle.std.specs.Prelude.{not, nat_lt}
 use Rattle.vcd_edit.specs.declared.edit.Edit.{Edit}
 use Rattle.vcd_edit.specs.declared.fault.EditError.{EditError}
@@ -16,10 +22,12 @@ use Rattle.vcdedit.specs.declared.script.command.Command.{Command}
 use Rattle.vcdedit.specs.declared.script.command.Command.TheVariants as commands
 use Rattle.vcdedit.specs.declared.script.line_error.LineError.{LineError}
 use Rattle.vcdedit.specs.Script.{script_lines, command_of_line}
-use Rattle.vcdedit.specs.Reply.{line_reply, command_reply}
-use Rattle.vcdedit.specs.Run.{machine_after_command, machine_after_line, machine_after_lines, line_replies, run_outcome, RunOutcome}
-use Rattle.vcdedit.specs.Laws.{EveryRunIsOfReplays, EveryRunWritesOneThing, RefusedLineChangesNothing, UndoGivesBack, UndoTakesBackTheLast, answer_reply, reply_on, tally_after_lines}
+use Rattle.vcdedit.specs.Reply.{line_reply, command_reply, step_reply}
+use Rattle.vcdedit.specs.Run.{machine_after_command, machine_after_line, machine_after_lines, no_edits, tally_after_lines, reply_on, is_refused_on, RunOutcome, IsLineOfRun, machine_at, tally_at, last_replay, IsOfReplays, refusal_count}
+use Rattle.vcdedit.specs.RunOutcomes.{line_replies, run_outcome}
+use Rattle.vcdedit.specs.Laws.{EveryRunIsOfReplays, EveryRunWritesOneThing, ReplaysAreOfRun, RefusedLineChangesNothing, UndoGivesBack, UndoTakesBackTheLast, answer_reply}
 use Rattle.vcdedit.proofs.Steps.{run_is_replay, reply_is_answer}
+use Rattle.vcdedit.proofs.SoundCaptures.{lines_sound}
 
 -- ---- replies
 
@@ -38,27 +46,6 @@ reply_at skipped number m (line ∷ lines) zero at is below =
     let first : number ≡ at = omega (arith, is) in ap (λ n. reply_on skipped n line m) first
 reply_at skipped number m (line ∷ lines) (suc count) at is below =
     reply_at skipped (number + 1) (machine_after_line m line) lines count at (omega (arith, is)) (omega (arith, below))
-
--- ---- runs
-
-pub run_is_of_replays : EveryRunIsOfReplays
-run_is_of_replays file script depth written writes =
-    let c = writes.contents in
-    let lines = script_lines script in
-    record {
-      contents = c;
-      skipped = writes.skipped;
-      means = writes.means;
-      replays = λ count. run_is_replay c depth (take count lines);
-      one_each = ap (λ (w : RunOutcome). length w.replies) writes.run ∙ one_reply_each writes.skipped 1 (first_machine c depth) lines;
-      replies = λ count below. ap (λ (w : RunOutcome). get_or w.replies count []) writes.run ∙ reply_at writes.skipped 1 (first_machine c depth) lines count (count + 1) (omega arith) below;
-      output = ap (λ (w : RunOutcome). w.output) writes.run ∙ ap text (run_is_replay c depth lines).now;
-    }
-
-pub run_writes_one_thing : EveryRunWritesOneThing
-run_writes_one_thing file script depth written other writes writes_other =
-    let one = one_meaning file writes.contents writes_other.contents writes.skipped writes_other.skipped writes.means writes_other.means in
-    writes.run ∙ ap (λ (c : Contents). run_outcome c writes.skipped script depth) one.0 ∙ ap (λ n. run_outcome writes_other.contents n script depth) one.1 ∙ sym writes_other.run
 
 -- ---- undo
 
@@ -87,7 +74,7 @@ pub undo_takes_back_the_last : UndoTakesBackTheLast
 unfolding machine_after_line
 undo_takes_back_the_last c depth lines undo_line asked held =
     let m = machine_after_lines (first_machine c depth) lines in
-    let so = undone_last c (tally_after_lines c depth lines).edits_in_force m.past m (run_is_replay c depth lines).past held in
+    let so = undone_last c (tally_after_lines no_edits (first_machine c depth) lines).edits_in_force m.past m (run_is_replay c depth lines).past held in
     (so.0, so.1, so.2, ap (λ r. (machine_after_command m r).now) asked ∙ so.3)
 
 -- ---- refused lines
@@ -129,3 +116,104 @@ command_refused m (Ok (commands.I2c scl sda)) skipped refused = refl
 pub refused_line_changes_nothing : RefusedLineChangesNothing
 unfolding line_reply machine_after_line
 refused_line_changes_nothing m line skipped refused = command_refused m (command_of_line m.now line) skipped refused
+
+-- ---- a line of a run
+
+-- the machine after one line more
+machine_next : (m : Machine) (lines : List (List ℕ)) (count : ℕ) → count < length lines →
+    machine_after_lines m (take (suc count) lines) ≡ machine_after_line (machine_after_lines m (take count lines)) (get_or lines count [])
+unfolding machine_after_lines
+machine_next m [] count below = absurd (omega (arith, below))
+machine_next m (line ∷ lines) zero below = refl
+machine_next m (line ∷ lines) (suc count) below = machine_next (machine_after_line m line) lines count (omega (arith, below))
+
+-- an undo that is not refused has a capture to go back to
+undo_held : (past : List Contents) (now : Contents) (redoable : ℕ) → is_err (step_reply steps.Undo now (length past) redoable) ≡ false → 1 ≤ length past
+undo_held [] now redoable accepted = absurd (cc)
+undo_held (back ∷ older) now redoable accepted = omega arith
+
+line_undone : (skipped : ℕ) (line : List ℕ) (m : Machine) → command_of_line m.now line ≡ Ok (commands.Step steps.Undo) → is_refused_on skipped line m ≡ false → 1 ≤ length m.past
+unfolding line_reply
+line_undone skipped line m asked accepted =
+    undo_held m.past m.now (length m.future) (sym (ap (λ (r : Result Command LineError). is_err (command_reply r m.now skipped (length m.past) (length m.future))) asked) ∙ accepted)
+
+line_of_run : (c : Contents) (depth skipped : ℕ) (lines : List (List ℕ)) (count : ℕ) → count < length lines →
+    IsLineOfRun c (tally_at c depth lines count) skipped (get_or lines count []) (machine_at c depth lines count) (machine_at c depth lines (count + 1))
+line_of_run c depth skipped lines count below =
+    let m = machine_at c depth lines count in
+    let line = get_or lines count [] in
+    let one_more : count + 1 ≡ suc count = omega arith in
+    let next : machine_at c depth lines (count + 1) ≡ machine_after_line m line = ap (machine_at c depth lines) one_more ∙ machine_next (first_machine c depth) lines count below in
+    record {
+      unchanged = λ refused. next ∙ refused_line_changes_nothing m line skipped refused;
+      undone = λ asked accepted.
+          let so = undo_takes_back_the_last c depth (take count lines) line asked (line_undone skipped line m asked accepted) in
+          (so.0, so.1, so.2, ap (λ (n : Machine). n.now) next ∙ so.3);
+    }
+
+-- ---- runs
+
+-- what is written where lines are run, and is of replays
+lines_of_replays : (c : Contents) (depth skipped : ℕ) (lines : List (List ℕ)) → IsSound c →
+    IsOfReplays c depth lines skipped (record {
+      replies = line_replies skipped 1 (first_machine c depth) lines;
+      output = text (machine_after_lines (first_machine c depth) lines).now;
+      refused = refusal_count skipped (first_machine c depth) lines;
+    })
+lines_of_replays c depth skipped lines sound =
+    let all : take (length lines) lines ≡ lines = take-length lines in
+    let last : (machine_after_lines (first_machine c depth) lines).now ≡ last_replay c depth lines =
+    ap (λ (ls : List (List ℕ)). (machine_after_lines (first_machine c depth) ls).now) (sym all) ∙ (run_is_replay c depth (take (length lines) lines)).now in
+    let sound_last : IsSound (last_replay c depth lines) = subst IsSound last (lines_sound c depth lines sound) in
+    let back : FileMeans (text (machine_after_lines (first_machine c depth) lines).now) (last_replay c depth lines) 0 =
+    subst (λ (d : Contents). FileMeans (text d) (last_replay c depth lines) 0) (sym last) (read_back (last_replay c depth lines) sound_last) in
+    record {
+      replays = λ count. run_is_replay c depth (take count lines);
+      sound = λ count. lines_sound c depth (take count lines) sound;
+      each = line_of_run c depth skipped lines;
+      one_each = one_reply_each skipped 1 (first_machine c depth) lines;
+      replies = λ count below. reply_at skipped 1 (first_machine c depth) lines count (count + 1) (omega arith) below;
+      refused = refl;
+      output = ap text last;
+      read_again = back;
+      only = λ d count means. one_meaning (text (machine_after_lines (first_machine c depth) lines).now) d (last_replay c depth lines) count 0 means back;
+    }
+
+pub run_is_of_replays : EveryRunIsOfReplays
+run_is_of_replays file script depth written writes =
+    let sound : IsSound writes.contents = subst IsSound (sym writes.means.means) (meaning_is_sound file writes.means.told writes.means.accepted) in
+    record {
+      contents = writes.contents;
+      skipped = writes.skipped;
+      means = writes.means;
+      run = subst (IsOfReplays writes.contents depth (script_lines script) writes.skipped) (sym writes.run) (lines_of_replays writes.contents depth writes.skipped (script_lines script) sound);
+    }
+
+-- ---- what is of replays is one thing
+
+-- an outcome by its three parts
+same_outcome : (written other : RunOutcome) → written.replies ≡ other.replies → written.output ≡ other.output → written.refused ≡ other.refused → written ≡ other
+same_outcome written other replies output refused = λ i. record { replies = replies i; output = output i; refused = refused i }
+
+one_of_replays : (c : Contents) (depth skipped : ℕ) (lines : List (List ℕ)) (written other : RunOutcome) → IsOfReplays c depth lines skipped written → IsOfReplays c depth lines skipped other → written ≡ other
+one_of_replays c depth skipped lines written other is also =
+    let same_length : length written.replies ≡ length other.replies = is.one_each ∙ sym also.one_each in
+    let replies : written.replies ≡ other.replies = ext_get_or [] written.replies other.replies same_length
+    (λ count below. let within : count < length lines = omega (arith, below, is.one_each) in is.replies count within ∙ sym (also.replies count within)) in
+    same_outcome written other replies (is.output ∙ sym also.output) (is.refused ∙ sym also.refused)
+
+pub run_writes_one_thing : EveryRunWritesOneThing
+run_writes_one_thing file script depth written other is also =
+    let one = one_meaning file is.contents also.contents is.skipped also.skipped is.means also.means in
+    let here : IsOfReplays also.contents depth (script_lines script) also.skipped written =
+    subst (λ (c : Contents). IsOfReplays c depth (script_lines script) also.skipped written) one.0 (subst (λ (n : ℕ). IsOfReplays is.contents depth (script_lines script) n written) one.1 is.run) in
+    one_of_replays also.contents depth also.skipped (script_lines script) written other here also.run
+
+pub replays_are_of_run : ReplaysAreOfRun
+replays_are_of_run file script depth written is = record {
+  contents = is.contents;
+  skipped = is.skipped;
+  means = is.means;
+  run = one_of_replays is.contents depth is.skipped (script_lines script) written (run_outcome is.contents is.skipped script depth) is.run
+      (lines_of_replays is.contents depth is.skipped (script_lines script) (subst IsSound (sym is.means.means) (meaning_is_sound file is.means.told is.means.accepted)));
+}

@@ -1,5 +1,5 @@
 -- Steps where there is memory: the replies say what the machine answers, and lines ask for steps.
-use Rattle.std.proofs.Common.{◌≡◌, ℕ, Bool, true, false, cond, List, [], ◌∷◌, ◌++◌, Option, Some, None, Result, Ok, Err, length, map, refl}
+use Rattle.std.proofs.Common.{◌≡◌, ℕ, Bool, true, false, cond, List, [], ◌∷◌, ◌++◌, Option, Some, None, Result, Ok, Err, length, map, refl, subst, ◌∙◌}
 use Rattle.std.specs.Prelude.{not, nat_lt}
 use Rattle.vcd_core.specs.Contents.{Contents}
 use Rattle.vcd_edit.specs.declared.edit.Edit.{Edit}
@@ -18,8 +18,10 @@ use Rattle.vcdedit.specs.declared.script.command.Command.TheVariants as commands
 use Rattle.vcdedit.specs.declared.script.line_error.LineError.{LineError}
 use Rattle.vcdedit.specs.Script.{command_of_line}
 use Rattle.vcdedit.specs.Reply.{ok_reply, step_reply, edit_reply}
-use Rattle.vcdedit.specs.Run.{machine_after_line, machine_after_lines, machine_after_command}
-use Rattle.vcdedit.specs.Laws.{steps_of_command, steps_of_lines, answers_of_lines, RunIsReplay, ReplyIsAnswer, answer_reply}
+use Rattle.vcd_journal.specs.InForce.{Tally, IsReplay, tally_after_all}
+use Rattle.vcdedit.specs.Run.{machine_after_line, machine_after_lines, machine_after_command, no_edits, tally_after_command, tally_after_lines}
+use Rattle.vcdedit.specs.inside.LineSteps.{steps_of_command, steps_of_lines, answers_of_lines}
+use Rattle.vcdedit.specs.Laws.{RunIsReplay, ReplyIsAnswer, answer_reply}
 
 -- the reply to a step is the machine's answer
 reply_to_edit_is : (found : Option EditError) (e : Edit) (m : Machine) → edit_reply found ≡ answer_reply (edit_outcome found e m).answer
@@ -68,6 +70,30 @@ lines_are_run m (line ∷ lines) =
     let next : Machine = machine_after_line m line in
     command_is_run m (command_of_line m.now line) (steps_of_lines next lines) (answers_of_lines next lines) (machine_after_lines next lines) (lines_are_run next lines)
 
+-- the tally after a line is that of the step that it asks for
+command_tally : (t : Tally) (m : Machine) (r : Result Command LineError) (asked : List Step) (answers : List Answer) →
+    tally_after_all t (steps_of_command r ++ asked) (map (λ step. (step_outcome m step).answer) (steps_of_command r) ++ answers) ≡ tally_after_all (tally_after_command t m r) asked answers
+unfolding tally_after_all
+command_tally t m (Ok commands.Nothing) asked answers = refl
+command_tally t m (Ok commands.List) asked answers = refl
+command_tally t m (Ok (commands.Value k tick)) asked answers = refl
+command_tally t m (Ok (commands.Changes k)) asked answers = refl
+command_tally t m (Ok (commands.Step step)) asked answers = refl
+command_tally t m (Ok (commands.Uart k setup)) asked answers = refl
+command_tally t m (Ok (commands.Spi clk mosi miso cs setup)) asked answers = refl
+command_tally t m (Ok (commands.I2c scl sda)) asked answers = refl
+command_tally t m (Err found) asked answers = refl
+
+lines_tally : (t : Tally) (m : Machine) (lines : List (List ℕ)) → tally_after_all t (steps_of_lines m lines) (answers_of_lines m lines) ≡ tally_after_lines t m lines
+unfolding steps_of_lines answers_of_lines tally_after_lines tally_after_all
+lines_tally t m [] = refl
+lines_tally t m (line ∷ lines) =
+    let next : Machine = machine_after_line m line in
+    command_tally t m (command_of_line m.now line) (steps_of_lines next lines) (answers_of_lines next lines)
+    ∙ lines_tally (tally_after_command t m (command_of_line m.now line)) next lines
+
 pub run_is_replay : RunIsReplay
 run_is_replay c depth lines =
-    session_is_replay c depth (steps_of_lines (first_machine c depth) lines) (answers_of_lines (first_machine c depth) lines) (machine_after_lines (first_machine c depth) lines) (lines_are_run (first_machine c depth) lines)
+    let m = first_machine c depth in
+    subst (λ (t : Tally). IsReplay c t (machine_after_lines m lines)) (lines_tally no_edits m lines)
+    (session_is_replay c depth (steps_of_lines m lines) (answers_of_lines m lines) (machine_after_lines m lines) (lines_are_run m lines))

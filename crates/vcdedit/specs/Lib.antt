@@ -12,9 +12,9 @@ pub mod CommandSignals
 pub mod DecoderReply
 pub mod Reply
 pub mod Run
+pub mod RunOutcomes
 pub mod Laws
 pub mod Report
-pub mod RunFaults
 pub mod RunEnds
 pub mod CommandLine
 pub mod Opening

@@ -1,109 +1,131 @@
--- How a run ends: what was written, and how its readers and writers are left. The project's own.
+-- How a run ends: for each ending, what its writers took and how its readers are left. The project's own.
 use Rattle.std.proofs.Common.{inl, inr}
-use Rattle.std.specs.Prelude.{◌≡◌, ◌<◌, ◌≤◌, ◌⊎◌, ℕ, ◌-◌, Bool, false, true, List, length, take, Option, Some, None, Result, IfSome, OnOk, IfErr, IsErrOf}
+use Rattle.std.specs.Prelude.{◌≡◌, ◌<◌, ◌≤◌, ◌⊎◌, ℕ, zero, suc, Bool, true, false, List, length, take, Option, Some, None, Result, Ok, Err, IfSome, IsSomeAnd}
 use Rattle.std.specs.List.{concat}
 use Rattle.std.specs.Borrow.{MutBor}
-use Rattle.std.specs.Io.KnownBytes.{Appends, IsAtEnd}
+use Rattle.std.specs.Io.KnownBytes.{Appends, Keeps, IsAtEnd}
 use Rattle.vcd_core.specs.Contents.{Contents}
 use Rattle.vcd_text.specs.Meaning.{FileMeans}
 use Rattle.vcd_text.specs.Refusals.{IsRefusal}
-use Rattle.vcd_text.specs.WriteEnds.{TookBefore}
 use Rattle.vcd_text.specs.declared.fault.Fault.TheVariants as faults
-use Rattle.vcd_text.specs.declared.fault.WriteError.{WriteError}
+use Rattle.vcd_text.specs.declared.fault.WriteError.TheVariants as write_errors
 use Rattle.vcd_text.specs.declared.reading.TheConstants.{FILE_LIMIT}
 use Rattle.vcdedit.specs.declared.running.inputs.TheConstants.{SCRIPT_LIMIT}
 use Rattle.vcdedit.specs.declared.running.run_error.RunError.{RunError}
 use Rattle.vcdedit.specs.declared.running.run_error.RunError.TheVariants as run_errors
-use Rattle.vcdedit.specs.Run.{RunOutcome, RunWrites}
-use Rattle.vcdedit.specs.RunFaults.{IfCaptureError, IfOutputError, IfReplyFault, IsBeforeReplies}
+use Rattle.vcdedit.specs.declared.running.run_error.Summary.{Summary}
+use Rattle.vcdedit.specs.Run.{RunOutcome, IsRunOfReplays}
 
--- ---- the readers, and the writer of the replies
+-- ---- readers
 
--- a capture file that is within the limit and has a meaning
-abbrev pub IsAcceptedCapture : List ℕ → Type 0
-IsAcceptedCapture file = (length file ≤ FILE_LIMIT) × (c : Contents) × (skipped : ℕ) × FileMeans file c skipped
+-- a reader as it was and as it is left: its bytes to come, where it tells them, and whether it has failed
+pub record ReaderEnd : Type 0 where
+  pub coming : Option (List ℕ)
+  pub left : Option (List ℕ)
+  pub has_failed : Bool
 
--- how the reader of the capture is left, of which some bytes were to come and others are left
-pub record LeavesCaptureReader {A : Type 0} (ending : Result A RunError) (coming left : Option (List ℕ)) (has_failed : Bool) : Type 0 where
-  -- a run to its end leaves it not failed
-  pub not_failed : OnOk ending (has_failed ≡ false)
-  -- and at the end of its bytes
-  pub ended : OnOk ending (IsAtEnd left)
-  -- and its file was within the limit
-  pub within : OnOk ending (IfSome coming (λ file. length file ≤ FILE_LIMIT))
-  -- a capture's fault is the one that its file has
-  pub refused : IfErr ending (λ e. IfCaptureError e (λ fault. IfSome coming (λ file. IsRefusal file has_failed left fault)))
-  -- a read fault of the capture is one of its reader
-  pub failed : IfErr ending (λ e. IfCaptureError e (λ fault. fault.fault ≡ faults.ReadFault → has_failed ≡ true))
+-- the end of a reader, from what it tells
+abbrev pub reader_end : {R : Type 0} → (R → Option (List ℕ)) → (R → Bool) → (old new : R) → ReaderEnd
+reader_end coming has_failed old new =
+    record { coming = coming old; left = coming new; has_failed = has_failed new }
 
--- how the reader of the script is left, of which some bytes were to come and others are left
-pub record LeavesScriptReader {A : Type 0} (ending : Result A RunError) (coming left : Option (List ℕ)) (has_failed : Bool) : Type 0 where
-  -- a run to its end leaves it not failed
-  pub not_failed : OnOk ending (has_failed ≡ false)
-  -- and at the end of its bytes
-  pub ended : OnOk ending (IsAtEnd left)
-  -- and the script was within the limit
-  pub within : OnOk ending (IfSome coming (λ script. length script ≤ SCRIPT_LIMIT))
-  -- a script that is too large is above the limit
-  pub too_large : IsErrOf ending run_errors.ScriptTooLarge → IfSome coming (λ script. SCRIPT_LIMIT < length script)
-  -- a read fault of the script is one of its reader
-  pub failed : IsErrOf ending run_errors.ScriptReadFault → has_failed ≡ true
+-- it is as it was: no byte was read, and it has not failed
+abbrev pub IsUnread : ReaderEnd → Type 0
+IsUnread r = (r.left ≡ r.coming) × (r.has_failed ≡ false)
 
--- how the writer of the replies is left, which had taken some bytes before and has taken others after
-pub record LeavesReplyWriter {A : Type 0} (ending : Result A RunError) (taken_before taken_after : Option (List ℕ)) (has_failed : Bool) : Type 0 where
-  -- a run to its end leaves it not failed
-  pub not_failed : OnOk ending (has_failed ≡ false)
-  -- nor does one that ends in its output
-  pub not_failed_at_output : IfErr ending (λ e. IfOutputError e (λ _. has_failed ≡ false))
-  -- a reply fault is one of this writer
-  pub failed : IfErr ending (λ e. IfReplyFault e (λ _. has_failed ≡ true))
-  -- a run that ends before the replies writes none
-  pub no_reply : IfErr ending (λ e. IsBeforeReplies e → taken_after ≡ taken_before)
+-- it was read to its end
+abbrev pub IsReadToEnd : ReaderEnd → Type 0
+IsReadToEnd r = (r.has_failed ≡ false) × IsAtEnd r.left
 
--- ---- what is written
+-- a capture was read that is within the limit and has a meaning
+abbrev pub IsAccepted : ReaderEnd → Type 0
+IsAccepted r = IsReadToEnd r
+    × IfSome r.coming (λ file. (length file ≤ FILE_LIMIT) × (c : Contents) × (skipped : ℕ) × FileMeans file c skipped)
 
--- where the readers tell their bytes: this is said of what the run of the script on the capture file writes
-abbrev pub IfRunWrites : (file script : Option (List ℕ)) → (depth : ℕ) → (RunOutcome → Type 0) → Type 0
-IfRunWrites file script depth said = IfSome file (λ f. IfSome script (λ s. (written : RunOutcome) × RunWrites f s depth written × said written))
+-- a script was read that is within the limit
+abbrev pub IsWholeScript : ReaderEnd → Type 0
+IsWholeScript r = IsReadToEnd r × IfSome r.coming (λ script. length script ≤ SCRIPT_LIMIT)
 
--- a run that came to its end: one writer took its replies, the other its output, and so many lines are refused
-abbrev pub RunReachesEnd : (file script : Option (List ℕ)) → (depth count : ℕ) → (took_replies took_output : List ℕ → Type 0) → Type 0
-RunReachesEnd file script depth count took_replies took_output =
-    IfRunWrites file script depth (λ written. took_replies (concat written.replies) × took_output written.output × (count ≡ written.refused))
+-- ---- writers
 
--- a run that ended at this line of the script for want of memory, counted from 1: a writer took exactly the replies to the lines before
-abbrev pub RunStopsAtLine : (file script : Option (List ℕ)) → (depth line : ℕ) → (took_replies : List ℕ → Type 0) → Type 0
-RunStopsAtLine file script depth line took_replies =
-    IfRunWrites file script depth (λ written. (line ≤ length written.replies) × took_replies (concat (take (line - 1) written.replies)))
+-- a writer as it was and as it is left: the bytes that it took, where it tells them, and whether it has failed
+pub record WriterEnd : Type 0 where
+  pub before : Option (List ℕ)
+  pub after : Option (List ℕ)
+  pub has_failed : Bool
 
--- a run that ended in its replies: their writer took exactly so many bytes of them, from the front
-abbrev pub RunStopsInReplies : (file script : Option (List ℕ)) → (depth count : ℕ) → (took_replies : List ℕ → Type 0) → Type 0
-RunStopsInReplies file script depth count took_replies =
-    IfRunWrites file script depth (λ written. (count ≤ length (concat written.replies)) × took_replies (take count (concat written.replies)))
+-- the end of a writer, from what it tells
+abbrev pub writer_end : {W : Type 0} → (W → Option (List ℕ)) → (W → Bool) → (old new : W) → WriterEnd
+writer_end taken has_failed old new =
+    record { before = taken old; after = taken new; has_failed = has_failed new }
 
--- a run that ended in its output: one writer took all of its replies, and the other stopped at its output
-abbrev pub RunStopsAtOutput : (file script : Option (List ℕ)) → (depth : ℕ) → (took_replies stopped_at : List ℕ → Type 0) → Type 0
-RunStopsAtOutput file script depth took_replies stopped_at =
-    IfRunWrites file script depth (λ written. took_replies (concat written.replies) × stopped_at written.output)
+-- it is as it was: it took nothing, and has not failed
+abbrev pub IsUntouched : WriterEnd → Type 0
+IsUntouched w = (w.after ≡ w.before) × (w.has_failed ≡ false)
 
--- ---- the writer of the output
+-- it took this text
+abbrev pub HasText : WriterEnd → List ℕ → Type 0
+HasText w text = Appends w.before w.after text
 
--- this is said of the writer of the output, if one is given, as it was and as it is left; it comes as an `Option<&mut W>`, and is left as the second says
-abbrev pub IfOutput : {W : Type 0} → Option (MutBor W) → Unit {0} ⊎ ((MutBor W × Unit {0}) ⊎ ⊥) → (W → W → Type 0) → Type 0
-IfOutput None left said = Unit {0}
-IfOutput (Some out) (inr (inl left)) said = said out.now left.0.now
-IfOutput (Some out) _ said = ⊥
+-- it took this many bytes of a text, from the front
+abbrev pub HasFront : WriterEnd → (count : ℕ) → List ℕ → Type 0
+HasFront w count text = (count ≤ length text) × Appends w.before w.after (take count text)
 
-module _ {W : Type 0} (taken : W → Option (List ℕ)) where
-  -- it took these bytes
-  abbrev pub OutputTakes : Option (MutBor W) → Unit {0} ⊎ ((MutBor W × Unit {0}) ⊎ ⊥) → List ℕ → Type 0
-  OutputTakes out left bytes = IfOutput out left (λ old new. Appends (taken old) (taken new) bytes)
+-- said of the writer of the output, or of none: it comes as an `Option<&mut W>`, which is left as the fourth says
+abbrev pub OfOutput : {W : Type 0} → (W → Option (List ℕ)) → (W → Bool) → Option (MutBor W)
+    → Unit {0} ⊎ ((MutBor W × Unit {0}) ⊎ ⊥) → (Option WriterEnd → Type 0) → Type 0
+OfOutput taken has_failed None left said = said None
+OfOutput taken has_failed (Some out) (inr (inl left)) said =
+    said (Some (writer_end taken has_failed out.now left.0.now))
+OfOutput taken has_failed (Some out) _ said = ⊥
 
-  -- it took nothing
-  abbrev pub OutputKeeps : Option (MutBor W) → Unit {0} ⊎ ((MutBor W × Unit {0}) ⊎ ⊥) → Type 0
-  OutputKeeps out left = IfOutput out left (λ old new. taken new ≡ taken old)
+-- ---- runs
 
-  -- one is given, and took of these bytes what it did before this fault
-  abbrev pub OutputStops : (has_failed : W → Bool) → Option (MutBor W) → Unit {0} ⊎ ((MutBor W × Unit {0}) ⊎ ⊥) → WriteError → List ℕ → Type 0
-  OutputStops has_failed None left e bytes = ⊥
-  OutputStops has_failed (Some out) left e bytes = IfOutput (Some out) left (λ old new. TookBefore bytes (taken old) (taken new) (has_failed new) e)
+-- where the readers tell their bytes: said of what the run of the script on the capture file writes
+abbrev pub OfRun : (capture script : ReaderEnd) → (depth : ℕ) → (RunOutcome → Type 0) → Type 0
+OfRun capture script depth said = IfSome capture.coming (λ file. IfSome script.coming (λ lines.
+    (written : RunOutcome) × IsRunOfReplays file lines depth written × said written))
+
+-- how a run ends, by its result; each ending leaves its two readers, the writer of the replies and that of the output so
+abbrev pub RunEnds : Result Summary RunError → (depth : ℕ)
+    → (capture script : ReaderEnd) → (replies : WriterEnd) → (output : Option WriterEnd) → Type 0
+-- all replies are written, and the output where one is asked for
+RunEnds (Ok summary) depth capture script replies output =
+    IsAccepted capture × IsWholeScript script
+    × (replies.has_failed ≡ false) × IfSome output (λ out. out.has_failed ≡ false)
+    × OfRun capture script depth (λ written. HasText replies (concat written.replies)
+    × IfSome output (λ out. HasText out written.output) × (summary.refused ≡ written.refused))
+-- the capture has this fault: nothing is read of the script, and nothing written
+RunEnds (Err (run_errors.Capture e)) depth capture script replies output =
+    IfSome capture.coming (λ file. IsRefusal file capture.has_failed capture.left e)
+    × (e.fault ≡ faults.ReadFault → capture.has_failed ≡ true)
+    × IsUnread script × IsUntouched replies × IfSome output IsUntouched
+-- the script is above its limit: nothing is written
+RunEnds (Err run_errors.ScriptTooLarge) depth capture script replies output =
+    IsAccepted capture × IfSome script.coming (λ bytes. SCRIPT_LIMIT < length bytes)
+    × IsUntouched replies × IfSome output IsUntouched
+-- the reader of the script failed: nothing is written
+RunEnds (Err run_errors.ScriptReadFault) depth capture script replies output =
+    IsAccepted capture × (script.has_failed ≡ true) × IsUntouched replies × IfSome output IsUntouched
+-- memory ran out before the first line: nothing is written
+RunEnds (Err (run_errors.NoMemory zero)) depth capture script replies output =
+    IsAccepted capture × IsUntouched replies × IfSome output IsUntouched
+-- memory ran out at a line, counted from 1: exactly the replies to the lines before it are written
+RunEnds (Err (run_errors.NoMemory (suc before))) depth capture script replies output =
+    IsAccepted capture × IsWholeScript script × IfSome output IsUntouched
+    × OfRun capture script depth (λ written. (before < length written.replies)
+    × HasText replies (concat (take before written.replies)))
+-- the writer of the replies failed: it took exactly so many bytes of them
+RunEnds (Err (run_errors.ReplyFault count)) depth capture script replies output =
+    IsAccepted capture × IsWholeScript script × (replies.has_failed ≡ true) × IfSome output IsUntouched
+    × OfRun capture script depth (λ written. HasFront replies count (concat written.replies))
+-- memory ran out for the output: all replies are written, and nothing of the output
+RunEnds (Err (run_errors.Write write_errors.NoMemory)) depth capture script replies output =
+    IsAccepted capture × IsWholeScript script × (replies.has_failed ≡ false)
+    × IsSomeAnd output (λ out. Keeps out.before out.after × (out.has_failed ≡ false))
+    × OfRun capture script depth (λ written. HasText replies (concat written.replies))
+-- the writer of the output failed: it took exactly so many bytes of the output, and all replies are written
+RunEnds (Err (run_errors.Write (write_errors.WriteFault count))) depth capture script replies output =
+    IsAccepted capture × IsWholeScript script × (replies.has_failed ≡ false)
+    × IsSomeAnd output (λ out. (out.has_failed ≡ true) × OfRun capture script depth (λ written.
+    HasText replies (concat written.replies) × HasFront out count written.output))

@@ -6,3 +6,6 @@ pub mod Annotations
 pub mod Answering
 pub mod RunLines
 pub mod ScriptRuns
+pub mod LineSteps
+pub mod RunStages
+pub mod SentReplies

@@ -1,12 +1,12 @@
 //! Laws about the definitions alone: each function has an empty body, and its contract is the law.
 
-ghost use Rattle.vcdedit.specs.Laws.{EveryRunIsOfReplays, EveryRunWritesOneThing, RefusedLineChangesNothing, ReplyIsAnswer, RunIsReplay, UndoGivesBack, UndoInRunGivesBack, UndoTakesBackTheLast};
+ghost use Rattle.vcdedit.specs.Laws.{EveryRunIsOfReplays, EveryRunWritesOneThing, ReplaysAreOfRun, RefusedLineChangesNothing, ReplyIsAnswer, RunIsReplay, UndoGivesBack, UndoInRunGivesBack, UndoTakesBackTheLast};
 
-/// What a run writes is said of captures that are replays: after each line the capture is what the edits in force
-/// make of what the file means; the reply to the line is told of the capture before it; and the output is the text
-/// of the last. A file and a script make a run write one thing only.
+/// What a run writes is the one thing that is of replays, of what the capture file means, by the lines of the
+/// script. A file and a script make a run write one thing only.
 pub fn run_is_of_replays()
     ensures replays { EveryRunIsOfReplays }
+    ensures of_run { ReplaysAreOfRun }
     ensures one_thing { EveryRunWritesOneThing }
 {}
 

@@ -6,7 +6,8 @@ use Rattle.vcd_journal.specs.Machine.{Machine}
 use Rattle.vcdedit.specs.declared.running.run_error.RunError.{RunError}
 use Rattle.vcdedit.specs.declared.running.run_error.RunError.TheVariants as run_errors
 use Rattle.vcdedit.specs.Reply.{line_reply_text, is_line_refused}
-use Rattle.vcdedit.specs.Run.{machine_after_line, machine_after_lines, line_replies, refusal_count}
+use Rattle.vcdedit.specs.Run.{machine_after_line, machine_after_lines, refusal_count, is_refused_on, reply_on}
+use Rattle.vcdedit.specs.RunOutcomes.{line_replies}
 
 -- the line of this number leads from one machine to the other, its reply of so many bytes is told, and so many lines are refused
 abbrev pub TellsLine : (skipped number : ℕ) → List ℕ → Machine → Machine → (refused written : ℕ) → (before after : Option (List ℕ)) → Type 0
@@ -27,6 +28,11 @@ abbrev pub RunsLines : (skipped : ℕ) → List (List ℕ) → Machine → Machi
 RunsLines skipped lines old new refused before after = (told : List (List ℕ)) × Appends before after (concat told) × LinesGive skipped lines old new told refused
 
 -- ---- faults
+
+-- this is said of the number of bytes that the writer of the replies took before its fault, where that ended the run
+abbrev pub IfReplyFault : RunError → (ℕ → Type 0) → Type 0
+IfReplyFault (run_errors.ReplyFault written) said = said written
+IfReplyFault _ said = Unit {0}
 
 -- the fault is one of a line
 abbrev pub IsLineFault : RunError → Type 0

@@ -5,7 +5,8 @@ use Rattle.vcd_core.specs.Contents.{Contents}
 use Rattle.vcd_text.specs.Meaning.{FileMeans}
 use Rattle.vcd_journal.specs.Machine.{first_machine}
 use Rattle.vcdedit.specs.Script.{script_lines}
-use Rattle.vcdedit.specs.Run.{machine_after_lines, line_replies, refusal_count}
+use Rattle.vcdedit.specs.Run.{machine_after_lines, refusal_count}
+use Rattle.vcdedit.specs.RunOutcomes.{line_replies}
 
 -- the script on what the capture file means gives replies of which `took` holds, so many refused lines, and this capture
 pub record ScriptGives (file script : List ℕ) (depth count : ℕ) (took : List ℕ → Type 0) (now : Contents) : Type 0 where

@@ -1,12 +1,11 @@
 //! What a run reads before it runs the first line: the capture and the whole script.
 
-ghost use Rattle.std.specs.Prelude.{◌≡◌, ◌<◌, ◌≤◌, ◌⊎◌, false, true, length, OnOk, IfOk, IfErr, IfSome, IsErrOf};
-ghost use Rattle.std.specs.Io.KnownBytes.{IsAtEnd};
+ghost use Rattle.std.specs.Prelude.{◌≡◌, ◌≤◌, false, length, OnOk, IfOk, IfErr, IfSome};
 ghost use Rattle.vcd_core.specs.Contents.{contents};
 ghost use Rattle.vcd_core.specs.Sound.{IsSound};
 ghost use Rattle.vcd_text.specs.Meaning.{FileMeans};
-ghost use Rattle.vcdedit.specs.RunFaults.{IsBehindCapture, IsBeforeReplies, IsBeforeOutput};
-ghost use Rattle.vcdedit.specs.RunEnds.{IsAcceptedCapture, LeavesCaptureReader, LeavesScriptReader};
+ghost use Rattle.vcdedit.specs.RunEnds.{reader_end, IsAccepted, IsWholeScript};
+ghost use Rattle.vcdedit.specs.inside.RunStages.{EndsBeforeReplies, EndsBehindCapture};
 
 use crate::running::RunError;
 use std::alloc::Global;
@@ -41,16 +40,13 @@ pub fn read_inputs<R: Source, S: Source>(
         (λ bytes. inputs.script.items ≡ bytes)) }
     ensures short { IfOk result (λ inputs. length inputs.script.items ≤ SCRIPT_LIMIT) }
 
-    ensures capture { LeavesCaptureReader result
-        (R.coming capture_reader.old) (R.coming capture_reader.new)
-        (R.has_failed capture_reader.new) }
-    ensures script { LeavesScriptReader result
-        (S.coming script_reader.old) (S.coming script_reader.new)
-        (S.has_failed script_reader.new) }
-    ensures accepted { IsBehindCapture result →
-        IfSome (R.coming capture_reader.old) IsAcceptedCapture }
-    ensures before_replies { IfErr result IsBeforeReplies }
-    ensures before_output { IfErr result IsBeforeOutput }
+    ensures accepted { OnOk result (IsAccepted
+        (reader_end R.coming R.has_failed capture_reader.old capture_reader.new)) }
+    ensures whole { OnOk result (IsWholeScript
+        (reader_end S.coming S.has_failed script_reader.old script_reader.new)) }
+    ensures ended { IfErr result (EndsBeforeReplies
+        (reader_end R.coming R.has_failed capture_reader.old capture_reader.new)
+        (reader_end S.coming S.has_failed script_reader.old script_reader.new)) }
 {
     let loaded = read(alloc, capture_reader)?;
     let script = read_script(alloc, script_reader)?;
@@ -66,14 +62,10 @@ fn read_script<S: Source>(alloc: Global, reader: &mut S) -> Result<Vec<u8>, RunE
     ensures all { IfOk result (λ script. IfSome (S.coming reader.old)
         (λ bytes. script.items ≡ bytes)) }
     ensures short { IfOk result (λ script. length script.items ≤ SCRIPT_LIMIT) }
-    ensures not_failed { OnOk result (S.has_failed reader.new ≡ false) }
-    ensures ended { OnOk result (IsAtEnd (S.coming reader.new)) }
-    ensures too_large { IsErrOf result RunError.ScriptTooLarge →
-        IfSome (S.coming reader.old) (λ bytes. SCRIPT_LIMIT < length bytes) }
-    ensures failed { IsErrOf result RunError.ScriptReadFault → S.has_failed reader.new ≡ true }
-    ensures others { IfErr result (λ e.
-        (e ≡ RunError.ScriptTooLarge) ⊎ (e ≡ RunError.ScriptReadFault) ⊎
-        (e ≡ RunError.NoMemory 0)) }
+    ensures whole { OnOk result (IsWholeScript
+        (reader_end S.coming S.has_failed reader.old reader.new)) }
+    ensures ended { IfErr result (EndsBehindCapture
+        (reader_end S.coming S.has_failed reader.old reader.new)) }
 {
     let mut bytes = Vec::new(alloc);
     match read_whole(reader, SCRIPT_LIMIT, &mut bytes) {

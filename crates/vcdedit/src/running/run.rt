@@ -1,13 +1,13 @@
 //! The run: a capture and a script in, replies and a capture out.
 
-ghost use Rattle.std.specs.Prelude.{◌≡◌, ◌≤◌, false, true, None, OnOk, IfOk, IfErr, IfSome};
+ghost use Rattle.std.specs.Prelude.{◌≡◌, ◌≤◌, false, OnOk, IfOk, IfErr, IfSome};
 ghost use Rattle.std.specs.Option.{ForSome};
 ghost use Rattle.std.specs.Io.KnownBytes.{Appends};
 ghost use Rattle.vcd_core.specs.Contents.{contents};
 ghost use Rattle.vcd_core.specs.Sound.{IsSound};
-ghost use Rattle.vcdedit.specs.RunFaults.{IfOutputError, IfNoMemory, IfReplyFault, IsOutputFault, IsBehindCapture, IsBeforeOutput};
-ghost use Rattle.vcdedit.specs.RunEnds.{IsAcceptedCapture, LeavesCaptureReader, LeavesScriptReader, LeavesReplyWriter, RunReachesEnd, RunStopsAtLine, RunStopsInReplies, RunStopsAtOutput, IfOutput, OutputTakes, OutputKeeps, OutputStops};
+ghost use Rattle.vcdedit.specs.RunEnds.{reader_end, writer_end, IsAccepted, IsWholeScript, OfOutput, RunEnds};
 ghost use Rattle.vcd_journal.specs.Machine.{first_machine};
+ghost use Rattle.vcdedit.specs.inside.RunStages.{EndsBeforeOutput};
 ghost use Rattle.vcdedit.specs.inside.ScriptRuns.{ScriptGives};
 
 use crate::running::inputs::read_inputs;
@@ -37,38 +37,10 @@ pub fn run<R: Source, S: Source, P: Sink, W: Sink>(
     requires depth_least { 1 ≤ depth }
     requires depth_most { depth ≤ DEPTH_LIMIT }
 
-    ensures written { IfOk result (λ summary. RunReachesEnd
-        (R.coming capture_reader.old) (S.coming script_reader.old) depth summary.refused
-        (Appends (P.taken replies.old) (P.taken replies.new))
-        (OutputTakes W.taken out.entry out.exit)) }
-    ensures stopped_at_line { IfErr result (λ e. IfNoMemory e (λ line. 1 ≤ line → RunStopsAtLine
-        (R.coming capture_reader.old) (S.coming script_reader.old) depth line
-        (Appends (P.taken replies.old) (P.taken replies.new)))) }
-    ensures stopped_in_replies { IfErr result (λ e. IfReplyFault e (λ count. RunStopsInReplies
-        (R.coming capture_reader.old) (S.coming script_reader.old) depth count
-        (Appends (P.taken replies.old) (P.taken replies.new)))) }
-    ensures output_failed { IfErr result (λ e. IfOutputError e (λ fault. RunStopsAtOutput
-        (R.coming capture_reader.old) (S.coming script_reader.old) depth
-        (Appends (P.taken replies.old) (P.taken replies.new))
-        (OutputStops W.taken W.has_failed out.entry out.exit fault))) }
-
-    ensures accepted { IsBehindCapture result →
-        IfSome (R.coming capture_reader.old) IsAcceptedCapture }
-    ensures capture { LeavesCaptureReader result
-        (R.coming capture_reader.old) (R.coming capture_reader.new)
-        (R.has_failed capture_reader.new) }
-    ensures script { LeavesScriptReader result
-        (S.coming script_reader.old) (S.coming script_reader.new)
-        (S.has_failed script_reader.new) }
-    ensures replies { LeavesReplyWriter result
-        (P.taken replies.old) (P.taken replies.new) (P.has_failed replies.new) }
-    ensures out_not_failed { OnOk result
-        (IfOutput out.entry out.exit (λ _ new. W.has_failed new ≡ false)) }
-    ensures out_failed { IfErr result (λ e. IsOutputFault e →
-        IfOutput out.entry out.exit (λ _ new. W.has_failed new ≡ true)) }
-    ensures no_output { IfErr result (λ e. IsBeforeOutput e →
-        OutputKeeps W.taken out.entry out.exit) }
-    ensures none_given { out.entry ≡ None → IfErr result IsBeforeOutput }
+    ensures headline { OfOutput W.taken W.has_failed out.entry out.exit (RunEnds result depth
+        (reader_end R.coming R.has_failed capture_reader.old capture_reader.new)
+        (reader_end S.coming S.has_failed script_reader.old script_reader.new)
+        (writer_end P.taken P.has_failed replies.old replies.new)) }
 {
     let script_run = run_script(alloc, capture_reader, script_reader, replies, depth)?;
     let summary = Summary {
@@ -108,24 +80,15 @@ fn run_script<R: Source, S: Source, P: Sink>(
         (λ file. IfSome (S.coming script_reader.old) (λ script.
         ScriptGives file script depth script_run.refused
         (Appends (P.taken replies.old) (P.taken replies.new)) script_run.session.now))) }
-    ensures stopped_at_line { IfErr result (λ e. IfNoMemory e (λ line. 1 ≤ line → RunStopsAtLine
-        (R.coming capture_reader.old) (S.coming script_reader.old) depth line
-        (Appends (P.taken replies.old) (P.taken replies.new)))) }
-    ensures stopped_in_replies { IfErr result (λ e. IfReplyFault e (λ count. RunStopsInReplies
-        (R.coming capture_reader.old) (S.coming script_reader.old) depth count
-        (Appends (P.taken replies.old) (P.taken replies.new)))) }
-
-    ensures accepted { IsBehindCapture result →
-        IfSome (R.coming capture_reader.old) IsAcceptedCapture }
-    ensures capture { LeavesCaptureReader result
-        (R.coming capture_reader.old) (R.coming capture_reader.new)
-        (R.has_failed capture_reader.new) }
-    ensures script { LeavesScriptReader result
-        (S.coming script_reader.old) (S.coming script_reader.new)
-        (S.has_failed script_reader.new) }
-    ensures replies { LeavesReplyWriter result
-        (P.taken replies.old) (P.taken replies.new) (P.has_failed replies.new) }
-    ensures before_output { IfErr result IsBeforeOutput }
+    ensures accepted { OnOk result (IsAccepted
+        (reader_end R.coming R.has_failed capture_reader.old capture_reader.new)) }
+    ensures whole { OnOk result (IsWholeScript
+        (reader_end S.coming S.has_failed script_reader.old script_reader.new)) }
+    ensures not_failed { OnOk result (P.has_failed replies.new ≡ false) }
+    ensures ended { IfErr result (EndsBeforeOutput depth
+        (reader_end R.coming R.has_failed capture_reader.old capture_reader.new)
+        (reader_end S.coming S.has_failed script_reader.old script_reader.new)
+        (writer_end P.taken P.has_failed replies.old replies.new)) }
 {
     let inputs = read_inputs(alloc, capture_reader, script_reader)?;
     let mut session = begin_session(alloc, inputs.capture, depth)?;

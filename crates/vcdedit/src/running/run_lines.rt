@@ -3,8 +3,7 @@
 ghost use Rattle.std.specs.Prelude.{◌≡◌, ◌≤◌, ◌<◌, ◌^◌, ℕ, false, true, length, IfOk, IfErr, OnOk};
 ghost use Rattle.std.specs.Io.KnownBytes.{Appends};
 ghost use Rattle.vcdedit.specs.Script.{script_lines};
-ghost use Rattle.vcdedit.specs.RunFaults.{IfReplyFault};
-ghost use Rattle.vcdedit.specs.inside.RunLines.{TellsLine, RunsLines, IsLineFault, ReplyStops, LineStops, LinesStop};
+ghost use Rattle.vcdedit.specs.inside.RunLines.{IfReplyFault, TellsLine, RunsLines, IsLineFault, ReplyStops, LineStops, LinesStop};
 
 use crate::replies::answer_line;
 use crate::running::RunError;

@@ -4,7 +4,7 @@ ghost use Rattle.std.specs.Prelude.{◌≡◌, ◌≤◌, false, true};
 ghost use Rattle.std.specs.Io.KnownBytes.{Appends};
 ghost use Rattle.clap.specs.Words.{kind_of};
 ghost use Rattle.clap.specs.declared.error.kind.ErrorKind.{ErrorKind as Kind};
-ghost use Rattle.vcdedit.specs.ProgramEnds.{IsEndingOfKind, asks_for_text as kind_asks_for_text, is_done, is_of_run, program_status, program_text};
+ghost use Rattle.vcdedit.specs.ProgramEnds.{IsEndingOfKind, asks_for_text as kind_asks_for_text, is_done, program_status, program_text};
 
 use crate::running::{RunError, Summary};
 use crate::shell::reporting::{report, report_refusal, status_when_done};
@@ -52,7 +52,8 @@ pub fn report_ending<E: Sink>(ending: Ending, errors: &mut E) -> u8
 pub fn ending_without_run<R: Runtime + AllocGlobal>(rt: &R, error: &Error) -> Ending
     ensures kind { IsEndingOfKind (kind_of error.now) result }
     ensures not_done { is_done result ≡ false }
-    ensures no_memory { kind_of error.now ≡ ErrorKind.OutOfMemory → is_of_run result ≡ true }
+    ensures no_memory { kind_of error.now ≡ ErrorKind.OutOfMemory →
+        result ≡ Ending.Failed NO_MEMORY }
 {
     if error.kind() == ErrorKind::OutOfMemory {
         return Ending::Failed(NO_MEMORY);

@@ -1,15 +1,14 @@
 //! The program: words in, files opened, a status out.
 
-ghost use Rattle.std.specs.Prelude.{◌≡◌, ◌≤◌, true, false, [], None, map, IfOk, IfErr};
-ghost use Rattle.std.specs.List.{concat};
-ghost use Rattle.std.specs.Io.Buffered.{writer_inner, writer_buffer, writer_capacity};
-ghost use Rattle.std.specs.Io.KnownBytes.{Appends};
+ghost use Rattle.std.specs.Prelude.{◌≡◌, ◌≤◌, ◌⊎◌, ℕ, true, false, List, [], Option, is_some, Err, map, IfOk, IfErr, IsErr};
+ghost use Rattle.std.specs.Io.Buffered.{writer_inner, writer_buffer, writer_capacity, writer_contents};
+ghost use Rattle.std.specs.Io.KnownBytes.{Appends, Keeps};
 ghost use Rattle.std.specs.String.{string_bytes};
 ghost use Rattle.clap.specs.Words.{fault_of};
-ghost use Rattle.vcdedit.specs.CommandLine.{option_app};
-ghost use Rattle.vcdedit.specs.ProgramEnds.{is_done, is_of_run, program_status, program_text};
-ghost use Rattle.vcdedit.specs.RunFaults.{IsBeforeOutput};
-ghost use Rattle.vcdedit.specs.RunEnds.{LeavesCaptureReader, LeavesScriptReader, LeavesReplyWriter, IfRunWrites};
+ghost use Rattle.vcdedit.specs.CommandLine.{option_app, options_in};
+ghost use Rattle.vcdedit.specs.ProgramEnds.{is_done, ending_of, IsRunOn, IsOutcome, IsEndingOf, program_status, program_text};
+ghost use Rattle.vcdedit.specs.RunEnds.{WriterEnd, reader_end, writer_end, RunEnds};
+ghost use Rattle.vcdedit.specs.inside.SentReplies.{HasSentReplies};
 ghost use Rattle.vcdedit.specs.declared.shell.ending.Ending.{Ending as ProgramEnding};
 
 use crate::running::{RunError, Summary, run};
@@ -38,8 +37,12 @@ const NOT_OPENED: RunError = RunError::Capture(ReadError {
 pub fn status_of_program<R: Runtime + AllocGlobal, E: Sink>(rt: &R, errors: &mut E) -> u8
     requires { E.has_failed errors.old ≡ false }
     ensures most { result ≤ 5 }
-    // the status and the text are those of one and the same ending
-    ensures told { (ending : ProgramEnding) × (result ≡ program_status ending) ×
+    // the status and the text are those of one and the same ending; where it is that of a run that reached its
+    // end, some words asked for that run, and it had that ending
+    ensures told { (ending : ProgramEnding) ×
+        (is_done ending ≡ true → (words : List (List ℕ)) ×
+        (fault_of option_app words ≡ []) × IsEndingOf words ending) ×
+        (result ≡ program_status ending) ×
         (E.has_failed errors.new ≡ false →
         Appends (E.taken errors.old) (E.taken errors.new) (program_text ending)) }
 {
@@ -75,9 +78,9 @@ fn ending_of_no_text<R: Runtime + AllocGlobal>(rt: &R) -> Ending
 
 /// Does what the words ask for. Where they ask for no run, nothing is opened.
 fn ending_of_words<R: Runtime + AllocGlobal>(rt: &R, words: &[String]) -> Ending
-    // words without a fault are not refused
+    // words without a fault are run
     ensures of_run { fault_of option_app (map string_bytes words.now) ≡ [] →
-        is_of_run result ≡ true }
+        IsEndingOf (map string_bytes words.now) result }
     // and only such words are run
     ensures done { is_done result ≡ true →
         fault_of option_app (map string_bytes words.now) ≡ [] }
@@ -89,7 +92,7 @@ fn ending_of_words<R: Runtime + AllocGlobal>(rt: &R, words: &[String]) -> Ending
 }
 
 fn ending_of_run(outcome: Result<Summary, RunError>) -> Ending
-    ensures { is_of_run result ≡ true }
+    ensures { result ≡ ending_of outcome }
 {
     match outcome {
         Ok(summary) => Ending::Done(summary),
@@ -101,7 +104,7 @@ fn ending_of_run(outcome: Result<Summary, RunError>) -> Ending
 fn run_options<R: Runtime + AllocGlobal>(rt: &R, options: &Options<'_>) -> Result<Summary, RunError>
     requires depth_least { 1 ≤ options.now.depth }
     requires depth_most { options.now.depth ≤ DEPTH_LIMIT }
-    ensures { options.now.output ≡ None → IfErr result IsBeforeOutput }
+    ensures { IsOutcome (options_in options.now) result }
 {
     let capture = open_capture(rt, options.input).map_err(|_| NOT_OPENED)?;
     let script = open_script(rt, options.script).map_err(|_| RunError::ScriptReadFault)?;
@@ -126,19 +129,51 @@ fn run_inputs<R: Runtime + AllocGlobal, C: Source, S: Source>(
     requires depth_most { depth ≤ DEPTH_LIMIT }
     requires capture_ready { C.has_failed capture.old ≡ false }
     requires script_ready { S.has_failed script.old ≡ false }
-    ensures no_output { output.entry ≡ None → IfErr result IsBeforeOutput }
-    ensures refused { IfOk result (λ summary. IfRunWrites
-        (C.coming capture.old) (S.coming script.old) depth
-        (λ written. summary.refused ≡ written.refused)) }
-    ensures capture { LeavesCaptureReader result
-        (C.coming capture.old) (C.coming capture.new) (C.has_failed capture.new) }
-    ensures script { LeavesScriptReader result
-        (S.coming script.old) (S.coming script.new) (S.has_failed script.new) }
+    ensures { (result ≡ Err NO_MEMORY) ⊎ IsRunOn output.entry result depth
+        (reader_end C.coming C.has_failed capture.old capture.new)
+        (reader_end S.coming S.has_failed script.old script.new) }
 {
-    let mut replies = ToWrite::new(new_buffer(rt, io::writer(rt))?);
-    let result = run_devices(rt, capture, script, &mut replies, output, depth);
-    close_device(replies);
-    result
+    let buffer = new_buffer(rt, io::writer(rt))?;
+    let EndedRun { ending, .. } = run_gathered(rt, capture, script, buffer, output, depth);
+    ending
+}
+
+/// How a run ended, and the writer behind the buffer of its replies.
+#[derive(Drop)]
+struct EndedRun<W> {
+    ending: Result<Summary, RunError>,
+    /// An `Err` after a failure: something that was gathered may not have gone out.
+    replies: Result<W, W>,
+}
+
+/// Runs with the replies gathered in a buffer. What it has in the end goes to the writer behind it, also where
+/// memory ran out.
+fn run_gathered<R: Runtime + AllocGlobal, C: Source, S: Source, W: Write + Drop>(
+    rt: &R,
+    capture: &mut C,
+    script: &mut S,
+    buffer: BufWriter<W>,
+    output: Option<&str>,
+    depth: u64,
+) -> EndedRun<W>
+    requires depth_least { 1 ≤ depth }
+    requires depth_most { depth ≤ DEPTH_LIMIT }
+    requires capture_ready { C.has_failed capture.old ≡ false }
+    requires script_ready { S.has_failed script.old ≡ false }
+    ensures ends { IsRunOn output.entry result.ending depth
+        (reader_end C.coming C.has_failed capture.old capture.new)
+        (reader_end S.coming S.has_failed script.old script.new) }
+    ensures sent { IfOk result.replies (λ writer. HasSentReplies result.ending depth
+        (reader_end C.coming C.has_failed capture.old capture.new)
+        (reader_end S.coming S.has_failed script.old script.new)
+        (writer_contents W.contents buffer) (W.contents writer)) }
+{
+    let mut device = ToWrite::new(buffer);
+    let ending = run_devices(rt, capture, script, &mut device, output, depth);
+    EndedRun {
+        ending,
+        replies: close_device(device),
+    }
 }
 
 /// Runs with the file at `output` for the output, where one is named.
@@ -155,18 +190,10 @@ fn run_devices<R: Runtime + AllocGlobal, C: Source, S: Source, P: Sink>(
     requires capture_ready { C.has_failed capture.old ≡ false }
     requires script_ready { S.has_failed script.old ≡ false }
     requires replies_ready { P.has_failed replies.old ≡ false }
-    ensures no_output { output.entry ≡ None → IfErr result IsBeforeOutput }
-    ensures replied { IfOk result (λ summary. IfRunWrites
-        (C.coming capture.old) (S.coming script.old) depth
-        (λ written.
-        Appends (P.taken replies.old) (P.taken replies.new) (concat written.replies) ×
-        (summary.refused ≡ written.refused))) }
-    ensures capture { LeavesCaptureReader result
-        (C.coming capture.old) (C.coming capture.new) (C.has_failed capture.new) }
-    ensures script { LeavesScriptReader result
-        (S.coming script.old) (S.coming script.new) (S.has_failed script.new) }
-    ensures replies { LeavesReplyWriter result
-        (P.taken replies.old) (P.taken replies.new) (P.has_failed replies.new) }
+    ensures { (out : Option WriterEnd) × (is_some out ≡ is_some output.entry) × RunEnds result depth
+        (reader_end C.coming C.has_failed capture.old capture.new)
+        (reader_end S.coming S.has_failed script.old script.new)
+        (writer_end P.taken P.has_failed replies.old replies.new) out }
 {
     // no buffer, since `write` of `vcd_text` has its own
     let mut out = match output {
@@ -186,9 +213,18 @@ fn new_buffer<R: AllocGlobal, W: Write + Drop>(rt: &R, writer: W) -> Result<BufW
     BufWriter::with_capacity(rt.alloc(), BUFFER, writer).map_err(|_| NO_MEMORY)
 }
 
-/// Lets a device go. What it gathered still goes out, but nothing more after a failure.
-fn close_device<W: Write + Drop>(device: ToWrite<BufWriter<W>>) {
+/// Sends what a device gathered to the writer behind it, and gives that writer back: as an `Err` after a
+/// failure, behind which nothing more is sent.
+fn close_device<W: Write + Drop>(device: ToWrite<BufWriter<W>>) -> Result<W, W>
+    ensures sent { IfOk result (λ writer.
+        Keeps (⟦<ToWrite<BufWriter<W>> as Sink>⟧.taken device) (W.contents writer)) }
+    ensures failed { ⟦<ToWrite<BufWriter<W>> as Sink>⟧.has_failed device ≡ true → IsErr result }
+{
     if device.failed() {
-        let _ = device.into_inner().into_parts();
+        return Err(device.into_inner().into_parts().0);
+    }
+    match device.into_inner().into_inner() {
+        Ok(writer) => Ok(writer),
+        Err(error) => Err(error.into_inner().into_parts().0),
     }
 }

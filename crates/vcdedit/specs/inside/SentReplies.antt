@@ -1,0 +1,16 @@
+-- What the writer behind a buffer has taken after a run: the project's own.
+use Rattle.std.specs.Prelude.{ℕ, suc, List, take, Option, Result, Ok, Err}
+use Rattle.std.specs.List.{concat}
+use Rattle.std.specs.Io.KnownBytes.{Appends}
+use Rattle.vcdedit.specs.declared.running.run_error.RunError.{RunError}
+use Rattle.vcdedit.specs.declared.running.run_error.RunError.TheVariants as run_errors
+use Rattle.vcdedit.specs.declared.running.run_error.Summary.{Summary}
+use Rattle.vcdedit.specs.RunEnds.{ReaderEnd, OfRun}
+
+-- all replies, or where memory ran out at a line those to the lines before it
+abbrev pub HasSentReplies : Result Summary RunError → (depth : ℕ) → (capture script : ReaderEnd) → (before after : Option (List ℕ)) → Type 0
+HasSentReplies (Ok summary) depth capture script before after =
+    OfRun capture script depth (λ written. Appends before after (concat written.replies))
+HasSentReplies (Err (run_errors.NoMemory (suc count))) depth capture script before after =
+    OfRun capture script depth (λ written. Appends before after (concat (take count written.replies)))
+HasSentReplies _ depth capture script before after = Unit {0}
