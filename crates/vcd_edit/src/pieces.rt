@@ -3,8 +3,9 @@
 mod exchanges;
 mod growth;
 mod seams;
+mod spare_room;
 mod trimming;
 
-pub(crate) use exchanges::put_pieces;
 pub(crate) use growth::reserve_all;
 pub(crate) use seams::piece_stands;
+pub(crate) use spare_room::exchange_pieces;

@@ -9,7 +9,7 @@ ghost use Rattle.vcd_edit.specs.inside.Opposites.{LeadsOtherWay};
 
 mod parts;
 
-use crate::pieces::{put_pieces, reserve_all};
+use crate::pieces::{exchange_pieces, reserve_all};
 use crate::record::Record;
 use parts::{exchange_end, exchange_signal, exchange_word};
 use std::alloc::Global;
@@ -54,7 +54,7 @@ pub(crate) fn exchange_record(
     }
     match exchange_signal(alloc, capture, signal) {
         Ok(signal) => {
-            put_pieces(capture, &mut pieces);
+            exchange_pieces(capture, &mut pieces);
             let word = exchange_word(capture, word);
             let other_end = exchange_end(capture, other_end);
             Ok(Record {

@@ -25,8 +25,8 @@ reserve_all-requires-clause-ordered c =
     subst (All (λ (p : Piece). p.from ≤ p.to)) (sym c.as_mut_slice.ensures.value)
     (λ k d less. (fits_each now c.way.inside.pieces.items fits.pieces k d less).ordered)
 
-pub put_pieces-requires-clause-ready : goal.put_pieces-requires-clause-ready
-put_pieces-requires-clause-ready c =
+pub exchange_pieces-requires-clause-ready : goal.exchange_pieces-requires-clause-ready
+exchange_pieces-requires-clause-ready c =
     let now = contents c.args.capture.now in
     let v = record_view c.way.inside.pieces.items c.way.inside.word c.way.inside.signal c.way.inside.other_end in
     let fits : Fits v now = subst (λ r. Fits r now) (sym c.way.view_is) c.requires.fits in
@@ -43,7 +43,7 @@ exchange_word-word-requires-clause-fits c =
     let pieces = whole_list c.way.inside.pieces.len c.reserve_all.new.pieces c.way.inside.pieces.items (omega (arith, c.as_mut_slice.ensures.len, c.reserve_all.auto.pieces)) in
     let whole = ap (map piece_view) pieces ∙ c.reserve_all.ensures.pieces ∙ ap (map piece_view) c.as_mut_slice.ensures.value in
     let moved : contents c.exchange_signal.new.capture ≡ with_moved_signal v.signal now = c.in-Ok.ensures.there ∙ ap (with_moved_signal v.signal) c.reserve_all.ensures.contents in
-    word_fits_then now v fits c.way.invariant c.requires.sound _ whole (contents c.exchange_signal.new.capture) moved (contents c.put_pieces.new.capture) c.put_pieces.ensures.there
+    word_fits_then now v fits c.way.invariant c.requires.sound _ whole (contents c.exchange_signal.new.capture) moved (contents c.exchange_pieces.new.capture) c.exchange_pieces.ensures.there
 
 pub exchange_word-word-requires-clause-named : goal.exchange_word-word-requires-clause-named
 exchange_word-word-requires-clause-named c =
@@ -53,7 +53,7 @@ exchange_word-word-requires-clause-named c =
     let pieces = whole_list c.way.inside.pieces.len c.reserve_all.new.pieces c.way.inside.pieces.items (omega (arith, c.as_mut_slice.ensures.len, c.reserve_all.auto.pieces)) in
     let whole = ap (map piece_view) pieces ∙ c.reserve_all.ensures.pieces ∙ ap (map piece_view) c.as_mut_slice.ensures.value in
     let moved : contents c.exchange_signal.new.capture ≡ with_moved_signal v.signal now = c.in-Ok.ensures.there ∙ ap (with_moved_signal v.signal) c.reserve_all.ensures.contents in
-    word_named_then now v fits c.way.invariant c.requires.sound _ whole (contents c.exchange_signal.new.capture) moved (contents c.put_pieces.new.capture) c.put_pieces.ensures.there
+    word_named_then now v fits c.way.invariant c.requires.sound _ whole (contents c.exchange_signal.new.capture) moved (contents c.exchange_pieces.new.capture) c.exchange_pieces.ensures.there
 
 pub invariant_of-result : goal.invariant_of-result
 invariant_of-result c =
@@ -64,10 +64,10 @@ invariant_of-result c =
     let whole = ap (map piece_view) pieces ∙ c.reserve_all.ensures.pieces ∙ ap (map piece_view) c.as_mut_slice.ensures.value in
     let moved : contents c.exchange_signal.new.capture ≡ with_moved_signal v.signal now = c.in-Ok.ensures.there ∙ ap (with_moved_signal v.signal) c.reserve_all.ensures.contents in
     let signal : moved_signal_view c.in-Ok.signal ≡ opposite_move v.signal now = c.in-Ok.ensures.back ∙ ap (opposite_move v.signal) c.reserve_all.ensures.contents in
-    let q = record_view c.put_pieces.new.pieces.items c.exchange_word-word.result c.in-Ok.signal c.exchange_end-other_end.result in
-    is_record_then now v fits c.way.invariant c.requires.sound _ whole (contents c.exchange_signal.new.capture) moved (contents c.put_pieces.new.capture) c.put_pieces.ensures.there
-    (contents c.exchange_word-word.new.capture) (contents c.exchange_end-other_end.new.capture) c.exchange_word-word.ensures.there c.exchange_end-other_end.ensures.there c.put_pieces.ensures.back.0 c.put_pieces.ensures.back.2 q
-    c.put_pieces.ensures.back.1 c.exchange_word-word.ensures.back signal c.exchange_end-other_end.ensures.back
+    let q = record_view c.exchange_pieces.new.pieces.items c.exchange_word-word.result c.in-Ok.signal c.exchange_end-other_end.result in
+    is_record_then now v fits c.way.invariant c.requires.sound _ whole (contents c.exchange_signal.new.capture) moved (contents c.exchange_pieces.new.capture) c.exchange_pieces.ensures.there
+    (contents c.exchange_word-word.new.capture) (contents c.exchange_end-other_end.new.capture) c.exchange_word-word.ensures.there c.exchange_end-other_end.ensures.there c.exchange_pieces.ensures.back.0 c.exchange_pieces.ensures.back.2 q
+    c.exchange_pieces.ensures.back.1 c.exchange_word-word.ensures.back signal c.exchange_end-other_end.ensures.back
 
 pub returns-in-Ok-clause-back : goal.returns-in-Ok-clause-back
 returns-in-Ok-clause-back c =
@@ -77,7 +77,7 @@ returns-in-Ok-clause-back c =
     let pieces = whole_list c.way.inside.pieces.len c.reserve_all.new.pieces c.way.inside.pieces.items (omega (arith, c.as_mut_slice.ensures.len, c.reserve_all.auto.pieces)) in
     let whole = ap (map piece_view) pieces ∙ c.reserve_all.ensures.pieces ∙ ap (map piece_view) c.as_mut_slice.ensures.value in
     let moved : contents c.exchange_signal.new.capture ≡ with_moved_signal v.signal now = c.in-Ok.ensures.there ∙ ap (with_moved_signal v.signal) c.reserve_all.ensures.contents in
-    end_is_back now v fits c.way.invariant c.requires.sound _ whole (contents c.exchange_signal.new.capture) moved (contents c.put_pieces.new.capture) c.put_pieces.ensures.there
+    end_is_back now v fits c.way.invariant c.requires.sound _ whole (contents c.exchange_signal.new.capture) moved (contents c.exchange_pieces.new.capture) c.exchange_pieces.ensures.there
     (contents c.exchange_word-word.new.capture) (contents c.exchange_end-other_end.new.capture) c.exchange_word-word.ensures.there c.exchange_end-other_end.ensures.there
     ∙ ap (λ r. back r now) c.way.view_is
 
@@ -90,8 +90,8 @@ returns-in-Ok-clause-opposite c =
     let whole = ap (map piece_view) pieces ∙ c.reserve_all.ensures.pieces ∙ ap (map piece_view) c.as_mut_slice.ensures.value in
     let moved : contents c.exchange_signal.new.capture ≡ with_moved_signal v.signal now = c.in-Ok.ensures.there ∙ ap (with_moved_signal v.signal) c.reserve_all.ensures.contents in
     let signal : moved_signal_view c.in-Ok.signal ≡ opposite_move v.signal now = c.in-Ok.ensures.back ∙ ap (opposite_move v.signal) c.reserve_all.ensures.contents in
-    let q = record_view c.put_pieces.new.pieces.items c.exchange_word-word.result c.in-Ok.signal c.exchange_end-other_end.result in
+    let q = record_view c.exchange_pieces.new.pieces.items c.exchange_word-word.result c.in-Ok.signal c.exchange_end-other_end.result in
     subst (λ r. LeadsOtherWay now r q) c.way.view_is
-    (leads_then now v fits c.way.invariant c.requires.sound _ whole (contents c.exchange_signal.new.capture) moved (contents c.put_pieces.new.capture) c.put_pieces.ensures.there
-    (contents c.exchange_word-word.new.capture) (contents c.exchange_end-other_end.new.capture) c.exchange_word-word.ensures.there c.exchange_end-other_end.ensures.there c.put_pieces.ensures.back.0 c.put_pieces.ensures.back.2 q
-    c.put_pieces.ensures.back.1 c.exchange_word-word.ensures.back signal c.exchange_end-other_end.ensures.back)
+    (leads_then now v fits c.way.invariant c.requires.sound _ whole (contents c.exchange_signal.new.capture) moved (contents c.exchange_pieces.new.capture) c.exchange_pieces.ensures.there
+    (contents c.exchange_word-word.new.capture) (contents c.exchange_end-other_end.new.capture) c.exchange_word-word.ensures.there c.exchange_end-other_end.ensures.there c.exchange_pieces.ensures.back.0 c.exchange_pieces.ensures.back.2 q
+    c.exchange_pieces.ensures.back.1 c.exchange_word-word.ensures.back signal c.exchange_end-other_end.ensures.back)
