@@ -28,15 +28,6 @@ fn words_and_lines(rt: HostRuntime) -> Result<(), Fail> {
     Ok(())
 }
 
-/// A text that line feeds come before goes on with their count.
-#[test]
-fn words_behind_line_feeds(rt: HostRuntime) -> Result<(), Fail> {
-    let mut words = Words::behind(b"\n#5", 6);
-    check_word(&rt, words.next_word().ok_or("no word")?, "8 #5")?;
-    assert!(rt; words.next_word().is_none());
-    Ok(())
-}
-
 /// A text, the most that it may be, and its number up to that; `-` where it is none.
 const NUMBERS: &str = "\
 0 9 0

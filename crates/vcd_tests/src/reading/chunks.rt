@@ -1,9 +1,10 @@
 //! Files that come in chunks: words over the seams, and how often a reader is asked.
 
-use super::{PIECES, check_rewritten};
+use super::{PIECES, check_answer, check_rewritten};
 use crate::fake_devices::{FakeReader, NEVER, source_of};
 use crate::fixtures::append_copies;
 use std::alloc::Global;
+use std::process::Abort;
 use std::test::Fail;
 use vcd_text::read;
 
@@ -25,6 +26,61 @@ fn words_over_the_seams(rt: HostRuntime) -> Result<(), Fail> {
     let file = over_seams(rt.alloc())?;
     for piece in PIECES {
         check_rewritten(&rt, rt.alloc(), file.as_slice(), piece, 0, file.as_slice())?;
+    }
+    Ok(())
+}
+
+/// How many line feeds stand between `$comment` and a word, and how many bytes the word has: it ends before the
+/// buffer's end, at it, and behind it; begins at its last byte, and behind it; fills it; and is longer.
+const WORDS_AT_THE_END: &str = "\
+1 4086
+1 4087
+1 4088
+4087 1
+4088 1
+4087 2
+4087 4095
+4087 4096
+4087 4097
+4088 4095
+4088 4096
+4088 4097
+1 8183
+1 8184
+4088 12288
+3 20000";
+
+/// Stops where a row's word is not kept, or the line behind it is another: that of the word that follows, which may
+/// not stand there, or that of the end, where the file breaks off behind the word.
+fn check_word_at_end(rt: &impl Abort, alloc: Global, row: &str) -> Result<(), Fail> {
+    let (feeds, bytes) = row.split_once(' ').ok_or("no length")?;
+    let feeds = feeds.parse::<usize>()?;
+    let bytes = bytes.parse::<usize>()?;
+    let mut file = Vec::new(alloc);
+    file.extend_from_slice(b"$comment")?;
+    append_copies(&mut file, b"\n", feeds)?;
+    append_copies(&mut file, b"w", bytes)?;
+    let answer = format!(in alloc; "{} Truncated", feeds.saturating_add(1))?;
+    check_answer(rt, alloc, file.as_slice(), false, answer.as_str())?;
+    file.extend_from_slice(b"\n$end #0")?;
+    let answer = format!(in alloc; "{} UnexpectedWord", feeds.saturating_add(2))?;
+    check_answer(rt, alloc, file.as_slice(), false, answer.as_str())?;
+    file.truncate(file.len().saturating_sub(b"#0".len()));
+    file.extend_from_slice(b"$enddefinitions $end #0")?;
+    let mut text = Vec::new(alloc);
+    text.extend_from_slice(b"$comment ")?;
+    append_copies(&mut text, b"w", bytes)?;
+    text.extend_from_slice(b" $end\n$enddefinitions $end\n#0\n$dumpvars\n$end\n")?;
+    for piece in PIECES {
+        check_rewritten(rt, alloc, file.as_slice(), piece, 0, text.as_slice())?;
+    }
+    Ok(())
+}
+
+#[test]
+fn words_at_the_buffers_end(rt: HostRuntime) -> Result<(), Fail> {
+    for row in WORDS_AT_THE_END.lines() {
+        check_word_at_end(&rt, rt.alloc(), row)?;
     }
     Ok(())
 }
