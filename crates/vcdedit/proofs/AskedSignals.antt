@@ -18,12 +18,15 @@ use Rattle.vcdedit.specs.declared.script.keyword.Keyword.TheVariants as keywords
 use Rattle.vcdedit.specs.declared.script.line_error.LineError.{LineError}
 use Rattle.vcdedit.specs.declared.script.line_error.LineError.TheVariants.{UnknownCommand, BadOption, NotScalar}
 use Rattle.vcdedit.specs.ScriptWords.{signal_of_name, number_of_word, distance_of_word, value_of_word}
-use Rattle.vcdedit.specs.LineWords.{◌>>=◌, no_word, one_word, two_words, four_words, five_words, seven_words}
+use Rattle.vcdedit.specs.LineWords.{◌>>=◌}
+use Rattle.vcdedit.specs.inside.WordCounts.{no_word, one_word, two_words, four_words, five_words, seven_words}
 use Rattle.vcdedit.specs.DecoderWords.{ratio_of_word, parity_of_word, order_of_word, signal_or_absent, one_bit_signal, one_bit_signal_or_absent, faultless_uart, faultless_spi}
-use Rattle.vcdedit.specs.DecoderCommands.{uart_command, spi_command, i2c_command}
-use Rattle.vcdedit.specs.ScriptCommands.{pair_command, rule_command, derive_command, command_of, command_of_words, keyword_of, is_comment}
+use Rattle.vcdedit.specs.inside.ParsedDecoders.{uart_command, spi_command, i2c_command}
+use Rattle.vcdedit.specs.ScriptCommands.{is_comment}
+use Rattle.vcdedit.proofs.KeywordCommands.{words_are}
+use Rattle.vcdedit.specs.inside.ParsedCommands.{pair_command, rule_command, derive_command, keyword_command, words_command, keyword_in_tables}
 use Rattle.vcdedit.specs.CommandSignals.{IsScalarAt, HasItsSignals}
-use Rattle.vcdedit.specs.Lent.{command_without_address}
+use Rattle.vcdedit.specs.Addressless.{command_without_address}
 use Rattle.vcdedit.specs.Script.{command_of_line, line_words}
 use Rattle.vcdedit.proofs.NamedSignals.{named_within}
 
@@ -181,7 +184,7 @@ of_i2c c words = of_two (contents c) words _ (λ scl sda.
     read_on (contents c) (one_bit_signal (contents c) j) (IsScalarAt (contents c)) _ (one_bit (contents c) j scl_within) (λ clock scl_is.
     read_on (contents c) (one_bit_signal (contents c) k) (IsScalarAt (contents c)) _ (one_bit (contents c) k sda_within) (λ line sda_is. record { has = (scl_is, sda_is) })))))
 
-of_keyword : (c : Capture) (keyword : Keyword) (words : List (List ℕ)) → GivesSignals (contents c) (command_of (contents c) keyword words)
+of_keyword : (c : Capture) (keyword : Keyword) (words : List (List ℕ)) → GivesSignals (contents c) (keyword_command (contents c) keyword words)
 of_keyword c keywords.Rename words = of_two _ words _ (λ name word. then_any _ (signal_of_name (contents c) name) _ (λ k. steps _ _))
 of_keyword c keywords.Remove words = of_one _ words _ (λ name. then_any _ (signal_of_name (contents c) name) _ (λ k. steps _ _))
 of_keyword c keywords.Invert words = of_one _ words _ (λ name. then_any _ (signal_of_name (contents c) name) _ (λ k. steps _ _))
@@ -202,13 +205,13 @@ of_keyword c keywords.Uart words = of_uart c words
 of_keyword c keywords.Spi words = of_spi c words
 of_keyword c keywords.I2c words = of_i2c c words
 
-of_words : (c : Capture) (words : List (List ℕ)) → GivesSignals (contents c) (command_of_words (contents c) words)
+of_words : (c : Capture) (words : List (List ℕ)) → GivesSignals (contents c) (words_command (contents c) words)
 of_words c [] = record { has = tt }
-of_words c (first ∷ arguments) = either _ (is_comment first) _ _ (record { has = tt }) (then_any _ (ok_or (keyword_of first) UnknownCommand) _ (λ keyword. of_keyword c keyword arguments))
+of_words c (first ∷ arguments) = either _ (is_comment first) _ _ (record { has = tt }) (then_any _ (ok_or (keyword_in_tables first) UnknownCommand) _ (λ keyword. of_keyword c keyword arguments))
 
 of_line : (c : Capture) (line : List ℕ) → GivesSignals (contents c) (command_of_line (contents c) line)
 unfolding command_of_line
-of_line c line = of_words c (line_words line)
+of_line c line = subst (GivesSignals (contents c)) (sym (words_are (contents c) (line_words line))) (of_words c (line_words line))
 
 without_address : (c : Contents) (command : Command) → HasItsSignals c (command_without_address command) → HasItsSignals c command
 without_address c commands.Nothing has = tt

@@ -3,6 +3,7 @@ pub mod Steps
 pub mod ScriptNumbers
 pub mod NamedSignals
 pub mod AskedSignals
+pub mod KeywordCommands
 pub mod PrintedSignals
 pub mod CasesOfLines
 pub mod CasesOfQueries

@@ -1,10 +1,10 @@
 -- The definitions of vcdedit, from a line of a script to a whole run and what is reported of it.
 pub mod LineErrorNames
 pub mod Lent
+pub mod Addressless
 pub mod ScriptWords
 pub mod LineWords
 pub mod DecoderWords
-pub mod DecoderCommands
 pub mod ScriptCommands
 pub mod Script
 pub mod Queries

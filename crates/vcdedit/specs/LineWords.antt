@@ -1,41 +1,9 @@
--- The words behind the first of a line: how many there are, and the first fault of several: the project's own.
-use Rattle.std.specs.Prelude.{ℕ, List, [], ◌∷◌, Result, Ok, Err}
-use Rattle.vcdedit.specs.declared.script.command.Command.{Command}
+-- The words of a line, read one after another up to the first fault: the project's own.
+use Rattle.std.specs.Prelude.{Result, Ok, Err}
 use Rattle.vcdedit.specs.declared.script.line_error.LineError.{LineError}
-use Rattle.vcdedit.specs.declared.script.line_error.LineError.TheVariants.{WrongCount}
 
 -- what is read on, or the first fault
 infixl 10 ◌>>=◌
 abbrev pub ◌>>=◌ : {A B : Type 0} → Result A LineError → (A → Result B LineError) → Result B LineError
 (Ok x) >>= f = f x
 (Err fault) >>= f = Err fault
-
--- what no word asks for; any is one too many
-abbrev pub no_word : List (List ℕ) → Result Command LineError → Result Command LineError
-no_word [] asked = asked
-no_word (word ∷ words) asked = Err WrongCount
-
--- what just one word asks for
-abbrev pub one_word : List (List ℕ) → (List ℕ → Result Command LineError) → Result Command LineError
-one_word (first ∷ []) asked = asked first
-one_word words asked = Err WrongCount
-
--- what just two words ask for
-abbrev pub two_words : List (List ℕ) → (List ℕ → List ℕ → Result Command LineError) → Result Command LineError
-two_words (first ∷ second ∷ []) asked = asked first second
-two_words words asked = Err WrongCount
-
--- what just four words ask for
-abbrev pub four_words : List (List ℕ) → (List ℕ → List ℕ → List ℕ → List ℕ → Result Command LineError) → Result Command LineError
-four_words (first ∷ second ∷ third ∷ fourth ∷ []) asked = asked first second third fourth
-four_words words asked = Err WrongCount
-
--- what just five words ask for
-abbrev pub five_words : List (List ℕ) → (List ℕ → List ℕ → List ℕ → List ℕ → List ℕ → Result Command LineError) → Result Command LineError
-five_words (first ∷ second ∷ third ∷ fourth ∷ fifth ∷ []) asked = asked first second third fourth fifth
-five_words words asked = Err WrongCount
-
--- what just seven words ask for
-abbrev pub seven_words : List (List ℕ) → (List ℕ → List ℕ → List ℕ → List ℕ → List ℕ → List ℕ → List ℕ → Result Command LineError) → Result Command LineError
-seven_words (first ∷ second ∷ third ∷ fourth ∷ fifth ∷ sixth ∷ seventh ∷ []) asked = asked first second third fourth fifth sixth seventh
-seven_words words asked = Err WrongCount

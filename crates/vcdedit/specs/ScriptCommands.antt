@@ -1,8 +1,10 @@
 -- What the words of a line ask for: the project's own.
-use Rattle.std.specs.Prelude.{ℕ, Bool, false, ◌==◌, if◌then◌else◌, List, [], ◌∷◌, Option, find, option_map, Result, Ok, Err, codes}
-use Rattle.std.specs.Option.{ok_or, option_or}
+use Rattle.std.specs.Prelude.{ℕ, Bool, false, ◌==◌, if◌then◌else◌, List, [], ◌∷◌, ◌++◌, Option, find, option_map, Result, Ok, Err, codes}
+use Rattle.std.specs.Option.{ok_or}
 use Rattle.std.specs.Str.{bytes_eq}
 use Rattle.vcd_core.specs.Contents.{Contents, signal_at}
+use Rattle.vcd_decode.specs.UartSetup.{uart_setup}
+use Rattle.vcd_decode.specs.SpiSetup.{spi_setup}
 use Rattle.vcd_edit.specs.declared.edit.Edit.{Edit}
 use Rattle.vcd_edit.specs.declared.edit.Edit.TheVariants.{Rename, Remove, Invert, Shift, Cut, Deglitch, Force, Derive}
 use Rattle.vcd_edit.specs.declared.edit.Rule.{Rule}
@@ -16,57 +18,25 @@ use Rattle.vcdedit.specs.declared.script.keyword.Keyword.TheVariants as keywords
 use Rattle.vcdedit.specs.declared.script.line_error.LineError.{LineError}
 use Rattle.vcdedit.specs.declared.script.line_error.LineError.TheVariants.{UnknownCommand, WrongCount, BadOption}
 use Rattle.vcdedit.specs.Lent.{lent_bytes}
-use Rattle.vcdedit.specs.DecoderCommands.{uart_command, spi_command, i2c_command}
-use Rattle.vcdedit.specs.LineWords.{◌>>=◌, no_word, one_word, two_words, four_words}
+use Rattle.vcdedit.specs.LineWords.{◌>>=◌}
 use Rattle.vcdedit.specs.ScriptWords.{signal_of_name, number_of_word, distance_of_word, value_of_word}
+use Rattle.vcdedit.specs.DecoderWords.{ratio_of_word, parity_of_word, order_of_word, signal_or_absent, one_bit_signal, one_bit_signal_or_absent, faultless_uart, faultless_spi}
 
 -- ---- the first word
 
--- the keyword of a word in a table
-abbrev pub keyword_in : List (List ℕ × Keyword) → List ℕ → Option Keyword
-keyword_in table word = option_map (λ row. row.1) (find (λ row. bytes_eq word row.0) table)
-
--- the commands that edit
-abbrev pub edit_keywords : List (List ℕ × Keyword)
-edit_keywords =
-    (codes "rename", keywords.Rename)
-    ∷ (codes "remove", keywords.Remove)
-    ∷ (codes "invert", keywords.Invert)
-    ∷ (codes "shift", keywords.Shift)
-    ∷ (codes "cut", keywords.Cut)
-    ∷ (codes "deglitch", keywords.Deglitch)
-    ∷ (codes "force", keywords.Force)
-    ∷ (codes "derive", keywords.Derive)
-    ∷ []
-
--- the commands on the history
-abbrev pub history_keywords : List (List ℕ × Keyword)
-history_keywords =
-    (codes "undo", keywords.Undo)
-    ∷ (codes "redo", keywords.Redo)
-    ∷ (codes "depth", keywords.Depth)
-    ∷ []
-
--- the commands that ask about the capture
-abbrev pub query_keywords : List (List ℕ × Keyword)
-query_keywords =
-    (codes "list", keywords.List)
-    ∷ (codes "value", keywords.Value)
-    ∷ (codes "changes", keywords.Changes)
-    ∷ []
-
--- the commands that decode signals
-abbrev pub decoder_keywords : List (List ℕ × Keyword)
-decoder_keywords =
-    (codes "uart", keywords.Uart)
-    ∷ (codes "spi", keywords.Spi)
-    ∷ (codes "i2c", keywords.I2c)
-    ∷ []
+-- the word of each command
+abbrev pub keyword_words : List (List ℕ × Keyword)
+keyword_words =
+    (codes "rename", keywords.Rename) ∷ (codes "remove", keywords.Remove) ∷ (codes "invert", keywords.Invert)
+    ∷ (codes "shift", keywords.Shift) ∷ (codes "cut", keywords.Cut) ∷ (codes "deglitch", keywords.Deglitch)
+    ∷ (codes "force", keywords.Force) ∷ (codes "derive", keywords.Derive) ∷ (codes "undo", keywords.Undo)
+    ∷ (codes "redo", keywords.Redo) ∷ (codes "depth", keywords.Depth) ∷ (codes "list", keywords.List)
+    ∷ (codes "value", keywords.Value) ∷ (codes "changes", keywords.Changes) ∷ (codes "uart", keywords.Uart)
+    ∷ (codes "spi", keywords.Spi) ∷ (codes "i2c", keywords.I2c) ∷ []
 
 -- the command that a word names
 abbrev pub keyword_of : List ℕ → Option Keyword
-keyword_of word =
-    option_or (option_or (option_or (keyword_in edit_keywords word) (keyword_in history_keywords word)) (keyword_in query_keywords word)) (keyword_in decoder_keywords word)
+keyword_of word = option_map (λ row. row.1) (find (λ row. bytes_eq word row.0) keyword_words)
 
 -- whether a word begins with `#` (35)
 abbrev pub is_comment : List ℕ → Bool
@@ -83,145 +53,105 @@ step_command step = Ok (commands.Step step)
 abbrev pub edit_command : Edit → Result Command LineError
 edit_command e = step_command (steps.Edit e)
 
--- ---- edits of a signal
+-- the rule `RULE A B`, in which both are signals
+abbrev pub pair_rule : Contents → (ℕ → ℕ → Rule) → List (List ℕ) → Result Rule LineError
+pair_rule c rule (a ∷ b ∷ []) = do
+  j ← signal_of_name c a
+  k ← signal_of_name c b
+  Ok (rule j k)
+pair_rule c rule operands = Err WrongCount
 
--- `rename NAME WORD`
-abbrev pub rename_command : Contents → List (List ℕ) → Result Command LineError
-rename_command c arguments = two_words arguments (λ name word. do
-  k ← signal_of_name c name
-  edit_command (Rename k (lent_bytes word)))
+-- the rule `not A`
+abbrev pub not_rule : Contents → List (List ℕ) → Result Rule LineError
+not_rule c (a ∷ []) = signal_of_name c a >>= λ k. Ok (Not k)
+not_rule c operands = Err WrongCount
 
--- `remove NAME`
-abbrev pub remove_command : Contents → List (List ℕ) → Result Command LineError
-remove_command c arguments = one_word arguments (λ name. do
-  k ← signal_of_name c name
-  edit_command (Remove k))
+-- the rule `bit A K`
+abbrev pub bit_rule : Contents → List (List ℕ) → Result Rule LineError
+bit_rule c (a ∷ bit ∷ []) = do
+  j ← signal_of_name c a
+  k ← number_of_word bit
+  Ok (BitOf j k)
+bit_rule c operands = Err WrongCount
 
--- `invert NAME`
-abbrev pub invert_command : Contents → List (List ℕ) → Result Command LineError
-invert_command c arguments = one_word arguments (λ name. do
-  k ← signal_of_name c name
-  edit_command (Invert k))
+-- the rule that a word names, with its operands
+abbrev pub rule_of : Contents → (word : List ℕ) → List (List ℕ) → Result Rule LineError
+rule_of c word operands =
+    if bytes_eq word (codes "not") then not_rule c operands
+    else (if bytes_eq word (codes "and") then pair_rule c And operands
+    else (if bytes_eq word (codes "or") then pair_rule c Or operands
+    else (if bytes_eq word (codes "xor") then pair_rule c Xor operands
+    else (if bytes_eq word (codes "bit") then bit_rule c operands
+    else Err BadOption))))
 
--- `shift NAME BY`
-abbrev pub shift_command : Contents → List (List ℕ) → Result Command LineError
-shift_command c arguments = two_words arguments (λ name by. do
+-- what the words behind a keyword ask for; the first fault counts, in the order in which they are read here
+abbrev pub command_of : Contents → Keyword → List (List ℕ) → Result Command LineError
+command_of c keywords.Rename (name ∷ word ∷ []) = signal_of_name c name >>= λ k. edit_command (Rename k (lent_bytes word))
+command_of c keywords.Remove (name ∷ []) = signal_of_name c name >>= λ k. edit_command (Remove k)
+command_of c keywords.Invert (name ∷ []) = signal_of_name c name >>= λ k. edit_command (Invert k)
+command_of c keywords.Shift (name ∷ by ∷ []) = do
   k ← signal_of_name c name
   distance ← distance_of_word by
-  edit_command (Shift k distance))
-
--- `cut FROM TO`
-abbrev pub cut_command : List (List ℕ) → Result Command LineError
-cut_command arguments = two_words arguments (λ from to. do
+  edit_command (Shift k distance)
+command_of c keywords.Cut (from ∷ to ∷ []) = do
   first ← number_of_word from
   last ← number_of_word to
-  edit_command (Cut first last))
-
--- `deglitch NAME TICKS`
-abbrev pub deglitch_command : Contents → List (List ℕ) → Result Command LineError
-deglitch_command c arguments = two_words arguments (λ name ticks. do
+  edit_command (Cut first last)
+command_of c keywords.Deglitch (name ∷ ticks ∷ []) = do
   k ← signal_of_name c name
   count ← number_of_word ticks
-  edit_command (Deglitch k count))
-
--- `force NAME FROM TO VALUE`
-abbrev pub force_command : Contents → List (List ℕ) → Result Command LineError
-force_command c arguments = four_words arguments (λ name from to value. do
+  edit_command (Deglitch k count)
+command_of c keywords.Force (name ∷ from ∷ to ∷ value ∷ []) = do
   k ← signal_of_name c name
   first ← number_of_word from
   last ← number_of_word to
   letters ← value_of_word (signal_at c k).width value
-  edit_command (Force k first last letters))
-
--- ---- derived signals
-
--- `derive WORD RULE ..` with this rule
-abbrev pub derive_by : List ℕ → Rule → Result Command LineError
-derive_by word rule = edit_command (Derive (lent_bytes word) rule)
-
--- `derive WORD not A`
-abbrev pub not_command : Contents → List ℕ → List (List ℕ) → Result Command LineError
-not_command c word operands = one_word operands (λ a. do
-  k ← signal_of_name c a
-  derive_by word (Not k))
-
--- `derive WORD RULE A B`
-abbrev pub pair_command : Contents → (ℕ → ℕ → Rule) → List ℕ → List (List ℕ) → Result Command LineError
-pair_command c rule word operands = two_words operands (λ a b. do
-  j ← signal_of_name c a
-  k ← signal_of_name c b
-  derive_by word (rule j k))
-
--- `derive WORD bit A K`
-abbrev pub bit_command : Contents → List ℕ → List (List ℕ) → Result Command LineError
-bit_command c word operands = two_words operands (λ a bit. do
-  j ← signal_of_name c a
-  k ← number_of_word bit
-  derive_by word (BitOf j k))
-
--- `derive WORD RULE ..`
-abbrev pub rule_command : Contents → (word rule : List ℕ) → List (List ℕ) → Result Command LineError
-rule_command c word rule operands =
-    if bytes_eq rule (codes "not") then not_command c word operands
-    else (if bytes_eq rule (codes "and") then pair_command c And word operands
-    else (if bytes_eq rule (codes "or") then pair_command c Or word operands
-    else (if bytes_eq rule (codes "xor") then pair_command c Xor word operands
-    else (if bytes_eq rule (codes "bit") then bit_command c word operands
-    else Err BadOption))))
-
--- `derive WORD RULE ..`, of which at least the rule must be there
-abbrev pub derive_command : Contents → List (List ℕ) → Result Command LineError
-derive_command c (word ∷ rule ∷ operands) = rule_command c word rule operands
-derive_command c arguments = Err WrongCount
-
--- ---- questions
-
--- `value NAME TICK`
-abbrev pub value_command : Contents → List (List ℕ) → Result Command LineError
-value_command c arguments = two_words arguments (λ name tick. do
+  edit_command (Force k first last letters)
+command_of c keywords.Derive (word ∷ rule ∷ operands) =
+    rule_of c rule operands >>= λ r. edit_command (Derive (lent_bytes word) r)
+command_of c keywords.Undo [] = step_command steps.Undo
+command_of c keywords.Redo [] = step_command steps.Redo
+command_of c keywords.Depth (count ∷ []) = number_of_word count >>= λ depth. step_command (steps.Depth depth)
+command_of c keywords.List [] = Ok commands.List
+command_of c keywords.Value (name ∷ tick ∷ []) = do
   k ← signal_of_name c name
   t ← number_of_word tick
-  Ok (commands.Value k t))
-
--- `changes NAME`
-abbrev pub changes_command : Contents → List (List ℕ) → Result Command LineError
-changes_command c arguments = one_word arguments (λ name. do
+  Ok (commands.Value k t)
+command_of c keywords.Changes (name ∷ []) = signal_of_name c name >>= λ k. Ok (commands.Changes k)
+command_of c keywords.Uart (name ∷ bit ∷ count ∷ parity ∷ stop ∷ []) = do
   k ← signal_of_name c name
-  Ok (commands.Changes k))
-
--- ---- all commands
-
--- `depth N`
-abbrev pub depth_command : List (List ℕ) → Result Command LineError
-depth_command arguments = one_word arguments (λ count. do
-  depth ← number_of_word count
-  step_command (steps.Depth depth))
-
--- what the words behind a keyword ask for
-abbrev pub command_of : Contents → Keyword → List (List ℕ) → Result Command LineError
-command_of c keywords.Rename arguments = rename_command c arguments
-command_of c keywords.Remove arguments = remove_command c arguments
-command_of c keywords.Invert arguments = invert_command c arguments
-command_of c keywords.Shift arguments = shift_command c arguments
-command_of c keywords.Cut arguments = cut_command arguments
-command_of c keywords.Deglitch arguments = deglitch_command c arguments
-command_of c keywords.Force arguments = force_command c arguments
-command_of c keywords.Derive arguments = derive_command c arguments
-command_of c keywords.Undo arguments = no_word arguments (step_command steps.Undo)
-command_of c keywords.Redo arguments = no_word arguments (step_command steps.Redo)
-command_of c keywords.Depth arguments = depth_command arguments
-command_of c keywords.List arguments = no_word arguments (Ok commands.List)
-command_of c keywords.Value arguments = value_command c arguments
-command_of c keywords.Changes arguments = changes_command c arguments
-command_of c keywords.Uart arguments = uart_command c arguments
-command_of c keywords.Spi arguments = spi_command c arguments
-command_of c keywords.I2c arguments = i2c_command c arguments
+  ratio ← ratio_of_word bit
+  data_bits ← number_of_word count
+  parity_bit ← parity_of_word parity
+  stop_bits ← number_of_word stop
+  line ← one_bit_signal c k
+  setup ← faultless_uart (uart_setup ratio.0 ratio.1 data_bits parity_bit stop_bits)
+  Ok (commands.Uart line setup)
+command_of c keywords.Spi (clk ∷ mosi ∷ miso ∷ cs ∷ mode ∷ bits ∷ order ∷ []) = do
+  k ← signal_of_name c clk
+  out ← signal_or_absent c mosi
+  input ← signal_or_absent c miso
+  select ← signal_or_absent c cs
+  number ← number_of_word mode
+  word_bits ← number_of_word bits
+  bit_order ← order_of_word order
+  clock ← one_bit_signal c k
+  out_line ← one_bit_signal_or_absent c out
+  in_line ← one_bit_signal_or_absent c input
+  select_line ← one_bit_signal_or_absent c select
+  setup ← faultless_spi (spi_setup number word_bits bit_order)
+  Ok (commands.Spi clock out_line in_line select_line setup)
+command_of c keywords.I2c (scl ∷ sda ∷ []) = do
+  j ← signal_of_name c scl
+  k ← signal_of_name c sda
+  clock ← one_bit_signal c j
+  line ← one_bit_signal c k
+  Ok (commands.I2c clock line)
+command_of c keyword words = Err WrongCount
 
 -- what the words of a line ask for on a capture, or why they are no command
 abbrev pub command_of_words : Contents → List (List ℕ) → Result Command LineError
 command_of_words c [] = Ok commands.Nothing
-command_of_words c (first ∷ arguments) =
+command_of_words c (first ∷ words) =
     if is_comment first then Ok commands.Nothing
-    else (do
-      keyword ← ok_or (keyword_of first) UnknownCommand
-      command_of c keyword arguments)
+    else (ok_or (keyword_of first) UnknownCommand >>= λ keyword. command_of c keyword words)

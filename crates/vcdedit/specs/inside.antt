@@ -9,3 +9,6 @@ pub mod ScriptRuns
 pub mod LineSteps
 pub mod RunStages
 pub mod SentReplies
+pub mod WordCounts
+pub mod ParsedDecoders
+pub mod ParsedCommands

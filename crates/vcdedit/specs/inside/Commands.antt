@@ -2,7 +2,7 @@
 use Rattle.std.specs.Prelude.{◌≡◌, Result, Ok, Err}
 use Rattle.vcdedit.specs.declared.script.command.Command.{Command}
 use Rattle.vcdedit.specs.declared.script.line_error.LineError.{LineError}
-use Rattle.vcdedit.specs.Lent.{command_without_address}
+use Rattle.vcdedit.specs.Addressless.{command_without_address}
 
 -- the command or fault that was to be read
 abbrev pub ReadsAs : Result Command LineError → Result Command LineError → Type 0

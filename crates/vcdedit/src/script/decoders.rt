@@ -2,7 +2,7 @@
 
 ghost use Rattle.vcd_core.specs.Contents.{contents};
 ghost use Rattle.vcd_text.specs.Grammar.{word_texts};
-ghost use Rattle.vcdedit.specs.DecoderCommands.{uart_command, spi_command, i2c_command};
+ghost use Rattle.vcdedit.specs.inside.ParsedDecoders.{uart_command, spi_command, i2c_command};
 ghost use Rattle.vcdedit.specs.inside.Commands.{ReadsAs};
 
 use crate::script::decoder_words::{

@@ -5,9 +5,9 @@ ghost use Rattle.vcd_core.specs.Contents.{contents};
 ghost use Rattle.vcd_edit.specs.declared.edit.Rule.{Rule as EditRule};
 ghost use Rattle.vcd_edit.specs.declared.edit.Rule.TheVariants.{And, Or, Xor};
 ghost use Rattle.vcd_text.specs.Grammar.{word_texts};
-ghost use Rattle.vcdedit.specs.Lent.{command_without_address};
-ghost use Rattle.vcdedit.specs.ScriptCommands.{not_command, pair_command, bit_command, rule_command, derive_command};
-ghost use Rattle.vcdedit.specs.ScriptCommands as spec;
+ghost use Rattle.vcdedit.specs.Addressless.{command_without_address};
+ghost use Rattle.vcdedit.specs.inside.ParsedCommands.{not_command, pair_command, bit_command, rule_command, derive_command};
+ghost use Rattle.vcdedit.specs.inside.ParsedCommands as spec;
 ghost use Rattle.vcdedit.specs.inside.Commands.{ReadsAs};
 
 use crate::script::edits::signal_of_name;

@@ -3,7 +3,7 @@
 ghost use Rattle.std.specs.Prelude.{◌≡◌, ◌<◌, length, IfOk};
 ghost use Rattle.vcd_core.specs.Contents.{contents, signal_at};
 ghost use Rattle.vcd_text.specs.Grammar.{word_texts};
-ghost use Rattle.vcdedit.specs.ScriptCommands.{rename_command, remove_command, invert_command, shift_command, cut_command, deglitch_command, force_command};
+ghost use Rattle.vcdedit.specs.inside.ParsedCommands.{rename_command, remove_command, invert_command, shift_command, cut_command, deglitch_command, force_command};
 ghost use Rattle.vcdedit.specs.ScriptWords.{signal_of_name, value_of_word as value_read};
 ghost use Rattle.vcdedit.specs.inside.Commands.{ReadsAs};
 

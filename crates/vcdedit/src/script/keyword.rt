@@ -1,7 +1,7 @@
 //! The first words of lines.
 
 ghost use Rattle.std.specs.Prelude.{◌≡◌};
-ghost use Rattle.vcdedit.specs.ScriptCommands.{keyword_in, edit_keywords, history_keywords, query_keywords, decoder_keywords, keyword_of as keyword_named};
+ghost use Rattle.vcdedit.specs.inside.ParsedCommands.{keyword_in, edit_keywords, history_keywords, query_keywords, decoder_keywords, keyword_in_tables as keyword_named};
 
 /// What the first word of a line names: a command.
 #[derive(Clone, Copy, Debug, PartialEq, Eq)]

@@ -4,10 +4,11 @@ ghost use Rattle.std.specs.Prelude.{◌≡◌, ◌∷◌, Ok, Err, IfOk, IfErr};
 ghost use Rattle.vcd_core.specs.Contents.{contents};
 ghost use Rattle.vcd_text.specs.Grammar.{word_texts};
 ghost use Rattle.vcdedit.specs.CommandSignals.{HasItsSignals};
-ghost use Rattle.vcdedit.specs.Lent.{command_without_address};
+ghost use Rattle.vcdedit.specs.Addressless.{command_without_address};
 ghost use Rattle.vcdedit.specs.Script.{command_of_line};
-ghost use Rattle.vcdedit.specs.LineWords.{no_word};
-ghost use Rattle.vcdedit.specs.ScriptCommands.{command_of_words, command_of, depth_command, step_command, is_comment as comment_test};
+ghost use Rattle.vcdedit.specs.inside.WordCounts.{no_word};
+ghost use Rattle.vcdedit.specs.ScriptCommands.{step_command, is_comment as comment_test};
+ghost use Rattle.vcdedit.specs.inside.ParsedCommands.{words_command, keyword_command, depth_command};
 ghost use Rattle.vcdedit.specs.inside.Commands.{ReadsAs};
 ghost use Rattle.vcd_journal.specs.declared.step.Step.TheVariants as steps;
 
@@ -55,7 +56,7 @@ fn parse_first_word<'a>(
     capture: &Capture,
 ) -> Result<Command<'a>, LineError>
     ensures { ReadsAs
-        (command_of_words (contents capture.now) (first.now ∷ word_texts words.old)) result }
+        (words_command (contents capture.now) (first.now ∷ word_texts words.old)) result }
 {
     if is_comment(first) {
         return Ok(Command::Nothing);
@@ -70,7 +71,7 @@ fn parse_command<'a>(
     words: &mut Words<'a>,
     capture: &Capture,
 ) -> Result<Command<'a>, LineError>
-    ensures { ReadsAs (command_of (contents capture.now) keyword (word_texts words.old)) result }
+    ensures { ReadsAs (keyword_command (contents capture.now) keyword (word_texts words.old)) result }
 {
     match keyword {
         Keyword::Rename => parse_rename(words, capture),

@@ -2,7 +2,7 @@
 
 ghost use Rattle.std.specs.Prelude.{◌≡◌, ◌∷◌, [], List, ℕ, Result, Err, IfOk, OnOk, IfErr, MatchOption};
 ghost use Rattle.vcd_text.specs.Grammar.{word_texts};
-ghost use Rattle.vcdedit.specs.LineWords.{no_word, one_word, two_words, four_words, five_words, seven_words};
+ghost use Rattle.vcdedit.specs.inside.WordCounts.{no_word, one_word, two_words, four_words, five_words, seven_words};
 ghost use Rattle.vcdedit.specs.declared.script.command.Command.{Command as LineCommand};
 ghost use Rattle.vcdedit.specs.declared.script.line_error.LineError.{LineError as LineFault};
 

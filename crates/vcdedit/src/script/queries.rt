@@ -3,8 +3,8 @@
 ghost use Rattle.std.specs.Prelude.{Ok};
 ghost use Rattle.vcd_core.specs.Contents.{contents};
 ghost use Rattle.vcd_text.specs.Grammar.{word_texts};
-ghost use Rattle.vcdedit.specs.LineWords.{no_word};
-ghost use Rattle.vcdedit.specs.ScriptCommands.{value_command, changes_command};
+ghost use Rattle.vcdedit.specs.inside.WordCounts.{no_word};
+ghost use Rattle.vcdedit.specs.inside.ParsedCommands.{value_command, changes_command};
 ghost use Rattle.vcdedit.specs.declared.script.command.Command.TheVariants as commands;
 ghost use Rattle.vcdedit.specs.inside.Commands.{ReadsAs};
 

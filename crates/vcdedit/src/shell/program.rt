@@ -1,6 +1,6 @@
 //! The program: words in, files opened, a status out.
 
-ghost use Rattle.std.specs.Prelude.{◌≡◌, ◌≤◌, ◌⊎◌, ℕ, true, false, List, [], Option, is_some, Err, map, IfOk, IfErr, IsErr};
+ghost use Rattle.std.specs.Prelude.{◌≡◌, ◌≤◌, ◌⊎◌, ℕ, true, false, List, [], Option, None, is_some, Err, IsSome, map, IfOk, IfErr};
 ghost use Rattle.std.specs.Io.Buffered.{writer_inner, writer_buffer, writer_capacity, writer_contents};
 ghost use Rattle.std.specs.Io.KnownBytes.{Appends, Keeps};
 ghost use Rattle.std.specs.String.{string_bytes};
@@ -138,12 +138,12 @@ fn run_inputs<R: Runtime + AllocGlobal, C: Source, S: Source>(
     ending
 }
 
-/// How a run ended, and the writer behind the buffer of its replies.
+/// How a run ended, and the writer behind the buffer of its replies. Where that failed, it is gone: then there is
+/// its error if it came behind the run.
 #[derive(Drop)]
 struct EndedRun<W> {
     ending: Result<Summary, RunError>,
-    /// An `Err` after a failure: something that was gathered may not have gone out.
-    replies: Result<W, W>,
+    replies: Result<W, Option<io::Error>>,
 }
 
 /// Runs with the replies gathered in a buffer. What it has in the end goes to the writer behind it, also where
@@ -160,9 +160,12 @@ fn run_gathered<R: Runtime + AllocGlobal, C: Source, S: Source, W: Write + Drop>
     requires depth_most { depth ≤ DEPTH_LIMIT }
     requires capture_ready { C.has_failed capture.old ≡ false }
     requires script_ready { S.has_failed script.old ≡ false }
-    ensures ends { IsRunOn output.entry result.ending depth
+    ensures ends { (replies : WriterEnd) × (out : Option WriterEnd) ×
+        (is_some out ≡ is_some output.entry) ×
+        (result.replies ≡ Err None → replies.has_failed ≡ true) ×
+        RunEnds result.ending depth
         (reader_end C.coming C.has_failed capture.old capture.new)
-        (reader_end S.coming S.has_failed script.old script.new) }
+        (reader_end S.coming S.has_failed script.old script.new) replies out }
     ensures sent { IfOk result.replies (λ writer. HasSentReplies result.ending depth
         (reader_end C.coming C.has_failed capture.old capture.new)
         (reader_end S.coming S.has_failed script.old script.new)
@@ -213,18 +216,29 @@ fn new_buffer<R: AllocGlobal, W: Write + Drop>(rt: &R, writer: W) -> Result<BufW
     BufWriter::with_capacity(rt.alloc(), BUFFER, writer).map_err(|_| NO_MEMORY)
 }
 
-/// Sends what a device gathered to the writer behind it, and gives that writer back: as an `Err` after a
-/// failure, behind which nothing more is sent.
-fn close_device<W: Write + Drop>(device: ToWrite<BufWriter<W>>) -> Result<W, W>
+/// Sends what a device gathered to the writer behind it, and gives that writer back.
+///
+/// Nothing is sent where the device has failed, and nothing again where the writer fails here: its error is then given.
+fn close_device<W: Write + Drop>(device: ToWrite<BufWriter<W>>) -> Result<W, Option<io::Error>>
     ensures sent { IfOk result (λ writer.
         Keeps (⟦<ToWrite<BufWriter<W>> as Sink>⟧.taken device) (W.contents writer)) }
-    ensures failed { ⟦<ToWrite<BufWriter<W>> as Sink>⟧.has_failed device ≡ true → IsErr result }
+    ensures failed { ⟦<ToWrite<BufWriter<W>> as Sink>⟧.has_failed device ≡ true →
+        result ≡ Err None }
+    ensures not_failed { ⟦<ToWrite<BufWriter<W>> as Sink>⟧.has_failed device ≡ false →
+        IfErr result IsSome }
 {
-    if device.failed() {
-        return Err(device.into_inner().into_parts().0);
+    let has_failed = device.failed();
+    let buffer = device.into_inner();
+    if has_failed {
+        let _ = buffer.into_parts();
+        return Err(None);
     }
-    match device.into_inner().into_inner() {
+    match buffer.into_inner() {
         Ok(writer) => Ok(writer),
-        Err(error) => Err(error.into_inner().into_parts().0),
+        Err(short) => {
+            let (error, buffer) = short.into_parts();
+            let _ = buffer.into_parts();
+            Err(Some(error))
+        }
     }
 }

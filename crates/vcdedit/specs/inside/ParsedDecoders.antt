@@ -1,4 +1,4 @@
--- What the words of a line that decodes signals ask for: the project's own.
+-- What the parsers of the commands that decode signals read: the project's own.
 use Rattle.std.specs.Prelude.{ℕ, List, Result, Ok}
 use Rattle.vcd_core.specs.Contents.{Contents}
 use Rattle.vcd_decode.specs.UartSetup.{uart_setup}
@@ -6,7 +6,8 @@ use Rattle.vcd_decode.specs.SpiSetup.{spi_setup}
 use Rattle.vcdedit.specs.declared.script.command.Command.{Command}
 use Rattle.vcdedit.specs.declared.script.command.Command.TheVariants as commands
 use Rattle.vcdedit.specs.declared.script.line_error.LineError.{LineError}
-use Rattle.vcdedit.specs.LineWords.{◌>>=◌, two_words, five_words, seven_words}
+use Rattle.vcdedit.specs.LineWords.{◌>>=◌}
+use Rattle.vcdedit.specs.inside.WordCounts.{two_words, five_words, seven_words}
 use Rattle.vcdedit.specs.ScriptWords.{signal_of_name, number_of_word}
 use Rattle.vcdedit.specs.DecoderWords.{ratio_of_word, parity_of_word, order_of_word, signal_or_absent, one_bit_signal, one_bit_signal_or_absent, faultless_uart, faultless_spi}
 
