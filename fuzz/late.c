@@ -11,11 +11,7 @@
    The first four are for `growths`, `late-output`, `late-again` and `late-lines` for `devices`, and the last for
    `library_growths`. A program of the first five refuses each line of its script, with a growth for each and one
    behind them, and then writes its output. */
-#include <fcntl.h>
-#include <stdio.h>
-#include <stdlib.h>
-#include <string.h>
-#include <unistd.h>
+#include "libc.h"
 
 static const char *name;
 
