@@ -1,15 +1,55 @@
-# Installs the program, its manual page and its completion: `make install PREFIX=$HOME/.local`. `./vcdedit` builds the
-# program where it is missing, which proves it first. The executable goes to libexec; the script of that name in bin
-# runs it as `./vcdedit` does: with large pages, and with a limit of memory where none is set.
+# Builds, installs and packs vcdedit. `make` alone builds, and says what else there is.
 PREFIX ?= /usr/local
+ZSH_FOLDER ?= share/zsh/site-functions
 
-install:
-	./vcdedit --version
-	install -D -m 755 crates/vcdedit/out/vcdedit "$(DESTDIR)$(PREFIX)/libexec/vcdedit"
-	install -d "$(DESTDIR)$(PREFIX)/bin"
-	{ printf '#!/bin/sh\nprogram="%s"\n' "$(PREFIX)/libexec/vcdedit"; cat launch/running.sh; } > "$(DESTDIR)$(PREFIX)/bin/vcdedit"
-	chmod 755 "$(DESTDIR)$(PREFIX)/bin/vcdedit"
-	install -D -m 644 docs/vcdedit.1 "$(DESTDIR)$(PREFIX)/share/man/man1/vcdedit.1"
-	install -D -m 644 completions/vcdedit.bash "$(DESTDIR)$(PREFIX)/share/bash-completion/completions/vcdedit"
+# What is installed below PREFIX: mode, file, place. Beside them stand bin/vcdedit, which is made of launch/running.sh,
+# and share/doc/vcdedit.
+define FILES
+755 crates/vcdedit/out/vcdedit libexec/vcdedit
+755 tools/compare_captures bin/vcdedit-compare
+644 docs/vcdedit.1 share/man/man1/vcdedit.1
+644 docs/vcdedit-compare.1 share/man/man1/vcdedit-compare.1
+644 completions/vcdedit.bash share/bash-completion/completions/vcdedit
+644 completions/_vcdedit $(ZSH_FOLDER)/_vcdedit
+644 completions/vcdedit.fish share/fish/vendor_completions.d/vcdedit.fish
+endef
+DOCUMENTS = docs/COOKBOOK.md docs/SCRIPT.md docs/FORMATS.md docs/glitches.png examples
 
-.PHONY: install
+define TARGETS
+vcdedit is built: ./vcdedit runs it.
+make install     to $(PREFIX), or PREFIX=FOLDER; DESTDIR=FOLDER goes before that, for a package
+make uninstall   takes away what install put there
+make deb         a Debian package, out/vcdedit_VERSION_ARCHITECTURE.deb
+.ci/run          every proof and test from nothing, in hours
+endef
+export FILES TARGETS
+
+# A relative PREFIX is meant from here; a DESTDIR of none is the root.
+FOLDERS = prefix="$(PREFIX)"; case $$prefix in /*) ;; *) prefix="$$PWD/$$prefix" ;; esac; root="$(DESTDIR)$$prefix"
+
+all: build
+	@printf '%s\n' "$$TARGETS"
+
+# `./vcdedit` proves and builds the program where it is missing or old.
+build:
+	@./vcdedit -i examples/handshake.vcd --script /dev/null
+
+install: build
+	@set -e; $(FOLDERS); \
+	printf '%s\n' "$$FILES" | while read -r mode file place; do install -D -m "$$mode" "$$file" "$$root/$$place"; done; \
+	mkdir -p "$$root/bin" "$$root/share/doc/vcdedit"; \
+	{ printf '#!/bin/sh\nprogram="%s"\n' "$$prefix/libexec/vcdedit"; cat launch/running.sh; } > "$$root/bin/vcdedit"; \
+	chmod 755 "$$root/bin/vcdedit"; \
+	cp -R $(DOCUMENTS) "$$root/share/doc/vcdedit"; \
+	echo "vcdedit is in $$root/bin, its documents are in $$root/share/doc/vcdedit"
+
+uninstall:
+	@set -e; $(FOLDERS); \
+	printf '%s\n' "$$FILES" | while read -r mode file place; do rm -f "$$root/$$place"; done; \
+	rm -f "$$root/bin/vcdedit"; \
+	rm -rf "$$root/share/doc/vcdedit"
+
+deb: build
+	@tools/make_package
+
+.PHONY: all build install uninstall deb
