@@ -48,7 +48,7 @@ pub enum Fault {
     TooLarge,
     /// The reader failed.
     ReadFault,
-    /// Memory ran out, or the waves of variables that share codes would have more copies than `COPIES_LIMIT`.
+    /// Memory ran out.
     NoMemory,
 }
 
