@@ -2,7 +2,8 @@
 use Rattle.std.specs.Prelude.{ℕ, List}
 use Rattle.vcd_core.specs.declared.wave.Change.{Change}
 
--- what contracts see of a wave: its width in bits, its changes, and how many more it holds without memory
+-- what contracts see of a wave: its width in bits, its changes, and one more than the changes that its own list can
+-- have without memory, 0 where it shares the list with other waves
 pub record WaveView : Type 0 where
   pub width : ℕ
   pub changes : List Change

@@ -6,3 +6,4 @@ pub mod NameParts
 pub mod EdgeWalk
 pub mod BitEdgeWalk
 pub mod ScopeLists
+pub mod WaveLists

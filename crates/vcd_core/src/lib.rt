@@ -25,6 +25,7 @@ mod soundness;
 mod splicing;
 mod value;
 mod wave;
+mod wave_list;
 mod word;
 
 pub use bit::Bit;

@@ -1,4 +1,4 @@
-ghost use Rattle.std.specs.Prelude.{◌≡◌, ℕ, ◌+◌, ◌-◌, ◌<◌, ◌≤◌, if◌then◌else◌, nat_lt, nat_le, max, [], ◌∷◌, length, drop, slice_range, count_by, IsOk, OnOk, OnErr, All, Any, vec_len, vec_capacity};
+ghost use Rattle.std.specs.Prelude.{◌≡◌, ℕ, ◌+◌, ◌-◌, ◌<◌, ◌≤◌, if◌then◌else◌, nat_lt, nat_le, max, [], ◌∷◌, length, drop, slice_range, count_by, IsOk, IfOk, OnOk, OnErr, All, Any, vec_len, vec_capacity};
 ghost use Rattle.vcd_core.specs.Wave.{value_at, IsWave, changes_after_push};
 ghost use Rattle.vcd_core.specs.WordRows.{letters_of};
 ghost use Rattle.vcd_core.specs.Splice.{TicksFit, spliced_changes};
@@ -8,6 +8,7 @@ use crate::memory::NoMemory;
 use crate::searching::count_near;
 use crate::splicing::splice_changes;
 use crate::value::{Value, WIDTH_LIMIT};
+use crate::wave_list::WaveList;
 use std::alloc::Global;
 use std::marker::Model;
 
@@ -21,16 +22,22 @@ pub struct Change {
 /// The values of a signal at every tick, kept as the list of its changes.
 ///
 /// Ticks rise strictly, each value differs from the one before it and the first from all x, and all
-/// values have one width. A wave that is x throughout has no change. Contracts see the width in
-/// bits, the changes, and the room: how many more changes the wave holds without new memory.
+/// values have one width. A wave that is x throughout has no change.
+///
+/// A wave has its list alone, or shares it with others ([`Wave::share`]). What changes a wave gives
+/// it a list of its own first, so the others stay as they are.
+///
+/// Contracts see the width in bits, the changes, and the room. The room is one more than the number
+/// of changes that the wave's own list can have without new memory, and 0 where the list is shared.
 #[derive(Drop)]
 pub struct Wave {
     width: u64,
-    changes: Vec<Change>,
+    list: WaveList,
 }
 
 impl Model for Wave {
-    ghost use Rattle.std.specs.Prelude.{◌-◌, ◌≤◌, vec_len, vec_capacity};
+    ghost use Rattle.std.specs.Prelude.{◌≤◌};
+    ghost use Rattle.vcd_core.specs.inside.WaveLists.{changes_of_list, room_of_list};
     ghost use Rattle.vcd_core.specs.WaveView.{WaveView};
     ghost use Rattle.vcd_core.specs.Wave.{IsWave};
     ghost use Rattle.vcd_core.specs.declared.value.TheConstants.{WIDTH_LIMIT};
@@ -39,12 +46,12 @@ impl Model for Wave {
 
     ghost view = { λ w. record {
       width = w.width;
-      changes = w.changes.items;
-      room = vec_capacity w.changes - vec_len w.changes;
+      changes = changes_of_list w.list;
+      room = room_of_list w.list;
     } };
 
     ghost invariant = { λ w.
-        (1 ≤ w.width) × (w.width ≤ WIDTH_LIMIT) × IsWave w.width w.changes.items };
+        (1 ≤ w.width) × (w.width ≤ WIDTH_LIMIT) × IsWave w.width (changes_of_list w.list) };
 }
 
 impl Wave {
@@ -57,7 +64,7 @@ impl Wave {
     {
         Wave {
             width,
-            changes: Vec::new(alloc),
+            list: WaveList::Own(Vec::new(alloc)),
         }
     }
 
@@ -75,7 +82,7 @@ impl Wave {
         ensures changes { result.now ≡ self.now.changes }
         ensures form { IsWave self.now.width result.now }
     {
-        self.changes.as_slice()
+        self.list.as_slice()
     }
 
     /// The value at `tick`: that of the last change at or before it, else all x. A tick past the
@@ -85,15 +92,18 @@ impl Wave {
     pub fn at(&self, tick: u64) -> Value
         ensures { result ≡ value_at self.now.width self.now.changes tick }
     {
-        let count = self.changes.partition_point(|change| change.tick <= tick);
-        last_value(&self.changes[..count], self.width)
+        let changes = self.list.as_slice();
+        let count = changes.partition_point(|change| change.tick <= tick);
+        last_value(&changes[..count], self.width)
     }
 
     /// How many changes have a smaller tick, by a search by halves.
     pub fn count_until(&self, tick: u64) -> usize
         ensures { result ≡ count_by (λ c. nat_lt c.tick tick) self.now.changes }
     {
-        self.changes.partition_point(|change| change.tick < tick)
+        self.list
+            .as_slice()
+            .partition_point(|change| change.tick < tick)
     }
 
     /// How many changes have a tick at most `tick`, whatever `near` is: a number of changes that
@@ -103,7 +113,7 @@ impl Wave {
     pub fn count_near(&self, near: usize, tick: u64) -> usize
         ensures { result ≡ count_by (λ c. nat_le c.tick tick) self.now.changes }
     {
-        count_near(self.changes.as_slice(), near, tick)
+        count_near(self.list.as_slice(), near, tick)
     }
 
     /// Sets the value from `tick` on, at the end of the list: a value equal to the one before adds
@@ -123,14 +133,18 @@ impl Wave {
         ensures width { self.new.width ≡ self.old.width }
         ensures refused { OnErr result (self.new.changes ≡ self.old.changes) }
 
-        // It succeeds where there is room for one change, or where none is added.
-        ensures in_place { 0 < self.old.room → IsOk result }
-        ensures replaces { Any (λ c. c.tick ≡ tick) self.old.changes → IsOk result }
-        ensures adds_none { value_at self.old.width self.old.changes tick ≡ value → IsOk result }
-        ensures room { length self.old.changes + self.old.room
-            ≤ length self.new.changes + self.new.room }
+        // With a list of its own it succeeds where there is room for one change, or none is added.
+        ensures in_place { length self.old.changes + 1 < self.old.room → IsOk result }
+        ensures replaces { 0 < self.old.room → Any (λ c. c.tick ≡ tick) self.old.changes
+            → IsOk result }
+        ensures adds_none { 0 < self.old.room → value_at self.old.width self.old.changes tick ≡ value → IsOk result }
+        ensures room { self.old.room ≤ self.new.room }
     {
-        push_change(&mut self.changes, self.width, tick, value)?;
+        self.list.part(1)?;
+        match &mut self.list {
+            WaveList::Own(list) => push_change(list, self.width, tick, value)?,
+            WaveList::Shared(_) => unreachable!(),
+        }
         Ok(())
     }
 
@@ -149,56 +163,79 @@ impl Wave {
         ensures width { self.new.width ≡ self.old.width }
         ensures refused { OnErr result (self.new.changes ≡ self.old.changes) }
 
-        // It succeeds where there is room for one change, or where none is added.
-        ensures in_place { 0 < self.old.room → IsOk result }
-        ensures replaces { Any (λ c. c.tick ≡ tick) self.old.changes → IsOk result }
-        ensures adds_none { let value = letters_of self.old.width (low ∷ []) (high ∷ []) in
+        // With a list of its own it succeeds where there is room for one change, or none is added.
+        ensures in_place { length self.old.changes + 1 < self.old.room → IsOk result }
+        ensures replaces { 0 < self.old.room → Any (λ c. c.tick ≡ tick) self.old.changes
+            → IsOk result }
+        ensures adds_none { 0 < self.old.room → let value = letters_of self.old.width (low ∷ []) (high ∷ []) in
             value_at self.old.width self.old.changes tick ≡ value → IsOk result }
-        ensures room { length self.old.changes + self.old.room
-            ≤ length self.new.changes + self.new.room }
+        ensures room { self.old.room ≤ self.new.room }
     {
-        push_word_change(&mut self.changes, self.width, tick, low, high)?;
+        self.list.part(1)?;
+        match &mut self.list {
+            WaveList::Own(list) => push_word_change(list, self.width, tick, low, high)?,
+            WaveList::Shared(_) => unreachable!(),
+        }
         Ok(())
     }
 
-    /// Makes room for `more` changes. The wave stays as it is, also where the memory is refused.
+    /// A wave that shares the list of this one: the same changes, and no copy of them.
     ///
-    /// It takes no memory where that room is there already.
+    /// It takes one small block of memory the first time, and none later. Both waves stay as they
+    /// are where one of them is changed, since that one gets a list of its own first.
+    pub fn share(&mut self) -> Result<Wave, NoMemory>
+        ensures kept_width { self.new.width ≡ self.old.width }
+        ensures kept_changes { self.new.changes ≡ self.old.changes }
+        ensures width { IfOk result (λ wave. wave.width ≡ self.old.width) }
+        ensures changes { IfOk result (λ wave. wave.changes ≡ self.old.changes) }
+    {
+        let list = self.list.share()?;
+        Ok(Wave {
+            width: self.width,
+            list,
+        })
+    }
+
+    /// Gives the wave a list of its own with room for `more` changes. The wave holds what it held,
+    /// also where the memory is refused.
+    ///
+    /// It takes no memory where that room is there already. A list that was shared, and that no
+    /// other wave has any more, is taken back; else its changes are copied.
     pub fn reserve(&mut self, more: usize) -> Result<(), NoMemory>
         ensures width { self.new.width ≡ self.old.width }
         ensures changes { self.new.changes ≡ self.old.changes }
-        ensures room { OnOk result (more ≤ self.new.room) }
-        ensures in_place { more ≤ self.old.room → IsOk result }
+        ensures room { OnOk result (length self.old.changes + more < self.new.room) }
+        ensures in_place { length self.old.changes + more < self.old.room → IsOk result }
         ensures never_less { self.old.room ≤ self.new.room }
+        ensures refused { OnErr result (0 < self.old.room → self.new.room ≡ self.old.room) }
     {
-        self.changes.reserve(more)?;
-        Ok(())
+        self.list.reserve(more)
     }
 
-    /// Makes room for `more` changes, and no more room than that where memory is taken. The wave
-    /// stays as it is, also where the memory is refused.
-    ///
-    /// It takes no memory where that room is there already.
+    /// Does what [`Wave::reserve`] does, with no more room than that where memory is taken.
     pub fn reserve_exact(&mut self, more: usize) -> Result<(), NoMemory>
         ensures width { self.new.width ≡ self.old.width }
         ensures changes { self.new.changes ≡ self.old.changes }
-        ensures room { OnOk result (self.new.room ≡ max self.old.room more) }
-        ensures in_place { more ≤ self.old.room → IsOk result }
+        ensures room { OnOk result (length self.old.changes + more < self.new.room) }
+        ensures exact { OnOk result (0 < self.old.room →
+            self.new.room ≡ max self.old.room (length self.old.changes + more + 1)) }
+        ensures in_place { length self.old.changes + more < self.old.room → IsOk result }
         ensures never_less { self.old.room ≤ self.new.room }
+        ensures refused { OnErr result (0 < self.old.room → self.new.room ≡ self.old.room) }
     {
-        self.changes.reserve_exact(more)?;
-        Ok(())
+        self.list.reserve_exact(more)
     }
 
     /// The changes at positions `from` up to before `to` and the contents of `piece` change places,
     /// and the later changes move by `by` ticks.
     ///
-    /// It takes no memory, so each list has the room for what the other gives. The cost is the piece
-    /// and the range; where `by` is not 0, or their lengths differ, each later change is copied once.
+    /// It takes no memory, so the wave has a list of its own, and each list has the room for what the
+    /// other gives. The cost is the piece and the range; where `by` is not 0, or their lengths differ,
+    /// each later change is copied once.
     pub fn splice(&mut self, from: usize, to: usize, piece: &mut Vec<Change>, by: i64)
         requires ordered { from ≤ to }
         requires within { to ≤ length self.old.changes }
-        requires fits { vec_len piece.old ≤ self.old.room + (to - from) }
+        requires fits { length self.old.changes + vec_len piece.old < self.old.room + (to - from) }
         requires piece_fits { to - from ≤ vec_capacity piece.old }
         requires ticks { TicksFit by (drop to self.old.changes) }
         requires form { IsWave self.old.width
@@ -210,10 +247,12 @@ impl Wave {
         ensures piece { piece.new.items ≡ slice_range self.old.changes from to }
 
         // No room is lost, on either side.
-        ensures room { length self.old.changes + self.old.room
-            ≤ length self.new.changes + self.new.room }
+        ensures room { self.old.room ≤ self.new.room }
         ensures piece_room { vec_capacity piece.old ≤ vec_capacity piece.new }
     {
-        splice_changes(&mut self.changes, from, to, piece, by);
+        match &mut self.list {
+            WaveList::Own(list) => splice_changes(list, from, to, piece, by),
+            WaveList::Shared(_) => unreachable!(),
+        }
     }
 }

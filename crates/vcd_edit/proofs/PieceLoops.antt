@@ -1,14 +1,15 @@
 -- Walks over the pieces of a record: what holds after one piece more.
-use Rattle.std.proofs.Common.{◌≡◌, ◌≢◌, ℕ, ◌+◌, ◌<◌, ◌≤◌, List, [], ◌∷◌, ◌++◌, length, take, drop, map, get_or, set, All, sym, ap, subst, ◌∙◌, arith}
+use Rattle.std.proofs.Common.{vec_len, ◌-◌, ◌≡◌, ◌≢◌, ℕ, ◌+◌, ◌<◌, List, [], ◌∷◌, ◌++◌, length, take, drop, map, get_or, set, All, sym, ap, subst, ◌∙◌, arith}
 use Rattle.std.proofs.lemmas.List.{length-map, length-drop, get_or-map, get_or-drop, set-get_or, map-set, map-append, drop-set-lt, drop-drop, drop_more, take_more, take_more_set}
 use Rattle.std.proofs.lemmas.List.Elements.{All-head, All-tail, All-push}
 use Rattle.vcd_core.specs.declared.capture.Signal.{Signal}
 use Rattle.vcd_core.specs.Contents.{Contents, signal_at}
+use Rattle.vcd_core.specs.WaveView.{WaveView}
 use Rattle.vcd_edit.specs.declared.record.Piece.{Piece}
 use Rattle.vcd_edit.specs.RecordView.{PieceView}
 use Rattle.vcd_edit.specs.Back.{with_piece, with_pieces, AreApart}
 use Rattle.vcd_edit.specs.inside.Records.{piece_view}
-use Rattle.vcd_edit.specs.inside.Exchanges.{LeadsBack, PieceReadyIn, LeadBack, room_at, HasRoomForPiece, ReservedSoFar, PutSoFar}
+use Rattle.vcd_edit.specs.inside.Exchanges.{LeadsBack, PieceReadyIn, LeadBack, wave_at, HasNoLessRoom, HasRoomForPiece, ReservedSoFar, PutSoFar}
 use Rattle.vcd_edit.proofs.PiecesBack.{ready_after, with_pieces-push, LeadBack-push, none_all}
 
 module _ (old new : List Piece) (i : ℕ) (x y : Piece) (within : i < length new) (is : x ≡ get_or new i x) (rest : drop i new ≡ drop i old) where
@@ -41,11 +42,11 @@ module _ (old new : List Piece) (i : ℕ) (x y : Piece) (within : i < length new
   new_more = ap (map piece_view) (take_more_set new i y within) ∙ map-append piece_view (take i new) (y ∷ [])
 
 -- room elsewhere is no less
-has_room_after : (ss tt' : List Signal) (p : Piece) → ((k : ℕ) → room_at ss k ≤ room_at tt' k) → HasRoomForPiece ss p → HasRoomForPiece tt' p
-has_room_after ss tt' p more room = record { wave = omega (arith, room.wave, more p.signal); piece = room.piece }
+has_room_after : (ss tt' : List Signal) (p : Piece) → ((k : ℕ) → HasNoLessRoom (wave_at ss k) (wave_at tt' k)) → HasRoomForPiece ss p → HasRoomForPiece tt' p
+has_room_after ss tt' p more room = record { wave = omega (arith, room.wave, (more p.signal).count, (more p.signal).room); piece = room.piece }
 
 pub reserved_more : (old new : List Piece) (i : ℕ) (x y : Piece) (ss tt' : List Signal) → i < length new → x ≡ get_or new i x → ReservedSoFar old i new ss
-    → piece_view y ≡ piece_view x → HasRoomForPiece tt' y → ((k : ℕ) → room_at ss k ≤ room_at tt' k) → ReservedSoFar old (i + 1) (set new i y) tt'
+    → piece_view y ≡ piece_view x → HasRoomForPiece tt' y → ((k : ℕ) → HasNoLessRoom (wave_at ss k) (wave_at tt' k)) → ReservedSoFar old (i + 1) (set new i y) tt'
 reserved_more old new i x y ss tt' within is before same room more =
     record {
       rest = rest_more old new i x y within is before.rest;
@@ -76,17 +77,20 @@ module _ (before : Contents) (old new : List Piece) (i : ℕ) (x y : Piece) (now
   others : All (λ p. p.signal ≢ x.signal) (map piece_view (drop (i + 1) old))
   others = none_all x.signal (map piece_view (drop (i + 1) old)) apart_now.0
 
-  rooms_after : ((k : ℕ) → k ≢ x.signal → room_at tt' k ≡ room_at ss k) → All (HasRoomForPiece tt') (drop (i + 1) old)
+  rooms_after : ((k : ℕ) → k ≢ x.signal → wave_at tt' k ≡ wave_at ss k) → All (HasRoomForPiece tt') (drop (i + 1) old)
   rooms_after kept = λ k d less.
       let p = get_or (drop (i + 1) old) k d in
       let room : HasRoomForPiece ss p = All-tail (HasRoomForPiece ss) x (drop (i + 1) old) room_now k d less in
       let other : p.signal ≢ x.signal =
       subst (λ (q : PieceView). q.signal ≢ x.signal) (get_or-map piece_view (drop (i + 1) old) k d (piece_view d) less)
       (others k (piece_view d) (omega (arith, less, length-map (drop (i + 1) old) piece_view))) in
-      record { wave = omega (arith, room.wave, kept p.signal other); piece = room.piece }
+      record {
+        wave = subst (λ (w : WaveView). length w.changes + vec_len p.changes < w.room + (p.to - p.from)) (sym (kept p.signal other)) room.wave;
+        piece = room.piece;
+      }
 
   pub put_more : after ≡ with_piece now (piece_view x) → LeadsBack (signal_at now x.signal).changes (piece_view x) (piece_view y)
-      → ((k : ℕ) → k ≢ x.signal → room_at tt' k ≡ room_at ss k) → PutSoFar before old (i + 1) (set new i y) after tt'
+      → ((k : ℕ) → k ≢ x.signal → wave_at tt' k ≡ wave_at ss k) → PutSoFar before old (i + 1) (set new i y) after tt'
   put_more put leads kept =
       let made : after ≡ with_pieces before (map piece_view (take i old) ++ piece_view x ∷ []) =
       put ∙ ap (λ c. with_piece c (piece_view x)) far.there ∙ sym (with_pieces-push before (map piece_view (take i old)) (piece_view x)) in

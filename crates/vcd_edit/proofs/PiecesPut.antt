@@ -9,7 +9,7 @@ use Rattle.vcd_core.specs.WaveView.{WaveView}
 use Rattle.vcd_core.specs.Contents.{SignalContents, signal_contents, no_signal}
 use Rattle.vcd_edit.specs.Effect.{renamed_signal}
 use Rattle.vcd_edit.specs.Back.{signal_with_changes}
-use Rattle.vcd_edit.specs.inside.Exchanges.{room_at}
+use Rattle.vcd_edit.specs.inside.Exchanges.{no_wave, wave_at, HasNoLessRoom}
 
 -- the signal at a position, by what it holds
 pub contents_at : (signals : List Signal) (k : ℕ) (s : Signal) → k < length signals → s ≡ get_or signals k s → slice_index_or (map signal_contents signals) k no_signal ≡ signal_contents s
@@ -29,10 +29,10 @@ changes_written signals k s w cs within is width changes =
       changes = changes i;
     })
 
--- the rooms elsewhere stay
-pub other_rooms : (signals : List Signal) (k j : ℕ) (s : Signal) → j ≢ k → room_at (set signals k s) j ≡ room_at signals j
-other_rooms signals k j s other =
-    ap (λ l. get_or l j 0) (map-set (λ (t : Signal). t.wave.room) signals k s) ∙ get_or-set_other (map (λ (t : Signal). t.wave.room) signals) k j s.wave.room 0 other
+-- the waves elsewhere stay
+pub other_waves : (signals : List Signal) (k j : ℕ) (s : Signal) → j ≢ k → wave_at (set signals k s) j ≡ wave_at signals j
+other_waves signals k j s other =
+    ap (λ l. get_or l j no_wave) (map-set (λ (t : Signal). t.wave) signals k s) ∙ get_or-set_other (map (λ (t : Signal). t.wave) signals) k j s.wave no_wave other
 
 -- with other room alone, the signals hold what they held
 pub contents_kept : (signals : List Signal) (k : ℕ) (s : Signal) (w : WaveView) → k < length signals → s ≡ get_or signals k s → w.width ≡ s.wave.width → w.changes ≡ s.wave.changes
@@ -43,19 +43,24 @@ contents_kept signals k s w within is width changes =
     ∙ ap (λ cs. set (map signal_contents signals) k (signal_with_changes (slice_index_or (map signal_contents signals) k no_signal) cs)) (ap (λ (t : SignalContents). t.changes) (sym at))
     ∙ set-get_or (map signal_contents signals) k no_signal
 
-pub room_there : (signals : List Signal) (k : ℕ) (s : Signal) (w : WaveView) → k < length signals → room_at (set signals k (record s { wave = w })) k ≡ w.room
-room_there signals k s w within =
-    ap (λ l. get_or l k 0) (map-set (λ (t : Signal). t.wave.room) signals k (record s { wave = w }))
-    ∙ get_or-set_same (map (λ (t : Signal). t.wave.room) signals) k w.room 0 (omega (arith, length-map signals (λ (t : Signal). t.wave.room), within))
+pub wave_there : (signals : List Signal) (k : ℕ) (s : Signal) (w : WaveView) → k < length signals → wave_at (set signals k (record s { wave = w })) k ≡ w
+wave_there signals k s w within =
+    ap (λ l. get_or l k no_wave) (map-set (λ (t : Signal). t.wave) signals k (record s { wave = w }))
+    ∙ get_or-set_same (map (λ (t : Signal). t.wave) signals) k w no_wave (omega (arith, length-map signals (λ (t : Signal). t.wave), within))
 
--- and no room is less
-pub rooms_grow : (signals : List Signal) (k : ℕ) (s : Signal) (w : WaveView) → k < length signals → s ≡ get_or signals k s → s.wave.room ≤ w.room
-    → (j : ℕ) → room_at signals j ≤ room_at (set signals k (record s { wave = w })) j
-rooms_grow signals k s w within is more j =
+-- the wave at a position is that of the signal there
+pub wave_is_there : (signals : List Signal) (k : ℕ) (s : Signal) → k < length signals → s ≡ get_or signals k s → wave_at signals k ≡ s.wave
+wave_is_there signals k s within is = get_or-map (λ (t : Signal). t.wave) signals k s no_wave within ∙ ap (λ (t : Signal). t.wave) (sym is)
+
+-- where one wave has no less room, none has
+pub rooms_grow : (signals : List Signal) (k : ℕ) (s : Signal) (w : WaveView) → k < length signals → s ≡ get_or signals k s → w.changes ≡ s.wave.changes → s.wave.room ≤ w.room
+    → (j : ℕ) → HasNoLessRoom (wave_at signals j) (wave_at (set signals k (record s { wave = w })) j)
+rooms_grow signals k s w within is same more j =
     elim (cases_eq j k) [
-      | inl same ↦ subst (λ n. room_at signals n ≤ room_at (set signals k (record s { wave = w })) n) (sym same)
-          (omega (arith, get_or-map (λ (t : Signal). t.wave.room) signals k s 0 within, ap (λ (t : Signal). t.wave.room) is, room_there signals k s w within, more))
-      | inr other ↦ omega (arith, other_rooms signals k j (record s { wave = w }) other)
+      | inl here ↦ subst (λ n. HasNoLessRoom (wave_at signals n) (wave_at (set signals k (record s { wave = w })) n)) (sym here)
+          (subst (λ v. HasNoLessRoom v (wave_at (set signals k (record s { wave = w })) k)) (sym (wave_is_there signals k s within is))
+          (subst (HasNoLessRoom s.wave) (sym (wave_there signals k s w within)) (record { count = ap length same; room = more })))
+      | inr other ↦ subst (HasNoLessRoom (wave_at signals j)) (sym (other_waves signals k j (record s { wave = w }) other)) (record { count = refl; room = omega arith })
     ]
 
 -- ---- a word, and a signal put in or taken out

@@ -16,7 +16,7 @@ use Rattle.vcd_text.specs.declared.reading.variables.Variable.{Variable}
 use Rattle.vcd_text.specs.declared.reading.variables.Variables.{Variables}
 use Rattle.vcd_text.specs.inside.ChangeLog.{GivesLoggedValues, logged}
 use Rattle.vcd_text.proofs.LoggedValues.{gives_late}
-use Rattle.vcd_text.proofs.CopiedWaves.{Ended, ended_upto}
+use Rattle.vcd_text.proofs.WaveChanges.{Ended, ended_upto}
 use Rattle.vcd_text.proofs.Owners.{stands_kept}
 use Rattle.vcd_text.proofs.DeclaredVariables.{stays}
 

@@ -38,7 +38,7 @@ pub mod Rows
 pub mod Orders
 pub mod Texts
 pub mod TextLengths
-pub mod CopiedWaves
+pub mod WaveChanges
 pub mod LoggedValues
 pub mod ChangeLogs
 pub mod SettledVariables

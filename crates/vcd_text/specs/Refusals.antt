@@ -25,5 +25,5 @@ pub data IsRefusal (file : List ℕ) (failed : Bool) (left : Option (List ℕ)) 
   -- the reader failed behind this front
   reader_failed : (front rest : List ℕ) → IsTrue failed → left ≡ Some rest → file ≡ front ++ rest → length front ≤ FILE_LIMIT
       → IsFrontAnswer front faults.ReadFault e → IsRefusal file failed left e
-  -- memory ran out, or there are too many copies of the waves of shared codes to ask for
+  -- memory ran out
   no_memory : e ≡ memory_error → IsRefusal file failed left e

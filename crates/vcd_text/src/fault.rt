@@ -62,7 +62,7 @@ pub enum Fault {
     /// The reader failed.
     #[error("ReadFault")]
     ReadFault,
-    /// Memory ran out, or the waves of variables that share codes would have more copies than `COPIES_LIMIT`.
+    /// Memory ran out.
     #[error("NoMemory")]
     NoMemory,
 }

@@ -51,8 +51,8 @@ pub struct Loaded {
 ///
 /// One step for each byte; for each change one look-up of its code and, for a variable of at most 64 bits, one into the
 /// log and two out of it at the end; for each variable one look-up or two, and a copy of its code and its name; for each
-/// scope behind one that was closed, in which a variable stands, a copy of the scopes that are open; for each later
-/// variable of a code a copy of the changes, up to `COPIES_LIMIT` in all, and `NoMemory` above.
+/// scope behind one that was closed, in which a variable stands, a copy of the scopes that are open. The variables of
+/// one code share one list of changes.
 /// At most 4,096 bytes are asked for at a time, and none behind a fault that is sure.
 /// Memory: those bytes, the longest word, 32 bytes for each change in the log, of which one group of 128 after
 /// another is given back as its waves are made, and the capture, of which each change takes a tick and a value of

@@ -4,6 +4,7 @@ use Rattle.vcd_core.specs.declared.wave.Change.{Change}
 use Rattle.vcd_core.specs.declared.capture.Signal.{Signal}
 use Rattle.vcd_core.specs.declared.capture.TheConstants.{END_LIMIT}
 use Rattle.vcd_core.specs.Contents.{Contents, signal_at}
+use Rattle.vcd_core.specs.WaveView.{WaveView}
 use Rattle.vcd_core.specs.Wave.{IsWave}
 use Rattle.vcd_core.specs.Splice.{TicksFit}
 use Rattle.vcd_edit.specs.declared.record.Piece.{Piece}
@@ -48,13 +49,22 @@ LeadBack c (p ∷ ps) (q ∷ qs) = (p.signal < length c.signals) × LeadsBack (s
 
 -- ---- room
 
--- how many more changes the wave at a position holds
-abbrev pub room_at : List Signal → ℕ → ℕ
-room_at ss k = slice_index_or (map (λ s. s.wave.room) ss) k 0
+-- stands for a wave where there is none
+abbrev pub no_wave : WaveView
+no_wave = record { width = 1; changes = []; room = 0 }
+
+-- the wave at a position
+abbrev pub wave_at : List Signal → ℕ → WaveView
+wave_at ss k = slice_index_or (map (λ s. s.wave) ss) k no_wave
+
+-- the second wave has as many changes as the first, and no less room
+pub record HasNoLessRoom (old new : WaveView) : Type 0 where
+  pub count : length new.changes ≡ length old.changes
+  pub room : old.room ≤ new.room
 
 -- a piece and its wave have the room for what the other gives
 pub record HasRoomForPiece (ss : List Signal) (p : Piece) : Type 0 where
-  pub wave : vec_len p.changes ≤ room_at ss p.signal + (p.to - p.from)
+  pub wave : length (wave_at ss p.signal).changes + vec_len p.changes < (wave_at ss p.signal).room + (p.to - p.from)
   pub piece : p.to - p.from ≤ vec_capacity p.changes
 
 -- ---- how far the pieces have come

@@ -7,7 +7,7 @@ ghost use Rattle.vcd_core.specs.Contents.{contents, signal_at};
 ghost use Rattle.vcd_edit.specs.RecordView.{PieceView};
 ghost use Rattle.vcd_edit.specs.Back.{changes_with_piece, with_piece, with_pieces, AreApart};
 ghost use Rattle.vcd_edit.specs.inside.Records.{piece_view};
-ghost use Rattle.vcd_edit.specs.inside.Exchanges.{PieceReady, PieceReadyIn, LeadsBack, LeadBack, room_at, HasRoomForPiece};
+ghost use Rattle.vcd_edit.specs.inside.Exchanges.{PieceReady, PieceReadyIn, LeadsBack, LeadBack, wave_at, HasRoomForPiece};
 
 use crate::pieces::trimming::trim;
 use crate::record::Piece;
@@ -26,7 +26,8 @@ fn opposite(by: i64) -> i64
 /// It takes no memory. The cost is the piece, its part and one move of the later changes.
 fn exchange_piece(piece: &mut Piece, wave: &mut Wave)
     requires ready { PieceReady wave.old.width wave.old.changes (piece_view piece.old) }
-    requires room { vec_len piece.old.changes ≤ wave.old.room + (piece.old.to - piece.old.from) }
+    requires room { length wave.old.changes + vec_len piece.old.changes
+        < wave.old.room + (piece.old.to - piece.old.from) }
     requires piece_room { piece.old.to - piece.old.from ≤ vec_capacity piece.old.changes }
     ensures width { wave.new.width ≡ wave.old.width }
     ensures there { wave.new.changes ≡ changes_with_piece (piece_view piece.old) wave.old.changes }
@@ -48,7 +49,7 @@ fn put_one(capture: &mut Capture, piece: &mut Piece)
     ensures back { LeadsBack (signal_at (contents capture.old) piece.old.signal).changes
         (piece_view piece.old) (piece_view piece.new) }
     ensures others { (k : ℕ) → k ≢ piece.old.signal
-        → room_at capture.new.signals k ≡ room_at capture.old.signals k }
+        → wave_at capture.new.signals k ≡ wave_at capture.old.signals k }
 {
     exchange_piece(piece, &mut capture.signals.item_mut(piece.signal).wave);
 }

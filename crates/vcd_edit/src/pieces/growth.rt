@@ -1,9 +1,9 @@
 //! The room that pieces and waves need to change places.
 
-ghost use Rattle.std.specs.Prelude.{◌≡◌, ℕ, ◌<◌, ◌≤◌, [], All, IsOk, OnOk, map, length};
+ghost use Rattle.std.specs.Prelude.{◌≡◌, ℕ, ◌+◌, ◌<◌, ◌≤◌, [], All, IsOk, OnOk, map, length};
 ghost use Rattle.vcd_core.specs.Contents.{contents};
 ghost use Rattle.vcd_edit.specs.inside.Records.{piece_view};
-ghost use Rattle.vcd_edit.specs.inside.Exchanges.{room_at, HasRoomForPiece};
+ghost use Rattle.vcd_edit.specs.inside.Exchanges.{wave_at, HasNoLessRoom, HasRoomForPiece};
 
 use crate::record::Piece;
 use vcd_core::{Capture, NoMemory};
@@ -13,8 +13,10 @@ use vcd_core::{Capture, NoMemory};
 fn reserve_wave(capture: &mut Capture, signal: usize, more: usize) -> Result<(), NoMemory>
     requires { signal < length capture.old.signals }
     ensures contents { contents capture.new ≡ contents capture.old }
-    ensures room { OnOk result (more ≤ room_at capture.new.signals signal) }
-    ensures never_less { (k : ℕ) → room_at capture.old.signals k ≤ room_at capture.new.signals k }
+    ensures room { OnOk result (length (wave_at capture.old.signals signal).changes + more
+        < (wave_at capture.new.signals signal).room) }
+    ensures never_less { (k : ℕ) →
+        HasNoLessRoom (wave_at capture.old.signals k) (wave_at capture.new.signals k) }
 {
     capture.signals.item_mut(signal).wave.reserve(more)
 }
@@ -27,7 +29,8 @@ fn reserve_one(capture: &mut Capture, piece: &mut Piece) -> Result<(), NoMemory>
     ensures contents { contents capture.new ≡ contents capture.old }
     ensures piece { piece_view piece.new ≡ piece_view piece.old }
     ensures room { OnOk result (HasRoomForPiece capture.new.signals piece.new) }
-    ensures never_less { (k : ℕ) → room_at capture.old.signals k ≤ room_at capture.new.signals k }
+    ensures never_less { (k : ℕ) →
+        HasNoLessRoom (wave_at capture.old.signals k) (wave_at capture.new.signals k) }
 {
     let come = piece.changes.as_slice().len();
     let part = piece.to - piece.from;

@@ -18,7 +18,7 @@ ghost use Rattle.vcd_text.specs.declared.reading.variables.Owner.TheVariants.{Ke
 use crate::fault::Fault;
 use crate::reading::binary_number::{BinaryNumberError, LetterWord, read_value, read_word};
 use crate::reading::change_log::{ChangeLog, LoggedChange, settle};
-use crate::reading::finished_signals::{COPIES_LIMIT, push_signal};
+use crate::reading::finished_signals::push_signal;
 use crate::reading::owners::Owners;
 use crate::reading::ticks_and_sizes::size_of;
 use std::alloc::Global;
@@ -30,8 +30,8 @@ use vcd_core::{
 
 /// A variable that is kept: its code, and the signal that it becomes.
 ///
-/// Of the variables with one code, the first has the wave so far, but for what the log has; the others get copies of
-/// it at the end.
+/// Of the variables with one code, the first has the wave so far, but for what the log has; the others share its list
+/// at the end.
 #[derive(Drop)]
 pub struct Variable {
     pub code: Word,
@@ -331,8 +331,8 @@ impl Variables {
 
     /// The signals that the kept variables have become, in their order, without their scopes.
     ///
-    /// The waves are made of the log first. A signal is moved, but a wave that several variables share is copied for
-    /// the later ones, up to `COPIES_LIMIT` changes in all.
+    /// The waves are made of the log first. A signal is moved. The later variables of a code share the list of the
+    /// first, so that no change is copied.
     pub fn into_signals(self, alloc: Global) -> Result<Vec<Signal>, NoMemory>
         requires { (c : Context) × Knows self c }
         ensures { IfOk result (λ signals. (c : Context) → Knows self c →
@@ -362,9 +362,8 @@ impl Variables {
     {
         let Variables { kept, .. } = self;
         let mut signals = Vec::with_capacity(alloc, kept.len())?;
-        let mut copies_left = COPIES_LIMIT;
         for variable in kept {
-            push_signal(alloc, &mut signals, variable, &mut copies_left)?;
+            push_signal(&mut signals, variable)?;
         }
         Ok(signals)
     }

@@ -3,7 +3,7 @@ use Rattle.std.proofs.lemmas.List.{length-map}
 use Rattle.vcd_core.specs.Contents.{Contents, SignalContents, contents, signal_contents}
 use Rattle.vcd_edit.specs.Back.{changes_with_piece}
 use Rattle.vcd_edit.specs.inside.Records.{piece_view}
-use Rattle.vcd_edit.proofs.PiecesPut.{contents_at, changes_written, other_rooms}
+use Rattle.vcd_edit.proofs.PiecesPut.{contents_at, changes_written, other_waves}
 use Rattle.vcd_edit.proofs.pieces.exchanges.put_one.Goals as goal
 
 pub returns-clause-there : goal.returns-clause-there
@@ -16,4 +16,4 @@ returns-clause-there c =
     (c.exchange_piece.ensures.there ∙ ap (λ (s : SignalContents). changes_with_piece (piece_view c.args.piece.now) s.changes) (sym (contents_at c.args.capture.now.signals k c.item_mut.result.now within c.item_mut.ensures.value))))
 
 pub returns-clause-others : goal.returns-clause-others
-returns-clause-others c = λ k other. other_rooms c.args.capture.now.signals c.args.piece.now.signal k _ other
+returns-clause-others c = λ k other. other_waves c.args.capture.now.signals c.args.piece.now.signal k _ other

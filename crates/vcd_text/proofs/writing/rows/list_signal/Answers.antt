@@ -10,7 +10,7 @@ use Rattle.vcd_text.specs.declared.writing.rows.ListedTransition.{ListedTransiti
 use Rattle.vcd_text.specs.inside.KeptChanges.{KeepsChange}
 use Rattle.vcd_text.specs.inside.Transitions.{Transition, transition_of, window_of_signal}
 use Rattle.vcd_text.specs.inside.Windows.{listed_transition, transitions_of}
-use Rattle.vcd_text.proofs.CopiedWaves.{wide_at}
+use Rattle.vcd_text.proofs.WaveChanges.{wide_at}
 use Rattle.vcd_text.proofs.Listing.{count_to}
 use Rattle.vcd_text.proofs.Near.{value_standing}
 use Rattle.vcd_text.proofs.NextChanges.{behind_next, first_transition, stays_next, still_window}

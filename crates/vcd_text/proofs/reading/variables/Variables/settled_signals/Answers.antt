@@ -1,6 +1,5 @@
 use Rattle.std.proofs.Common.{◌∙◌, ◌++◌, ◌∷◌, [], map, sym, ap}
 use Rattle.std.proofs.lemmas.List.{map-append, append_assoc}
-use Rattle.vcd_core.specs.Contents.{signal_contents}
 use Rattle.vcd_text.specs.Meaning.{declared_signal}
 use Rattle.vcd_text.specs.inside.Variables.{declaration}
 use Rattle.vcd_text.proofs.FinishedVariables.{finishes_as_declared}
@@ -18,8 +17,7 @@ loop-variable-preserved c =
       λ empty told k.
           let one =
           finishes_as_declared c.args.self told yielded rest v signals k empty all (c.loop-variable.invariant.1 empty told k) added.0 added.1 in
-          ap (map signal_contents) added.2
-          ∙ map-append signal_contents signals (added.0 ∷ [])
+          added.2
           ∙ (λ i. c.loop-variable.invariant.1 empty told k i ++ one i ∷ [])
           ∙ sym (map-append (declared_signal told.value_changes told.tick) (map declaration yielded) (declaration v ∷ []))
           ∙ ap (map (declared_signal told.value_changes told.tick)) (sym (map-append declaration yielded (v ∷ []))),

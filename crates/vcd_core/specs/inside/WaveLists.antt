@@ -1,0 +1,15 @@
+-- The lists of changes that waves have.
+use Rattle.std.specs.Prelude.{ℕ, suc, List, vec_capacity}
+use Rattle.vcd_core.specs.declared.wave.Change.{Change}
+use Rattle.vcd_core.specs.declared.wave_list.WaveList.{WaveList}
+use Rattle.vcd_core.specs.declared.wave_list.WaveList.TheVariants.{Own, Shared}
+
+-- the changes of a list
+abbrev pub changes_of_list : WaveList → List Change
+changes_of_list (Own list) = list.items
+changes_of_list (Shared list) = list.value.items
+
+-- one more than the changes that a wave's own list can have, and 0 where it is shared
+abbrev pub room_of_list : WaveList → ℕ
+room_of_list (Own list) = suc (vec_capacity list)
+room_of_list (Shared list) = 0

@@ -1,0 +1,24 @@
+use Rattle.std.proofs.Common.{◌∙◌, inl, inr, map, set, sym, ap, subst, arith}
+use Rattle.std.proofs.lemmas.List.{map-set, get_or-map, set-get_or}
+use Rattle.std.proofs.lemmas.Option.{slice_get_cases}
+use Rattle.vcd_core.specs.Contents.{signal_contents}
+use Rattle.vcd_text.specs.inside.Variables.{Finishes}
+use Rattle.vcd_text.proofs.reading.finished_signals.finished_signal.Goals as goal
+
+pub returns-then-first-before-clause-kept : goal.returns-then-first-before-clause-kept
+returns-then-first-before-clause-kept c =
+    let first = c.args.variable.first in
+    let before = c.args.before.now in
+    let old = c.index-before-first.result in
+    map-set signal_contents before first c.with_wave_of.new.first
+    ∙ ap (set (map signal_contents before) first) (c.with_wave_of.ensures.kept ∙ sym (get_or-map signal_contents before first old (signal_contents old) c.if-first-before.true))
+    ∙ set-get_or (map signal_contents before) first (signal_contents old)
+
+pub returns-clause-finished : goal.returns-clause-finished
+returns-clause-finished c =
+    let first = c.args.variable.first in
+    let before = c.args.before.now in
+    elim (slice_get_cases before first).1 [
+      | inl (s, within, at, read) ↦ absurd (omega (arith, within, c.if-first-before.false))
+      | inr (past, at) ↦ subst (λ o. Finishes c.args.variable o c.with_form.result) (sym at) (c.with_form.ensures.same, c.with_form.ensures.form)
+    ]
