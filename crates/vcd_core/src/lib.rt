@@ -22,6 +22,7 @@ mod scope_path;
 mod searching;
 mod seq;
 mod soundness;
+mod spliced_copy;
 mod splicing;
 mod value;
 mod wave;

@@ -6,7 +6,6 @@ ghost use Rattle.vcd_core.specs.Splice.{TicksFit, spliced_changes};
 use crate::change_list::{last_value, push_change, push_word_change};
 use crate::memory::NoMemory;
 use crate::searching::count_near;
-use crate::splicing::splice_changes;
 use crate::value::{Value, WIDTH_LIMIT};
 use crate::wave_list::WaveList;
 use std::alloc::Global;
@@ -27,8 +26,10 @@ pub struct Change {
 /// A wave has its list alone, or shares it with others ([`Wave::share`]). What changes a wave gives
 /// it a list of its own first, so the others stay as they are.
 ///
-/// Contracts see the width in bits, the changes, and the room. The room is one more than the number
-/// of changes that the wave's own list can have without new memory, and 0 where the list is shared.
+/// Contracts see the width in bits, the changes, and two numbers of room. The first is one more than
+/// the number of changes that the wave's own list can have without new memory, and 0 where the list
+/// is shared. The second is the same for the list that [`Wave::splice`] makes, and is 0 where that
+/// would need memory.
 #[derive(Drop)]
 pub struct Wave {
     width: u64,
@@ -37,7 +38,7 @@ pub struct Wave {
 
 impl Model for Wave {
     ghost use Rattle.std.specs.Prelude.{◌≤◌};
-    ghost use Rattle.vcd_core.specs.inside.WaveLists.{changes_of_list, room_of_list};
+    ghost use Rattle.vcd_core.specs.inside.WaveLists.{changes_of_list, room_of_list, splice_room_of_list};
     ghost use Rattle.vcd_core.specs.WaveView.{WaveView};
     ghost use Rattle.vcd_core.specs.Wave.{IsWave};
     ghost use Rattle.vcd_core.specs.declared.value.TheConstants.{WIDTH_LIMIT};
@@ -48,6 +49,7 @@ impl Model for Wave {
       width = w.width;
       changes = changes_of_list w.list;
       room = room_of_list w.list;
+      splice_room = splice_room_of_list w.list;
     } };
 
     ghost invariant = { λ w.
@@ -143,7 +145,7 @@ impl Wave {
         self.list.part(1)?;
         match &mut self.list {
             WaveList::Own(list) => push_change(list, self.width, tick, value)?,
-            WaveList::Shared(_) => unreachable!(),
+            _ => unreachable!(),
         }
         Ok(())
     }
@@ -174,7 +176,7 @@ impl Wave {
         self.list.part(1)?;
         match &mut self.list {
             WaveList::Own(list) => push_word_change(list, self.width, tick, low, high)?,
-            WaveList::Shared(_) => unreachable!(),
+            _ => unreachable!(),
         }
         Ok(())
     }
@@ -207,6 +209,7 @@ impl Wave {
         ensures room { OnOk result (length self.old.changes + more < self.new.room) }
         ensures in_place { length self.old.changes + more < self.old.room → IsOk result }
         ensures never_less { self.old.room ≤ self.new.room }
+        ensures spliced { self.new.room ≤ self.new.splice_room }
         ensures refused { OnErr result (0 < self.old.room → self.new.room ≡ self.old.room) }
     {
         self.list.reserve(more)
@@ -221,21 +224,59 @@ impl Wave {
             self.new.room ≡ max self.old.room (length self.old.changes + more + 1)) }
         ensures in_place { length self.old.changes + more < self.old.room → IsOk result }
         ensures never_less { self.old.room ≤ self.new.room }
+        ensures spliced { self.new.room ≤ self.new.splice_room }
         ensures refused { OnErr result (0 < self.old.room → self.new.room ≡ self.old.room) }
     {
         self.list.reserve_exact(more)
     }
 
+    /// Makes room for a [`Wave::splice`] of these positions and of this piece. The wave holds what
+    /// it held, also where the memory is refused.
+    ///
+    /// It takes no memory where that room is there already. A wave with a list of its own gets room
+    /// for what comes beyond what goes. One that shares its list keeps sharing it, and gets memory
+    /// for the changes that the splice keeps and those of the piece; no change is copied yet.
+    pub fn reserve_splice(
+        &mut self,
+        from: usize,
+        to: usize,
+        piece: &[Change],
+    ) -> Result<(), NoMemory>
+        requires ordered { from ≤ to }
+        requires within { to ≤ length self.old.changes }
+        ensures width { self.new.width ≡ self.old.width }
+        ensures changes { self.new.changes ≡ self.old.changes }
+        ensures room { OnOk result (length self.old.changes + length piece.now
+            < self.new.splice_room + (to - from)) }
+        ensures in_place { length self.old.changes + length piece.now
+            < self.old.splice_room + (to - from) → IsOk result }
+        ensures never_less { self.old.splice_room ≤ self.new.splice_room }
+        ensures own { self.old.room ≤ self.new.room }
+        ensures refused { OnErr result (0 < self.old.room → self.new.room ≡ self.old.room) }
+    {
+        self.list.reserve_splice(to - from, piece)
+    }
+
+    /// Gives back the memory that [`Wave::reserve_splice`] took beside a list that is shared.
+    pub fn cancel_splice(&mut self)
+        ensures width { self.new.width ≡ self.old.width }
+        ensures changes { self.new.changes ≡ self.old.changes }
+        ensures room { self.new.room ≡ self.old.room }
+    {
+        self.list.cancel_splice();
+    }
+
     /// The changes at positions `from` up to before `to` and the contents of `piece` change places,
     /// and the later changes move by `by` ticks.
     ///
-    /// It takes no memory, so the wave has a list of its own, and each list has the room for what the
-    /// other gives. The cost is the piece and the range; where `by` is not 0, or their lengths differ,
-    /// each later change is copied once.
+    /// It takes no memory, so each list has the room for what the other gives. The cost is the piece
+    /// and the range; where `by` is not 0, or their lengths differ, each later change is copied once.
+    /// A wave that shares its list then has its own, into which each change is copied.
     pub fn splice(&mut self, from: usize, to: usize, piece: &mut Vec<Change>, by: i64)
         requires ordered { from ≤ to }
         requires within { to ≤ length self.old.changes }
-        requires fits { length self.old.changes + vec_len piece.old < self.old.room + (to - from) }
+        requires fits { length self.old.changes + vec_len piece.old
+            < self.old.splice_room + (to - from) }
         requires piece_fits { to - from ≤ vec_capacity piece.old }
         requires ticks { TicksFit by (drop to self.old.changes) }
         requires form { IsWave self.old.width
@@ -246,13 +287,10 @@ impl Wave {
             ≡ spliced_changes self.old.changes from to piece.old.items by }
         ensures piece { piece.new.items ≡ slice_range self.old.changes from to }
 
-        // No room is lost, on either side.
-        ensures room { self.old.room ≤ self.new.room }
+        // The list is the wave's own, and no room is lost, on either side.
+        ensures room { self.old.splice_room ≤ self.new.room }
         ensures piece_room { vec_capacity piece.old ≤ vec_capacity piece.new }
     {
-        match &mut self.list {
-            WaveList::Own(list) => splice_changes(list, from, to, piece, by),
-            WaveList::Shared(_) => unreachable!(),
-        }
+        self.list.splice(from, to, piece, by);
     }
 }

@@ -1,9 +1,12 @@
 //! The list of changes of a wave: its own, or one that several waves share.
 
-ghost use Rattle.std.specs.Prelude.{◌≡◌, ◌<◌, ◌≤◌, ◌+◌, max, length, IsOk, IfOk, OnOk, OnErr, vec_len, vec_capacity};
-ghost use Rattle.vcd_core.specs.inside.WaveLists.{changes_of_list, room_of_list};
+ghost use Rattle.std.specs.Prelude.{◌≡◌, ◌<◌, ◌≤◌, ◌+◌, ◌-◌, max, length, drop, slice_range, IsOk, IfOk, OnOk, OnErr, vec_len, vec_capacity};
+ghost use Rattle.vcd_core.specs.Splice.{TicksFit, spliced_changes};
+ghost use Rattle.vcd_core.specs.inside.WaveLists.{changes_of_list, room_of_list, splice_room_of_list};
 
 use crate::memory::NoMemory;
+use crate::spliced_copy::copy_spliced;
+use crate::splicing::splice_changes;
 use crate::wave::Change;
 use std::alloc::Global;
 use std::mem::replace;
@@ -16,6 +19,11 @@ pub(crate) enum WaveList {
     Own(Vec<Change>),
     /// Several waves can have it; it goes with the last.
     Shared(Rc<Vec<Change>>),
+    /// The same, beside memory for the list that a splice makes of it for this wave alone.
+    SharedWithRoom {
+        list: Rc<Vec<Change>>,
+        room: Vec<Change>,
+    },
 }
 
 /// A copy of a list, with room for `more` changes.
@@ -30,8 +38,8 @@ fn copy_with_room(alloc: Global, changes: &[Change], more: usize) -> Result<Vec<
     Ok(copy)
 }
 
-/// The list alone. It is taken back where nobody else has it, and else copied, with room for `more` changes.
-fn part_list(
+/// The list alone: taken back where nobody else has it, and else copied, with room for `more` changes.
+fn part_shared(
     alloc: Global,
     shared: Rc<Vec<Change>>,
     more: usize,
@@ -48,17 +56,17 @@ fn part_list(
     }
 }
 
-/// A list that others can have, too, and the same once more.
-fn share_list(alloc: Global, list: Vec<Change>) -> (WaveList, Result<WaveList, NoMemory>)
-    ensures changes { changes_of_list result.0 ≡ list.items }
-    ensures same { IfOk result.1 (λ other. changes_of_list other ≡ list.items) }
+/// The list alone, whoever has it now; a copy has room for `more` changes.
+fn part_list(alloc: Global, list: WaveList, more: usize) -> (WaveList, Result<(), NoMemory>)
+    ensures changes { changes_of_list result.0 ≡ changes_of_list list }
+    ensures own { OnOk result.1 (0 < room_of_list result.0) }
+    ensures in_place { 0 < room_of_list list → IsOk result.1 }
+    ensures same { 0 < room_of_list list → result.0 ≡ list }
 {
-    match Rc::new(alloc, list) {
-        Ok(shared) => {
-            let other = clone_shared(&shared);
-            (WaveList::Shared(shared), other)
-        }
-        Err(refused) => (WaveList::Own(refused.value), Err(NoMemory)),
+    match list {
+        WaveList::Own(own) => (WaveList::Own(own), Ok(())),
+        WaveList::Shared(shared) => part_shared(alloc, shared, more),
+        WaveList::SharedWithRoom { list, .. } => part_shared(alloc, list, more),
     }
 }
 
@@ -69,6 +77,160 @@ fn clone_shared(shared: &Rc<Vec<Change>>) -> Result<WaveList, NoMemory>
     Ok(WaveList::Shared(shared.clone()?))
 }
 
+/// A list that others can have, too, and the same once more.
+fn share_own(alloc: Global, own: Vec<Change>) -> (WaveList, Result<WaveList, NoMemory>)
+    ensures kept { changes_of_list result.0 ≡ own.items }
+    ensures same { IfOk result.1 (λ other. changes_of_list other ≡ own.items) }
+{
+    match Rc::new(alloc, own) {
+        Ok(shared) => {
+            let other = clone_shared(&shared);
+            (WaveList::Shared(shared), other)
+        }
+        Err(refused) => (WaveList::Own(refused.value), Err(NoMemory)),
+    }
+}
+
+/// The list as one that others can have, too, and the same once more.
+fn share_list(alloc: Global, list: WaveList) -> (WaveList, Result<WaveList, NoMemory>)
+    ensures kept { changes_of_list result.0 ≡ changes_of_list list }
+    ensures same { IfOk result.1 (λ other. changes_of_list other ≡ changes_of_list list) }
+{
+    match list {
+        WaveList::Own(own) => share_own(alloc, own),
+        WaveList::Shared(shared) => {
+            let other = clone_shared(&shared);
+            (WaveList::Shared(shared), other)
+        }
+        WaveList::SharedWithRoom { list, .. } => {
+            let other = clone_shared(&list);
+            (WaveList::Shared(list), other)
+        }
+    }
+}
+
+/// Makes room for a splice in a list that the wave alone has.
+fn reserve_own(list: Vec<Change>, more: usize) -> (WaveList, Result<(), NoMemory>)
+    ensures changes { changes_of_list result.0 ≡ list.items }
+    ensures room { OnOk result.1 (length list.items + more < splice_room_of_list result.0) }
+    ensures in_place { vec_len list + more ≤ vec_capacity list → IsOk result.1 }
+    ensures never_less { vec_capacity list < splice_room_of_list result.0 }
+    ensures own { vec_capacity list < room_of_list result.0 }
+    ensures refused { OnErr result.1 (room_of_list result.0 ≡ vec_capacity list + 1) }
+{
+    let mut own = list;
+    match own.reserve(more) {
+        Ok(()) => (WaveList::Own(own), Ok(())),
+        Err(_) => (WaveList::Own(own), Err(NoMemory)),
+    }
+}
+
+/// Makes room beside a shared list for one of `count` changes. What stood in that memory goes.
+fn reserve_beside(
+    list: Rc<Vec<Change>>,
+    room: Vec<Change>,
+    count: usize,
+) -> (WaveList, Result<(), NoMemory>)
+    ensures changes { changes_of_list result.0 ≡ list.value.items }
+    ensures room { OnOk result.1 (count < splice_room_of_list result.0) }
+    ensures in_place { count ≤ vec_capacity room → IsOk result.1 }
+    ensures never_less { vec_capacity room < splice_room_of_list result.0 }
+{
+    let mut room = room;
+    room.truncate(0);
+    match room.reserve_exact(count) {
+        Ok(()) => (WaveList::SharedWithRoom { list, room }, Ok(())),
+        Err(_) => (WaveList::SharedWithRoom { list, room }, Err(NoMemory)),
+    }
+}
+
+/// Makes room for a list of `count` changes where nobody else has the list, in it, and else beside it.
+fn reserve_shared(
+    alloc: Global,
+    shared: Rc<Vec<Change>>,
+    more: usize,
+    count: usize,
+) -> (WaveList, Result<(), NoMemory>)
+    requires { count ≤ length shared.value.items + more }
+    ensures changes { changes_of_list result.0 ≡ shared.value.items }
+    ensures room { OnOk result.1 (count < splice_room_of_list result.0) }
+{
+    match Rc::try_unwrap(shared) {
+        Ok(own) => reserve_own(own, more),
+        Err(list) => match Vec::with_capacity(alloc, count) {
+            Ok(room) => (WaveList::SharedWithRoom { list, room }, Ok(())),
+            Err(_) => (WaveList::Shared(list), Err(NoMemory)),
+        },
+    }
+}
+
+/// Makes room for what a splice makes of a list, where `part` changes give way to those of a piece.
+fn reserve_list(
+    alloc: Global,
+    list: WaveList,
+    part: usize,
+    piece: &[Change],
+) -> (WaveList, Result<(), NoMemory>)
+    requires { part ≤ length (changes_of_list list) }
+    ensures changes { changes_of_list result.0 ≡ changes_of_list list }
+    ensures room { OnOk result.1 (length (changes_of_list list) + length piece.now
+        < splice_room_of_list result.0 + part) }
+    ensures in_place { length (changes_of_list list) + length piece.now
+        < splice_room_of_list list + part → IsOk result.1 }
+    ensures never_less { splice_room_of_list list ≤ splice_room_of_list result.0 }
+    ensures own { room_of_list list ≤ room_of_list result.0 }
+    ensures refused { OnErr result.1 (0 < room_of_list list →
+        room_of_list result.0 ≡ room_of_list list) }
+{
+    let more = piece.len().saturating_sub(part);
+    let count = list.as_slice().len() - part + piece.len();
+    match list {
+        WaveList::Own(own) => reserve_own(own, more),
+        WaveList::Shared(shared) => reserve_shared(alloc, shared, more, count),
+        WaveList::SharedWithRoom { list, room } => reserve_beside(list, room, count),
+    }
+}
+
+/// The list without the memory beside it.
+fn cancel_list(list: WaveList) -> WaveList
+    ensures changes { changes_of_list result ≡ changes_of_list list }
+    ensures room { room_of_list result ≡ room_of_list list }
+{
+    match list {
+        WaveList::SharedWithRoom { list, .. } => WaveList::Shared(list),
+        other => other,
+    }
+}
+
+/// What a splice makes of a list.
+fn splice_list(list: WaveList, from: usize, to: usize, piece: &mut Vec<Change>, by: i64) -> WaveList
+    requires ordered { from ≤ to }
+    requires within { to ≤ length (changes_of_list list) }
+    requires room { length (changes_of_list list) + vec_len piece.old
+        < splice_room_of_list list + (to - from) }
+    requires piece_room { to - from ≤ vec_capacity piece.old }
+    requires fit { TicksFit by (drop to (changes_of_list list)) }
+    ensures changes { changes_of_list result
+        ≡ spliced_changes (changes_of_list list) from to piece.old.items by }
+    ensures piece { piece.new.items ≡ slice_range (changes_of_list list) from to }
+    ensures room { splice_room_of_list list ≤ room_of_list result }
+    ensures piece_capacity { vec_capacity piece.old ≤ vec_capacity piece.new }
+{
+    match list {
+        WaveList::Own(own) => {
+            let mut spliced = own;
+            splice_changes(&mut spliced, from, to, piece, by);
+            WaveList::Own(spliced)
+        }
+        WaveList::Shared(_) => unreachable!(),
+        WaveList::SharedWithRoom { list, room } => {
+            let mut spliced = room;
+            copy_spliced(&mut spliced, list.as_slice(), from, to, piece, by);
+            WaveList::Own(spliced)
+        }
+    }
+}
+
 impl WaveList {
     /// The changes.
     pub fn as_slice(&self) -> &[Change]
@@ -77,6 +239,7 @@ impl WaveList {
         match self {
             WaveList::Own(list) => list.as_slice(),
             WaveList::Shared(list) => list.as_slice(),
+            WaveList::SharedWithRoom { list, .. } => list.as_slice(),
         }
     }
 
@@ -84,6 +247,7 @@ impl WaveList {
         match self {
             WaveList::Own(list) => *list.allocator(),
             WaveList::Shared(list) => *list.allocator(),
+            WaveList::SharedWithRoom { list, .. } => *list.allocator(),
         }
     }
 
@@ -93,18 +257,9 @@ impl WaveList {
         ensures same { IfOk result (λ other. changes_of_list other ≡ changes_of_list self.old) }
     {
         let alloc = self.alloc();
-        match replace(self, WaveList::Own(Vec::new(alloc))) {
-            WaveList::Own(own) => {
-                let (list, other) = share_list(alloc, own);
-                *self = list;
-                other
-            }
-            WaveList::Shared(shared) => {
-                let other = clone_shared(&shared);
-                *self = WaveList::Shared(shared);
-                other
-            }
-        }
+        let (list, other) = share_list(alloc, replace(self, WaveList::Own(Vec::new(alloc))));
+        *self = list;
+        other
     }
 
     /// Gives the wave its list alone, if it is not yet; a copy has room for `more` changes.
@@ -117,50 +272,94 @@ impl WaveList {
             return Ok(());
         }
         let alloc = self.alloc();
-        match replace(self, WaveList::Own(Vec::new(alloc))) {
-            WaveList::Own(own) => {
-                *self = WaveList::Own(own);
-                Ok(())
-            }
-            WaveList::Shared(shared) => {
-                let (list, parted) = part_list(alloc, shared, more);
-                *self = list;
-                parted
-            }
-        }
+        let (list, parted) = part_list(alloc, replace(self, WaveList::Own(Vec::new(alloc))), more);
+        *self = list;
+        parted
     }
 
     /// Gives the wave its list alone, with room for `more` changes.
     pub fn reserve(&mut self, more: usize) -> Result<(), NoMemory>
         ensures changes { changes_of_list self.new ≡ changes_of_list self.old }
-        ensures room { OnOk result (length (changes_of_list self.old) + more < room_of_list self.new) }
+        ensures room { OnOk result
+            (length (changes_of_list self.old) + more < room_of_list self.new) }
         ensures in_place { length (changes_of_list self.old) + more < room_of_list self.old → IsOk result }
         ensures never_less { room_of_list self.old ≤ room_of_list self.new }
+        ensures spliced { room_of_list self.new ≤ splice_room_of_list self.new }
         ensures refused { OnErr result (0 < room_of_list self.old →
             room_of_list self.new ≡ room_of_list self.old) }
     {
         self.part(more)?;
         match self {
             WaveList::Own(list) => Ok(list.reserve(more)?),
-            WaveList::Shared(_) => unreachable!(),
+            _ => unreachable!(),
         }
     }
 
     /// The same with no more room than that, where memory is taken.
     pub fn reserve_exact(&mut self, more: usize) -> Result<(), NoMemory>
         ensures changes { changes_of_list self.new ≡ changes_of_list self.old }
-        ensures room { OnOk result (length (changes_of_list self.old) + more < room_of_list self.new) }
+        ensures room { OnOk result
+            (length (changes_of_list self.old) + more < room_of_list self.new) }
         ensures exact { OnOk result (0 < room_of_list self.old → room_of_list self.new
             ≡ max (room_of_list self.old) (length (changes_of_list self.old) + more + 1)) }
         ensures in_place { length (changes_of_list self.old) + more < room_of_list self.old → IsOk result }
         ensures never_less { room_of_list self.old ≤ room_of_list self.new }
+        ensures spliced { room_of_list self.new ≤ splice_room_of_list self.new }
         ensures refused { OnErr result (0 < room_of_list self.old →
             room_of_list self.new ≡ room_of_list self.old) }
     {
         self.part(more)?;
         match self {
             WaveList::Own(list) => Ok(list.reserve_exact(more)?),
-            WaveList::Shared(_) => unreachable!(),
+            _ => unreachable!(),
         }
+    }
+
+    /// Makes room for what a splice makes of the list, where `part` changes give way to those of a piece.
+    pub fn reserve_splice(&mut self, part: usize, piece: &[Change]) -> Result<(), NoMemory>
+        requires { part ≤ length (changes_of_list self.old) }
+        ensures changes { changes_of_list self.new ≡ changes_of_list self.old }
+        ensures room { OnOk result (length (changes_of_list self.old) + length piece.now
+            < splice_room_of_list self.new + part) }
+        ensures in_place { length (changes_of_list self.old) + length piece.now
+            < splice_room_of_list self.old + part → IsOk result }
+        ensures never_less { splice_room_of_list self.old ≤ splice_room_of_list self.new }
+        ensures own { room_of_list self.old ≤ room_of_list self.new }
+        ensures refused { OnErr result (0 < room_of_list self.old →
+            room_of_list self.new ≡ room_of_list self.old) }
+    {
+        let alloc = self.alloc();
+        let list = replace(self, WaveList::Own(Vec::new(alloc)));
+        let (list, reserved) = reserve_list(alloc, list, part, piece);
+        *self = list;
+        reserved
+    }
+
+    /// Gives back the memory that [`WaveList::reserve_splice`] took beside a shared list.
+    pub fn cancel_splice(&mut self)
+        ensures changes { changes_of_list self.new ≡ changes_of_list self.old }
+        ensures room { room_of_list self.new ≡ room_of_list self.old }
+    {
+        let alloc = self.alloc();
+        *self = cancel_list(replace(self, WaveList::Own(Vec::new(alloc))));
+    }
+
+    /// The splice of the list, for which there is room.
+    pub fn splice(&mut self, from: usize, to: usize, piece: &mut Vec<Change>, by: i64)
+        requires ordered { from ≤ to }
+        requires within { to ≤ length (changes_of_list self.old) }
+        requires room { length (changes_of_list self.old) + vec_len piece.old
+            < splice_room_of_list self.old + (to - from) }
+        requires piece_room { to - from ≤ vec_capacity piece.old }
+        requires fit { TicksFit by (drop to (changes_of_list self.old)) }
+        ensures changes { changes_of_list self.new
+            ≡ spliced_changes (changes_of_list self.old) from to piece.old.items by }
+        ensures piece { piece.new.items ≡ slice_range (changes_of_list self.old) from to }
+        ensures room { splice_room_of_list self.old ≤ room_of_list self.new }
+        ensures piece_capacity { vec_capacity piece.old ≤ vec_capacity piece.new }
+    {
+        let alloc = self.alloc();
+        let list = replace(self, WaveList::Own(Vec::new(alloc)));
+        *self = splice_list(list, from, to, piece, by);
     }
 }

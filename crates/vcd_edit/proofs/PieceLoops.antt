@@ -85,7 +85,7 @@ module _ (before : Contents) (old new : List Piece) (i : ℕ) (x y : Piece) (now
       subst (λ (q : PieceView). q.signal ≢ x.signal) (get_or-map piece_view (drop (i + 1) old) k d (piece_view d) less)
       (others k (piece_view d) (omega (arith, less, length-map (drop (i + 1) old) piece_view))) in
       record {
-        wave = subst (λ (w : WaveView). length w.changes + vec_len p.changes < w.room + (p.to - p.from)) (sym (kept p.signal other)) room.wave;
+        wave = subst (λ (w : WaveView). length w.changes + vec_len p.changes < w.splice_room + (p.to - p.from)) (sym (kept p.signal other)) room.wave;
         piece = room.piece;
       }
 

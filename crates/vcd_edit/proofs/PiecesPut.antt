@@ -53,7 +53,7 @@ pub wave_is_there : (signals : List Signal) (k : ℕ) (s : Signal) → k < lengt
 wave_is_there signals k s within is = get_or-map (λ (t : Signal). t.wave) signals k s no_wave within ∙ ap (λ (t : Signal). t.wave) (sym is)
 
 -- where one wave has no less room, none has
-pub rooms_grow : (signals : List Signal) (k : ℕ) (s : Signal) (w : WaveView) → k < length signals → s ≡ get_or signals k s → w.changes ≡ s.wave.changes → s.wave.room ≤ w.room
+pub rooms_grow : (signals : List Signal) (k : ℕ) (s : Signal) (w : WaveView) → k < length signals → s ≡ get_or signals k s → w.changes ≡ s.wave.changes → s.wave.splice_room ≤ w.splice_room
     → (j : ℕ) → HasNoLessRoom (wave_at signals j) (wave_at (set signals k (record s { wave = w })) j)
 rooms_grow signals k s w within is same more j =
     elim (cases_eq j k) [

@@ -26,7 +26,8 @@ use vcd_core::Capture;
 /// A force and a shift take a search by halves, the changes that they put in and take out, and one move of
 /// the later ones, a cut that in every signal with changes from its first tick on. An invert, a deglitch, and
 /// a shift that pushes changes out past the end take one pass over the wave and a list of its changes aside,
-/// and a derive one merged pass over its operands.
+/// and a derive one merged pass over its operands. A signal that shares its list with others, as variables of
+/// one code do, gets a list of its own: a copy of each change that it keeps.
 pub fn apply(alloc: Global, capture: &mut Capture, edit: &Edit) -> Result<Record, EditError>
     requires { IsSound (contents capture.old) }
     ensures allowed { OnOk result (edit_fault edit.now (contents capture.old) ≡ None) }

@@ -14,7 +14,7 @@ pub struct Call<'a> {
     /// Whether the call is made, or all but it.
     pub makes: bool,
     pub name: &'a str,
-    /// The word behind the call's name, empty where there is none: an edit or a step.
+    /// The word behind the call's name, empty where there is none: an edit, a step or `shared`.
     pub argument: &'a str,
     /// The word behind that, empty where there is none: the steps made before.
     pub before: &'a str,
@@ -25,7 +25,7 @@ pub struct Call<'a> {
 /// Makes the call that is named, and tells what it left.
 pub fn make_call<R: Runtime + AllocGlobal>(rt: &R, call: &Call) -> Result<(), Stopped> {
     match call.name {
-        "push" | "reserve" | "reserve_exact" => call_on_wave(rt, call),
+        "push" | "share" | "reserve" | "reserve_exact" | "reserve_splice" => call_on_wave(rt, call),
         "read" => call_read(rt, call),
         "write" => call_write(rt, call),
         "counted" => count_write(rt, call),

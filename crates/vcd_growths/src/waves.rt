@@ -6,7 +6,7 @@ use crate::calls::Call;
 use crate::telling::{DONE, Stopped, allow, refuse, tell_wave};
 use std::alloc::Global;
 use std::rt::Runtime;
-use vcd_core::{Bit, NoMemory, Value, Wave};
+use vcd_core::{Bit, Change, NoMemory, Value, Wave};
 
 /// How many changes room is made for.
 const MORE: usize = 9;
@@ -22,27 +22,61 @@ fn full_wave(alloc: Global) -> Result<Wave, NoMemory>
     Ok(wave)
 }
 
-/// `Wave::push`, `Wave::reserve` and `Wave::reserve_exact`, by their names.
+/// `Wave::push`, `share`, `reserve`, `reserve_exact` and `reserve_splice`, by their names. With the word `shared` another
+/// wave shares the list, and is told, too.
 pub fn call_on_wave<R: Runtime + AllocGlobal>(rt: &R, call: &Call) -> Result<(), Stopped> {
     let mut wave = full_wave(rt.alloc())?;
+    if call.argument == "shared" {
+        let other = wave.share()?;
+        grow_and_tell(rt, call, &mut wave)?;
+        return tell_wave(rt, &other);
+    }
+    grow_and_tell(rt, call, &mut wave)
+}
+
+/// Makes the call, if it is made, and tells what became of it and of the wave.
+fn grow_and_tell<R: Runtime + AllocGlobal>(
+    rt: &R,
+    call: &Call,
+    wave: &mut Wave,
+) -> Result<(), Stopped>
+    requires width { wave.old.width ≡ 1 }
+    requires early { All (λ c. c.tick ≤ 0) wave.old.changes }
+{
     if call.makes {
         refuse(rt)?;
-        match grow(&mut wave, call.name) {
+        match grow(wave, call.name) {
             Ok(()) => allow(rt, DONE)?,
             Err(fault) => allow(rt, fault.name())?,
         }
     }
-    tell_wave(rt, &wave)
+    tell_wave(rt, wave)
 }
 
-/// The call of a name: `push`, `reserve`, else `reserve_exact`.
+/// The call of a name: `push`, `share`, `reserve`, `reserve_exact`, else `reserve_splice`.
 fn grow(wave: &mut Wave, name: &str) -> Result<(), NoMemory>
     requires width { wave.old.width ≡ 1 }
     requires early { All (λ c. c.tick ≤ 0) wave.old.changes }
 {
     match name {
         "push" => wave.push(5, Value::filled(1, Bit::Zero)),
+        "share" => share_and_drop(wave),
         "reserve" => wave.reserve(MORE),
-        _ => wave.reserve_exact(MORE),
+        "reserve_exact" => wave.reserve_exact(MORE),
+        _ => wave.reserve_splice(0, 0, two_changes().as_slice()),
     }
+}
+
+/// `Wave::share`, of which the other wave goes at once.
+fn share_and_drop(wave: &mut Wave) -> Result<(), NoMemory> {
+    wave.share()?;
+    Ok(())
+}
+
+fn two_changes() -> [Change; 2] {
+    let change = Change {
+        tick: 3,
+        value: Value::filled(1, Bit::Zero),
+    };
+    [change, change]
 }

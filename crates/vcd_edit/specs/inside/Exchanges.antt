@@ -51,20 +51,20 @@ LeadBack c (p ∷ ps) (q ∷ qs) = (p.signal < length c.signals) × LeadsBack (s
 
 -- stands for a wave where there is none
 abbrev pub no_wave : WaveView
-no_wave = record { width = 1; changes = []; room = 0 }
+no_wave = record { width = 1; changes = []; room = 0; splice_room = 0 }
 
 -- the wave at a position
 abbrev pub wave_at : List Signal → ℕ → WaveView
 wave_at ss k = slice_index_or (map (λ s. s.wave) ss) k no_wave
 
--- the second wave has as many changes as the first, and no less room
+-- the second wave has as many changes as the first, and no less room for a splice
 pub record HasNoLessRoom (old new : WaveView) : Type 0 where
   pub count : length new.changes ≡ length old.changes
-  pub room : old.room ≤ new.room
+  pub room : old.splice_room ≤ new.splice_room
 
 -- a piece and its wave have the room for what the other gives
 pub record HasRoomForPiece (ss : List Signal) (p : Piece) : Type 0 where
-  pub wave : length (wave_at ss p.signal).changes + vec_len p.changes < (wave_at ss p.signal).room + (p.to - p.from)
+  pub wave : length (wave_at ss p.signal).changes + vec_len p.changes < (wave_at ss p.signal).splice_room + (p.to - p.from)
   pub piece : p.to - p.from ≤ vec_capacity p.changes
 
 -- ---- how far the pieces have come

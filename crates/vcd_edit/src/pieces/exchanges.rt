@@ -27,7 +27,7 @@ fn opposite(by: i64) -> i64
 fn exchange_piece(piece: &mut Piece, wave: &mut Wave)
     requires ready { PieceReady wave.old.width wave.old.changes (piece_view piece.old) }
     requires room { length wave.old.changes + vec_len piece.old.changes
-        < wave.old.room + (piece.old.to - piece.old.from) }
+        < wave.old.splice_room + (piece.old.to - piece.old.from) }
     requires piece_room { piece.old.to - piece.old.from ≤ vec_capacity piece.old.changes }
     ensures width { wave.new.width ≡ wave.old.width }
     ensures there { wave.new.changes ≡ changes_with_piece (piece_view piece.old) wave.old.changes }

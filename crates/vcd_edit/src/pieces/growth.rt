@@ -1,31 +1,45 @@
 //! The room that pieces and waves need to change places.
 
-ghost use Rattle.std.specs.Prelude.{◌≡◌, ℕ, ◌+◌, ◌<◌, ◌≤◌, [], All, IsOk, OnOk, map, length};
-ghost use Rattle.vcd_core.specs.Contents.{contents};
+ghost use Rattle.std.specs.Prelude.{◌≡◌, ℕ, ◌+◌, ◌-◌, ◌<◌, ◌≤◌, [], All, IsOk, OnOk, map, length};
+ghost use Rattle.vcd_core.specs.Contents.{contents, signal_at};
 ghost use Rattle.vcd_edit.specs.inside.Records.{piece_view};
 ghost use Rattle.vcd_edit.specs.inside.Exchanges.{wave_at, HasNoLessRoom, HasRoomForPiece};
 
 use crate::record::Piece;
-use vcd_core::{Capture, NoMemory};
+use vcd_core::{Capture, Change, NoMemory};
 
-/// Makes room for `more` changes in a signal. The capture holds what it held, also where the memory is
-/// refused.
-fn reserve_wave(capture: &mut Capture, signal: usize, more: usize) -> Result<(), NoMemory>
-    requires { signal < length capture.old.signals }
+/// Makes room in a signal for a splice of these positions and of these changes. The capture holds what it held, also
+/// where the memory is refused.
+fn reserve_wave(
+    capture: &mut Capture,
+    signal: usize,
+    from: usize,
+    to: usize,
+    changes: &[Change],
+) -> Result<(), NoMemory>
+    requires signal { signal < length capture.old.signals }
+    requires ordered { from ≤ to }
+    requires within { to ≤ length (signal_at (contents capture.old) signal).changes }
     ensures contents { contents capture.new ≡ contents capture.old }
-    ensures room { OnOk result (length (wave_at capture.old.signals signal).changes + more
-        < (wave_at capture.new.signals signal).room) }
+    ensures room { OnOk result (length (wave_at capture.old.signals signal).changes
+        + length changes.now < (wave_at capture.new.signals signal).splice_room + (to - from)) }
     ensures never_less { (k : ℕ) →
         HasNoLessRoom (wave_at capture.old.signals k) (wave_at capture.new.signals k) }
 {
-    capture.signals.item_mut(signal).wave.reserve(more)
+    capture
+        .signals
+        .item_mut(signal)
+        .wave
+        .reserve_splice(from, to, changes)
 }
 
 /// Makes the room for one piece and its wave to change places. Both hold what they held, also where the
 /// memory is refused.
 fn reserve_one(capture: &mut Capture, piece: &mut Piece) -> Result<(), NoMemory>
-    requires within { piece.old.signal < length capture.old.signals }
+    requires signal { piece.old.signal < length capture.old.signals }
     requires ordered { piece.old.from ≤ piece.old.to }
+    requires within { piece.old.to
+        ≤ length (signal_at (contents capture.old) piece.old.signal).changes }
     ensures contents { contents capture.new ≡ contents capture.old }
     ensures piece { piece_view piece.new ≡ piece_view piece.old }
     ensures room { OnOk result (HasRoomForPiece capture.new.signals piece.new) }
@@ -35,14 +49,16 @@ fn reserve_one(capture: &mut Capture, piece: &mut Piece) -> Result<(), NoMemory>
     let come = piece.changes.as_slice().len();
     let part = piece.to - piece.from;
     piece.changes.reserve(part.saturating_sub(come))?;
-    reserve_wave(capture, piece.signal, come.saturating_sub(part))
+    let changes = piece.changes.as_slice();
+    reserve_wave(capture, piece.signal, piece.from, piece.to, changes)
 }
 
-/// Makes the room for all pieces. The capture and the pieces hold what they held, also where the memory
-/// is refused.
-pub(crate) fn reserve_all(capture: &mut Capture, pieces: &mut [Piece]) -> Result<(), NoMemory>
-    requires within { All (λ p. p.signal < length capture.old.signals) pieces.old }
+/// Makes the room for each piece in turn, up to the first for which memory is refused.
+fn reserve_each(capture: &mut Capture, pieces: &mut [Piece]) -> Result<(), NoMemory>
+    requires signal { All (λ p. p.signal < length capture.old.signals) pieces.old }
     requires ordered { All (λ p. p.from ≤ p.to) pieces.old }
+    requires within { All (λ p. p.to
+        ≤ length (signal_at (contents capture.old) p.signal).changes) pieces.old }
     ensures contents { contents capture.new ≡ contents capture.old }
     ensures pieces { map piece_view pieces.new ≡ map piece_view pieces.old }
     ensures room { OnOk result (All (HasRoomForPiece capture.new.signals) pieces.new) }
@@ -52,4 +68,41 @@ pub(crate) fn reserve_all(capture: &mut Capture, pieces: &mut [Piece]) -> Result
         reserve_one(capture, piece)?;
     }
     Ok(())
+}
+
+/// Gives back the memory that was taken beside the list of a signal, where that is shared.
+fn cancel_wave(capture: &mut Capture, signal: usize)
+    requires { signal < length capture.old.signals }
+    ensures { contents capture.new ≡ contents capture.old }
+{
+    capture.signals.item_mut(signal).wave.cancel_splice();
+}
+
+/// Does so for each of the first signals.
+fn cancel_waves(capture: &mut Capture, count: usize)
+    requires { count ≤ length capture.old.signals }
+    ensures { contents capture.new ≡ contents capture.old }
+{
+    for signal in 0..count {
+        cancel_wave(capture, signal);
+    }
+}
+
+/// Makes the room for all pieces. The capture and the pieces hold what they held, also where the memory
+/// is refused; no wave then has memory beside a list that it shares.
+pub(crate) fn reserve_all(capture: &mut Capture, pieces: &mut [Piece]) -> Result<(), NoMemory>
+    requires signal { All (λ p. p.signal < length capture.old.signals) pieces.old }
+    requires ordered { All (λ p. p.from ≤ p.to) pieces.old }
+    requires within { All (λ p. p.to
+        ≤ length (signal_at (contents capture.old) p.signal).changes) pieces.old }
+    ensures contents { contents capture.new ≡ contents capture.old }
+    ensures pieces { map piece_view pieces.new ≡ map piece_view pieces.old }
+    ensures room { OnOk result (All (HasRoomForPiece capture.new.signals) pieces.new) }
+    ensures never { pieces.old ≡ [] → IsOk result }
+{
+    let reserved = reserve_each(capture, pieces);
+    if reserved.is_err() {
+        cancel_waves(capture, capture.signals().len());
+    }
+    reserved
 }

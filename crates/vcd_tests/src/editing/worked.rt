@@ -57,7 +57,7 @@ const EDITS_OF_GLITCH: &str = "\
 deglitch 0 3:0 30 2 0:0@0 1@7 0@20
 deglitch 0 18446744073709551615:0 30 4 0:0@0";
 
-/// Three signals, of which the middle one is taken out; and two that share a code, of which one is inverted.
+/// Three signals, of which the middle one is taken out; and three that share a code, of which one is edited, or all.
 const THREE: &str = "\
 $var wire 1 ! a $end $var wire 1 \" b $end $var wire 1 # c $end $enddefinitions $end
 #0 0! 1\" z# #4";
@@ -65,11 +65,18 @@ $var wire 1 ! a $end $var wire 1 \" b $end $var wire 1 # c $end $enddefinitions 
 const EDITS_OF_THREE: &str = "remove 1:1 4 1 0:z@0";
 
 const SHARED: &str = "\
-$var wire 1 % a $end $var wire 1 % b $end $enddefinitions $end #0 1% #3 0%";
+$var wire 1 % a $end $var wire 1 % b $end $var wire 1 % c $end $enddefinitions $end #0 1% #3 0%";
 
 const EDITS_OF_SHARED: &str = "\
 invert 0:0 3 2 2:0@0 1@3
-invert 0:1 3 2 2:1@0 0@3";
+invert 0:1 3 2 2:1@0 0@3
+force 2 1 2 x:2 3 0 2:1@0 x@1 1@2 0@3
+force 2 1 2 x:0 3 0 2:1@0 0@3
+remove 0:1 3 2 0:1@0 0@3
+derive y xor 0 2:3 3 0 1:0@0
+cut 1 2:0 2 0 0:1@0 0@2
+cut 1 2:2 2 0 0:1@0 0@2
+cut 0 3:1 0 3 0:0@0";
 
 /// Operands of two scopes, x and z among their values, and the bits of a vector.
 const SCOPES: &str = "\

@@ -1,6 +1,6 @@
 use Rattle.std.proofs.Common.{◌≡◌, ◌∙◌, ◌<◌, ◌≤◌, All, ap, sym, subst, length, map, arith}
 use Rattle.std.proofs.lemmas.List.{length-map}
-use Rattle.vcd_core.specs.Contents.{signal_contents, contents}
+use Rattle.vcd_core.specs.Contents.{signal_contents, signal_at, contents}
 use Rattle.vcd_edit.specs.declared.record.Piece.{Piece}
 use Rattle.vcd_edit.specs.Back.{back, with_moved_signal, Fits}
 use Rattle.vcd_edit.specs.inside.Records.{piece_view, record_view, moved_signal_view}
@@ -9,8 +9,8 @@ use Rattle.vcd_edit.proofs.TouchedParts.{whole_list}
 use Rattle.vcd_edit.proofs.Exchanged.{fits_each, ready_then, word_fits_then, word_named_then, end_is_back, is_record_then, leads_then}
 use Rattle.vcd_edit.proofs.reverting.exchange_record.Goals as goal
 
-pub reserve_all-requires-clause-within : goal.reserve_all-requires-clause-within
-reserve_all-requires-clause-within c =
+pub reserve_all-requires-clause-signal : goal.reserve_all-requires-clause-signal
+reserve_all-requires-clause-signal c =
     let now = contents c.args.capture.now in
     let v = record_view c.way.inside.pieces.items c.way.inside.word c.way.inside.signal c.way.inside.other_end in
     let fits : Fits v now = subst (λ r. Fits r now) (sym c.way.view_is) c.requires.fits in
@@ -24,6 +24,14 @@ reserve_all-requires-clause-ordered c =
     let fits : Fits v now = subst (λ r. Fits r now) (sym c.way.view_is) c.requires.fits in
     subst (All (λ (p : Piece). p.from ≤ p.to)) (sym c.as_mut_slice.ensures.value)
     (λ k d less. (fits_each now c.way.inside.pieces.items fits.pieces k d less).ordered)
+
+pub reserve_all-requires-clause-within : goal.reserve_all-requires-clause-within
+reserve_all-requires-clause-within c =
+    let now = contents c.args.capture.now in
+    let v = record_view c.way.inside.pieces.items c.way.inside.word c.way.inside.signal c.way.inside.other_end in
+    let fits : Fits v now = subst (λ r. Fits r now) (sym c.way.view_is) c.requires.fits in
+    subst (All (λ (p : Piece). p.to ≤ length (signal_at now p.signal).changes)) (sym c.as_mut_slice.ensures.value)
+    (λ k d less. (fits_each now c.way.inside.pieces.items fits.pieces k d less).within)
 
 pub exchange_pieces-requires-clause-ready : goal.exchange_pieces-requires-clause-ready
 exchange_pieces-requires-clause-ready c =

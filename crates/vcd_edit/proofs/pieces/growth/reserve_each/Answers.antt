@@ -1,19 +1,19 @@
 use Rattle.std.proofs.Common.{◌≡◌, ◌∙◌, ◌<◌, ◌≤◌, All, subst, sym, ap, length, map, arith}
 use Rattle.std.proofs.lemmas.List.{length-map, take_all}
-use Rattle.vcd_core.specs.Contents.{Contents, signal_contents}
+use Rattle.vcd_core.specs.Contents.{Contents, contents, signal_at, signal_contents}
 use Rattle.vcd_edit.specs.declared.record.Piece.{Piece}
 use Rattle.vcd_edit.specs.inside.Records.{piece_view}
 use Rattle.vcd_edit.specs.inside.Exchanges.{HasRoomForPiece}
 use Rattle.vcd_edit.proofs.PieceLoops.{item_as_first, views_kept, reserved_more}
-use Rattle.vcd_edit.proofs.pieces.growth.reserve_all.Goals as goal
+use Rattle.vcd_edit.proofs.pieces.growth.reserve_each.Goals as goal
 
-pub reserve_one-requires-clause-within : goal.reserve_one-requires-clause-within
-reserve_one-requires-clause-within c =
+pub reserve_one-requires-clause-signal : goal.reserve_one-requires-clause-signal
+reserve_one-requires-clause-signal c =
     let l = c.loop-piece in
     let x = c.piece-item.result in
     let inside : l.piece-index < length l.pieces = omega arith in
     let is = item_as_first c.args.pieces.now l.pieces l.piece-index x x inside c.piece-item.is l.invariant.1.rest in
-    let first : x.signal < length c.args.capture.now.signals = subst (λ (p : Piece). p.signal < length c.args.capture.now.signals) (sym is) (c.requires.within l.piece-index x (omega arith)) in
+    let first : x.signal < length c.args.capture.now.signals = subst (λ (p : Piece). p.signal < length c.args.capture.now.signals) (sym is) (c.requires.signal l.piece-index x (omega arith)) in
     let count : length (map signal_contents l.capture.signals) ≡ length (map signal_contents c.args.capture.now.signals) = ap (λ (n : Contents). length n.signals) l.invariant.0 in
     omega (
       arith,
@@ -31,6 +31,16 @@ reserve_one-requires-clause-ordered c =
     let inside : l.piece-index < length l.pieces = omega arith in
     let is = item_as_first c.args.pieces.now l.pieces l.piece-index x x inside c.piece-item.is l.invariant.1.rest in
     subst (λ (p : Piece). p.from ≤ p.to) (sym is ∙ c.piece-item.is) (c.requires.ordered l.piece-index x (omega arith))
+
+pub reserve_one-requires-clause-within : goal.reserve_one-requires-clause-within
+reserve_one-requires-clause-within c =
+    let l = c.loop-piece in
+    let x = c.piece-item.result in
+    let inside : l.piece-index < length l.pieces = omega arith in
+    let is = item_as_first c.args.pieces.now l.pieces l.piece-index x x inside c.piece-item.is l.invariant.1.rest in
+    subst (λ (p : Piece). p.to ≤ length (signal_at (contents l.capture) p.signal).changes) c.piece-item.is
+    (subst (λ (n : Contents). x.to ≤ length (signal_at n x.signal).changes) (sym l.invariant.0)
+    (subst (λ (p : Piece). p.to ≤ length (signal_at (contents c.args.capture.now) p.signal).changes) (sym is) (c.requires.within l.piece-index x (omega arith))))
 
 pub returns-in_err-reserve_one-clause-pieces : goal.returns-in_err-reserve_one-clause-pieces
 returns-in_err-reserve_one-clause-pieces c =
