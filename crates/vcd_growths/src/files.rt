@@ -27,14 +27,17 @@ pub fn capture_of_text(alloc: Global, text: &[u8]) -> Result<Capture, Stopped>
     }
 }
 
-/// `read`: what is left is the source, which has not failed, and of its bytes some last ones.
+/// `read`: a fault has a line; what is left is the source, which has not failed, and of its bytes some last ones.
 pub fn call_read<R: Runtime + AllocGlobal>(rt: &R, call: &Call) -> Result<(), Stopped> {
     let mut source = FromRead::new(call.text);
     if call.makes {
         refuse(rt)?;
         match read(rt.alloc(), &mut source) {
             Ok(_) => allow(rt, DONE)?,
-            Err(error) => allow(rt, error.name())?,
+            Err(error) => {
+                allow(rt, error.name())?;
+                println!(rt; "line {}", error.line)?;
+            }
         }
     }
     let has_failed = source.failed();
