@@ -1,6 +1,6 @@
 //! The bytes of a file that have come and are not taken yet.
 
-ghost use Rattle.std.specs.Prelude.{◌≡◌, ◌<◌, ◌≤◌, ◌+◌, ◌++◌, ℕ, List, [], false, true, length, take, drop, vec_len, IfOk, OnOk, OnErr};
+ghost use Rattle.std.specs.Prelude.{◌≡◌, ◌<◌, ◌≤◌, ◌+◌, ◌++◌, ℕ, List, [], false, true, length, take, drop, vec_len, IfOk, IsOk, OnOk, OnErr};
 ghost use Rattle.std.specs.Io.KnownBytes.{Consumes, Keeps, IsAtEnd};
 
 use std::alloc::Global;
@@ -62,6 +62,7 @@ impl ReadBuffer {
     pub fn make_room(&mut self) -> Result<(), NoMemory>
         ensures same { OnOk result (self.new.bytes ≡ self.old.bytes) }
         ensures room { OnOk result (0 < self.new.room) }
+        ensures in_place { 0 < self.old.room → IsOk result }
     {
         if self.len == self.room.len() {
             self.room.resize(self.len + CHUNK, 0)?;
