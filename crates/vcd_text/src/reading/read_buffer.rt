@@ -1,6 +1,6 @@
 //! The bytes of a file that have come and are not taken yet.
 
-ghost use Rattle.std.specs.Prelude.{◌≡◌, ◌<◌, ◌≤◌, ◌+◌, ◌++◌, ℕ, List, [], false, true, length, take, drop, vec_len, IfOk, OnOk, OnErr};
+ghost use Rattle.std.specs.Prelude.{◌≡◌, ◌<◌, ◌≤◌, ◌+◌, ◌++◌, ℕ, List, [], false, true, length, take, drop, vec_len, IfOk, IsOk, OnOk, OnErr};
 ghost use Rattle.std.specs.Io.KnownBytes.{Consumes, Keeps, IsAtEnd};
 
 use std::alloc::Global;
@@ -10,12 +10,12 @@ use vcd_core::{DeviceFault, NoMemory, Source};
 /// The most bytes that are asked for at a time.
 const CHUNK: usize = 4096;
 
-/// The bytes that have come and are not taken yet, in the front of the room that the next ones are read into.
+/// The bytes that have come and are not taken yet, at the front of the storage that the next ones are read into.
 ///
 /// Contracts see these bytes, and for how many more there is room.
 #[derive(Drop)]
 pub struct ReadBuffer {
-    room: Vec<u8>,
+    storage: Vec<u8>,
     len: usize,
 }
 
@@ -26,11 +26,11 @@ impl Model for ReadBuffer {
     ghost Value = { Waiting };
 
     ghost view = { λ b. record {
-      bytes = take b.len b.room.items;
-      room = vec_len b.room - b.len;
+      bytes = take b.len b.storage.items;
+      room = vec_len b.storage - b.len;
     } };
 
-    ghost invariant = { λ b. b.len ≤ vec_len b.room };
+    ghost invariant = { λ b. b.len ≤ vec_len b.storage };
 }
 
 impl ReadBuffer {
@@ -39,7 +39,7 @@ impl ReadBuffer {
         ensures { result.bytes ≡ [] }
     {
         ReadBuffer {
-            room: Vec::new(alloc),
+            storage: Vec::new(alloc),
             len: 0,
         }
     }
@@ -48,7 +48,7 @@ impl ReadBuffer {
     pub fn as_slice(&self) -> &[u8]
         ensures { result.now ≡ self.now.bytes }
     {
-        &self.room.as_slice()[..self.len]
+        &self.storage.as_slice()[..self.len]
     }
 
     /// How many bytes there are.
@@ -62,9 +62,10 @@ impl ReadBuffer {
     pub fn make_room(&mut self) -> Result<(), NoMemory>
         ensures same { OnOk result (self.new.bytes ≡ self.old.bytes) }
         ensures room { OnOk result (0 < self.new.room) }
+        ensures in_place { 0 < self.old.room → IsOk result }
     {
-        if self.len == self.room.len() {
-            self.room.resize(self.len + CHUNK, 0)?;
+        if self.len == self.storage.len() {
+            self.storage.resize(self.len + CHUNK, 0)?;
         }
         Ok(())
     }
@@ -88,8 +89,8 @@ impl ReadBuffer {
         ensures failed { OnErr result (S.has_failed source.new ≡ true) }
         ensures kept { OnErr result (Keeps (S.coming source.old) (S.coming source.new)) }
     {
-        let end = self.len + most.min(CHUNK).max(1).min(self.room.len() - self.len);
-        let count = source.read(&mut self.room[self.len..end])?;
+        let end = self.len + most.min(CHUNK).max(1).min(self.storage.len() - self.len);
+        let count = source.read(&mut self.storage[self.len..end])?;
         self.len += count;
         Ok(count)
     }
@@ -101,7 +102,7 @@ impl ReadBuffer {
         ensures { self.new.bytes ≡ drop count self.old.bytes }
     {
         if count > 0 {
-            self.room.copy_within(count..self.len, 0);
+            self.storage.copy_within(count..self.len, 0);
             self.len -= count;
         }
     }

@@ -1,6 +1,6 @@
 //! The variables that a file declares, with their waves so far.
 
-ghost use Rattle.std.specs.Prelude.{◌≡◌, ◌⊎◌, ◌<◌, ◌≤◌, ◌+◌, ◌++◌, ◌^◌, ◌==◌, ◌||◌, nat_lt, ℕ, List, [], ◌∷◌, map, length, slice_get, is_some, false, Some, IsTrue, IsFalse, IfOk, IfErr, OnOk, All, if◌then◌else◌, bytes_eq, MatchResult};
+ghost use Rattle.std.specs.Prelude.{◌≡◌, ◌⊎◌, ◌<◌, ◌≤◌, ◌+◌, ◌++◌, ◌^◌, ◌==◌, ◌||◌, nat_lt, ℕ, List, [], ◌∷◌, map, length, slice_get, is_some, false, Some, IsTrue, IsFalse, IfOk, IfErr, IsOk, OnOk, All, if◌then◌else◌, bytes_eq, MatchResult};
 ghost use Rattle.std.specs.Option.{option_map_or};
 ghost use Rattle.vcd_core.specs.Contents.{signal_contents};
 ghost use Rattle.vcd_core.specs.WordRows.{letters_of};
@@ -61,7 +61,9 @@ impl Variable {
     pub fn take_logged(&mut self, change: LoggedChange, more: usize) -> Result<(), NoMemory>
         requires narrow { self.old.signal.wave.width ≤ 64 }
         requires late { All (λ c. c.tick ≤ change.tick) self.old.signal.wave.changes }
-        ensures { OnOk result (TakesLogged change self.old self.new) }
+        ensures taken { OnOk result (TakesLogged change self.old self.new) }
+        // It succeeds where there is room.
+        ensures in_place { 0 < self.old.signal.wave.room → more ≤ self.old.signal.wave.room → IsOk result }
     {
         self.signal.wave.reserve_exact(more)?;
         self.signal

@@ -22,6 +22,6 @@ returns-clause-more g c =
     let before : take c.self.inside.len c.deref_mut.result.now ≡ c.args.self.now.bytes = ap (take c.self.inside.len) c.deref_mut.ensures.value ∙ ap (λ (w : Waiting). w.bytes) c.self.view_is in (
       take count read,
       c.in_ok-count.ensures.bytes.0,
-      front_and_read c.self.inside.room.len c.self.inside.len count c.deref_mut.result.now read _ _ (omega (arith, c.deref_mut.ensures.len, c.self.invariant)) fits (omega (arith, c.deref_mut.ensures.len, c.self.invariant, c.min-2.ensures, c.len.ensures, c.read.auto.buffer, fits)) ∙ ap (λ l. l ++ take count read) before,
+      front_and_read c.self.inside.storage.len c.self.inside.len count c.deref_mut.result.now read _ _ (omega (arith, c.deref_mut.ensures.len, c.self.invariant)) fits (omega (arith, c.deref_mut.ensures.len, c.self.invariant, c.min-2.ensures, c.len.ensures, c.read.auto.buffer, fits)) ∙ ap (λ l. l ++ take count read) before,
       sym (length-take-le count read fits),
     )
