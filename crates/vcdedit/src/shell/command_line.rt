@@ -20,7 +20,8 @@ const ABOUT: &str =
     "Edits four-state waveform captures (VCD, IEEE 1364-2005, 18.2) by script, with undo and redo.\n\nThe capture is read whole, each line of the script is carried out and answered on standard output,\nand the edited capture is written. A file with a fault is refused, and nothing is written.";
 
 const AFTER_HELP: &str =
-    "Lines of a script, where NAME is a signal's full name, as top.cpu.clk, or @ and its position:
+    "Lines of a script. NAME is a signal's full name as `list` shows it, with its scopes and its range,
+as top.cpu.clk or top.cpu.data[7:0], or @ and its position; times are in ticks of the timescale:
   rename NAME WORD          the first word of the signal's name becomes WORD
   remove NAME               the signal is taken out; later ones move up
   invert NAME               every bit is negated at every tick
@@ -36,14 +37,25 @@ const AFTER_HELP: &str =
   value NAME TICK           the signal's value at the tick
   changes NAME              the signal's changes, each with its tick
   uart NAME BIT DATA PARITY STOP         frames; BIT is N or N/D ticks, PARITY none, even or odd
+                                         (115200 baud: 78125/9 at 1 ns, 78125000/9 at 1 ps)
   spi CLK MOSI MISO CS MODE BITS ORDER   words; - for an absent MOSI, MISO or CS; ORDER msb or lsb
   i2c SCL SDA                            conditions, addresses, bytes
-  # ..                      nothing, as an empty line
+  # ..                      nothing, as an empty line; a comment stands on a line of its own
 An edit is answered by `ok`, a refused line by `line N: refused: FAULT`; the script goes on after it.
 
 Examples:
-  vcdedit -i capture.vcd                                    shows what it holds
-  vcdedit -i capture.vcd --script script.txt -o edited.vcd  carries out a script, writes the result
+  vcdedit -i capture.vcd                                 shows what it holds
+  vcdedit -i capture.vcd --script script.txt -o new.vcd  carries out a script, writes the result
+  vcdedit -i capture.vcd --script script.txt -o new.vcd && mv new.vcd capture.vcd
+                                                         the same, in the place of the capture
+  .. | vcdedit --script script.txt -o /dev/fd/3 3>&1 >replies.txt | ..
+                                                         within a pipe
+
+Take care:
+  -o onto the capture itself leaves nothing to go back to at a refused line or a full disc.
+  A capture that was cut short may still be accepted: look at `end` in the listing.
+  Variables of one code, as a clock in many scopes, are edited one by one.
+  Files with a byte order mark, in UTF-16 or packed by gzip are refused at line 1.
 
 Exit status:
   0  done, or help or the version is shown
@@ -51,7 +63,9 @@ Exit status:
   2  the words of the command line are refused
   3  the capture has a fault, which is told with its line, or the script is too large
   4  a file can't be opened, read or written, or standard output can't be written
-  5  memory ran out";
+  5  memory ran out
+
+`man vcdedit` explains every refusal and fault, and says what to do; share/doc/vcdedit has recipes.";
 
 /// What the words of the command line ask for.
 #[derive(Clone, Copy, Debug, PartialEq, Eq)]
