@@ -1,5 +1,5 @@
 -- What the words of a line ask for, keyword by keyword, is what the parsers of the keywords read.
-use Rattle.std.proofs.Common.{◌≡◌, ℕ, Bool, true, false, cond, List, [], ◌∷◌, ◌++◌, Option, Some, None, Result, Ok, Err, refl, sym, subst, ◌∙◌, ap}
+use Rattle.std.proofs.Common.{◌≡◌, ℕ, Bool, true, false, cond, List, [], ◌∷◌, ◌++◌, Option, Some, Result, Ok, Err, refl, sym, subst, ◌∙◌, ap}
 use Rattle.std.specs.Prelude.{find, option_map, codes}
 use Rattle.std.specs.Option.{ok_or, option_or}
 use Rattle.std.specs.Str.{bytes_eq}
@@ -12,11 +12,11 @@ use Rattle.vcdedit.specs.declared.script.command.Command.TheVariants as commands
 use Rattle.vcdedit.specs.declared.script.keyword.Keyword.{Keyword}
 use Rattle.vcdedit.specs.declared.script.keyword.Keyword.TheVariants as keywords
 use Rattle.vcdedit.specs.declared.script.line_error.LineError.{LineError}
-use Rattle.vcdedit.specs.declared.script.line_error.LineError.TheVariants.{UnknownCommand, WrongCount, BadOption}
+use Rattle.vcdedit.specs.declared.script.line_error.LineError.TheVariants.{UnknownCommand, BadOption}
 use Rattle.vcdedit.specs.Lent.{lent_bytes}
 use Rattle.vcdedit.specs.LineWords.{◌>>=◌}
 use Rattle.vcdedit.specs.ScriptWords.{signal_of_name, number_of_word}
-use Rattle.vcdedit.specs.ScriptCommands.{keyword_words, keyword_of, is_comment, edit_command, pair_rule, not_rule, bit_rule, rule_of, command_of, command_of_words}
+use Rattle.vcdedit.specs.ScriptCommands.{keyword_of, is_comment, edit_command, pair_rule, not_rule, bit_rule, rule_of, command_of, command_of_words}
 use Rattle.vcdedit.specs.inside.Commands.{ReadsAs}
 use Rattle.vcdedit.specs.inside.ParsedCommands.{keyword_in, edit_keywords, history_keywords, query_keywords, decoder_keywords, keyword_in_tables, not_command, pair_command, bit_command, rule_command, keyword_command, words_command}
 

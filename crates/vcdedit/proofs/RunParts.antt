@@ -1,6 +1,6 @@
 -- The parts of a run, put together.
-use Rattle.std.proofs.Common.{◌≡◌, ◌⊎◌, inl, inr, Result, Ok, Err, ℕ, zero, suc, ◌-◌, List, Option, Some, None, refl, sym, subst, ap, ◌≤◌, Bool, true, false, arith, length, take}
-use Rattle.std.specs.Prelude.{IfSome, IfErr, IsErrAnd, IsSomeAnd}
+use Rattle.std.proofs.Common.{◌≡◌, ◌⊎◌, inl, inr, Result, Ok, Err, ℕ, zero, suc, ◌-◌, List, Option, Some, None, refl, sym, subst, ap, true, false, arith, take}
+use Rattle.std.specs.Prelude.{IfSome, IfErr, IsErrAnd}
 use Rattle.std.specs.List.{concat}
 use Rattle.std.specs.Io.KnownBytes.{Appends}
 use Rattle.vcd_core.specs.Contents.{Contents}
@@ -19,7 +19,7 @@ use Rattle.vcdedit.specs.declared.running.run_error.Summary.{Summary}
 use Rattle.vcdedit.specs.Script.{script_lines}
 use Rattle.vcdedit.specs.Run.{RunOutcome, IsRunOfReplays}
 use Rattle.vcdedit.specs.RunOutcomes.{run_outcome}
-use Rattle.vcdedit.specs.RunEnds.{ReaderEnd, WriterEnd, IsAccepted, IsWholeScript, IsUnread, IsUntouched, HasText, HasFront, OfRun, RunEnds}
+use Rattle.vcdedit.specs.RunEnds.{ReaderEnd, WriterEnd, IsAccepted, IsWholeScript, IsUnread, HasText, RunEnds}
 use Rattle.vcdedit.specs.inside.RunLines.{IfReplyFault, RunsLines, LinesStop}
 use Rattle.vcdedit.specs.inside.RunStages.{EndsBeforeOutput, EndsBeforeReplies}
 use Rattle.vcdedit.specs.inside.ScriptRuns.{ScriptGives}

@@ -57,14 +57,17 @@ kind_text digits (kinds.ParityError n) = codes "parity-error " ++ hex_text digit
 kind_text digits kinds.FrameError = codes "frame-error"
 kind_text digits kinds.Unknown = codes "unknown"
 kind_text digits kinds.Partial = codes "partial"
-kind_text digits (kinds.Word mosi miso) = codes "word" ++ line_data_text (codes " mosi ") digits mosi ++ line_data_text (codes " miso ") digits miso
+kind_text digits (kinds.Word mosi miso) =
+    codes "word" ++ line_data_text (codes " mosi ") digits mosi ++ line_data_text (codes " miso ") digits miso
 kind_text digits (kinds.PartialOf count) = codes "partial " ++ decimal count
 kind_text digits kinds.Start = codes "start"
 kind_text digits kinds.RepeatedStart = codes "repeated-start"
 kind_text digits kinds.Stop = codes "stop"
 kind_text digits (kinds.Address address direction) = codes "address " ++ hex_text 2 address ++ direction_text direction
-kind_text digits (kinds.AddressHigh bits direction) = codes "address-high " ++ hex_text 1 bits ++ direction_text direction
-kind_text digits (kinds.TenBitAddress address direction) = codes "address " ++ hex_text 3 address ++ direction_text direction
+kind_text digits (kinds.AddressHigh bits direction) =
+    codes "address-high " ++ hex_text 1 bits ++ direction_text direction
+kind_text digits (kinds.TenBitAddress address direction) =
+    codes "address " ++ hex_text 3 address ++ direction_text direction
 kind_text digits (kinds.Data byte) = codes "data " ++ hex_text 2 byte
 kind_text digits kinds.Ack = codes "ack"
 kind_text digits kinds.Nack = codes "nack"
@@ -73,7 +76,8 @@ kind_text digits kinds.Nack = codes "nack"
 
 -- the line of an annotation: its first and last tick, the decoder's word, its kind
 abbrev pub annotation_line : List ℕ → ℕ → Annotation → List ℕ
-annotation_line decoder digits a = decimal a.start ++ codes "-" ++ decimal a.end ++ codes " " ++ decoder ++ codes " " ++ kind_text digits a.kind
+annotation_line decoder digits a =
+    decimal a.start ++ codes "-" ++ decimal a.end ++ codes " " ++ decoder ++ codes " " ++ kind_text digits a.kind
 
 -- the letter of a signal of one bit at each tick
 abbrev pub letters_at : Contents → ℕ → ℕ → Bit
@@ -86,8 +90,10 @@ uart_lines c k u = map (annotation_line (codes "uart") (uart_digits u)) (uart_an
 -- those of the words of a serial peripheral interface
 abbrev pub spi_lines : Contents → (clk : ℕ) → (mosi miso cs : Option ℕ) → SpiSetup → List (List ℕ)
 spi_lines c clk mosi miso cs u = map (annotation_line (codes "spi") (spi_digits u))
-    (spi_annotations u (letters_at c clk) (option_map (letters_at c) mosi) (option_map (letters_at c) miso) (option_map (letters_at c) cs) c.end)
+    (spi_annotations u (letters_at c clk) (option_map (letters_at c) mosi) (option_map (letters_at c) miso)
+    (option_map (letters_at c) cs) c.end)
 
 -- those of what an I2C bus carries
 abbrev pub i2c_lines : Contents → (scl sda : ℕ) → List (List ℕ)
-i2c_lines c scl sda = map (annotation_line (codes "i2c") 2) (i2c_annotations (letters_at c scl) (letters_at c sda) c.end)
+i2c_lines c scl sda =
+    map (annotation_line (codes "i2c") 2) (i2c_annotations (letters_at c scl) (letters_at c sda) c.end)

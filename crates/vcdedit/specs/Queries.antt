@@ -21,7 +21,8 @@ number_line word n = word ++ codes " " ++ decimal n
 
 -- the signal at a position: `@K WIDTH KIND FULLNAME`
 abbrev pub signal_line : ℕ → SignalContents → List ℕ
-signal_line position s = number_line (codes "@" ++ decimal position) s.width ++ codes " " ++ s.kind ++ codes " " ++ full_name s
+signal_line position s =
+    number_line (codes "@" ++ decimal position) s.width ++ codes " " ++ s.kind ++ codes " " ++ full_name s
 
 -- signals, the first at this position
 unfoldable pub signal_lines : ℕ → List SignalContents → List (List ℕ)
@@ -39,7 +40,7 @@ listing c skipped =
 
 -- ---- `value` and `changes`
 
--- the line of `value`: as many letters as the width, most significant first; a tick past the end has the last value
+-- the line of `value`: all letters of the value at the tick, most significant first
 abbrev pub value_line : SignalContents → ℕ → List ℕ
 value_line s tick = printed_letters (signal_value s tick)
 

@@ -20,7 +20,7 @@ use Rattle.vcdedit.specs.DecoderReply.{uart_lines, spi_lines, i2c_lines}
 use Rattle.vcdedit.specs.Script.{command_of_line}
 use Rattle.vcdedit.specs.Queries.{listing, value_line, change_lines}
 
--- the lines of an answer, or the name of the fault for which the line is refused
+-- the lines of an answer, or the name of a fault
 abbrev pub LineReply : Type 0
 LineReply = Result (List (List ℕ)) (List ℕ)
 
@@ -60,7 +60,8 @@ command_reply (Ok commands.List) c skipped undoable redoable = Ok (listing c ski
 command_reply (Ok (commands.Value k tick)) c skipped undoable redoable = Ok (value_line (signal_at c k) tick ∷ [])
 command_reply (Ok (commands.Changes k)) c skipped undoable redoable = Ok (change_lines (signal_at c k).changes)
 command_reply (Ok (commands.Uart k setup)) c skipped undoable redoable = Ok (uart_lines c k setup)
-command_reply (Ok (commands.Spi clk mosi miso cs setup)) c skipped undoable redoable = Ok (spi_lines c clk mosi miso cs setup)
+command_reply (Ok (commands.Spi clk mosi miso cs setup)) c skipped undoable redoable =
+    Ok (spi_lines c clk mosi miso cs setup)
 command_reply (Ok (commands.I2c scl sda)) c skipped undoable redoable = Ok (i2c_lines c scl sda)
 
 -- what is said to a line on a capture, of whose file so many declarations were skipped
@@ -78,7 +79,8 @@ reply_text number (Err name) = with_line_feed (codes "line " ++ decimal number +
 
 -- the reply to a line: to its number and words, on a capture, whatever came before
 abbrev pub line_reply_text : (number : ℕ) → (line : List ℕ) → Contents → (skipped undoable redoable : ℕ) → List ℕ
-line_reply_text number line c skipped undoable redoable = reply_text number (line_reply line c skipped undoable redoable)
+line_reply_text number line c skipped undoable redoable =
+    reply_text number (line_reply line c skipped undoable redoable)
 
 -- whether a line is refused
 abbrev pub is_line_refused : (line : List ℕ) → Contents → (skipped undoable redoable : ℕ) → Bool

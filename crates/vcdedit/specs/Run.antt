@@ -59,7 +59,7 @@ refusal_count skipped m [] = 0
 refusal_count skipped m (line ∷ lines) =
     (if is_refused_on skipped line m then 1 else 0) + refusal_count skipped (machine_after_line m line) lines
 
--- what a run writes to its two writers, the replies being one text for each line; how many lines it refuses
+-- what a run writes: a reply to each line, and the output; and how many lines it refuses
 pub record RunOutcome : Type 0 where
   pub replies : List (List ℕ)
   pub output : List ℕ

@@ -1,5 +1,5 @@
 -- What the words of a line ask for: the project's own.
-use Rattle.std.specs.Prelude.{ℕ, Bool, false, ◌==◌, if◌then◌else◌, List, [], ◌∷◌, ◌++◌, Option, find, option_map, Result, Ok, Err, codes}
+use Rattle.std.specs.Prelude.{ℕ, Bool, false, ◌==◌, if◌then◌else◌, List, [], ◌∷◌, Option, find, option_map, Result, Ok, Err, codes}
 use Rattle.std.specs.Option.{ok_or}
 use Rattle.std.specs.Str.{bytes_eq}
 use Rattle.vcd_core.specs.Contents.{Contents, signal_at}
@@ -86,7 +86,8 @@ rule_of c word operands =
 
 -- what the words behind a keyword ask for; the first fault counts, in the order in which they are read here
 abbrev pub command_of : Contents → Keyword → List (List ℕ) → Result Command LineError
-command_of c keywords.Rename (name ∷ word ∷ []) = signal_of_name c name >>= λ k. edit_command (Rename k (lent_bytes word))
+command_of c keywords.Rename (name ∷ word ∷ []) =
+    signal_of_name c name >>= λ k. edit_command (Rename k (lent_bytes word))
 command_of c keywords.Remove (name ∷ []) = signal_of_name c name >>= λ k. edit_command (Remove k)
 command_of c keywords.Invert (name ∷ []) = signal_of_name c name >>= λ k. edit_command (Invert k)
 command_of c keywords.Shift (name ∷ by ∷ []) = do

@@ -19,16 +19,19 @@ number_of_word word = if is_number word && nat_lt (number_of word) (2 ^ 64) then
 
 -- a distance forth in time: below 2^63
 abbrev pub distance_forth : List ℕ → Result ℤ LineError
-distance_forth digits = if is_number digits && nat_lt (number_of digits) (2 ^ 63) then Ok (pos (number_of digits)) else Err BadNumber
+distance_forth digits =
+    if is_number digits && nat_lt (number_of digits) (2 ^ 63) then Ok (pos (number_of digits)) else Err BadNumber
 
 -- a distance back: at most 2^63
 abbrev pub distance_back : List ℕ → Result ℤ LineError
-distance_back digits = if is_number digits && nat_le (number_of digits) (2 ^ 63) then Ok (neg_ℤ (pos (number_of digits))) else Err BadNumber
+distance_back digits =
+    if is_number digits && nat_le (number_of digits) (2 ^ 63) then Ok (neg_ℤ (pos (number_of digits))) else Err BadNumber
 
 -- the distance that a word writes: a decimal number, behind `-` (45), `+` (43) or neither
 abbrev pub distance_of_word : List ℕ → Result ℤ LineError
 distance_of_word [] = Err BadNumber
-distance_of_word (c ∷ digits) = if c == 45 then distance_back digits else (if c == 43 then distance_forth digits else distance_forth (c ∷ digits))
+distance_of_word (c ∷ digits) =
+    if c == 45 then distance_back digits else (if c == 43 then distance_forth digits else distance_forth (c ∷ digits))
 
 -- the value of this width that a word writes: 1 to so many binary digits, extended on the left
 abbrev pub value_of_word : ℕ → List ℕ → Result (List Bit) LineError
