@@ -2,7 +2,7 @@
 
 use crate::decoders::call_decoder;
 use crate::edits::{call_apply, call_revert};
-use crate::files::{call_read, call_write, count_write};
+use crate::files::{call_read, call_write, count_write, read_bytes};
 use crate::sessions::{call_new, call_run, call_step};
 use crate::telling::Stopped;
 use crate::waves::call_on_wave;
@@ -29,6 +29,7 @@ pub fn make_call<R: Runtime + AllocGlobal>(rt: &R, call: &Call) -> Result<(), St
         "read" => call_read(rt, call),
         "write" => call_write(rt, call),
         "counted" => count_write(rt, call),
+        "bytes" => read_bytes(rt, call),
         "apply" => call_apply(rt, call),
         "revert" => call_revert(rt, call),
         "uart" | "spi" | "i2c" => call_decoder(rt, call),

@@ -4,6 +4,7 @@ ghost use Rattle.std.specs.Prelude.{IfOk};
 ghost use Rattle.vcd_core.specs.Contents.{contents};
 ghost use Rattle.vcd_core.specs.Sound.{IsSound};
 
+use crate::TEXT_LIMIT;
 use crate::calls::Call;
 use crate::counting::CountingSink;
 use crate::telling::{DONE, Stopped, allow, refuse, tell_capture};
@@ -75,4 +76,25 @@ pub fn count_write<R: Runtime + AllocGlobal>(rt: &R, call: &Call) -> Result<(), 
     )?;
     println!(rt; "flushed last {}", sink.is_flushed)?;
     Ok(())
+}
+
+/// A capture's text read byte by byte, by reads into room for one: how many there were before the one that gave
+/// none, and whether the source has failed.
+pub fn read_bytes<R: Runtime>(rt: &R, call: &Call) -> Result<(), Stopped> {
+    let mut source = FromRead::new(call.text);
+    let count = count_bytes(&mut source);
+    println!(rt; "{count} bytes, failed {}", source.failed())?;
+    Ok(())
+}
+
+/// How many reads into room for one byte give one, up to the limit of a capture.
+fn count_bytes<S: Source>(source: &mut S) -> usize {
+    let mut byte = [0];
+    for count in 0..TEXT_LIMIT {
+        match source.read(&mut byte) {
+            Ok(1) => (),
+            _ => return count,
+        }
+    }
+    TEXT_LIMIT
 }

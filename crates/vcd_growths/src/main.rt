@@ -5,7 +5,8 @@
 //! standard input. The program makes all that the call needs and writes `refuse`; then it makes the call, and writes
 //! `allow`, `done` or the name of a fault, and last all that the call left. Whoever refuses growths of memory between
 //! the two lines can compare that with what `omit` writes, which leaves out the call alone, of `run` the step at that
-//! position alone. The call `counted` writes the capture to a sink that counts, and tells how that was called.
+//! position alone. The call `counted` writes the capture to a sink that counts, and tells how that was called;
+//! `bytes` reads it byte by byte.
 #![tactic(auto)]
 
 mod calls;
@@ -25,7 +26,7 @@ use telling::Stopped;
 use vcd_core::{FromRead, read_whole};
 
 /// The most bytes of a capture.
-const TEXT_LIMIT: usize = 1_000_000;
+pub const TEXT_LIMIT: usize = 1_000_000;
 
 fn main(rt: HostRuntime) -> ExitCode {
     match answer_words(&rt) {
