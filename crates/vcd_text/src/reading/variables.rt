@@ -62,8 +62,9 @@ impl Variable {
         requires narrow { self.old.signal.wave.width ≤ 64 }
         requires late { All (λ c. c.tick ≤ change.tick) self.old.signal.wave.changes }
         ensures taken { OnOk result (TakesLogged change self.old self.new) }
-        // It succeeds where there is room.
-        ensures in_place { 0 < self.old.signal.wave.room → more ≤ self.old.signal.wave.room → IsOk result }
+        // It succeeds where the wave's own list has room for `more` changes, and for this one.
+        ensures in_place { length self.old.signal.wave.changes + 1 < self.old.signal.wave.room →
+            length self.old.signal.wave.changes + more < self.old.signal.wave.room → IsOk result }
     {
         self.signal.wave.reserve_exact(more)?;
         self.signal
