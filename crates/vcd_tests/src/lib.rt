@@ -17,6 +17,8 @@ mod fake_devices;
 #[cfg(test)]
 mod fixtures;
 #[cfg(test)]
+mod messages;
+#[cfg(test)]
 mod names;
 #[cfg(test)]
 mod reading;

@@ -1,4 +1,4 @@
-//! Edits that are refused, and the names of the faults.
+//! Edits that are refused.
 
 use super::{edit_of, text_of};
 use crate::fixtures::{append_copies, loaded};
@@ -6,7 +6,7 @@ use std::alloc::Global;
 use std::process::Abort;
 use std::test::Fail;
 use vcd_core::SIGNAL_LIMIT;
-use vcd_edit::{EditError, apply, check};
+use vcd_edit::{apply, check};
 
 const FILE: &str = "\
 $scope module top $end $var wire 1 ! a $end $var wire 4 \" v $end $upscope $end
@@ -74,28 +74,6 @@ fn refused_edits_of_the_most_signals(rt: HostRuntime) -> Result<(), Fail> {
     file.extend_from_slice(b"$enddefinitions $end #9")?;
     for row in REFUSED_OF_MOST.lines() {
         check_refused(&rt, rt.alloc(), file.as_slice(), row)?;
-    }
-    Ok(())
-}
-
-/// The message that is derived for each fault is its name.
-#[test]
-fn messages_are_names(rt: HostRuntime) -> Result<(), Fail> {
-    let faults = [
-        EditError::NoSuchSignal,
-        EditError::NotScalar,
-        EditError::BadBit,
-        EditError::BadRange,
-        EditError::BadCount,
-        EditError::BadValue,
-        EditError::BadWord,
-        EditError::NameTaken,
-        EditError::TooManySignals,
-        EditError::NoMemory,
-    ];
-    for fault in faults {
-        let message = format!(in rt.alloc(); "{fault}")?;
-        assert!(rt; message.as_str() == fault.name());
     }
     Ok(())
 }

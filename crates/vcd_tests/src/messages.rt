@@ -1,0 +1,85 @@
+//! The message of each fault, which its derive makes: the fault's name.
+
+use std::alloc::Global;
+use std::fmt::Display;
+use std::process::Abort;
+use std::test::Fail;
+use vcd_edit::EditError;
+use vcd_text::{Fault, ReadError};
+
+/// Appends the message of a fault, which must be its name, and a blank.
+fn push_message(
+    rt: &impl Abort,
+    alloc: Global,
+    messages: &mut String,
+    fault: &impl Display,
+    name: &str,
+) -> Result<(), Fail> {
+    let message = format!(in alloc; "{fault}")?;
+    assert!(rt; message.as_str() == name);
+    messages.push_str(message.as_str())?;
+    messages.push(' ')?;
+    Ok(())
+}
+
+const FAULTS: [Fault; 16] = [
+    Fault::Truncated,
+    Fault::UnexpectedWord,
+    Fault::BadTimescale,
+    Fault::BadScope,
+    Fault::UpscopeAtTop,
+    Fault::BadVar,
+    Fault::MixedCode,
+    Fault::BadTime,
+    Fault::TimeBackwards,
+    Fault::BadChange,
+    Fault::UnknownCode,
+    Fault::ValueTooLong,
+    Fault::TooManySignals,
+    Fault::TooLarge,
+    Fault::ReadFault,
+    Fault::NoMemory,
+];
+
+const NAMES_OF_FAULTS: &str =
+    "Truncated UnexpectedWord BadTimescale BadScope UpscopeAtTop BadVar MixedCode BadTime \
+TimeBackwards BadChange UnknownCode ValueTooLong TooManySignals TooLarge ReadFault NoMemory ";
+
+#[test]
+fn of_files_that_are_refused(rt: HostRuntime) -> Result<(), Fail> {
+    let mut messages = String::new(rt.alloc());
+    let mut at_lines = String::new(rt.alloc());
+    for fault in FAULTS {
+        push_message(&rt, rt.alloc(), &mut messages, &fault, fault.name())?;
+        let error = ReadError { line: 4, fault };
+        push_message(&rt, rt.alloc(), &mut at_lines, &error, error.name())?;
+    }
+    assert!(rt; messages.as_str() == NAMES_OF_FAULTS);
+    assert!(rt; at_lines.as_str() == NAMES_OF_FAULTS);
+    Ok(())
+}
+
+const EDIT_ERRORS: [EditError; 10] = [
+    EditError::NoSuchSignal,
+    EditError::NotScalar,
+    EditError::BadBit,
+    EditError::BadRange,
+    EditError::BadCount,
+    EditError::BadValue,
+    EditError::BadWord,
+    EditError::NameTaken,
+    EditError::TooManySignals,
+    EditError::NoMemory,
+];
+
+#[test]
+fn of_refused_edits(rt: HostRuntime) -> Result<(), Fail> {
+    let mut messages = String::new(rt.alloc());
+    for error in EDIT_ERRORS {
+        push_message(&rt, rt.alloc(), &mut messages, &error, error.name())?;
+    }
+    let names = "NoSuchSignal NotScalar BadBit BadRange BadCount BadValue BadWord NameTaken \
+TooManySignals NoMemory ";
+    assert!(rt; messages.as_str() == names);
+    Ok(())
+}
