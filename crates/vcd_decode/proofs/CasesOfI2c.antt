@@ -41,7 +41,7 @@ clock n = from 0 One ∷ from 15 Zero ∷ beats 20 n
 
 -- what the changes of SCL and SDA show
 abbrev annotations : List Change → List Change → ℕ → List Annotation
-annotations scl sda end = i2c_annotations (line_of (record { width = 1; changes = scl; room = 0 })) (line_of (record { width = 1; changes = sda; room = 0 })) end
+annotations scl sda end = i2c_annotations (line_of (record { width = 1; changes = scl; room = 0; splice_room = 0 })) (line_of (record { width = 1; changes = sda; room = 0; splice_room = 0 })) end
 
 -- an address and its acknowledge; one bit is behind them, the rise of SCL before STOP
 address_of_seven_bits : annotations (clock 9) (turns One Zero (0 ∷ 10 ∷ 17 ∷ 27 ∷ 37 ∷ 47 ∷ 115 ∷ [])) 120

@@ -19,7 +19,7 @@ use Rattle.vcd_decode.specs.Spi.{spi_annotations}
 
 -- a line with these changes
 line : List (ℕ × Bit) → ℕ → Bit
-line changes = line_of (record { width = 1; changes = map (λ c. change c.0 (c.1 ∷ [])) changes; room = 0 })
+line changes = line_of (record { width = 1; changes = map (λ c. change c.0 (c.1 ∷ [])) changes; room = 0; splice_room = 0 })
 
 -- the words of the lines: clock, MOSI, MISO, chip select
 found : SpiSetup → List (ℕ × Bit) → Option (List (ℕ × Bit)) → Option (List (ℕ × Bit)) → Option (List (ℕ × Bit)) → ℕ → List Annotation

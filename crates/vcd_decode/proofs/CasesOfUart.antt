@@ -17,7 +17,7 @@ use Rattle.vcd_decode.specs.Uart.{uart_annotations, frames, falls, begun_frame, 
 
 -- the frames of a line with these changes
 found : List (ℕ × Bit) → ℕ → UartSetup → List Annotation
-found changes end u = uart_annotations (line_of (record { width = 1; changes = map (λ c. change c.0 (c.1 ∷ [])) changes; room = 0 })) end u
+found changes end u = uart_annotations (line_of (record { width = 1; changes = map (λ c. change c.0 (c.1 ∷ [])) changes; room = 0; splice_room = 0 })) end u
 
 -- 0x41 with eight data bits, and with nine
 letter_a : List (ℕ × Bit)
@@ -165,12 +165,12 @@ longest = 25 * RATIO_LIMIT / 2
 last_start : ℕ
 last_start = END_LIMIT - longest
 
-at_the_last_tick : begun_frame (line_of (record { width = 1; changes = change 0 (One ∷ []) ∷ change last_start (Zero ∷ []) ∷ []; room = 0 })) END_LIMIT (uart_setup RATIO_LIMIT 1 9 Odd 2) last_start
+at_the_last_tick : begun_frame (line_of (record { width = 1; changes = change 0 (One ∷ []) ∷ change last_start (Zero ∷ []) ∷ []; room = 0; splice_room = 0 })) END_LIMIT (uart_setup RATIO_LIMIT 1 9 Odd 2) last_start
     ≡ Some (annotation last_start END_LIMIT FrameError)
 unfolding longest last_start begun_frame sample_offset value_from
 at_the_last_tick = refl
 
-past_the_last_tick : begun_frame (line_of (record { width = 1; changes = change 0 (One ∷ []) ∷ change (last_start + 1) (Zero ∷ []) ∷ []; room = 0 })) END_LIMIT (uart_setup RATIO_LIMIT 1 9 Odd 2) (last_start + 1)
+past_the_last_tick : begun_frame (line_of (record { width = 1; changes = change 0 (One ∷ []) ∷ change (last_start + 1) (Zero ∷ []) ∷ []; room = 0; splice_room = 0 })) END_LIMIT (uart_setup RATIO_LIMIT 1 9 Odd 2) (last_start + 1)
     ≡ Some (annotation (last_start + 1) END_LIMIT Partial)
 unfolding longest last_start begun_frame sample_offset value_from
 past_the_last_tick = refl
