@@ -9,8 +9,8 @@ The file of a shape is FOLDER/SHAPE_MEGABYTES.vcd; one that is there is left alo
     analyser   16 lines of one bit, as a logic analyser sees them: UART, SPI, I2C, a counter, glitches, noise
     simulator  2,000 signals of 1 to 64 bits in 200 scopes; a clock, and some 120 changes at each rising edge
     wide       65,000 signals of 1 to 32 bits in 650 scopes, each with few changes
-    hierarchy  16 x 8 modules as Icarus Verilog writes them, 852 variables of 404 codes: clock and reset in each of 145
-               scopes, vectors that one module drives and the next reads, parameters
+    hierarchy  16 x 8 modules as Icarus Verilog writes them, 1,236 variables of 788 codes: clock and reset in each of
+               145 scopes, vectors that one module drives and the next reads, registers of its own, parameters
 
 Those of many variables of one code have a size of their own, as FOLDER/NAME.vcd:
 
@@ -175,6 +175,7 @@ def wide(chance):
 # The hierarchy: in each of ROWS rows a chain of CELLS cells. A cell reads what the one before it drives.
 
 ROWS, CELLS, WIDTH = 16, 8, 16
+OWN = {"count": 8, "sum": 16, "state": 4, "valid": 1}
 
 
 class Codes:
@@ -197,28 +198,32 @@ def scope(name, lines):
 
 
 def cell(codes, number, common, data, parameters):
-    """The declarations of a cell, with the codes of what it drives; its parameter's value is noted."""
-    driven, count, parameter = codes.new(), codes.new(), codes.new()
+    """The declarations of a cell, the code that it drives, and its own registers' codes and widths.
+
+    The value of its parameter is noted."""
+    driven, parameter = codes.new(), codes.new()
+    own = [(codes.new(), width) for width in OWN.values()]
     parameters[parameter] = number
     lines = "$var parameter 32 %s ID [31:0] $end\n" % parameter + common + variable("wire", WIDTH, data, "d")
-    lines += variable("reg", WIDTH, driven, "q") + variable("reg", 8, count, "count")
-    return scope("cell%d" % number, lines), driven, count
+    lines += variable("reg", WIDTH, driven, "q")
+    lines += "".join(variable("reg", width, name, word) for (name, width), word in zip(own, OWN))
+    return scope("cell%d" % number, lines), driven, own
 
 
 def row(codes, number, common, data, parameters):
-    """The same of a row, with the codes of its cells' outputs and counters."""
-    parameter, inner, driven, counts, last = codes.new(), "", [], [], data
+    """The same of a row, of all its cells."""
+    parameter, inner, driven, own, last = codes.new(), "", [], [], data
     parameters[parameter] = number
     for k in range(CELLS):
-        lines, last, count = cell(codes, k, common, last, parameters)
-        inner, driven, counts = inner + lines, driven + [last], counts + [count]
+        lines, last, more = cell(codes, k, common, last, parameters)
+        inner, driven, own = inner + lines, driven + [last], own + more
     lines = "$var parameter 32 %s ROW [31:0] $end\n" % parameter + common
     lines += variable("wire", WIDTH, data, "data_in") + variable("wire", WIDTH, last, "data_out")
-    return scope("row%d" % number, lines + inner), driven, counts
+    return scope("row%d" % number, lines + inner), driven, own
 
 
-def values_of(names, letters):
-    return "".join(change(letters, name) for name in names)
+def values_of(names, letter):
+    return "".join(change(letter * WIDTH, name) for name in names)
 
 
 def hierarchy(chance):
@@ -226,37 +231,36 @@ def hierarchy(chance):
     clock, reset, source, rows = codes.new(), codes.new(), codes.new(), codes.new()
     parameters[rows] = ROWS
     common = variable("wire", 1, clock, "clk") + variable("wire", 1, reset, "rst")
-    lines, outputs, counters, last = "", [], [], source
+    lines, outputs, registers, last = "", [], [], source
     for number in range(ROWS):
-        more, driven, counts = row(codes, number, common, last, parameters)
-        lines, outputs, counters, last = lines + more, outputs + driven, counters + counts, driven[-1]
+        more, driven, inner = row(codes, number, common, last, parameters)
+        lines, outputs, registers, last = lines + more, outputs + driven, registers + inner, driven[-1]
     own = "$var parameter 32 %s ROWS [31:0] $end\n" % rows + common.replace("wire", "reg")
     yield "$date\n\tMon Nov 23 12:00:00 2026\n$end\n$version\n\tIcarus Verilog\n$end\n$timescale\n\t1ps\n$end\n"
     yield scope("tb", own + variable("reg", WIDTH, source, "source") + lines) + "$enddefinitions $end\n"
     yield "$comment Show the parameter values. $end\n$dumpall\n"
     yield "".join(change(format(value, "032b"), name) for name, value in parameters.items()) + "$end\n#0\n$dumpvars\n"
-    yield values_of([source, *outputs], "x" * WIDTH) + values_of(counters, "x" * 8)
+    yield values_of([source, *outputs], "x") + "".join(change("x" * width, name) for name, width in registers)
     yield "1%s\n0%s\n$end\n" % (reset, clock)
-    yield from clocked(chance, clock, reset, [source, *outputs], counters)
+    yield from clocked(chance, clock, reset, [source, *outputs], registers)
 
 
-def clocked(chance, clock, reset, chain, counters):
-    """At each rising edge the chain of registers moves on by one, and half of the counters count."""
-    values, counts = [0] * len(chain), [0] * len(counters)
-    for tick in itertools.count(5000, 10000):
+def clocked(chance, clock, reset, chain, registers):
+    """At each rising edge the chain of vectors moves on by one, and half of the cells' own registers count."""
+    values, counts = [0] * len(chain), [0] * len(registers)
+    yield "#5000\n1%s\n" % clock + values_of(chain, "0")
+    yield "".join(change("0" * width, name) for name, width in registers) + "#10000\n0%s\n0%s\n" % (clock, reset)
+    for tick in itertools.count(15000, 10000):
         yield "#%d\n1%s\n" % (tick, clock)
-        if tick == 5000:
-            yield values_of(chain, "0" * WIDTH) + values_of(counters, "0" * 8)
-        else:
-            moved = [chance.choice((values[0], chance.getrandbits(WIDTH)))] + values[:-1]
-            later = [(name, new) for name, new, old in zip(chain, moved, values) if new != old]
-            yield "".join(change(format(new, "016b"), name) for name, new in later)
-            counting = [k for k in range(len(counters)) if chance.random() < 0.5]
-            for k in counting:
-                counts[k] = (counts[k] + 1) % 256
-            yield "".join(change(format(counts[k], "08b"), counters[k]) for k in counting)
-            values = moved
-        yield "#%d\n0%s\n" % (tick + 5000, clock) + ("0%s\n" % reset if tick == 5000 else "")
+        moved = [chance.choice((values[0], chance.getrandbits(WIDTH)))] + values[:-1]
+        later = [(name, new) for name, new, old in zip(chain, moved, values) if new != old]
+        yield "".join(change(format(new, "016b"), name) for name, new in later)
+        for k, (name, width) in enumerate(registers):
+            if chance.random() < 0.5:
+                counts[k] = (counts[k] + 1) % 2**width
+                yield change(format(counts[k], "0%db" % width), name)
+        values = moved
+        yield "#%d\n0%s\n" % (tick + 5000, clock)
 
 
 # Captures of which many variables share one code.
