@@ -124,8 +124,3 @@ effect (Cut from to) c = cut_contents from to c
 effect (Deglitch k ticks) c = with_wave c k (steady_value ticks c.end (signal_value (signal_at c k)))
 effect (Force k from to value) c = with_wave c k (force_value from to value (signal_at c k))
 effect (Derive word rule) c = record c { signals = push c.signals (derived_signal word.now rule c) }
-
--- an edit that takes a signal out
-abbrev pub IsRemove : Edit → Type 0
-IsRemove (Remove k) = Unit {0}
-IsRemove e = ⊥

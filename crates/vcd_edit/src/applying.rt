@@ -3,11 +3,11 @@
 ghost use Rattle.std.specs.Prelude.{◌≡◌, ◌≤◌, None, IsOk, IfOk, OnOk, IfErr, OnErr};
 ghost use Rattle.vcd_core.specs.Contents.{contents};
 ghost use Rattle.vcd_core.specs.Sound.{IsSound};
-ghost use Rattle.vcd_edit.specs.Effect.{effect as edit_effect, IsRemove};
+ghost use Rattle.vcd_edit.specs.Effect.{effect as edit_effect};
 ghost use Rattle.vcd_edit.specs.Allowed.{edit_fault, MayRefuse};
 ghost use Rattle.vcd_edit.specs.Back.{back, Fits};
 ghost use Rattle.vcd_edit.specs.Touched.{stored_changes};
-ghost use Rattle.vcd_edit.specs.TouchedByEdit.{touched_by_edit};
+ghost use Rattle.vcd_edit.specs.TouchedByEdit.{touched_by_edit, IsRemove};
 
 use crate::checking::check;
 use crate::edit::Edit;

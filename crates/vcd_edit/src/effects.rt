@@ -5,7 +5,7 @@ ghost use Rattle.vcd_core.specs.Contents.{contents};
 ghost use Rattle.vcd_core.specs.Sound.{IsSound};
 ghost use Rattle.vcd_edit.specs.Allowed.{edit_fault};
 ghost use Rattle.vcd_edit.specs.Back.{PutsNoneIn};
-ghost use Rattle.vcd_edit.specs.Effect.{IsRemove};
+ghost use Rattle.vcd_edit.specs.TouchedByEdit.{IsRemove};
 ghost use Rattle.vcd_edit.specs.inside.Plans.{IsPlan};
 
 mod cut;
