@@ -1,5 +1,9 @@
-//! What no clause says and no case can show: messages, and devices that fail midway.
+//! What no clause says: messages, devices that fail midway, and worked cases of lines, sessions and whole runs.
 
 mod devices;
 mod failures;
+mod lines;
 mod messages;
+mod notation;
+mod sessions;
+mod worked;

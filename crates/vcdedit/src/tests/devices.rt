@@ -17,6 +17,34 @@ impl Read for FailingReader<'_> {
     }
 }
 
+/// A reader that gives line feeds without end.
+#[derive(Drop)]
+pub struct EndlessReader;
+
+impl Read for EndlessReader {
+    fn read(&mut self, buf: &mut [u8]) -> io::Result<usize> {
+        buf.fill(b'\n');
+        Ok(buf.len())
+    }
+}
+
+/// A writer that counts how often it is flushed.
+#[derive(Drop)]
+pub struct FlushCounter {
+    pub flushes: usize,
+}
+
+impl Write for FlushCounter {
+    fn write(&mut self, buf: &[u8]) -> io::Result<usize> {
+        Ok(buf.len())
+    }
+
+    fn flush(&mut self) -> io::Result<()> {
+        self.flushes = self.flushes.saturating_add(1);
+        Ok(())
+    }
+}
+
 /// A writer with room for so many bytes. When they are there it takes no more, and a flush fails.
 #[derive(Drop)]
 pub struct SmallWriter {

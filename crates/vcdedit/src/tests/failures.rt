@@ -1,6 +1,6 @@
 //! Runs whose devices fail midway: which error ends them, and what the writers have taken by then.
 
-use crate::tests::devices::{FailingReader, SmallWriter};
+use crate::tests::devices::{EndlessReader, FailingReader, SmallWriter};
 use crate::{RunError, Summary, run};
 use std::alloc::Global;
 use std::io::Read;
@@ -8,14 +8,39 @@ use std::process::Abort;
 use vcd_core::{FromRead, ToWrite};
 use vcd_text::{Fault, ReadError, WriteError};
 
-/// A capture as it is written.
-const CAPTURE: &[u8] =
-    b"$scope module top $end\n$var wire 1 ! a $end\n$upscope $end\n$enddefinitions $end\n#0\n$dumpvars\n0!\n$end\n";
+/// A capture whose timescale is written with a blank.
+const CAPTURE: &[u8] = b"$timescale 1ns $end
+$scope module top $end
+$var wire 1 ! a $end
+$upscope $end
+$enddefinitions $end
+#0
+$dumpvars
+0!
+$end
+#5
+1!
+#9
+";
 
 /// It leaves the capture as it was.
 const SCRIPT: &[u8] = b"rename top.a b\nundo\n";
 
 const REPLIES: &[u8] = b"ok\nok\n";
+
+const OUTPUT: &[u8] = b"$timescale 1 ns $end
+$scope module top $end
+$var wire 1 ! a $end
+$upscope $end
+$enddefinitions $end
+#0
+$dumpvars
+0!
+$end
+#5
+1!
+#9
+";
 
 /// Room for more than a run writes here.
 const AMPLE: usize = 1_000;
@@ -59,15 +84,25 @@ fn check_ending(rt: &impl Abort, run: &EndedRun, error: RunError, replies: &[u8]
     assert!(rt; run.output.held() == output);
 }
 
+/// Stops where a capture whose reader gives these bytes, and then fails, has another fault than this one at line 4.
+fn check_capture(rt: &impl Abort, alloc: Global, bytes: &[u8], fault: Fault) {
+    let run = run_on(alloc, FailingReader(bytes), SCRIPT, AMPLE, AMPLE);
+    let error = ReadError { line: 4, fault };
+    check_ending(rt, &run, RunError::Capture(error), b"", b"");
+}
+
 #[test]
 fn a_capture_that_fails(rt: HostRuntime) {
-    let reader = FailingReader(b"$date\n today\n$end\n");
-    let run = run_on(rt.alloc(), reader, SCRIPT, AMPLE, AMPLE);
-    let fault = ReadError {
-        line: 4,
-        fault: Fault::ReadFault,
-    };
-    check_ending(&rt, &run, RunError::Capture(fault), b"", b"");
+    let three_lines = b"$var wire 1 ! a $end\n$enddefinitions $end\n#10\n";
+    check_capture(&rt, rt.alloc(), three_lines, Fault::ReadFault);
+    let four_lines = b"$var wire 1 ! a $end\n$enddefinitions $end\n#10\n#9\n";
+    check_capture(&rt, rt.alloc(), four_lines, Fault::TimeBackwards);
+}
+
+#[test]
+fn a_script_without_end(rt: HostRuntime) {
+    let run = run_on(rt.alloc(), CAPTURE, EndlessReader, AMPLE, AMPLE);
+    check_ending(&rt, &run, RunError::ScriptTooLarge, b"", b"");
 }
 
 #[test]
@@ -113,7 +148,8 @@ fn replies_that_fail(rt: HostRuntime) {
 
 #[test]
 fn an_output_that_fails(rt: HostRuntime) {
-    check_output_fault(&rt, rt.alloc(), b"");
-    check_output_fault(&rt, rt.alloc(), b"$scope mod");
-    check_output_fault(&rt, rt.alloc(), CAPTURE);
+    // behind the last byte it is the flush that fails
+    for written in 0..=OUTPUT.len() {
+        check_output_fault(&rt, rt.alloc(), &OUTPUT[..written]);
+    }
 }

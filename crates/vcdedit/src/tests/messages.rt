@@ -1,40 +1,120 @@
-//! A message is the fault's name.
+//! The message of each fault, which its derive makes, is the fault's name; and what `report` says of each ending.
 
-use crate::{LineError, RunError};
+use crate::tests::devices::FlushCounter;
+use crate::{LineError, RunError, report};
 use std::alloc::Global;
 use std::fmt::Display;
 use std::process::Abort;
 use std::test::Fail;
+use vcd_core::ToWrite;
 use vcd_decode::SetupError;
-use vcd_edit::EditError;
-use vcd_journal::StepError;
 use vcd_text::{Fault, ReadError, WriteError};
 
-fn check_message(
+/// Appends the message of a fault, which must be its name, and a blank.
+fn push_message(
     rt: &impl Abort,
     alloc: Global,
-    error: &impl Display,
-    message: &str,
+    messages: &mut String,
+    fault: &impl Display,
+    name: &str,
 ) -> Result<(), Fail> {
-    assert_eq!(rt; format!(in alloc; "{error}")?.as_str(), message);
+    let message = format!(in alloc; "{fault}")?;
+    assert!(rt; message.as_str() == name);
+    messages.push_str(message.as_str())?;
+    messages.push(' ')?;
     Ok(())
 }
 
 #[test]
-fn messages(rt: HostRuntime) -> Result<(), Fail> {
-    let alloc = rt.alloc();
-    let capture = ReadError {
-        line: 4,
-        fault: Fault::BadScope,
-    };
-    check_message(&rt, alloc, &RunError::Capture(capture), "BadScope")?;
-    check_message(&rt, alloc, &WriteError::NoMemory, "NoMemory")?;
-    check_message(&rt, alloc, &LineError::WrongCount, "WrongCount")?;
-    check_message(
-        &rt,
-        alloc,
-        &LineError::Setup(SetupError::BadData),
-        "BadData",
-    )?;
-    check_message(&rt, alloc, &StepError::Edit(EditError::BadWord), "BadWord")
+fn of_lines_that_are_no_command(rt: HostRuntime) -> Result<(), Fail> {
+    let errors = [
+        LineError::UnknownCommand,
+        LineError::WrongCount,
+        LineError::BadNumber,
+        LineError::NoSuchName,
+        LineError::BadValueText,
+        LineError::BadOption,
+        LineError::NotScalar,
+        LineError::Setup(SetupError::BadRatio),
+        LineError::Setup(SetupError::BadBits),
+    ];
+    let mut messages = String::new(rt.alloc());
+    for error in errors {
+        push_message(&rt, rt.alloc(), &mut messages, &error, error.name())?;
+    }
+    let names = "UnknownCommand WrongCount BadNumber NoSuchName BadValueText BadOption NotScalar \
+BadRatio BadBits ";
+    assert!(rt; messages.as_str() == names);
+    Ok(())
+}
+
+/// The fault of a capture, at line 4.
+fn capture_error(fault: Fault) -> RunError {
+    RunError::Capture(ReadError { line: 4, fault })
+}
+
+/// Each ending of a run by an error.
+fn run_errors() -> [RunError; 10] {
+    [
+        capture_error(Fault::BadScope),
+        capture_error(Fault::TooLarge),
+        capture_error(Fault::ReadFault),
+        capture_error(Fault::NoMemory),
+        RunError::ScriptTooLarge,
+        RunError::ScriptReadFault,
+        RunError::NoMemory { line: 3 },
+        RunError::ReplyFault { written: 9 },
+        RunError::Write(WriteError::NoMemory),
+        RunError::Write(WriteError::WriteFault { written: 9 }),
+    ]
+}
+
+#[test]
+fn of_runs(rt: HostRuntime) -> Result<(), Fail> {
+    let mut messages = String::new(rt.alloc());
+    for error in run_errors() {
+        push_message(&rt, rt.alloc(), &mut messages, &error, error.name())?;
+    }
+    let names = "BadScope TooLarge ReadFault NoMemory ScriptTooLarge ScriptReadFault NoMemory \
+ReplyFault NoMemory WriteFault ";
+    assert!(rt; messages.as_str() == names);
+    Ok(())
+}
+
+/// The exit status and the line of each of those errors.
+const REPORTS: &str = "3 vcdedit: capture line 4: BadScope
+3 vcdedit: capture line 4: TooLarge
+4 vcdedit: capture: read fault
+5 vcdedit: out of memory
+3 vcdedit: script: too large
+4 vcdedit: script: read fault
+5 vcdedit: out of memory
+4 vcdedit: replies: write fault
+5 vcdedit: out of memory
+4 vcdedit: output: write fault
+";
+
+#[test]
+fn reports_of_runs(rt: HostRuntime) -> Result<(), Fail> {
+    let mut reports = String::new(rt.alloc());
+    for error in run_errors() {
+        let mut sink = ToWrite::new(Vec::new(rt.alloc()));
+        let status = report(&error, &mut sink);
+        reports.push_str(format!(in rt.alloc(); "{status} ")?.as_str())?;
+        for byte in sink.into_inner().as_slice() {
+            reports.push(*byte as char)?;
+        }
+    }
+    assert!(rt; reports.as_str() == REPORTS);
+    Ok(())
+}
+
+/// No clause can say that a writer was flushed.
+#[test]
+fn a_report_is_flushed(rt: HostRuntime) {
+    for error in run_errors() {
+        let mut sink = ToWrite::new(FlushCounter { flushes: 0 });
+        let _status = report(&error, &mut sink);
+        assert!(rt; sink.into_inner().flushes == 1);
+    }
 }

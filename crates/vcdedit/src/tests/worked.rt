@@ -1,0 +1,160 @@
+//! Worked cases of whole runs, in memory: what `run` answers and writes, and what `report` says of a run that failed.
+//!
+//! A table is one text. Its cases are parted by an empty line, and each has a line for its name and one for each part:
+//! `capture`, `script`, `depth` (100 where there is none), `replies`, `refused` (how many lines were refused; 0 where
+//! there is none) and `output` (the capture where there is none), or in place of the last three `report`, the exit
+//! status and the line of a run that failed. Lines of a capture, a script or the replies are parted by ` / `. A capture
+//! may stand in the short notation.
+
+mod codes;
+mod cuts;
+mod decoders;
+mod edits;
+mod files;
+mod history;
+mod long_inputs;
+mod refusals;
+
+use crate::tests::notation::capture_text;
+use crate::{RunError, Summary, report, run};
+use std::alloc::Global;
+use std::process::Abort;
+use std::test::Fail;
+use vcd_core::{FromRead, ToWrite};
+use vcd_journal::DEPTH_LIMIT;
+
+/// The depth of a case that names none.
+const DEPTH: u64 = 100;
+
+/// How a run ended, and what it wrote by then.
+#[derive(Drop)]
+struct EndedRun {
+    ending: Result<Summary, RunError>,
+    replies: Vec<u8>,
+    output: Vec<u8>,
+}
+
+/// Runs a script on a capture, with an output.
+fn run_in_memory(
+    alloc: Global,
+    capture: &[u8],
+    script: &[u8],
+    depth: u64,
+) -> Result<EndedRun, Fail> {
+    if depth < 1 || DEPTH_LIMIT < depth {
+        return Err(Fail::from("no depth"));
+    }
+    let mut replies = ToWrite::new(Vec::new(alloc));
+    let mut output = ToWrite::new(Vec::new(alloc));
+    let ending = run(
+        alloc,
+        &mut FromRead::new(capture),
+        &mut FromRead::new(script),
+        &mut replies,
+        Some(&mut output),
+        depth,
+    );
+    Ok(EndedRun {
+        ending,
+        replies: replies.into_inner(),
+        output: output.into_inner(),
+    })
+}
+
+/// Stops where a run was refused other lines, or wrote other replies or another output.
+fn check_done(rt: &impl Abort, run: &EndedRun, refused: u64, replies: &[u8], output: &[u8]) {
+    assert!(rt; run.ending == Ok(Summary { refused }));
+    assert!(rt; run.replies.as_slice() == replies);
+    assert!(rt; run.output.as_slice() == output);
+}
+
+/// Stops where a run did not fail, wrote anything, or is reported otherwise: `told` is the exit status and the line,
+/// as `3 vcdedit: script: too large`.
+fn check_failed(rt: &impl Abort, alloc: Global, run: &EndedRun, told: &str) -> Result<(), Fail> {
+    let Err(error) = &run.ending else {
+        return Err(Fail::from("the run reached its end"));
+    };
+    let (status, line) = told.split_once(' ').ok_or("no status")?;
+    let mut sink = ToWrite::new(Vec::new(alloc));
+    assert!(rt; report(error, &mut sink) == status.parse::<u8>()?);
+    assert!(rt; sink.into_inner().as_slice() == lines_of(alloc, line)?.as_slice());
+    assert!(rt; run.replies.is_empty() && run.output.is_empty());
+    Ok(())
+}
+
+/// The lines of a text that are parted by ` / `, each ended by a line feed.
+fn lines_of(alloc: Global, text: &str) -> Result<Vec<u8>, Fail> {
+    let mut bytes = Vec::new(alloc);
+    if text.is_empty() {
+        return Ok(bytes);
+    }
+    for line in text.split(" / ") {
+        bytes.extend_from_slice(line.as_bytes())?;
+        bytes.push(b'\n')?;
+    }
+    Ok(bytes)
+}
+
+/// The bytes of a capture, in the short notation or as lines.
+fn file_of(alloc: Global, text: &str) -> Result<Vec<u8>, Fail> {
+    if text.starts_with('[') {
+        return Ok(capture_text(alloc, text)?.into_bytes());
+    }
+    lines_of(alloc, text)
+}
+
+/// A part of a case, if it has it.
+fn part<'a>(case: &'a str, name: &str) -> Option<&'a str> {
+    for line in case.lines() {
+        if let Some((key, text)) = line.split_once(": ") {
+            if key == name {
+                return Some(text);
+            }
+        }
+    }
+    None
+}
+
+/// The capture of a case. As `unended` its last line has no line feed.
+fn capture_of(alloc: Global, case: &str) -> Result<Vec<u8>, Fail> {
+    if let Some(text) = part(case, "unended") {
+        let mut file = file_of(alloc, text)?;
+        file.pop();
+        return Ok(file);
+    }
+    file_of(alloc, part(case, "capture").unwrap_or(""))
+}
+
+fn number_of(case: &str, name: &str, otherwise: u64) -> Result<u64, Fail> {
+    match part(case, name) {
+        Some(text) => Ok(text.parse::<u64>()?),
+        None => Ok(otherwise),
+    }
+}
+
+/// Stops where a run ends otherwise than its case says.
+fn check_case(rt: &impl Abort, alloc: Global, case: &str) -> Result<(), Fail> {
+    let capture = capture_of(alloc, case)?;
+    let script = lines_of(alloc, part(case, "script").unwrap_or(""))?;
+    let depth = number_of(case, "depth", DEPTH)?;
+    let run = run_in_memory(alloc, capture.as_slice(), script.as_slice(), depth)?;
+    if let Some(told) = part(case, "report") {
+        return check_failed(rt, alloc, &run, told);
+    }
+    let refused = number_of(case, "refused", 0)?;
+    let replies = lines_of(alloc, part(case, "replies").unwrap_or(""))?;
+    let output = match part(case, "output") {
+        Some(text) => file_of(alloc, text)?,
+        None => capture,
+    };
+    check_done(rt, &run, refused, replies.as_slice(), output.as_slice());
+    Ok(())
+}
+
+/// Stops at the first case of a table that ends otherwise.
+fn check_cases(rt: &impl Abort, alloc: Global, cases: &str) -> Result<(), Fail> {
+    for case in cases.split("\n\n") {
+        check_case(rt, alloc, case)?;
+    }
+    Ok(())
+}

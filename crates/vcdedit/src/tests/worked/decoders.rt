@@ -1,0 +1,131 @@
+//! Cases of the decoders.
+
+use super::check_cases;
+use std::test::Fail;
+
+const UART: &str = "\
+a byte
+capture: [rx:1 1@0 0@20 1@30 0@40 1@90 0@100 1@110; end 130]
+script: uart top.rx 10 8 none 1
+replies: 20-115 uart byte 0x41
+
+nine data bits
+capture: [rx:1 1@0 0@20 1@30 0@40 1@90 0@100 1@110; end 130]
+script: uart top.rx 10 9 none 1
+replies: 20-125 uart byte 0x141
+
+a frame that the end cuts off
+capture: [rx:1 1@0 0@20 1@30 0@40 1@90 0@100; end 100]
+script: uart top.rx 10 8 none 1
+replies: 20-100 uart partial
+
+a bit of two and a half ticks, with parity and stop bits
+capture: [rx:1 1@0 0@10 1@13 0@18 1@28; end 30]
+script: uart top.rx 25/10 5 even 1 / uart top.rx 25/10 5 odd 1 / uart top.rx 25/10 6 none 1 / \
+uart top.rx 25/10 5 none 1 / uart top.rx 25/10 5 even 2
+replies: 10-28 uart byte 0x03 / 10-28 uart parity-error 0x03 / 10-28 uart byte 0x03 / \
+10-26 uart frame-error / 10-30 uart partial
+
+a start bit that is too short
+capture: [rx:1 1@0 0@10 1@12; end 40]
+script: uart top.rx 10 8 none 1
+
+an x among the samples
+capture: [rx:1 1@0 0@20 x@30 1@40; end 130]
+script: uart top.rx 10 8 none 1
+replies: 20-115 uart unknown
+
+a bit of the greatest length
+capture: [rx:1 1@0 0@1; end 9]
+script: uart top.rx 1000000000 8 none 1
+replies: 1-9 uart partial";
+
+const SPI: &str = "\
+a word and a rest, and an x at an edge
+capture: [clk:1 0@0 1@10 0@15 1@20 0@25 1@30 0@35 1@40 0@45 1@50 0@55 1@60 0@65 1@70 0@75 1@80 0@85 1@90 0@95 \
+1@100 0@105 1@110 0@115 | mosi:1 1@0 0@15 1@25 0@35 1@55 0@65 1@75 | cs:1 0@0 1@120; end 120]
+script: spi top.clk top.mosi - top.cs 0 8 msb / force top.mosi 40 41 x / spi top.clk top.mosi - top.cs 0 8 msb
+replies: 10-80 spi word mosi 0xa5 / 90-110 spi partial 3 / ok / 10-80 spi word mosi ? / 90-110 spi partial 3
+output: [clk:1 0@0 1@10 0@15 1@20 0@25 1@30 0@35 1@40 0@45 1@50 0@55 1@60 0@65 1@70 0@75 1@80 0@85 1@90 0@95 \
+1@100 0@105 1@110 0@115 | mosi:1 1@0 0@15 1@25 0@35 x@40 0@41 1@55 0@65 1@75 | cs:1 0@0 1@120; end 120]
+
+the select parts the bits
+capture: [clk:1 0@0 1@10 0@15 1@20 0@25 1@30 0@35 1@40 0@45 1@50 0@55 1@60 0@65 1@70 0@75 1@80 0@85 1@90 0@95 \
+1@100 0@105 1@110 0@115 | mosi:1 1@0 0@15 1@25 0@35 1@55 0@65 1@75 | cs:1 0@0 1@120; end 120]
+script: force top.cs 42 43 1 / spi top.clk top.mosi - top.cs 0 8 msb
+replies: ok / 10-40 spi partial 4 / 50-110 spi partial 7
+output: [clk:1 0@0 1@10 0@15 1@20 0@25 1@30 0@35 1@40 0@45 1@50 0@55 1@60 0@65 1@70 0@75 1@80 0@85 1@90 0@95 \
+1@100 0@105 1@110 0@115 | mosi:1 1@0 0@15 1@25 0@35 1@55 0@65 1@75 | cs:1 0@0 1@42 0@43 1@120; end 120]
+
+falling edges, and both orders of bits
+capture: [clk:1 0@0 1@10 0@15 1@20 0@25 1@30 0@35 1@40 0@45 | miso:1 0@0 1@12 0@22 1@32; end 50]
+script: spi top.clk - top.miso - 1 4 lsb / spi top.clk - top.miso - 1 4 msb
+replies: 15-45 spi word miso 0xd / 15-45 spi word miso 0xb";
+
+const I2C: &str = "\
+an address that is written
+capture: [scl:1 1@0 0@15 1@20 0@25 1@30 0@35 1@40 0@45 1@50 0@55 1@60 0@65 1@70 0@75 1@80 0@85 1@90 0@95 \
+1@100 0@105 1@110 | sda:1 1@0 0@10 1@17 0@27 1@37 0@47 1@115; end 120]
+script: i2c top.scl top.sda
+replies: 10-10 i2c start / 20-90 i2c address 0x50 write / 100-100 i2c ack / 115-115 i2c stop
+
+z is high
+capture: [scl:1 1@0 0@15 1@20 0@25 1@30 0@35 1@40 0@45 1@50 0@55 1@60 0@65 1@70 0@75 1@80 0@85 1@90 0@95 \
+1@100 0@105 1@110 | sda:1 z@0 0@10 z@17 0@27 z@37 0@47 z@115; end 120]
+script: i2c top.scl top.sda
+replies: 10-10 i2c start / 20-90 i2c address 0x50 write / 100-100 i2c ack / 115-115 i2c stop
+
+a repeated start and a read
+capture: [scl:1 1@0 0@15 1@20 0@25 1@30 0@35 1@40 0@45 1@50 0@55 1@60 0@65 1@70 0@75 1@80 0@85 1@90 0@95 \
+1@100 0@105 1@110 0@115 1@120 0@125 1@130 0@135 1@140 0@145 1@150 0@155 1@160 0@165 1@170 0@175 1@180 0@185 \
+1@190 0@195 1@200 0@205 1@210 0@215 1@220 0@225 1@230 0@235 1@240 0@245 1@250 0@255 1@260 0@265 1@270 0@275 \
+1@280 0@285 1@290 0@295 1@300 | sda:1 1@0 0@10 1@17 0@27 1@37 0@47 1@107 0@113 1@117 0@127 1@137 0@147 1@187 \
+0@197 1@247 0@297 1@303; end 310]
+script: i2c top.scl top.sda
+replies: 10-10 i2c start / 20-90 i2c address 0x50 write / 100-100 i2c ack / 113-113 i2c repeated-start / \
+120-190 i2c address 0x50 read / 200-200 i2c ack / 210-280 i2c data 0x0f / 290-290 i2c nack / 303-303 i2c stop
+
+three rises before a stop
+capture: [scl:1 1@0 0@15 1@20 0@25 1@30 0@35 1@40 | sda:1 1@0 0@10 1@45; end 50]
+script: i2c top.scl top.sda
+replies: 10-10 i2c start / 20-40 i2c partial 3 / 45-45 i2c stop
+
+an x in an address
+capture: [scl:1 1@0 0@15 1@20 0@25 1@30 0@35 1@40 0@45 1@50 0@55 1@60 0@65 1@70 0@75 1@80 0@85 1@90 0@95 \
+1@100 0@105 1@110 | sda:1 1@0 0@10 1@17 0@27 1@37 0@47 1@115; end 120]
+script: force top.sda 50 51 x / i2c top.scl top.sda
+replies: ok / 10-10 i2c start / 20-90 i2c unknown / 100-100 i2c ack / 115-115 i2c stop
+output: [scl:1 1@0 0@15 1@20 0@25 1@30 0@35 1@40 0@45 1@50 0@55 1@60 0@65 1@70 0@75 1@80 0@85 1@90 0@95 1@100 \
+0@105 1@110 | sda:1 1@0 0@10 1@17 0@27 1@37 0@47 x@50 0@51 1@115; end 120]
+
+an address of ten bits, and its read alone
+capture: [scl:1 1@0 0@15 1@20 0@25 1@30 0@35 1@40 0@45 1@50 0@55 1@60 0@65 1@70 0@75 1@80 0@85 1@90 0@95 \
+1@100 0@105 1@110 0@115 1@120 0@125 1@130 0@135 1@140 0@145 1@150 0@155 1@160 0@165 1@170 0@175 1@180 0@185 \
+1@190 0@195 1@200 0@205 1@210 0@215 1@220 0@225 1@230 0@235 1@240 0@245 1@250 0@255 1@260 0@265 1@270 0@275 \
+1@280 0@285 1@290 0@295 1@300 0@305 1@310 0@315 1@320 0@325 1@330 0@335 1@340 0@345 1@350 0@355 1@360 0@365 \
+1@370 0@375 1@380 0@385 1@390 | sda:1 1@0 0@10 1@17 0@57 1@67 0@77 1@107 0@117 1@127 0@137 1@157 0@167 1@177 \
+0@187 1@197 0@203 1@207 0@247 1@257 0@267 1@277 0@287 1@337 0@387 1@393; end 400]
+script: i2c top.scl top.sda / cut 0 200 / i2c top.scl top.sda
+replies: 10-10 i2c start / 20-90 i2c address-high 0x2 write / 100-100 i2c ack / \
+110-180 i2c address 0x2a5 write / 190-190 i2c ack / 203-203 i2c repeated-start / \
+210-280 i2c address 0x2a5 read / 290-290 i2c ack / 300-370 i2c data 0x0f / 380-380 i2c nack / \
+393-393 i2c stop / ok / 3-3 i2c start / 10-80 i2c address-high 0x2 read / 90-90 i2c ack / \
+100-170 i2c data 0x0f / 180-180 i2c nack / 193-193 i2c stop
+output: [scl:1 1@0 0@5 1@10 0@15 1@20 0@25 1@30 0@35 1@40 0@45 1@50 0@55 1@60 0@65 1@70 0@75 1@80 0@85 1@90 \
+0@95 1@100 0@105 1@110 0@115 1@120 0@125 1@130 0@135 1@140 0@145 1@150 0@155 1@160 0@165 1@170 0@175 1@180 \
+0@185 1@190 | sda:1 1@0 0@3 1@7 0@47 1@57 0@67 1@77 0@87 1@137 0@187 1@193; end 200]";
+
+#[test]
+fn uart_lines(rt: HostRuntime) -> Result<(), Fail> {
+    check_cases(&rt, rt.alloc(), UART)
+}
+
+#[test]
+fn spi_lines(rt: HostRuntime) -> Result<(), Fail> {
+    check_cases(&rt, rt.alloc(), SPI)
+}
+
+#[test]
+fn i2c_lines(rt: HostRuntime) -> Result<(), Fail> {
+    check_cases(&rt, rt.alloc(), I2C)
+}
