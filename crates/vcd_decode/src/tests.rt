@@ -45,8 +45,22 @@ fn a_word_is_found(rt: HostRuntime) -> Result<(), Fail> {
 }
 
 #[test]
-fn a_fault_prints_its_name(rt: HostRuntime) -> Result<(), Fail> {
-    let text = format!(in rt.alloc(); "{}", SetupError::BitTooShort)?;
-    assert!(rt; text.as_str() == "BitTooShort");
+fn messages_are_names(rt: HostRuntime) -> Result<(), Fail> {
+    let faults = [
+        SetupError::BadRatio,
+        SetupError::BitTooShort,
+        SetupError::BadData,
+        SetupError::BadStop,
+        SetupError::BadMode,
+        SetupError::BadBits,
+    ];
+    let mut text = String::new(rt.alloc());
+    for fault in faults {
+        let message = format!(in rt.alloc(); "{fault}")?;
+        assert!(rt; message.as_str() == fault.name());
+        text.push_str(message.as_str())?;
+        text.push(' ')?;
+    }
+    assert!(rt; text.as_str() == "BadRatio BitTooShort BadData BadStop BadMode BadBits ");
     Ok(())
 }

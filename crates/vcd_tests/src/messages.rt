@@ -5,7 +5,7 @@ use std::fmt::Display;
 use std::process::Abort;
 use std::test::Fail;
 use vcd_edit::EditError;
-use vcd_text::{Fault, ReadError};
+use vcd_text::{Fault, ReadError, WriteError};
 
 /// Appends the message of a fault, which must be its name, and a blank.
 fn push_message(
@@ -56,6 +56,16 @@ fn of_files_that_are_refused(rt: HostRuntime) -> Result<(), Fail> {
     }
     assert!(rt; messages.as_str() == NAMES_OF_FAULTS);
     assert!(rt; at_lines.as_str() == NAMES_OF_FAULTS);
+    Ok(())
+}
+
+#[test]
+fn of_captures_that_are_not_written(rt: HostRuntime) -> Result<(), Fail> {
+    let mut messages = String::new(rt.alloc());
+    for error in [WriteError::NoMemory, WriteError::WriteFault { written: 9 }] {
+        push_message(&rt, rt.alloc(), &mut messages, &error, error.name())?;
+    }
+    assert!(rt; messages.as_str() == "NoMemory WriteFault ");
     Ok(())
 }
 

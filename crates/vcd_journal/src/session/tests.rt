@@ -230,6 +230,7 @@ fn session_has_these_fields_alone(rt: HostRuntime) -> Result<(), Fail> {
 fn messages_are_names(rt: HostRuntime) -> Result<(), Fail> {
     let refusals = [
         StepError::Edit(EditError::NameTaken),
+        StepError::Edit(EditError::NoMemory),
         StepError::NothingToUndo,
         StepError::NothingToRedo,
         StepError::BadDepth,
@@ -238,9 +239,12 @@ fn messages_are_names(rt: HostRuntime) -> Result<(), Fail> {
     ];
     let mut text = String::new(rt.alloc());
     for refusal in refusals {
-        text.push_str(format!(in rt.alloc(); "{refusal} ")?.as_str())?;
+        let message = format!(in rt.alloc(); "{refusal}")?;
+        assert!(rt; message.as_str() == refusal.name());
+        text.push_str(message.as_str())?;
+        text.push(' ')?;
     }
-    let names = "NameTaken NothingToUndo NothingToRedo BadDepth DepthTooSmall NoMemory ";
+    let names = "NameTaken NoMemory NothingToUndo NothingToRedo BadDepth DepthTooSmall NoMemory ";
     assert_eq!(rt; text.as_str(), names);
     Ok(())
 }

@@ -94,6 +94,15 @@ derive y bit 2 0:3 9 0 1:z@0
 derive y bit 2 3:3 9 0 1:1@0
 cut 0 9:0 0 4 0:";
 
+/// A scalar and a vector that never change.
+const STILL: &str = "\
+$scope module top $end $var wire 1 ! a $end $var wire 4 \" v $end $upscope $end
+$enddefinitions $end #0 0! b0 \" #9";
+
+const EDITS_OF_STILL: &str = "\
+cut 0 9:0 0 0 0:0@0
+rename 0 a:0 9 0 0:0@0";
+
 /// Stops where the capture after an edit is another than its row says.
 fn check_after(
     rt: &impl Abort,
@@ -156,6 +165,7 @@ fn edits_and_the_ways_back(rt: HostRuntime) -> Result<(), Fail> {
         (THREE, EDITS_OF_THREE),
         (SHARED, EDITS_OF_SHARED),
         (SCOPES, EDITS_OF_SCOPES),
+        (STILL, EDITS_OF_STILL),
     ];
     for (file, rows) in tables {
         for row in rows.lines() {
