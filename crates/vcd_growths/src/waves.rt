@@ -25,27 +25,29 @@ fn full_wave(alloc: Global) -> Result<Wave, NoMemory>
 /// `Wave::push`, `share`, `reserve`, `reserve_exact` and `reserve_splice`, by their names. With the word `shared` another
 /// wave shares the list, and is told, too.
 pub fn call_on_wave<R: Runtime + AllocGlobal>(rt: &R, call: &Call) -> Result<(), Stopped> {
+    let piece = full_wave(rt.alloc())?;
     let mut wave = full_wave(rt.alloc())?;
     if call.argument == "shared" {
         let other = wave.share()?;
-        grow_and_tell(rt, call, &mut wave)?;
+        grow_and_tell(rt, call, &mut wave, piece.changes())?;
         return tell_wave(rt, &other);
     }
-    grow_and_tell(rt, call, &mut wave)
+    grow_and_tell(rt, call, &mut wave, piece.changes())
 }
 
-/// Makes the call, if it is made, and tells what became of it and of the wave.
+/// Makes the call, if it is made, and tells what became of it and of the wave. A splice is of this piece.
 fn grow_and_tell<R: Runtime + AllocGlobal>(
     rt: &R,
     call: &Call,
     wave: &mut Wave,
+    piece: &[Change],
 ) -> Result<(), Stopped>
     requires width { wave.old.width ≡ 1 }
     requires early { All (λ c. c.tick ≤ 0) wave.old.changes }
 {
     if call.makes {
         refuse(rt)?;
-        match grow(wave, call.name) {
+        match grow(wave, piece, call.name) {
             Ok(()) => allow(rt, DONE)?,
             Err(fault) => allow(rt, fault.name())?,
         }
@@ -54,7 +56,7 @@ fn grow_and_tell<R: Runtime + AllocGlobal>(
 }
 
 /// The call of a name: `push`, `share`, `reserve`, `reserve_exact`, else `reserve_splice`.
-fn grow(wave: &mut Wave, name: &str) -> Result<(), NoMemory>
+fn grow(wave: &mut Wave, piece: &[Change], name: &str) -> Result<(), NoMemory>
     requires width { wave.old.width ≡ 1 }
     requires early { All (λ c. c.tick ≤ 0) wave.old.changes }
 {
@@ -63,7 +65,7 @@ fn grow(wave: &mut Wave, name: &str) -> Result<(), NoMemory>
         "share" => share_and_drop(wave),
         "reserve" => wave.reserve(MORE),
         "reserve_exact" => wave.reserve_exact(MORE),
-        _ => wave.reserve_splice(0, 0, two_changes().as_slice()),
+        _ => wave.reserve_splice(0, 0, piece),
     }
 }
 
@@ -71,12 +73,4 @@ fn grow(wave: &mut Wave, name: &str) -> Result<(), NoMemory>
 fn share_and_drop(wave: &mut Wave) -> Result<(), NoMemory> {
     wave.share()?;
     Ok(())
-}
-
-fn two_changes() -> [Change; 2] {
-    let change = Change {
-        tick: 3,
-        value: Value::filled(1, Bit::Zero),
-    };
-    [change, change]
 }
