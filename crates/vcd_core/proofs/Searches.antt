@@ -64,7 +64,7 @@ module _ (width : ℕ) (cs : List Change) (is : IsWave width cs) (tick : ℕ) wh
         | inl inside ↦
             let place : from + (k - from) ≡ k = omega arith in
             ap (λ i. test (get_or cs i no_change)) (sym place) ∙ ap test (sym (at (k - from) (omega arith))) ∙ fails (k - from) (omega arith) (omega (arith, long))
-        | inr behind ↦
+        | inr following ↦
             let place : to + (k - to) ≡ k = omega arith in
             ap (λ i. test (get_or cs i no_change)) (sym place) ∙ ap test (sym (get_or-drop to cs (k - to) no_change))
             ∙ lt-leb _ _ (late (k - to) no_change (omega (arith, length-drop to cs)))

@@ -4,7 +4,7 @@ use Rattle.std.proofs.Math.ListN.{set}
 use Rattle.std.proofs.Math.Seq.{set-append_seam, take-append_seam, drop-append_seam}
 use Rattle.std.proofs.lemmas.List.{append_assoc, append-nil, length-append, length-take-le, length-drop, take-append-le, take-append-drop, length-map, get_or-take, get_or-drop, get_or_append_left, get_or-append_right, take_all, drop_all, take-take, get_or_default, take_more, map-append, drop_more}
 use Rattle.vcd_core.specs.declared.wave.Change.{Change}
-use Rattle.vcd_core.specs.Splice.{moved_change, TickFits, TicksFit}
+use Rattle.vcd_core.specs.Splice.{moved_change, TickFits, AllTicksFit}
 
 -- ---- down: the first k changes from `to` on stand from `from` on
 
@@ -53,11 +53,11 @@ module _ (f : Change → Change) (xs : List Change) (from to : ℕ) (ordered : f
       let next : get_or (drop to xs) k x ≡ x = get_or-drop to xs k x ∙ ap (λ n. get_or xs n x) (sym at) ∙ sym read in
       let more : map f (take k (drop to xs)) ++ f x ∷ [] ≡ map f (take (k + 1) (drop to xs)) =
       sym (ap (map f) (take_more (drop to xs) k x (omega (arith, length-drop to xs)) ∙ ap (λ c. take k (drop to xs) ++ c ∷ []) next) ∙ map-append f (take k (drop to xs)) (x ∷ [])) in
-      let behind : from + k + 1 ≡ from + (k + 1) = omega arith in
+      let following : from + k + 1 ≡ from + (k + 1) = omega arith in
       (λ p. set ((is ∙ ap (λ l. front ++ l) here) p) ((place ∙ sym long) p) (f x))
       ∙ set-append_seam front (get_or xs (from + k) x) (drop (from + k + 1) xs) (f x)
       ∙ sym (append_assoc front (f x ∷ []) (drop (from + k + 1) xs))
-      ∙ (λ p. (append_assoc (take from xs) (map f (take k (drop to xs))) (f x ∷ []) ∙ ap (λ l. take from xs ++ l) more) p ++ drop (behind p) xs)
+      ∙ (λ p. (append_assoc (take from xs) (map f (take k (drop to xs))) (f x ∷ []) ∙ ap (λ l. take from xs ++ l) more) p ++ drop (following p) xs)
 
 -- ---- up: the changes from `left` on, but the last `gap`, stand `gap` places higher
 
@@ -92,11 +92,11 @@ module _ (f : Change → Change) (xs : List Change) (n gap : ℕ) (all : n + gap
 -- ---- what the loops do
 
 -- the next change to come down has a tick that fits, and it is put in its place
-module _ (at : ℤ) (xs ys : List Change) (from to i : ℕ) (d : Change) (ordered : from ≤ to) (behind : to ≤ i) (within : i < length xs) (is : ys ≡ pulled (moved_change at) xs from to (i - to)) where
+module _ (at : ℤ) (xs ys : List Change) (from to i : ℕ) (d : Change) (ordered : from ≤ to) (following : to ≤ i) (within : i < length xs) (is : ys ≡ pulled (moved_change at) xs from to (i - to)) where
   same_change : get_or ys i d ≡ get_or xs i d
   same_change = next_to_pull (moved_change at) xs from to ordered ys (i - to) i d (omega arith) (omega arith) is
 
-  pub pulled_fits : (by : ℤ) → at ≡ by → TicksFit by (drop to xs) → TickFits at (get_or ys i d)
+  pub pulled_fits : (by : ℤ) → at ≡ by → AllTicksFit by (drop to xs) → TickFits at (get_or ys i d)
   pulled_fits by same fits =
       let place : to + (i - to) ≡ i = omega arith in
       let read : get_or (drop to xs) (i - to) d ≡ get_or ys i d = get_or-drop to xs (i - to) d ∙ ap (λ n. get_or xs n d) place ∙ sym same_change in
@@ -115,7 +115,7 @@ module _ (at : ℤ) (xs ys : List Change) (n gap left : ℕ) (d : Change) (all :
   same_below : get_or ys (left - 1) d ≡ get_or xs (left - 1) d
   same_below = next_to_lift (moved_change at) xs n gap all ys left (left - 1) d (omega arith) within is
 
-  pub lifted_fits : (from : ℕ) (by : ℤ) → at ≡ by → from < left → TicksFit by (drop from (take n xs)) → TickFits at (get_or ys (left - 1) d)
+  pub lifted_fits : (from : ℕ) (by : ℤ) → at ≡ by → from < left → AllTicksFit by (drop from (take n xs)) → TickFits at (get_or ys (left - 1) d)
   lifted_fits from by same below fits =
       let k : ℕ = left - 1 - from in
       let place : from + k ≡ left - 1 = omega arith in
@@ -143,5 +143,5 @@ put_into_gap f xs piece whole lifts list new from gap count within both up same 
     let made : list ≡ front ++ tail = same ∙ up ∙ (λ p. take (from + gap) (both p) ++ map f (drop from (take (length (both p) - gap) (both p)))) ∙ ap (λ l. front ++ map f (drop from l)) own in
     let first : take from (front ++ tail) ≡ take from xs =
     take-append-le from front tail (omega (arith, long)) ∙ take-take from (from + gap) (xs ++ piece) (omega arith) ∙ take-append-le from xs piece within in
-    let behind : drop (from + gap) (front ++ tail) ≡ tail = ap (λ n. drop n (front ++ tail)) (sym long) ∙ drop-append_seam front tail in
-    is ∙ (λ p. take from (made p) ++ piece ++ drop (from + gap) (made p)) ∙ (λ p. first p ++ piece ++ behind p)
+    let following : drop (from + gap) (front ++ tail) ≡ tail = ap (λ n. drop n (front ++ tail)) (sym long) ∙ drop-append_seam front tail in
+    is ∙ (λ p. take from (made p) ++ piece ++ drop (from + gap) (made p)) ∙ (λ p. first p ++ piece ++ following p)

@@ -8,7 +8,7 @@ use Rattle.std.proofs.lemmas.List.Folds.{drop_split}
 use Rattle.std.proofs.lemmas.Slice.{drop-append-drop}
 use Rattle.std.proofs.lemmas.Int.{ints}
 use Rattle.vcd_core.specs.declared.wave.Change.{Change}
-use Rattle.vcd_core.specs.Splice.{moved_change, TickFits, TicksFit, spliced_changes}
+use Rattle.vcd_core.specs.Splice.{moved_change, TickFits, AllTicksFit, spliced_changes}
 
 -- ---- the first changes of a piece for as many of a list
 
@@ -25,8 +25,8 @@ module _ (xs piece list : List Change) (from to n : ℕ) (some : n ≤ length pi
   later_stay : drop to list ≡ drop to xs
   later_stay = ap (drop to) is ∙ drop-append-drop (from + n) xs (take from xs ++ take n piece) to ordered front_long
 
-  pub later_fit : (by at : ℤ) → at ≡ by → TicksFit by (drop to xs) → TicksFit at (drop to list)
-  later_fit by at same fits = subst (TicksFit at) (sym later_stay) (subst (λ z. TicksFit z (drop to xs)) (sym same) fits)
+  pub later_fit : (by at : ℤ) → at ≡ by → AllTicksFit by (drop to xs) → AllTicksFit at (drop to list)
+  later_fit by at same fits = subst (AllTicksFit at) (sym later_stay) (subst (λ z. AllTicksFit z (drop to xs)) (sym same) fits)
 
   -- the piece is the shorter one: the rest of the part goes to it
   module _ (all : n ≡ length piece) where
@@ -95,7 +95,7 @@ list_stays xs from to by none stay =
 tick_back : (tick : ℕ) (by back : ℤ) → FitsUnsigned w64 (pos tick +ℤ by) → by +ℤ back ≡ pos 0 → unsigned_abs (pos (unsigned_abs (pos tick +ℤ by)) +ℤ back) ≡ tick
 tick_back tick by back fits opposite = omega (arith, ints, fits.0, opposite)
 
-pub moved_back : (by back : ℤ) (cs : List Change) → by +ℤ back ≡ pos 0 → TicksFit by cs → map (moved_change back) (map (moved_change by) cs) ≡ cs
+pub moved_back : (by back : ℤ) (cs : List Change) → by +ℤ back ≡ pos 0 → AllTicksFit by cs → map (moved_change back) (map (moved_change by) cs) ≡ cs
 unfolding moved_change TickFits
 moved_back by back [] opposite fit = refl
 moved_back by back (c ∷ cs) opposite fit =
@@ -111,7 +111,7 @@ tick_fits_back by back c small opposite fits =
     let same : pos (unsigned_abs (pos c.tick +ℤ by)) +ℤ back ≡ pos c.tick = omega (arith, ints, fits.0, opposite) in
     subst (FitsUnsigned w64) (sym same) (omega (arith, ints), omega (arith, ints, small))
 
-moved_fit : (by back : ℤ) (cs : List Change) → All (λ c. c.tick < 2 ^ 64) cs → by +ℤ back ≡ pos 0 → TicksFit by cs → TicksFit back (map (moved_change by) cs)
+moved_fit : (by back : ℤ) (cs : List Change) → All (λ c. c.tick < 2 ^ 64) cs → by +ℤ back ≡ pos 0 → AllTicksFit by cs → AllTicksFit back (map (moved_change by) cs)
 moved_fit by back cs small opposite fit =
     All-map (TickFits back) (moved_change by) cs (λ k d within. tick_fits_back by back _ (small k d within) opposite (fit k d within))
 
@@ -151,7 +151,7 @@ module _ (cs piece : List Change) (from to : ℕ) (by back : ℤ) (ordered : fro
       ∙ take-append_seam piece rest
 
   -- the splice of what went out, with the opposite offset
-  pub spliced_back : TicksFit by (drop to cs) → by +ℤ back ≡ pos 0
+  pub spliced_back : AllTicksFit by (drop to cs) → by +ℤ back ≡ pos 0
       → spliced_changes (spliced_changes cs from to piece by) from (from + length piece) (slice_range cs from to) back ≡ cs
   unfolding spliced_changes
   spliced_back fit opposite =
@@ -169,7 +169,7 @@ module _ (cs piece : List Change) (from to : ℕ) (by back : ℤ) (ordered : fro
   back_within = omega (arith, both_are, length-append (take from cs ++ piece) (map (moved_change by) (drop to cs)))
 
   -- the later ticks may move back
-  pub back_fits : All (λ c. c.tick < 2 ^ 64) cs → TicksFit by (drop to cs) → by +ℤ back ≡ pos 0
-      → TicksFit back (drop (from + length piece) (spliced_changes cs from to piece by))
+  pub back_fits : All (λ c. c.tick < 2 ^ 64) cs → AllTicksFit by (drop to cs) → by +ℤ back ≡ pos 0
+      → AllTicksFit back (drop (from + length piece) (spliced_changes cs from to piece by))
   back_fits small fit opposite =
-      subst (TicksFit back) (sym later_of-spliced) (moved_fit by back (drop to cs) (All-drop (λ c. c.tick < 2 ^ 64) to cs small) opposite fit)
+      subst (AllTicksFit back) (sym later_of-spliced) (moved_fit by back (drop to cs) (All-drop (λ c. c.tick < 2 ^ 64) to cs small) opposite fit)

@@ -2,7 +2,7 @@
 use Rattle.std.specs.Prelude.{Bool, true, false, ◌≡◌, Result, OnOk, OnErr, IsErr}
 
 -- how the answer of a call tells whether the device has failed: the project's own
-pub record TellsFailure {T E : Type 0} (before after : Bool) (answer : Result T E) : Type 0 where
+pub record FailureMatches {T E : Type 0} (before after : Bool) (answer : Result T E) : Type 0 where
   -- an Ok leaves it not failed
   pub not_failed : OnOk answer (after ≡ false)
   -- an Err means that it has failed

@@ -3,7 +3,7 @@ use Rattle.std.specs.Prelude.{ℕ, ◌+◌, ◌^◌, ◌≡◌, ◌<◌, ◌≤�
 use Rattle.vcd_core.specs.declared.bit.Bit.{Bit}
 use Rattle.vcd_core.specs.declared.wave.Change.{Change}
 use Rattle.vcd_core.specs.Wave.{value_at, changes_of, IsWave, AllUpTo}
-use Rattle.vcd_core.specs.Splice.{TicksFit, spliced_changes}
+use Rattle.vcd_core.specs.Splice.{AllTicksFit, spliced_changes}
 
 -- two waves of one width with the same value at each tick have the same changes
 abbrev pub SameValuesSameChanges : Type 0
@@ -31,7 +31,7 @@ ChangesAreWave =
 abbrev pub SpliceAndBack : Type 0
 SpliceAndBack =
     (changes piece : List Change) (from to : ℕ) (by back : ℤ) → from ≤ to → to ≤ length changes
-    → TicksFit by (drop to changes) → by +ℤ back ≡ pos 0
+    → AllTicksFit by (drop to changes) → by +ℤ back ≡ pos 0
     → (spliced_changes (spliced_changes changes from to piece by) from (from + length piece) (slice_range changes from to) back ≡ changes)
     × (slice_range (spliced_changes changes from to piece by) from (from + length piece) ≡ piece)
 
@@ -39,7 +39,7 @@ SpliceAndBack =
 abbrev pub SpliceBackIsAllowed : Type 0
 SpliceBackIsAllowed =
     (width : ℕ) (changes piece : List Change) (from to : ℕ) (by back : ℤ) → from ≤ to → to ≤ length changes
-    → IsWave width changes → All (λ c. c.tick < 2 ^ 64) changes → TicksFit by (drop to changes) → by +ℤ back ≡ pos 0
+    → IsWave width changes → All (λ c. c.tick < 2 ^ 64) changes → AllTicksFit by (drop to changes) → by +ℤ back ≡ pos 0
     → (from + length piece ≤ length (spliced_changes changes from to piece by))
-    × TicksFit back (drop (from + length piece) (spliced_changes changes from to piece by))
+    × AllTicksFit back (drop (from + length piece) (spliced_changes changes from to piece by))
     × IsWave width (spliced_changes (spliced_changes changes from to piece by) from (from + length piece) (slice_range changes from to) back)

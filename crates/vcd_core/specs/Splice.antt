@@ -13,8 +13,8 @@ unfoldable pub TickFits : ℤ → Change → Type 0
 TickFits by c = FitsUnsigned w64 (pos c.tick +ℤ by)
 
 -- and so is that of every change
-abbrev pub TicksFit : ℤ → List Change → Type 0
-TicksFit by changes = All (TickFits by) changes
+abbrev pub AllTicksFit : ℤ → List Change → Type 0
+AllTicksFit by changes = All (TickFits by) changes
 
 -- the changes at positions `from` up to before `to` give way to a piece, and the later ones move by `by` ticks
 unfoldable pub spliced_changes : List Change → ℕ → ℕ → List Change → ℤ → List Change

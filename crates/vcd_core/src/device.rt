@@ -1,7 +1,7 @@
 ghost use Rattle.std.specs.Prelude.{◌≡◌, ◌<◌, false, length, IfOk};
 ghost use Rattle.std.specs.Io.{ReadsAtMost, WritesAtMost};
 ghost use Rattle.std.specs.Io.KnownBytes.{ReadConsumes, WriteAppends, Keeps};
-ghost use Rattle.vcd_core.specs.Device.{TellsFailure};
+ghost use Rattle.vcd_core.specs.Device.{FailureMatches};
 
 mod output;
 mod whole;
@@ -43,7 +43,7 @@ pub trait Source {
     fn read(&mut self, buffer: &mut [u8]) -> Result<usize, DeviceFault>
         ensures count { ReadsAtMost result buffer.new }
         ensures bytes { ReadConsumes (coming self.old) (coming self.new) result buffer.new }
-        ensures fault { TellsFailure (has_failed self.old) (has_failed self.new) result };
+        ensures fault { FailureMatches (has_failed self.old) (has_failed self.new) result };
 
     /// Whether the device has failed.
     fn failed(&self) -> bool
@@ -69,12 +69,12 @@ pub trait Sink {
         ensures count { WritesAtMost result bytes.now }
         ensures some { 0 < length bytes.now → IfOk result (λ count. 0 < count) }
         ensures bytes { WriteAppends (taken self.old) (taken self.new) result bytes.now }
-        ensures fault { TellsFailure (has_failed self.old) (has_failed self.new) result };
+        ensures fault { FailureMatches (has_failed self.old) (has_failed self.new) result };
 
     /// Passes on what was taken.
     fn flush(&mut self) -> Result<(), DeviceFault>
         ensures bytes { Keeps (taken self.old) (taken self.new) }
-        ensures fault { TellsFailure (has_failed self.old) (has_failed self.new) result };
+        ensures fault { FailureMatches (has_failed self.old) (has_failed self.new) result };
 
     /// Whether the device has failed.
     fn failed(&self) -> bool

@@ -90,11 +90,11 @@ impl<'a> FullName<'a> {
         }
         let mut name = self;
         let mut rest = text;
-        while let [byte, behind @ ..] = rest {
+        while let [byte, following @ ..] = rest {
             if name.next_byte() != Some(*byte) {
                 return false;
             }
-            rest = behind;
+            rest = following;
         }
         name.next_byte().is_none()
     }

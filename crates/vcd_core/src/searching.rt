@@ -12,7 +12,7 @@ pub(crate) fn count_near(changes: &[Change], near: usize, tick: u64) -> usize
 {
     let near = near.min(changes.len());
     let from = place_before(changes, near, tick);
-    let to = place_behind(changes, near, tick);
+    let to = place_after(changes, near, tick);
     from + changes[from..to].partition_point(|change| change.tick <= tick)
 }
 
@@ -35,7 +35,7 @@ fn place_before(changes: &[Change], near: usize, tick: u64) -> usize
 
 /// A place from which on each change is later than `tick`: `near`, or one behind it, by steps that
 /// double.
-fn place_behind(changes: &[Change], near: usize, tick: u64) -> usize
+fn place_after(changes: &[Change], near: usize, tick: u64) -> usize
     requires form { (width : ℕ) × IsWave width changes.now }
     requires within { near ≤ length changes.now }
     ensures from { near ≤ result }

@@ -1,7 +1,7 @@
 //! How a piece and a part of a list of changes change places, in place.
 
 ghost use Rattle.std.specs.Prelude.{◌≡◌, ◌≤◌, ◌+◌, ◌-◌, ◌++◌, length, take, drop, map, slice_range, vec_len, vec_capacity};
-ghost use Rattle.vcd_core.specs.Splice.{moved_change, TickFits, TicksFit, spliced_changes};
+ghost use Rattle.vcd_core.specs.Splice.{moved_change, TickFits, AllTicksFit, spliced_changes};
 
 use crate::wave::Change;
 
@@ -51,7 +51,7 @@ fn swap_fronts(changes: &mut Vec<Change>, at: usize, piece: &mut Vec<Change>, co
 fn pull_down(changes: &mut [Change], from: usize, to: usize, by: i64)
     requires ordered { from ≤ to }
     requires within { to ≤ length changes.old }
-    requires fit { TicksFit by (drop to changes.old) }
+    requires fit { AllTicksFit by (drop to changes.old) }
     ensures front { take (length changes.old - (to - from)) changes.new
         ≡ take from changes.old ++ map (moved_change by) (drop to changes.old) }
     ensures len { length changes.new ≡ length changes.old }
@@ -68,7 +68,7 @@ fn pull_down(changes: &mut [Change], from: usize, to: usize, by: i64)
 /// is copied; what stood in the gap is left over.
 fn push_up(changes: &mut [Change], from: usize, gap: usize, by: i64)
     requires within { from + gap ≤ length changes.old }
-    requires fit { TicksFit by (drop from (take (length changes.old - gap) changes.old)) }
+    requires fit { AllTicksFit by (drop from (take (length changes.old - gap) changes.old)) }
     ensures { changes.new ≡ take (from + gap) changes.old
         ++ map (moved_change by) (drop from (take (length changes.old - gap) changes.old)) }
 {
@@ -100,7 +100,7 @@ fn take_out(changes: &mut Vec<Change>, from: usize, to: usize, piece: &mut Vec<C
     requires ordered { from ≤ to }
     requires within { to ≤ vec_len changes.old }
     requires room { vec_len piece.old + (to - from) ≤ vec_capacity piece.old }
-    requires fit { TicksFit by (drop to changes.old.items) }
+    requires fit { AllTicksFit by (drop to changes.old.items) }
     ensures changes { changes.new.items ≡ take from changes.old.items
         ++ map (moved_change by) (drop to changes.old.items) }
     ensures piece { piece.new.items ≡ piece.old.items ++ slice_range changes.old.items from to }
@@ -122,7 +122,7 @@ fn put_in(changes: &mut Vec<Change>, at: usize, piece: &mut Vec<Change>, kept: u
     requires within { at ≤ vec_len changes.old }
     requires front { kept ≤ vec_len piece.old }
     requires room { vec_len changes.old + (vec_len piece.old - kept) ≤ vec_capacity changes.old }
-    requires fit { TicksFit by (drop at changes.old.items) }
+    requires fit { AllTicksFit by (drop at changes.old.items) }
     ensures changes { changes.new.items ≡ take at changes.old.items ++ drop kept piece.old.items
         ++ map (moved_change by) (drop at changes.old.items) }
     ensures piece { piece.new.items ≡ take kept piece.old.items }
@@ -153,7 +153,7 @@ pub(crate) fn splice_changes(
     requires room { vec_len changes.old + vec_len piece.old
         ≤ vec_capacity changes.old + (to - from) }
     requires piece_room { to - from ≤ vec_capacity piece.old }
-    requires fit { TicksFit by (drop to changes.old.items) }
+    requires fit { AllTicksFit by (drop to changes.old.items) }
     ensures changes { changes.new.items
         ≡ spliced_changes changes.old.items from to piece.old.items by }
     ensures piece { piece.new.items ≡ slice_range changes.old.items from to }

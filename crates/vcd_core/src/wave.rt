@@ -1,7 +1,7 @@
 ghost use Rattle.std.specs.Prelude.{◌≡◌, ℕ, ◌+◌, ◌-◌, ◌<◌, ◌≤◌, if◌then◌else◌, nat_lt, nat_le, max, [], ◌∷◌, length, drop, slice_range, count_by, IsOk, IfOk, OnOk, OnErr, All, Any, vec_len, vec_capacity};
 ghost use Rattle.vcd_core.specs.Wave.{value_at, IsWave, changes_after_push};
 ghost use Rattle.vcd_core.specs.WordRows.{letters_of};
-ghost use Rattle.vcd_core.specs.Splice.{TicksFit, spliced_changes};
+ghost use Rattle.vcd_core.specs.Splice.{AllTicksFit, spliced_changes};
 
 use crate::change_list::{last_value, push_change, push_word_change};
 use crate::memory::NoMemory;
@@ -278,7 +278,7 @@ impl Wave {
         requires fits { length self.old.changes + vec_len piece.old
             < self.old.splice_room + (to - from) }
         requires piece_fits { to - from ≤ vec_capacity piece.old }
-        requires ticks { TicksFit by (drop to self.old.changes) }
+        requires ticks { AllTicksFit by (drop to self.old.changes) }
         requires form { IsWave self.old.width
             (spliced_changes self.old.changes from to piece.old.items by) }
 

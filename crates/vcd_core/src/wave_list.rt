@@ -1,7 +1,7 @@
 //! The list of changes of a wave: its own, or one that several waves share.
 
 ghost use Rattle.std.specs.Prelude.{◌≡◌, ◌<◌, ◌≤◌, ◌+◌, ◌-◌, max, length, drop, slice_range, IsOk, IfOk, OnOk, OnErr, vec_len, vec_capacity};
-ghost use Rattle.vcd_core.specs.Splice.{TicksFit, spliced_changes};
+ghost use Rattle.vcd_core.specs.Splice.{AllTicksFit, spliced_changes};
 ghost use Rattle.vcd_core.specs.inside.WaveLists.{changes_of_list, room_of_list, splice_room_of_list};
 
 use crate::memory::NoMemory;
@@ -209,7 +209,7 @@ fn splice_list(list: WaveList, from: usize, to: usize, piece: &mut Vec<Change>, 
     requires room { length (changes_of_list list) + vec_len piece.old
         < splice_room_of_list list + (to - from) }
     requires piece_room { to - from ≤ vec_capacity piece.old }
-    requires fit { TicksFit by (drop to (changes_of_list list)) }
+    requires fit { AllTicksFit by (drop to (changes_of_list list)) }
     ensures changes { changes_of_list result
         ≡ spliced_changes (changes_of_list list) from to piece.old.items by }
     ensures piece { piece.new.items ≡ slice_range (changes_of_list list) from to }
@@ -351,7 +351,7 @@ impl WaveList {
         requires room { length (changes_of_list self.old) + vec_len piece.old
             < splice_room_of_list self.old + (to - from) }
         requires piece_room { to - from ≤ vec_capacity piece.old }
-        requires fit { TicksFit by (drop to (changes_of_list self.old)) }
+        requires fit { AllTicksFit by (drop to (changes_of_list self.old)) }
         ensures changes { changes_of_list self.new
             ≡ spliced_changes (changes_of_list self.old) from to piece.old.items by }
         ensures piece { piece.new.items ≡ slice_range (changes_of_list self.old) from to }

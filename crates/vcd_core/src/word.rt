@@ -19,11 +19,11 @@ pub fn is_white_space(byte: u8) -> bool
 pub fn is_word(bytes: &[u8]) -> bool
     ensures { result ≡ word_test bytes.now }
 {
-    !bytes.is_empty() && is_black(bytes) && bytes != b"$end".as_slice()
+    !bytes.is_empty() && has_no_space(bytes) && bytes != b"$end".as_slice()
 }
 
 /// Whether no byte is white space.
-fn is_black(bytes: &[u8]) -> bool
+fn has_no_space(bytes: &[u8]) -> bool
     ensures { result ≡ list_all (λ b. not (white b)) bytes.now }
 {
     bytes.iter().all(|byte| !is_white_space(*byte))

@@ -133,11 +133,11 @@ unfolding groups_of nines_annotations bits_until has_condition shown_address eve
 read_twice = refl
 
 -- not where a STOP is between
-read_behind_stop : events_annotations None (events.Start 0 ∷ byte 1 244 ++ byte 10 165 ++ events.Stop 19 ∷ events.Start 20 ∷ byte 21 245)
+read_after_stop : events_annotations None (events.Start 0 ∷ byte 1 244 ++ byte 10 165 ++ events.Stop 19 ∷ events.Start 20 ∷ byte 21 245)
     ≡ at 0 Start ∷ annotation 1 8 (AddressHigh 2 Write) ∷ at 9 Ack ∷ annotation 10 17 (TenBitAddress 677 Write) ∷ at 18 Ack ∷ at 19 Stop
     ∷ at 20 Start ∷ annotation 21 28 (AddressHigh 2 Read) ∷ at 29 Ack ∷ []
 unfolding groups_of nines_annotations bits_until has_condition shown_address events_annotations
-read_behind_stop = refl
+read_after_stop = refl
 
 -- nor with other high bits, nor behind another address
 read_of_another : events_annotations None (events.Start 0 ∷ byte 1 244 ++ byte 10 165 ++ events.Start 19 ∷ byte 20 243 ++ events.Start 29 ∷ byte 30 245)

@@ -72,10 +72,10 @@ x_among_the_data = refl
 -- ---- where it goes on
 
 -- a fall at the tick behind the last sample begins a frame
-on_behind_a_frame : found ((0, One) ∷ (20, Zero) ∷ (30, One) ∷ (40, Zero) ∷ (90, One) ∷ (100, Zero) ∷ (110, One) ∷ (116, Zero) ∷ []) 130 (uart_setup 10 1 8 None 1)
+on_after_a_frame : found ((0, One) ∷ (20, Zero) ∷ (30, One) ∷ (40, Zero) ∷ (90, One) ∷ (100, Zero) ∷ (110, One) ∷ (116, Zero) ∷ []) 130 (uart_setup 10 1 8 None 1)
     ≡ annotation 20 115 (Byte 65) ∷ annotation 116 130 Partial ∷ []
 unfolding found uart_annotations frames falls begun_frame sample_offset value_from
-on_behind_a_frame = refl
+on_after_a_frame = refl
 
 -- one at the last sample belongs to the frame, whose stop bit is then 0
 not_at_its_last_tick : found ((0, One) ∷ (20, Zero) ∷ (30, One) ∷ (40, Zero) ∷ (90, One) ∷ (100, Zero) ∷ (110, One) ∷ (115, Zero) ∷ []) 130 (uart_setup 10 1 8 None 1)
@@ -84,24 +84,24 @@ unfolding found uart_annotations frames falls begun_frame sample_offset value_fr
 not_at_its_last_tick = refl
 
 -- a frame may begin while the start bit of a glitch would still last
-on_behind_a_glitch : found ((0, One) ∷ (10, Zero) ∷ (12, One) ∷ (16, Zero) ∷ []) 40 (uart_setup 10 1 8 None 1) ≡ annotation 16 40 Partial ∷ []
+on_after_a_glitch : found ((0, One) ∷ (10, Zero) ∷ (12, One) ∷ (16, Zero) ∷ []) 40 (uart_setup 10 1 8 None 1) ≡ annotation 16 40 Partial ∷ []
 unfolding found uart_annotations frames falls begun_frame sample_offset value_from
-on_behind_a_glitch = refl
+on_after_a_glitch = refl
 
 -- and behind a stop bit that is 0
-on_behind_a_frame_error : found ((0, One) ∷ (10, Zero) ∷ (13, One) ∷ (18, Zero) ∷ (28, One) ∷ (29, Zero) ∷ []) 40 (uart_setup 25 10 5 None 1) ≡ annotation 10 26 FrameError ∷ annotation 29 40 Partial ∷ []
+on_after_a_frame_error : found ((0, One) ∷ (10, Zero) ∷ (13, One) ∷ (18, Zero) ∷ (28, One) ∷ (29, Zero) ∷ []) 40 (uart_setup 25 10 5 None 1) ≡ annotation 10 26 FrameError ∷ annotation 29 40 Partial ∷ []
 unfolding found uart_annotations frames falls begun_frame sample_offset value_from
-on_behind_a_frame_error = refl
+on_after_a_frame_error = refl
 
 -- behind a wrong parity
-on_behind_a_parity_error : found ((0, One) ∷ (10, Zero) ∷ (13, One) ∷ (18, Zero) ∷ (28, One) ∷ (29, Zero) ∷ []) 40 (uart_setup 25 10 5 Odd 1) ≡ annotation 10 28 (ParityError 3) ∷ annotation 29 40 Partial ∷ []
+on_after_a_parity_error : found ((0, One) ∷ (10, Zero) ∷ (13, One) ∷ (18, Zero) ∷ (28, One) ∷ (29, Zero) ∷ []) 40 (uart_setup 25 10 5 Odd 1) ≡ annotation 10 28 (ParityError 3) ∷ annotation 29 40 Partial ∷ []
 unfolding found uart_annotations frames falls begun_frame sample_offset value_from
-on_behind_a_parity_error = refl
+on_after_a_parity_error = refl
 
 -- behind an x
-on_behind_unknown : found ((0, One) ∷ (10, Zero) ∷ (13, X) ∷ (18, Zero) ∷ (26, One) ∷ (27, Zero) ∷ []) 40 (uart_setup 25 10 5 None 1) ≡ annotation 10 26 Unknown ∷ annotation 27 40 Partial ∷ []
+on_after_unknown : found ((0, One) ∷ (10, Zero) ∷ (13, X) ∷ (18, Zero) ∷ (26, One) ∷ (27, Zero) ∷ []) 40 (uart_setup 25 10 5 None 1) ≡ annotation 10 26 Unknown ∷ annotation 27 40 Partial ∷ []
 unfolding found uart_annotations frames falls begun_frame sample_offset value_from
-on_behind_unknown = refl
+on_after_unknown = refl
 
 -- ---- which fault counts
 

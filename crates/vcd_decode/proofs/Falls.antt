@@ -83,7 +83,7 @@ unfolding frames
 passed begun taken tick starts false none = refl
 passed begun taken tick starts true none =
     elim (cases_lt taken tick) [
-      | inl behind ↦ let both : true ≡ false = sym (lt-ltb taken tick behind) ∙ none in absurd (cc)
+      | inl following ↦ let both : true ≡ false = sym (lt-ltb taken tick following) ∙ none in absurd (cc)
       | inr within ↦ rw (le-leb tick taken within) refl
     ]
 
@@ -95,7 +95,7 @@ unfolding frames
 begins begun taken tick starts false some = absurd (cc)
 begins begun taken tick starts true some =
     elim (cases_lt taken tick) [
-      | inl behind ↦ rw (lt-leb tick taken behind) refl
+      | inl following ↦ rw (lt-leb tick taken following) refl
       | inr within ↦ let both : true ≡ false = sym some ∙ le-ltb taken tick within in absurd (cc)
     ]
 

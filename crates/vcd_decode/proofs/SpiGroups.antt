@@ -16,9 +16,9 @@ use Rattle.vcd_decode.specs.declared.spi_setup.BitOrder.{BitOrder}
 use Rattle.vcd_decode.specs.declared.spi_setup.BitOrder.TheVariants.{Msb, Lsb}
 use Rattle.vcd_decode.specs.SpiSetup.{SpiSetup}
 use Rattle.vcd_decode.specs.Lines.{line_of, is_one, is_unclear, number_from_letters}
-use Rattle.vcd_decode.specs.Spi.{ordered_number, data_of, line_data, group_start, group_end, group_told, segment_told}
+use Rattle.vcd_decode.specs.Spi.{ordered_number, data_of, line_data, group_start, group_end, group_annotation, segment_annotations}
 use Rattle.vcd_decode.specs.inside.SpiGroup.{longer_number, data_after, data_before, first_data, DataFits, group_before, word_annotation, rest_annotation}
-use Rattle.vcd_decode.specs.inside.SpiWalk.{rest_told, group_of}
+use Rattle.vcd_decode.specs.inside.SpiWalk.{annotations_at_rest, group_of}
 use Rattle.vcd_decode.proofs.Groups.{groups_none, groups_short}
 
 -- ---- numbers
@@ -157,13 +157,13 @@ module _ (u : SpiSetup) (mosi miso : Option (ℕ → Bit)) where
       λ i. record { start = 0; last = 0; count = 0; mosi = out i; miso = back i }
 
   -- what it tells where it is no whole word
-  pub rest_is : (ts : List ℕ) → length ts < u.bits → rest_told (group_of u mosi miso ts) ≡ segment_told u mosi miso ts
-  rest_is [] short = sym (ap (map (group_told u mosi miso)) (groups_none u.bits))
+  pub rest_is : (ts : List ℕ) → length ts < u.bits → annotations_at_rest (group_of u mosi miso ts) ≡ segment_annotations u mosi miso ts
+  rest_is [] short = sym (ap (map (group_annotation u mosi miso)) (groups_none u.bits))
   rest_is (t ∷ ts) short =
       let some = not_none t ts in
-      let told : group_told u mosi miso (t ∷ ts) ≡ rest_annotation (group_of u mosi miso (t ∷ ts)) = rw (lt-ltb (length (t ∷ ts)) u.bits short) refl in
-      rw some (sym (ap (map (group_told u mosi miso)) (groups_short u.bits (t ∷ ts) (omega arith) (omega arith)) ∙ ap (λ a. a ∷ []) told))
+      let told : group_annotation u mosi miso (t ∷ ts) ≡ rest_annotation (group_of u mosi miso (t ∷ ts)) = rw (lt-ltb (length (t ∷ ts)) u.bits short) refl in
+      rw some (sym (ap (map (group_annotation u mosi miso)) (groups_short u.bits (t ∷ ts) (omega arith) (omega arith)) ∙ ap (λ a. a ∷ []) told))
 
   -- and where it is one
-  pub word_is : (ts : List ℕ) → length ts ≡ u.bits → group_told u mosi miso ts ≡ word_annotation (group_of u mosi miso ts)
+  pub word_is : (ts : List ℕ) → length ts ≡ u.bits → group_annotation u mosi miso ts ≡ word_annotation (group_of u mosi miso ts)
   word_is ts whole = rw (le-ltb (length ts) u.bits (omega arith)) refl

@@ -61,15 +61,15 @@ abbrev pub group_end : List ℕ → ℕ
 group_end ticks = slice_index ticks (length ticks - 1)
 
 -- what a group of a segment tells: a word, or how many bits of one
-abbrev pub group_told : SpiSetup → Option (ℕ → Bit) → Option (ℕ → Bit) → List ℕ → Annotation
-group_told u mosi miso ticks = annotation (group_start ticks) (group_end ticks)
+abbrev pub group_annotation : SpiSetup → Option (ℕ → Bit) → Option (ℕ → Bit) → List ℕ → Annotation
+group_annotation u mosi miso ticks = annotation (group_start ticks) (group_end ticks)
     (if nat_lt (length ticks) u.bits then PartialOf (length ticks)
     else Word (line_data u.order mosi ticks) (line_data u.order miso ticks))
 
 -- and what a segment tells
-abbrev pub segment_told : SpiSetup → Option (ℕ → Bit) → Option (ℕ → Bit) → List ℕ → List Annotation
-segment_told u mosi miso ticks = map (group_told u mosi miso) (groups_of u.bits ticks)
+abbrev pub segment_annotations : SpiSetup → Option (ℕ → Bit) → Option (ℕ → Bit) → List ℕ → List Annotation
+segment_annotations u mosi miso ticks = map (group_annotation u mosi miso) (groups_of u.bits ticks)
 
 -- the annotations of lines that have these letters at each tick, up to the capture's end
 unfoldable pub spi_annotations : SpiSetup → (ℕ → Bit) → Option (ℕ → Bit) → Option (ℕ → Bit) → Option (ℕ → Bit) → ℕ → List Annotation
-spi_annotations u clk mosi miso cs end = flat_map (segment_told u mosi miso) (segments u clk cs end)
+spi_annotations u clk mosi miso cs end = flat_map (segment_annotations u mosi miso) (segments u clk cs end)

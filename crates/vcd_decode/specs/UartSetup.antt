@@ -37,8 +37,8 @@ uart_fault u =
     else None)))
 
 -- what the making of a setup answers, told by the fault that there is
-abbrev pub TellsSetupFault : {T : Type 0} → Result T SetupError → Option SetupError → Type 0
-TellsSetupFault answer found = MatchResult answer (λ _. found ≡ None) (λ fault. found ≡ Some fault)
+abbrev pub SetupFaultIs : {T : Type 0} → Result T SetupError → Option SetupError → Type 0
+SetupFaultIs answer found = MatchResult answer (λ _. found ≡ None) (λ fault. found ≡ Some fault)
 
 -- the numbers of a setup without a fault
 abbrev pub IsUartSetup : ℕ → ℕ → ℕ → ℕ → Type 0

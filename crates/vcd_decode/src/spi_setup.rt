@@ -2,7 +2,7 @@
 
 ghost use Rattle.std.specs.Prelude.{◌≡◌, ◌≤◌, IfOk};
 ghost use Rattle.vcd_decode.specs.SpiSetup.{spi_setup, spi_fault};
-ghost use Rattle.vcd_decode.specs.UartSetup.{TellsSetupFault};
+ghost use Rattle.vcd_decode.specs.UartSetup.{SetupFaultIs};
 ghost use Rattle.vcd_decode.specs.Lines.{is_zero as zero_test, is_one as one_test};
 ghost use Rattle.vcd_decode.specs.inside.SpiClock.{passes};
 
@@ -61,7 +61,7 @@ impl Spi {
     /// `BadMode` above 3, else `BadBits` where the bits are not 1 to 32. It takes no memory.
     pub fn new(mode: u64, bits: u64, order: BitOrder) -> Result<Spi, SetupError>
         ensures setup { IfOk result (λ s. s ≡ spi_setup mode bits order) }
-        ensures fault { TellsSetupFault result (spi_fault (spi_setup mode bits order)) }
+        ensures fault { SetupFaultIs result (spi_fault (spi_setup mode bits order)) }
     {
         if mode > GREATEST_MODE {
             return Err(SetupError::BadMode);

@@ -6,7 +6,7 @@ ghost use Rattle.vcd_core.specs.Edges.{EachUpTo};
 ghost use Rattle.vcd_core.specs.BitEdges.{EachOneBit};
 ghost use Rattle.vcd_decode.specs.Lines.{line_of};
 ghost use Rattle.vcd_decode.specs.Spi.{spi_annotations};
-ghost use Rattle.vcd_decode.specs.inside.SpiWalk.{selects, deselects, is_sampling, HasRoomForBit, rest_told, edge_told, edge_group, bit_told, bit_group};
+ghost use Rattle.vcd_decode.specs.inside.SpiWalk.{selects, deselects, is_sampling, HasRoomForBit, annotations_at_rest, annotations_at_edge, edge_group, annotations_at_bit, bit_group};
 
 use crate::annotation::Annotation;
 use crate::letters::is_zero;
@@ -50,7 +50,7 @@ pub fn spi<'a>(
     for edge in edges {
         group = take_clock_edge(&mut found, setup, &group, &edge)?;
     }
-    tell_rest(&mut found, &group)?;
+    annotate_rest(&mut found, &group)?;
     Ok(found)
 }
 
@@ -63,11 +63,11 @@ fn take_clock_edge(
 ) -> Result<Group, NoMemory>
     requires { HasRoomForBit setup.now group.now }
     ensures told { OnOk result (found.new.items
-        ≡ found.old.items ++ edge_told setup.now group.now edge.now) }
+        ≡ found.old.items ++ annotations_at_edge setup.now group.now edge.now) }
     ensures group { IfOk result (λ g. g ≡ edge_group setup.now group.now edge.now) }
 {
     if deselects(edge) {
-        tell_rest(found, group)?;
+        annotate_rest(found, group)?;
         return Ok(group.emptied());
     }
     take_sample(found, setup, group, edge)
@@ -82,7 +82,7 @@ fn take_sample(
 ) -> Result<Group, NoMemory>
     requires { HasRoomForBit setup.now group.now }
     ensures told { OnOk result (found.new.items
-        ≡ found.old.items ++ bit_told setup.now group.now edge.now) }
+        ≡ found.old.items ++ annotations_at_bit setup.now group.now edge.now) }
     ensures group { IfOk result (λ g. g ≡ bit_group setup.now group.now edge.now) }
 {
     if !is_sampling(setup, edge) {
@@ -98,8 +98,8 @@ fn take_sample(
 }
 
 /// Tells how many bits there are of a word that is not ended, if any.
-fn tell_rest(found: &mut Vec<Annotation>, group: &Group) -> Result<(), NoMemory>
-    ensures { OnOk result (found.new.items ≡ found.old.items ++ rest_told group.now) }
+fn annotate_rest(found: &mut Vec<Annotation>, group: &Group) -> Result<(), NoMemory>
+    ensures { OnOk result (found.new.items ≡ found.old.items ++ annotations_at_rest group.now) }
 {
     if group.count == 0 {
         return Ok(());

@@ -1,7 +1,7 @@
 //! How the frames of an asynchronous serial line are made.
 
 ghost use Rattle.std.specs.Prelude.{◌≡◌, ◌≤◌, IfOk};
-ghost use Rattle.vcd_decode.specs.UartSetup.{uart_setup, uart_fault, is_between, TellsSetupFault};
+ghost use Rattle.vcd_decode.specs.UartSetup.{uart_setup, uart_fault, is_between, SetupFaultIs};
 
 use crate::setup_error::SetupError;
 use std::marker::Model;
@@ -76,7 +76,7 @@ impl Uart {
     ) -> Result<Uart, SetupError>
         ensures setup { IfOk result (λ u.
             u ≡ uart_setup numerator denominator data_bits parity stop_bits) }
-        ensures fault { TellsSetupFault result
+        ensures fault { SetupFaultIs result
             (uart_fault (uart_setup numerator denominator data_bits parity stop_bits)) }
     {
         if !is_ratio_number(numerator) || !is_ratio_number(denominator) {

@@ -9,7 +9,7 @@ use Rattle.vcd_core.specs.Wave.{change}
 use Rattle.vcd_core.specs.Splice.{moved_change, spliced_changes}
 use Rattle.vcd_core.specs.Contents.{Contents, SignalContents}
 use Rattle.vcd_edit.specs.RecordView.{PieceView, RecordView}
-use Rattle.vcd_edit.specs.Back.{with_pieces, back}
+use Rattle.vcd_edit.specs.AppliedRecords.{with_pieces, apply_record}
 use Rattle.vcd_edit.specs.Touched.{touched_count, touched_from, touched_by_record, piece_offset, partners, takes_out, puts_in, stored_changes}
 
 -- ---- captures and records
@@ -44,21 +44,21 @@ pulse = from 0 Zero ∷ from 3 One ∷ from 7 Zero ∷ []
 -- ---- what a record leads to
 
 -- the undo of a cut of the ticks 2 to 4: the change at 3 comes back, the later one moves, and the end too
-undo_of_cut : back (record { pieces = piece 1 2 (from 3 One ∷ []) (pos 3) ∷ []; word = None; signal = None; other_end = Some 10 }) (alone 7 (from 0 Zero ∷ from 2 One ∷ from 4 Zero ∷ [])) ≡ alone 10 pulse
-unfolding back with_pieces spliced_changes moved_change
+undo_of_cut : apply_record (record { pieces = piece 1 2 (from 3 One ∷ []) (pos 3) ∷ []; word = None; signal = None; other_end = Some 10 }) (alone 7 (from 0 Zero ∷ from 2 One ∷ from 4 Zero ∷ [])) ≡ alone 10 pulse
+unfolding apply_record with_pieces spliced_changes moved_change
 undo_of_cut = refl
 
-undo_of_rename : back (record { pieces = []; word = Some (0, codes "a"); signal = None; other_end = None }) (capture 9 (wire (codes "b") pulse ∷ [])) ≡ alone 9 pulse
-unfolding back with_pieces
+undo_of_rename : apply_record (record { pieces = []; word = Some (0, codes "a"); signal = None; other_end = None }) (capture 9 (wire (codes "b") pulse ∷ [])) ≡ alone 9 pulse
+unfolding apply_record with_pieces
 undo_of_rename = refl
 
-undo_of_remove : back (record { pieces = []; word = None; signal = Some (1, Some (wire (codes "b") pulse)); other_end = None }) (capture 9 (wire (codes "a") [] ∷ wire (codes "c") [] ∷ []))
+undo_of_remove : apply_record (record { pieces = []; word = None; signal = Some (1, Some (wire (codes "b") pulse)); other_end = None }) (capture 9 (wire (codes "a") [] ∷ wire (codes "c") [] ∷ []))
     ≡ capture 9 (wire (codes "a") [] ∷ wire (codes "b") pulse ∷ wire (codes "c") [] ∷ [])
-unfolding back with_pieces
+unfolding apply_record with_pieces
 undo_of_remove = refl
 
-undo_of_derive : back (record { pieces = []; word = None; signal = Some (1, None); other_end = None }) (capture 9 (wire (codes "a") pulse ∷ wire (codes "d") [] ∷ [])) ≡ alone 9 pulse
-unfolding back with_pieces
+undo_of_derive : apply_record (record { pieces = []; word = None; signal = Some (1, None); other_end = None }) (capture 9 (wire (codes "a") pulse ∷ wire (codes "d") [] ∷ [])) ≡ alone 9 pulse
+unfolding apply_record with_pieces
 undo_of_derive = refl
 
 -- ---- how many changes are touched
@@ -117,7 +117,7 @@ undo_of_remove_touches = refl
 -- the undo of the cut into the pulse, as a record: its own offset is the opposite of its piece's
 undo_of_cut_touches : touched_by_record (record { pieces = piece 1 2 (from 3 One ∷ []) (pos 3) ∷ []; word = None; signal = None; other_end = Some 10 })
     (alone 7 (from 0 Zero ∷ from 2 One ∷ from 4 Zero ∷ [])) ≡ 1
-unfolding back with_pieces spliced_changes moved_change touched_from touched_count piece_offset
+unfolding apply_record with_pieces spliced_changes moved_change touched_from touched_count piece_offset
 undo_of_cut_touches = refl
 
 undo_of_cut_stores : stored_changes (with_one (piece 1 2 (from 3 One ∷ []) (pos 3))) ≡ 1

@@ -13,7 +13,7 @@ use Rattle.vcd_edit.specs.declared.record.Piece.{Piece}
 use Rattle.vcd_edit.specs.RecordView.{PieceView}
 use Rattle.vcd_edit.specs.Effect.{cut_value, signal_after_cut, effect}
 use Rattle.vcd_edit.specs.Allowed.{edit_fault}
-use Rattle.vcd_edit.specs.Back.{back, IsOneStep}
+use Rattle.vcd_edit.specs.AppliedRecords.{apply_record, IsOneStep}
 use Rattle.vcd_edit.specs.inside.Records.{piece_view}
 use Rattle.vcd_edit.specs.inside.Plans.{IsPlan, GivesValues, LeadEach}
 use Rattle.vcd_edit.proofs.Faults.{no_fault}
@@ -57,7 +57,7 @@ module _ (c : Contents) (signals : List Signal) (are : c.signals ≡ map signal_
 pub cut_plan : (c : Contents) (from to : ℕ) (ps : List PieceView) → IsSound c → edit_fault (Cut from to) c ≡ None
     → LeadEach c (neg_ℤ (pos (to - from))) (signal_after_cut (c.end - (to - from)) from to) (length c.signals) ps
     → IsPlan (Cut from to) c (record { pieces = ps; word = None; signal = None; other_end = Some (c.end - (to - from)) })
-unfolding back effect
+unfolding apply_record effect
 cut_plan c from to ps sound none lead =
     is_plan (Cut from to) c (record { pieces = ps; word = None; signal = None; other_end = Some (c.end - (to - from)) }) sound none
     (ap (λ (d : Contents). record d { end = c.end - (to - from) }) (lead_all c (neg_ℤ (pos (to - from))) (signal_after_cut (c.end - (to - from)) from to) ps lead))

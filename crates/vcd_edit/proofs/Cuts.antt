@@ -38,13 +38,13 @@ module _ (a b end stop : ℕ) (s : SignalContents) (is : IsWave s.width s.change
   before_cut : (t : ℕ) → t < a → cut_value a b s t ≡ signal_value s t
   before_cut t early = ap (λ q. if q then signal_value s t else signal_value s (t + (b - a))) (lt-ltb t a early)
 
-  behind_cut : (t u : ℕ) → a ≤ t → u ≡ t + (b - a) → cut_value a b s t ≡ signal_value s u
-  behind_cut t u late is =
+  after_cut : (t u : ℕ) → a ≤ t → u ≡ t + (b - a) → cut_value a b s t ≡ signal_value s u
+  after_cut t u late is =
       ap (λ q. if q then signal_value s t else signal_value s (t + (b - a))) (le-ltb t a late) ∙ ap (signal_value s) (sym is)
 
   seam : changes_in s.width (cut_value a b s) a 1 ≡ unless_same (same_letters (signal_value s b) (value_just_before s.width (signal_value s) a)) (change a (signal_value s b)) []
   seam =
-      changes_in-constant s.width (cut_value a b s) (signal_value s b) a 1 (omega arith) (λ i less. behind_cut (a + i) b (omega arith) (omega arith))
+      changes_in-constant s.width (cut_value a b s) (signal_value s b) a 1 (omega arith) (λ i less. after_cut (a + i) b (omega arith) (omega arith))
       ∙ ap (λ w. unless_same (same_letters (signal_value s b) w) (change a (signal_value s b)) []) (same_before s.width (cut_value a b s) (signal_value s) a before_cut)
 
   -- one change at most takes the place of those at the ticks that are cut out and at the one behind them
@@ -54,8 +54,8 @@ module _ (a b end stop : ℕ) (s : SignalContents) (is : IsWave s.width s.change
       → LeadsTo p s.changes s.width stop (cut_value a b s)
   cut_leads p by later from to is_by told =
       replacement_leads s.width end s.changes is upto a (b + 1) 1 (stop - a) p.from p.to stop by (cut_value a b s) p.changes (omega arith) (omega arith) from to later p refl refl refl is_by
-      (omega arith) small before_cut (λ i less. behind_cut (a + 1 + i) (b + 1 + i) (omega arith) (omega arith))
-      (λ less. ap (value_just_before s.width (cut_value a b s)) {x = a + 1} {y = suc a} (omega arith) ∙ behind_cut a b (omega arith) (omega arith)
+      (omega arith) small before_cut (λ i less. after_cut (a + 1 + i) (b + 1 + i) (omega arith) (omega arith))
+      (λ less. ap (value_just_before s.width (cut_value a b s)) {x = a + 1} {y = suc a} (omega arith) ∙ after_cut a b (omega arith) (omega arith)
       ∙ sym (ap (value_just_before s.width (signal_value s)) {x = b + 1} {y = suc b} (omega arith)))
       (told ∙ sym seam)
 

@@ -9,13 +9,13 @@ use Rattle.vcd_core.specs.declared.wave.Change.{Change}
 use Rattle.vcd_core.specs.declared.capture.TheConstants.{END_LIMIT}
 use Rattle.vcd_core.specs.Value.{all_x}
 use Rattle.vcd_core.specs.Wave.{AllUpTo, last_value, changes_of}
-use Rattle.vcd_core.specs.Splice.{TickFits, TicksFit, spliced_changes}
+use Rattle.vcd_core.specs.Splice.{TickFits, AllTicksFit, spliced_changes}
 use Rattle.vcd_core.specs.Contents.{SignalContents, signal_value}
 use Rattle.vcd_core.specs.Sound.{IsSoundSignal}
 use Rattle.vcd_core.proofs.Splices.{moved_nowhere}
 use Rattle.vcd_edit.specs.declared.record.Piece.{Piece}
 use Rattle.vcd_edit.specs.RecordView.{PieceView}
-use Rattle.vcd_edit.specs.Back.{changes_with_piece}
+use Rattle.vcd_edit.specs.AppliedRecords.{changes_with_piece}
 use Rattle.vcd_edit.specs.Effect.{steady_value}
 use Rattle.vcd_edit.specs.inside.Thinned.{kept_changes}
 use Rattle.vcd_edit.specs.inside.Plans.{GivesValues}
@@ -24,7 +24,7 @@ use Rattle.vcd_edit.proofs.KeptChanges.{kept_are, kept_of_none}
 use Rattle.vcd_edit.proofs.Runs.{steady_are}
 
 -- changes that stay where they are
-stay_fit : (end : ℕ) (cs : List Change) → end ≤ END_LIMIT → AllUpTo end cs → TicksFit (pos 0) cs
+stay_fit : (end : ℕ) (cs : List Change) → end ≤ END_LIMIT → AllUpTo end cs → AllTicksFit (pos 0) cs
 unfolding TickFits
 stay_fit end [] small upto = All-nil (TickFits (pos 0))
 stay_fit end (c ∷ cs) small (here, upto) =
@@ -48,11 +48,11 @@ module _ (n : ℕ) (s : SignalContents) (cs : List Change) (x : List Bit) (same 
       (told : kept_changes n before later ≡ take kept (kept_changes n before later) ++ drop to later) (listed : list ≡ take kept (kept_changes n before later)) where
     parts_left : take from cs ++ list ++ drop (from + to) cs ≡ kept_changes n (all_x s.width) s.changes
     parts_left =
-        let behind : drop (from + to) cs ≡ drop to later = sym (drop-drop to from cs) ∙ ap (drop to) (sym rest) in
+        let following : drop (from + to) cs ≡ drop to later = sym (drop-drop to from cs) ∙ ap (drop to) (sym rest) in
         let place : kept_changes n before later ≡ kept_changes n (last_value x (take from cs)) (drop from cs) =
         (λ i. kept_changes n (value i) (rest i)) ∙ ap (λ v. kept_changes n (last_value v (take from cs)) (drop from cs)) (sym all) in
         append_assoc (take from cs) list (drop (from + to) cs)
-        ∙ (λ i. take from cs ++ (listed i ++ behind i)) ∙ ap (λ l. take from cs ++ l) (sym told ∙ place) ∙ sym front
+        ∙ (λ i. take from cs ++ (listed i ++ following i)) ∙ ap (λ l. take from cs ++ l) (sym told ∙ place) ∙ sym front
         ∙ (λ i. kept_changes n (all i) (same i))
 
     pub deglitch_gives : (k end : ℕ) (p : Piece) → IsSoundSignal end s → end ≤ END_LIMIT → to ≤ length later
@@ -64,7 +64,7 @@ module _ (n : ℕ) (s : SignalContents) (cs : List Change) (x : List Bit) (same 
       leads = record {
         ordered = omega (arith, ap (λ (q : PieceView). q.from) is, ap (λ (q : PieceView). q.to) is);
         within = omega (arith, within, fewer, ap length rest, length-drop from cs, ap length same, ap (λ (q : PieceView). q.to) is);
-        ticks = subst (λ (q : PieceView). TicksFit q.by (drop q.to s.changes)) (sym is) (All-drop (TickFits (pos 0)) (from + to) s.changes (stay_fit end s.changes small sound.ticks));
+        ticks = subst (λ (q : PieceView). AllTicksFit q.by (drop q.to s.changes)) (sym is) (All-drop (TickFits (pos 0)) (from + to) s.changes (stay_fit end s.changes small sound.ticks));
         is = ap (λ (q : PieceView). changes_with_piece q s.changes) is
             ∙ (λ i. take from (sym same i) ++ list ++ moved_nowhere (drop (from + to) (sym same i)) i) ∙ parts_left ∙ kept_of_signal n end s sound;
       };

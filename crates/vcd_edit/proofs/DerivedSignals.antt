@@ -19,7 +19,7 @@ use Rattle.vcd_edit.specs.declared.record.Piece.{Piece}
 use Rattle.vcd_edit.specs.RecordView.{PieceView}
 use Rattle.vcd_edit.specs.Effect.{first_operand, rule_bit, derived_signal, effect}
 use Rattle.vcd_edit.specs.Allowed.{edit_fault}
-use Rattle.vcd_edit.specs.Back.{with_pieces, back, PieceFits}
+use Rattle.vcd_edit.specs.AppliedRecords.{with_pieces, apply_record, PieceFits}
 use Rattle.vcd_edit.specs.Touched.{puts_in}
 use Rattle.vcd_edit.specs.inside.Records.{piece_view}
 use Rattle.vcd_edit.specs.inside.Derived.{last_operand, operator_bit}
@@ -51,7 +51,7 @@ insert_last ss k s is = λ i. take_all k ss (omega (arith, is)) i ++ s ∷ drop_
 pub derive_plan : (c : Contents) (word : Bor (List ℕ)) (rule : Rule) (k : ℕ) (s : SignalContents) (pieces : List Piece) → IsSound c → edit_fault (Derive word rule) c ≡ None
     → k ≡ length c.signals → s ≡ derived_signal word.now rule c → pieces ≡ []
     → IsPlan (Derive word rule) c (record { pieces = map piece_view pieces; word = None; signal = Some (k, Some s); other_end = None })
-unfolding back with_pieces effect
+unfolding apply_record with_pieces effect
 derive_plan c word rule k s pieces sound none last is empty =
     subst (λ (ps : List Piece). IsPlan (Derive word rule) c (record { pieces = map piece_view ps; word = None; signal = Some (k, Some s); other_end = None })) (sym empty)
     (is_plan (Derive word rule) c (record { pieces = []; word = None; signal = Some (k, Some s); other_end = None }) sound none

@@ -4,11 +4,11 @@ use Rattle.std.proofs.lemmas.List.{get_or-map, length-map}
 use Rattle.vcd_core.specs.Contents.{Contents}
 use Rattle.vcd_core.specs.Sound.{IsSound}
 use Rattle.vcd_edit.specs.RecordView.{PieceView, RecordView}
-use Rattle.vcd_edit.specs.Back.{with_pieces, with_first_word, with_moved_signal, with_end, back, PieceFits, WordFits, Fits, AreApart, IsOneStep}
+use Rattle.vcd_edit.specs.AppliedRecords.{with_pieces, with_first_word, with_moved_signal, with_end, apply_record, PieceFits, WordFits, Fits, AreApart, IsOneStep}
 use Rattle.vcd_edit.specs.declared.record.Piece.{Piece}
 use Rattle.vcd_edit.specs.inside.Records.{piece_view}
-use Rattle.vcd_edit.specs.inside.Exchanges.{PieceReadyIn, LeadBack}
-use Rattle.vcd_edit.specs.inside.Opposites.{opposite_word, opposite_move, opposite_end, opposite_record, IsNamedAt, LeadsOtherWay}
+use Rattle.vcd_edit.specs.inside.Exchanges.{PieceReadyIn, AreInversePieces}
+use Rattle.vcd_edit.specs.inside.Opposites.{opposite_word, opposite_move, opposite_end, opposite_record, IsNamedAt, IsInverse}
 use Rattle.vcd_edit.proofs.WaysBack.{pieces_ready, opposite_is_record, leads_other_way, in_order, ready_moved, lead_moved, word_fits, word_named, word_same, end_same}
 
 -- each piece of a record that fits
@@ -37,13 +37,13 @@ module _ (c : Contents) (r : RecordView) (fits : Fits r c) (one : IsOneStep r) (
 
     -- after the word and the end
     module _ (named end : Contents) (to_named : named ≡ with_first_word r.word spliced) (to_end : end ≡ with_end r.other_end named) where
-      pub end_is_back : end ≡ back r c
+      pub end_is_back : end ≡ apply_record r c
       end_is_back = to_end ∙ ap (λ x. with_end r.other_end x) to_named ∙ ap (λ x. with_end r.other_end (with_first_word r.word x)) spliced_is ∙ in_order c r one
 
-      module _ (qs : List PieceView) (lead : LeadBack moved l qs) (q : RecordView) (pieces : q.pieces ≡ reverse qs) (word : q.word ≡ opposite_word r.word spliced)
+      module _ (qs : List PieceView) (lead : AreInversePieces moved l qs) (q : RecordView) (pieces : q.pieces ≡ reverse qs) (word : q.word ≡ opposite_word r.word spliced)
           (signal : q.signal ≡ opposite_move r.signal c) (other_end : q.other_end ≡ opposite_end r.other_end named) where
-        lead_is : LeadBack c r.pieces qs
-        lead_is = lead_moved c r one qs (subst (λ x. LeadBack x r.pieces qs) to_moved (subst (λ xs. LeadBack moved xs qs) whole lead))
+        lead_is : AreInversePieces c r.pieces qs
+        lead_is = lead_moved c r one qs (subst (λ x. AreInversePieces x r.pieces qs) to_moved (subst (λ xs. AreInversePieces moved xs qs) whole lead))
 
         other_way : q ≡ opposite_record r qs c
         other_way =
@@ -54,5 +54,5 @@ module _ (c : Contents) (r : RecordView) (fits : Fits r c) (one : IsOneStep r) (
         pub is_record_then : IsOneStep q
         is_record_then = subst IsOneStep (sym other_way) (opposite_is_record c r qs one lead_is)
 
-        pub leads_then : LeadsOtherWay c r q
-        leads_then = subst (LeadsOtherWay c r) (sym other_way) (leads_other_way c r qs one fits sound lead_is)
+        pub leads_then : IsInverse c r q
+        leads_then = subst (IsInverse c r) (sym other_way) (leads_other_way c r qs one fits sound lead_is)

@@ -11,8 +11,8 @@ use Rattle.vcd_core.specs.Contents.{Contents, SignalContents, signal_contents, n
 use Rattle.vcd_core.specs.Sound.{is_sound_header, is_sound_timescale, IsSoundSignal}
 use Rattle.vcd_edit.specs.RecordView.{PieceView, RecordView}
 use Rattle.vcd_edit.specs.Effect.{renamed_signal}
-use Rattle.vcd_edit.specs.Back.{with_piece, with_pieces, with_first_word, with_moved_signal, with_end, back, PieceFits, MayMoveSignal, Fits, IsOneStep}
-use Rattle.vcd_edit.specs.inside.Fitting.{AreSoundSignals, PartsFit, KindFits, IsSoundFrame}
+use Rattle.vcd_edit.specs.AppliedRecords.{with_piece, with_pieces, with_first_word, with_moved_signal, with_end, apply_record, PieceFits, MayMoveSignal, Fits, IsOneStep}
+use Rattle.vcd_edit.specs.inside.Fitting.{AreSoundSignals, PartsFit, KindFits, HasSoundMetadata}
 use Rattle.vcd_edit.proofs.Plans.{contents_at}
 use Rattle.vcd_edit.proofs.Others.{with_other, other_there, with_one_more, one_more_there}
 use Rattle.vcd_edit.proofs.WaysBack.{parts, none_put, no_pieces_at_word, no_pieces_at_move, no_word_at_move, move_of_end, end_kept}
@@ -83,7 +83,7 @@ module _ (end at : ℕ) (signals : List Signal) where
 -- a record fits by its kind
 pub kinds_tell : (end : ℕ) (c : Contents) (ps : List PieceView) (w : Option (ℕ × List ℕ)) (m : Option (ℕ × Option SignalContents)) (e : Option ℕ) → IsOneStep (parts ps w m e)
     → KindFits end c ps w m ↔ PartsFit end (parts ps w m e) c
-unfolding back
+unfolding apply_record
 kinds_tell end c ps None None e one =
     let same = move_of_end e (with_pieces c ps) in (
       (λ k. (k.0, tt, tt, subst (AreSoundSignals end) (sym same) k.1)),
@@ -166,19 +166,19 @@ timescale_of c None (Some m) (Some end) = refl
 timescale_of c (Some w) (Some m) (Some end) = refl
 
 module _ (r : RecordView) (c : Contents) where
-  end_then : (back r c).end ≡ unwrap_or r.other_end c.end
-  unfolding back
+  end_then : (apply_record r c).end ≡ unwrap_or r.other_end c.end
+  unfolding apply_record
   end_then = end_of (with_pieces c r.pieces) r.word r.signal r.other_end ∙ ap (unwrap_or r.other_end) (end_kept c r.pieces)
 
-  header_then : (back r c).header ≡ c.header
-  unfolding back
+  header_then : (apply_record r c).header ≡ c.header
+  unfolding apply_record
   header_then = header_of (with_pieces c r.pieces) r.word r.signal r.other_end ∙ header_kept c r.pieces
 
-  timescale_then : (back r c).timescale ≡ c.timescale
-  unfolding back
+  timescale_then : (apply_record r c).timescale ≡ c.timescale
+  unfolding apply_record
   timescale_then = timescale_of (with_pieces c r.pieces) r.word r.signal r.other_end ∙ timescale_kept c r.pieces
 
-  pub fits_by_parts : IsSoundFrame (unwrap_or r.other_end c.end) c → PartsFit (unwrap_or r.other_end c.end) r c → Fits r c
+  pub fits_by_parts : HasSoundMetadata (unwrap_or r.other_end c.end) c → PartsFit (unwrap_or r.other_end c.end) r c → Fits r c
   fits_by_parts frame parts = record {
     pieces = parts.0;
     word = parts.1;
@@ -188,11 +188,11 @@ module _ (r : RecordView) (c : Contents) where
       timescale = subst (λ t. IfSome t (λ t. IsTrue (is_sound_timescale t))) (sym timescale_then) frame.1;
       end = omega (arith, frame.2, end_then);
       few = parts.3.0;
-      signals = subst (λ end. All (IsSoundSignal end) (back r c).signals) (sym end_then) parts.3.1;
+      signals = subst (λ end. All (IsSoundSignal end) (apply_record r c).signals) (sym end_then) parts.3.1;
     };
   }
 
-  pub frame_fits : Fits r c → IsSoundFrame (unwrap_or r.other_end c.end) c
+  pub frame_fits : Fits r c → HasSoundMetadata (unwrap_or r.other_end c.end) c
   frame_fits fits = (
     subst (λ h. IsTrue (list_all is_sound_header h)) header_then fits.sound.header,
     subst (λ t. IfSome t (λ t. IsTrue (is_sound_timescale t))) timescale_then fits.sound.timescale,
@@ -200,4 +200,4 @@ module _ (r : RecordView) (c : Contents) where
   )
 
   pub parts_fits : Fits r c → PartsFit (unwrap_or r.other_end c.end) r c
-  parts_fits fits = (fits.pieces, fits.word, fits.signal, (fits.sound.few, subst (λ end. All (IsSoundSignal end) (back r c).signals) end_then fits.sound.signals))
+  parts_fits fits = (fits.pieces, fits.word, fits.signal, (fits.sound.few, subst (λ end. All (IsSoundSignal end) (apply_record r c).signals) end_then fits.sound.signals))

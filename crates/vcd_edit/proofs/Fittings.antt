@@ -12,11 +12,11 @@ use Rattle.vcd_core.specs.Wave.{IsWave, AllUpTo}
 use Rattle.vcd_core.specs.Contents.{Contents, SignalContents, no_signal, signal_at}
 use Rattle.vcd_core.specs.Sound.{IsSoundSignal}
 use Rattle.vcd_edit.specs.RecordView.{PieceView}
-use Rattle.vcd_edit.specs.Back.{changes_with_piece, signal_with_changes, with_piece, with_pieces, PieceFits, NoneFor, AreApart}
+use Rattle.vcd_edit.specs.AppliedRecords.{changes_with_piece, signal_with_changes, with_piece, with_pieces, PieceFits, NoneFor, AreApart}
 use Rattle.vcd_edit.specs.declared.record.Piece.{Piece}
 use Rattle.vcd_edit.specs.inside.Records.{piece_view}
-use Rattle.vcd_edit.specs.inside.Seams.{PieceStands}
-use Rattle.vcd_edit.specs.inside.Fitting.{HasSoundNames, IsFormedSignal, lateness, StandsIn, AreSoundSignals}
+use Rattle.vcd_edit.specs.inside.Adjacency.{IsValidPiece}
+use Rattle.vcd_edit.specs.inside.Fitting.{HasSoundNames, IsFormedSignal, late_count, IsValidIn, AreSoundSignals}
 use Rattle.vcd_edit.proofs.TouchedSums.{sum_by-map}
 use Rattle.vcd_edit.proofs.PiecesBack.{signal_elsewhere, count_kept, counts_kept, none_all, pieces_reach}
 
@@ -62,46 +62,46 @@ up_to end (c ∷ cs) all =
     let each = AllPass-from_list_all (λ (c : Change). nat_le c.tick end) (c ∷ cs) all in
     (leb-true c.tick end (each 0 c (omega arith)), up_to end cs (list_all-from_AllPass (λ c. nat_le c.tick end) cs (λ k d less. each (suc k) d (omega (arith, less)))))
 
-pub not_late : (end : ℕ) (cs : List Change) → AllUpTo end cs → lateness end cs ≡ 0
+pub not_late : (end : ℕ) (cs : List Change) → AllUpTo end cs → late_count end cs ≡ 0
 not_late end cs upto = ap (λ b. if b then 0 else 1) (in_time end cs upto)
 
-never_late : (end : ℕ) (cs : List Change) → lateness end cs ≡ 0 → AllUpTo end cs
+never_late : (end : ℕ) (cs : List Change) → late_count end cs ≡ 0 → AllUpTo end cs
 never_late end cs none = up_to end cs (decided (is_in_time end cs) none)
   where
     decided : (b : Bool) → ◌≡◌ {A = ℕ} (if b then 0 else 1) 0 → b ≡ true
     decided true none = refl
     decided false none = absurd (omega (arith, none))
 
-pub is_late : (end : ℕ) (cs : List Change) (r : Bool) → (AllUpTo end cs → IsTrue r) → r ≡ false → lateness end cs ≡ 1
+pub is_late : (end : ℕ) (cs : List Change) (r : Bool) → (AllUpTo end cs → IsTrue r) → r ≡ false → late_count end cs ≡ 1
 is_late end cs r passes fails = decided (is_in_time end cs) refl
   where
-    decided : (b : Bool) → is_in_time end cs ≡ b → lateness end cs ≡ 1
+    decided : (b : Bool) → is_in_time end cs ≡ b → late_count end cs ≡ 1
     decided true is = absurd (both_ways r fails (passes (up_to end cs is)))
     decided false is = ap (λ b. if b then 0 else 1) is
 
 -- ---- one piece
 
 -- another piece stands as before
-stands_after : (end : ℕ) (c : Contents) (p q : PieceView) → q.signal ≢ p.signal → StandsIn end c.signals q → StandsIn end (with_piece c p).signals q
+stands_after : (end : ℕ) (c : Contents) (p q : PieceView) → q.signal ≢ p.signal → IsValidIn end c.signals q → IsValidIn end (with_piece c p).signals q
 stands_after end c p q other stands = record {
   within = omega (arith, count_kept c p, stands.within);
-  stands = subst (λ (s : SignalContents). PieceStands s.width end s.changes q) (sym (signal_elsewhere c p q.signal other)) stands.stands;
+  stands = subst (λ (s : SignalContents). IsValidPiece s.width end s.changes q) (sym (signal_elsewhere c p q.signal other)) stands.stands;
 }
 
 abbrev late_in : ℕ → List SignalContents → ℕ
-late_in end ss = sum_by (λ (s : SignalContents). lateness end s.changes) ss
+late_in end ss = sum_by (λ (s : SignalContents). late_count end s.changes) ss
 
 abbrev late_at : ℕ → Contents → PieceView → ℕ
-late_at end c p = lateness end (signal_at c p.signal).changes
+late_at end c p = late_count end (signal_at c p.signal).changes
 
 -- its signal ends in time then
-late_after : (end : ℕ) (c : Contents) (p : PieceView) → StandsIn end c.signals p → late_in end (with_piece c p).signals + late_at end c p ≡ late_in end c.signals
+late_after : (end : ℕ) (c : Contents) (p : PieceView) → IsValidIn end c.signals p → late_in end (with_piece c p).signals + late_at end c p ≡ late_in end c.signals
 late_after end c p stands =
     let old = signal_at c p.signal in
     let new = signal_with_changes old (changes_with_piece p old.changes) in
     omega (
       arith,
-      sum_by-set (λ (s : SignalContents). lateness end s.changes) c.signals p.signal new no_signal stands.within,
+      sum_by-set (λ (s : SignalContents). late_count end s.changes) c.signals p.signal new no_signal stands.within,
       not_late end new.changes stands.stands.upto,
     )
 
@@ -121,25 +121,25 @@ bare_after c p =
 
 -- ---- pieces one after another
 
-stand_after : (end : ℕ) (c : Contents) (p : PieceView) (ps : List PieceView) → NoneFor p.signal ps → All (StandsIn end c.signals) ps → All (StandsIn end (with_piece c p).signals) ps
+stand_after : (end : ℕ) (c : Contents) (p : PieceView) (ps : List PieceView) → NoneFor p.signal ps → All (IsValidIn end c.signals) ps → All (IsValidIn end (with_piece c p).signals) ps
 stand_after end c p ps none stand = λ k d less. stands_after end c p (get_or ps k d) (none_all p.signal ps none k d less) (stand k d less)
 
 late_elsewhere : (end : ℕ) (c : Contents) (p : PieceView) (ps : List PieceView) → NoneFor p.signal ps → sum_by (late_at end (with_piece c p)) ps ≡ sum_by (late_at end c) ps
 late_elsewhere end c p [] none = refl
 late_elsewhere end c p (q ∷ qs) (other, none) =
     sum_by-cons (late_at end (with_piece c p)) q qs
-    ∙ (λ i. lateness end (signal_elsewhere c p q.signal other i).changes + late_elsewhere end c p qs none i)
+    ∙ (λ i. late_count end (signal_elsewhere c p q.signal other i).changes + late_elsewhere end c p qs none i)
     ∙ sym (sum_by-cons (late_at end c) q qs)
 
-late_all : (end : ℕ) (c : Contents) (ps : List PieceView) → AreApart ps → All (StandsIn end c.signals) ps → late_in end (with_pieces c ps).signals + sum_by (late_at end c) ps ≡ late_in end c.signals
+late_all : (end : ℕ) (c : Contents) (ps : List PieceView) → AreApart ps → All (IsValidIn end c.signals) ps → late_in end (with_pieces c ps).signals + sum_by (late_at end c) ps ≡ late_in end c.signals
 unfolding with_pieces
 late_all end c [] apart stand = omega arith
 late_all end c (p ∷ ps) (none, apart) stand =
     omega (
       arith,
-      late_all end (with_piece c p) ps apart (stand_after end c p ps none (All-tail (StandsIn end c.signals) p ps stand)),
+      late_all end (with_piece c p) ps apart (stand_after end c p ps none (All-tail (IsValidIn end c.signals) p ps stand)),
       late_elsewhere end c p ps none,
-      late_after end c p (All-head (StandsIn end c.signals) p ps stand),
+      late_after end c p (All-head (IsValidIn end c.signals) p ps stand),
       sum_by-cons (late_at end c) p ps,
     )
 
@@ -148,14 +148,14 @@ unfolding with_pieces
 bare_all c [] = refl
 bare_all c (p ∷ ps) = bare_all (with_piece c p) ps ∙ bare_after c p
 
-formed_all : (end : ℕ) (c : Contents) (ps : List PieceView) → AreApart ps → All (StandsIn end c.signals) ps → All IsFormedSignal c.signals → All IsFormedSignal (with_pieces c ps).signals
+formed_all : (end : ℕ) (c : Contents) (ps : List PieceView) → AreApart ps → All (IsValidIn end c.signals) ps → All IsFormedSignal c.signals → All IsFormedSignal (with_pieces c ps).signals
 unfolding with_pieces
 formed_all end c [] apart stand formed = formed
 formed_all end c (p ∷ ps) (none, apart) stand formed =
-    let here : StandsIn end c.signals p = All-head (StandsIn end c.signals) p ps stand in
+    let here : IsValidIn end c.signals p = All-head (IsValidIn end c.signals) p ps stand in
     let old = signal_at c p.signal in
     let names : HasSoundNames old = (All-get_or IsFormedSignal c.signals p.signal no_signal here.within formed).0 in
-    formed_all end (with_piece c p) ps apart (stand_after end c p ps none (All-tail (StandsIn end c.signals) p ps stand))
+    formed_all end (with_piece c p) ps apart (stand_after end c p ps none (All-tail (IsValidIn end c.signals) p ps stand))
     (All-set IsFormedSignal c.signals p.signal (signal_with_changes old (changes_with_piece p old.changes)) (names, here.stands.form) formed)
 
 -- ---- what the tests of pieces tell
@@ -163,7 +163,7 @@ formed_all end c (p ∷ ps) (none, apart) stand formed =
 all_in_time : (end : ℕ) (ss : List SignalContents) → late_in end ss ≡ 0 → All (λ (s : SignalContents). AllUpTo end s.changes) ss
 all_in_time end [] none = All-nil (λ (s : SignalContents). AllUpTo end s.changes)
 all_in_time end (s ∷ ss) none =
-    let split = sum_by-cons (λ (s : SignalContents). lateness end s.changes) s ss in
+    let split = sum_by-cons (λ (s : SignalContents). late_count end s.changes) s ss in
     All-cons (λ (s : SignalContents). AllUpTo end s.changes) s ss (never_late end s.changes (omega (arith, split, none))) (all_in_time end ss (omega (arith, split, none)))
 
 none_late : (end : ℕ) (ss : List SignalContents) → All (IsSoundSignal end) ss → late_in end ss ≡ 0
@@ -171,7 +171,7 @@ none_late end [] sound = refl
 none_late end (s ∷ ss) sound =
     omega (
       arith,
-      sum_by-cons (λ (s : SignalContents). lateness end s.changes) s ss,
+      sum_by-cons (λ (s : SignalContents). late_count end s.changes) s ss,
       not_late end s.changes (All-head (IsSoundSignal end) s ss sound).ticks,
       none_late end ss (All-tail (IsSoundSignal end) s ss sound),
     )
@@ -180,9 +180,9 @@ pub unmapped : {X Y : Type 0} (P : Y → Type 0) (f : X → Y) (xs : List X) →
 unmapped P f xs all k d less = subst P (get_or-map f xs k d (f d) less) (all k (f d) (omega (arith, less, length-map xs f)))
 
 pub late_pieces_are : (end : ℕ) (c : Contents) (ss : List SignalContents) (pieces : List Piece) → c.signals ≡ ss
-    → sum_by (late_at end c) (map piece_view pieces) ≡ sum_by (λ (p : Piece). lateness end (slice_index_or ss p.signal no_signal).changes) pieces
+    → sum_by (late_at end c) (map piece_view pieces) ≡ sum_by (λ (p : Piece). late_count end (slice_index_or ss p.signal no_signal).changes) pieces
 late_pieces_are end c ss pieces same =
-    sum_by-map (late_at end c) piece_view pieces ∙ ap (λ l. sum_by (λ (p : Piece). lateness end (slice_index_or l p.signal no_signal).changes) pieces) same
+    sum_by-map (late_at end c) piece_view pieces ∙ ap (λ l. sum_by (λ (p : Piece). late_count end (slice_index_or l p.signal no_signal).changes) pieces) same
 
 -- pieces that fit and lead to sound signals
 abbrev FitAll : ℕ → Contents → List PieceView → Type 0
@@ -192,7 +192,7 @@ module _ (end : ℕ) (c : Contents) (ps : List PieceView) (apart : AreApart ps) 
   pub few_before : FitAll end c ps → length c.signals ≤ SIGNAL_LIMIT
   few_before (fit, (few, sound)) = omega (arith, few, counts_kept c ps)
 
-  pub fit_by_tests : length c.signals ≤ SIGNAL_LIMIT → All IsFormedSignal c.signals → All (StandsIn end c.signals) ps → late_in end c.signals ≡ sum_by (late_at end c) ps → FitAll end c ps
+  pub fit_by_tests : length c.signals ≤ SIGNAL_LIMIT → All IsFormedSignal c.signals → All (IsValidIn end c.signals) ps → late_in end c.signals ≡ sum_by (late_at end c) ps → FitAll end c ps
   fit_by_tests few formed stand late =
       let formed_then = formed_all end c ps apart stand formed in
       let upto = all_in_time end (with_pieces c ps).signals (omega (arith, late_all end c ps apart stand, late)) in (
@@ -210,7 +210,7 @@ module _ (end : ℕ) (c : Contents) (ps : List PieceView) (apart : AreApart ps) 
       unmapped (IsSoundSignal 0) bare c.signals
       (subst (All (IsSoundSignal 0)) (bare_all c ps) (All-map (IsSoundSignal 0) bare (with_pieces c ps).signals (λ k d less. sound_names end (get_or (with_pieces c ps).signals k d) (sound k d less))))
 
-  pub stand_before : FitAll end c ps → All (StandsIn end c.signals) ps
+  pub stand_before : FitAll end c ps → All (IsValidIn end c.signals) ps
   stand_before (fit, (few, sound)) = λ k d less.
       let p = get_or ps k d in
       let fits : PieceFits c p = fit k d less in

@@ -25,8 +25,8 @@ module _ (a b end : ℕ) (v : List Bit) (s : SignalContents) where
   before_range : (t : ℕ) → t < a → forced t ≡ signal_value s t
   before_range t early = ap (λ p. if p && nat_lt t b then v else signal_value s t) (lt-leb a t early)
 
-  behind_range : (t : ℕ) → b ≤ t → forced t ≡ signal_value s t
-  behind_range t late = either (nat_le a t) (nat_lt t b) (le-ltb t b late)
+  after_range : (t : ℕ) → b ≤ t → forced t ≡ signal_value s t
+  after_range t late = either (nat_le a t) (nat_lt t b) (le-ltb t b late)
     where
       either : (p q : Bool) → q ≡ false → (if p && q then v else signal_value s t) ≡ signal_value s t
       either true q none = ap (λ r. if r then v else signal_value s t) none
@@ -52,10 +52,10 @@ module _ (a b end : ℕ) (v : List Bit) (s : SignalContents) where
         (told ∙ sym (forced_part some))
 
     -- the value at the tick behind the range is the old one again
-    behind_part : changes_in s.width forced b 1 ≡ unless_same (same_letters (signal_value s b) v) (change b (signal_value s b)) []
-    behind_part =
+    after_part : changes_in s.width forced b 1 ≡ unless_same (same_letters (signal_value s b) v) (change b (signal_value s b)) []
+    after_part =
         changes_in-constant s.width forced (signal_value s b) b 1 (omega arith)
-        (λ i less. ap forced {x = b + i} {y = b} (omega arith) ∙ behind_range b (omega arith))
+        (λ i less. ap forced {x = b + i} {y = b} (omega arith) ∙ after_range b (omega arith))
         ∙ ap (λ w. unless_same (same_letters (signal_value s b) w) (change b (signal_value s b)) []) (last_forced b refl)
       where
         last_forced : (t : ℕ) → t ≡ b → value_just_before s.width forced t ≡ v
@@ -71,6 +71,6 @@ module _ (a b end : ℕ) (v : List Bit) (s : SignalContents) where
         let seam : a + (b - a + 1) ≡ suc b = omega arith in
         replacement_leads s.width end s.changes is upto a (b + 1) (b - a + 1) (end - b) p.from p.to end (pos 0) forced p.changes (omega arith) (omega arith) from to (omega (arith, ints)) p refl refl refl by
         (omega arith) (omega (arith, small)) before_range
-        (λ i less. behind_range (a + (b - a + 1) + i) (omega arith) ∙ ap (signal_value s) {x = a + (b - a + 1) + i} {y = b + 1 + i} (omega arith))
-        (λ less. ap (value_just_before s.width forced) seam ∙ behind_range b (omega arith) ∙ sym (ap (value_just_before s.width (signal_value s)) {x = b + 1} {y = suc b} (omega arith)))
-        (told ∙ sym (λ i. forced_part some i ++ behind_part i) ∙ sym parts)
+        (λ i less. after_range (a + (b - a + 1) + i) (omega arith) ∙ ap (signal_value s) {x = a + (b - a + 1) + i} {y = b + 1 + i} (omega arith))
+        (λ less. ap (value_just_before s.width forced) seam ∙ after_range b (omega arith) ∙ sym (ap (value_just_before s.width (signal_value s)) {x = b + 1} {y = suc b} (omega arith)))
+        (told ∙ sym (λ i. forced_part some i ++ after_part i) ∙ sym parts)

@@ -72,18 +72,18 @@ module _ (n : ℕ) (last : List Bit) (cs : List Change) (i : ℕ) (c : Change) (
         ∙ ap (λ l. l ++ kept_changes n c.value (drop (i + 1) cs)) (sym up_to_here)
 
     -- or those from a position on
-    pub kept_behind : (front all : List Change) (to : ℕ) → to ≤ i → all ≡ front ++ take (i - to) (drop to cs) ++ kept_changes n last (drop i cs)
+    pub kept_after : (front all : List Change) (to : ℕ) → to ≤ i → all ≡ front ++ take (i - to) (drop to cs) ++ kept_changes n last (drop i cs)
         → all ≡ front ++ take (i + 1 - to) (drop to cs) ++ kept_changes n c.value (drop (i + 1) cs)
-    kept_behind front all to le is =
+    kept_after front all to le is =
         let part = take (i - to) (drop to cs) in
-        let behind = kept_changes n c.value (drop (i + 1) cs) in
+        let following = kept_changes n c.value (drop (i + 1) cs) in
         let place : to + (i - to) ≡ i = omega arith in
         let read : get_or (drop to cs) (i - to) c ≡ c = get_or-drop to cs (i - to) c ∙ ap (λ k. get_or cs k c) place ∙ sym at in
         let count : i + 1 - to ≡ i - to + 1 = omega arith in
         let more : take (i + 1 - to) (drop to cs) ≡ part ++ c ∷ [] =
         ap (λ k. take k (drop to cs)) count ∙ take_more (drop to cs) (i - to) c (omega (arith, length-drop to cs)) ∙ ap (λ d. part ++ d ∷ []) read in
-        is ∙ ap (λ l. front ++ part ++ l) one_kept ∙ sym (append_assoc (front ++ part) (c ∷ []) behind)
-        ∙ ap (λ l. l ++ behind) (append_assoc front part (c ∷ []) ∙ ap (λ l. front ++ l) (sym more))
+        is ∙ ap (λ l. front ++ part ++ l) one_kept ∙ sym (append_assoc (front ++ part) (c ∷ []) following)
+        ∙ ap (λ l. l ++ following) (append_assoc front part (c ∷ []) ∙ ap (λ l. front ++ l) (sym more))
 
     pub kept_listed : (out more all : List Change) → all ≡ out ++ kept_changes n last (drop i cs) → more ≡ out ++ c ∷ [] → all ≡ more ++ kept_changes n c.value (drop (i + 1) cs)
     kept_listed out more all is put =
@@ -94,9 +94,9 @@ module _ (n : ℕ) (last : List Bit) (cs : List Change) (i : ℕ) (c : Change) (
     pub one_left_out : kept_changes n last (drop i cs) ≡ kept_changes n last (drop (i + 1) cs)
     one_left_out = ap (kept_changes n last) here ∙ left_out_first n last c (drop (i + 1) cs) (ap (is_kept n last c) (sym rest) ∙ out)
 
-    pub left_out_behind : (front all : List Change) (to : ℕ) → all ≡ front ++ take (i - to) (drop to cs) ++ kept_changes n last (drop i cs)
+    pub left_out_after : (front all : List Change) (to : ℕ) → all ≡ front ++ take (i - to) (drop to cs) ++ kept_changes n last (drop i cs)
         → all ≡ (front ++ take (i - to) (drop to cs)) ++ take (i + 1 - (i + 1)) (drop (i + 1) cs) ++ kept_changes n last (drop (i + 1) cs)
-    left_out_behind front all to is =
+    left_out_after front all to is =
         let none : i + 1 - (i + 1) ≡ 0 = omega arith in
         is ∙ ap (λ l. front ++ take (i - to) (drop to cs) ++ l) one_left_out
         ∙ ap (λ l. l ++ kept_changes n last (drop (i + 1) cs)) (sym (append-nil (front ++ take (i - to) (drop to cs)) ∙ refl))

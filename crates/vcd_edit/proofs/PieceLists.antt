@@ -5,11 +5,11 @@ use Rattle.std.proofs.lemmas.List.Edits.{map_over_more}
 use Rattle.std.proofs.lemmas.List.Elements.{All-nil, All-push, All-head, All-tail}
 use Rattle.vcd_core.specs.declared.bit.Bit.{Bit}
 use Rattle.vcd_core.specs.declared.wave.Change.{Change}
-use Rattle.vcd_core.specs.Splice.{TicksFit}
+use Rattle.vcd_core.specs.Splice.{AllTicksFit}
 use Rattle.vcd_core.specs.Contents.{Contents, SignalContents, no_signal, signal_at}
 use Rattle.vcd_edit.specs.RecordView.{PieceView}
 use Rattle.vcd_edit.specs.Effect.{with_values}
-use Rattle.vcd_edit.specs.Back.{changes_with_piece, signal_with_changes, with_piece, with_pieces, PieceFits, NoneFor, AreApart}
+use Rattle.vcd_edit.specs.AppliedRecords.{changes_with_piece, signal_with_changes, with_piece, with_pieces, PieceFits, NoneFor, AreApart}
 use Rattle.vcd_edit.specs.inside.Ranges.{LeadsTo}
 use Rattle.vcd_edit.specs.inside.Plans.{LeadEach}
 
@@ -81,7 +81,7 @@ module _ (c : Contents) (g : SignalContents → SignalContents) (n : ℕ) (by : 
       signal = omega (arith, at_n, within);
       ordered = gives.ordered;
       within = subst (λ (s : SignalContents). p.to ≤ length s.changes) (sym there) gives.within;
-      ticks = subst (λ (s : SignalContents). TicksFit p.by (drop p.to s.changes)) (sym there) gives.ticks;
+      ticks = subst (λ (s : SignalContents). AllTicksFit p.by (drop p.to s.changes)) (sym there) gives.ticks;
     });
     below = All-push (λ (q : PieceView). q.signal < n + 1) ps p still_below (omega (arith, at_n));
     apart = apart_more ps p lead.apart (λ k d less. omega (arith, lead.below k d less, at_n));

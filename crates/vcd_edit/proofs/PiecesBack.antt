@@ -3,10 +3,10 @@ use Rattle.std.proofs.Common.{◌≡◌, ◌≢◌, ℕ, ◌<◌, ◌≤◌, Lis
 use Rattle.std.proofs.lemmas.List.{length-set, get_or-set_same, get_or-set_other, set-set, set-get_or, reverse-append}
 use Rattle.std.proofs.lemmas.List.Elements.{All-nil, All-cons, All-head, All-tail}
 use Rattle.vcd_core.specs.Contents.{Contents, SignalContents, no_signal, signal_at}
-use Rattle.vcd_core.specs.Splice.{TicksFit}
+use Rattle.vcd_core.specs.Splice.{AllTicksFit}
 use Rattle.vcd_edit.specs.RecordView.{PieceView}
-use Rattle.vcd_edit.specs.Back.{changes_with_piece, signal_with_changes, with_piece, with_pieces, PieceFits, NoneFor, AreApart}
-use Rattle.vcd_edit.specs.inside.Exchanges.{PieceReady, LeadsBack, PieceReadyIn, LeadBack}
+use Rattle.vcd_edit.specs.AppliedRecords.{changes_with_piece, signal_with_changes, with_piece, with_pieces, PieceFits, NoneFor, AreApart}
+use Rattle.vcd_edit.specs.inside.Exchanges.{PieceReady, IsInversePiece, PieceReadyIn, AreInversePieces}
 
 -- ---- one piece
 
@@ -37,11 +37,11 @@ fits_elsewhere c d q count same fits =
       signal = omega (arith, count, fits.signal);
       ordered = fits.ordered;
       within = subst (λ (s : SignalContents). q.to ≤ length s.changes) (sym same) fits.within;
-      ticks = subst (λ (s : SignalContents). TicksFit q.by (drop q.to s.changes)) (sym same) fits.ticks;
+      ticks = subst (λ (s : SignalContents). AllTicksFit q.by (drop q.to s.changes)) (sym same) fits.ticks;
     }
 
 -- the piece that leads back fits, and leads back
-module _ (c : Contents) (p q : PieceView) (within : p.signal < length c.signals) (leads : LeadsBack (signal_at c p.signal).changes p q) where
+module _ (c : Contents) (p q : PieceView) (within : p.signal < length c.signals) (leads : IsInversePiece (signal_at c p.signal).changes p q) where
   changes_here : (signal_at (with_piece c p) q.signal).changes ≡ changes_with_piece p (signal_at c p.signal).changes
   changes_here = ap (λ k. (signal_at (with_piece c p) k).changes) leads.signal ∙ ap (λ (s : SignalContents). s.changes) (signal_here c p within)
 
@@ -51,7 +51,7 @@ module _ (c : Contents) (p q : PieceView) (within : p.signal < length c.signals)
         signal = omega (arith, count_kept c p, within, leads.signal);
         ordered = leads.ordered;
         within = subst (λ l. q.to ≤ length l) (sym changes_here) leads.within;
-        ticks = subst (λ l. TicksFit q.by (drop q.to l)) (sym changes_here) leads.ticks;
+        ticks = subst (λ l. AllTicksFit q.by (drop q.to l)) (sym changes_here) leads.ticks;
       }
 
   pub back_one : with_piece (with_piece c p) q ≡ c
@@ -83,16 +83,16 @@ unfolding with_pieces
 signal_kept c [] k none = refl
 signal_kept c (p ∷ ps) k (other, none) = signal_kept (with_piece c p) ps k none ∙ signal_elsewhere c p k (λ same. other (sym same))
 
-pub LeadBack-push : (c : Contents) (ps qs : List PieceView) (p q : PieceView) → LeadBack c ps qs → p.signal < length (with_pieces c ps).signals
-    → LeadsBack (signal_at (with_pieces c ps) p.signal).changes p q → LeadBack c (ps ++ p ∷ []) (qs ++ q ∷ [])
+pub AreInversePieces-push : (c : Contents) (ps qs : List PieceView) (p q : PieceView) → AreInversePieces c ps qs → p.signal < length (with_pieces c ps).signals
+    → IsInversePiece (signal_at (with_pieces c ps) p.signal).changes p q → AreInversePieces c (ps ++ p ∷ []) (qs ++ q ∷ [])
 unfolding with_pieces
-LeadBack-push c [] [] p q lead within leads = (within, leads, tt)
-LeadBack-push c [] (y ∷ qs) p q lead within leads = absurd lead
-LeadBack-push c (x ∷ ps) [] p q lead within leads = absurd lead
-LeadBack-push c (x ∷ ps) (y ∷ qs) p q (first, one, lead) within leads = (first, one, LeadBack-push (with_piece c x) ps qs p q lead within leads)
+AreInversePieces-push c [] [] p q lead within leads = (within, leads, tt)
+AreInversePieces-push c [] (y ∷ qs) p q lead within leads = absurd lead
+AreInversePieces-push c (x ∷ ps) [] p q lead within leads = absurd lead
+AreInversePieces-push c (x ∷ ps) (y ∷ qs) p q (first, one, lead) within leads = (first, one, AreInversePieces-push (with_piece c x) ps qs p q lead within leads)
 
 -- all pieces that lead back, the last one first
-pub all_back : (c : Contents) (ps qs : List PieceView) → LeadBack c ps qs → with_pieces (with_pieces c ps) (reverse qs) ≡ c
+pub all_back : (c : Contents) (ps qs : List PieceView) → AreInversePieces c ps qs → with_pieces (with_pieces c ps) (reverse qs) ≡ c
 unfolding with_pieces
 all_back c [] [] lead = refl
 all_back c [] (q ∷ qs) lead = absurd lead
@@ -105,13 +105,13 @@ all_back c (p ∷ ps) (q ∷ qs) (within, leads, lead) =
 
 -- ---- which signals have pieces
 
-none_back : (c : Contents) (ps qs : List PieceView) (k : ℕ) → LeadBack c ps qs → NoneFor k ps → NoneFor k qs
+none_back : (c : Contents) (ps qs : List PieceView) (k : ℕ) → AreInversePieces c ps qs → NoneFor k ps → NoneFor k qs
 none_back c [] [] k lead none = tt
 none_back c [] (q ∷ qs) k lead none = absurd lead
 none_back c (p ∷ ps) [] k lead none = absurd lead
 none_back c (p ∷ ps) (q ∷ qs) k (within, leads, lead) (other, none) = ((λ same. other (sym leads.signal ∙ same)), none_back (with_piece c p) ps qs k lead none)
 
-apart_back : (c : Contents) (ps qs : List PieceView) → LeadBack c ps qs → AreApart ps → AreApart qs
+apart_back : (c : Contents) (ps qs : List PieceView) → AreInversePieces c ps qs → AreApart ps → AreApart qs
 apart_back c [] [] lead apart = tt
 apart_back c [] (q ∷ qs) lead apart = absurd lead
 apart_back c (p ∷ ps) [] lead apart = absurd lead
@@ -135,7 +135,7 @@ apart_reverse [] apart = tt
 apart_reverse (p ∷ ps) (none, apart) =
     subst AreApart (sym (reverse-append (p ∷ []) ps)) (apart_push (reverse ps) p (apart_reverse ps apart) (none_reverse p.signal ps none))
 
-pub back_apart : (c : Contents) (ps qs : List PieceView) → LeadBack c ps qs → AreApart ps → AreApart (reverse qs)
+pub back_apart : (c : Contents) (ps qs : List PieceView) → AreInversePieces c ps qs → AreApart ps → AreApart (reverse qs)
 back_apart c ps qs lead apart = apart_reverse qs (apart_back c ps qs lead apart)
 
 pub none_all : (k : ℕ) (ps : List PieceView) → NoneFor k ps → All (λ p. p.signal ≢ k) ps
@@ -144,7 +144,7 @@ none_all k (p ∷ ps) (other, none) = All-cons (λ p. p.signal ≢ k) p ps other
 
 -- ---- the pieces that lead back fit
 
-pub back_fits_all : (c : Contents) (ps qs : List PieceView) → LeadBack c ps qs → AreApart ps → All (PieceFits (with_pieces c ps)) qs
+pub back_fits_all : (c : Contents) (ps qs : List PieceView) → AreInversePieces c ps qs → AreApart ps → All (PieceFits (with_pieces c ps)) qs
 unfolding with_pieces
 back_fits_all c [] [] lead apart = All-nil (PieceFits c)
 back_fits_all c [] (q ∷ qs) lead apart = absurd lead

@@ -8,7 +8,7 @@ use Rattle.vcd_core.specs.declared.capture.Signal.{Signal}
 use Rattle.vcd_core.specs.WaveView.{WaveView}
 use Rattle.vcd_core.specs.Contents.{SignalContents, signal_contents, no_signal}
 use Rattle.vcd_edit.specs.Effect.{renamed_signal}
-use Rattle.vcd_edit.specs.Back.{signal_with_changes}
+use Rattle.vcd_edit.specs.AppliedRecords.{signal_with_changes}
 use Rattle.vcd_edit.specs.inside.Exchanges.{no_wave, wave_at, HasNoLessRoom}
 
 -- the signal at a position, by what it holds

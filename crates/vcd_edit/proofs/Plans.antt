@@ -11,7 +11,7 @@ use Rattle.vcd_core.specs.declared.capture.Capture.{Capture}
 use Rattle.vcd_core.specs.declared.wave.Change.{Change}
 use Rattle.vcd_core.specs.declared.memory.NoMemory.{NoMemory}
 use Rattle.vcd_core.specs.Wave.{changes_of}
-use Rattle.vcd_core.specs.Splice.{TicksFit}
+use Rattle.vcd_core.specs.Splice.{AllTicksFit}
 use Rattle.vcd_core.specs.Contents.{Contents, SignalContents, contents, signal_contents, no_signal, signal_at, with_signal}
 use Rattle.vcd_core.specs.Sound.{IsSound, IsSoundSignal}
 use Rattle.vcd_edit.specs.declared.edit.Edit.{Edit}
@@ -22,7 +22,7 @@ use Rattle.vcd_edit.specs.Effect.{with_wave, renamed_signal, force_value, effect
 use Rattle.vcd_edit.specs.Touched.{stays, record_pairing}
 use Rattle.vcd_edit.specs.TouchedByEdit.{edit_offset, edit_pairing}
 use Rattle.vcd_edit.specs.Allowed.{edit_fault, is_no_signal}
-use Rattle.vcd_edit.specs.Back.{changes_with_piece, signal_with_changes, with_pieces, back, PieceFits, WordFits, MovedSignalFits}
+use Rattle.vcd_edit.specs.AppliedRecords.{changes_with_piece, signal_with_changes, with_pieces, apply_record, PieceFits, WordFits, MovedSignalFits}
 use Rattle.vcd_edit.specs.inside.Ranges.{LeadsTo}
 use Rattle.vcd_edit.specs.inside.Records.{piece_view}
 use Rattle.vcd_edit.specs.inside.Plans.{IsPlan, GivesValues}
@@ -30,7 +30,7 @@ use Rattle.vcd_edit.proofs.Faults.{no_fault, signal_there}
 use Rattle.vcd_edit.proofs.SoundEffects.{sound_at, effect_is_sound}
 
 -- a record that leads to the effect is a plan where its parts stand within the capture
-pub is_plan : (e : Edit) (c : Contents) (r : RecordView) → IsSound c → edit_fault e c ≡ None → back r c ≡ effect e c
+pub is_plan : (e : Edit) (c : Contents) (r : RecordView) → IsSound c → edit_fault e c ≡ None → apply_record r c ≡ effect e c
     → All (PieceFits c) r.pieces → WordFits c r.word → MovedSignalFits c r.signal → All (λ p. edit_offset e ≡ neg_ℤ p.by) r.pieces → record_pairing r.signal ≡ edit_pairing e c → IsPlan e c r
 is_plan e c r sound none leads pieces word signal offset pairing = record {
   fits = record { pieces = pieces; word = word; signal = signal; sound = subst IsSound (sym leads) (effect_is_sound e c sound none) };
@@ -59,10 +59,10 @@ module _ (e : Edit) (c : Contents) (k : ℕ) (f : ℕ → List Bit) (p : PieceVi
   alone = record { pieces = p ∷ []; word = None; signal = None; other_end = None }
 
   -- the record of a piece gives its signal other values
-  one_piece_leads : back r c ≡ with_wave c k f
-  unfolding back with_pieces
+  one_piece_leads : apply_record r c ≡ with_wave c k f
+  unfolding apply_record with_pieces
   one_piece_leads =
-      ap (λ (q : RecordView). back q c) is
+      ap (λ (q : RecordView). apply_record q c) is
       ∙ ap (λ (j : ℕ). with_signal c j (signal_with_changes (signal_at c j) (changes_with_piece p (signal_at c j).changes))) at_k
       ∙ ap (λ (s : SignalContents). with_signal c k (signal_with_changes s (changes_with_piece p s.changes))) here
       ∙ ap (λ (cs : List Change). with_signal c k (signal_with_changes s cs)) gives.is
@@ -75,14 +75,14 @@ module _ (e : Edit) (c : Contents) (k : ℕ) (f : ℕ → List Bit) (p : PieceVi
         signal = omega (arith, at_k, within);
         ordered = gives.ordered;
         within = subst (λ (s : SignalContents). p.to ≤ length s.changes) (sym there) gives.within;
-        ticks = subst (λ (s : SignalContents). TicksFit p.by (drop p.to s.changes)) (sym there) gives.ticks;
+        ticks = subst (λ (s : SignalContents). AllTicksFit p.by (drop p.to s.changes)) (sym there) gives.ticks;
       }
 
   -- where those are the values that the edit gives it, it is a plan
   pub one_piece_plan : IsSound c → edit_fault e c ≡ None → k < length c.signals → effect e c ≡ with_wave c k f → edit_offset e ≡ neg_ℤ p.by → edit_pairing e c ≡ stays → IsPlan e c r
   one_piece_plan sound none within effect_is offset pairing =
       subst (IsPlan e c) (sym is)
-      (is_plan e c alone sound none (sym (ap (λ (q : RecordView). back q c) is) ∙ one_piece_leads ∙ sym effect_is)
+      (is_plan e c alone sound none (sym (ap (λ (q : RecordView). apply_record q c) is) ∙ one_piece_leads ∙ sym effect_is)
       (All-cons (PieceFits c) p [] (one_piece_fits within) (All-nil (PieceFits c))) tt tt
       (All-cons (λ (p : PieceView). edit_offset e ≡ neg_ℤ p.by) p [] offset (All-nil (λ (p : PieceView). edit_offset e ≡ neg_ℤ p.by))) (sym pairing))
 
@@ -90,7 +90,7 @@ module _ (e : Edit) (c : Contents) (k : ℕ) (f : ℕ → List Bit) (p : PieceVi
 
 pub rename_plan : (c : Capture) (k : ℕ) (word : Bor (List ℕ)) (pieces : List Piece) (copy : List ℕ) → IsSound (contents c) → edit_fault (Rename k word) (contents c) ≡ None
     → pieces ≡ [] → copy ≡ word.now → IsPlan (Rename k word) (contents c) (record { pieces = map piece_view pieces; word = Some (k, copy); signal = None; other_end = None })
-unfolding back with_pieces effect
+unfolding apply_record with_pieces effect
 rename_plan c k word pieces copy sound none empty same =
     subst (λ (ps : List Piece). IsPlan (Rename k word) (contents c) (record { pieces = map piece_view ps; word = Some (k, copy); signal = None; other_end = None })) (sym empty)
     (is_plan (Rename k word) (contents c) (record { pieces = []; word = Some (k, copy); signal = None; other_end = None }) sound none
@@ -99,7 +99,7 @@ rename_plan c k word pieces copy sound none empty same =
 
 pub remove_plan : (c : Capture) (k : ℕ) (pieces : List Piece) → IsSound (contents c) → edit_fault (Remove k) (contents c) ≡ None → pieces ≡ []
     → IsPlan (Remove k) (contents c) (record { pieces = map piece_view pieces; word = None; signal = Some (k, None); other_end = None })
-unfolding back with_pieces effect
+unfolding apply_record with_pieces effect
 remove_plan c k pieces sound none empty =
     subst (λ (ps : List Piece). IsPlan (Remove k) (contents c) (record { pieces = map piece_view ps; word = None; signal = Some (k, None); other_end = None })) (sym empty)
     (is_plan (Remove k) (contents c) (record { pieces = []; word = None; signal = Some (k, None); other_end = None }) sound none refl
@@ -133,7 +133,7 @@ force_ticks k from to value c none = let free : (nat_le to from || nat_lt (c.end
 -- an edit that gives a signal the changes that it has
 pub nothing_plan : (e : Edit) (c : Contents) (k : ℕ) (f : SignalContents → ℕ → List Bit) (s : SignalContents) (r : RecordView) → r ≡ record { pieces = []; word = None; signal = None; other_end = None }
     → IsSound c → edit_fault e c ≡ None → signal_at c k ≡ s → effect e c ≡ with_wave c k (f (signal_at c k)) → edit_pairing e c ≡ stays → changes_of s.width c.end (f s) ≡ s.changes → IsPlan e c r
-unfolding back with_pieces
+unfolding apply_record with_pieces
 nothing_plan e c k f s r is sound none here gives pairing same =
     let still : effect e c ≡ c =
     gives ∙ ap (λ (s : SignalContents). with_signal c k (signal_with_changes s (changes_of s.width c.end (f s)))) here ∙ ap (λ (cs : List Change). with_signal c k (signal_with_changes s cs)) same

@@ -12,7 +12,7 @@ use Rattle.vcd_core.specs.declared.bit.Bit.{Bit}
 use Rattle.vcd_core.specs.declared.wave.Change.{Change}
 use Rattle.vcd_core.specs.Value.{all_x, same_letters}
 use Rattle.vcd_core.specs.Wave.{change, value_at, unless_same, changes_from, changes_of, IsWave, AllUpTo}
-use Rattle.vcd_core.specs.Splice.{moved_change, TickFits, TicksFit, spliced_changes}
+use Rattle.vcd_core.specs.Splice.{moved_change, TickFits, AllTicksFit, spliced_changes}
 use Rattle.vcd_core.proofs.Waves.{put_cases, changes_are}
 use Rattle.vcd_edit.specs.RecordView.{PieceView}
 use Rattle.vcd_edit.specs.inside.Ranges.{value_just_before, changes_in, LeadsTo}
@@ -131,13 +131,13 @@ pub counts_rise : (a u : ℕ) (cs : List Change) → a ≤ u → count_by (λ c.
 counts_rise a u cs le =
     sum_by-le-sum_by (λ (c : Change). cond (nat_lt c.tick a) 1 0) (λ (c : Change). cond (nat_lt c.tick u) 1 0) cs (λ c. one_if_before a u c.tick le)
 
-ticks_fit_from : (before : List Bit) (by : ℤ) (u v n : ℕ) (g : ℕ → List Bit) → pos u +ℤ by ≡ pos v → v + n ≤ 2 ^ 64 → TicksFit by (changes_from before u n g)
+ticks_fit_from : (before : List Bit) (by : ℤ) (u v n : ℕ) (g : ℕ → List Bit) → pos u +ℤ by ≡ pos v → v + n ≤ 2 ^ 64 → AllTicksFit by (changes_from before u n g)
 unfolding changes_from TickFits
 ticks_fit_from before by u v zero g later small = All-nil (TickFits by)
 ticks_fit_from before by u v (suc n) g later small =
     let rest = ticks_fit_from (g u) by (suc u) (suc v) n g (omega (arith, ints, later)) (omega arith) in
     let here : FitsUnsigned w64 (pos u +ℤ by) = subst (FitsUnsigned w64) (sym later) (omega (arith, ints), omega (arith, ints)) in
-    put_cases (TicksFit by) (g u) before (change u (g u)) (changes_from (g u) (suc u) n g) (λ _. rest)
+    put_cases (AllTicksFit by) (g u) before (change u (g u)) (changes_from (g u) (suc u) n g) (λ _. rest)
     (λ _. All-cons (TickFits by) (change u (g u)) (changes_from (g u) (suc u) n g) here rest)
 
 -- ---- a wave by ranges
@@ -209,8 +209,8 @@ module _ (width end : ℕ) (cs : List Change) (is : IsWave width cs) (upto : All
       record {
         ordered = omega (arith, is_from, is_to, from, to, counts_rise a u cs ordered);
         within = omega (arith, is_to, to, count_by-le-length (λ (c : Change). nat_lt c.tick u) cs);
-        ticks = subst (λ z. TicksFit z (drop p.to cs)) (sym is_by) (subst (λ j. TicksFit by (drop j cs)) (sym is_to)
-            (subst (TicksFit by) (sym (changes_from_tick width end u n l cs is upto long to))
+        ticks = subst (λ z. AllTicksFit z (drop p.to cs)) (sym is_by) (subst (λ j. AllTicksFit by (drop j cs)) (sym is_to)
+            (subst (AllTicksFit by) (sym (changes_from_tick width end u n l cs is upto long to))
             (ticks_fit_from (value_just_before width (value_at width cs) u) by u (a + m) n (value_at width cs) later (omega arith))));
         is = (λ i. spliced_changes cs (is_from i) (is_to i) (is_piece i) (is_by i)) ∙ replaced ordered early late before told;
       }

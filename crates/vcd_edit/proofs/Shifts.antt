@@ -92,8 +92,8 @@ module _ (d end : ℕ) (s : SignalContents) where
       there : (t : ℕ) → t < d → pos t -ℤ pos d ≡ negsuc (d - suc t)
       there t early = omega (arith, ints)
 
-  shift_behind : (t u : ℕ) → t ≡ d + u → t ≤ end → shift_value end (pos d) s t ≡ signal_value s u
-  shift_behind t u is to =
+  shift_after : (t u : ℕ) → t ≡ d + u → t ≤ end → shift_value end (pos d) s t ≡ signal_value s u
+  shift_after t u is to =
       ap (value_near end s) (there t u is) ∙ ap (λ q. if q then signal_value s end else signal_value s u) (le-ltb end u (omega (arith, is)))
     where
       there : (t u : ℕ) → t ≡ d + u → pos t -ℤ pos d ≡ pos u
@@ -122,7 +122,7 @@ module _ (d end : ℕ) (s : SignalContents) where
         (upto_from_all (end - d) s.changes (λ k c within. omega (arith, all_counted (end - d + 1) s.changes (sym count ∙ all) k c within)))
         0 0 d (end - d + 1) p.from p.to end (pos d) (shift_value end (pos d) s) p.changes (omega arith) (omega arith) (first ∙ sym (none_counted s.changes)) (last ∙ sym (none_counted s.changes))
         (omega (arith, ints)) p refl refl refl by (omega arith) (omega arith) (λ t early. absurd (omega arith))
-        (λ i less. shift_behind (0 + d + i) (0 + i) (omega arith) (omega arith))
+        (λ i less. shift_after (0 + d + i) (0 + i) (omega arith) (omega arith))
         (λ less. ap (value_just_before s.width (shift_value end (pos d) s)) {x = 0 + d} {y = d} (omega arith) ∙ x_before d refl)
         (empty ∙ sym (front_empty d (omega arith)))
       where
@@ -136,7 +136,7 @@ module _ (d end : ℕ) (s : SignalContents) where
         whole_leads p s.changes s.width end (shift_value end (pos d) s) first last
         (told ∙ ap (map (moved_change (pos d))) (changes_before_tick s.width end (end - d + 1) (suc end) kept s.changes is upto (omega arith) count)
         ∙ changes_in-moved s.width (shift_value end (pos d) s) (signal_value s) (pos d) d 0 (end - d + 1) (omega (arith, ints)) (λ less. x_before d refl)
-        (λ i less. shift_behind (d + i) (0 + i) (omega arith) (omega arith))
+        (λ i less. shift_after (d + i) (0 + i) (omega arith) (omega arith))
         ∙ sym (ap (λ l. l ++ changes_in s.width (shift_value end (pos d) s) d (end - d + 1)) (front_empty d (omega arith)))
         ∙ ap (λ t. changes_in s.width (shift_value end (pos d) s) 0 d ++ changes_in s.width (shift_value end (pos d) s) t (end - d + 1)) {x = d} {y = 0 + d} (omega arith)
         ∙ sym (changes_in-split s.width (shift_value end (pos d) s) 0 d (end - d + 1))

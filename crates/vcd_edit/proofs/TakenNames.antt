@@ -19,8 +19,8 @@ has_other name signals k =
     ∙ rw (take-map signal_contents k signals, drop-map signal_contents (suc k) signals) refl
 
 -- the signals behind a position
-pub behind : (k : ℕ) (signals : List Signal) → take (length signals - (k + 1)) (drop (k + 1) signals) ≡ drop (suc k) signals
-behind k signals = rw add-one (take_all (length signals - suc k) (drop (suc k) signals) (omega (arith, length-drop (suc k) signals)))
+pub following : (k : ℕ) (signals : List Signal) → take (length signals - (k + 1)) (drop (k + 1) signals) ≡ drop (suc k) signals
+following k signals = rw add-one (take_all (length signals - suc k) (drop (suc k) signals) (omega (arith, length-drop (suc k) signals)))
 
 -- the first test holds, or the second decides
 first_holds : (a b r : Bool) → r ≡ a → r ≡ true → r ≡ (a || b)
@@ -42,8 +42,8 @@ module _ (signals : List Signal) (k : ℕ) (s : Signal) (word name : List ℕ) (
   taken_before r is holds = first_holds _ _ r is holds ∙ sym name_taken
 
   -- no signal before it has the name
-  pub taken_behind : (f r : Bool) → f ≡ list_any (bytes_eq name) (full_names (map signal_contents (take k signals))) → f ≡ false
+  pub taken_after : (f r : Bool) → f ≡ list_any (bytes_eq name) (full_names (map signal_contents (take k signals))) → f ≡ false
       → r ≡ list_any (bytes_eq name) (full_names (map signal_contents (take (length signals - (k + 1)) (drop (k + 1) signals))))
       → r ≡ list_any (bytes_eq (full_name (renamed_signal word (get_or (map signal_contents signals) k no_signal)))) (full_names (remove (map signal_contents signals) k))
-  taken_behind f r is fails decides =
-      second_decides _ _ f r is fails (decides ∙ ap (λ (ss : List Signal). list_any (bytes_eq name) (full_names (map signal_contents ss))) (behind k signals)) ∙ sym name_taken
+  taken_after f r is fails decides =
+      second_decides _ _ f r is fails (decides ∙ ap (λ (ss : List Signal). list_any (bytes_eq name) (full_names (map signal_contents ss))) (following k signals)) ∙ sym name_taken

@@ -12,7 +12,7 @@ use Rattle.std.proofs.lemmas.Int.{ints}
 use Rattle.vcd_core.specs.declared.wave.Change.{Change}
 use Rattle.vcd_core.specs.Value.{same_letters}
 use Rattle.vcd_core.specs.inside.ValueLaws.{same_letters-Decides}
-use Rattle.vcd_core.specs.Splice.{moved_change, TickFits, TicksFit}
+use Rattle.vcd_core.specs.Splice.{moved_change, TickFits, AllTicksFit}
 use Rattle.vcd_edit.specs.Touched.{same_change, same_lowered, common_suffix_lowered, touched_count}
 
 -- ---- tests of changes
@@ -49,12 +49,12 @@ same_lowered_is by o c d opposite small same =
 
 module _ {X Y : Type 0} (e : X → Y → Bool) where
   -- two lists that begin with matching lists
-  prefix_behind : (h : X → Y) (us xs : List X) (ys : List Y) → All (λ a. e a (h a) ≡ true) us
+  prefix_after : (h : X → Y) (us xs : List X) (ys : List Y) → All (λ a. e a (h a) ≡ true) us
       → common_prefix_len e (us ++ xs) (map h us ++ ys) ≡ length us + common_prefix_len e xs ys
-  prefix_behind h [] xs ys match = omega arith
-  prefix_behind h (a ∷ us) xs ys match =
+  prefix_after h [] xs ys match = omega arith
+  prefix_after h (a ∷ us) xs ys match =
       cond-true (e a (h a)) _ _ (All-head (λ a. e a (h a) ≡ true) a us match)
-      ∙ ap (λ n. 1 + n) (prefix_behind h us xs ys (All-tail (λ a. e a (h a) ≡ true) a us match)) ∙ omega arith
+      ∙ ap (λ n. 1 + n) (prefix_after h us xs ys (All-tail (λ a. e a (h a) ≡ true) a us match)) ∙ omega arith
 
   -- lists that differ before either ends
   prefix_differs : (xs cs : List X) (ys ds : List Y) → common_prefix_len e xs ys < length xs → common_prefix_len e xs ys < length ys
@@ -90,7 +90,7 @@ module _ {X Y : Type 0} (e : X → Y → Bool) where
 -- ---- common suffixes
 
 -- the last changes match that move with the tail
-suffix_end : (by o : ℤ) (xs ys cs : List Change) → o ≡ neg_ℤ by → TicksFit by cs
+suffix_end : (by o : ℤ) (xs ys cs : List Change) → o ≡ neg_ℤ by → AllTicksFit by cs
     → common_suffix_lowered o (xs ++ cs) (ys ++ map (moved_change by) cs) ≡ length cs + common_suffix_lowered o xs ys
 suffix_end by o xs ys [] opposite fit =
     (λ i. common_suffix_lowered o (append-nil xs i) (append-nil ys i)) ∙ omega arith
@@ -135,14 +135,14 @@ module _ {X : Type 0} where
 -- the old changes that match at the end move to the new ones
 pub suffix_moves : (by o : ℤ) (xs ys : List Change) → o ≡ neg_ℤ by → All (λ c. c.tick < 2 ^ 64) ys
     → (map (moved_change by) (drop (length xs - common_suffix_lowered o xs ys) xs) ≡ drop (length ys - common_suffix_lowered o xs ys) ys)
-    × TicksFit by (drop (length xs - common_suffix_lowered o xs ys) xs)
+    × AllTicksFit by (drop (length xs - common_suffix_lowered o xs ys) xs)
 suffix_moves by o xs ys opposite small =
     let n = common_suffix_lowered o xs ys in
     let le = suffix_le o xs ys in
     let parts = prefix_parts (same_lowered o) (moved_change by) (TickFits by) (λ c. c.tick < 2 ^ 64) (λ c d less same. same_lowered_is by o c d opposite less same)
     (reverse xs) (reverse ys) (All-reverse (λ c. c.tick < 2 ^ 64) ys small) in (
       ap (map (moved_change by)) (drop-by_reverse xs n le.0) ∙ map-reverse (moved_change by) (take n (reverse xs)) ∙ ap reverse parts.0 ∙ sym (drop-by_reverse ys n le.1),
-      subst (TicksFit by) (sym (drop-by_reverse xs n le.0)) (All-reverse (TickFits by) (take n (reverse xs)) parts.1),
+      subst (AllTicksFit by) (sym (drop-by_reverse xs n le.0)) (All-reverse (TickFits by) (take n (reverse xs)) parts.1),
     )
 
 -- the old changes that match in front are the new ones
@@ -163,7 +163,7 @@ touched_least o old new =
     let end = suffix_le o (drop n old) (drop n new) in
     omega (arith, front.0, front.1, end.0, end.1, length-drop n old, length-drop n new)
 
-module _ (by o : ℤ) (before ms ns cs : List Change) (opposite : o ≡ neg_ℤ by) (fit : TicksFit by cs) where
+module _ (by o : ℤ) (before ms ns cs : List Change) (opposite : o ≡ neg_ℤ by) (fit : AllTicksFit by cs) where
   abbrev old : List Change
   old = before ++ ms ++ cs
 
@@ -177,16 +177,16 @@ module _ (by o : ℤ) (before ms ns cs : List Change) (opposite : o ≡ neg_ℤ 
   front_is in_ms in_ns =
       (λ i. common_prefix_len same_change (append_assoc before ms cs i) (append_assoc before ns (map (moved_change by) cs) i))
       ∙ ap (λ l. common_prefix_len same_change (before ++ (ms ++ cs)) (l ++ (ns ++ map (moved_change by) cs))) (sym (map-id before))
-      ∙ prefix_behind same_change (λ c. c) before (ms ++ cs) (ns ++ map (moved_change by) cs) (λ k d within. same_change_self (get_or before k d))
+      ∙ prefix_after same_change (λ c. c) before (ms ++ cs) (ns ++ map (moved_change by) cs) (λ k d within. same_change_self (get_or before k d))
       ∙ ap (λ n. length before + n) (prefix_differs same_change ms cs ns (map (moved_change by) cs) in_ms in_ns)
 
   rest_is : (xs ds : List Change) → front ≤ length xs → drop (length before + front) (before ++ xs ++ ds) ≡ drop front xs ++ ds
   rest_is xs ds le =
-      ap (drop (length before + front)) (append_assoc before xs ds) ∙ drop_behind before (xs ++ ds) front ∙ drop-append-le front xs ds le
+      ap (drop (length before + front)) (append_assoc before xs ds) ∙ drop_after before (xs ++ ds) front ∙ drop-append-le front xs ds le
     where
-      drop_behind : (us xs : List Change) (n : ℕ) → drop (length us + n) (us ++ xs) ≡ drop n xs
-      drop_behind [] xs n = ap (λ k. drop k xs) {x = 0 + n} {y = n} (omega arith)
-      drop_behind (u ∷ us) xs n = ap (λ k. drop k (u ∷ us ++ xs)) {x = suc (length us) + n} {y = suc (length us + n)} (omega arith) ∙ drop_behind us xs n
+      drop_after : (us xs : List Change) (n : ℕ) → drop (length us + n) (us ++ xs) ≡ drop n xs
+      drop_after [] xs n = ap (λ k. drop k xs) {x = 0 + n} {y = n} (omega arith)
+      drop_after (u ∷ us) xs n = ap (λ k. drop k (u ∷ us ++ xs)) {x = suc (length us) + n} {y = suc (length us + n)} (omega arith) ∙ drop_after us xs n
 
   -- of a list with a part that gives way, and with the later changes moved, no more is touched in the part alone
   pub touched_middle : touched_count o ms ns ≤ touched_count o old new

@@ -8,9 +8,9 @@ use Rattle.std.proofs.lemmas.List.Elements.{All-cons, All-head, All-tail}
 use Rattle.vcd_core.specs.declared.wave.Change.{Change}
 use Rattle.vcd_core.specs.Contents.{Contents, SignalContents, no_signal, signal_at}
 use Rattle.vcd_edit.specs.RecordView.{PieceView}
-use Rattle.vcd_edit.specs.Back.{changes_with_piece, signal_with_changes, with_piece, with_pieces, AreApart}
+use Rattle.vcd_edit.specs.AppliedRecords.{changes_with_piece, signal_with_changes, with_piece, with_pieces, AreApart}
 use Rattle.vcd_edit.specs.Touched.{same_change, touched_count, touched_of, touched_from, piece_offset}
-use Rattle.vcd_edit.specs.inside.Exchanges.{LeadBack}
+use Rattle.vcd_edit.specs.inside.Exchanges.{AreInversePieces}
 use Rattle.vcd_edit.proofs.TouchedParts.{same_change_self}
 use Rattle.vcd_edit.proofs.PiecesBack.{signal_here, signal_kept, counts_kept, count_kept, none_all}
 
@@ -60,7 +60,7 @@ touched_self o cs =
     prefix_self (x ∷ xs) = cond-true (same_change x x) _ _ (same_change_self x) ∙ omega (arith, prefix_self xs)
 
 -- what pieces that lead back store, where each signal's offset is the opposite of its piece's
-pub stored_within : (offset : ℕ → ℤ) (c : Contents) (ps qs : List PieceView) → LeadBack c ps qs → AreApart ps → All (λ p. offset p.signal ≡ neg_ℤ p.by) ps
+pub stored_within : (offset : ℕ → ℤ) (c : Contents) (ps qs : List PieceView) → AreInversePieces c ps qs → AreApart ps → All (λ p. offset p.signal ≡ neg_ℤ p.by) ps
     → sum_by (λ q. length q.changes) qs ≤ touched_from offset 0 c.signals (map Some (with_pieces c ps).signals)
 unfolding with_pieces
 stored_within offset c [] [] lead apart opposite = omega arith

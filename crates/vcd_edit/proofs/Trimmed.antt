@@ -8,13 +8,13 @@ use Rattle.std.proofs.lemmas.List.Edits.{length-between}
 use Rattle.std.proofs.lemmas.List.Folds.{drop_split}
 use Rattle.std.proofs.lemmas.List.Elements.{All-append, All-drop}
 use Rattle.vcd_core.specs.declared.wave.Change.{Change}
-use Rattle.vcd_core.specs.Splice.{moved_change, TickFits, TicksFit, spliced_changes}
+use Rattle.vcd_core.specs.Splice.{moved_change, TickFits, AllTicksFit, spliced_changes}
 use Rattle.vcd_edit.specs.RecordView.{PieceView}
 use Rattle.vcd_edit.specs.Touched.{same_change, common_suffix_lowered, touched_count}
 use Rattle.vcd_edit.specs.inside.Trims.{IsTrimmed}
 use Rattle.vcd_edit.proofs.TouchedParts.{suffix_le, suffix_moves, prefix_same, touched_middle}
 
-module _ (cs ns : List Change) (a z : ℕ) (by o : ℤ) (opposite : o ≡ neg_ℤ by) (small : All (λ c. c.tick < 2 ^ 64) ns) (ordered : a ≤ z) (within : z ≤ length cs) (fit : TicksFit by (drop z cs)) where
+module _ (cs ns : List Change) (a z : ℕ) (by o : ℤ) (opposite : o ≡ neg_ℤ by) (small : All (λ c. c.tick < 2 ^ 64) ns) (ordered : a ≤ z) (within : z ≤ length cs) (fit : AllTicksFit by (drop z cs)) where
   abbrev part : List Change
   part = slice_range cs a z
 
@@ -45,7 +45,7 @@ module _ (cs ns : List Change) (a z : ℕ) (by o : ℤ) (opposite : o ≡ neg_�
   end_in_piece = omega (arith, length-drop front ns, front_in_piece, (suffix_le o (drop front part) (drop front ns)).1)
 
   moves : (map (moved_change by) (drop (length (drop front part) - end) (drop front part)) ≡ drop (length (drop front ns) - end) (drop front ns))
-      × TicksFit by (drop (length (drop front part) - end) (drop front part))
+      × AllTicksFit by (drop (length (drop front part) - end) (drop front part))
   moves = suffix_moves by o (drop front part) (drop front ns) opposite (All-drop (λ c. c.tick < 2 ^ 64) front ns small)
 
   -- the list up to the new part
@@ -85,8 +85,8 @@ module _ (cs ns : List Change) (a z : ℕ) (by o : ℤ) (opposite : o ≡ neg_�
       ∙ ap (λ l. take a cs ++ l) (append_assoc (take front ns) middle tail ∙ sym piece_is)
       )
 
-  trimmed_ticks : TicksFit by (drop (z - end) cs)
-  trimmed_ticks = subst (TicksFit by) (sym last_is) (All-append (TickFits by) (drop (length (drop front part) - end) (drop front part)) (drop z cs) moves.1 fit)
+  trimmed_ticks : AllTicksFit by (drop (z - end) cs)
+  trimmed_ticks = subst (AllTicksFit by) (sym last_is) (All-append (TickFits by) (drop (length (drop front part) - end) (drop front part)) (drop z cs) moves.1 fit)
 
   -- the part that is left is touched
   trimmed_part : (z - end) - (a + front) ≤ touched_count o cs (spliced_changes cs a z ns by)
@@ -125,7 +125,7 @@ module _ (cs ns : List Change) (a z : ℕ) (by o : ℤ) (opposite : o ≡ neg_�
         by = same_by;
         ordered = omega (arith, new_from, new_to, end_in_part);
         within = omega (arith, new_to, within);
-        ticks = subst (λ b. TicksFit b (drop new.to cs)) (sym by_new) (subst (λ k. TicksFit by (drop k cs)) (sym new_to) trimmed_ticks);
+        ticks = subst (λ b. AllTicksFit b (drop new.to cs)) (sym by_new) (subst (λ k. AllTicksFit by (drop k cs)) (sym new_to) trimmed_ticks);
         same = (λ i. spliced_changes cs (new_from i) (new_to i) (new_piece i) (by_new i)) ∙ trimmed_same
             ∙ sym (λ i. spliced_changes cs (from i) (to i) (piece i) (by_is i));
         part = subst (λ l. new.to - new.from ≤ touched_count (neg_ℤ old.by) cs l) (sym (λ i. spliced_changes cs (from i) (to i) (piece i) (by_is i)))

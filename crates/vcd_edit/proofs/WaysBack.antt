@@ -13,10 +13,10 @@ use Rattle.vcd_core.specs.Contents.{Contents, SignalContents, no_signal, signal_
 use Rattle.vcd_core.specs.Sound.{IsSound, IsSoundSignal}
 use Rattle.vcd_edit.specs.RecordView.{PieceView, RecordView}
 use Rattle.vcd_edit.specs.Effect.{renamed_signal}
-use Rattle.vcd_edit.specs.Back.{changes_with_piece, signal_with_changes, with_piece, with_pieces, with_first_word, with_signal_moved, with_moved_signal, with_end, back, PieceFits, WordFits, MayMoveSignal, MovedSignalFits, Fits, AreApart, IsOneStep}
+use Rattle.vcd_edit.specs.AppliedRecords.{changes_with_piece, signal_with_changes, with_piece, with_pieces, with_first_word, signals_after_move, with_moved_signal, with_end, apply_record, PieceFits, WordFits, MayMoveSignal, MovedSignalFits, Fits, AreApart, IsOneStep}
 use Rattle.vcd_edit.specs.Touched.{touched_of, touched_from, partners, record_pairing, pairing_of_move, stored_changes, change_count}
-use Rattle.vcd_edit.specs.inside.Exchanges.{PieceReadyIn, LeadBack}
-use Rattle.vcd_edit.specs.inside.Opposites.{opposite_word, opposite_partner, opposite_move, opposite_end, opposite_record, AreNamed, IsNamedAt, LeadsOtherWay}
+use Rattle.vcd_edit.specs.inside.Exchanges.{PieceReadyIn, AreInversePieces}
+use Rattle.vcd_edit.specs.inside.Opposites.{opposite_word, opposite_partner, opposite_move, opposite_end, opposite_record, AreNamed, IsNamedAt, IsInverse}
 use Rattle.vcd_edit.proofs.TouchedParts.{All-reverse}
 use Rattle.vcd_edit.proofs.PiecesBack.{all_back, back_apart, back_fits_all, counts_kept, pieces_reach}
 use Rattle.vcd_edit.proofs.TouchedSums.{touched_at_least, stored_within, sum_by-reverse}
@@ -72,11 +72,11 @@ remove-insert ss zero s within = refl
 remove-insert [] (suc k) s within = absurd (omega arith)
 remove-insert (x ∷ ss) (suc k) s within = ap (λ l. x ∷ l) (remove-insert ss k s (omega arith))
 
-move_back : (c : Contents) (k : ℕ) (o : Option SignalContents) → MayMoveSignal c k o → with_signal_moved k (opposite_partner k o c) (with_signal_moved k o c.signals) ≡ c.signals
+move_back : (c : Contents) (k : ℕ) (o : Option SignalContents) → MayMoveSignal c k o → signals_after_move k (opposite_partner k o c) (signals_after_move k o c.signals) ≡ c.signals
 move_back c k (Some s) may = remove-insert c.signals k s may
 move_back c k None may = insert-remove c.signals k may
 
-may_move_back : (c d : Contents) (k : ℕ) (o : Option SignalContents) → MayMoveSignal c k o → d.signals ≡ with_signal_moved k o c.signals → MayMoveSignal d k (opposite_partner k o c)
+may_move_back : (c d : Contents) (k : ℕ) (o : Option SignalContents) → MayMoveSignal c k o → d.signals ≡ signals_after_move k o c.signals → MayMoveSignal d k (opposite_partner k o c)
 may_move_back c d k (Some s) may is = omega (arith, may, ap length is, length-insert c.signals k s may)
 may_move_back c d k None may is = omega (arith, may, ap length is, length-remove c.signals k may)
 
@@ -87,7 +87,7 @@ move_of_end (Some e) c = refl
 -- ---- the three kinds of step
 
 -- only pieces, and maybe an end
-module _ (e : Option ℕ) (c : Contents) (ps qs : List PieceView) (lead : LeadBack c ps qs) where
+module _ (e : Option ℕ) (c : Contents) (ps qs : List PieceView) (lead : AreInversePieces c ps qs) where
   pub pieces_back : with_end (opposite_end e c) (with_pieces (with_end e (with_pieces c ps)) (reverse qs)) ≡ c
   pieces_back =
       ap (with_end (opposite_end e c)) (pieces_of_end e (with_pieces c ps) (reverse qs) ∙ ap (with_end e) (all_back c ps qs lead)) ∙ end_back e c c refl
@@ -112,7 +112,7 @@ signal_back (Some e) c k o may = λ i. record { header = c.header; timescale = c
 
 -- ---- any step
 
-no_pieces_back : (c : Contents) (ps qs : List PieceView) → LeadBack c ps qs → ps ≡ [] → qs ≡ []
+no_pieces_back : (c : Contents) (ps qs : List PieceView) → AreInversePieces c ps qs → ps ≡ [] → qs ≡ []
 no_pieces_back c ps [] lead none = refl
 no_pieces_back c [] (q ∷ qs) lead none = absurd lead
 no_pieces_back c (p ∷ ps) (q ∷ qs) lead none = absurd (cc)
@@ -142,9 +142,9 @@ pub no_word_at_move : (ps : List PieceView) (w : ℕ × List ℕ) (m : ℕ × Op
 no_word_at_move ps w m e one = Some≢None w (one.signal_alone (Some≢None m)).1
 
 leads_back : (c : Contents) (ps qs : List PieceView) (w : Option (ℕ × List ℕ)) (m : Option (ℕ × Option SignalContents)) (e : Option ℕ)
-    → IsOneStep (parts ps w m e) → WordFits c w → MovedSignalFits c m → AreNamed c → LeadBack c ps qs
-    → back (opposite_record (parts ps w m e) qs c) (back (parts ps w m e) c) ≡ c
-unfolding back
+    → IsOneStep (parts ps w m e) → WordFits c w → MovedSignalFits c m → AreNamed c → AreInversePieces c ps qs
+    → apply_record (opposite_record (parts ps w m e) qs c) (apply_record (parts ps w m e) c) ≡ c
+unfolding apply_record
 leads_back c ps qs None None e one word signal named lead = pieces_back e c ps qs lead
 leads_back c ps qs (Some w) None e one word signal named lead =
     let none = no_pieces_at_word ps w None e one in
@@ -161,17 +161,17 @@ leads_back c ps qs None (Some m) e one word signal named lead =
 leads_back c ps qs (Some w) (Some m) e one word signal named lead = absurd (no_word_at_move ps w m e one)
 
 pieces_fit_back : (c : Contents) (ps qs : List PieceView) (w : Option (ℕ × List ℕ)) (m : Option (ℕ × Option SignalContents)) (e : Option ℕ)
-    → IsOneStep (parts ps w m e) → LeadBack c ps qs → All (PieceFits (back (parts ps w m e) c)) (reverse qs)
-unfolding back
+    → IsOneStep (parts ps w m e) → AreInversePieces c ps qs → All (PieceFits (apply_record (parts ps w m e) c)) (reverse qs)
+unfolding apply_record
 pieces_fit_back c ps qs None None e one lead = pieces_fit e c ps qs lead one.apart
 pieces_fit_back c ps qs (Some w) m e one lead =
-    subst (All (PieceFits (back (parts ps (Some w) m e) c))) (sym (none_reversed qs (no_pieces_back c ps qs lead (no_pieces_at_word ps w m e one)))) (All-nil (PieceFits (back (parts ps (Some w) m e) c)))
+    subst (All (PieceFits (apply_record (parts ps (Some w) m e) c))) (sym (none_reversed qs (no_pieces_back c ps qs lead (no_pieces_at_word ps w m e one)))) (All-nil (PieceFits (apply_record (parts ps (Some w) m e) c)))
 pieces_fit_back c ps qs None (Some m) e one lead =
-    subst (All (PieceFits (back (parts ps None (Some m) e) c))) (sym (none_reversed qs (no_pieces_back c ps qs lead (no_pieces_at_move ps None m e one)))) (All-nil (PieceFits (back (parts ps None (Some m) e) c)))
+    subst (All (PieceFits (apply_record (parts ps None (Some m) e) c))) (sym (none_reversed qs (no_pieces_back c ps qs lead (no_pieces_at_move ps None m e one)))) (All-nil (PieceFits (apply_record (parts ps None (Some m) e) c)))
 
 word_fits_back : (c : Contents) (ps : List PieceView) (w : Option (ℕ × List ℕ)) (m : Option (ℕ × Option SignalContents)) (e : Option ℕ)
-    → IsOneStep (parts ps w m e) → WordFits c w → WordFits (back (parts ps w m e) c) (opposite_word w c)
-unfolding back
+    → IsOneStep (parts ps w m e) → WordFits c w → WordFits (apply_record (parts ps w m e) c) (opposite_word w c)
+unfolding apply_record
 word_fits_back c ps None m e one word = tt
 word_fits_back c ps (Some w) None e one word =
     omega (
@@ -184,18 +184,18 @@ word_fits_back c ps (Some w) None e one word =
 word_fits_back c ps (Some w) (Some m) e one word = absurd (no_word_at_move ps w m e one)
 
 move_fits_back : (c : Contents) (ps : List PieceView) (w : Option (ℕ × List ℕ)) (m : Option (ℕ × Option SignalContents)) (e : Option ℕ)
-    → IsOneStep (parts ps w m e) → MovedSignalFits c m → MovedSignalFits (back (parts ps w m e) c) (opposite_move m c)
-unfolding back
+    → IsOneStep (parts ps w m e) → MovedSignalFits c m → MovedSignalFits (apply_record (parts ps w m e) c) (opposite_move m c)
+unfolding apply_record
 move_fits_back c ps w None e one signal = tt
 move_fits_back c ps None (Some m) e one signal =
     may_move_back c (with_end e (with_moved_signal (Some m) (with_pieces c ps))) m.0 m.1 signal
-    (move_of_end e (with_moved_signal (Some m) (with_pieces c ps)) ∙ ap (λ (x : Contents). with_signal_moved m.0 m.1 x.signals) (none_put c ps (no_pieces_at_move ps None m e one)))
+    (move_of_end e (with_moved_signal (Some m) (with_pieces c ps)) ∙ ap (λ (x : Contents). signals_after_move m.0 m.1 x.signals) (none_put c ps (no_pieces_at_move ps None m e one)))
 move_fits_back c ps (Some w) (Some m) e one signal = absurd (no_word_at_move ps w m e one)
 
 -- ---- the opposite is a record, and fits
 
 alone_back : (c : Contents) (ps qs : List PieceView) (w : Option (ℕ × List ℕ)) (m : Option (ℕ × Option SignalContents)) (e : Option ℕ)
-    → IsOneStep (parts ps w m e) → LeadBack c ps qs → IsOneStep (opposite_record (parts ps w m e) qs c)
+    → IsOneStep (parts ps w m e) → AreInversePieces c ps qs → IsOneStep (opposite_record (parts ps w m e) qs c)
 alone_back c ps qs w m e one lead =
     record { apart = back_apart c ps qs lead one.apart; word_alone = at_word w one; signal_alone = at_move w m one }
   where
@@ -211,15 +211,15 @@ alone_back c ps qs w m e one lead =
 pub are_named : (c : Contents) → IsSound c → AreNamed c
 are_named c sound k within = (All-get_or (IsSoundSignal c.end) c.signals k no_signal within sound.signals).named
 
-module _ (c : Contents) (r : RecordView) (qs : List PieceView) (one : IsOneStep r) (lead : LeadBack c r.pieces qs) where
+module _ (c : Contents) (r : RecordView) (qs : List PieceView) (one : IsOneStep r) (lead : AreInversePieces c r.pieces qs) where
   pub opposite_is_record : IsOneStep (opposite_record r qs c)
   opposite_is_record = alone_back c r.pieces qs r.word r.signal r.other_end one lead
 
-  pub opposite_back : Fits r c → IsSound c → back (opposite_record r qs c) (back r c) ≡ c
+  pub opposite_back : Fits r c → IsSound c → apply_record (opposite_record r qs c) (apply_record r c) ≡ c
   opposite_back fits sound =
       leads_back c r.pieces qs r.word r.signal r.other_end one fits.word fits.signal (are_named c sound) lead
 
-  pub opposite_fits : Fits r c → IsSound c → Fits (opposite_record r qs c) (back r c)
+  pub opposite_fits : Fits r c → IsSound c → Fits (opposite_record r qs c) (apply_record r c)
   opposite_fits fits sound =
       record {
         pieces = pieces_fit_back c r.pieces qs r.word r.signal r.other_end one lead;
@@ -230,7 +230,7 @@ module _ (c : Contents) (r : RecordView) (qs : List PieceView) (one : IsOneStep 
 
 -- ---- what the opposite stores
 
-move_stores : (offset : ℕ → ℤ) (c : Contents) (k : ℕ) (o : Option SignalContents) (after : List SignalContents) → MayMoveSignal c k o → after ≡ with_signal_moved k o c.signals
+move_stores : (offset : ℕ → ℤ) (c : Contents) (k : ℕ) (o : Option SignalContents) (after : List SignalContents) → MayMoveSignal c k o → after ≡ signals_after_move k o c.signals
     → change_count (opposite_partner k o c) ≤ touched_from offset 0 c.signals (partners (pairing_of_move k o) after)
 move_stores offset c k (Some s) after may is = omega arith
 move_stores offset c k None after may is =
@@ -245,9 +245,9 @@ nothing_stored : (qs : List PieceView) → qs ≡ [] → sum_by (λ (p : PieceVi
 nothing_stored qs none = ap (λ l. sum_by (λ (p : PieceView). length p.changes) (reverse l)) none
 
 stores_back : (offset : ℕ → ℤ) (c : Contents) (ps qs : List PieceView) (w : Option (ℕ × List ℕ)) (m : Option (ℕ × Option SignalContents)) (e : Option ℕ)
-    → IsOneStep (parts ps w m e) → MovedSignalFits c m → LeadBack c ps qs → All (λ p. offset p.signal ≡ neg_ℤ p.by) ps
-    → stored_changes (opposite_record (parts ps w m e) qs c) ≤ touched_from offset 0 c.signals (partners (record_pairing m) (back (parts ps w m e) c).signals)
-unfolding back
+    → IsOneStep (parts ps w m e) → MovedSignalFits c m → AreInversePieces c ps qs → All (λ p. offset p.signal ≡ neg_ℤ p.by) ps
+    → stored_changes (opposite_record (parts ps w m e) qs c) ≤ touched_from offset 0 c.signals (partners (record_pairing m) (apply_record (parts ps w m e) c).signals)
+unfolding apply_record
 stores_back offset c ps qs None None e one signal lead opposite =
     omega (
       arith,
@@ -262,13 +262,13 @@ stores_back offset c ps qs None (Some m) e one signal lead opposite =
       arith,
       nothing_stored qs (no_pieces_back c ps qs lead (no_pieces_at_move ps None m e one)),
       move_stores offset c m.0 m.1 (with_end e (with_moved_signal (Some m) (with_pieces c ps))).signals signal
-          (move_of_end e (with_moved_signal (Some m) (with_pieces c ps)) ∙ ap (λ (x : Contents). with_signal_moved m.0 m.1 x.signals) (none_put c ps (no_pieces_at_move ps None m e one))),
+          (move_of_end e (with_moved_signal (Some m) (with_pieces c ps)) ∙ ap (λ (x : Contents). signals_after_move m.0 m.1 x.signals) (none_put c ps (no_pieces_at_move ps None m e one))),
     )
 stores_back offset c ps qs (Some w) (Some m) e one signal lead opposite = absurd (no_word_at_move ps w m e one)
 
 -- where each signal's offset is the opposite of its piece's
-pub opposite_stores : (offset : ℕ → ℤ) (c : Contents) (r : RecordView) (qs : List PieceView) → IsOneStep r → Fits r c → LeadBack c r.pieces qs → All (λ p. offset p.signal ≡ neg_ℤ p.by) r.pieces
-    → stored_changes (opposite_record r qs c) ≤ touched_from offset 0 c.signals (partners (record_pairing r.signal) (back r c).signals)
+pub opposite_stores : (offset : ℕ → ℤ) (c : Contents) (r : RecordView) (qs : List PieceView) → IsOneStep r → Fits r c → AreInversePieces c r.pieces qs → All (λ p. offset p.signal ≡ neg_ℤ p.by) r.pieces
+    → stored_changes (opposite_record r qs c) ≤ touched_from offset 0 c.signals (partners (record_pairing r.signal) (apply_record r c).signals)
 opposite_stores offset c r qs one fits lead opposite = stores_back offset c r.pieces qs r.word r.signal r.other_end one fits.signal lead opposite
 
 -- ---- pieces of a record that fits are ready
@@ -277,8 +277,8 @@ within_all : (c : Contents) (ps : List PieceView) → All (PieceFits c) ps → A
 within_all c ps fits = λ k d less. (fits k d less).signal
 
 pieces_alone : (c : Contents) (ps : List PieceView) (w : Option (ℕ × List ℕ)) (m : Option (ℕ × Option SignalContents)) (e : Option ℕ)
-    → IsOneStep (parts ps w m e) → 0 < length ps → (back (parts ps w m e) c).signals ≡ (with_pieces c ps).signals
-unfolding back
+    → IsOneStep (parts ps w m e) → 0 < length ps → (apply_record (parts ps w m e) c).signals ≡ (with_pieces c ps).signals
+unfolding apply_record
 pieces_alone c ps None None e one some = move_of_end e (with_pieces c ps)
 pieces_alone c ps (Some w) m e one some = absurd (omega (arith, some, ap length (no_pieces_at_word ps w m e one)))
 pieces_alone c ps None (Some m) e one some = absurd (omega (arith, some, ap length (no_pieces_at_move ps None m e one)))
@@ -303,11 +303,11 @@ pieces_ready c r fits one sound = λ k d less.
     let fit : PieceFits c p = fits.pieces k d less in
     let old = signal_at c p.signal in
     let new = signal_with_changes old (changes_with_piece p old.changes) in
-    let same : (back r c).signals ≡ (with_pieces c r.pieces).signals = pieces_alone c r.pieces r.word r.signal r.other_end one (omega (arith, less)) in
-    let reached : signal_at (back r c) p.signal ≡ new =
+    let same : (apply_record r c).signals ≡ (with_pieces c r.pieces).signals = pieces_alone c r.pieces r.word r.signal r.other_end one (omega (arith, less)) in
+    let reached : signal_at (apply_record r c) p.signal ≡ new =
     ap (λ l. get_or l p.signal no_signal) same ∙ pieces_reach c r.pieces one.apart (within_all c r.pieces fits.pieces) k d less in
-    let inside : p.signal < length (back r c).signals = omega (arith, fit.signal, ap length same, counts_kept c r.pieces) in
-    let after : IsSoundSignal (back r c).end new = subst (IsSoundSignal (back r c).end) reached (All-get_or (IsSoundSignal (back r c).end) (back r c).signals p.signal no_signal inside fits.sound.signals) in
+    let inside : p.signal < length (apply_record r c).signals = omega (arith, fit.signal, ap length same, counts_kept c r.pieces) in
+    let after : IsSoundSignal (apply_record r c).end new = subst (IsSoundSignal (apply_record r c).end) reached (All-get_or (IsSoundSignal (apply_record r c).end) (apply_record r c).signals p.signal no_signal inside fits.sound.signals) in
     let before : IsSoundSignal c.end old = All-get_or (IsSoundSignal c.end) c.signals p.signal no_signal fit.signal sound.signals in
     record {
       signal = fit.signal;
@@ -317,12 +317,12 @@ pieces_ready c r fits one sound = λ k d less.
         ticks = fit.ticks;
         form = after.wave;
         small = piece_among (λ c. c.tick < 2 ^ 64) p old.changes
-            (All-weaker (λ (c : Change). c.tick ≤ END_LIMIT) (λ (c : Change). c.tick < 2 ^ 64) (λ c le. omega (arith, le)) new.changes (upto_end (back r c).end new.changes fits.sound.end after.ticks));
+            (All-weaker (λ (c : Change). c.tick ≤ END_LIMIT) (λ (c : Change). c.tick < 2 ^ 64) (λ c le. omega (arith, le)) new.changes (upto_end (apply_record r c).end new.changes fits.sound.end after.ticks));
         upto = upto_end c.end old.changes sound.end before.ticks;
       };
     }
 
-pub leads_other_way : (c : Contents) (r : RecordView) (qs : List PieceView) → IsOneStep r → Fits r c → IsSound c → LeadBack c r.pieces qs → LeadsOtherWay c r (opposite_record r qs c)
+pub leads_other_way : (c : Contents) (r : RecordView) (qs : List PieceView) → IsOneStep r → Fits r c → IsSound c → AreInversePieces c r.pieces qs → IsInverse c r (opposite_record r qs c)
 leads_other_way c r qs one fits sound lead =
     record {
       fits = opposite_fits c r qs one lead fits sound;
@@ -334,8 +334,8 @@ leads_other_way c r qs one fits sound lead =
 
 module _ (c : Contents) (ps qs : List PieceView) where
   in_order_of : (w : Option (ℕ × List ℕ)) (m : Option (ℕ × Option SignalContents)) (e : Option ℕ) → IsOneStep (parts ps w m e)
-      → with_end e (with_first_word w (with_pieces (with_moved_signal m c) ps)) ≡ back (parts ps w m e) c
-  unfolding back
+      → with_end e (with_first_word w (with_pieces (with_moved_signal m c) ps)) ≡ apply_record (parts ps w m e) c
+  unfolding apply_record
   in_order_of w None e one = refl
   in_order_of None (Some m) e one =
       let none = no_pieces_at_move ps None m e one in
@@ -348,14 +348,14 @@ module _ (c : Contents) (ps qs : List PieceView) where
   ready_moved_of w (Some m) e one ready =
       subst (All (PieceReadyIn (with_moved_signal (Some m) c))) (sym (no_pieces_at_move ps w m e one)) (All-nil (PieceReadyIn (with_moved_signal (Some m) c)))
 
-  lead_anywhere : (d : Contents) → ps ≡ [] → LeadBack d ps qs → LeadBack c ps qs
-  lead_anywhere d none lead = subst (λ l. LeadBack c l qs) (sym none) (nothing qs (subst (λ l. LeadBack d l qs) none lead))
+  lead_anywhere : (d : Contents) → ps ≡ [] → AreInversePieces d ps qs → AreInversePieces c ps qs
+  lead_anywhere d none lead = subst (λ l. AreInversePieces c l qs) (sym none) (nothing qs (subst (λ l. AreInversePieces d l qs) none lead))
     where
-      nothing : (qs : List PieceView) → LeadBack d [] qs → LeadBack c [] qs
+      nothing : (qs : List PieceView) → AreInversePieces d [] qs → AreInversePieces c [] qs
       nothing [] lead = tt
       nothing (q ∷ qs) lead = absurd lead
 
-  lead_moved_of : (w : Option (ℕ × List ℕ)) (m : Option (ℕ × Option SignalContents)) (e : Option ℕ) → IsOneStep (parts ps w m e) → LeadBack (with_moved_signal m c) ps qs → LeadBack c ps qs
+  lead_moved_of : (w : Option (ℕ × List ℕ)) (m : Option (ℕ × Option SignalContents)) (e : Option ℕ) → IsOneStep (parts ps w m e) → AreInversePieces (with_moved_signal m c) ps qs → AreInversePieces c ps qs
   lead_moved_of w None e one lead = lead
   lead_moved_of w (Some m) e one lead = lead_anywhere (with_moved_signal (Some m) c) (no_pieces_at_move ps w m e one) lead
 
@@ -391,13 +391,13 @@ module _ (c : Contents) (ps qs : List PieceView) where
   end_same_of w m (Some e) = ap Some (end_of_word w (with_pieces (with_moved_signal m c) ps) ∙ end_kept (with_moved_signal m c) ps ∙ end_of_move m c)
 
 module _ (c : Contents) (r : RecordView) (one : IsOneStep r) where
-  pub in_order : with_end r.other_end (with_first_word r.word (with_pieces (with_moved_signal r.signal c) r.pieces)) ≡ back r c
+  pub in_order : with_end r.other_end (with_first_word r.word (with_pieces (with_moved_signal r.signal c) r.pieces)) ≡ apply_record r c
   in_order = in_order_of c r.pieces [] r.word r.signal r.other_end one
 
   pub ready_moved : All (PieceReadyIn c) r.pieces → All (PieceReadyIn (with_moved_signal r.signal c)) r.pieces
   ready_moved ready = ready_moved_of c r.pieces [] r.word r.signal r.other_end one ready
 
-  pub lead_moved : (qs : List PieceView) → LeadBack (with_moved_signal r.signal c) r.pieces qs → LeadBack c r.pieces qs
+  pub lead_moved : (qs : List PieceView) → AreInversePieces (with_moved_signal r.signal c) r.pieces qs → AreInversePieces c r.pieces qs
   lead_moved qs lead = lead_moved_of c r.pieces qs r.word r.signal r.other_end one lead
 
   pub word_fits : WordFits c r.word → WordFits (with_pieces (with_moved_signal r.signal c) r.pieces) r.word

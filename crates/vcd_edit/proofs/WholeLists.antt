@@ -6,7 +6,7 @@ use Rattle.vcd_core.specs.declared.bit.Bit.{Bit}
 use Rattle.vcd_core.specs.declared.wave.Change.{Change}
 use Rattle.vcd_core.specs.Value.{all_x, same_letters}
 use Rattle.vcd_core.specs.Wave.{change, unless_same, changes_of}
-use Rattle.vcd_core.specs.Splice.{moved_change, TickFits, TicksFit, spliced_changes}
+use Rattle.vcd_core.specs.Splice.{moved_change, TickFits, AllTicksFit, spliced_changes}
 use Rattle.std.specs.Prelude.{pos}
 use Rattle.vcd_core.specs.Contents.{SignalContents}
 use Rattle.vcd_edit.specs.declared.record.Piece.{Piece}
@@ -25,7 +25,7 @@ whole_leads p cs width end f first last told =
     record {
       ordered = omega (arith, first);
       within = omega (arith, last);
-      ticks = subst (TicksFit p.by) (sym none) (All-nil (TickFits p.by));
+      ticks = subst (AllTicksFit p.by) (sym none) (All-nil (TickFits p.by));
       is = (λ i. take (first i) cs ++ p.changes ++ map (moved_change p.by) (none i)) ∙ append-nil p.changes ∙ told;
     }
 

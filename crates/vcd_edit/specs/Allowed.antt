@@ -139,5 +139,5 @@ abbrev pub MayRefuse : Option EditError → EditError → Type 0
 MayRefuse found refusal = (found ≡ Some refusal) ⊎ ((found ≡ None) × (refusal ≡ errors.NoMemory))
 
 -- what a check answers, told by the fault that there is
-abbrev pub TellsFault : {T : Type 0} → Result T EditError → Option EditError → Type 0
-TellsFault answer found = MatchResult answer (λ _. found ≡ None) (λ refusal. found ≡ Some refusal)
+abbrev pub FaultIs : {T : Type 0} → Result T EditError → Option EditError → Type 0
+FaultIs answer found = MatchResult answer (λ _. found ≡ None) (λ refusal. found ≡ Some refusal)

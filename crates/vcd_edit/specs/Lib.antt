@@ -4,7 +4,7 @@ pub mod Effect
 pub mod Allowed
 pub mod Laws
 pub mod RecordView
-pub mod Back
+pub mod AppliedRecords
 pub mod Touched
 pub mod TouchedByEdit
 pub mod inside

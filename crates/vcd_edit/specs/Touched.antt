@@ -6,7 +6,7 @@ use Rattle.vcd_core.specs.declared.wave.Change.{Change}
 use Rattle.vcd_core.specs.Value.{same_letters}
 use Rattle.vcd_core.specs.Contents.{Contents, SignalContents}
 use Rattle.vcd_edit.specs.RecordView.{PieceView, RecordView}
-use Rattle.vcd_edit.specs.Back.{back}
+use Rattle.vcd_edit.specs.AppliedRecords.{apply_record}
 
 -- ---- the touched changes of a list
 
@@ -72,7 +72,7 @@ record_pairing (Some m) = pairing_of_move m.0 m.1
 
 -- the sum over all signals
 abbrev pub touched_by_record : RecordView → Contents → ℕ
-touched_by_record r c = touched_from (piece_offset r.pieces) 0 c.signals (partners (record_pairing r.signal) (back r c).signals)
+touched_by_record r c = touched_from (piece_offset r.pieces) 0 c.signals (partners (record_pairing r.signal) (apply_record r c).signals)
 
 -- ---- what a record stores
 

@@ -7,6 +7,6 @@ pub mod Records
 pub mod Trims
 pub mod Exchanges
 pub mod Opposites
-pub mod Seams
+pub mod Adjacency
 pub mod Fitting
 pub mod Inverse

@@ -5,7 +5,7 @@ ghost use Rattle.vcd_core.specs.Contents.{contents};
 ghost use Rattle.vcd_core.specs.Sound.{IsSound};
 ghost use Rattle.vcd_edit.specs.Effect.{effect as edit_effect};
 ghost use Rattle.vcd_edit.specs.Allowed.{edit_fault, MayRefuse};
-ghost use Rattle.vcd_edit.specs.Back.{back, Fits};
+ghost use Rattle.vcd_edit.specs.AppliedRecords.{apply_record, Fits};
 ghost use Rattle.vcd_edit.specs.Touched.{stored_changes};
 ghost use Rattle.vcd_edit.specs.TouchedByEdit.{touched_by_edit, IsRemove};
 
@@ -34,7 +34,7 @@ pub fn apply(alloc: Global, capture: &mut Capture, edit: &Edit) -> Result<Record
     ensures effect { OnOk result
         (contents capture.new ≡ edit_effect edit.now (contents capture.old)) }
     ensures fits { IfOk result (λ r. Fits r (contents capture.new)) }
-    ensures back { IfOk result (λ r. back r (contents capture.new) ≡ contents capture.old) }
+    ensures back { IfOk result (λ r. apply_record r (contents capture.new) ≡ contents capture.old) }
     ensures bound { IfOk result
         (λ r. stored_changes r ≤ touched_by_edit edit.now (contents capture.old)) }
     ensures sound { OnOk result (IsSound (contents capture.new)) }

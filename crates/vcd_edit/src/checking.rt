@@ -2,7 +2,7 @@
 
 ghost use Rattle.std.specs.Prelude.{◌∷◌, []};
 ghost use Rattle.vcd_core.specs.Contents.{contents};
-ghost use Rattle.vcd_edit.specs.Allowed.{is_no_signal, first_fault, edit_fault, TellsFault};
+ghost use Rattle.vcd_edit.specs.Allowed.{is_no_signal, first_fault, edit_fault, FaultIs};
 ghost use Rattle.vcd_edit.specs.declared.edit.Edit.TheVariants as edits;
 ghost use Rattle.vcd_edit.specs.declared.fault.EditError.TheVariants as errors;
 
@@ -11,7 +11,7 @@ mod operands;
 
 use crate::edit::Edit;
 use crate::fault::EditError;
-pub(crate) use new_names::behind_first;
+pub(crate) use new_names::after_first;
 use new_names::{check_derive, check_rename};
 use vcd_core::{Capture, Value};
 
@@ -22,7 +22,7 @@ use vcd_core::{Capture, Value};
 /// It takes no memory. Its time grows with the signals and their names where the edit gives a name, else
 /// it is bounded.
 pub fn check(capture: &Capture, edit: &Edit) -> Result<(), EditError>
-    ensures { TellsFault result (edit_fault edit.now (contents capture.now)) }
+    ensures { FaultIs result (edit_fault edit.now (contents capture.now)) }
 {
     match *edit {
         Edit::Rename { signal, word } => check_rename(capture, signal, word),
@@ -43,7 +43,7 @@ pub fn check(capture: &Capture, edit: &Edit) -> Result<(), EditError>
 
 /// Whether there is a signal at a position.
 fn check_signal(capture: &Capture, signal: usize) -> Result<(), EditError>
-    ensures { TellsFault result (first_fault
+    ensures { FaultIs result (first_fault
         ((is_no_signal (contents capture.now) signal, errors.NoSuchSignal) ∷ [])) }
 {
     if signal >= capture.signals().len() {
@@ -54,7 +54,7 @@ fn check_signal(capture: &Capture, signal: usize) -> Result<(), EditError>
 
 #[tactic(auto, unfolding(crate::specs::Allowed::edit_fault))]
 fn check_cut(capture: &Capture, from: u64, to: u64) -> Result<(), EditError>
-    ensures { TellsFault result (edit_fault (edits.Cut from to) (contents capture.now)) }
+    ensures { FaultIs result (edit_fault (edits.Cut from to) (contents capture.now)) }
 {
     if from >= to || to > capture.end() {
         return Err(EditError::BadRange);
@@ -64,7 +64,7 @@ fn check_cut(capture: &Capture, from: u64, to: u64) -> Result<(), EditError>
 
 #[tactic(auto, unfolding(crate::specs::Allowed::edit_fault))]
 fn check_deglitch(capture: &Capture, signal: usize, ticks: u64) -> Result<(), EditError>
-    ensures { TellsFault result (edit_fault (edits.Deglitch signal ticks) (contents capture.now)) }
+    ensures { FaultIs result (edit_fault (edits.Deglitch signal ticks) (contents capture.now)) }
 {
     if signal >= capture.signals().len() {
         return Err(EditError::NoSuchSignal);
@@ -83,7 +83,7 @@ fn check_force(
     to: u64,
     value: Value,
 ) -> Result<(), EditError>
-    ensures { TellsFault result
+    ensures { FaultIs result
         (edit_fault (edits.Force signal from to value) (contents capture.now)) }
 {
     let signals = capture.signals();

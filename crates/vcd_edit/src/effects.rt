@@ -4,7 +4,7 @@ ghost use Rattle.std.specs.Prelude.{◌≡◌, [], None, IsOk, IfOk};
 ghost use Rattle.vcd_core.specs.Contents.{contents};
 ghost use Rattle.vcd_core.specs.Sound.{IsSound};
 ghost use Rattle.vcd_edit.specs.Allowed.{edit_fault};
-ghost use Rattle.vcd_edit.specs.Back.{PutsNoneIn};
+ghost use Rattle.vcd_edit.specs.AppliedRecords.{PutsNoneIn};
 ghost use Rattle.vcd_edit.specs.TouchedByEdit.{IsRemove};
 ghost use Rattle.vcd_edit.specs.inside.Plans.{IsPlan};
 
@@ -13,8 +13,8 @@ mod deglitch;
 mod derive;
 mod force;
 mod invert;
-mod making;
 mod operators;
+mod piece_builders;
 mod remove;
 mod rename;
 mod shift;

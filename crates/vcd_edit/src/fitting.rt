@@ -4,9 +4,9 @@ ghost use Rattle.std.specs.Prelude.{◌≡◌, ◌↔◌, ℕ, ◌<◌, ◌≤�
 ghost use Rattle.vcd_core.specs.Contents.{Contents, contents, signal_contents};
 ghost use Rattle.vcd_core.specs.Sound.{IsSoundSignal};
 ghost use Rattle.std.specs.List.{insert, remove};
-ghost use Rattle.vcd_edit.specs.Back.{with_first_word, with_moved_signal, MayMoveSignal, Fits, IsOneStep};
+ghost use Rattle.vcd_edit.specs.AppliedRecords.{with_first_word, with_moved_signal, MayMoveSignal, Fits, IsOneStep};
 ghost use Rattle.vcd_edit.specs.inside.Records.{piece_view, word_view, contents_of_signal, moved_signal_view, record_view};
-ghost use Rattle.vcd_edit.specs.inside.Fitting.{AreSoundSignals, PartsFit, IsSoundFrame};
+ghost use Rattle.vcd_edit.specs.inside.Fitting.{AreSoundSignals, PartsFit, HasSoundMetadata};
 
 mod pieces;
 mod sound_names;
@@ -88,8 +88,8 @@ fn parts_fit(
 }
 
 /// Whether a capture is sound but for its signals and its end, and so is another end.
-fn is_frame_sound(capture: &Capture, end: u64) -> bool
-    ensures { IsTrue result ↔ IsSoundFrame end (contents capture.now) }
+fn is_metadata_sound(capture: &Capture, end: u64) -> bool
+    ensures { IsTrue result ↔ HasSoundMetadata end (contents capture.now) }
 {
     capture.is_header_sound() && capture.is_timescale_sound() && end <= END_LIMIT
 }
@@ -104,7 +104,7 @@ impl Record {
         ensures { IsTrue result ↔ Fits self.now (contents capture.now) }
     {
         let end = self.other_end.unwrap_or(capture.end());
-        if !is_frame_sound(capture, end) {
+        if !is_metadata_sound(capture, end) {
             return false;
         }
         parts_fit(

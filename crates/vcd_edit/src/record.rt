@@ -35,7 +35,7 @@ pub struct Record {
 
 impl Model for Record {
     ghost use Rattle.vcd_edit.specs.RecordView.{RecordView};
-    ghost use Rattle.vcd_edit.specs.Back.{IsOneStep};
+    ghost use Rattle.vcd_edit.specs.AppliedRecords.{IsOneStep};
     ghost use Rattle.vcd_edit.specs.inside.Records.{record_view};
 
     ghost Value = { RecordView };

@@ -3,9 +3,9 @@
 ghost use Rattle.std.specs.Prelude.{◌≡◌, ℕ, ◌≤◌, [], None, neg_ℤ, All, IsOk, IfOk, OnOk, OnErr, IfErr};
 ghost use Rattle.vcd_core.specs.Contents.{contents};
 ghost use Rattle.vcd_core.specs.Sound.{IsSound};
-ghost use Rattle.vcd_edit.specs.Back.{back, Fits, AreApart, PutsNoneIn};
+ghost use Rattle.vcd_edit.specs.AppliedRecords.{apply_record, Fits, AreApart, PutsNoneIn};
 ghost use Rattle.vcd_edit.specs.Touched.{touched_by_record, stored_changes};
-ghost use Rattle.vcd_edit.specs.inside.Opposites.{LeadsOtherWay};
+ghost use Rattle.vcd_edit.specs.inside.Opposites.{IsInverse};
 
 mod parts;
 
@@ -30,8 +30,8 @@ pub(crate) fn exchange_record(
 ) -> Result<Record, Kept>
     requires fits { Fits way (contents capture.old) }
     requires sound { IsSound (contents capture.old) }
-    ensures back { OnOk result (contents capture.new ≡ back way (contents capture.old)) }
-    ensures opposite { IfOk result (LeadsOtherWay (contents capture.old) way) }
+    ensures back { OnOk result (contents capture.new ≡ apply_record way (contents capture.old)) }
+    ensures opposite { IfOk result (IsInverse (contents capture.old) way) }
     ensures kept { IfErr result (λ k. k.held ≡ way) }
     ensures unchanged { OnErr result (contents capture.new ≡ contents capture.old) }
     ensures never { way.pieces ≡ [] → PutsNoneIn way.signal → IsOk result }
@@ -88,8 +88,8 @@ pub(crate) fn exchange_record(
 pub fn revert(alloc: Global, capture: &mut Capture, way: Record) -> Result<Record, Kept>
     requires fits { Fits way (contents capture.old) }
     requires sound { IsSound (contents capture.old) }
-    ensures back { OnOk result (contents capture.new ≡ back way (contents capture.old)) }
-    ensures forth { IfOk result (λ r. back r (contents capture.new) ≡ contents capture.old) }
+    ensures back { OnOk result (contents capture.new ≡ apply_record way (contents capture.old)) }
+    ensures forth { IfOk result (λ r. apply_record r (contents capture.new) ≡ contents capture.old) }
     ensures fits { IfOk result (λ r. Fits r (contents capture.new)) }
     ensures bound { IfOk result (λ r. stored_changes r
         ≤ touched_by_record way (contents capture.old)) }

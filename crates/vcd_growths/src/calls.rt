@@ -3,8 +3,8 @@
 use crate::decoders::call_decoder;
 use crate::edits::{call_apply, call_revert};
 use crate::files::{call_read, call_write, count_write, read_bytes};
+use crate::printing::Stopped;
 use crate::sessions::{call_new, call_run, call_step};
-use crate::telling::Stopped;
 use crate::waves::call_on_wave;
 use std::rt::Runtime;
 

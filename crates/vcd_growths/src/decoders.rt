@@ -5,7 +5,7 @@ ghost use Rattle.vcd_core.specs.Wave.{AllUpTo};
 
 use crate::calls::Call;
 use crate::files::capture_of_text;
-use crate::telling::{DONE, Stopped, allow, refuse, tell_capture};
+use crate::printing::{DONE, Stopped, allow, print_capture, refuse};
 use std::alloc::Global;
 use std::rt::Runtime;
 use vcd_core::{Capture, NoMemory, Wave, ends_by};
@@ -25,7 +25,7 @@ pub fn call_decoder<R: Runtime + AllocGlobal>(rt: &R, call: &Call) -> Result<(),
         let second = scalar_wave(&capture, 1)?;
         make_decoder(rt, call.name, first, second, capture.end())?;
     }
-    tell_capture(rt, &capture)
+    print_capture(rt, &capture)
 }
 
 /// Runs the decoder of a name on two lines, and tells what became of it.
@@ -45,12 +45,12 @@ fn make_decoder<R: Runtime + AllocGlobal>(
     let words = Spi::new(0, 8, BitOrder::Msb)?;
     refuse(rt)?;
     match name {
-        "uart" => tell_found(rt, uart(rt.alloc(), first, end, &frames)),
-        "spi" => tell_found(
+        "uart" => print_found(rt, uart(rt.alloc(), first, end, &frames)),
+        "spi" => print_found(
             rt,
             spi(rt.alloc(), first, Some(second), None, None, end, &words),
         ),
-        _ => tell_found(rt, i2c(rt.alloc(), first, second, end)),
+        _ => print_found(rt, i2c(rt.alloc(), first, second, end)),
     }
 }
 
@@ -74,18 +74,21 @@ fn scalar_wave(capture: &Capture, signal: usize) -> Result<&Wave, Stopped>
 }
 
 /// What became of the call, and the annotations where there was memory for them.
-fn tell_found<R: Runtime>(rt: &R, found: Result<Vec<Annotation>, NoMemory>) -> Result<(), Stopped> {
+fn print_found<R: Runtime>(
+    rt: &R,
+    found: Result<Vec<Annotation>, NoMemory>,
+) -> Result<(), Stopped> {
     match found {
         Ok(found) => {
             allow(rt, DONE)?;
-            tell_annotations(rt, found.as_slice())
+            print_annotations(rt, found.as_slice())
         }
         Err(fault) => allow(rt, fault.name()),
     }
 }
 
 /// Each annotation on a line of its own.
-fn tell_annotations<R: Runtime>(rt: &R, annotations: &[Annotation]) -> Result<(), Stopped> {
+fn print_annotations<R: Runtime>(rt: &R, annotations: &[Annotation]) -> Result<(), Stopped> {
     for annotation in annotations {
         println!(rt; "{annotation:?}")?;
     }

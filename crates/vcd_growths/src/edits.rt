@@ -3,11 +3,11 @@
 ghost use Rattle.std.specs.Prelude.{◌≡◌, IfOk};
 ghost use Rattle.vcd_core.specs.Contents.{contents};
 ghost use Rattle.vcd_core.specs.Sound.{IsSound};
-ghost use Rattle.vcd_edit.specs.Back.{Fits};
+ghost use Rattle.vcd_edit.specs.AppliedRecords.{Fits};
 
 use crate::calls::Call;
 use crate::files::capture_of_text;
-use crate::telling::{DONE, Stopped, allow, refuse, tell_capture};
+use crate::printing::{DONE, Stopped, allow, print_capture, refuse};
 use std::alloc::Global;
 use std::rt::Runtime;
 use vcd_core::{Bit, Capture, NoMemory, ToWrite, Value};
@@ -46,7 +46,7 @@ pub fn call_apply<R: Runtime + AllocGlobal>(rt: &R, call: &Call) -> Result<(), S
     };
     let mut capture = capture_of_text(rt.alloc(), call.text)?;
     if !call.makes {
-        return tell_capture(rt, &capture);
+        return print_capture(rt, &capture);
     }
     make_edit(rt, &mut capture, &edit)
 }
@@ -63,11 +63,11 @@ fn make_edit<R: Runtime + AllocGlobal>(
     match apply(rt.alloc(), capture, edit) {
         Ok(_) => {
             allow(rt, DONE)?;
-            tell_capture(rt, capture)
+            print_capture(rt, capture)
         }
         Err(fault) => {
             allow(rt, fault.name())?;
-            tell_capture(rt, capture)
+            print_capture(rt, capture)
         }
     }
 }
@@ -87,7 +87,7 @@ pub fn call_revert<R: Runtime + AllocGlobal>(rt: &R, call: &Call) -> Result<(), 
         return Err(Stopped);
     }
     if !call.makes {
-        return tell_record(rt, &mut capture, way);
+        return print_record(rt, &mut capture, way);
     }
     make_revert(rt, &mut capture, way)
 }
@@ -117,17 +117,17 @@ fn make_revert<R: Runtime + AllocGlobal>(
     match revert(rt.alloc(), capture, way) {
         Ok(forth) => {
             allow(rt, DONE)?;
-            tell_record(rt, capture, forth)
+            print_record(rt, capture, forth)
         }
         Err(kept) => {
             allow(rt, NoMemory.name())?;
-            tell_record(rt, capture, kept.held)
+            print_record(rt, capture, kept.held)
         }
     }
 }
 
 /// A capture, how much a record holds that leads from it, and where that leads.
-fn tell_record<R: Runtime + AllocGlobal>(
+fn print_record<R: Runtime + AllocGlobal>(
     rt: &R,
     capture: &mut Capture,
     way: Record,
@@ -135,10 +135,10 @@ fn tell_record<R: Runtime + AllocGlobal>(
     requires sound { IsSound (contents capture.old) }
     requires fits { Fits way (contents capture.old) }
 {
-    tell_capture(rt, capture)?;
+    print_capture(rt, capture)?;
     println!(rt; "record of {}", way.stored())?;
     match revert(rt.alloc(), capture, way) {
-        Ok(_) => tell_capture(rt, capture),
+        Ok(_) => print_capture(rt, capture),
         Err(_) => Err(Stopped),
     }
 }

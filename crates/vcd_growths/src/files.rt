@@ -7,7 +7,7 @@ ghost use Rattle.vcd_core.specs.Sound.{IsSound};
 use crate::TEXT_LIMIT;
 use crate::calls::Call;
 use crate::counting::CountingSink;
-use crate::telling::{DONE, Stopped, allow, refuse, tell_capture};
+use crate::printing::{DONE, Stopped, allow, print_capture, refuse};
 use std::alloc::Global;
 use std::io;
 use std::io::Write;
@@ -60,7 +60,7 @@ pub fn call_write<R: Runtime + AllocGlobal>(rt: &R, call: &Call) -> Result<(), S
     }
     println!(rt; "failed {}, written:", sink.failed())?;
     io::writer(rt).write_all(sink.into_inner().as_slice())?;
-    tell_capture(rt, &capture)
+    print_capture(rt, &capture)
 }
 
 /// `write`, to a sink that counts: how it was called. No memory is refused.

@@ -14,15 +14,15 @@ mod counting;
 mod decoders;
 mod edits;
 mod files;
+mod printing;
 mod sessions;
-mod telling;
 mod waves;
 
 use calls::{Call, make_call};
+use printing::Stopped;
 use std::process::ExitCode;
 use std::rt::Runtime;
 use std::{env, io};
-use telling::Stopped;
 use vcd_core::{FromRead, read_whole};
 
 /// The most bytes of a capture.

@@ -5,7 +5,7 @@ ghost use Rattle.std.specs.Prelude.{◌≤◌};
 use crate::calls::Call;
 use crate::edits::edit_named;
 use crate::files::capture_of_text;
-use crate::telling::{DONE, Stopped, allow, refuse, tell_capture, tell_session};
+use crate::printing::{DONE, Stopped, allow, print_capture, print_session, refuse};
 use std::alloc::Global;
 use std::rt::Runtime;
 use vcd_core::NoMemory;
@@ -19,17 +19,17 @@ const DEPTH: u64 = 5;
 pub fn call_new<R: Runtime + AllocGlobal>(rt: &R, call: &Call) -> Result<(), Stopped> {
     let capture = capture_of_text(rt.alloc(), call.text)?;
     if !call.makes {
-        return tell_capture(rt, &capture);
+        return print_capture(rt, &capture);
     }
     refuse(rt)?;
     match Session::new(rt.alloc(), capture, DEPTH) {
         Ok(session) => {
             allow(rt, DONE)?;
-            tell_capture(rt, session.capture())
+            print_capture(rt, session.capture())
         }
         Err((capture, fault)) => {
             allow(rt, fault.name())?;
-            tell_capture(rt, &capture)
+            print_capture(rt, &capture)
         }
     }
 }
@@ -50,7 +50,7 @@ pub fn call_step<R: Runtime + AllocGlobal>(rt: &R, call: &Call) -> Result<(), St
             Err(fault) => allow(rt, fault.name())?,
         }
     }
-    tell_session(rt, &mut session)
+    print_session(rt, &mut session)
 }
 
 /// The step that a word names: an edit, `undo`, `redo`, or `depth`, which is then the greatest.
@@ -121,8 +121,8 @@ pub fn call_run<R: Runtime + AllocGlobal>(rt: &R, call: &Call) -> Result<(), Sto
         let position = call.argument.parse::<usize>().unwrap_or(0);
         run_but(&mut session, &steps, position, &mut answers)?;
     }
-    tell_answers(rt, answers.as_slice())?;
-    tell_session(rt, &mut session)
+    print_answers(rt, answers.as_slice())?;
+    print_session(rt, &mut session)
 }
 
 /// Makes all steps but the one at a position.
@@ -143,7 +143,7 @@ fn run_but(
 }
 
 /// What became of each step, on a line of its own: `DONE`, or the name of a fault.
-fn tell_answers<R: Runtime>(rt: &R, answers: &[Answer]) -> Result<(), Stopped> {
+fn print_answers<R: Runtime>(rt: &R, answers: &[Answer]) -> Result<(), Stopped> {
     for answer in answers {
         let outcome = match answer {
             Answer::Done => DONE,

@@ -3,7 +3,7 @@
 ghost use Rattle.std.specs.Prelude.{◌≡◌, ◌≤◌, All, IfOk};
 
 use crate::calls::Call;
-use crate::telling::{DONE, Stopped, allow, refuse, tell_wave};
+use crate::printing::{DONE, Stopped, allow, print_wave, refuse};
 use std::alloc::Global;
 use std::rt::Runtime;
 use vcd_core::{Bit, Change, NoMemory, Value, Wave};
@@ -30,7 +30,7 @@ pub fn call_on_wave<R: Runtime + AllocGlobal>(rt: &R, call: &Call) -> Result<(),
     if call.argument == "shared" {
         let other = wave.share()?;
         grow_and_tell(rt, call, &mut wave, piece.changes())?;
-        return tell_wave(rt, &other);
+        return print_wave(rt, &other);
     }
     grow_and_tell(rt, call, &mut wave, piece.changes())
 }
@@ -52,7 +52,7 @@ fn grow_and_tell<R: Runtime + AllocGlobal>(
             Err(fault) => allow(rt, fault.name())?,
         }
     }
-    tell_wave(rt, wave)
+    print_wave(rt, wave)
 }
 
 /// The call of a name: `push`, `share`, `reserve`, `reserve_exact`, else `reserve_splice`.

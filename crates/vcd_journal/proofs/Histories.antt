@@ -7,26 +7,26 @@ use Rattle.circular_buffer.specs.Buffer.{Buffer}
 use Rattle.vcd_edit.specs.declared.edit.Edit.{Edit}
 use Rattle.vcd_edit.specs.Effect.{effect}
 use Rattle.vcd_edit.specs.RecordView.{RecordView}
-use Rattle.vcd_edit.specs.Back.{back, Fits}
+use Rattle.vcd_edit.specs.AppliedRecords.{apply_record, Fits}
 use Rattle.vcd_journal.specs.Machine.{Machine, machine_after_edit, machine_after_depth}
-use Rattle.vcd_journal.specs.inside.Histories.{reached_captures, AllRecordsFit, IsHistory, IsWay}
+use Rattle.vcd_journal.specs.inside.Histories.{reached_captures, AllRecordsFit, IsHistory, PopsRecord}
 
 -- a capture for each record
 pub length_reached_captures : (c : Contents) (rs : List RecordView) → length (reached_captures c rs) ≡ length rs
 length_reached_captures c [] = refl
-length_reached_captures c (r ∷ rs) = ap suc (length_reached_captures (back r c) rs)
+length_reached_captures c (r ∷ rs) = ap suc (length_reached_captures (apply_record r c) rs)
 
 -- the newest records lead to the nearest captures
 pub reached_captures_take : (c : Contents) (n : ℕ) (rs : List RecordView) → reached_captures c (take n rs) ≡ take n (reached_captures c rs)
 reached_captures_take c zero rs = refl
 reached_captures_take c (suc n) [] = refl
-reached_captures_take c (suc n) (r ∷ rs) = ap (λ (cs : List Contents). back r c ∷ cs) (reached_captures_take (back r c) n rs)
+reached_captures_take c (suc n) (r ∷ rs) = ap (λ (cs : List Contents). apply_record r c ∷ cs) (reached_captures_take (apply_record r c) n rs)
 
 -- the newest of records that fit do so too
 pub AllRecordsFit_take : (c : Contents) (n : ℕ) (rs : List RecordView) → AllRecordsFit c rs → AllRecordsFit c (take n rs)
 AllRecordsFit_take c zero rs fit = tt
 AllRecordsFit_take c (suc n) [] fit = tt
-AllRecordsFit_take c (suc n) (r ∷ rs) fit = (fit.0, AllRecordsFit_take (back r c) n rs fit.1)
+AllRecordsFit_take c (suc n) (r ∷ rs) fit = (fit.0, AllRecordsFit_take (apply_record r c) n rs fit.1)
 
 -- the captures that a session can go to are as many as its records
 pub few_captures : (c : Contents) (past future : Buffer RecordView) (depth : ℕ) → IsHistory c past future depth → length (reached_captures c past.items) + length (reached_captures c future.items) ≤ depth
@@ -48,11 +48,11 @@ same_machine c d past past_then future future_then depth capture back forth =
 -- ---- edits
 
 -- an edit adds the capture before it to the past
-pub past_after_edit : (before after : Contents) (r : RecordView) (rs : List RecordView) (n : ℕ) → back r after ≡ before → reached_captures after (take n (r ∷ rs)) ≡ take n (before ∷ reached_captures before rs)
+pub past_after_edit : (before after : Contents) (r : RecordView) (rs : List RecordView) (n : ℕ) → apply_record r after ≡ before → reached_captures after (take n (r ∷ rs)) ≡ take n (before ∷ reached_captures before rs)
 past_after_edit before after r rs n leads = reached_captures_take after n (r ∷ rs) ∙ ap (λ (c : Contents). take n (c ∷ reached_captures c rs)) leads
 
 -- and its record fits
-pub fit_after_edit : (before after : Contents) (r : RecordView) (rs : List RecordView) (n : ℕ) → back r after ≡ before → Fits r after → AllRecordsFit before rs → AllRecordsFit after (take n (r ∷ rs))
+pub fit_after_edit : (before after : Contents) (r : RecordView) (rs : List RecordView) (n : ℕ) → apply_record r after ≡ before → Fits r after → AllRecordsFit before rs → AllRecordsFit after (take n (r ∷ rs))
 fit_after_edit before after r rs n leads fits fit = AllRecordsFit_take after n (r ∷ rs) (fits, subst (λ (c : Contents). AllRecordsFit c rs) (sym leads) fit)
 
 -- few are kept
@@ -60,7 +60,7 @@ pub few_after_edit : (r : RecordView) (rs : List RecordView) (n : ℕ) → lengt
 few_after_edit r rs n = let kept = length-take n (r ∷ rs) in omega (arith, kept)
 
 -- the machine after an edit
-pub machine_of_edit : (e : Edit) (before after : Contents) (r : RecordView) (rs fs : List RecordView) (depth : ℕ) → after ≡ effect e before → back r after ≡ before →
+pub machine_of_edit : (e : Edit) (before after : Contents) (r : RecordView) (rs fs : List RecordView) (depth : ℕ) → after ≡ effect e before → apply_record r after ≡ before →
     machine_of after (take depth (r ∷ rs)) [] depth ≡ machine_after_edit e (machine_of before rs fs depth)
 machine_of_edit e before after r rs fs depth forth leads =
     ap (λ (cs : List Contents). record { past = cs; now = after; future = []; depth = depth }) (past_after_edit before after r rs depth leads)
@@ -69,7 +69,7 @@ machine_of_edit e before after r rs fs depth forth leads =
 -- ---- undo and redo
 
 -- the first of the records is taken out
-first_way : (c d : Contents) (q : RecordView) (rs : List RecordView) → d ≡ back q c → AllRecordsFit c (q ∷ rs) → IsWay c (q ∷ rs) d rs
+first_way : (c d : Contents) (q : RecordView) (rs : List RecordView) → d ≡ apply_record q c → AllRecordsFit c (q ∷ rs) → PopsRecord c (q ∷ rs) d rs
 first_way c d q rs leads fit = record {
   captures = ap (λ (e : Contents). e ∷ reached_captures e rs) (sym leads);
   fit = fit;
@@ -77,13 +77,13 @@ first_way c d q rs leads fit = record {
   count = refl;
 }
 
-pub way_ahead : (c d : Contents) (r : RecordView) (rs : List RecordView) → Some r ≡ slice_get rs 0 → d ≡ back r c → AllRecordsFit c rs → IsWay c rs d (drop 1 rs)
+pub way_ahead : (c d : Contents) (r : RecordView) (rs : List RecordView) → Some r ≡ slice_get rs 0 → d ≡ apply_record r c → AllRecordsFit c rs → PopsRecord c rs d (drop 1 rs)
 way_ahead c d r [] first leads fit = absurd (cc)
-way_ahead c d r (q ∷ rs) first leads fit = let same : r ≡ q = cc in first_way c d q rs (leads ∙ ap (λ (p : RecordView). back p c) same) fit
+way_ahead c d r (q ∷ rs) first leads fit = let same : r ≡ q = cc in first_way c d q rs (leads ∙ ap (λ (p : RecordView). apply_record p c) same) fit
 
 -- the record that leads back is put in front
-pub way_behind : (c d : Contents) (r : RecordView) (rs : List RecordView) (n : ℕ) → back r d ≡ c → Fits r d → AllRecordsFit c rs → length rs < n → IsWay d (take n (r ∷ rs)) c rs
-way_behind c d r rs n leads fits fit room =
+pub way_after : (c d : Contents) (r : RecordView) (rs : List RecordView) (n : ℕ) → apply_record r d ≡ c → Fits r d → AllRecordsFit c rs → length rs < n → PopsRecord d (take n (r ∷ rs)) c rs
+way_after c d r rs n leads fits fit room =
     let whole : take n (r ∷ rs) ≡ r ∷ rs = take_all n (r ∷ rs) (omega arith) in
     rw whole (first_way d c r rs (sym leads) (fits, subst (λ (e : Contents). AllRecordsFit e rs) (sym leads) fit))
 

@@ -6,7 +6,7 @@ ghost use Rattle.std.specs.Prelude.{◌≡◌, ◌≤◌, ◌<◌, [], ◌∷◌
 ghost use Rattle.circular_buffer.specs.Buffer.{buffer};
 ghost use Rattle.vcd_core.specs.Contents.{contents};
 ghost use Rattle.vcd_core.specs.Sound.{IsSound};
-ghost use Rattle.vcd_journal.specs.inside.Histories.{AllRecordsFit, IsWay};
+ghost use Rattle.vcd_journal.specs.inside.Histories.{AllRecordsFit, PopsRecord};
 
 use circular_buffer::HeapCircularBuffer;
 use std::alloc::Global;
@@ -80,10 +80,10 @@ pub fn follow_newest(
     requires room { length to.old.items < to.old.capacity }
     requires sound { IsSound (contents capture.old) }
     requires fit { AllRecordsFit (contents capture.old) from.old.items }
-    requires behind_fit { AllRecordsFit (contents capture.old) to.old.items }
-    ensures ahead { OnOk result (IsWay (contents capture.old) from.old.items
+    requires after_fit { AllRecordsFit (contents capture.old) to.old.items }
+    ensures ahead { OnOk result (PopsRecord (contents capture.old) from.old.items
         (contents capture.new) from.new.items) }
-    ensures behind { OnOk result (IsWay (contents capture.new) to.new.items
+    ensures following { OnOk result (PopsRecord (contents capture.new) to.new.items
         (contents capture.old) to.old.items) }
     ensures sound { IsSound (contents capture.new) }
     ensures from_room { from.new.capacity ≡ from.old.capacity }

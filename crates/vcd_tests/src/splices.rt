@@ -1,7 +1,7 @@
 //! Splices, each with the splice that undoes it.
 
 ghost use Rattle.std.specs.Prelude.{◌≡◌, ◌≤◌, ◌++◌, IsTrue, IfOk, OnOk, length, drop, map};
-ghost use Rattle.vcd_core.specs.Splice.{TickFits, TicksFit, moved_change, spliced_changes};
+ghost use Rattle.vcd_core.specs.Splice.{TickFits, AllTicksFit, moved_change, spliced_changes};
 ghost use Rattle.vcd_core.specs.Wave.{IsWave};
 
 use crate::fixtures::{changes_in_text, wave_of};
@@ -20,7 +20,7 @@ fn fits(change: &Change, by: i64) -> bool
 
 /// Whether each of them may.
 fn all_fit(changes: &[Change], by: i64) -> bool
-    ensures { IsTrue result → TicksFit by changes.now }
+    ensures { IsTrue result → AllTicksFit by changes.now }
 {
     changes.iter().all(|change| fits(change, by))
 }
@@ -60,7 +60,7 @@ fn later(change: Change, by: i64) -> Change
 
 /// Appends the changes of the tail, each `by` ticks later.
 fn append_later(list: &mut Vec<Change>, tail: &[Change], by: i64) -> Result<(), AllocError>
-    requires { TicksFit by tail.now }
+    requires { AllTicksFit by tail.now }
     ensures { OnOk result (list.new.items ≡ list.old.items ++ map (moved_change by) tail.now) }
 {
     for change in tail {
@@ -82,7 +82,7 @@ fn changes_after(
 ) -> Result<Vec<Change>, AllocError>
     requires ordered { from ≤ to }
     requires within { to ≤ length changes.now }
-    requires ticks { TicksFit by (drop to changes.now) }
+    requires ticks { AllTicksFit by (drop to changes.now) }
     ensures { IfOk result (λ list. list.items ≡ spliced_changes changes.now from to piece.now by) }
 {
     let mut list = changes[..from].to_vec(alloc)?;

@@ -71,7 +71,7 @@ fn a_writer_that_fails_after_each_byte(rt: HostRuntime) -> Result<(), Fail> {
 
 /// A writer that takes a byte at a time and fails in the flush.
 #[test]
-fn a_flush_that_fails_behind_single_bytes(rt: HostRuntime) -> Result<(), Fail> {
+fn a_flush_that_fails_after_single_bytes(rt: HostRuntime) -> Result<(), Fail> {
     let writer = FakeWriter::narrow(rt.alloc(), 1, 1000, true);
     let fault = WriteError::WriteFault { written: 130 };
     check_written(&rt, rt.alloc(), writer, Err(fault), 130, 1)

@@ -6,7 +6,7 @@ use Rattle.vcd_core.specs.declared.capture.TheConstants.{END_LIMIT}
 use Rattle.vcd_text.specs.declared.fault.Fault.{Fault}
 use Rattle.vcd_text.specs.declared.fault.Fault.TheVariants.{Truncated, UnexpectedWord, BadChange, BadTimescale, BadScope, UpscopeAtTop, BadVar, MixedCode, BadTime, TimeBackwards, UnknownCode, ValueTooLong}
 use Rattle.vcd_text.specs.Words.{PlacedWord, word_on, words_from, words_of, closed_words}
-use Rattle.vcd_text.specs.Grammar.{nothing_told, told_after, word_texts, AllowsAll}
+use Rattle.vcd_text.specs.Grammar.{initial_state, state_after, word_texts, AllowsAll}
 use Rattle.vcd_text.proofs.OneAnswer.{accepted-not_refused}
 use Rattle.vcd_text.specs.Items.{Item, spellings, scope, upscope, variable, end_definitions, stamp, vector, bracket}
 use Rattle.vcd_text.specs.Faults.{FileFault, FrontFault, WordFault, fault_line, HasNoFrontFault, shown, too_early, declaration_due, code_due, among_declarations, among_changes, upscope_at_top, no_timescale, no_kind, no_variable, no_size, code_mixed, no_declaration, definitions_go_on, declaration_late, value_alone, no_value, no_change, no_tick, tick_goes_back, value_of_none, pair_of_none, value_too_long}
@@ -17,8 +17,8 @@ one_variable = variable (codes "wire" ∷ codes "1" ∷ codes "!" ∷ codes "a" 
 
 -- a word of a file shows a fault, behind these whole items and the words of another
 shows : (bytes : List ℕ) (line : ℕ) (fault : Fault) (items : List Item) (whole begun : List PlacedWord) (word : PlacedWord) (more : List PlacedWord)
-    → words_of bytes ≡ whole ++ (begun ++ word ∷ more) → word_texts whole ≡ spellings items → AllowsAll nothing_told items
-    → WordFault (told_after nothing_told items) (word_texts begun) word.text fault → line ≡ fault_line (told_after nothing_told items).changing begun word → FileFault bytes line fault
+    → words_of bytes ≡ whole ++ (begun ++ word ∷ more) → word_texts whole ≡ spellings items → AllowsAll initial_state items
+    → WordFault (state_after initial_state items) (word_texts begun) word.text fault → line ≡ fault_line (state_after initial_state items).changing begun word → FileFault bytes line fault
 shows bytes line fault items whole begun word more parts spelled allowed decided at =
     shown (record { items = items; whole = whole; begun = begun; word = word; more = more; parts = parts; spelled = spelled; allowed = allowed; decided = decided; at = at })
 
@@ -189,7 +189,7 @@ no_change_at_all =
 front_without_fault : HasNoFrontFault (codes "$var wire 1 ! a $end\n$enddefinitions $end\n#10\n")
 unfolding words_from
 front_without_fault line fault =
-    accepted-not_refused (closed_words (codes "$var wire 1 ! a $end\n$enddefinitions $end\n#10\n")) (told_after nothing_told (one_variable ++ stamp (codes "10") ∷ [])) line fault (record {
+    accepted-not_refused (closed_words (codes "$var wire 1 ! a $end\n$enddefinitions $end\n#10\n")) (state_after initial_state (one_variable ++ stamp (codes "10") ∷ [])) line fault (record {
       items = one_variable ++ stamp (codes "10") ∷ [];
       spelled = refl;
       allowed = search arith;

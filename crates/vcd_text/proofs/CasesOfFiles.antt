@@ -10,7 +10,7 @@ use Rattle.vcd_core.specs.Contents.{Contents, SignalContents}
 use Rattle.vcd_text.specs.Words.{words_from}
 use Rattle.vcd_core.specs.declared.value.TheConstants.{WIDTH_LIMIT}
 use Rattle.vcd_text.specs.Items.{Item, timescale_of, timescale, scope, upscope, variable, end_definitions, stamp, scalar, vector, real_or_string, bracket, other}
-use Rattle.vcd_text.specs.Grammar.{VariableDeclaration, is_skipped, nothing_told, told_after}
+use Rattle.vcd_text.specs.Grammar.{VariableDeclaration, is_skipped, initial_state, state_after}
 use Rattle.vcd_text.specs.Meaning.{FileMeans, latest_value}
 
 -- the scope `module top`
@@ -37,7 +37,7 @@ one_scalar_contents = record {
 pub one_scalar_means : FileMeans one_scalar one_scalar_contents 0
 unfolding words_from latest_value changes_from digits
 one_scalar_means = record {
-  told = told_after nothing_told one_scalar_items;
+  told = state_after initial_state one_scalar_items;
   accepted = record { items = one_scalar_items; spelled = refl; allowed = search arith; tells = refl; definitions_ended = refl };
   means = refl;
   left_out = refl;
@@ -71,7 +71,7 @@ one_vector_contents = record {
 one_vector_means : FileMeans one_vector one_vector_contents 0
 unfolding words_from latest_value changes_from digits
 one_vector_means = record {
-  told = told_after nothing_told one_vector_items;
+  told = state_after initial_state one_vector_items;
   accepted = record { items = one_vector_items; spelled = refl; allowed = search arith; tells = refl; definitions_ended = refl };
   means = refl;
   left_out = refl;
@@ -101,7 +101,7 @@ shared_code_contents = record {
 shared_code_means : FileMeans shared_code shared_code_contents 0
 unfolding words_from latest_value changes_from digits
 shared_code_means = record {
-  told = told_after nothing_told shared_code_items;
+  told = state_after initial_state shared_code_items;
   accepted = record { items = shared_code_items; spelled = refl; allowed = search arith; tells = refl; definitions_ended = refl };
   means = refl;
   left_out = refl;
@@ -129,7 +129,7 @@ skipped_and_comment_contents = record {
 skipped_and_comment_means : FileMeans skipped_and_comment skipped_and_comment_contents 2
 unfolding words_from latest_value changes_from digits
 skipped_and_comment_means = record {
-  told = told_after nothing_told skipped_and_comment_items;
+  told = state_after initial_state skipped_and_comment_items;
   accepted = record { items = skipped_and_comment_items; spelled = refl; allowed = search arith; tells = refl; definitions_ended = refl };
   means = refl;
   left_out = refl;
@@ -155,7 +155,7 @@ last_counts_contents = record {
 last_counts_means : FileMeans last_counts last_counts_contents 1
 unfolding words_from latest_value changes_from digits
 last_counts_means = record {
-  told = told_after nothing_told last_counts_items;
+  told = state_after initial_state last_counts_items;
   accepted = record { items = last_counts_items; spelled = refl; allowed = search arith; tells = refl; definitions_ended = refl };
   means = refl;
   left_out = refl;

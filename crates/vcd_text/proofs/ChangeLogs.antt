@@ -39,11 +39,11 @@ none_at index (e ∷ es) position apart are =
     ∙ none_at index es position apart (All-tail (λ (x : LoggedChange). x.position % GROUPS ≡ index) e es are)
 
 -- so have the groups behind its own
-none_behind : (index : ℕ) (gs : List (Vec LoggedChange)) (position : ℕ) → position % GROUPS < index → AreGrouped index gs → logged gs position ≡ []
-none_behind index [] position early are = refl
-none_behind index (g ∷ gs) position early (here, are) =
+none_after : (index : ℕ) (gs : List (Vec LoggedChange)) (position : ℕ) → position % GROUPS < index → AreGrouped index gs → logged gs position ≡ []
+none_after index [] position early are = refl
+none_after index (g ∷ gs) position early (here, are) =
     ap (λ es. es ++ logged gs position) (none_at index g.items position (λ same. absurd (omega (arith, early, same))) here)
-    ∙ none_behind (index + 1) gs position (omega (arith, early)) are
+    ∙ none_after (index + 1) gs position (omega (arith, early)) are
 
 module _ (e : LoggedChange) (h : Vec LoggedChange) where
   -- the change stands behind the others of its position
@@ -53,12 +53,12 @@ module _ (e : LoggedChange) (h : Vec LoggedChange) where
   here_with index (x ∷ gs) zero g at more of (here, are) =
       let is : x ≡ g = same_Some x g at in
       let own : (e.position == e.position) ≡ true = grind arith in
-      let behind : logged gs e.position ≡ [] = none_behind (index + 1) gs e.position (omega (arith, of)) are in
-      (λ i. changes_of_position e.position (more i) ++ behind i)
+      let following : logged gs e.position ≡ [] = none_after (index + 1) gs e.position (omega (arith, of)) are in
+      (λ i. changes_of_position e.position (more i) ++ following i)
       ∙ append-nil (changes_of_position e.position (g.items ++ e ∷ []))
       ∙ changes_more g.items e e.position
       ∙ (λ i. changes_of_position e.position (sym is i).items ++ cond (own i) (e ∷ []) [])
-      ∙ ap (λ es. es ++ e ∷ []) (sym (append-nil (changes_of_position e.position x.items)) ∙ ap (λ es. changes_of_position e.position x.items ++ es) (sym behind))
+      ∙ ap (λ es. es ++ e ∷ []) (sym (append-nil (changes_of_position e.position x.items)) ∙ ap (λ es. changes_of_position e.position x.items ++ es) (sym following))
   here_with index (x ∷ gs) (suc i) g at more of (here, are) =
       ap (λ es. changes_of_position e.position x.items ++ es) (here_with (index + 1) gs i g at more (omega (arith, of)) are)
       ∙ sym (append_assoc (changes_of_position e.position x.items) (logged gs e.position) (e ∷ []))

@@ -13,19 +13,19 @@ use Rattle.vcd_core.specs.Wave.{value_at}
 use Rattle.vcd_text.specs.declared.fault.Fault.{Fault}
 use Rattle.vcd_text.specs.declared.fault.Fault.TheVariants as faults
 use Rattle.vcd_text.specs.Letters.{letters_of_digits, extension}
-use Rattle.vcd_text.specs.Grammar.{VariableDeclaration, ValueChange, Context, is_skipped, variable_of, is_binary_number, takes_binary_number, told_value_changes, with_value_change}
+use Rattle.vcd_text.specs.Grammar.{VariableDeclaration, ValueChange, ParseState, is_skipped, variable_of, is_binary_number, takes_binary_number, value_changes_after, with_value_change}
 use Rattle.vcd_text.specs.Meaning.{latest_value}
 use Rattle.vcd_text.specs.inside.ChangeLog.{logged_letters, GivesLoggedValues, logged, AreGrouped}
 use Rattle.vcd_text.specs.inside.ValueDigits.{WritesValue}
-use Rattle.vcd_text.specs.inside.Variables.{declaration, owner_of, HasWave, Stands, HasFirst, HasLogs, Knows, Sets, RefusesBinaryNumber, BinaryNumberFault, no_value, too_long, TakesChange}
+use Rattle.vcd_text.specs.inside.Variables.{declaration, target_of, HasWave, TargetMatches, HasFirst, HasLogs, VariablesMatch, Sets, RefusesBinaryNumber, BinaryNumberFault, no_value, too_long, ChangeResult}
 use Rattle.vcd_text.specs.declared.reading.change_log.LoggedChange.{LoggedChange}
 use Rattle.vcd_text.specs.declared.reading.change_log.ChangeLog.{ChangeLog}
-use Rattle.vcd_text.specs.declared.reading.variables.Owner.{Owner}
-use Rattle.vcd_text.specs.declared.reading.variables.Owner.TheVariants.{Skipped, Kept}
+use Rattle.vcd_text.specs.declared.reading.variables.CodeTarget.{CodeTarget}
+use Rattle.vcd_text.specs.declared.reading.variables.CodeTarget.TheVariants.{Skipped, Kept}
 use Rattle.vcd_text.specs.declared.reading.variables.Variable.{Variable}
 use Rattle.vcd_text.specs.declared.reading.variables.Variables.{Variables}
 use Rattle.vcd_text.proofs.LoggedValues.{gives_late, gives_as, gives_appended, gives_pushed}
-use Rattle.vcd_text.proofs.Owners.{own_code, same_code, stands_kept, stands_moved}
+use Rattle.vcd_text.proofs.CodeTargets.{own_code, same_code, stands_kept, stands_moved}
 
 same_number : (n : ℕ) → (n == n) ≡ true
 same_number n = grind arith
@@ -33,7 +33,7 @@ same_number n = grind arith
 other_number : (m n : ℕ) → m ≢ n → (m == n) ≡ false
 other_number m n apart = elim (cases_Bool (m == n)) [ inl same ↦ absurd (apart (eqb-true m n same)) | inr other ↦ other ]
 
-abbrev position_of : Owner → ℕ
+abbrev position_of : CodeTarget → ℕ
 position_of Skipped = 0
 position_of (Kept position) = position
 
@@ -78,11 +78,11 @@ value_with width code t before (s ∷ rs) r = value_with width code t (if bytes_
 -- ---- the variables after a change
 
 -- the variable of a code
-module _ (old : Variables) (c : Context) (code digits : List ℕ) (first : ℕ) (k : Knows old c) (had : owner_of old code ≡ Some (Kept first)) where
+module _ (old : Variables) (c : ParseState) (code digits : List ℕ) (first : ℕ) (k : VariablesMatch old c) (had : target_of old code ≡ Some (Kept first)) where
   pub own_wave : (d : VariableDeclaration) × (variable_of c code ≡ Some d) × (is_skipped d ≡ false) × HasWave old.kept.items (logged old.log.groups.items) first code d.size c.value_changes c.tick
   own_wave =
       stands_kept old.kept.items (logged old.log.groups.items) c.value_changes c.tick code (variable_of c code) first
-      (subst (λ o. Stands old.kept.items (logged old.log.groups.items) c.value_changes c.tick code o (variable_of c code)) had (k.stand code))
+      (subst (λ o. TargetMatches old.kept.items (logged old.log.groups.items) c.value_changes c.tick code o (variable_of c code)) had (k.stand code))
 
   pub first_within : first < length old.kept.items
   first_within = slice_get_within old.kept.items first own_wave.3.first own_wave.3.stands
@@ -104,7 +104,7 @@ module _ (old : Variables) (c : Context) (code digits : List ℕ) (first : ℕ) 
   first_is : own_wave.3.first.first ≡ first
   first_is =
       let owned = (k.firsts first own_wave.3.first own_wave.3.stands).owned in
-      let kept : Kept own_wave.3.first.first ≡ Kept first = same_Some (Kept own_wave.3.first.first) (Kept first) (sym owned ∙ ap (owner_of old) own_wave.3.coded ∙ had) in
+      let kept : Kept own_wave.3.first.first ≡ Kept first = same_Some (Kept own_wave.3.first.first) (Kept first) (sym owned ∙ ap (target_of old) own_wave.3.coded ∙ had) in
       ap position_of kept
 
   -- no change of its wave is past the tick
@@ -117,8 +117,8 @@ module _ (old : Variables) (c : Context) (code digits : List ℕ) (first : ℕ) 
   refused width fault wide (inl (bad, is)) = no_value own_wave.0 own_wave.1 own_wave.2 bad is
   refused width fault wide (inr (good, long, is)) = too_long own_wave.0 own_wave.1 own_wave.2 good (omega (arith, long, own_wave.3.sized, wide)) is
 
-module _ (old : Variables) (list : Vec Variable) (log : ChangeLog) (c : Context) (code digits : List ℕ) (first : ℕ) (v w : Variable) (k : Knows old c)
-    (had : owner_of old code ≡ Some (Kept first)) (is_first : v ≡ (own_wave old c code digits first k had).3.first)
+module _ (old : Variables) (list : Vec Variable) (log : ChangeLog) (c : ParseState) (code digits : List ℕ) (first : ℕ) (v w : Variable) (k : VariablesMatch old c)
+    (had : target_of old code ≡ Some (Kept first)) (is_first : v ≡ (own_wave old c code digits first k had).3.first)
     (items : list.items ≡ set old.kept.items first w) (same : declaration w ≡ declaration v) (same_first : w.first ≡ v.first)
     (value : IsTrue (is_binary_number digits)) (short : length digits ≤ v.signal.wave.width) (grouped : AreGrouped 0 log.groups.items)
     (takes : (f : ℕ → List Bit) → GivesLoggedValues v.signal.wave.width c.tick f v.signal.wave.changes (logged old.log.groups.items first)
@@ -134,9 +134,9 @@ module _ (old : Variables) (list : Vec Variable) (log : ChangeLog) (c : Context)
   same_width = ap (λ (d : VariableDeclaration). d.size) same
 
   -- what stands in the new list stood in the old one, but for the wave
-  behind : (position : ℕ) (u : Variable) → slice_get list.items position ≡ Some u
+  following : (position : ℕ) (u : Variable) → slice_get list.items position ≡ Some u
       → (t : Variable) × (slice_get old.kept.items position ≡ Some t) × (declaration u ≡ declaration t) × (u.first ≡ t.first)
-  behind position u at =
+  following position u at =
       let there : slice_get (set old.kept.items first w) position ≡ Some u = subst (λ vs. slice_get vs position ≡ Some u) items at in
       elim (cases_eq first position) [
         | inl equal ↦
@@ -150,12 +150,12 @@ module _ (old : Variables) (list : Vec Variable) (log : ChangeLog) (c : Context)
   new_value_change = record { tick = c.tick; code = code; letters = letters_of_digits digits }
 
   -- the wave of the code takes the value
-  wave_changed : (key : List ℕ) (position size : ℕ) → code ≡ key → owner_of old key ≡ Some (Kept position)
+  wave_changed : (key : List ℕ) (position size : ℕ) → code ≡ key → target_of old key ≡ Some (Kept position)
       → HasWave old.kept.items (logged old.log.groups.items) position key size c.value_changes c.tick
       → HasWave list.items (logged log.groups.items) position key size (c.value_changes ++ new_value_change ∷ []) c.tick
   unfolding new_value_change
   wave_changed key position size equal owned wave =
-      let kept_at : Kept first ≡ Kept position = same_Some (Kept first) (Kept position) (sym had ∙ ap (owner_of old) equal ∙ owned) in
+      let kept_at : Kept first ≡ Kept position = same_Some (Kept first) (Kept position) (sym had ∙ ap (target_of old) equal ∙ owned) in
       let at : first ≡ position = ap position_of kept_at in
       let is : v ≡ wave.first = same_Some v wave.first (sym stood ∙ ap (slice_get old.kept.items) at ∙ wave.stands) in
       let old_size : v.signal.wave.width ≡ size = ap (λ (u : Variable). u.signal.wave.width) is ∙ wave.sized in
@@ -207,36 +207,36 @@ module _ (old : Variables) (list : Vec Variable) (log : ChangeLog) (c : Context)
       }
 
   changed_variables : Variables
-  changed_variables = record { kept = list; widths = old.widths; owners = old.owners; skipped = old.skipped; log = log }
+  changed_variables = record { kept = list; widths = old.widths; code_targets = old.code_targets; skipped = old.skipped; log = log }
 
   changed_firsts : (position : ℕ) (u : Variable) → slice_get list.items position ≡ Some u → HasFirst changed_variables position u
   unfolding changed_variables
   changed_firsts position u at =
-      let t = behind position u at in
+      let t = following position u at in
       let before = k.firsts position t.0 t.1 in
       record {
-        owned = ap (λ (d : VariableDeclaration). owner_of old d.code) t.2 ∙ before.owned ∙ ap (λ n. Some (Kept n)) (sym t.3);
+        owned = ap (λ (d : VariableDeclaration). target_of old d.code) t.2 ∙ before.owned ∙ ap (λ n. Some (Kept n)) (sym t.3);
         no_later = omega (arith, t.3, before.no_later);
         same_size = λ x there.
-            let y = behind u.first x there in
+            let y = following u.first x there in
             ap (λ (d : VariableDeclaration). d.size) y.2
             ∙ before.same_size y.0 (subst (λ n. slice_get old.kept.items n ≡ Some y.0) t.3 y.1)
             ∙ ap (λ (d : VariableDeclaration). d.size) (sym t.2);
       }
 
-  changed_stands : (key : List ℕ) → Stands list.items (logged log.groups.items) (c.value_changes ++ new_value_change ∷ []) c.tick key (owner_of old key) (variable_of c key)
+  changed_stands : (key : List ℕ) → TargetMatches list.items (logged log.groups.items) (c.value_changes ++ new_value_change ∷ []) c.tick key (target_of old key) (variable_of c key)
   changed_stands key =
-      stands_moved old.kept.items list.items (logged old.log.groups.items) (logged log.groups.items) c.value_changes (c.value_changes ++ new_value_change ∷ []) c.tick c.tick key (owner_of old key) (variable_of c key)
+      stands_moved old.kept.items list.items (logged old.log.groups.items) (logged log.groups.items) c.value_changes (c.value_changes ++ new_value_change ∷ []) c.tick c.tick key (target_of old key) (variable_of c key)
       (λ position size owned wave. elim (cases_Bool (bytes_eq code key)) [
         | inl equal ↦ wave_changed key position size (same_code code key equal) owned wave
         | inr other ↦ wave_kept key position size other wave
       ])
       (k.stand key)
 
-  told_are : told_value_changes c code (letters_of_digits digits) (variable_of c code) ≡ new_value_change ∷ []
+  told_are : value_changes_after c code (letters_of_digits digits) (variable_of c code) ≡ new_value_change ∷ []
   unfolding new_value_change
   told_are =
-      ap (told_value_changes c code (letters_of_digits digits)) (own_wave old c code digits first k had).1
+      ap (value_changes_after c code (letters_of_digits digits)) (own_wave old c code digits first k had).1
       ∙ ap (λ b. if b then [] else record { tick = c.tick; code = code; letters = letters_of_digits digits } ∷ []) (own_wave old c code digits first k had).2
 
   -- the log has changes of first variables alone
@@ -253,13 +253,13 @@ module _ (old : Variables) (list : Vec Variable) (log : ChangeLog) (c : Context)
   ]
 
   -- the variables hold the value change
-  changed_knows : Knows (record { kept = list; widths = old.widths; owners = old.owners; skipped = old.skipped; log = log }) (with_value_change c code (letters_of_digits digits))
+  changed_knows : VariablesMatch (record { kept = list; widths = old.widths; code_targets = old.code_targets; skipped = old.skipped; log = log }) (with_value_change c code (letters_of_digits digits))
   unfolding changed_variables
   changed_knows = record {
     kept = k.kept ∙ sym (ap (map declaration) items ∙ same_map declaration old.kept.items first v w stood same);
     skipped = k.skipped;
     widths = k.widths ∙ sym (ap (map (λ (u : Variable). u.signal.wave.width)) items ∙ same_map (λ (u : Variable). u.signal.wave.width) old.kept.items first v w stood same_width);
-    stand = λ key. subst (λ rs. Stands list.items (logged log.groups.items) (c.value_changes ++ rs) c.tick key (owner_of old key) (variable_of c key)) (sym told_are) (changed_stands key);
+    stand = λ key. subst (λ rs. TargetMatches list.items (logged log.groups.items) (c.value_changes ++ rs) c.tick key (target_of old key) (variable_of c key)) (sym told_are) (changed_stands key);
     firsts = changed_firsts;
     few = subst (λ n. n ≤ SIGNAL_LIMIT) (sym (ap (length {A = Variable}) items ∙ same_length old.kept.items first w)) k.few;
     grouped = grouped;
@@ -273,15 +273,15 @@ module _ (old : Variables) (list : Vec Variable) (log : ChangeLog) (c : Context)
       subst (λ o. IsSomeAnd o (λ d. IsTrue (takes_binary_number d digits))) (sym (own_wave old c code digits first k had).1)
       (λ i. (own_wave old c code digits first k had).2 i || (value i && fits i))
 
-  pub changed : (x : Unit {0}) → TakesChange c code digits (Ok x) (record { kept = list; widths = old.widths; owners = old.owners; skipped = old.skipped; log = log })
+  pub changed : (x : Unit {0}) → ChangeResult c code digits (Ok x) (record { kept = list; widths = old.widths; code_targets = old.code_targets; skipped = old.skipped; log = log })
   changed x = (changed_takes, changed_knows)
 
 -- what comes of a change of a wide variable
-pub wide_changes : (old : Variables) (list : Vec Variable) (c : Context) (code digits : List ℕ) (first width : ℕ) (v w : Variable) (result : Result (Unit {0}) Fault) (k : Knows old c)
-    (had : owner_of old code ≡ Some (Kept first)) → v ≡ get_or old.kept.items first v → width ≡ get_or old.widths.items first width → 64 < width
+pub wide_changes : (old : Variables) (list : Vec Variable) (c : ParseState) (code digits : List ℕ) (first width : ℕ) (v w : Variable) (result : Result (Unit {0}) Fault) (k : VariablesMatch old c)
+    (had : target_of old code ≡ Some (Kept first)) → v ≡ get_or old.kept.items first v → width ≡ get_or old.widths.items first width → 64 < width
     → list.items ≡ set old.kept.items first w → OnOk result (Sets c.tick digits v w)
     → IfErr result (λ fault. (fault ≡ faults.NoMemory) ⊎ RefusesBinaryNumber v.signal.wave.width digits fault)
-    → TakesChange c code digits result (record { kept = list; widths = old.widths; owners = old.owners; skipped = old.skipped; log = old.log })
+    → ChangeResult c code digits result (record { kept = list; widths = old.widths; code_targets = old.code_targets; skipped = old.skipped; log = old.log })
 wide_changes old list c code digits first width v w (Ok x) k had read row wide items sets refuses =
     let is = read_is old c code digits first k had v read in
     let size = ap (λ (u : Variable). u.signal.wave.width) is ∙ width_is old c code digits first k had width row in
@@ -295,12 +295,12 @@ wide_changes old list c code digits first width v w (Err fault) k had read row w
     inr (refused old c code digits first k had v.signal.wave.width fault (ap (λ (u : Variable). u.signal.wave.width) (sym (read_is old c code digits first k had v read))) refuses)
 
 -- what comes of one of another variable, which the log has
-pub narrow_changes : (old : Variables) (log : ChangeLog) (c : Context) (code digits : List ℕ) (first width : ℕ) (e : LoggedChange) (k : Knows old c)
-    (had : owner_of old code ≡ Some (Kept first)) → width ≡ get_or old.widths.items first width → width ≤ 64
+pub narrow_changes : (old : Variables) (log : ChangeLog) (c : ParseState) (code digits : List ℕ) (first width : ℕ) (e : LoggedChange) (k : VariablesMatch old c)
+    (had : target_of old code ≡ Some (Kept first)) → width ≡ get_or old.widths.items first width → width ≤ 64
     → e.tick ≡ c.tick → e.position ≡ first → WritesValue width digits (logged_letters width e)
     → AreGrouped 0 log.groups.items
     → ((position : ℕ) → logged log.groups.items position ≡ (if e.position == position then logged old.log.groups.items position ++ e ∷ [] else logged old.log.groups.items position))
-    → (x : Unit {0}) → TakesChange c code digits (Ok x) (record { kept = old.kept; widths = old.widths; owners = old.owners; skipped = old.skipped; log = log })
+    → (x : Unit {0}) → ChangeResult c code digits (Ok x) (record { kept = old.kept; widths = old.widths; code_targets = old.code_targets; skipped = old.skipped; log = log })
 narrow_changes old log c code digits first width e k had row narrow at_tick at writes grouped more x =
     let v : Variable = (own_wave old c code digits first k had).3.first in
     let size : v.signal.wave.width ≡ width = width_is old c code digits first k had width row in

@@ -15,8 +15,8 @@ use Rattle.vcd_text.specs.declared.fault.Fault.TheVariants as faults
 use Rattle.vcd_text.specs.declared.fault.ReadError.{ReadError}
 use Rattle.vcd_text.specs.declared.reading.chunks.Progress.{Progress}
 use Rattle.vcd_text.specs.declared.reading.reader.Reader.{Reader}
-use Rattle.vcd_text.specs.Words.{PlacedWord, line_behind, ends_before, with_longer_first, with_byte, words_from, words_of, closed_words, last_line}
-use Rattle.vcd_text.specs.Grammar.{Context, nothing_told, told_after, word_texts}
+use Rattle.vcd_text.specs.Words.{PlacedWord, line_after, ends_before, with_longer_first, with_byte, words_from, words_of, closed_words, last_line}
+use Rattle.vcd_text.specs.Grammar.{ParseState, initial_state, state_after, word_texts}
 use Rattle.vcd_text.specs.Faults.{FileFault, shown as word_shown, too_early, FrontFault, ShowsFault, WordFault, among_declarations, among_changes, DeclarationFault, ChangeFault, no_declaration, no_timescale, no_kind, upscope_at_top, upscope_goes_on, no_size, no_variable, code_mixed, no_room, definitions_go_on, no_tick, tick_goes_back, value_alone, value_of_none, pair_of_none, no_value, value_too_long, declaration_late, no_change}
 use Rattle.vcd_text.specs.Refusals.{IsRefusal, has_fault, too_large, no_memory, IsFrontAnswer, shown, no_fault, memory_error}
 use Rattle.vcd_text.specs.inside.Spaces.{is_closed}
@@ -30,14 +30,14 @@ use Rattle.vcd_text.proofs.WordLaws.{feeds_both, no_feeds, word_part}
 
 -- ---- line feeds
 
-line_one : (b line : ℕ) → line_behind b line ≡ line + feeds (b ∷ [])
+line_one : (b line : ℕ) → line_after b line ≡ line + feeds (b ∷ [])
 line_one b line = by_test (b == 10)
   where
     by_test : (t : Bool) → cond t (line + 1) line ≡ line + (0 + cond t 1 0)
     by_test true = omega arith
     by_test false = omega arith
 
-line_more : (b line : ℕ) (bs : List ℕ) → line_behind b line + feeds bs ≡ line + feeds (b ∷ bs)
+line_more : (b line : ℕ) (bs : List ℕ) → line_after b line + feeds bs ≡ line + feeds (b ∷ bs)
 line_more b line bs = let all : feeds (b ∷ bs) ≡ feeds (b ∷ []) + feeds bs = feeds_both (b ∷ []) bs in omega (arith, all, line_one b line)
 
 -- ---- text up to white space
@@ -55,16 +55,16 @@ some_word : (line b : ℕ) (bs : List ℕ) → is_closed (b ∷ bs) ≡ true →
 unfolding words_from
 some_word line b [] closed black = let no : false ≡ true = sym black ∙ closed in absurd (cc)
 some_word line b (c ∷ bs) closed black =
-    subst (λ s. 0 < length (with_byte s (is_white_space c) b line (words_from true (line_behind b line) (c ∷ bs)))) (sym black) (by_test (is_white_space c) refl (λ e. some_word (line_behind b line) c bs closed e))
+    subst (λ s. 0 < length (with_byte s (is_white_space c) b line (words_from true (line_after b line) (c ∷ bs)))) (sym black) (by_test (is_white_space c) refl (λ e. some_word (line_after b line) c bs closed e))
   where
     longer : (ws : List PlacedWord) → 0 < length ws → 0 < length (with_longer_first b line ws)
     longer [] some = absurd (omega arith)
     longer (w ∷ ws) some = omega arith
 
-    by_test : (t : Bool) → is_white_space c ≡ t → (is_white_space c ≡ false → 0 < length (words_from true (line_behind b line) (c ∷ bs)))
-        → 0 < length (with_byte false t b line (words_from true (line_behind b line) (c ∷ bs)))
+    by_test : (t : Bool) → is_white_space c ≡ t → (is_white_space c ≡ false → 0 < length (words_from true (line_after b line) (c ∷ bs)))
+        → 0 < length (with_byte false t b line (words_from true (line_after b line) (c ∷ bs)))
     by_test true e some = omega arith
-    by_test false e some = longer (words_from true (line_behind b line) (c ∷ bs)) (some e)
+    by_test false e some = longer (words_from true (line_after b line) (c ∷ bs)) (some e)
 
 -- a byte before words and others
 byte_first : (space last : Bool) (b line : ℕ) (ws more : List PlacedWord) → (space ≡ false → last ≡ false → 0 < length ws)
@@ -80,14 +80,14 @@ pub words_closed : (whole : Bool) (line : ℕ) (text rest : List ℕ) → is_clo
 unfolding words_from
 words_closed whole line [] rest closed = let same : line ≡ line + feeds [] = omega arith in ap (λ n. words_from whole n rest) same
 words_closed whole line (b ∷ []) rest closed =
-    ap (λ s. with_byte s (ends_before whole rest) b line (words_from whole (line_behind b line) rest)) closed
+    ap (λ s. with_byte s (ends_before whole rest) b line (words_from whole (line_after b line) rest)) closed
     ∙ ap (λ n. words_from whole n rest) (line_one b line)
     ∙ ap (λ s. with_byte s true b line [] ++ words_from whole (line + feeds (b ∷ [])) rest) (sym closed)
 words_closed whole line (b ∷ c ∷ text) rest closed =
-    ap (with_byte (is_white_space b) (is_white_space c) b line) (words_closed whole (line_behind b line) (c ∷ text) rest closed)
-    ∙ byte_first (is_white_space b) (is_white_space c) b line (words_from true (line_behind b line) (c ∷ text)) (words_from whole (line_behind b line + feeds (c ∷ text)) rest)
-    (λ _ last. some_word (line_behind b line) c text closed last)
-    ∙ ap (λ n. with_byte (is_white_space b) (is_white_space c) b line (words_from true (line_behind b line) (c ∷ text)) ++ words_from whole n rest) (line_more b line (c ∷ text))
+    ap (with_byte (is_white_space b) (is_white_space c) b line) (words_closed whole (line_after b line) (c ∷ text) rest closed)
+    ∙ byte_first (is_white_space b) (is_white_space c) b line (words_from true (line_after b line) (c ∷ text)) (words_from whole (line_after b line + feeds (c ∷ text)) rest)
+    (λ _ last. some_word (line_after b line) c text closed last)
+    ∙ ap (λ n. with_byte (is_white_space b) (is_white_space c) b line (words_from true (line_after b line) (c ∷ text)) ++ words_from whole n rest) (line_more b line (c ∷ text))
 
 -- ---- one more chunk
 
@@ -105,7 +105,7 @@ module _ (m : Reader) (word : List ℕ) (passed left : ℕ) (bytes : List ℕ) (
       ≡ closed_words bytes ++ (words_from true (passed + 1) front ++ words_from whole ((passed + feeds front) + 1) (back ++ rest))
   words_now whole rest =
       ap (words_from whole 1) (append_assoc bytes chunk rest)
-      ∙ taken.behind whole (chunk ++ rest)
+      ∙ taken.following whole (chunk ++ rest)
       ∙ ap (λ text. closed_words bytes ++ words_from whole (passed + 1) text)
       (sym (append_assoc word chunk rest) ∙ ap (λ text. text ++ rest) (sym (take-append-drop len (word ++ chunk))) ∙ append_assoc front back rest)
       ∙ ap (λ words. closed_words bytes ++ words) (words_closed whole (passed + 1) front (back ++ rest) closed)
@@ -124,7 +124,7 @@ module _ (m : Reader) (word : List ℕ) (passed left : ℕ) (bytes : List ℕ) (
       → HasTaken new back (passed + feeds front) rest (bytes ++ chunk)
   taken_now new rest fits reads = record {
     reads = subst (Reads new) (sym closed_now) reads;
-    behind = λ whole more. words_now whole more ∙ sym (append_assoc (closed_words bytes) (words_from true (passed + 1) front) (words_from whole ((passed + feeds front) + 1) (back ++ more)))
+    following = λ whole more. words_now whole more ∙ sym (append_assoc (closed_words bytes) (words_from true (passed + 1) front) (words_from whole ((passed + feeds front) + 1) (back ++ more)))
         ∙ ap (λ words. words ++ words_from whole ((passed + feeds front) + 1) (back ++ more)) (sym closed_now);
     black = black;
     short = omega (arith, length-append bytes chunk, length-append word chunk, length-drop {A = ℕ} len (word ++ chunk), taken.short);
@@ -133,9 +133,9 @@ module _ (m : Reader) (word : List ℕ) (passed left : ℕ) (bytes : List ℕ) (
         let text = feeds_both word chunk in
         let parts = ap feeds (sym (take-append-drop len (word ++ chunk))) ∙ feeds_both front back in
         let none = no_feeds word taken.black in
-        let none_behind = no_feeds back black in
+        let none_after = no_feeds back black in
         let before = taken.lines in
-        omega (arith, all, text, parts, none, none_behind, before);
+        omega (arith, all, text, parts, none, none_after, before);
     room = omega (arith, taken.room, fits, length-append bytes chunk);
   }
 
@@ -151,7 +151,7 @@ pub nothing_taken : (m : Reader) (word : List ℕ) → word ≡ [] → Reads m [
 unfolding words_from
 nothing_taken m word none reads = record {
   reads = reads;
-  behind = λ whole rest. ap (λ w. words_from whole 1 (w ++ rest)) (sym none);
+  following = λ whole rest. ap (λ w. words_from whole 1 (w ++ rest)) (sym none);
   black = ap (list_all (λ b. not (is_white_space b))) none;
   short = omega (arith, ap (length {A = ℕ}) none);
   lines = refl;
@@ -161,7 +161,7 @@ nothing_taken m word none reads = record {
 -- the words so far, and the one that nothing follows now
 pub all_words : (m : Reader) (word : List ℕ) (passed left : ℕ) (bytes : List ℕ) → HasTaken m word passed left bytes → closed_words bytes ++ words_from true (passed + 1) word ≡ words_of bytes
 all_words m word passed left bytes taken =
-    ap (λ text. closed_words bytes ++ words_from true (passed + 1) text) (sym (append-nil word)) ∙ sym (taken.behind true []) ∙ ap (words_from true 1) (append-nil bytes)
+    ap (λ text. closed_words bytes ++ words_from true (passed + 1) text) (sym (append-nil word)) ∙ sym (taken.following true []) ∙ ap (words_from true 1) (append-nil bytes)
 
 -- so all words of the bytes have been taken, or one shows a fault
 pub last_taken : (m new : Reader) (word : List ℕ) (passed left : ℕ) (bytes : List ℕ) (words : List PlacedWord) → HasTaken m word passed left bytes → words ≡ words_from true (passed + 1) word
@@ -236,7 +236,7 @@ of_all (Some xs) None bytes P consumes ends holds = absurd consumes
 of_all (Some xs) (Some ys) bytes P consumes ends holds = subst P (sym (consumes ∙ ap (λ ys. bytes ++ ys) ends ∙ append-nil bytes)) holds
 
 -- no word shows that a reader failed
-by_declaration : (c : Context) (begun : List (List ℕ)) (word : List ℕ) (fault : Fault) → fault ≡ faults.ReadFault → DeclarationFault c begun word fault → ⊥
+by_declaration : (c : ParseState) (begun : List (List ℕ)) (word : List ℕ) (fault : Fault) → fault ≡ faults.ReadFault → DeclarationFault c begun word fault → ⊥
 by_declaration c begun word fault is (no_declaration p q r) = absurd (cc)
 by_declaration c begun word fault is (no_timescale words p q s t r) = absurd (cc)
 by_declaration c begun word fault is (no_kind p q r) = absurd (cc)
@@ -248,7 +248,7 @@ by_declaration c begun word fault is (code_mixed words d p q s t u v r) = absurd
 by_declaration c begun word fault is (no_room words d p q s t u v w r) = absurd (cc)
 by_declaration c begun word fault is (definitions_go_on p q r) = absurd (cc)
 
-by_change : (c : Context) (begun : List (List ℕ)) (word : List ℕ) (fault : Fault) → fault ≡ faults.ReadFault → ChangeFault c begun word fault → ⊥
+by_change : (c : ParseState) (begun : List (List ℕ)) (word : List ℕ) (fault : Fault) → fault ≡ faults.ReadFault → ChangeFault c begun word fault → ⊥
 by_change c begun word fault is (no_tick digits p q s r) = absurd (cc)
 by_change c begun word fault is (tick_goes_back digits p q s t r) = absurd (cc)
 by_change c begun word fault is (value_alone digit p q s r) = absurd (cc)
@@ -259,17 +259,17 @@ by_change c begun word fault is (value_too_long first digits d p q s t u v r) = 
 by_change c begun word fault is (declaration_late p q r) = absurd (cc)
 by_change c begun word fault is (no_change first text p q s t r) = absurd (cc)
 
-by_word : (c : Context) (begun : List (List ℕ)) (word : List ℕ) (fault : Fault) → fault ≡ faults.ReadFault → WordFault c begun word fault → ⊥
+by_word : (c : ParseState) (begun : List (List ℕ)) (word : List ℕ) (fault : Fault) → fault ≡ faults.ReadFault → WordFault c begun word fault → ⊥
 by_word c begun word fault is (among_declarations declares shows) = by_declaration c begun word fault is shows
 by_word c begun word fault is (among_changes changes shows) = by_change c begun word fault is shows
 
 pub is_no_failure : (bytes : List ℕ) (e : ReadError) → (e ≡ memory_error) ⊎ FrontFault bytes e.line e.fault → e.fault ≡ faults.ReadFault → ⊥
 is_no_failure bytes e (inl none) is = let fault : e.fault ≡ faults.NoMemory = ap (λ (e : ReadError). e.fault) none in absurd (cc)
-is_no_failure bytes e (inr shows) is = by_word (told_after nothing_told shows.items) (word_texts shows.begun) shows.word.text e.fault is shows.decided
+is_no_failure bytes e (inr shows) is = by_word (state_after initial_state shows.items) (word_texts shows.begun) shows.word.text e.fault is shows.decided
 
 pub is_no_file_failure : (bytes : List ℕ) (e : ReadError) → (e ≡ memory_error) ⊎ FileFault bytes e.line e.fault → e.fault ≡ faults.ReadFault → ⊥
 is_no_file_failure bytes e (inl none) is = let fault : e.fault ≡ faults.NoMemory = ap (λ (e : ReadError). e.fault) none in absurd (cc)
-is_no_file_failure bytes e (inr (word_shown shows)) is = by_word (told_after nothing_told shows.items) (word_texts shows.begun) shows.word.text e.fault is shows.decided
+is_no_file_failure bytes e (inr (word_shown shows)) is = by_word (state_after initial_state shows.items) (word_texts shows.begun) shows.word.text e.fault is shows.decided
 is_no_file_failure bytes e (inr (too_early stops line fault)) is = absurd (cc)
 
 -- ---- a chunk behind what has been taken

@@ -12,7 +12,7 @@ use Rattle.vcd_core.specs.Wave.{value_from, AreChangesFrom}
 use Rattle.vcd_core.specs.Contents.{SignalContents, signal_value}
 use Rattle.vcd_core.specs.Sound.{IsSoundSignal}
 use Rattle.vcd_core.proofs.Waves.{value_past, value_skip, value_early}
-use Rattle.vcd_text.specs.inside.Transitions.{Transition, transition_of, transitions_at, transitions_from, is_in_window, window_of_signal, window_by_signal}
+use Rattle.vcd_text.specs.inside.Transitions.{Transition, transition_of, transitions_at, transitions_from, is_in_window, window_of_signal, unsorted_window}
 use Rattle.vcd_text.specs.Text.{differs_at}
 use Rattle.vcd_text.proofs.Sorting.{counted, once, times, times-append, RisesFrom}
 
@@ -125,8 +125,8 @@ both_false : (b : Bool) → (b && false) ≡ false
 both_false true = refl
 both_false false = refl
 
-pub behind_window : (from to t : ℕ) → to ≤ t → is_in_window from to t ≡ false
-behind_window from to t late = ap (λ b. nat_le from t && b) (le-ltb t to late) ∙ both_false (nat_le from t)
+pub after_window : (from to t : ℕ) → to ≤ t → is_in_window from to t ≡ false
+after_window from to t late = ap (λ b. nat_le from t && b) (le-ltb t to late) ∙ both_false (nat_le from t)
 
 pub window_bounds : (from to t : ℕ) → is_in_window from to t ≡ true → (from ≤ t) × (t < to)
 window_bounds from to t is =
@@ -134,7 +134,7 @@ window_bounds from to t is =
       | inl early ↦ let wrong : true ≡ false = sym is ∙ before_window from to t early in absurd (cc)
       | inr low ↦ elim (cases_lt t to) [
         | inl high ↦ (low, high)
-        | inr late ↦ let wrong : true ≡ false = sym is ∙ behind_window from to t late in absurd (cc)
+        | inr late ↦ let wrong : true ≡ false = sym is ∙ after_window from to t late in absurd (cc)
       ]
     ]
 
@@ -231,30 +231,30 @@ signal_differs end t s sound =
     let before : suc t - 1 ≡ t = omega arith in
     differs_where 0 t (all_x s.width) s.changes sound.wave.rise ∙ ap (λ u. differ (signal_value s (suc t)) (signal_value s u)) (sym before)
 
-listed_inside : (end from to t k j : ℕ) (ss : List SignalContents) → from ≤ suc t → suc t < to → All (IsSoundSignal end) ss → times (suc t) k (window_by_signal from to j ss) ≡ marks (suc t) k j ss
-unfolding window_by_signal
+listed_inside : (end from to t k j : ℕ) (ss : List SignalContents) → from ≤ suc t → suc t < to → All (IsSoundSignal end) ss → times (suc t) k (unsorted_window from to j ss) ≡ marks (suc t) k j ss
+unfolding unsorted_window
 listed_inside end from to t k j [] low high sound = refl
 listed_inside end from to t k j (s ∷ ss) low high sound =
-    times-append (suc t) k (window_of_signal from to j s.changes) (window_by_signal from to (j + 1) ss)
-    ∙ ap (λ n. n + times (suc t) k (window_by_signal from to (j + 1) ss))
+    times-append (suc t) k (window_of_signal from to j s.changes) (unsorted_window from to (j + 1) ss)
+    ∙ ap (λ n. n + times (suc t) k (unsorted_window from to (j + 1) ss))
     (times_inside from to (suc t) k j s.changes low high ∙ ap (if_so (j == k)) (signal_differs end t s (All-head (IsSoundSignal end) s ss sound)))
     ∙ ap (λ n. if_so (j == k) (counted (differs_at (suc t) s)) + n) (listed_inside end from to t k (j + 1) ss low high (All-tail (IsSoundSignal end) s ss sound))
 
-listed_outside : (from to t k j : ℕ) (ss : List SignalContents) → is_in_window from to t ≡ false → times t k (window_by_signal from to j ss) ≡ 0
-unfolding window_by_signal
+listed_outside : (from to t k j : ℕ) (ss : List SignalContents) → is_in_window from to t ≡ false → times t k (unsorted_window from to j ss) ≡ 0
+unfolding unsorted_window
 listed_outside from to t k j [] out = refl
 listed_outside from to t k j (s ∷ ss) out =
-    times-append t k (window_of_signal from to j s.changes) (window_by_signal from to (j + 1) ss)
+    times-append t k (window_of_signal from to j s.changes) (unsorted_window from to (j + 1) ss)
     ∙ omega (arith, times_outside from to t k j s.changes out, listed_outside from to t k (j + 1) ss out)
 
-pub same_times : (end from n : ℕ) (ss : List SignalContents) → 1 ≤ from → All (IsSoundSignal end) ss → (t k : ℕ) → times t k (window_by_signal from (from + n) 0 ss) ≡ times t k (transitions_from ss from n)
+pub same_times : (end from n : ℕ) (ss : List SignalContents) → 1 ≤ from → All (IsSoundSignal end) ss → (t k : ℕ) → times t k (unsorted_window from (from + n) 0 ss) ≡ times t k (transitions_from ss from n)
 same_times end from n ss some sound zero k = listed_outside from (from + n) 0 k 0 ss (before_window from (from + n) 0 (omega arith)) ∙ sym (earlier ss from n 0 k (omega arith))
 same_times end from n ss some sound (suc t) k =
     elim (cases_lt (suc t) from) [
       | inl early ↦ listed_outside from (from + n) (suc t) k 0 ss (before_window from (from + n) (suc t) early) ∙ sym (earlier ss from n (suc t) k early)
       | inr not_early ↦ elim (cases_lt (suc t) (from + n)) [
         | inl inside ↦ listed_inside end from (from + n) t k 0 ss not_early inside sound ∙ sym (within ss from n (suc t) k not_early inside)
-        | inr late ↦ listed_outside from (from + n) (suc t) k 0 ss (behind_window from (from + n) (suc t) late) ∙ sym (later ss from n (suc t) k late)
+        | inr late ↦ listed_outside from (from + n) (suc t) k 0 ss (after_window from (from + n) (suc t) late) ∙ sym (later ss from n (suc t) k late)
       ]
     ]
 
@@ -280,14 +280,14 @@ one_of_signal t j (c ∷ cs) = step (is_in_window t (t + 1) c.tick) refl (one_of
     step false is rest = omega (arith, rest)
 
 -- at one tick each signal changes once at most
-pub one_tick_within : (end t j : ℕ) (ss : List SignalContents) → 1 ≤ t → All (IsSoundSignal end) ss → length (window_by_signal t (t + 1) j ss) ≤ length ss
-unfolding window_by_signal
+pub one_tick_within : (end t j : ℕ) (ss : List SignalContents) → 1 ≤ t → All (IsSoundSignal end) ss → length (unsorted_window t (t + 1) j ss) ≤ length ss
+unfolding unsorted_window
 one_tick_within end t j [] some sound = omega arith
 one_tick_within end zero j (s ∷ ss) some sound = absurd (omega arith)
 one_tick_within end (suc t) j (s ∷ ss) some sound =
     omega (
       arith,
-      length-append (window_of_signal (suc t) (suc t + 1) j s.changes) (window_by_signal (suc t) (suc t + 1) (j + 1) ss),
+      length-append (window_of_signal (suc t) (suc t + 1) j s.changes) (unsorted_window (suc t) (suc t + 1) (j + 1) ss),
       one_of_signal (suc t) j s.changes,
       count_within end t s (All-head (IsSoundSignal end) s ss sound),
       one_tick_within end (suc t) (j + 1) ss some (All-tail (IsSoundSignal end) s ss sound),

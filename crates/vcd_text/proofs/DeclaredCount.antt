@@ -5,12 +5,12 @@ use Rattle.std.proofs.lemmas.List.{length-append, length-map}
 use Rattle.std.proofs.lemmas.List.Sums.{count_by-le-length}
 use Rattle.vcd_text.specs.Words.{PlacedWord}
 use Rattle.vcd_text.specs.Items.{Item, entry, timescale, scope, upscope, variable, end_definitions, stamp, scalar, vector, real_or_string, bracket, other, spelling, spellings}
-use Rattle.vcd_text.specs.Grammar.{Context, told_after, told_after_item, nothing_told, is_skipped, declaration_of}
+use Rattle.vcd_text.specs.Grammar.{ParseState, state_after, state_after_item, initial_state, is_skipped, declaration_of}
 use Rattle.vcd_text.specs.inside.Reading.{IsUnderway}
 use Rattle.vcd_text.specs.declared.reading.reader.Reader.{Reader}
 
 -- an item declares one variable at most
-declared_more : (c : Context) (i : Item) → length (told_after_item c i).declared ≤ length c.declared + 1
+declared_more : (c : ParseState) (i : Item) → length (state_after_item c i).declared ≤ length c.declared + 1
 declared_more c (entry kind words) = omega arith
 declared_more c (timescale words) = omega arith
 declared_more c (scope kind words) = omega arith
@@ -26,9 +26,9 @@ declared_more c (bracket text) = omega arith
 declared_more c (other text words) = omega arith
 
 -- and so do items in a row
-declared_by : (c : Context) (is : List Item) → length (told_after c is).declared ≤ length c.declared + length is
+declared_by : (c : ParseState) (is : List Item) → length (state_after c is).declared ≤ length c.declared + length is
 declared_by c [] = omega arith
-declared_by c (i ∷ is) = omega (arith, declared_by (told_after_item c i) is, declared_more c i)
+declared_by c (i ∷ is) = omega (arith, declared_by (state_after_item c i) is, declared_more c i)
 
 -- an item has a word
 has_words : (i : Item) → 0 < length (spelling i)
@@ -56,6 +56,6 @@ few_declared m r =
     let s = r.reads in
     let skipped : m.variables.skipped ≤ length s.told.declared = omega (arith, s.at.0.variables.skipped, count_by-le-length is_skipped s.told.declared) in
     let declared : length s.told.declared ≤ 0 + length s.items =
-    subst (λ (c : Context). length c.declared ≤ 0 + length s.items) s.tells (declared_by nothing_told s.items) in
+    subst (λ (c : ParseState). length c.declared ≤ 0 + length s.items) s.tells (declared_by initial_state s.items) in
     let spelled : length s.items ≤ length s.whole = omega (arith, fewer_items s.items, ap length s.spelled, length-map s.whole (λ (w : PlacedWord). w.text)) in
     omega (arith, ap length s.parts, length-append s.whole s.begun, r.few)

@@ -9,7 +9,7 @@ use Rattle.vcd_core.specs.declared.value.TheConstants.{WIDTH_LIMIT}
 use Rattle.vcd_core.specs.Contents.{Contents, SignalContents}
 use Rattle.vcd_core.specs.Sound.{IsSoundSignal}
 use Rattle.vcd_core.specs.Word.{is_skipped_kind}
-use Rattle.vcd_text.specs.Grammar.{Context, VariableDeclaration, is_skipped, kept_variables}
+use Rattle.vcd_text.specs.Grammar.{ParseState, VariableDeclaration, is_skipped, kept_variables}
 use Rattle.vcd_text.specs.Text.{code_of}
 use Rattle.vcd_text.proofs.CodesDiffer.{codes_differ}
 
@@ -23,8 +23,8 @@ declared_of k [] = []
 declared_of k (s ∷ ss) = declared_as k s ∷ declared_of (suc k) ss
 
 -- what a capture's text has told in front of the values
-abbrev pub declared_context : Contents → Context
-declared_context c = record {
+abbrev pub declared_state : Contents → ParseState
+declared_state c = record {
   header = c.header;
   timescale = c.timescale;
   scopes = [];

@@ -18,19 +18,19 @@ use Rattle.vcd_text.specs.declared.fault.Fault.TheVariants as faults
 use Rattle.vcd_core.specs.declared.value.TheConstants.{WIDTH_LIMIT}
 use Rattle.vcd_core.specs.Decimal.{number_of}
 use Rattle.vcd_core.specs.Word.{is_skipped_kind}
-use Rattle.vcd_text.specs.Grammar.{VariableDeclaration, ValueChange, Context, is_skipped, kept_variables, variable_of, may_have_code, has_room}
+use Rattle.vcd_text.specs.Grammar.{VariableDeclaration, ValueChange, ParseState, is_skipped, kept_variables, variable_of, may_have_code, has_room}
 use Rattle.vcd_text.specs.Meaning.{latest_value}
 use Rattle.vcd_text.specs.inside.ChangeLog.{GivesLoggedValues, logged, AreGrouped}
 use Rattle.vcd_text.specs.declared.reading.change_log.LoggedChange.{LoggedChange}
 use Rattle.vcd_text.specs.declared.reading.change_log.ChangeLog.{ChangeLog}
 use Rattle.vcd_text.proofs.LoggedValues.{gives_as, gives_nothing}
-use Rattle.vcd_text.specs.inside.Variables.{declaration, declaration_in, without_scopes, owner_of, HasWave, Stands, HasFirst, HasLogs, Knows, with_declaration, mixed, many, DeclaresAs, code_mixed, no_room, Declares}
-use Rattle.vcd_text.specs.declared.reading.owners.Owners.{Owners}
-use Rattle.vcd_text.specs.declared.reading.variables.Owner.{Owner}
-use Rattle.vcd_text.specs.declared.reading.variables.Owner.TheVariants.{Skipped, Kept}
+use Rattle.vcd_text.specs.inside.Variables.{declaration, declaration_in, without_scopes, target_of, HasWave, TargetMatches, HasFirst, HasLogs, VariablesMatch, with_declaration, mixed, many, DeclaresAs, code_mixed, no_room, Declares}
+use Rattle.vcd_text.specs.declared.reading.code_targets.CodeTargets.{CodeTargets}
+use Rattle.vcd_text.specs.declared.reading.variables.CodeTarget.{CodeTarget}
+use Rattle.vcd_text.specs.declared.reading.variables.CodeTarget.TheVariants.{Skipped, Kept}
 use Rattle.vcd_text.specs.declared.reading.variables.Variable.{Variable}
 use Rattle.vcd_text.specs.declared.reading.variables.Variables.{Variables}
-use Rattle.vcd_text.proofs.Owners.{own_code, by_code, stands_kept, stands_moved, found_with}
+use Rattle.vcd_text.proofs.CodeTargets.{own_code, by_code, stands_kept, stands_moved, found_with}
 
 -- ---- lists with one item more
 
@@ -76,61 +76,61 @@ same_number : (n : ℕ) → (n == n) ≡ true
 same_number n = grind arith
 
 -- as many variables are kept as were declared to be
-pub kept_long : (vs : Variables) (c : Context) → Knows vs c → length (kept_variables c.declared) ≡ length vs.kept.items
+pub kept_long : (vs : Variables) (c : ParseState) → VariablesMatch vs c → length (kept_variables c.declared) ≡ length vs.kept.items
 kept_long vs c k = sym (length-map (kept_variables c.declared) without_scopes) ∙ ap (length {A = VariableDeclaration}) k.kept ∙ length-map vs.kept.items declaration
 
 -- ---- what codes stand for, with one variable more
 
 module _ (log : ℕ → List LoggedChange) (value_changes : List ValueChange) (tick : ℕ) where
   -- a variable behind the others takes nothing from a code
-  stands_longer : (vs more : List Variable) (code : List ℕ) (owner : Option Owner) (declared : Option VariableDeclaration)
-      → Stands vs log value_changes tick code owner declared → Stands (vs ++ more) log value_changes tick code owner declared
-  stands_longer vs more code owner declared s =
-      stands_moved vs (vs ++ more) log log value_changes value_changes tick tick code owner declared
+  stands_longer : (vs more : List Variable) (code : List ℕ) (target : Option CodeTarget) (declared : Option VariableDeclaration)
+      → TargetMatches vs log value_changes tick code target declared → TargetMatches (vs ++ more) log value_changes tick code target declared
+  stands_longer vs more code target declared s =
+      stands_moved vs (vs ++ more) log log value_changes value_changes tick tick code target declared
       (λ position size _ w. record { first = w.first; stands = stays vs more position w.first w.stands; coded = w.coded; sized = w.sized; gives = w.gives }) s
 
   -- a later declaration of another code takes nothing from a code
-  stands_still : (vs : List Variable) (code : List ℕ) (owner : Option Owner) (declared : Option VariableDeclaration)
-      → Stands vs log value_changes tick code owner declared → Stands vs log value_changes tick code owner (option_or declared None)
-  stands_still vs code owner None s = s
-  stands_still vs code owner (Some d) s = s
+  stands_still : (vs : List Variable) (code : List ℕ) (target : Option CodeTarget) (declared : Option VariableDeclaration)
+      → TargetMatches vs log value_changes tick code target declared → TargetMatches vs log value_changes tick code target (option_or declared None)
+  stands_still vs code target None s = s
+  stands_still vs code target (Some d) s = s
 
 -- the code of a declaration stands for this from now on, and the others for what they stood for
-abbrev pub Puts : (old new : Variables) → List ℕ → Owner → Type 0
-Puts old new code owner = (key : List ℕ) → owner_of new key ≡ (if bytes_eq key code then Some owner else owner_of old key)
+abbrev pub Puts : (old new : Variables) → List ℕ → CodeTarget → Type 0
+Puts old new code target = (key : List ℕ) → target_of new key ≡ (if bytes_eq key code then Some target else target_of old key)
 
 -- so it is where the code stands for it already
-pub puts_same : (old new : Variables) (code : List ℕ) (owner : Owner) → new.owners ≡ old.owners → owner_of old code ≡ Some owner → Puts old new code owner
-puts_same old new code owner same had = λ key.
-    let here : owner_of new key ≡ owner_of old key = ap (λ (m : Owners). get_by (λ v. bytes_eq key v.items) m.codes) same in
-    by_code (λ b. owner_of new key ≡ (if b then Some owner else owner_of old key)) key code
-    (λ is. here ∙ ap (owner_of old) is ∙ had) (λ _. here)
+pub puts_same : (old new : Variables) (code : List ℕ) (target : CodeTarget) → new.code_targets ≡ old.code_targets → target_of old code ≡ Some target → Puts old new code target
+puts_same old new code target same had = λ key.
+    let here : target_of new key ≡ target_of old key = ap (λ (m : CodeTargets). get_by (λ v. bytes_eq key v.items) m.codes) same in
+    by_code (λ b. target_of new key ≡ (if b then Some target else target_of old key)) key code
+    (λ is. here ∙ ap (target_of old) is ∙ had) (λ _. here)
 
 -- ---- a variable that is skipped
 
-module _ (old new : Variables) (c : Context) (d : VariableDeclaration) (k : Knows old c) (items : new.kept.items ≡ old.kept.items) (skipped : is_skipped d ≡ true)
+module _ (old new : Variables) (c : ParseState) (d : VariableDeclaration) (k : VariablesMatch old c) (items : new.kept.items ≡ old.kept.items) (skipped : is_skipped d ≡ true)
     (widths : new.widths.items ≡ old.widths.items) (log : new.log ≡ old.log)
-    (free : (owner_of old d.code ≡ None) ⊎ (owner_of old d.code ≡ Some Skipped)) (puts : Puts old new d.code Skipped) where
-  skip_here : (v : Option VariableDeclaration) → Stands old.kept.items (logged old.log.groups.items) c.value_changes c.tick d.code (owner_of old d.code) v
-      → Stands old.kept.items (logged old.log.groups.items) c.value_changes c.tick d.code (Some Skipped) (option_or v (Some d))
+    (free : (target_of old d.code ≡ None) ⊎ (target_of old d.code ≡ Some Skipped)) (puts : Puts old new d.code Skipped) where
+  skip_here : (v : Option VariableDeclaration) → TargetMatches old.kept.items (logged old.log.groups.items) c.value_changes c.tick d.code (target_of old d.code) v
+      → TargetMatches old.kept.items (logged old.log.groups.items) c.value_changes c.tick d.code (Some Skipped) (option_or v (Some d))
   skip_here None s = skipped
   skip_here (Some e) s = elim free [
-    | inl none ↦ absurd (subst (λ o. Stands old.kept.items (logged old.log.groups.items) c.value_changes c.tick d.code o (Some e)) none s)
-    | inr had ↦ subst (λ o. Stands old.kept.items (logged old.log.groups.items) c.value_changes c.tick d.code o (Some e)) had s
+    | inl none ↦ absurd (subst (λ o. TargetMatches old.kept.items (logged old.log.groups.items) c.value_changes c.tick d.code o (Some e)) none s)
+    | inr had ↦ subst (λ o. TargetMatches old.kept.items (logged old.log.groups.items) c.value_changes c.tick d.code o (Some e)) had s
   ]
 
-  skip_stands : (key : List ℕ) → Stands new.kept.items (logged new.log.groups.items) c.value_changes c.tick key (owner_of new key) (variable_of (with_declaration c d) key)
+  skip_stands : (key : List ℕ) → TargetMatches new.kept.items (logged new.log.groups.items) c.value_changes c.tick key (target_of new key) (variable_of (with_declaration c d) key)
   skip_stands key =
       let both =
-      by_code (λ b. Stands old.kept.items (logged old.log.groups.items) c.value_changes c.tick key (if b then Some Skipped else owner_of old key) (option_or (variable_of c key) (if b then Some d else None))) key d.code
-      (λ is. subst (λ code. Stands old.kept.items (logged old.log.groups.items) c.value_changes c.tick code (Some Skipped) (option_or (variable_of c code) (Some d))) (sym is) (skip_here (variable_of c d.code) (k.stand d.code)))
-      (λ _. stands_still (logged old.log.groups.items) c.value_changes c.tick old.kept.items key (owner_of old key) (variable_of c key) (k.stand key)) in
-      subst (λ (l : ChangeLog). Stands new.kept.items (logged l.groups.items) c.value_changes c.tick key (owner_of new key) (variable_of (with_declaration c d) key)) (sym log)
-      (subst (λ (vs : List Variable). Stands vs (logged old.log.groups.items) c.value_changes c.tick key (owner_of new key) (variable_of (with_declaration c d) key)) (sym items)
-      (subst (λ o. Stands old.kept.items (logged old.log.groups.items) c.value_changes c.tick key o (variable_of (with_declaration c d) key)) (sym (puts key))
-      (subst (Stands old.kept.items (logged old.log.groups.items) c.value_changes c.tick key (if bytes_eq key d.code then Some Skipped else owner_of old key)) (sym (found_with key c.declared d)) both)))
+      by_code (λ b. TargetMatches old.kept.items (logged old.log.groups.items) c.value_changes c.tick key (if b then Some Skipped else target_of old key) (option_or (variable_of c key) (if b then Some d else None))) key d.code
+      (λ is. subst (λ code. TargetMatches old.kept.items (logged old.log.groups.items) c.value_changes c.tick code (Some Skipped) (option_or (variable_of c code) (Some d))) (sym is) (skip_here (variable_of c d.code) (k.stand d.code)))
+      (λ _. stands_still (logged old.log.groups.items) c.value_changes c.tick old.kept.items key (target_of old key) (variable_of c key) (k.stand key)) in
+      subst (λ (l : ChangeLog). TargetMatches new.kept.items (logged l.groups.items) c.value_changes c.tick key (target_of new key) (variable_of (with_declaration c d) key)) (sym log)
+      (subst (λ (vs : List Variable). TargetMatches vs (logged old.log.groups.items) c.value_changes c.tick key (target_of new key) (variable_of (with_declaration c d) key)) (sym items)
+      (subst (λ o. TargetMatches old.kept.items (logged old.log.groups.items) c.value_changes c.tick key o (variable_of (with_declaration c d) key)) (sym (puts key))
+      (subst (TargetMatches old.kept.items (logged old.log.groups.items) c.value_changes c.tick key (if bytes_eq key d.code then Some Skipped else target_of old key)) (sym (found_with key c.declared d)) both)))
 
-  not_kept : (first : ℕ) → owner_of old d.code ≡ Some (Kept first) → ⊥
+  not_kept : (first : ℕ) → target_of old d.code ≡ Some (Kept first) → ⊥
   not_kept first had = elim free [
     | inl none ↦ let no : None ≡ Some (Kept first) = sym none ∙ had in absurd (cc)
     | inr other ↦ let no : Some Skipped ≡ Some (Kept first) = sym other ∙ had in absurd (cc)
@@ -141,13 +141,13 @@ module _ (old new : Variables) (c : Context) (d : VariableDeclaration) (k : Know
       let before = k.firsts position v (subst (λ vs. slice_get vs position ≡ Some v) items at) in
       record {
         owned = puts v.code
-            ∙ by_code (λ b. (if b then Some Skipped else owner_of old v.code) ≡ Some (Kept v.first)) v.code d.code
-            (λ is. absurd (not_kept v.first (ap (owner_of old) (sym is) ∙ before.owned))) (λ _. before.owned);
+            ∙ by_code (λ b. (if b then Some Skipped else target_of old v.code) ≡ Some (Kept v.first)) v.code d.code
+            (λ is. absurd (not_kept v.first (ap (target_of old) (sym is) ∙ before.owned))) (λ _. before.owned);
         no_later = before.no_later;
         same_size = λ w there. before.same_size w (subst (λ vs. slice_get vs v.first ≡ Some w) items there);
       }
 
-  skip_may : (v : Option VariableDeclaration) → Stands old.kept.items (logged old.log.groups.items) c.value_changes c.tick d.code (owner_of old d.code) v → may_have_code v d ≡ true
+  skip_may : (v : Option VariableDeclaration) → TargetMatches old.kept.items (logged old.log.groups.items) c.value_changes c.tick d.code (target_of old d.code) v → may_have_code v d ≡ true
   skip_may None s = refl
   skip_may (Some e) s =
       let also : is_skipped e ≡ true = skip_here (Some e) s in
@@ -180,17 +180,17 @@ variable_at code s first = record { code = code; signal = s; first = first }
 -- the code is new, or stands for a variable of the same size
 abbrev pub IsFree : Variables → (code : List ℕ) → Signal → (first : ℕ) → Type 0
 IsFree old code s first =
-    ((owner_of old code ≡ None) × (first ≡ length old.kept.items))
-    ⊎ ((owner_of old code ≡ Some (Kept first)) × ((w : Variable) → slice_get old.kept.items first ≡ Some w → w.signal.wave.width ≡ s.wave.width))
+    ((target_of old code ≡ None) × (first ≡ length old.kept.items))
+    ⊎ ((target_of old code ≡ Some (Kept first)) × ((w : Variable) → slice_get old.kept.items first ≡ Some w → w.signal.wave.width ≡ s.wave.width))
 
-module _ (old : Variables) (c : Context) (scopes : List ScopeName) (code : List ℕ) (s : Signal) (first : ℕ) (k : Knows old c)
+module _ (old : Variables) (c : ParseState) (scopes : List ScopeName) (code : List ℕ) (s : Signal) (first : ℕ) (k : VariablesMatch old c)
     (keeps : is_skipped (declaration_in scopes code s) ≡ false) (free : IsFree old code s first) where
-  keep_may : (v : Option VariableDeclaration) → Stands old.kept.items (logged old.log.groups.items) c.value_changes c.tick code (owner_of old code) v → may_have_code v (declaration_in scopes code s) ≡ true
+  keep_may : (v : Option VariableDeclaration) → TargetMatches old.kept.items (logged old.log.groups.items) c.value_changes c.tick code (target_of old code) v → may_have_code v (declaration_in scopes code s) ≡ true
   keep_may None stands = refl
   keep_may (Some e) stands = elim free [
-    | inl (none, end) ↦ absurd (subst (λ o. Stands old.kept.items (logged old.log.groups.items) c.value_changes c.tick code o (Some e)) none stands)
+    | inl (none, end) ↦ absurd (subst (λ o. TargetMatches old.kept.items (logged old.log.groups.items) c.value_changes c.tick code o (Some e)) none stands)
     | inr (had, width) ↦
-        let there = subst (λ o. Stands old.kept.items (logged old.log.groups.items) c.value_changes c.tick code o (Some e)) had stands in
+        let there = subst (λ o. TargetMatches old.kept.items (logged old.log.groups.items) c.value_changes c.tick code o (Some e)) had stands in
         let size : e.size ≡ s.wave.width = sym there.1.sized ∙ width there.1.first there.1.stands in
         let also : is_skipped e ≡ false = there.0 in
         (λ i. (also i && keeps i) || (not (also i) && not (keeps i) && (size i == s.wave.width))) ∙ same_number s.wave.width
@@ -203,7 +203,7 @@ module _ (old : Variables) (c : Context) (scopes : List ScopeName) (code : List 
   keep_full : (new : Variables) → SIGNAL_LIMIT ≤ length old.kept.items → DeclaresAs c (declaration_in scopes code s) (Err faults.TooManySignals) new
   keep_full new full = inr (many (keep_may (variable_of c code) (k.stand code)) (has_room_is false (le-ltb (length old.kept.items) SIGNAL_LIMIT full)) refl)
 
-module _ (old new : Variables) (c : Context) (scopes : List ScopeName) (code : List ℕ) (s : Signal) (first : ℕ) (k : Knows old c) (value_changes : c.value_changes ≡ []) (silent : s.wave.changes ≡ []) (bare : s.scopes ≡ [])
+module _ (old new : Variables) (c : ParseState) (scopes : List ScopeName) (code : List ℕ) (s : Signal) (first : ℕ) (k : VariablesMatch old c) (value_changes : c.value_changes ≡ []) (silent : s.wave.changes ≡ []) (bare : s.scopes ≡ [])
     (keeps : is_skipped (declaration_in scopes code s) ≡ false) (items : new.kept.items ≡ old.kept.items ++ variable_at code s first ∷ [])
     (widths : new.widths.items ≡ old.widths.items ++ s.wave.width ∷ []) (log : new.log ≡ old.log)
     (free : IsFree old code s first)
@@ -230,33 +230,33 @@ module _ (old new : Variables) (c : Context) (scopes : List ScopeName) (code : L
         (λ t. sym (ap (latest_value s.wave.width code t (all_x s.wave.width)) value_changes)) (gives_nothing s.wave.width c.tick)));
   }
 
-  keep_here : (v : Option VariableDeclaration) → Stands old.kept.items (logged old.log.groups.items) c.value_changes c.tick code (owner_of old code) v
-      → Stands (old.kept.items ++ variable_at code s first ∷ []) (logged old.log.groups.items) c.value_changes c.tick code (Some (Kept first)) (option_or v (Some (declaration_in scopes code s)))
+  keep_here : (v : Option VariableDeclaration) → TargetMatches old.kept.items (logged old.log.groups.items) c.value_changes c.tick code (target_of old code) v
+      → TargetMatches (old.kept.items ++ variable_at code s first ∷ []) (logged old.log.groups.items) c.value_changes c.tick code (Some (Kept first)) (option_or v (Some (declaration_in scopes code s)))
   keep_here None stands = elim free [
     | inl (none, end) ↦
         (keeps, subst (λ n. HasWave (old.kept.items ++ variable_at code s first ∷ []) (logged old.log.groups.items) n code s.wave.width c.value_changes c.tick) (sym end) silent_wave)
-    | inr (had, width) ↦ absurd (subst (λ o. Stands old.kept.items (logged old.log.groups.items) c.value_changes c.tick code o None) had stands)
+    | inr (had, width) ↦ absurd (subst (λ o. TargetMatches old.kept.items (logged old.log.groups.items) c.value_changes c.tick code o None) had stands)
   ]
   keep_here (Some e) stands = elim free [
-    | inl (none, end) ↦ absurd (subst (λ o. Stands old.kept.items (logged old.log.groups.items) c.value_changes c.tick code o (Some e)) none stands)
+    | inl (none, end) ↦ absurd (subst (λ o. TargetMatches old.kept.items (logged old.log.groups.items) c.value_changes c.tick code o (Some e)) none stands)
     | inr (had, width) ↦
         stands_longer (logged old.log.groups.items) c.value_changes c.tick old.kept.items (variable_at code s first ∷ []) code (Some (Kept first)) (Some e)
-        (subst (λ o. Stands old.kept.items (logged old.log.groups.items) c.value_changes c.tick code o (Some e)) had stands)
+        (subst (λ o. TargetMatches old.kept.items (logged old.log.groups.items) c.value_changes c.tick code o (Some e)) had stands)
   ]
 
-  keep_stands : (key : List ℕ) → Stands new.kept.items (logged new.log.groups.items) c.value_changes c.tick key (owner_of new key) (variable_of (with_declaration c (declaration_in scopes code s)) key)
+  keep_stands : (key : List ℕ) → TargetMatches new.kept.items (logged new.log.groups.items) c.value_changes c.tick key (target_of new key) (variable_of (with_declaration c (declaration_in scopes code s)) key)
   keep_stands key =
       let all = old.kept.items ++ variable_at code s first ∷ [] in
       let d = declaration_in scopes code s in
       let both =
-      by_code (λ b. Stands all (logged old.log.groups.items) c.value_changes c.tick key (if b then Some (Kept first) else owner_of old key) (option_or (variable_of c key) (if b then Some d else None))) key code
-      (λ is. subst (λ name. Stands all (logged old.log.groups.items) c.value_changes c.tick name (Some (Kept first)) (option_or (variable_of c name) (Some d))) (sym is) (keep_here (variable_of c code) (k.stand code)))
-      (λ _. stands_still (logged old.log.groups.items) c.value_changes c.tick all key (owner_of old key) (variable_of c key)
-      (stands_longer (logged old.log.groups.items) c.value_changes c.tick old.kept.items (variable_at code s first ∷ []) key (owner_of old key) (variable_of c key) (k.stand key))) in
-      subst (λ (l : ChangeLog). Stands new.kept.items (logged l.groups.items) c.value_changes c.tick key (owner_of new key) (variable_of (with_declaration c d) key)) (sym log)
-      (subst (λ (vs : List Variable). Stands vs (logged old.log.groups.items) c.value_changes c.tick key (owner_of new key) (variable_of (with_declaration c d) key)) (sym items)
-      (subst (λ o. Stands all (logged old.log.groups.items) c.value_changes c.tick key o (variable_of (with_declaration c d) key)) (sym (puts key))
-      (subst (Stands all (logged old.log.groups.items) c.value_changes c.tick key (if bytes_eq key code then Some (Kept first) else owner_of old key)) (sym (found_with key c.declared d)) both)))
+      by_code (λ b. TargetMatches all (logged old.log.groups.items) c.value_changes c.tick key (if b then Some (Kept first) else target_of old key) (option_or (variable_of c key) (if b then Some d else None))) key code
+      (λ is. subst (λ name. TargetMatches all (logged old.log.groups.items) c.value_changes c.tick name (Some (Kept first)) (option_or (variable_of c name) (Some d))) (sym is) (keep_here (variable_of c code) (k.stand code)))
+      (λ _. stands_still (logged old.log.groups.items) c.value_changes c.tick all key (target_of old key) (variable_of c key)
+      (stands_longer (logged old.log.groups.items) c.value_changes c.tick old.kept.items (variable_at code s first ∷ []) key (target_of old key) (variable_of c key) (k.stand key))) in
+      subst (λ (l : ChangeLog). TargetMatches new.kept.items (logged l.groups.items) c.value_changes c.tick key (target_of new key) (variable_of (with_declaration c d) key)) (sym log)
+      (subst (λ (vs : List Variable). TargetMatches vs (logged old.log.groups.items) c.value_changes c.tick key (target_of new key) (variable_of (with_declaration c d) key)) (sym items)
+      (subst (λ o. TargetMatches all (logged old.log.groups.items) c.value_changes c.tick key o (variable_of (with_declaration c d) key)) (sym (puts key))
+      (subst (TargetMatches all (logged old.log.groups.items) c.value_changes c.tick key (if bytes_eq key code then Some (Kept first) else target_of old key)) (sym (found_with key c.declared d)) both)))
 
   -- the variables before it know their first ones
   keep_earlier : (position : ℕ) (v : Variable) → slice_get old.kept.items position ≡ Some v → HasFirst new position v
@@ -265,10 +265,10 @@ module _ (old new : Variables) (c : Context) (scopes : List ScopeName) (code : L
       let within : position < length old.kept.items = slice_get_within old.kept.items position v at in
       record {
         owned = puts v.code
-            ∙ by_code (λ b. (if b then Some (Kept first) else owner_of old v.code) ≡ Some (Kept v.first)) v.code code
+            ∙ by_code (λ b. (if b then Some (Kept first) else target_of old v.code) ≡ Some (Kept v.first)) v.code code
             (λ is. elim free [
-              | inl (none, end) ↦ let no : None ≡ Some (Kept v.first) = sym none ∙ ap (owner_of old) (sym is) ∙ before.owned in absurd (cc)
-              | inr (had, width) ↦ sym had ∙ ap (owner_of old) (sym is) ∙ before.owned
+              | inl (none, end) ↦ let no : None ≡ Some (Kept v.first) = sym none ∙ ap (target_of old) (sym is) ∙ before.owned in absurd (cc)
+              | inr (had, width) ↦ sym had ∙ ap (target_of old) (sym is) ∙ before.owned
             ])
             (λ _. before.owned);
         no_later = before.no_later;
@@ -283,7 +283,7 @@ module _ (old new : Variables) (c : Context) (scopes : List ScopeName) (code : L
     | inl (none, end) ↦ omega (arith, end)
     | inr (had, width) ↦
         let e = stands_kept old.kept.items (logged old.log.groups.items) c.value_changes c.tick code (variable_of c code) first
-        (subst (λ o. Stands old.kept.items (logged old.log.groups.items) c.value_changes c.tick code o (variable_of c code)) had (k.stand code)) in
+        (subst (λ o. TargetMatches old.kept.items (logged old.log.groups.items) c.value_changes c.tick code o (variable_of c code)) had (k.stand code)) in
         omega (arith, slice_get_within old.kept.items first e.3.first e.3.stands)
   ]
 
@@ -300,7 +300,7 @@ module _ (old new : Variables) (c : Context) (scopes : List ScopeName) (code : L
   keep_firsts position v at = elim (either_of old.kept.items (variable_at code s first) position v (subst (λ vs. slice_get vs position ≡ Some v) items at)) [
     | inl stood ↦ keep_earlier position v stood
     | inr (end, is) ↦ subst (HasFirst new position) is (record {
-      owned = puts code ∙ ap (λ b. if b then Some (Kept first) else owner_of old code) (own_code code);
+      owned = puts code ∙ ap (λ b. if b then Some (Kept first) else target_of old code) (own_code code);
       no_later = omega (arith, end, first_within);
       same_size = λ w there. first_width w (subst (λ vs. slice_get vs first ≡ Some w) items there);
     })
@@ -330,8 +330,8 @@ module _ (old new : Variables) (c : Context) (scopes : List ScopeName) (code : L
       )
 
 -- what comes of a variable that is put behind the others
-pub push_declares : (old new : Variables) (c : Context) (scopes : List ScopeName) (code : List ℕ) (s : Signal) (first : ℕ) (result : Result (Unit {0}) Fault)
-    → Knows old c → c.value_changes ≡ [] → s.wave.changes ≡ [] → s.scopes ≡ [] → is_skipped (declaration_in scopes code s) ≡ false → IsFree old code s first
+pub push_declares : (old new : Variables) (c : ParseState) (scopes : List ScopeName) (code : List ℕ) (s : Signal) (first : ℕ) (result : Result (Unit {0}) Fault)
+    → VariablesMatch old c → c.value_changes ≡ [] → s.wave.changes ≡ [] → s.scopes ≡ [] → is_skipped (declaration_in scopes code s) ≡ false → IsFree old code s first
     → OnOk result (length old.kept.items < SIGNAL_LIMIT) → OnOk result (new.kept.items ≡ old.kept.items ++ variable_at code s first ∷ [])
     → OnOk result (new.widths.items ≡ old.widths.items ++ s.wave.width ∷ []) → new.log ≡ old.log
     → OnOk result (Puts old new code (Kept first)) → new.skipped ≡ old.skipped
@@ -359,10 +359,10 @@ same_width (Some v) width test w is = ap (λ (u : Variable). u.signal.wave.width
 -- ---- the words of a declaration
 
 -- what the words of a `$var` declare
-abbrev pub worded_declaration : Context → (kind size code : List ℕ) → (names : List (List ℕ)) → VariableDeclaration
+abbrev pub worded_declaration : ParseState → (kind size code : List ℕ) → (names : List (List ℕ)) → VariableDeclaration
 worded_declaration c kind size code names = record { scopes = c.scopes; kind = kind; size = number_of size; code = code; words = names }
 
-declares_names : (c : Context) (kind size code : List ℕ) (names : List (List ℕ)) (result : Result (Unit {0}) Fault) (new : Variables) → 0 < length names
+declares_names : (c : ParseState) (kind size code : List ℕ) (names : List (List ℕ)) (result : Result (Unit {0}) Fault) (new : Variables) → 0 < length names
     → DeclaresAs c (worded_declaration c kind size code names) result new → Declares c (kind ∷ size ∷ code ∷ names) result new
 declares_names c kind size code [] result new some as_one = absurd (omega (arith, some))
 declares_names c kind size code (name ∷ names) (Ok x) new some (may, room, knows) = ((may, room), knows)
@@ -373,7 +373,7 @@ declares_names c kind size code (name ∷ names) (Err fault) new some as_one = e
 ]
 
 -- so what comes of the words is what comes of what they declare
-pub declares_words : (c : Context) (words : List (List ℕ)) (kind size code : List ℕ) (names : List (List ℕ)) (result : Result (Unit {0}) Fault) (new : Variables)
+pub declares_words : (c : ParseState) (words : List (List ℕ)) (kind size code : List ℕ) (names : List (List ℕ)) (result : Result (Unit {0}) Fault) (new : Variables)
     → words ≡ kind ∷ size ∷ code ∷ names → 0 < length names → DeclaresAs c (worded_declaration c kind size code names) result new → Declares c words result new
 declares_words c words kind size code names result new are some as_one =
     subst (λ ws. Declares c ws result new) (sym are) (declares_names c kind size code names result new some as_one)
@@ -406,7 +406,7 @@ same_bounds n size is = elim (cases_lt WIDTH_LIMIT n) [
 ]
 
 -- a variable is skipped for its kind, or for the size that is read
-pub left_out : (c : Context) (kind word code : List ℕ) (names : List (List ℕ)) (size : ℕ) → size ≡ min (number_of word) (WIDTH_LIMIT + 1)
+pub left_out : (c : ParseState) (kind word code : List ℕ) (names : List (List ℕ)) (size : ℕ) → size ≡ min (number_of word) (WIDTH_LIMIT + 1)
     → is_skipped (worded_declaration c kind word code names) ≡ (is_skipped_kind kind || (size == 0 || nat_lt WIDTH_LIMIT size))
 left_out c kind word code names size is = ap (λ b. is_skipped_kind kind || b) (sym (same_bounds (number_of word) size is))
 

@@ -12,17 +12,17 @@ use Rattle.vcd_text.specs.declared.fault.Fault.TheVariants as faults
 use Rattle.vcd_text.specs.Words.{PlacedWord, word_on}
 use Rattle.vcd_core.specs.Decimal.{is_number}
 use Rattle.vcd_text.specs.Items.{Item, entry, timescale, scope, upscope, variable, end_definitions, other, spelling, end_word, is_end_word, has_no_end_word, header_word, is_other, timescale_of}
-use Rattle.vcd_text.specs.Grammar.{Context, Allows, told_after_item, kept_variables, word_texts, has_good_size}
+use Rattle.vcd_text.specs.Grammar.{ParseState, Allows, state_after_item, kept_variables, word_texts, has_good_size}
 use Rattle.vcd_text.specs.Faults.{WordFault, DeclarationFault, no_timescale, no_size, among_declarations}
 use Rattle.vcd_text.specs.inside.Scopes.{HoldsScopes}
-use Rattle.vcd_text.specs.inside.Variables.{Knows, Declares, VariableFault}
-use Rattle.vcd_text.specs.inside.Reading.{Agrees, Collects, PassesOver, IsBegun, At, TakesWord, goes_on, ends_item, TakesOrRefuses}
-use Rattle.vcd_text.specs.declared.reading.owners.Owners.{Owners}
+use Rattle.vcd_text.specs.inside.Variables.{VariablesMatch, Declares, VariableFault}
+use Rattle.vcd_text.specs.inside.Reading.{ReaderMatches, Collects, PassesOver, IsBegun, IsAtState, WordStep, goes_on, ends_item, WordResult}
+use Rattle.vcd_text.specs.declared.reading.code_targets.CodeTargets.{CodeTargets}
 use Rattle.vcd_text.specs.declared.reading.reader.Reader.{Reader}
 use Rattle.vcd_text.specs.declared.reading.reader.OpenItem.TheVariants as items
 use Rattle.vcd_text.specs.declared.reading.scopes.Scopes.{Scopes}
 use Rattle.vcd_text.specs.declared.reading.variables.Variables.{Variables}
-use Rattle.vcd_text.proofs.Knows.{same_codes, knows_further}
+use Rattle.vcd_text.proofs.VariablesMatch.{same_codes, knows_further}
 use Rattle.vcd_text.proofs.DeclaredVariables.{kept_long}
 use Rattle.vcd_text.proofs.HeldScopes.{so_deep}
 
@@ -44,15 +44,15 @@ no_end_more words text none isnt =
 -- ---- what is told stays known
 
 -- the variables hold what a context tells that differs in other things alone
-same_known : (vs : Variables) (c d : Context) → c.declared ≡ d.declared → c.value_changes ≡ d.value_changes → c.tick ≡ d.tick → Knows vs c → Knows vs d
+same_known : (vs : Variables) (c d : ParseState) → c.declared ≡ d.declared → c.value_changes ≡ d.value_changes → c.tick ≡ d.tick → VariablesMatch vs c → VariablesMatch vs d
 same_known vs c d declared value_changes tick known = knows_further vs c d declared value_changes (omega (arith, tick)) known
 
 -- ---- the end of an item
 
 -- where the item that is open asks for no more, its `$end` ends it
-ends_here : (new : Reader) (c : Context) (begun : List PlacedWord) (line : ℕ) (i : Item) (words : List (List ℕ))
-    → word_texts begun ≡ words → spelling i ≡ words ++ end_word ∷ [] → Allows c i → Agrees new (told_after_item c i) → new.item ≡ items.Nothing
-    → TakesWord c (begun ++ word_on end_word line ∷ []) new
+ends_here : (new : Reader) (c : ParseState) (begun : List PlacedWord) (line : ℕ) (i : Item) (words : List (List ℕ))
+    → word_texts begun ≡ words → spelling i ≡ words ++ end_word ∷ [] → Allows c i → ReaderMatches new (state_after_item c i) → new.item ≡ items.Nothing
+    → WordStep c (begun ++ word_on end_word line ∷ []) new
 ends_here new c begun line i words spelled whole allows agrees closed =
     ends_item i (whole ∙ spelled_whole begun line words spelled) allows
     (agrees, subst (IsBegun new []) (sym closed) refl)
@@ -61,12 +61,12 @@ ends_here new c begun line i words spelled whole allows agrees closed =
 pub closes_entry : (m new : Reader) (kind : HeaderKind) → m.item ≡ items.Entry kind
     → new.header.items ≡ m.header.items ++ record { kind = kind; words = m.words.items } ∷ []
     → new ≡ record m { header = new.header; words = new.words; item = items.Nothing }
-    → (line : ℕ) (c : Context) (begun : List PlacedWord) → At m c begun → TakesWord c (begun ++ word_on end_word line ∷ []) new
+    → (line : ℕ) (c : ParseState) (begun : List PlacedWord) → IsAtState m c begun → WordStep c (begun ++ word_on end_word line ∷ []) new
 closes_entry m new kind is pushed others line c begun at =
     let a = at.0 in
     let b : Collects m begun (header_word kind) = subst (IsBegun m begun) is at.1 in
     let i : Item = entry kind m.words.items in
-    subst (TakesWord c (begun ++ word_on end_word line ∷ [])) (sym others)
+    subst (WordStep c (begun ++ word_on end_word line ∷ [])) (sym others)
     (ends_here (record m { header = new.header; words = new.words; item = items.Nothing }) c begun line i (header_word kind ∷ m.words.items)
     b.spelled refl (sym a.changing ∙ b.declares, b.no_end)
     (record {
@@ -75,14 +75,14 @@ closes_entry m new kind is pushed others line c begun at =
       scopes = a.scopes;
       changing = a.changing;
       tick = a.tick;
-      variables = same_known m.variables c (told_after_item c i) refl refl refl a.variables;
+      variables = same_known m.variables c (state_after_item c i) refl refl refl a.variables;
       silent = a.silent;
     }) refl)
 
 -- a timescale takes the place of the one before
 pub closes_timescale : (m : Reader) (found : Timescale) → m.item ≡ items.Timescale → timescale_of m.words.items ≡ Some found
-    → (line : ℕ) (c : Context) (begun : List PlacedWord) → At m c begun
-    → TakesWord c (begun ++ word_on end_word line ∷ []) (record m { timescale = Some found; item = items.Nothing })
+    → (line : ℕ) (c : ParseState) (begun : List PlacedWord) → IsAtState m c begun
+    → WordStep c (begun ++ word_on end_word line ∷ []) (record m { timescale = Some found; item = items.Nothing })
 closes_timescale m found is some line c begun at =
     let a = at.0 in
     let b : Collects m begun (codes "$timescale") = subst (IsBegun m begun) is at.1 in
@@ -95,26 +95,26 @@ closes_timescale m found is some line c begun at =
       scopes = a.scopes;
       changing = a.changing;
       tick = a.tick;
-      variables = same_known m.variables c (told_after_item c i) refl refl refl a.variables;
+      variables = same_known m.variables c (state_after_item c i) refl refl refl a.variables;
       silent = a.silent;
     }) refl
 
 -- the words spell no timescale
 pub shows_no_timescale : (m : Reader) → m.item ≡ items.Timescale → timescale_of m.words.items ≡ None
-    → (c : Context) (begun : List PlacedWord) → At m c begun → WordFault c (word_texts begun) end_word faults.BadTimescale
+    → (c : ParseState) (begun : List PlacedWord) → IsAtState m c begun → WordFault c (word_texts begun) end_word faults.BadTimescale
 shows_no_timescale m is none c begun at =
     let b : Collects m begun (codes "$timescale") = subst (IsBegun m begun) is at.1 in
     among_declarations (sym at.0.changing ∙ b.declares) (no_timescale m.words.items b.spelled refl b.no_end none refl)
 
 -- a scope is the innermost
-pub closes_scope : (m new : Reader) (s : ScopeName) → m.item ≡ items.Scope → m.words.items ≡ s.kind ∷ s.words → ((c : Context) → HoldsScopes m.scopes c.scopes c.declared → HoldsScopes new.scopes (c.scopes ++ s ∷ []) c.declared)
+pub closes_scope : (m new : Reader) (s : ScopeName) → m.item ≡ items.Scope → m.words.items ≡ s.kind ∷ s.words → ((c : ParseState) → HoldsScopes m.scopes c.scopes c.declared → HoldsScopes new.scopes (c.scopes ++ s ∷ []) c.declared)
     → new ≡ record m { scopes = new.scopes; words = new.words; item = items.Nothing }
-    → (line : ℕ) (c : Context) (begun : List PlacedWord) → At m c begun → TakesWord c (begun ++ word_on end_word line ∷ []) new
+    → (line : ℕ) (c : ParseState) (begun : List PlacedWord) → IsAtState m c begun → WordStep c (begun ++ word_on end_word line ∷ []) new
 closes_scope m new s is words pushed others line c begun at =
     let a = at.0 in
     let b : Collects m begun (codes "$scope") = subst (IsBegun m begun) is at.1 in
     let i : Item = scope s.kind s.words in
-    subst (TakesWord c (begun ++ word_on end_word line ∷ [])) (sym others)
+    subst (WordStep c (begun ++ word_on end_word line ∷ [])) (sym others)
     (ends_here (record m { scopes = new.scopes; words = new.words; item = items.Nothing }) c begun line i (codes "$scope" ∷ s.kind ∷ s.words)
     (b.spelled ∙ ap (λ ws. codes "$scope" ∷ ws) words) refl (sym a.changing ∙ b.declares, ap has_no_end_word (sym words) ∙ b.no_end)
     (record {
@@ -123,7 +123,7 @@ closes_scope m new s is words pushed others line c begun at =
       scopes = pushed c a.scopes;
       changing = a.changing;
       tick = a.tick;
-      variables = same_known m.variables c (told_after_item c i) refl refl refl a.variables;
+      variables = same_known m.variables c (state_after_item c i) refl refl refl a.variables;
       silent = a.silent;
     }) refl)
 
@@ -133,13 +133,13 @@ front_removed [] ys x some front rest = absurd (omega arith)
 front_removed (x' ∷ xs) ys x some front rest = (λ i. sym front i ∷ sym rest i)
 
 -- the innermost scope is closed
-pub closes_upscope : (m new : Reader) → m.item ≡ items.Upscope → ((c : Context) → HoldsScopes m.scopes c.scopes c.declared → HoldsScopes new.scopes (take (length c.scopes - 1) c.scopes) c.declared)
+pub closes_upscope : (m new : Reader) → m.item ≡ items.Upscope → ((c : ParseState) → HoldsScopes m.scopes c.scopes c.declared → HoldsScopes new.scopes (take (length c.scopes - 1) c.scopes) c.declared)
     → new ≡ record m { scopes = new.scopes; item = items.Nothing }
-    → (line : ℕ) (c : Context) (begun : List PlacedWord) → At m c begun → TakesWord c (begun ++ word_on end_word line ∷ []) new
+    → (line : ℕ) (c : ParseState) (begun : List PlacedWord) → IsAtState m c begun → WordStep c (begun ++ word_on end_word line ∷ []) new
 closes_upscope m new is popped others line c begun at =
     let a = at.0 in
     let b : IsFalse m.changing × (word_texts begun ≡ codes "$upscope" ∷ []) × (0 < m.scopes.depth) = subst (IsBegun m begun) is at.1 in
-    subst (TakesWord c (begun ++ word_on end_word line ∷ [])) (sym others)
+    subst (WordStep c (begun ++ word_on end_word line ∷ [])) (sym others)
     (ends_here (record m { scopes = new.scopes; item = items.Nothing }) c begun line upscope (codes "$upscope" ∷ [])
     b.1 refl (sym a.changing ∙ b.0, omega (arith, so_deep m.scopes c a.scopes, b.2))
     (record {
@@ -148,18 +148,18 @@ closes_upscope m new is popped others line c begun at =
       scopes = popped c a.scopes;
       changing = a.changing;
       tick = a.tick;
-      variables = same_known m.variables c (told_after_item c upscope) refl refl refl a.variables;
+      variables = same_known m.variables c (state_after_item c upscope) refl refl refl a.variables;
       silent = a.silent;
     }) refl)
 
 -- the changes begin
-pub closes_definitions : (m : Reader) (owners : Owners) → owners.codes ≡ m.variables.owners.codes → m.item ≡ items.EndDefinitions
-    → (line : ℕ) (c : Context) (begun : List PlacedWord) → At m c begun
-    → TakesWord c (begun ++ word_on end_word line ∷ []) (record m { variables = record m.variables { owners = owners }; changing = true; item = items.Nothing })
-closes_definitions m owners same is line c begun at =
+pub closes_definitions : (m : Reader) (code_targets : CodeTargets) → code_targets.codes ≡ m.variables.code_targets.codes → m.item ≡ items.EndDefinitions
+    → (line : ℕ) (c : ParseState) (begun : List PlacedWord) → IsAtState m c begun
+    → WordStep c (begun ++ word_on end_word line ∷ []) (record m { variables = record m.variables { code_targets = code_targets }; changing = true; item = items.Nothing })
+closes_definitions m code_targets same is line c begun at =
     let a = at.0 in
     let b : IsFalse m.changing × (word_texts begun ≡ codes "$enddefinitions" ∷ []) = subst (IsBegun m begun) is at.1 in
-    ends_here (record m { variables = record m.variables { owners = owners }; changing = true; item = items.Nothing }) c begun line end_definitions (codes "$enddefinitions" ∷ [])
+    ends_here (record m { variables = record m.variables { code_targets = code_targets }; changing = true; item = items.Nothing }) c begun line end_definitions (codes "$enddefinitions" ∷ [])
     b.1 refl (sym a.changing ∙ b.0)
     (record {
       header = a.header;
@@ -167,13 +167,13 @@ closes_definitions m owners same is line c begun at =
       scopes = a.scopes;
       changing = refl;
       tick = a.tick;
-      variables = same_codes m.variables owners (told_after_item c end_definitions) same (same_known m.variables c (told_after_item c end_definitions) refl refl refl a.variables);
+      variables = same_codes m.variables code_targets (state_after_item c end_definitions) same (same_known m.variables c (state_after_item c end_definitions) refl refl refl a.variables);
       silent = λ _. a.silent (sym a.changing ∙ b.0);
     }) refl
 
 -- another command leaves nothing
 pub closes_other : (m : Reader) → m.item ≡ items.Other
-    → (line : ℕ) (c : Context) (begun : List PlacedWord) → At m c begun → TakesWord c (begun ++ word_on end_word line ∷ []) (record m { item = items.Nothing })
+    → (line : ℕ) (c : ParseState) (begun : List PlacedWord) → IsAtState m c begun → WordStep c (begun ++ word_on end_word line ∷ []) (record m { item = items.Nothing })
 closes_other m is line c begun at =
     let a = at.0 in
     let b : PassesOver m begun = subst (IsBegun m begun) is at.1 in
@@ -193,11 +193,11 @@ closes_other m is line c begun at =
 
 -- the variables have taken the declaration
 pub closes_variable : (m : Reader) (variables : Variables) (scopes : Scopes) (words : List (List ℕ)) → words ≡ m.words.items
-    → ((c : Context) (ws : List (List ℕ)) → HoldsScopes m.scopes c.scopes c.declared → length variables.kept.items ≡ length (kept_variables (told_after_item c (variable ws)).declared)
-    → HoldsScopes scopes c.scopes (told_after_item c (variable ws)).declared)
-    → ((c : Context) → c.value_changes ≡ [] → Knows m.variables c → Declares c words (Ok tt) variables) → m.item ≡ items.Variable
-    → (line : ℕ) (c : Context) (begun : List PlacedWord) → At m c begun
-    → TakesWord c (begun ++ word_on end_word line ∷ []) (record m { scopes = scopes; variables = variables; item = items.Nothing })
+    → ((c : ParseState) (ws : List (List ℕ)) → HoldsScopes m.scopes c.scopes c.declared → length variables.kept.items ≡ length (kept_variables (state_after_item c (variable ws)).declared)
+    → HoldsScopes scopes c.scopes (state_after_item c (variable ws)).declared)
+    → ((c : ParseState) → c.value_changes ≡ [] → VariablesMatch m.variables c → Declares c words (Ok tt) variables) → m.item ≡ items.Variable
+    → (line : ℕ) (c : ParseState) (begun : List PlacedWord) → IsAtState m c begun
+    → WordStep c (begun ++ word_on end_word line ∷ []) (record m { scopes = scopes; variables = variables; item = items.Nothing })
 closes_variable m variables scopes words spelled note declare is line c begun at =
     let a = at.0 in
     let b : Collects m begun (codes "$var") × IsTrue (has_good_size m.words.items) = subst (IsBegun m begun) is at.1 in
@@ -208,7 +208,7 @@ closes_variable m variables scopes words spelled note declare is line c begun at
     (record {
       header = a.header;
       timescale = a.timescale;
-      scopes = note c m.words.items a.scopes (sym (kept_long variables (told_after_item c (variable m.words.items)) d.1));
+      scopes = note c m.words.items a.scopes (sym (kept_long variables (state_after_item c (variable m.words.items)) d.1));
       changing = a.changing;
       tick = a.tick;
       variables = d.1;
@@ -216,7 +216,7 @@ closes_variable m variables scopes words spelled note declare is line c begun at
     }) refl
 
 -- what the variables answer is what the grammar says
-variable_fault : (m : Reader) (c : Context) (begun : List PlacedWord) (fault : Fault) → IsFalse c.changing
+variable_fault : (m : Reader) (c : ParseState) (begun : List PlacedWord) (fault : Fault) → IsFalse c.changing
     → Collects m begun (codes "$var") → IsTrue (has_good_size m.words.items) → VariableFault c m.words.items fault → WordFault c (word_texts begun) end_word fault
 variable_fault m c begun fault declares b good (VariableFault.no_variable none is) =
     among_declarations declares (DeclarationFault.no_variable m.words.items b.spelled refl b.no_end good none is)
@@ -226,7 +226,7 @@ variable_fault m c begun fault declares b good (VariableFault.no_room d some may
     among_declarations declares (DeclarationFault.no_room m.words.items d b.spelled refl b.no_end good some may none is)
 
 -- the same, or memory runs out
-fault_shown : (m : Reader) (c : Context) (begun : List PlacedWord) (fault : Fault) → IsFalse c.changing
+fault_shown : (m : Reader) (c : ParseState) (begun : List PlacedWord) (fault : Fault) → IsFalse c.changing
     → Collects m begun (codes "$var") → IsTrue (has_good_size m.words.items)
     → (fault ≡ faults.NoMemory) ⊎ VariableFault c m.words.items fault → (fault ≡ faults.NoMemory) ⊎ WordFault c (word_texts begun) end_word fault
 fault_shown m c begun fault declares b good (inl memory) = inl memory
@@ -235,8 +235,8 @@ fault_shown m c begun fault declares b good (inr shown) = inr (variable_fault m 
 -- the words declare no variable that may stand here
 pub shows_no_variable : (m new : Reader) (result : Result (Unit {0}) Fault) (fault : Fault) (variables : Variables) (words : List (List ℕ))
     → words ≡ m.words.items
-    → ((c : Context) → c.value_changes ≡ [] → Knows m.variables c → Declares c words (Err fault) variables) → m.item ≡ items.Variable
-    → IsErrAnd result (λ e. e ≡ fault) → (line : ℕ) → TakesOrRefuses m (word_on end_word line) result new
+    → ((c : ParseState) → c.value_changes ≡ [] → VariablesMatch m.variables c → Declares c words (Err fault) variables) → m.item ≡ items.Variable
+    → IsErrAnd result (λ e. e ≡ fault) → (line : ℕ) → WordResult m (word_on end_word line) result new
 shows_no_variable m new (Ok x) fault variables words spelled declare is failed line = absurd failed
 shows_no_variable m new (Err e) fault variables words spelled declare is failed line =
     λ c begun at.
@@ -263,7 +263,7 @@ no_number (Some n) text Q said none = let some : true ≡ false = none in absurd
 
 -- a size that is no number
 pub shows_no_size : (m : Reader) (text : List ℕ) → m.item ≡ items.Variable → length m.words.items ≡ 1 → is_number text ≡ false
-    → (c : Context) (begun : List PlacedWord) → At m c begun → WordFault c (word_texts begun) text faults.BadVar
+    → (c : ParseState) (begun : List PlacedWord) → IsAtState m c begun → WordFault c (word_texts begun) text faults.BadVar
 shows_no_size m text is one isnt c begun at =
     let b : Collects m begun (codes "$var") × IsTrue (has_good_size m.words.items) = subst (IsBegun m begun) is at.1 in
     let k = one_word m.words.items one b.0.no_end in
@@ -273,7 +273,7 @@ shows_no_size m text is one isnt c begun at =
 
 -- a word of another command
 pub passes_over : (m : Reader) (text : List ℕ) → m.item ≡ items.Other → IsFalse (is_end_word text)
-    → (line : ℕ) (c : Context) (begun : List PlacedWord) → At m c begun → TakesWord c (begun ++ word_on text line ∷ []) m
+    → (line : ℕ) (c : ParseState) (begun : List PlacedWord) → IsAtState m c begun → WordStep c (begun ++ word_on text line ∷ []) m
 passes_over m text is isnt line c begun at =
     let b : PassesOver m begun = subst (IsBegun m begun) is at.1 in
     goes_on (

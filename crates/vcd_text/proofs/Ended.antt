@@ -10,10 +10,10 @@ use Rattle.vcd_text.specs.Words.{PlacedWord}
 use Rattle.vcd_text.specs.Letters.{is_among}
 use Rattle.vcd_core.specs.Word.{is_one_of}
 use Rattle.vcd_text.specs.Items.{spellings, header_word, header_words, is_other, vector_prefixes, dropped_prefixes}
-use Rattle.vcd_text.specs.Grammar.{Context, Accepts, word_texts}
+use Rattle.vcd_text.specs.Grammar.{ParseState, Accepts, word_texts}
 use Rattle.vcd_text.specs.Faults.{ShowsFault, Stops, IsUnfinished, declaration_due, words_due, upscope_due, variable_due, definitions_due, code_due, other_due, pair_prefixes}
 use Rattle.vcd_text.specs.inside.OpenItems.{is_nothing}
-use Rattle.vcd_text.specs.inside.Reading.{Reads, Agrees, IsBegun, Collects, AwaitsCode, is_complete}
+use Rattle.vcd_text.specs.inside.Reading.{Reads, ReaderMatches, IsBegun, Collects, AwaitsCode, is_complete}
 use Rattle.vcd_text.specs.declared.reading.reader.Reader.{Reader}
 use Rattle.vcd_text.specs.declared.reading.reader.OpenItem.{OpenItem}
 use Rattle.vcd_text.specs.declared.reading.reader.OpenItem.TheVariants as items
@@ -26,7 +26,7 @@ is_header Date = refl
 is_header Version = refl
 is_header Comment = refl
 
-collecting : (m : Reader) (c : Context) (begun : List PlacedWord) (keyword : List ℕ) → Agrees m c → Collects m begun keyword
+collecting : (m : Reader) (c : ParseState) (begun : List PlacedWord) (keyword : List ℕ) → ReaderMatches m c → Collects m begun keyword
     → IsTrue (is_one_of (codes "$timescale" ∷ codes "$scope" ∷ header_words) keyword) → IsUnfinished c (word_texts begun)
 collecting m c begun keyword agrees is among = words_due keyword m.words.items (sym agrees.changing ∙ is.declares) is.spelled among is.no_end
 
@@ -38,21 +38,21 @@ among_more (x ∷ xs) more b h =
       | inr later ↦ or_right (nat_eq b x) (is_among (xs ++ more) b) (among_more xs more b later)
     ]
 
-among_behind : (letters front : List ℕ) (b : ℕ) → is_among letters b ≡ true → is_among (front ++ letters) b ≡ true
-among_behind letters [] b h = h
-among_behind letters (x ∷ xs) b h = or_right (nat_eq b x) (is_among (xs ++ letters) b) (among_behind letters xs b h)
+among_after : (letters front : List ℕ) (b : ℕ) → is_among letters b ≡ true → is_among (front ++ letters) b ≡ true
+among_after letters [] b h = h
+among_after letters (x ∷ xs) b h = or_right (nat_eq b x) (is_among (xs ++ letters) b) (among_after letters xs b h)
 
 not_nothing : (b : Bool) → (b && true) ≡ false → b ≡ false
 not_nothing false h = refl
 not_nothing true h = absurd (false≢true (sym h))
 
-awaiting : (m : Reader) (c : Context) (begun : List PlacedWord) (letters text : List ℕ) → Agrees m c → AwaitsCode m begun letters text
+awaiting : (m : Reader) (c : ParseState) (begun : List PlacedWord) (letters text : List ℕ) → ReaderMatches m c → AwaitsCode m begun letters text
     → ((b : ℕ) → IsTrue (is_among letters b) → IsTrue (is_among pair_prefixes b)) → IsUnfinished c (word_texts begun)
 awaiting m c begun letters text agrees is more =
     code_due is.letter text (sym agrees.changing ∙ is.changes) (ap word_texts is.is ∙ ap (λ t. t ∷ []) is.spelled) (more is.letter is.among)
 
 -- something is due behind words that are no whole file
-unfinished : (m : Reader) (c : Context) (begun : List PlacedWord) (item : OpenItem) → Agrees m c → IsBegun m begun item → IsFalse (m.changing && is_nothing item) → IsUnfinished c (word_texts begun)
+unfinished : (m : Reader) (c : ParseState) (begun : List PlacedWord) (item : OpenItem) → ReaderMatches m c → IsBegun m begun item → IsFalse (m.changing && is_nothing item) → IsUnfinished c (word_texts begun)
 unfinished m c begun items.Nothing agrees none no_end = declaration_due (sym agrees.changing ∙ not_nothing m.changing no_end) (ap word_texts none)
 unfinished m c begun (items.Entry kind) agrees is no_end = collecting m c begun (header_word kind) agrees is (is_header kind)
 unfinished m c begun items.Timescale agrees is no_end = collecting m c begun (codes "$timescale") agrees is refl
@@ -62,7 +62,7 @@ unfinished m c begun items.Variable agrees is no_end = variable_due m.words.item
 unfinished m c begun items.EndDefinitions agrees is no_end = definitions_due (sym agrees.changing ∙ is.0) is.1
 unfinished m c begun items.Other agrees is no_end = other_due is.keyword is.words is.spelled (subst (λ b. IsTrue (is_other b is.keyword)) agrees.changing is.other) is.no_end
 unfinished m c begun items.Vector agrees is no_end = awaiting m c begun vector_prefixes m.text.items agrees is (among_more vector_prefixes dropped_prefixes)
-unfinished m c begun items.Dropped agrees (text, is) no_end = awaiting m c begun dropped_prefixes text agrees is (among_behind dropped_prefixes vector_prefixes)
+unfinished m c begun items.Dropped agrees (text, is) no_end = awaiting m c begun dropped_prefixes text agrees is (among_after dropped_prefixes vector_prefixes)
 
 texts_are : (m : Reader) (words : List PlacedWord) (r : Reads m words) → word_texts words ≡ spellings r.items ++ word_texts r.begun
 texts_are m words r = ap word_texts r.parts ∙ map-append (λ (w : PlacedWord). w.text) r.whole r.begun ∙ ap (λ ws. ws ++ word_texts r.begun) r.spelled

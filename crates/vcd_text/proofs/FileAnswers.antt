@@ -9,7 +9,7 @@ use Rattle.vcd_text.specs.declared.fault.Fault.{Fault}
 use Rattle.vcd_text.specs.declared.fault.Fault.TheVariants.{Truncated}
 use Rattle.vcd_text.specs.Words.{PlacedWord, words_of, last_line}
 use Rattle.vcd_text.specs.Items.{Item, spelling, spellings}
-use Rattle.vcd_text.specs.Grammar.{Context, Allows, Accepts, told_after_item, nothing_told, word_texts}
+use Rattle.vcd_text.specs.Grammar.{ParseState, Allows, Accepts, state_after_item, initial_state, word_texts}
 use Rattle.vcd_text.specs.Faults.{WordFault, IsUnfinished, declaration_due, fault_line, ShowsFault, Stops, FileFault, shown, too_early}
 use Rattle.vcd_text.specs.Meaning.{FileMeans, meaning, skipped_count}
 use Rattle.vcd_text.proofs.ItemsInTurn.{Leads, leads_none, leads_one, leads_both}
@@ -18,7 +18,7 @@ use Rattle.vcd_text.proofs.WordOutcomes.{IsOpen, between, inside, shows_fault, e
 
 -- what comes of all words of a file
 data AnswerTo (words : List PlacedWord) : Type 0 where
-  is_accepted : (told : Context) → Accepts words told → AnswerTo words
+  is_accepted : (told : ParseState) → Accepts words told → AnswerTo words
   stops_early : Stops words → AnswerTo words
   is_refused : (line : ℕ) (fault : Fault) → ShowsFault words line fault → AnswerTo words
 
@@ -27,17 +27,17 @@ record WordsSoFar (words rest : List PlacedWord) : Type 0 where
   items : List Item
   whole : List PlacedWord
   begun : List PlacedWord
-  told : Context
+  told : ParseState
   parts : words ≡ whole ++ (begun ++ rest)
   spelled : word_texts whole ≡ spellings items
-  leads : Leads nothing_told items told
+  leads : Leads initial_state items told
   open_item : IsOpen told (word_texts begun)
 
 -- ---- one word
 
 -- the first of the words to come is the last of the open ones
-word_behind : (begun rest : List PlacedWord) (w : PlacedWord) → begun ++ w ∷ rest ≡ (begun ++ w ∷ []) ++ rest
-word_behind begun rest w = sym (append_assoc begun (w ∷ []) rest)
+word_after : (begun rest : List PlacedWord) (w : PlacedWord) → begun ++ w ∷ rest ≡ (begun ++ w ∷ []) ++ rest
+word_after begun rest w = sym (append_assoc begun (w ∷ []) rest)
 
 texts_more : (begun : List PlacedWord) (w : PlacedWord) → word_texts (begun ++ w ∷ []) ≡ word_texts begun ++ w.text ∷ []
 texts_more begun w = map-append (λ (v : PlacedWord). v.text) begun (w ∷ [])
@@ -53,7 +53,7 @@ with_word words rest w u due = record {
   whole = u.whole;
   begun = u.begun ++ w ∷ [];
   told = u.told;
-  parts = u.parts ∙ ap (λ ws. u.whole ++ ws) (word_behind u.begun rest w);
+  parts = u.parts ∙ ap (λ ws. u.whole ++ ws) (word_after u.begun rest w);
   spelled = u.spelled;
   leads = u.leads;
   open_item = inside (subst (IsUnfinished u.told) (sym (texts_more u.begun w)) due);
@@ -65,12 +65,12 @@ with_item words rest w u i spelled allows = record {
   items = u.items ++ i ∷ [];
   whole = u.whole ++ (u.begun ++ w ∷ []);
   begun = [];
-  told = told_after_item u.told i;
-  parts = u.parts ∙ ap (λ ws. u.whole ++ ws) (word_behind u.begun rest w) ∙ sym (append_assoc u.whole (u.begun ++ w ∷ []) rest);
+  told = state_after_item u.told i;
+  parts = u.parts ∙ ap (λ ws. u.whole ++ ws) (word_after u.begun rest w) ∙ sym (append_assoc u.whole (u.begun ++ w ∷ []) rest);
   spelled =
       map-append (λ (v : PlacedWord). v.text) u.whole (u.begun ++ w ∷ []) ∙ ap (λ ws. ws ++ word_texts (u.begun ++ w ∷ [])) u.spelled
       ∙ ap (λ ws. spellings u.items ++ ws) (texts_more u.begun w ∙ sym spelled) ∙ sym (spelled_more u.items i);
-  leads = leads_both nothing_told u.told (told_after_item u.told i) u.items (i ∷ []) u.leads (leads_one u.told (told_after_item u.told i) i allows refl);
+  leads = leads_both initial_state u.told (state_after_item u.told i) u.items (i ∷ []) u.leads (leads_one u.told (state_after_item u.told i) i allows refl);
   open_item = between refl;
 }
 
@@ -125,22 +125,22 @@ at_end words u (between none) =
 
 -- ---- all words
 
-answer_behind : (words rest : List PlacedWord) → All (λ (w : PlacedWord). is_run w.text) rest → WordsSoFar words rest → AnswerTo words
-answer_behind words [] runs u = at_end words u u.open_item
-answer_behind words (w ∷ rest) runs u =
+answer_after : (words rest : List PlacedWord) → All (λ (w : PlacedWord). is_run w.text) rest → WordsSoFar words rest → AnswerTo words
+answer_after words [] runs u = at_end words u u.open_item
+answer_after words (w ∷ rest) runs u =
     elim (word_outcome u.told (word_texts u.begun) w.text (All-head (λ (v : PlacedWord). is_run v.text) w rest runs).0 u.open_item) [
       | shows_fault fault decided ↦ is_refused (fault_line u.told.changing u.begun w) fault (shows_here words rest w u fault decided)
-      | ends_item i spelled allows ↦ answer_behind words rest (All-tail (λ (v : PlacedWord). is_run v.text) w rest runs) (with_item words rest w u i spelled allows)
-      | goes_on due ↦ answer_behind words rest (All-tail (λ (v : PlacedWord). is_run v.text) w rest runs) (with_word words rest w u due)
+      | ends_item i spelled allows ↦ answer_after words rest (All-tail (λ (v : PlacedWord). is_run v.text) w rest runs) (with_item words rest w u i spelled allows)
+      | goes_on due ↦ answer_after words rest (All-tail (λ (v : PlacedWord). is_run v.text) w rest runs) (with_word words rest w u due)
     ]
 
 -- before the first word
 nothing_taken : (words : List PlacedWord) → WordsSoFar words words
-nothing_taken words = record { items = []; whole = []; begun = []; told = nothing_told; parts = refl; spelled = refl; leads = leads_none nothing_told; open_item = between refl }
+nothing_taken words = record { items = []; whole = []; begun = []; told = initial_state; parts = refl; spelled = refl; leads = leads_none initial_state; open_item = between refl }
 
 pub an_answer : (bytes : List ℕ) → ((c : Contents) × (n : ℕ) × FileMeans bytes c n) ⊎ ((line : ℕ) × (fault : Fault) × FileFault bytes line fault)
 an_answer bytes =
-    elim (answer_behind (words_of bytes) (words_of bytes) (words_are_words true 1 bytes) (nothing_taken (words_of bytes))) [
+    elim (answer_after (words_of bytes) (words_of bytes) (words_are_words true 1 bytes) (nothing_taken (words_of bytes))) [
       | is_accepted told accepts ↦ inl (meaning told, skipped_count told, record { told = told; accepted = accepts; means = refl; left_out = refl })
       | stops_early stops ↦ inr (last_line bytes, Truncated, too_early stops refl refl)
       | is_refused line fault s ↦ inr (line, fault, shown s)

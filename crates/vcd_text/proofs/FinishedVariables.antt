@@ -9,15 +9,15 @@ use Rattle.vcd_core.specs.Value.{all_x}
 use Rattle.vcd_core.specs.Wave.{value_at, changes_of, IsWave}
 use Rattle.vcd_core.specs.Contents.{SignalContents, signal_contents}
 use Rattle.vcd_core.proofs.Waves.{wave_is}
-use Rattle.vcd_text.specs.Grammar.{VariableDeclaration, Context, is_skipped, variable_of}
+use Rattle.vcd_text.specs.Grammar.{VariableDeclaration, ParseState, is_skipped, variable_of}
 use Rattle.vcd_text.specs.Meaning.{latest_value, declared_signal}
-use Rattle.vcd_text.specs.inside.Variables.{declaration, HasWave, Stands, Knows, Finishes}
+use Rattle.vcd_text.specs.inside.Variables.{declaration, HasWave, TargetMatches, VariablesMatch, Finishes}
 use Rattle.vcd_text.specs.declared.reading.variables.Variable.{Variable}
 use Rattle.vcd_text.specs.declared.reading.variables.Variables.{Variables}
 use Rattle.vcd_text.specs.inside.ChangeLog.{GivesLoggedValues, logged}
 use Rattle.vcd_text.proofs.LoggedValues.{gives_late}
 use Rattle.vcd_text.proofs.WaveChanges.{Ended, ended_upto}
-use Rattle.vcd_text.proofs.Owners.{stands_kept}
+use Rattle.vcd_text.proofs.CodeTargets.{stands_kept}
 use Rattle.vcd_text.proofs.DeclaredVariables.{stays}
 
 -- the item between two lists
@@ -26,19 +26,19 @@ middle_of [] rest v = refl
 middle_of (u ∷ vs) rest v = middle_of vs rest v
 
 -- the variable of a signal
-variable_behind : (f : Variable → SignalContents) (vs : List Variable) (signals : List Signal) (position : ℕ) (s : Signal) → map signal_contents signals ≡ map f vs
+variable_after : (f : Variable → SignalContents) (vs : List Variable) (signals : List Signal) (position : ℕ) (s : Signal) → map signal_contents signals ≡ map f vs
     → slice_get signals position ≡ Some s → (w : Variable) × (slice_get vs position ≡ Some w) × (signal_contents s ≡ f w)
-variable_behind f vs [] position s same at = let never : None ≡ Some s = at in absurd (cc)
-variable_behind f [] (x ∷ signals) position s same at = absurd (omega (arith, ap (length {A = SignalContents}) same))
-variable_behind f (v ∷ vs) (x ∷ signals) zero s same at =
+variable_after f vs [] position s same at = let never : None ≡ Some s = at in absurd (cc)
+variable_after f [] (x ∷ signals) position s same at = absurd (omega (arith, ap (length {A = SignalContents}) same))
+variable_after f (v ∷ vs) (x ∷ signals) zero s same at =
     (v, refl, ap signal_contents (sym (same_Some x s at)) ∙ same_Some (signal_contents x) (f v) (ap (λ l. slice_get l 0) same))
-variable_behind f (v ∷ vs) (x ∷ signals) (suc n) s same at = variable_behind f vs signals n s (ap (drop 1) same) at
+variable_after f (v ∷ vs) (x ∷ signals) (suc n) s same at = variable_after f vs signals n s (ap (drop 1) same) at
 
 map_twice : (f : VariableDeclaration → SignalContents) (vs : List Variable) → map f (map declaration vs) ≡ map (λ v. f (declaration v)) vs
 map_twice f [] = refl
 map_twice f (v ∷ vs) = ap (λ l. f (declaration v) ∷ l) (map_twice f vs)
 
-module _ (vs : Variables) (c : Context) (yielded rest : List Variable) (v : Variable) (signals : List Signal) (k : Knows vs c) (empty : vs.log.groups.items ≡ []) (all : vs.kept.items ≡ yielded ++ v ∷ rest)
+module _ (vs : Variables) (c : ParseState) (yielded rest : List Variable) (v : Variable) (signals : List Signal) (k : VariablesMatch vs c) (empty : vs.log.groups.items ≡ []) (all : vs.kept.items ≡ yielded ++ v ∷ rest)
     (told : map signal_contents signals ≡ map (declared_signal c.value_changes c.tick) (map declaration yielded)) where
   stands_at : slice_get vs.kept.items (length yielded) ≡ Some v
   stands_at = ap (λ l. slice_get l (length yielded)) all ∙ middle_of yielded rest v
@@ -46,7 +46,7 @@ module _ (vs : Variables) (c : Context) (yielded rest : List Variable) (v : Vari
   own_wave : (d : VariableDeclaration) × (variable_of c v.code ≡ Some d) × (is_skipped d ≡ false) × HasWave vs.kept.items (logged vs.log.groups.items) v.first v.code d.size c.value_changes c.tick
   own_wave =
       stands_kept vs.kept.items (logged vs.log.groups.items) c.value_changes c.tick v.code (variable_of c v.code) v.first
-      (subst (λ o. Stands vs.kept.items (logged vs.log.groups.items) c.value_changes c.tick v.code o (variable_of c v.code)) (k.firsts (length yielded) v stands_at).owned (k.stand v.code))
+      (subst (λ o. TargetMatches vs.kept.items (logged vs.log.groups.items) c.value_changes c.tick v.code o (variable_of c v.code)) (k.firsts (length yielded) v stands_at).owned (k.stand v.code))
 
   -- the changes of a variable of this size and code
   changes_by : ℕ → List ℕ → List Change
@@ -77,14 +77,14 @@ module _ (vs : Variables) (c : Context) (yielded rest : List Variable) (v : Vari
       → signal_contents signal ≡ declared_signal c.value_changes c.tick (declaration v)
   unfolding changes_by
   later_means s signal at takes =
-      let behind = variable_behind (λ u. declared_signal c.value_changes c.tick (declaration u)) yielded signals v.first s (told ∙ map_twice (declared_signal c.value_changes c.tick) yielded) at in
-      let stood : slice_get vs.kept.items v.first ≡ Some behind.0 = ap (λ l. slice_get l v.first) all ∙ stays yielded (v ∷ rest) v.first behind.0 behind.1 in
-      let same : behind.0 ≡ own_wave.3.first = same_Some behind.0 own_wave.3.first (sym stood ∙ own_wave.3.stands) in
-      let code : behind.0.code ≡ v.code = ap (λ (u : Variable). u.code) same ∙ own_wave.3.coded in
-      let size : behind.0.signal.wave.width ≡ v.signal.wave.width = (k.firsts (length yielded) v stands_at).same_size behind.0 stood in
-      let width : s.wave.width ≡ v.signal.wave.width = ap (λ (x : SignalContents). x.width) behind.2 ∙ size in
+      let following = variable_after (λ u. declared_signal c.value_changes c.tick (declaration u)) yielded signals v.first s (told ∙ map_twice (declared_signal c.value_changes c.tick) yielded) at in
+      let stood : slice_get vs.kept.items v.first ≡ Some following.0 = ap (λ l. slice_get l v.first) all ∙ stays yielded (v ∷ rest) v.first following.0 following.1 in
+      let same : following.0 ≡ own_wave.3.first = same_Some following.0 own_wave.3.first (sym stood ∙ own_wave.3.stands) in
+      let code : following.0.code ≡ v.code = ap (λ (u : Variable). u.code) same ∙ own_wave.3.coded in
+      let size : following.0.signal.wave.width ≡ v.signal.wave.width = (k.firsts (length yielded) v stands_at).same_size following.0 stood in
+      let width : s.wave.width ≡ v.signal.wave.width = ap (λ (x : SignalContents). x.width) following.2 ∙ size in
       let changes : s.wave.changes ≡ changes_by v.signal.wave.width v.code =
-      ap (λ (x : SignalContents). x.changes) behind.2 ∙ ap (λ n. changes_by n behind.0.code) size ∙ ap (changes_by v.signal.wave.width) code in
+      ap (λ (x : SignalContents). x.changes) following.2 ∙ ap (λ n. changes_by n following.0.code) size ∙ ap (changes_by v.signal.wave.width) code in
       takes ∙ (λ i. record { scopes = v.signal.scopes; kind = v.signal.kind; words = v.signal.words; width = width i; changes = changes i })
 
   -- the signal that a variable becomes is the one that it declares

@@ -2,7 +2,7 @@
 use Rattle.std.proofs.Common.{◌≡◌, ℕ, Bool, true, false, List, [], ◌∷◌, ◌++◌, refl, ap, ◌∙◌, append_assoc}
 use Rattle.vcd_core.specs.Word.{is_white_space}
 use Rattle.vcd_text.specs.declared.fault.Fault.{Fault}
-use Rattle.vcd_text.specs.Words.{PlacedWord, word_on, line_behind, ends_before, with_longer_first, with_byte, words_from, words_of, closed_words}
+use Rattle.vcd_text.specs.Words.{PlacedWord, word_on, line_after, ends_before, with_longer_first, with_byte, words_from, words_of, closed_words}
 use Rattle.vcd_text.specs.Faults.{FileFault, FrontFault, ShowsFault, shown}
 
 -- the first words of a list of words
@@ -27,10 +27,10 @@ front_with_last false last b line all = (with_byte false last b line all, refl)
 closed_in_front : (whole : Bool) (line : ℕ) (front rest : List ℕ) → IsFront (words_from false line front) (words_from whole line (front ++ rest))
 unfolding words_from
 closed_in_front whole line [] rest = (words_from whole line rest, refl)
-closed_in_front whole line (b ∷ []) rest = front_with_last (is_white_space b) (ends_before whole rest) b line (words_from whole (line_behind b line) rest)
+closed_in_front whole line (b ∷ []) rest = front_with_last (is_white_space b) (ends_before whole rest) b line (words_from whole (line_after b line) rest)
 closed_in_front whole line (b ∷ next ∷ front) rest =
-    front_with_byte (is_white_space b) (is_white_space next) b line (words_from false (line_behind b line) (next ∷ front)) (words_from whole (line_behind b line) (next ∷ front ++ rest))
-    (closed_in_front whole (line_behind b line) (next ∷ front) rest)
+    front_with_byte (is_white_space b) (is_white_space next) b line (words_from false (line_after b line) (next ∷ front)) (words_from whole (line_after b line) (next ∷ front ++ rest))
+    (closed_in_front whole (line_after b line) (next ∷ front) rest)
 
 -- a fault that words show is shown whatever words follow
 shown_further : (words all : List PlacedWord) (line : ℕ) (fault : Fault) → IsFront words all → ShowsFault words line fault → ShowsFault all line fault

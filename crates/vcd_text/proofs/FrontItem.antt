@@ -13,7 +13,7 @@ use Rattle.vcd_core.specs.Decimal.{is_number, number_of}
 use Rattle.vcd_core.specs.Word.{is_one_of}
 use Rattle.vcd_text.specs.Letters.{is_among, is_binary_digit}
 use Rattle.vcd_text.specs.Items.{Item, entry, timescale, scope, upscope, variable, end_definitions, stamp, scalar, vector, real_or_string, bracket, other, spelling, end_word, is_end_word, has_no_end_word, dump_words, declaring_words, header_words, begins_declaration, is_other, timescale_of, vector_prefixes, dropped_prefixes}
-use Rattle.vcd_text.specs.Grammar.{Context, VariableDeclaration, Allows, is_skipped, has_good_size, declaration_of, variable_of, may_have_code, has_room, is_tick, is_binary_number, takes_binary_number}
+use Rattle.vcd_text.specs.Grammar.{ParseState, VariableDeclaration, Allows, is_skipped, has_good_size, declaration_of, variable_of, may_have_code, has_room, is_tick, is_binary_number, takes_binary_number}
 use Rattle.vcd_text.specs.Faults.{DeclarationFault, ChangeFault, WordFault, IsUnfinished, pair_prefixes, no_declaration, no_timescale, no_kind, upscope_at_top, upscope_goes_on, no_size, no_variable, code_mixed, no_room, definitions_go_on, no_tick, tick_goes_back, value_alone, value_of_none, pair_of_none, no_value, value_too_long, declaration_late, no_change, among_declarations, among_changes, declaration_due, words_due, upscope_due, variable_due, definitions_due, code_due, other_due}
 
 -- a fault stands at a place, counted from the front
@@ -62,20 +62,20 @@ abbrev pub upscope_front : List ScopeName → List (List ℕ) → Front
 upscope_front [] ws = faulty 0 UpscopeAtTop
 upscope_front (s ∷ scopes) ws = closing_next upscope ws
 
-abbrev pub variable_told : Context → Option VariableDeclaration → List (List ℕ) → List (List ℕ) → Front
-variable_told c None words rest = faulty (suc (length words)) BadVar
-variable_told c (Some d) words rest =
+abbrev pub variable_state : ParseState → Option VariableDeclaration → List (List ℕ) → List (List ℕ) → Front
+variable_state c None words rest = faulty (suc (length words)) BadVar
+variable_state c (Some d) words rest =
     cond (may_have_code (variable_of c d.code) d) (cond (has_room c.declared d) (whole (variable words) rest) (faulty (suc (length words)) TooManySignals)) (faulty (suc (length words)) MixedCode)
 
-abbrev pub variable_front : Context → List (List ℕ) → Front
+abbrev pub variable_front : ParseState → List (List ℕ) → Front
 variable_front c [] = unfinished
 variable_front c (kind ∷ []) = cond (is_end_word kind) (faulty 1 BadVar) unfinished
 variable_front c (kind ∷ size ∷ ws) =
     cond (is_end_word kind) (faulty 1 BadVar)
-    (cond (is_number size) (closing (λ words rest. variable_told c (declaration_of c words) words rest) (kind ∷ size ∷ ws)) (faulty 2 BadVar))
+    (cond (is_number size) (closing (λ words rest. variable_state c (declaration_of c words) words rest) (kind ∷ size ∷ ws)) (faulty 2 BadVar))
 
 -- the front of some words among the declarations, their first word apart
-abbrev pub declaration_front : Context → List ℕ → List (List ℕ) → Front
+abbrev pub declaration_front : ParseState → List ℕ → List (List ℕ) → Front
 declaration_front c w ws =
     cond (begins_declaration w)
     (cond (is_one_of declaring_words w)
@@ -93,27 +93,27 @@ declaration_front c w ws =
 
 -- ---- changes
 
-abbrev pub stamp_front : Context → List ℕ → List (List ℕ) → Front
+abbrev pub stamp_front : ParseState → List ℕ → List (List ℕ) → Front
 stamp_front c digits ws = cond (is_tick digits) (cond (nat_lt (number_of digits) c.tick) (faulty 0 TimeBackwards) (whole (stamp digits) ws)) (faulty 0 BadTime)
 
 abbrev pub known : Option VariableDeclaration → (VariableDeclaration → Front) → Front
 known None f = faulty 0 UnknownCode
 known (Some d) f = f d
 
-abbrev pub scalar_front : Context → ℕ → List ℕ → List (List ℕ) → Front
+abbrev pub scalar_front : ParseState → ℕ → List ℕ → List (List ℕ) → Front
 scalar_front c letter [] ws = faulty 0 BadChange
 scalar_front c letter (b ∷ code) ws = known (variable_of c (b ∷ code)) (λ d. whole (scalar letter (b ∷ code)) ws)
 
-abbrev pub vector_fits : Context → ℕ → List ℕ → List ℕ → List (List ℕ) → VariableDeclaration → Front
+abbrev pub vector_fits : ParseState → ℕ → List ℕ → List ℕ → List (List ℕ) → VariableDeclaration → Front
 vector_fits c first digits code ws d =
     cond (is_skipped d) (whole (vector first digits code) ws)
     (cond (is_binary_number digits) (cond (nat_lt d.size (length digits)) (faulty 0 ValueTooLong) (whole (vector first digits code) ws)) (faulty 0 BadChange))
 
-abbrev pub vector_front : Context → ℕ → List ℕ → List (List ℕ) → Front
+abbrev pub vector_front : ParseState → ℕ → List ℕ → List (List ℕ) → Front
 vector_front c first digits [] = unfinished
 vector_front c first digits (code ∷ ws) = known (variable_of c code) (λ d. vector_fits c first digits code ws d)
 
-abbrev pub dropped_front : Context → ℕ → List ℕ → List (List ℕ) → Front
+abbrev pub dropped_front : ParseState → ℕ → List ℕ → List (List ℕ) → Front
 dropped_front c first text [] = unfinished
 dropped_front c first text (code ∷ ws) = known (variable_of c code) (λ d. whole (real_or_string first text code) ws)
 
@@ -122,7 +122,7 @@ command_front w ws =
     cond (is_one_of dump_words w) (whole (bracket w) ws)
     (cond (is_one_of declaring_words w) (faulty 0 UnexpectedWord) (closing (λ words rest. whole (other w words) rest) ws))
 
-abbrev pub change_front : Context → List ℕ → List (List ℕ) → Front
+abbrev pub change_front : ParseState → List ℕ → List (List ℕ) → Front
 change_front c [] ws = unfinished
 change_front c (first ∷ text) ws =
     cond (is_binary_digit first) (scalar_front c first text ws)
@@ -134,13 +134,13 @@ change_front c (first ∷ text) ws =
 
 -- ---- the front of some words
 
-abbrev pub front : Bool → Context → List (List ℕ) → Front
+abbrev pub front : Bool → ParseState → List (List ℕ) → Front
 front false c [] = unfinished
 front true c [] = ended
 front false c (w ∷ ws) = declaration_front c w ws
 front true c (w ∷ ws) = change_front c w ws
 
-abbrev pub front_of : Context → List (List ℕ) → Front
+abbrev pub front_of : ParseState → List (List ℕ) → Front
 front_of c words = front c.changing c words
 
 -- ---- tests
@@ -159,7 +159,7 @@ by_one_of : (P : List ℕ → Type 0) (words : List (List ℕ)) (w : List ℕ) �
 by_one_of P [] w h all = absurd (false≢true h)
 by_one_of P (x ∷ xs) w h all = elim (or_cases (bytes_eq w x) (is_one_of xs w) h) [ inl e ↦ subst P (sym ((bytes_eq-Decides w x).0 e)) all.0 | inr e ↦ by_one_of P xs w e all.1 ]
 
-pub front_at : (b : Bool) (c : Context) (words : List (List ℕ)) (f : Front) → c.changing ≡ b → front b c words ≡ f → front_of c words ≡ f
+pub front_at : (b : Bool) (c : ParseState) (words : List (List ℕ)) (f : Front) → c.changing ≡ b → front b c words ≡ f → front_of c words ≡ f
 front_at b c words f h e = ap (λ t. front t c words) h ∙ e
 
 -- ---- whole items
@@ -176,29 +176,29 @@ known_some : (o : Option VariableDeclaration) (f : Front) → IsSome o → known
 known_some None f h = absurd (false≢true h)
 known_some (Some d) f h = refl
 
-sized : (c : Context) (kind size : List ℕ) (ws : List (List ℕ)) → is_end_word kind ≡ false → is_number size ≡ true
-    → variable_front c (kind ∷ size ∷ ws) ≡ closing (λ words rest. variable_told c (declaration_of c words) words rest) (kind ∷ size ∷ ws)
+sized : (c : ParseState) (kind size : List ℕ) (ws : List (List ℕ)) → is_end_word kind ≡ false → is_number size ≡ true
+    → variable_front c (kind ∷ size ∷ ws) ≡ closing (λ words rest. variable_state c (declaration_of c words) words rest) (kind ∷ size ∷ ws)
 sized c kind size ws k s = on_false (is_end_word kind) _ _ k ∙ on_true (is_number size) _ _ s
 
-told_whole : (c : Context) (d : VariableDeclaration) (words rest : List (List ℕ)) → may_have_code (variable_of c d.code) d ≡ true → has_room c.declared d ≡ true
-    → variable_told c (Some d) words rest ≡ whole (variable words) rest
+told_whole : (c : ParseState) (d : VariableDeclaration) (words rest : List (List ℕ)) → may_have_code (variable_of c d.code) d ≡ true → has_room c.declared d ≡ true
+    → variable_state c (Some d) words rest ≡ whole (variable words) rest
 told_whole c d words rest m r = on_true (may_have_code (variable_of c d.code) d) _ _ m ∙ on_true (has_room c.declared d) _ _ r
 
-told_some : (c : Context) (o : Option VariableDeclaration) (words rest : List (List ℕ)) → IsSomeAnd o (λ d. IsTrue (may_have_code (variable_of c d.code) d) × IsTrue (has_room c.declared d))
-    → variable_told c o words rest ≡ whole (variable words) rest
+told_some : (c : ParseState) (o : Option VariableDeclaration) (words rest : List (List ℕ)) → IsSomeAnd o (λ d. IsTrue (may_have_code (variable_of c d.code) d) × IsTrue (has_room c.declared d))
+    → variable_state c o words rest ≡ whole (variable words) rest
 told_some c None words rest h = absurd h
 told_some c (Some d) words rest h = told_whole c d words rest h.0 h.1
 
-variable_closing : (c : Context) (words rest : List (List ℕ)) → IsTrue (has_no_end_word words) → IsTrue (has_good_size words)
-    → variable_front c (words ++ end_word ∷ rest) ≡ variable_told c (declaration_of c words) words rest
+variable_closing : (c : ParseState) (words rest : List (List ℕ)) → IsTrue (has_no_end_word words) → IsTrue (has_good_size words)
+    → variable_front c (words ++ end_word ∷ rest) ≡ variable_state c (declaration_of c words) words rest
 variable_closing c [] [] n g = refl
 variable_closing c [] (r ∷ rest) n g = refl
 variable_closing c (kind ∷ []) rest n g = on_false (is_end_word kind) _ _ (not-true (is_end_word kind) (and_parts _ _ n).0)
 variable_closing c (kind ∷ size ∷ words) rest n g =
     sized c kind size (words ++ end_word ∷ rest) (not-true (is_end_word kind) (and_parts _ _ n).0) g
-    ∙ closing_end (λ words rest. variable_told c (declaration_of c words) words rest) (kind ∷ size ∷ words) rest n
+    ∙ closing_end (λ words rest. variable_state c (declaration_of c words) words rest) (kind ∷ size ∷ words) rest n
 
-stamp_whole : (c : Context) (digits : List ℕ) (ws : List (List ℕ)) → is_tick digits ≡ true → c.tick ≤ number_of digits → stamp_front c digits ws ≡ whole (stamp digits) ws
+stamp_whole : (c : ParseState) (digits : List ℕ) (ws : List (List ℕ)) → is_tick digits ≡ true → c.tick ≤ number_of digits → stamp_front c digits ws ≡ whole (stamp digits) ws
 stamp_whole c digits ws t le = on_true (is_tick digits) _ _ t ∙ on_false (nat_lt (number_of digits) c.tick) _ _ (le-ltb (number_of digits) c.tick le)
 
 vector_taken : (d : VariableDeclaration) (digits : List ℕ) (w : Front) → takes_binary_number d digits ≡ true
@@ -218,13 +218,13 @@ vector_known : (o : Option VariableDeclaration) (digits : List ℕ) (w : Front) 
 vector_known None digits w h = absurd h
 vector_known (Some d) digits w h = vector_taken d digits w h
 
-other_declared : (c : Context) (w : List ℕ) (ws : List (List ℕ)) → IsTrue (is_other false w) → declaration_front c w ws ≡ closing (λ words rest. whole (other w words) rest) ws
+other_declared : (c : ParseState) (w : List ℕ) (ws : List (List ℕ)) → IsTrue (is_other false w) → declaration_front c w ws ≡ closing (λ words rest. whole (other w words) rest) ws
 other_declared c w ws h =
     let p = and_parts (begins_declaration w && not (is_one_of declaring_words w)) (false || not (is_one_of header_words w)) h in
     let q = and_parts (begins_declaration w) (not (is_one_of declaring_words w)) p.0 in
     on_true (begins_declaration w) _ _ q.0 ∙ on_false (is_one_of declaring_words w) _ _ (not-true _ q.1) ∙ on_false (is_one_of header_words w) _ _ (not-true _ p.1)
 
-other_changed : (c : Context) (w : List ℕ) (ws : List (List ℕ)) → IsTrue (is_other true w) → change_front c w ws ≡ closing (λ words rest. whole (other w words) rest) ws
+other_changed : (c : ParseState) (w : List ℕ) (ws : List (List ℕ)) → IsTrue (is_other true w) → change_front c w ws ≡ closing (λ words rest. whole (other w words) rest) ws
 other_changed c [] ws h = absurd (false≢true h)
 other_changed c (first ∷ text) ws h =
     let p = and_parts (begins_declaration (first ∷ text) && not (is_one_of declaring_words (first ∷ text))) true h in
@@ -234,11 +234,11 @@ other_changed c (first ∷ text) ws h =
     subst (λ b. change_front c (b ∷ text) ws ≡ command_front (b ∷ text) ws) (sym (eqb-true first 36 r.0)) here
     ∙ on_false (is_one_of dump_words (first ∷ text)) _ _ (not-true _ r.1) ∙ on_false (is_one_of declaring_words (first ∷ text)) _ _ (not-true _ q.1)
 
-other_front : (b : Bool) (c : Context) (w : List ℕ) (ws : List (List ℕ)) → IsTrue (is_other b w) → front b c (w ∷ ws) ≡ closing (λ words rest. whole (other w words) rest) ws
+other_front : (b : Bool) (c : ParseState) (w : List ℕ) (ws : List (List ℕ)) → IsTrue (is_other b w) → front b c (w ∷ ws) ≡ closing (λ words rest. whole (other w words) rest) ws
 other_front true c w ws h = other_changed c w ws h
 other_front false c w ws h = other_declared c w ws h
 
-pub whole_front : (c : Context) (i : Item) (rest : List (List ℕ)) → Allows c i → front_of c (spelling i ++ rest) ≡ whole i rest
+pub whole_front : (c : ParseState) (i : Item) (rest : List (List ℕ)) → Allows c i → front_of c (spelling i ++ rest) ≡ whole i rest
 whole_front c (entry Date words) rest a = front_at false c _ _ a.0 (closing_at _ words rest a.1)
 whole_front c (entry Version words) rest a = front_at false c _ _ a.0 (closing_at _ words rest a.1)
 whole_front c (entry Comment words) rest a = front_at false c _ _ a.0 (closing_at _ words rest a.1)
@@ -267,7 +267,7 @@ not_among (x ∷ xs) ys b h =
     let q = not_among xs ys b p.1 in
     (or_from (nat_eq b x) (is_among xs b) p.0 q.0, q.1)
 
-change_none : (c : Context) (first : ℕ) (text : List ℕ) (ws : List (List ℕ)) → IsFalse (is_binary_digit first) → IsFalse (is_among (codes "#$" ++ pair_prefixes) first)
+change_none : (c : ParseState) (first : ℕ) (text : List ℕ) (ws : List (List ℕ)) → IsFalse (is_binary_digit first) → IsFalse (is_among (codes "#$" ++ pair_prefixes) first)
     → change_front c (first ∷ text) ws ≡ faulty 0 BadChange
 change_none c first text ws l n =
     let a = not_among (codes "#") (codes "$" ++ pair_prefixes) first n in
@@ -276,18 +276,18 @@ change_none c first text ws l n =
     on_false (is_binary_digit first) _ _ l ∙ on_false (is_among (codes "#") first) _ _ a.0 ∙ on_false (is_among (codes "$") first) _ _ b.0
     ∙ on_false (is_among vector_prefixes first) _ _ d.0 ∙ on_false (is_among dropped_prefixes first) _ _ d.1
 
-variable_open : (c : Context) (words : List (List ℕ)) → IsTrue (has_no_end_word words) → IsTrue (has_good_size words) → variable_front c words ≡ unfinished
+variable_open : (c : ParseState) (words : List (List ℕ)) → IsTrue (has_no_end_word words) → IsTrue (has_good_size words) → variable_front c words ≡ unfinished
 variable_open c [] n g = refl
 variable_open c (kind ∷ []) n g = on_false (is_end_word kind) _ _ (not-true (is_end_word kind) (and_parts _ _ n).0)
 variable_open c (kind ∷ size ∷ words) n g =
-    sized c kind size words (not-true (is_end_word kind) (and_parts _ _ n).0) g ∙ closing_none (λ words rest. variable_told c (declaration_of c words) words rest) (kind ∷ size ∷ words) n
+    sized c kind size words (not-true (is_end_word kind) (and_parts _ _ n).0) g ∙ closing_none (λ words rest. variable_state c (declaration_of c words) words rest) (kind ∷ size ∷ words) n
 
 -- how far behind the first word of its item a fault is told
 abbrev pub place_of : Bool → List (List ℕ) → ℕ
 place_of false begun = length begun
 place_of true begun = 0
 
-declaration_faulty : (c : Context) (begun : List (List ℕ)) (word : List ℕ) (fault : Fault) (more : List (List ℕ)) → DeclarationFault c begun word fault
+declaration_faulty : (c : ParseState) (begun : List (List ℕ)) (word : List ℕ) (fault : Fault) (more : List (List ℕ)) → DeclarationFault c begun word fault
     → front false c (begun ++ word ∷ more) ≡ faulty (length begun) fault
 declaration_faulty c begun word fault more (no_declaration b n f) = rw (b, f) (on_false (begins_declaration word) _ _ n)
 declaration_faulty c begun word fault more (no_timescale words b w n t f) =
@@ -297,14 +297,14 @@ declaration_faulty c begun word fault more (upscope_at_top b w s f) = rw (b, w, 
 declaration_faulty c begun word fault more (upscope_goes_on b w s f) = rw (b, f) (upscope_some c.scopes (word ∷ more) s ∙ on_false (is_end_word word) _ _ w)
 declaration_faulty c begun word fault more (no_size kind b k n f) = rw (b, f) (on_false (is_end_word kind) _ _ k ∙ on_false (is_number word) _ _ n)
 declaration_faulty c begun word fault more (no_variable words b w n g o f) =
-    rw (b, w, f) (variable_closing c words more n g ∙ ap (λ p. variable_told c p words more) o)
+    rw (b, w, f) (variable_closing c words more n g ∙ ap (λ p. variable_state c p words more) o)
 declaration_faulty c begun word fault more (code_mixed words d b w n g o m f) =
-    rw (b, w, f) (variable_closing c words more n g ∙ ap (λ p. variable_told c p words more) o ∙ on_false (may_have_code (variable_of c d.code) d) _ _ m)
+    rw (b, w, f) (variable_closing c words more n g ∙ ap (λ p. variable_state c p words more) o ∙ on_false (may_have_code (variable_of c d.code) d) _ _ m)
 declaration_faulty c begun word fault more (no_room words d b w n g o m r f) =
-    rw (b, w, f) (variable_closing c words more n g ∙ ap (λ p. variable_told c p words more) o ∙ on_true (may_have_code (variable_of c d.code) d) _ _ m ∙ on_false (has_room c.declared d) _ _ r)
+    rw (b, w, f) (variable_closing c words more n g ∙ ap (λ p. variable_state c p words more) o ∙ on_true (may_have_code (variable_of c d.code) d) _ _ m ∙ on_false (has_room c.declared d) _ _ r)
 declaration_faulty c begun word fault more (definitions_go_on b w f) = rw (b, f) (on_false (is_end_word word) _ _ w)
 
-change_faulty : (c : Context) (begun : List (List ℕ)) (word : List ℕ) (fault : Fault) (more : List (List ℕ)) → ChangeFault c begun word fault
+change_faulty : (c : ParseState) (begun : List (List ℕ)) (word : List ℕ) (fault : Fault) (more : List (List ℕ)) → ChangeFault c begun word fault
     → front true c (begun ++ word ∷ more) ≡ faulty 0 fault
 change_faulty c begun word fault more (no_tick digits b w t f) = rw (b, w, f) (on_false (is_tick digits) _ _ t)
 change_faulty c begun word fault more (tick_goes_back digits b w t l f) =
@@ -327,14 +327,14 @@ change_faulty c begun word fault more (declaration_late b w f) =
     rw (b, f) (by_one_of (λ x. change_front c x more ≡ faulty 0 UnexpectedWord) declaring_words word w (refl, (refl, (refl, (refl, (refl, tt))))))
 change_faulty c begun word fault more (no_change first text b w l n f) = rw (b, w, f) (change_none c first text more l n)
 
-pub fault_front : (c : Context) (begun : List (List ℕ)) (word : List ℕ) (fault : Fault) (more : List (List ℕ)) → WordFault c begun word fault
+pub fault_front : (c : ParseState) (begun : List (List ℕ)) (word : List ℕ) (fault : Fault) (more : List (List ℕ)) → WordFault c begun word fault
     → front_of c (begun ++ word ∷ more) ≡ faulty (place_of c.changing begun) fault
 fault_front c begun word fault more (among_declarations h d) = front_at false c _ _ h (declaration_faulty c begun word fault more d) ∙ ap (λ b. faulty (place_of b begun) fault) (sym h)
 fault_front c begun word fault more (among_changes h d) = front_at true c _ _ h (change_faulty c begun word fault more d) ∙ ap (λ b. faulty (place_of b begun) fault) (sym h)
 
 -- ---- items that are not whole
 
-pub unfinished_front : (c : Context) (begun : List (List ℕ)) → IsUnfinished c begun → front_of c begun ≡ unfinished
+pub unfinished_front : (c : ParseState) (begun : List (List ℕ)) → IsUnfinished c begun → front_of c begun ≡ unfinished
 unfinished_front c begun (declaration_due h b) = rw b (front_at false c _ _ h refl)
 unfinished_front c begun (words_due word words h b k n) =
     rw b (front_at false c _ _ h (by_one_of (λ w. declaration_front c w words ≡ unfinished) (codes "$timescale" ∷ codes "$scope" ∷ header_words) word k

@@ -8,7 +8,7 @@ use Rattle.std.proofs.lemmas.List.Elements.{filter-append}
 use Rattle.std.proofs.lemmas.Option.{same_Some}
 use Rattle.vcd_core.specs.declared.capture.ScopeName.{ScopeName}
 use Rattle.vcd_text.specs.Items.{variable}
-use Rattle.vcd_text.specs.Grammar.{VariableDeclaration, Context, kept_variables, declaration_of, told_after_item, is_skipped}
+use Rattle.vcd_text.specs.Grammar.{VariableDeclaration, ParseState, kept_variables, declaration_of, state_after_item, is_skipped}
 use Rattle.vcd_text.specs.inside.Scopes.{chains_of, chain_at, scopes_at, AreWithin, AreReached, HoldsScopes}
 use Rattle.vcd_text.specs.declared.reading.scopes.ScopePlace.{ScopePlace}
 use Rattle.vcd_text.specs.declared.reading.scopes.Scopes.{Scopes}
@@ -46,9 +46,9 @@ grows_by_scope (c ∷ cs) chain s (suc k) within =
 
 -- no place is in a chain that begins behind those of the places
 reached_by_none : (cs : List (List ScopeName)) (ps : List ScopePlace) (n reach : ℕ) → length cs ≤ n → AreWithin cs ps → AreReached n reach ps
-reached_by_none cs [] n reach behind within = tt
-reached_by_none cs (p ∷ ps) n reach behind (here, count, later) =
-    (λ is. absurd (omega (arith, is, here, behind)), reached_by_none cs ps n reach behind later)
+reached_by_none cs [] n reach following within = tt
+reached_by_none cs (p ∷ ps) n reach following (here, count, later) =
+    (λ is. absurd (omega (arith, is, here, following)), reached_by_none cs ps n reach following later)
 
 -- one place more
 reached_more : (n reach further : ℕ) (ps : List ScopePlace) (p : ScopePlace) → reach ≤ further → p.count ≤ further → AreReached n reach ps → AreReached n further (ps ++ p ∷ [])
@@ -65,7 +65,7 @@ reach_kept old new chains reach places reached =
     (subst (λ r. AreReached (length old.chains.items) r new.places.items) (sym reach) (subst (AreReached (length old.chains.items) old.reach) (sym places) reached))
 
 -- another chain begins, with the scopes that are open
-pub chain_begins : (old new : Scopes) (c : Context) → new.chains.items ≡ old.chains.items ++ old.chain.items ∷ [] → new.chain.items ≡ take old.depth old.chain.items
+pub chain_begins : (old new : Scopes) (c : ParseState) → new.chains.items ≡ old.chains.items ++ old.chain.items ∷ [] → new.chain.items ≡ take old.depth old.chain.items
     → new.depth ≡ old.depth → new.places.items ≡ old.places.items → HoldsScopes old c.scopes c.declared → HoldsScopes new c.scopes c.declared
 chain_begins old new c chains chain depth places h =
     let all : chains_of new ≡ chains_of old ++ new.chain.items ∷ [] = ap (λ cs. cs ++ new.chain.items ∷ []) chains in
@@ -81,7 +81,7 @@ chain_begins old new c chains chain depth places h =
     }
 
 -- a scope is opened at the end of the chain
-pub scope_entered : (old new : Scopes) (c : Context) (s : ScopeName) → old.depth ≡ length old.chain.items → new.chains.items ≡ old.chains.items
+pub scope_entered : (old new : Scopes) (c : ParseState) (s : ScopeName) → old.depth ≡ length old.chain.items → new.chains.items ≡ old.chains.items
     → new.chain.items ≡ old.chain.items ++ s ∷ [] → new.depth ≡ old.depth + 1 → new.reach ≡ old.reach → new.places.items ≡ old.places.items → HoldsScopes old c.scopes c.declared → HoldsScopes new (c.scopes ++ s ∷ []) c.declared
 scope_entered old new c s end chains chain depth reach places h =
     let all : chains_of new ≡ old.chains.items ++ (old.chain.items ++ s ∷ []) ∷ [] = λ i. chains i ++ chain i ∷ [] in
@@ -97,7 +97,7 @@ scope_entered old new c s end chains chain depth reach places h =
     }
 
 -- as many scopes are open as have been told
-pub so_deep : (s : Scopes) (c : Context) → HoldsScopes s c.scopes c.declared → length c.scopes ≡ s.depth
+pub so_deep : (s : Scopes) (c : ParseState) → HoldsScopes s c.scopes c.declared → length c.scopes ≡ s.depth
 so_deep s c h = ap (length {A = ScopeName}) (sym h.inner) ∙ length-take-le s.depth s.chain.items h.within
 
 take_fewer : (n m : ℕ) (ss : List ScopeName) → m ≤ n → take m (take n ss) ≡ take m ss
@@ -107,7 +107,7 @@ take_fewer (suc n) (suc m) [] fewer = refl
 take_fewer (suc n) (suc m) (s ∷ ss) fewer = ap (λ l. s ∷ l) (take_fewer n m ss (omega (arith, fewer)))
 
 -- the innermost scope is closed
-pub scope_left : (old new : Scopes) (c : Context) → new.chains.items ≡ old.chains.items → new.chain.items ≡ old.chain.items → new.depth ≡ old.depth - 1
+pub scope_left : (old new : Scopes) (c : ParseState) → new.chains.items ≡ old.chains.items → new.chain.items ≡ old.chain.items → new.depth ≡ old.depth - 1
     → new.reach ≡ old.reach → new.places.items ≡ old.places.items → HoldsScopes old c.scopes c.declared → HoldsScopes new (take (length c.scopes - 1) c.scopes) c.declared
 scope_left old new c chains chain depth reach places h =
     let all : chains_of new ≡ chains_of old = λ i. chains i ++ chain i ∷ [] in
@@ -151,7 +151,7 @@ places_cut cs chain depth reach (p ∷ ps) low within (one, others) (here, count
     ((placed.0, placed.1, rest.0), λ i. placed.2 i ∷ rest.1 i)
 
 -- the chain is cut back to the scopes that are open
-pub chain_cut : (old new : Scopes) (c : Context) → new.chains.items ≡ old.chains.items → new.chain.items ≡ take old.depth old.chain.items → new.depth ≡ old.depth
+pub chain_cut : (old new : Scopes) (c : ParseState) → new.chains.items ≡ old.chains.items → new.chain.items ≡ take old.depth old.chain.items → new.depth ≡ old.depth
     → new.reach ≡ old.reach → new.places.items ≡ old.places.items → old.reach ≤ old.depth → HoldsScopes old c.scopes c.declared → HoldsScopes new c.scopes c.declared
 chain_cut old new c chains chain depth reach places low h =
     let all : chains_of new ≡ old.chains.items ++ take old.depth old.chain.items ∷ [] = λ i. chains i ++ chain i ∷ [] in
@@ -172,20 +172,20 @@ within_more cs [] p within here count = (here, count, tt)
 within_more cs (q ∷ ps) p (at, long, later) here count = (at, long, within_more cs ps p later here count)
 
 -- the variables are as many as the places
-pub as_many : (s : Scopes) (c : Context) → HoldsScopes s c.scopes c.declared → length s.places.items ≡ length (kept_variables c.declared)
+pub as_many : (s : Scopes) (c : ParseState) → HoldsScopes s c.scopes c.declared → length s.places.items ≡ length (kept_variables c.declared)
 as_many s c h =
     sym (length-map s.places.items (scopes_at (chains_of s))) ∙ ap (length {A = List ScopeName}) h.paths
     ∙ length-map (kept_variables c.declared) (λ (d : VariableDeclaration). d.scopes)
 
 -- with this declaration behind the others
-abbrev and_then : Context → Option VariableDeclaration → Context
+abbrev and_then : ParseState → Option VariableDeclaration → ParseState
 and_then c o = record c { declared = c.declared ++ option_to_list o }
 
 one_more : (ds : List VariableDeclaration) (d : VariableDeclaration) → kept_variables (ds ++ d ∷ []) ≡ kept_variables ds ++ cond (not (is_skipped d)) (d ∷ []) []
 one_more ds d = filter-append (λ (e : VariableDeclaration). not (is_skipped e)) ds (d ∷ [])
 
 -- no variable more is kept
-passed : (s new : Scopes) (c : Context) (o : Option VariableDeclaration) → new.chains.items ≡ s.chains.items → new.chain.items ≡ s.chain.items → new.depth ≡ s.depth → new.reach ≡ s.reach
+passed : (s new : Scopes) (c : ParseState) (o : Option VariableDeclaration) → new.chains.items ≡ s.chains.items → new.chain.items ≡ s.chain.items → new.depth ≡ s.depth → new.reach ≡ s.reach
     → new.places.items ≡ s.places.items → length (kept_variables (and_then c o).declared) ≤ length s.places.items → HoldsScopes s c.scopes c.declared → HoldsScopes new c.scopes (and_then c o).declared
 passed s new c o chains chain depth reach places few h =
     let all : chains_of new ≡ chains_of s = λ i. chains i ++ chain i ∷ [] in
@@ -208,7 +208,7 @@ passed s new c o chains chain depth reach places few h =
     still (Some d) few = by_test d (is_skipped d) refl few
 
 -- one variable more is kept, in the scopes that are open
-noted : (s new : Scopes) (c : Context) (o : Option VariableDeclaration) → new.chains.items ≡ s.chains.items → new.chain.items ≡ s.chain.items → new.depth ≡ s.depth → s.reach ≤ new.reach → s.depth ≤ new.reach
+noted : (s new : Scopes) (c : ParseState) (o : Option VariableDeclaration) → new.chains.items ≡ s.chains.items → new.chain.items ≡ s.chain.items → new.depth ≡ s.depth → s.reach ≤ new.reach → s.depth ≤ new.reach
     → new.places.items ≡ s.places.items ++ record { chain = length s.chains.items; count = s.depth } ∷ []
     → length s.places.items < length (kept_variables (and_then c o).declared) → ((d : VariableDeclaration) → o ≡ Some d → d.scopes ≡ c.scopes)
     → HoldsScopes s c.scopes c.declared → HoldsScopes new c.scopes (and_then c o).declared
@@ -241,7 +241,7 @@ noted s new c (Some d) chains chain depth far reach places more inside h =
         absurd (omega (arith, more, as_many s c h, ap (length {A = VariableDeclaration}) same))
 
 -- what words declare stands in the scopes that are open
-declared_inside : (c : Context) (words : List (List ℕ)) (d : VariableDeclaration) → declaration_of c words ≡ Some d → d.scopes ≡ c.scopes
+declared_inside : (c : ParseState) (words : List (List ℕ)) (d : VariableDeclaration) → declaration_of c words ≡ Some d → d.scopes ≡ c.scopes
 declared_inside c [] d is = let never : None ≡ Some d = is in absurd (cc)
 declared_inside c (kind ∷ []) d is = let never : None ≡ Some d = is in absurd (cc)
 declared_inside c (kind ∷ size ∷ []) d is = let never : None ≡ Some d = is in absurd (cc)
@@ -249,13 +249,13 @@ declared_inside c (kind ∷ size ∷ code ∷ []) d is = let never : None ≡ So
 declared_inside c (kind ∷ size ∷ code ∷ name ∷ names) d is = ap (λ (e : VariableDeclaration). e.scopes) (sym (same_Some _ d is))
 
 -- a place more is noted where a variable more is kept
-pub place_noted : (s new : Scopes) (c : Context) (words : List (List ℕ)) → new.chains.items ≡ s.chains.items → new.chain.items ≡ s.chain.items → new.depth ≡ s.depth → s.reach ≤ new.reach → s.depth ≤ new.reach
+pub place_noted : (s new : Scopes) (c : ParseState) (words : List (List ℕ)) → new.chains.items ≡ s.chains.items → new.chain.items ≡ s.chain.items → new.depth ≡ s.depth → s.reach ≤ new.reach → s.depth ≤ new.reach
     → new.places.items ≡ s.places.items ++ record { chain = length s.chains.items; count = s.depth } ∷ []
-    → length s.places.items < length (kept_variables (told_after_item c (variable words)).declared)
-    → HoldsScopes s c.scopes c.declared → HoldsScopes new c.scopes (told_after_item c (variable words)).declared
+    → length s.places.items < length (kept_variables (state_after_item c (variable words)).declared)
+    → HoldsScopes s c.scopes c.declared → HoldsScopes new c.scopes (state_after_item c (variable words)).declared
 place_noted s new c words chains chain depth far reach places more h = noted s new c (declaration_of c words) chains chain depth far reach places more (declared_inside c words) h
 
 -- and none where none is
-pub no_place : (s : Scopes) (c : Context) (words : List (List ℕ)) → length (kept_variables (told_after_item c (variable words)).declared) ≤ length s.places.items
-    → HoldsScopes s c.scopes c.declared → HoldsScopes s c.scopes (told_after_item c (variable words)).declared
+pub no_place : (s : Scopes) (c : ParseState) (words : List (List ℕ)) → length (kept_variables (state_after_item c (variable words)).declared) ≤ length s.places.items
+    → HoldsScopes s c.scopes c.declared → HoldsScopes s c.scopes (state_after_item c (variable words)).declared
 no_place s c words few h = passed s s c (declaration_of c words) refl refl refl refl refl few h

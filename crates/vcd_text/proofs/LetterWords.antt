@@ -170,15 +170,15 @@ rows_more pad digits lows highs k low high within within' rows word = record {
 -- those of one word more
 pub letters_more : (digits : List ℕ) (k : ℕ) → list_all is_binary_digit (drop (length digits - 64 * k) digits) ≡ true
     → list_all is_binary_digit (digits_of digits k) ≡ true → list_all is_binary_digit (drop (length digits - 64 * (k + 1)) digits) ≡ true
-letters_more digits k behind here =
+letters_more digits k following here =
     let end : ℕ = length digits - 64 * k in
     let start : length digits - 64 * (k + 1) ≡ end - 64 = omega arith in
     ap (λ n. list_all is_binary_digit (drop n digits)) start ∙ ap (list_all is_binary_digit) (drop_split digits (end - 64) end (omega arith))
-    ∙ list_all-append is_binary_digit (digits_of digits k) (drop end digits) ∙ and_from _ _ here behind
+    ∙ list_all-append is_binary_digit (digits_of digits k) (drop end digits) ∙ and_from _ _ here following
 
 -- where not all behind a place, or before it, are, not all are
-pub not_all_behind : (n : ℕ) (digits : List ℕ) → list_all is_binary_digit (drop n digits) ≡ false → list_all is_binary_digit digits ≡ false
-not_all_behind n digits none =
+pub not_all_after : (n : ℕ) (digits : List ℕ) → list_all is_binary_digit (drop n digits) ≡ false → list_all is_binary_digit digits ≡ false
+not_all_after n digits none =
     ap (list_all is_binary_digit) (sym (take-append-drop n digits)) ∙ list_all-append is_binary_digit (take n digits) (drop n digits)
     ∙ ap (λ b. list_all is_binary_digit (take n digits) && b) none ∙ no_both (list_all is_binary_digit (take n digits))
   where
@@ -195,7 +195,7 @@ not_all_before n digits none =
 pub no_letter : (digits : List ℕ) (k : ℕ) → list_all is_binary_digit (digits_of digits k) ≡ false → list_all is_binary_digit digits ≡ false
 no_letter digits k none =
     let end : ℕ = length digits - 64 * k in
-    not_all_behind (end - 64) digits (not_all_before (end - (end - 64)) (drop (end - 64) digits) none)
+    not_all_after (end - 64) digits (not_all_before (end - (end - 64)) (drop (end - 64) digits) none)
 
 -- ---- all words
 

@@ -41,12 +41,12 @@ pub mod TextLengths
 pub mod WaveChanges
 pub mod LoggedValues
 pub mod ChangeLogs
-pub mod SettledVariables
-pub mod Owners
+pub mod FlushedVariables
+pub mod CodeTargets
 pub mod DeclaredVariables
 pub mod ChangedVariables
 pub mod FinishedVariables
-pub mod Knows
+pub mod VariablesMatch
 pub mod Declaring
 pub mod DeclaredCount
 pub mod Numbers

@@ -9,8 +9,8 @@ use Rattle.vcd_core.specs.declared.capture.Signal.{Signal}
 use Rattle.vcd_core.specs.declared.wave.Change.{Change}
 use Rattle.vcd_core.specs.Contents.{signal_contents}
 use Rattle.vcd_core.specs.Wave.{AreChangesFrom}
-use Rattle.vcd_text.specs.inside.Transitions.{Transition, is_in_window, transition_of, window_by_signal, window_of_signal}
-use Rattle.vcd_text.proofs.Counts.{before_window, behind_window, in_window}
+use Rattle.vcd_text.specs.inside.Transitions.{Transition, is_in_window, transition_of, unsorted_window, window_of_signal}
+use Rattle.vcd_text.proofs.Counts.{before_window, after_window, in_window}
 
 -- ---- one wave
 
@@ -69,7 +69,7 @@ part_is_window a b floor before (c ∷ cs) up (from, other, wide, rest) =
                 ap (λ n. take (count_to b (c ∷ cs) - n) (drop n (c ∷ cs))) lower
                 ∙ ap (λ n. take (n - 0) (c ∷ cs)) upper
                 ∙ sym (ap (λ n. take n cs) empty) ∙ now
-                ∙ sym (ap (λ v. cond v (c ∷ all) all) (behind_window (a + 1) (b + 1) c.tick (omega arith)))
+                ∙ sym (ap (λ v. cond v (c ∷ all) all) (after_window (a + 1) (b + 1) c.tick (omega arith)))
             | inr inside ↦
                 let upper : count_to b (c ∷ cs) - 0 ≡ suc (count_to b cs - 0) = omega (arith, counts b c cs inside) in
                 ap (λ n. take (count_to b (c ∷ cs) - n) (drop n (c ∷ cs))) lower
@@ -82,25 +82,25 @@ part_is_window a b floor before (c ∷ cs) up (from, other, wide, rest) =
 -- ---- signal by signal
 
 pub one_listed : (from to k : ℕ) (signals : List Signal) (s : Signal) (out new whole : List Transition) → k < length signals → s ≡ get_or signals k s
-    → new ≡ out ++ window_of_signal from to k s.wave.changes → out ++ window_by_signal from to k (map signal_contents (drop k signals)) ≡ whole
-    → new ++ window_by_signal from to (k + 1) (map signal_contents (drop (k + 1) signals)) ≡ whole
-unfolding window_by_signal
+    → new ≡ out ++ window_of_signal from to k s.wave.changes → out ++ unsorted_window from to k (map signal_contents (drop k signals)) ≡ whole
+    → new ++ unsorted_window from to (k + 1) (map signal_contents (drop (k + 1) signals)) ≡ whole
+unfolding unsorted_window
 one_listed from to k signals s out new whole within at grown all =
-    ap (λ l. l ++ window_by_signal from to (k + 1) (map signal_contents (drop (k + 1) signals))) grown
-    ∙ append_assoc out (window_of_signal from to k s.wave.changes) (window_by_signal from to (k + 1) (map signal_contents (drop (k + 1) signals)))
-    ∙ ap (λ l. out ++ window_by_signal from to k (map signal_contents l)) (sym (drop_more signals k s within ∙ ap (λ x. x ∷ drop (k + 1) signals) (sym at)))
+    ap (λ l. l ++ unsorted_window from to (k + 1) (map signal_contents (drop (k + 1) signals))) grown
+    ∙ append_assoc out (window_of_signal from to k s.wave.changes) (unsorted_window from to (k + 1) (map signal_contents (drop (k + 1) signals)))
+    ∙ ap (λ l. out ++ unsorted_window from to k (map signal_contents l)) (sym (drop_more signals k s within ∙ ap (λ x. x ∷ drop (k + 1) signals) (sym at)))
     ∙ all
 
-pub all_listed : (from to k : ℕ) (signals : List Signal) (out whole : List Transition) → length signals ≤ k → out ++ window_by_signal from to k (map signal_contents (drop k signals)) ≡ whole → out ≡ whole
-unfolding window_by_signal
+pub all_listed : (from to k : ℕ) (signals : List Signal) (out whole : List Transition) → length signals ≤ k → out ++ unsorted_window from to k (map signal_contents (drop k signals)) ≡ whole → out ≡ whole
+unfolding unsorted_window
 all_listed from to k signals out whole past all =
-    sym (append-nil out) ∙ ap (λ l. out ++ window_by_signal from to k (map signal_contents l)) (sym (drop_all k signals past)) ∙ all
+    sym (append-nil out) ∙ ap (λ l. out ++ unsorted_window from to k (map signal_contents l)) (sym (drop_all k signals past)) ∙ all
 
 -- what is listed and the part of one signal more are not longer than all
 pub longer_than : (from to k : ℕ) (signals : List Signal) (s : Signal) (out whole : List Transition) → k < length signals → s ≡ get_or signals k s
-    → out ++ window_by_signal from to k (map signal_contents (drop k signals)) ≡ whole → length out + length (filter (λ (c : Change). is_in_window from to c.tick) s.wave.changes) ≤ length whole
+    → out ++ unsorted_window from to k (map signal_contents (drop k signals)) ≡ whole → length out + length (filter (λ (c : Change). is_in_window from to c.tick) s.wave.changes) ≤ length whole
 longer_than from to k signals s out whole within at all =
-    let rest = window_by_signal from to (k + 1) (map signal_contents (drop (k + 1) signals)) in
+    let rest = unsorted_window from to (k + 1) (map signal_contents (drop (k + 1) signals)) in
     let grown = one_listed from to k signals s out (out ++ window_of_signal from to k s.wave.changes) whole within at refl all in
     omega (
       arith,

@@ -80,10 +80,10 @@ module _ (width tick : ℕ) (f : ℕ → List Bit) (cs : List Change) where
   gives_first e es g = ends_later cs g.floor e.tick g.rises.0 g.ticks
 
   -- and has it then
-  pub gives_settled : (ds : List Change) (e : LoggedChange) (es : List LoggedChange) → All (λ (c : Change). c.tick ≤ e.tick) ds
+  pub gives_flushed : (ds : List Change) (e : LoggedChange) (es : List LoggedChange) → All (λ (c : Change). c.tick ≤ e.tick) ds
       → ((t : ℕ) → value_at width ds t ≡ (if nat_le e.tick t then logged_letters width e else value_at width cs t))
       → GivesLoggedValues width tick f cs (e ∷ es) → GivesLoggedValues width tick f ds es
-  gives_settled ds e es ended values g = record {
+  gives_flushed ds e es ended values g = record {
     floor = e.tick;
     ticks = ended;
     rises = g.rises.1;

@@ -52,8 +52,8 @@ quiet_before floor before (c ∷ cs) (suc k) d (from, other, wide, rest) inside 
     by true e later = omega (arith, e, later)
     by false e later = omega (arith, e, later)
 
-pub none_behind : (t : ℕ) (cs : List Change) → count_below t cs ≤ length cs
-none_behind t cs = count_by-le-length (λ (c : Change). nat_lt c.tick t) cs
+pub none_after : (t : ℕ) (cs : List Change) → count_below t cs ≤ length cs
+none_after t cs = count_by-le-length (λ (c : Change). nat_lt c.tick t) cs
 
 -- up to its own tick, the change at a place is one more than its place
 pub reaches : (floor a : ℕ) (before : List Bit) (cs : List Change) (k : ℕ) (d : Change) → AreChangesFrom floor before cs → k < length cs → (get_or cs k d).tick ≤ a → k + 1 ≤ count_to a cs
@@ -89,8 +89,8 @@ ends floor before (c ∷ cs) (suc k) d (from, other, wide, rest) inside =
     omega (arith, counts (get_or cs k d).tick c cs here, later)
 
 -- so many changes come up to the tick of the next one
-pub behind_next : (from floor : ℕ) (before : List Bit) (cs : List Change) (next : KeptChange) → AreChangesFrom floor before cs → IsNext from cs next → next.place < length cs → next.place + 1 ≡ count_to next.tick cs
-behind_next from floor before cs next rise is inside =
+pub after_next : (from floor : ℕ) (before : List Bit) (cs : List Change) (next : KeptChange) → AreChangesFrom floor before cs → IsNext from cs next → next.place < length cs → next.place + 1 ≡ count_to next.tick cs
+after_next from floor before cs next rise is inside =
     let d = change 0 [] in
     let at : (get_or cs next.place d).tick ≡ next.tick = sym (is.kept d inside).tick in
     let all : next.place + 1 ≡ count_to (get_or cs next.place d).tick cs =
@@ -105,9 +105,9 @@ first_in_window from to floor before cs next d rise is inside some up early =
     let all = count_to (to - 1) cs in
     let low : from - 1 + 1 ≡ from = omega arith in
     let high : to - 1 + 1 ≡ to = omega arith in
-    let behind = behind_next from floor before cs next rise is inside in
+    let following = after_next from floor before cs next rise is inside in
     let more : count_to next.tick cs ≤ all = count_rises next.tick (to - 1) cs (omega (arith, early)) in
-    let one : all - k ≡ suc (all - (k + 1)) = omega (arith, behind, more) in
+    let one : all - k ≡ suc (all - (k + 1)) = omega (arith, following, more) in
     sym (
     ap (λ m. filter (λ (x : Change). is_in_window m (to - 1 + 1) x.tick) cs) low
     ∙ ap (λ m. filter (λ (x : Change). is_in_window from m x.tick) cs) high)
@@ -115,7 +115,7 @@ first_in_window from to floor before cs next d rise is inside some up early =
     ∙ ap (λ n. take (all - n) (drop n cs)) (sym is.place)
     ∙ ap (λ l. take (all - k) l) (drop_more cs k d inside)
     ∙ ap (λ n. take n (get_or cs k d ∷ drop (k + 1) cs)) one
-    ∙ ap (λ n. get_or cs k d ∷ take (all - n) (drop n cs)) behind
+    ∙ ap (λ n. get_or cs k d ∷ take (all - n) (drop n cs)) following
     ∙ ap (λ l. get_or cs k d ∷ l) (part_is_window next.tick (to - 1) floor before cs (omega (arith, early)) rise)
     ∙ ap (λ m. get_or cs k d ∷ filter (λ (x : Change). is_in_window (next.tick + 1) m x.tick) cs) high
 
@@ -199,6 +199,6 @@ passed_next from p signals nexts there next inside all is holds before k s n les
 -- and those behind it
 pub left_next : (from p : ℕ) (signals : List Signal) (nexts : List KeptChange) (next : KeptChange) → ((k : ℕ) (s : Signal) (n : KeptChange) → p ≤ k → k < length signals → IsNext from (get_or signals k s).wave.changes (get_or nexts k n))
     → (k : ℕ) (s : Signal) (n : KeptChange) → p + 1 ≤ k → k < length signals → IsNext from (get_or signals k s).wave.changes (get_or (set nexts p next) k n)
-left_next from p signals nexts next behind k s n past inside =
+left_next from p signals nexts next following k s n past inside =
     let apart : k ≢ p = λ at. omega arith in
-    subst (λ (x : KeptChange). IsNext from (get_or signals k s).wave.changes x) (sym (get_or-set_other nexts p k next n apart)) (behind k s n (omega arith) inside)
+    subst (λ (x : KeptChange). IsNext from (get_or signals k s).wave.changes x) (sym (get_or-set_other nexts p k next n apart)) (following k s n (omega arith) inside)

@@ -6,7 +6,7 @@ use Rattle.vcd_core.specs.Contents.{Contents}
 use Rattle.vcd_text.specs.declared.fault.Fault.{Fault}
 use Rattle.vcd_text.specs.Words.{PlacedWord, words_of}
 use Rattle.vcd_text.specs.Items.{Item, spelling, spellings}
-use Rattle.vcd_text.specs.Grammar.{Context, AllowsAll, Accepts, told_after, told_after_item, nothing_told, word_texts}
+use Rattle.vcd_text.specs.Grammar.{ParseState, AllowsAll, Accepts, state_after, state_after_item, initial_state, word_texts}
 use Rattle.vcd_text.specs.Faults.{ShowsFault, Stops, FileFault, shown, too_early, fault_line}
 use Rattle.vcd_text.specs.Meaning.{FileMeans, meaning, skipped_count}
 use Rattle.vcd_text.proofs.FrontItem.{Front, whole, faulty, unfinished, ended, front_of, front_at, whole_front, fault_front, unfinished_front, place_of}
@@ -30,8 +30,8 @@ rest_of unfinished = []
 rest_of ended = []
 
 -- two readings of the same words have the same items and end at the same word
-same_end : (c : Context) (is js : List Item) (r s : List (List ℕ)) → spellings is ++ r ≡ spellings js ++ s → AllowsAll c is → AllowsAll c js
-    → IsLast (front_of (told_after c is) r) → IsLast (front_of (told_after c js) s) → (is ≡ js) × (r ≡ s)
+same_end : (c : ParseState) (is js : List Item) (r s : List (List ℕ)) → spellings is ++ r ≡ spellings js ++ s → AllowsAll c is → AllowsAll c js
+    → IsLast (front_of (state_after c is) r) → IsLast (front_of (state_after c js) s) → (is ≡ js) × (r ≡ s)
 same_end c [] [] r s e a b p q = (refl, e)
 same_end c [] (j ∷ js) r s e a b p q =
     absurd (subst IsLast (ap (front_of c) (e ∙ append_assoc (spelling j) (spellings js) s) ∙ whole_front c j (spellings js ++ s) b.0) p)
@@ -42,27 +42,27 @@ same_end c (i ∷ is) (j ∷ js) r s e a b p q =
     sym (whole_front c i (spellings is ++ r) a.0) ∙ ap (front_of c) (sym (append_assoc (spelling i) (spellings is) r) ∙ e ∙ append_assoc (spelling j) (spellings js) s)
     ∙ whole_front c j (spellings js ++ s) b.0 in
     let same : i ≡ j = ap (item_of i) f in
-    let further = same_end (told_after_item c i) is js r s (ap rest_of f) a.1 (subst (λ x. AllowsAll (told_after_item c x) js) (sym same) b.1) p
-    (subst (λ x. IsLast (front_of (told_after (told_after_item c x) js) s)) (sym same) q) in
+    let further = same_end (state_after_item c i) is js r s (ap rest_of f) a.1 (subst (λ x. AllowsAll (state_after_item c x) js) (sym same) b.1) p
+    (subst (λ x. IsLast (front_of (state_after (state_after_item c x) js) s)) (sym same) q) in
     (ap (λ x. x ∷ is) same ∙ ap (λ x. j ∷ x) further.0, further.1)
 
 -- the words are read up to a rest that does not begin with a whole item
-record Ends (words : List (List ℕ)) (told : Context) (rest : List (List ℕ)) (last : Front) : Type 0 where
+record Ends (words : List (List ℕ)) (told : ParseState) (rest : List (List ℕ)) (last : Front) : Type 0 where
   items : List Item
   spelled : words ≡ spellings items ++ rest
-  allowed : AllowsAll nothing_told items
-  tells : told_after nothing_told items ≡ told
+  allowed : AllowsAll initial_state items
+  tells : state_after initial_state items ≡ told
   shows : front_of told rest ≡ last
   is_last : IsLast last
 
-one_end : (words : List (List ℕ)) (c d : Context) (r s : List (List ℕ)) (f g : Front) → Ends words c r f → Ends words d s g → (c ≡ d) × (r ≡ s) × (f ≡ g)
+one_end : (words : List (List ℕ)) (c d : ParseState) (r s : List (List ℕ)) (f g : Front) → Ends words c r f → Ends words d s g → (c ≡ d) × (r ≡ s) × (f ≡ g)
 one_end words c d r s f g a b =
-    let p = same_end nothing_told a.items b.items r s (sym a.spelled ∙ b.spelled) a.allowed b.allowed
+    let p = same_end initial_state a.items b.items r s (sym a.spelled ∙ b.spelled) a.allowed b.allowed
     (subst IsLast (sym (ap (λ x. front_of x r) a.tells ∙ a.shows)) a.is_last) (subst IsLast (sym (ap (λ x. front_of x s) b.tells ∙ b.shows)) b.is_last) in
-    let told : c ≡ d = sym a.tells ∙ ap (told_after nothing_told) p.0 ∙ b.tells in
+    let told : c ≡ d = sym a.tells ∙ ap (state_after initial_state) p.0 ∙ b.tells in
     (told, p.1, sym a.shows ∙ ap (λ x. front_of x r) told ∙ ap (front_of d) p.1 ∙ b.shows)
 
-accepts_ends : (words : List PlacedWord) (told : Context) → Accepts words told → Ends (word_texts words) told [] ended
+accepts_ends : (words : List PlacedWord) (told : ParseState) → Accepts words told → Ends (word_texts words) told [] ended
 accepts_ends words told a = record {
   items = a.items;
   spelled = a.spelled ∙ sym (append-nil (spellings a.items));
@@ -72,24 +72,24 @@ accepts_ends words told a = record {
   is_last = tt;
 }
 
-stops_ends : (words : List PlacedWord) (s : Stops words) → Ends (word_texts words) (told_after nothing_told s.items) s.begun unfinished
+stops_ends : (words : List PlacedWord) (s : Stops words) → Ends (word_texts words) (state_after initial_state s.items) s.begun unfinished
 stops_ends words s = record {
   items = s.items;
   spelled = s.spelled;
   allowed = s.allowed;
   tells = refl;
-  shows = unfinished_front (told_after nothing_told s.items) s.begun s.unfinished;
+  shows = unfinished_front (state_after initial_state s.items) s.begun s.unfinished;
   is_last = tt;
 }
 
 refuses_ends : (words : List PlacedWord) (line : ℕ) (fault : Fault) (r : ShowsFault words line fault)
-    → Ends (word_texts words) (told_after nothing_told r.items) (word_texts (r.begun ++ r.word ∷ r.more)) (faulty (place_of (told_after nothing_told r.items).changing (word_texts r.begun)) fault)
+    → Ends (word_texts words) (state_after initial_state r.items) (word_texts (r.begun ++ r.word ∷ r.more)) (faulty (place_of (state_after initial_state r.items).changing (word_texts r.begun)) fault)
 refuses_ends words line fault r = record {
   items = r.items;
   spelled = ap word_texts r.parts ∙ map-append _ r.whole (r.begun ++ r.word ∷ r.more) ∙ ap (λ x. x ++ word_texts (r.begun ++ r.word ∷ r.more)) r.spelled;
   allowed = r.allowed;
   tells = refl;
-  shows = ap (front_of (told_after nothing_told r.items)) (map-append _ r.begun (r.word ∷ r.more)) ∙ fault_front (told_after nothing_told r.items) (word_texts r.begun) r.word.text fault (word_texts r.more) r.decided;
+  shows = ap (front_of (state_after initial_state r.items)) (map-append _ r.begun (r.word ∷ r.more)) ∙ fault_front (state_after initial_state r.items) (word_texts r.begun) r.word.text fault (word_texts r.more) r.decided;
   is_last = tt;
 }
 
@@ -101,14 +101,14 @@ line_at [] place = 0
 line_at (w ∷ ws) zero = w.line
 line_at (w ∷ ws) (suc place) = line_at ws place
 
-line_behind_begun : (begun : List PlacedWord) (word : PlacedWord) (more : List PlacedWord) → line_at (begun ++ word ∷ more) (length (word_texts begun)) ≡ word.line
-line_behind_begun [] word more = refl
-line_behind_begun (w ∷ begun) word more = line_behind_begun begun word more
+line_after_begun : (begun : List PlacedWord) (word : PlacedWord) (more : List PlacedWord) → line_at (begun ++ word ∷ more) (length (word_texts begun)) ≡ word.line
+line_after_begun [] word more = refl
+line_after_begun (w ∷ begun) word more = line_after_begun begun word more
 
-line_told : (changing : Bool) (begun : List PlacedWord) (word : PlacedWord) (more : List PlacedWord) → line_at (begun ++ word ∷ more) (place_of changing (word_texts begun)) ≡ fault_line changing begun word
-line_told false begun word more = line_behind_begun begun word more
-line_told true [] word more = refl
-line_told true (w ∷ begun) word more = refl
+line_replied : (changing : Bool) (begun : List PlacedWord) (word : PlacedWord) (more : List PlacedWord) → line_at (begun ++ word ∷ more) (place_of changing (word_texts begun)) ≡ fault_line changing begun word
+line_replied false begun word more = line_after_begun begun word more
+line_replied true [] word more = refl
+line_replied true (w ∷ begun) word more = refl
 
 -- two rests of one list that are equally long are the same
 same_rest : (words a b r s : List PlacedWord) → words ≡ a ++ r → words ≡ b ++ s → length r ≡ length s → r ≡ s
@@ -130,7 +130,7 @@ fault_in d ended = d
 
 -- ---- one answer for the words
 
-pub one_telling : (words : List PlacedWord) (a b : Context) → Accepts words a → Accepts words b → a ≡ b
+pub one_telling : (words : List PlacedWord) (a b : ParseState) → Accepts words a → Accepts words b → a ≡ b
 one_telling words a b p q = (one_end (word_texts words) a b [] [] ended ended (accepts_ends words a p) (accepts_ends words b q)).0
 
 pub one_fault : (words : List PlacedWord) (line other_line : ℕ) (fault other_fault : Fault) → ShowsFault words line fault → ShowsFault words other_line other_fault
@@ -140,8 +140,8 @@ one_fault words line other_line fault other_fault p q =
     let long : length (p.begun ++ p.word ∷ p.more) ≡ length (q.begun ++ q.word ∷ q.more) =
     sym (length-map (p.begun ++ p.word ∷ p.more) (λ (w : PlacedWord). w.text)) ∙ ap length e.1 ∙ length-map (q.begun ++ q.word ∷ q.more) (λ (w : PlacedWord). w.text) in
     let rests : p.begun ++ p.word ∷ p.more ≡ q.begun ++ q.word ∷ q.more = same_rest words p.whole q.whole _ _ p.parts q.parts long in (
-      p.at ∙ sym (line_told _ p.begun p.word p.more) ∙ ap (λ x. line_at x (place_of (told_after nothing_told p.items).changing (word_texts p.begun))) rests
-          ∙ ap (λ f. line_at (q.begun ++ q.word ∷ q.more) (place_in f)) e.2 ∙ line_told _ q.begun q.word q.more ∙ sym q.at,
+      p.at ∙ sym (line_replied _ p.begun p.word p.more) ∙ ap (λ x. line_at x (place_of (state_after initial_state p.items).changing (word_texts p.begun))) rests
+          ∙ ap (λ f. line_at (q.begun ++ q.word ∷ q.more) (place_in f)) e.2 ∙ line_replied _ q.begun q.word q.more ∙ sym q.at,
       ap (fault_in fault) e.2,
     )
 
@@ -157,11 +157,11 @@ is_unfinished (faulty place fault) = false
 is_unfinished unfinished = true
 is_unfinished ended = false
 
-pub accepted-not_refused : (words : List PlacedWord) (told : Context) (line : ℕ) (fault : Fault) → Accepts words told → ShowsFault words line fault → ⊥
+pub accepted-not_refused : (words : List PlacedWord) (told : ParseState) (line : ℕ) (fault : Fault) → Accepts words told → ShowsFault words line fault → ⊥
 accepted-not_refused words told line fault p q =
     true≢false (ap is_ended (one_end (word_texts words) _ _ _ _ _ _ (accepts_ends words told p) (refuses_ends words line fault q)).2)
 
-pub accepted-not_stopped : (words : List PlacedWord) (told : Context) → Accepts words told → Stops words → ⊥
+pub accepted-not_stopped : (words : List PlacedWord) (told : ParseState) → Accepts words told → Stops words → ⊥
 accepted-not_stopped words told p q = true≢false (ap is_ended (one_end (word_texts words) _ _ _ _ _ _ (accepts_ends words told p) (stops_ends words q)).2)
 
 pub stopped-not_refused : (words : List PlacedWord) (line : ℕ) (fault : Fault) → Stops words → ShowsFault words line fault → ⊥

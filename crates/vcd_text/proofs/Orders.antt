@@ -14,7 +14,7 @@ use Rattle.vcd_core.specs.Contents.{SignalContents}
 use Rattle.vcd_core.specs.Sound.{IsSoundSignal}
 use Rattle.vcd_text.specs.declared.writing.rows.ListedTransition.{ListedTransition}
 use Rattle.vcd_text.specs.declared.writing.keys.TheConstants.{PLACES}
-use Rattle.vcd_text.specs.inside.Transitions.{Transition, is_in_window, last_tick, transition_items, transition_of, transition_value, transitions_from, window_by_signal, window_of_signal}
+use Rattle.vcd_text.specs.inside.Transitions.{Transition, is_in_window, last_tick, transition_items, transition_of, transition_value, transitions_from, unsorted_window, window_of_signal}
 use Rattle.vcd_text.specs.inside.Windows.{listed_transition, IsKeyIn, IsListed, in_order, keys_from, transition_in, transitions_of}
 use Rattle.vcd_text.specs.Text.{code_of, item_line, stamp_of, value_item}
 use Rattle.vcd_text.proofs.Counts.{rises_from, same_times, window_bounds}
@@ -41,10 +41,10 @@ of_signal from to j (c ∷ cs) rest all = step (is_in_window from to c.tick) ref
     step true is later = let bounds = window_bounds from to c.tick is in (omega arith, bounds.0, bounds.1, later)
     step false is later = later
 
-by_signal : (from to j : ℕ) (ss : List SignalContents) → AreListed from to j (window_by_signal from to j ss)
-unfolding window_by_signal
+by_signal : (from to j : ℕ) (ss : List SignalContents) → AreListed from to j (unsorted_window from to j ss)
+unfolding unsorted_window
 by_signal from to j [] = tt
-by_signal from to j (s ∷ ss) = of_signal from to j s.changes (window_by_signal from to (j + 1) ss) (lower from to (j + 1) j (window_by_signal from to (j + 1) ss) (omega arith) (by_signal from to (j + 1) ss))
+by_signal from to j (s ∷ ss) = of_signal from to j s.changes (unsorted_window from to (j + 1) ss) (lower from to (j + 1) j (unsorted_window from to (j + 1) ss) (omega arith) (by_signal from to (j + 1) ss))
 
 ticks_at : (from to p : ℕ) (ms : List Transition) (k : ℕ) (d : Transition) → AreListed from to p ms → k < length ms → (from ≤ (get_or ms k d).tick) × ((get_or ms k d).tick < to) × (p ≤ (get_or ms k d).position)
 ticks_at from to p [] k d all inside = absurd (omega arith)
@@ -62,7 +62,7 @@ places_rise from to p (m ∷ ms) (suc i) (suc j) d (place, low, high, rest) up i
 
 -- a row lists them
 abbrev Lists : ℕ → ℕ → List SignalContents → List ListedTransition → Type 0
-Lists from to ss row = transitions_of row ≡ window_by_signal from to 0 ss
+Lists from to ss row = transitions_of row ≡ unsorted_window from to 0 ss
 
 listed_row : (from to : ℕ) (ss : List SignalContents) (row : List ListedTransition) → Lists from to ss row → AreListed from to 0 (transitions_of row)
 listed_row from to ss row is = subst (AreListed from to 0) (sym is) (by_signal from to 0 ss)
@@ -71,7 +71,7 @@ transition_at : (row : List ListedTransition) (k : ℕ) (d : ListedTransition) (
 transition_at row k d e inside = get_or-map listed_transition row k d e inside
 
 -- the ticks of a row are in its window
-pub ticks_within : (from to : ℕ) (ss : List SignalContents) (row : List ListedTransition) → transitions_of row ≡ window_by_signal from to 0 ss → All (λ (m : ListedTransition). m.change.tick < to) row
+pub ticks_within : (from to : ℕ) (ss : List SignalContents) (row : List ListedTransition) → transitions_of row ≡ unsorted_window from to 0 ss → All (λ (m : ListedTransition). m.change.tick < to) row
 ticks_within from to ss row is = λ k d inside.
     let there = transition_at row k d (transition_of 0 0) inside in
     let long = length-map row listed_transition in
@@ -155,14 +155,14 @@ not_less a b is =
       | inr up ↦ up
     ]
 
-rises_behind : (from to : ℕ) (ss : List SignalContents) (row : List ListedTransition) (key : ℕ) (keys : List ℕ) → Lists from to ss row → IsKeyOf from row key → All (IsKeyOf from row) keys
+rises_after : (from to : ℕ) (ss : List SignalContents) (row : List ListedTransition) (key : ℕ) (keys : List ℕ) → Lists from to ss row → IsKeyOf from row key → All (IsKeyOf from row) keys
     → ((k d : ℕ) → k + 1 < length (key ∷ keys) → is_lt (nat_cmp (get_or (key ∷ keys) (k + 1) d) (get_or (key ∷ keys) k d)) ≡ false)
     → RisesFrom (transition_in row key).tick (transition_in row key).position (in_order row keys)
-rises_behind from to ss row key [] is of_key all up = tt
-rises_behind from to ss row key (next ∷ keys) is of_key all up =
+rises_after from to ss row key [] is of_key all up = tt
+rises_after from to ss row key (next ∷ keys) is of_key all up =
     let of_next = All-head (IsKeyOf from row) next keys all in (
       not_below from to ss row key next is of_key of_next (not_less key next (up 0 0 (omega arith))),
-      rises_behind from to ss row next keys is of_next (All-tail (IsKeyOf from row) next keys all)
+      rises_after from to ss row next keys is of_next (All-tail (IsKeyOf from row) next keys all)
           (λ k d within. subst (λ i. is_lt (nat_cmp (get_or (key ∷ next ∷ keys) i d) (get_or (next ∷ keys) k d)) ≡ false) (let e : suc k + 1 ≡ suc (k + 1) = omega arith in e) (up (suc k) d (omega arith))),
     )
 
@@ -171,7 +171,7 @@ keys_rise : (from to : ℕ) (ss : List SignalContents) (row : List ListedTransit
 keys_rise from to ss row [] is all up = tt
 keys_rise from to ss row (key ∷ keys) is all up = (
   from_zero (transition_in row key) (cases_lt 0 (transition_in row key).tick),
-  rises_behind from to ss row key keys is (All-head (IsKeyOf from row) key keys all) (All-tail (IsKeyOf from row) key keys all) (λ k d within. up k d (omega arith) within),
+  rises_after from to ss row key keys is (All-head (IsKeyOf from row) key keys all) (All-tail (IsKeyOf from row) key keys all) (λ k d within. up k d (omega arith) within),
 )
   where
     from_zero : (m : Transition) → (0 < m.tick) ⊎ (m.tick ≤ 0) → AtLeast 0 0 m
@@ -179,16 +179,16 @@ keys_rise from to ss row (key ∷ keys) is all up = (
     from_zero m (inr none) = inr (omega arith, omega arith)
 
 -- sorted keys list the transitions of the window by tick
-pub ordered_are : (end from n : ℕ) (ss : List SignalContents) (row : List ListedTransition) (keys sorted : List ℕ) → 1 ≤ from → transitions_of row ≡ window_by_signal from (from + n) 0 ss → length row ≤ PLACES
+pub ordered_are : (end from n : ℕ) (ss : List SignalContents) (row : List ListedTransition) (keys sorted : List ℕ) → 1 ≤ from → transitions_of row ≡ unsorted_window from (from + n) 0 ss → length row ≤ PLACES
     → keys ≡ keys_from from 0 row → IsPermutation keys sorted → IsSorted nat_cmp sorted → All (IsSoundSignal end) ss → in_order row sorted ≡ transitions_from ss from n
 ordered_are end from n ss row keys sorted some is few own moved up sound =
     let all : All (IsKeyOf from row) sorted = All-permutation (IsKeyOf from row) keys sorted moved (subst (All (IsKeyOf from row)) (sym own) (each_key from (from + n) 0 ss row row is few refl)) in
-    let listed : in_order row keys ≡ window_by_signal from (from + n) 0 ss = ap (in_order row) own ∙ own_order from 0 row row few refl ∙ is in
+    let listed : in_order row keys ≡ unsorted_window from (from + n) 0 ss = ap (in_order row) own ∙ own_order from 0 row row few refl ∙ is in
     same_transitions (in_order row sorted) (transitions_from ss from n) 0 0 from 0 (keys_rise from (from + n) ss row sorted is all up) (rises_from ss from n)
     (λ t k. times_permuted t k (in_order row keys) (in_order row sorted) (IsPermutation-map (transition_in row) keys sorted moved) ∙ ap (times t k) listed ∙ same_times end from n ss some sound t k)
 
 -- and each of them is in the row
-pub ordered_in : (end from n : ℕ) (ss : List SignalContents) (row : List ListedTransition) (keys sorted : List ℕ) → transitions_of row ≡ window_by_signal from (from + n) 0 ss → length row ≤ PLACES
+pub ordered_in : (end from n : ℕ) (ss : List SignalContents) (row : List ListedTransition) (keys sorted : List ℕ) → transitions_of row ≡ unsorted_window from (from + n) 0 ss → length row ≤ PLACES
     → keys ≡ keys_from from 0 row → IsPermutation keys sorted → All (IsKeyIn row) sorted
 ordered_in end from n ss row keys sorted is few own moved =
     let all : All (IsKeyOf from row) sorted = All-permutation (IsKeyOf from row) keys sorted moved (subst (All (IsKeyOf from row)) (sym own) (each_key from (from + n) 0 ss row row is few refl)) in

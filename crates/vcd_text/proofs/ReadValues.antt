@@ -41,8 +41,8 @@ found_passes p [] x passes = passes
 found_passes p (y ∷ ys) x passes = choose (p y) refl (found_passes p ys x passes)
   where
     choose : (b : Bool) → p y ≡ b → p (unwrap_or (find p ys) x) ≡ true → p (unwrap_or (cond b (Some y) (find p ys)) x) ≡ true
-    choose true here behind = here
-    choose false here behind = behind
+    choose true here following = here
+    choose false here following = following
 
 -- what is found has what all have, or the other has it
 found_has : {A : Type 0} (P : A → Type 0) (p : A → Bool) (ys : List A) (x : A) → All P ys → P x → P (unwrap_or (find p ys) x)
@@ -50,8 +50,8 @@ found_has P p [] x all has = has
 found_has P p (y ∷ ys) x all has = choose (p y) (found_has P p ys x (All-tail P y ys all) has)
   where
     choose : (b : Bool) → P (unwrap_or (find p ys) x) → P (unwrap_or (cond b (Some y) (find p ys)) x)
-    choose true behind = All-head P y ys all
-    choose false behind = behind
+    choose true following = All-head P y ys all
+    choose false following = following
 
 -- a text that is no shorter than one letter, nor longer than a width
 abbrev IsWithin : ℕ → List Bit → Type 0

@@ -13,14 +13,14 @@ use Rattle.vcd_core.specs.declared.capture.ScopeName.{ScopeName}
 use Rattle.vcd_core.specs.Word.{is_word}
 use Rattle.vcd_core.specs.Sound.{is_sound_scope}
 use Rattle.vcd_text.specs.Items.{scope, upscope, is_end_word, has_no_end_word}
-use Rattle.vcd_text.specs.Grammar.{Context, VariableDeclaration}
+use Rattle.vcd_text.specs.Grammar.{ParseState, VariableDeclaration}
 use Rattle.vcd_text.specs.Text.{same_scope, scope_items}
 use Rattle.vcd_text.proofs.Scopes.{all_closed}
 use Rattle.vcd_text.proofs.WeakerTests.{all_weaker}
 use Rattle.vcd_text.proofs.ItemsInTurn.{Leads, leads_none, leads_first, leads_both, leads_same}
 
 -- what has been told in the middle of the declarations
-abbrev pub declaring : List Header → Option Timescale → List ScopeName → List VariableDeclaration → Context
+abbrev pub declaring : List Header → Option Timescale → List ScopeName → List VariableDeclaration → ParseState
 declaring header timescale scopes declared =
     record { header = header; timescale = timescale; scopes = scopes; declared = declared; changing = false; value_changes = []; tick = 0 }
 

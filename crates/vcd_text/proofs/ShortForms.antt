@@ -217,9 +217,9 @@ word_stays v from low high left kept holds some fits within is last =
     ∙ is.needed enough)
 
 -- what two letters told
-pub told_at : (v : List Bit) (k : ℕ) (letter next : Bit) (r b : Bool) → 1 ≤ k → letter ≡ letter_at v k → next ≡ letter_at v (k - 1)
+pub state_at : (v : List Bit) (k : ℕ) (letter next : Bit) (r b : Bool) → 1 ≤ k → letter ≡ letter_at v k → next ≡ letter_at v (k - 1)
     → r ≡ same_letter (pad_letter (next ∷ [])) letter → r ≡ b → is_spare_in v (k - 1) ≡ b
-told_at v k letter next r b some at_k at_next told is =
+state_at v k letter next r b some at_k at_next told is =
     let here : k - 1 + 1 ≡ k = omega arith in
     let upper : letter_at v (k - 1 + 1) ≡ letter = ap (letter_at v) here ∙ sym at_k in
     (λ p. same_letter (pad_letter (sym at_next p ∷ [])) (upper p)) ∙ sym told ∙ is

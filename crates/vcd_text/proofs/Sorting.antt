@@ -95,7 +95,7 @@ same_transitions (x ∷ xs) (y ∷ ys) a b t k (first_x, rest_x) (first_y, rest_
     elim (compared x y) [
       | inl apart ↦ elim apart [
         | inl before ↦ absurd (first_differs x y xs ys rest_y before (same x.tick x.position))
-        | inr behind ↦ absurd (first_differs y x ys xs rest_x behind (sym (same y.tick y.position)))
+        | inr following ↦ absurd (first_differs y x ys xs rest_x following (sym (same y.tick y.position)))
       ]
       | inr equal ↦
           let rest : xs ≡ ys = same_transitions xs ys x.tick x.position y.tick y.position rest_x rest_y

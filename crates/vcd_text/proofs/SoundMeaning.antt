@@ -24,7 +24,7 @@ use Rattle.vcd_core.specs.Decimal.{is_number, number_of}
 use Rattle.vcd_text.specs.Letters.{extension, pad_letter, letters_of_digits}
 use Rattle.vcd_text.specs.Items.{Item, entry, timescale, scope, upscope, variable, end_definitions, stamp, scalar, vector, real_or_string, bracket, other, spelling, spellings, header_word, end_word, is_end_word, has_no_end_word, timescales}
 use Rattle.vcd_core.specs.TimeUnits.{unit_text}
-use Rattle.vcd_text.specs.Grammar.{Context, VariableDeclaration, ValueChange, Accepts, Allows, AllowsAll, told_after, told_after_item, nothing_told, is_skipped, kept_variables, variable_of, may_have_code, has_room, told_value_changes, with_value_change, takes_binary_number, is_binary_number}
+use Rattle.vcd_text.specs.Grammar.{ParseState, VariableDeclaration, ValueChange, Accepts, Allows, AllowsAll, state_after, state_after_item, initial_state, is_skipped, kept_variables, variable_of, may_have_code, has_room, value_changes_after, with_value_change, takes_binary_number, is_binary_number}
 use Rattle.vcd_text.proofs.WordLaws.{is_run_text, texts_are_runs, run_is_word}
 use Rattle.vcd_text.specs.Meaning.{meaning, declared_signal, latest_value}
 
@@ -79,14 +79,14 @@ pub record IsCleanDeclaration (d : VariableDeclaration) : Type 0 where
   words : list_all is_word d.words ≡ true
 
 -- the variable of a code has the size of this one, where it is kept
-abbrev IsAgreed : Context → VariableDeclaration → Type 0
+abbrev IsAgreed : ParseState → VariableDeclaration → Type 0
 IsAgreed c d = is_skipped d ≡ false → IsSomeAnd (variable_of c d.code) (λ e. (e.size ≡ d.size) × (is_skipped e ≡ false))
 
 -- the variable of the value change's code takes its letters
-abbrev Fits : Context → ValueChange → Type 0
+abbrev Fits : ParseState → ValueChange → Type 0
 Fits c r = IsSomeAnd (variable_of c r.code) (λ e. length r.letters ≤ e.size)
 
-record IsClean (c : Context) : Type 0 where
+record IsClean (c : ParseState) : Type 0 where
   header : list_all is_sound_header c.header ≡ true
   timescale : IfSome c.timescale (λ t. is_sound_timescale t ≡ true)
   scopes : list_all is_sound_scope c.scopes ≡ true
@@ -126,7 +126,7 @@ some_taken digits (Some e) takes = λ keeps.
 -- ---- one item
 
 -- one more value change
-clean_value_change : (c : Context) (code : List ℕ) (letters : List Bit) → IsClean c → IsTrue c.changing → IsSomeAnd (variable_of c code) (λ e. is_skipped e ≡ false → length letters ≤ e.size)
+clean_value_change : (c : ParseState) (code : List ℕ) (letters : List Bit) → IsClean c → IsTrue c.changing → IsSomeAnd (variable_of c code) (λ e. is_skipped e ≡ false → length letters ≤ e.size)
     → IsClean (with_value_change c code letters)
 clean_value_change c code letters clean changing fits = record {
   header = clean.header;
@@ -140,7 +140,7 @@ clean_value_change c code letters clean changing fits = record {
   tick = clean.tick;
 }
   where
-    more : (o : Option VariableDeclaration) → variable_of c code ≡ o → IsSomeAnd o (λ e. is_skipped e ≡ false → length letters ≤ e.size) → All (Fits c) (c.value_changes ++ told_value_changes c code letters o)
+    more : (o : Option VariableDeclaration) → variable_of c code ≡ o → IsSomeAnd o (λ e. is_skipped e ≡ false → length letters ≤ e.size) → All (Fits c) (c.value_changes ++ value_changes_after c code letters o)
     more None is some = absurd some
     more (Some e) is some =
         let r : ValueChange = record { tick = c.tick; code = code; letters = letters } in
@@ -152,10 +152,10 @@ both_kept true e h = absurd (false≢true h)
 both_kept false e h = (h, refl)
 
 -- one more variable
-clean_declared : (c : Context) (d : VariableDeclaration) → IsClean c → IsFalse c.changing → IsCleanDeclaration d → IsTrue (may_have_code (variable_of c d.code) d) → IsTrue (has_room c.declared d)
+clean_declared : (c : ParseState) (d : VariableDeclaration) → IsClean c → IsFalse c.changing → IsCleanDeclaration d → IsTrue (may_have_code (variable_of c d.code) d) → IsTrue (has_room c.declared d)
     → IsClean (record c { declared = c.declared ++ d ∷ [] })
 clean_declared c d clean declaring is shares room =
-    let e : Context = record c { declared = c.declared ++ d ∷ [] } in
+    let e : ParseState = record c { declared = c.declared ++ d ∷ [] } in
     record {
       header = clean.header;
       timescale = clean.timescale;
@@ -184,7 +184,7 @@ clean_declared c d clean declaring is shares room =
         (by_test (λ b. (b || nat_lt (length (kept_variables c.declared)) SIGNAL_LIMIT) ≡ true → length (kept_variables c.declared) + length (cond (not b) (d ∷ []) []) ≤ SIGNAL_LIMIT) (is_skipped d)
         (λ _ _. omega (arith, clean.few)) (λ _ room. let less = ltb-true (length (kept_variables c.declared)) SIGNAL_LIMIT room in omega arith) room)
 
-clean_variable : (c : Context) (words : List (List ℕ)) → IsClean c → list_all is_run_text (spelling (variable words)) ≡ true → Allows c (variable words) → IsClean (told_after_item c (variable words))
+clean_variable : (c : ParseState) (words : List (List ℕ)) → IsClean c → list_all is_run_text (spelling (variable words)) ≡ true → Allows c (variable words) → IsClean (state_after_item c (variable words))
 clean_variable c [] clean all allows = absurd allows.3
 clean_variable c (kind ∷ []) clean all allows = absurd allows.3
 clean_variable c (kind ∷ size ∷ []) clean all allows = absurd allows.3
@@ -198,14 +198,14 @@ clean_variable c (kind ∷ size ∷ code ∷ name ∷ names) clean all allows =
     (record { scopes = clean.scopes; kind = p.0; named = omega arith; words = r.1 }) allows.3.0 allows.3.1
 
 -- what stays clean where neither variables nor value changes come
-clean_beside : (c : Context) (header : List Header) (time : Option Timescale) (scopes : List ScopeName) (changing : Bool) (tick : ℕ) → IsClean c
+clean_beside : (c : ParseState) (header : List Header) (time : Option Timescale) (scopes : List ScopeName) (changing : Bool) (tick : ℕ) → IsClean c
     → list_all is_sound_header header ≡ true → IfSome time (λ t. is_sound_timescale t ≡ true) → list_all is_sound_scope scopes ≡ true
     → (changing ≡ false → c.value_changes ≡ []) → tick ≤ END_LIMIT
     → IsClean (record { header = header; timescale = time; scopes = scopes; declared = c.declared; changing = changing; value_changes = c.value_changes; tick = tick })
 clean_beside c header time scopes changing tick clean sound_header sound_timescale sound_scopes silent within =
     record { header = sound_header; timescale = sound_timescale; scopes = sound_scopes; declared = clean.declared; agree = clean.agree; few = clean.few; fit = clean.fit; silent = silent; tick = within }
 
-clean_item : (c : Context) (i : Item) → IsClean c → list_all is_run_text (spelling i) ≡ true → Allows c i → IsClean (told_after_item c i)
+clean_item : (c : ParseState) (i : Item) → IsClean c → list_all is_run_text (spelling i) ≡ true → Allows c i → IsClean (state_after_item c i)
 clean_item c (entry kind words) clean all allows = clean_beside c _ _ _ _ _ clean
     (list_all-append is_sound_header c.header _
     ∙ and_from (list_all is_sound_header c.header) (list_all is_word words && true) clean.header
@@ -233,11 +233,11 @@ clean_item c (real_or_string first text code) clean all allows = clean
 clean_item c (bracket word_on) clean all allows = clean
 clean_item c (other word_on words) clean all allows = clean
 
-clean_items : (c : Context) (is : List Item) → IsClean c → list_all is_run_text (spellings is) ≡ true → AllowsAll c is → IsClean (told_after c is)
+clean_items : (c : ParseState) (is : List Item) → IsClean c → list_all is_run_text (spellings is) ≡ true → AllowsAll c is → IsClean (state_after c is)
 clean_items c [] clean all allows = clean
 clean_items c (i ∷ is) clean all allows =
     let p = and_parts (list_all is_run_text (spelling i)) (list_all is_run_text (spellings is)) (sym (list_all-append is_run_text (spelling i) (spellings is)) ∙ all) in
-    clean_items (told_after_item c i) is (clean_item c i clean p.0 allows.0) p.1 allows.1
+    clean_items (state_after_item c i) is (clean_item c i clean p.0 allows.0) p.1 allows.1
 
 -- ---- waves
 
@@ -259,7 +259,7 @@ latest_length width code t before (r ∷ rs) long all =
     (λ here. length-ext width r.letters (All-head (FitsWidth width code) r rs all (and_parts (bytes_eq r.code code) (nat_le r.tick t) here).0)) (λ _. long)) (All-tail (FitsWidth width code) r rs all)
 
 -- the value changes of a code that is kept fit its width
-value_changes_fit : (c : Context) (d : VariableDeclaration) → IsAgreed c d → is_skipped d ≡ false → All (Fits c) c.value_changes → All (FitsWidth d.size d.code) c.value_changes
+value_changes_fit : (c : ParseState) (d : VariableDeclaration) → IsAgreed c d → is_skipped d ≡ false → All (Fits c) c.value_changes → All (FitsWidth d.size d.code) c.value_changes
 value_changes_fit c d agrees keeps fit = All-weaker (Fits c) (FitsWidth d.size d.code)
     (λ r fits same. let code : r.code ≡ d.code = (bytes_eq-Decides r.code d.code).0 same in
     joined r (variable_of c d.code) (subst (λ k. IsSomeAnd (variable_of c k) (λ e. length r.letters ≤ e.size)) code fits) (agrees keeps)) c.value_changes fit
@@ -268,7 +268,7 @@ value_changes_fit c d agrees keeps fit = All-weaker (Fits c) (FitsWidth d.size d
     joined r None some same = absurd some
     joined r (Some e) fits same = subst (λ n. length r.letters ≤ n) same.0 fits
 
-sound_signal : (c : Context) (d : VariableDeclaration) → IsClean c → IsCleanDeclaration d → IsAgreed c d → is_skipped d ≡ false → IsSoundSignal c.tick (declared_signal c.value_changes c.tick d)
+sound_signal : (c : ParseState) (d : VariableDeclaration) → IsClean c → IsCleanDeclaration d → IsAgreed c d → is_skipped d ≡ false → IsSoundSignal c.tick (declared_signal c.value_changes c.tick d)
 sound_signal c d clean is agrees keeps =
     let width = kept_is d keeps in
     let values : (t : ℕ) → length (latest_value d.size d.code t (all_x d.size) c.value_changes) ≡ d.size = λ t.
@@ -285,22 +285,22 @@ sound_signal c d clean is agrees keeps =
       ticks = changes_end d.size c.tick _;
     }
 
-clean_start : IsClean nothing_told
+clean_start : IsClean initial_state
 clean_start = record {
   header = refl;
   timescale = tt;
   scopes = refl;
   declared = All-nil IsCleanDeclaration;
-  agree = All-nil (IsAgreed nothing_told);
+  agree = All-nil (IsAgreed initial_state);
   few = omega arith;
-  fit = All-nil (Fits nothing_told);
+  fit = All-nil (Fits initial_state);
   silent = λ _. refl;
   tick = omega arith;
 }
 
-pub meaning_is_sound : (bytes : List ℕ) (told : Context) → Accepts (words_of bytes) told → IsSound (meaning told)
+pub meaning_is_sound : (bytes : List ℕ) (told : ParseState) → Accepts (words_of bytes) told → IsSound (meaning told)
 meaning_is_sound bytes told accepted =
-    let clean : IsClean told = subst IsClean accepted.tells (clean_items nothing_told accepted.items clean_start (ap (list_all is_run_text) (sym accepted.spelled) ∙ texts_are_runs true 1 bytes) accepted.allowed) in
+    let clean : IsClean told = subst IsClean accepted.tells (clean_items initial_state accepted.items clean_start (ap (list_all is_run_text) (sym accepted.spelled) ∙ texts_are_runs true 1 bytes) accepted.allowed) in
     let declared = All-filter (λ d. not (is_skipped d)) IsCleanDeclaration told.declared clean.declared in
     let agree = All-filter (λ d. not (is_skipped d)) (IsAgreed told) told.declared clean.agree in
     let keeps = filter_passes (λ d. not (is_skipped d)) told.declared in

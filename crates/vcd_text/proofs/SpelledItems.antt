@@ -35,8 +35,8 @@ use Rattle.vcd_text.proofs.TextWords.{is_unbroken, is_spelled, words_of_lines}
 -- ---- words
 
 -- whether a byte is no white space
-abbrev is_black : ℕ → Bool
-is_black b = not (is_white_space b)
+abbrev has_no_space : ℕ → Bool
+has_no_space b = not (is_white_space b)
 
 pub word_is_unbroken : (w : List ℕ) → is_word w ≡ true → is_unbroken w ≡ true
 word_is_unbroken [] word = word
@@ -45,38 +45,38 @@ word_is_unbroken (b ∷ bs) word = (and_parts _ _ (and_parts _ _ word).0).1
 pub words_are_unbroken : (ws : List (List ℕ)) → list_all is_word ws ≡ true → list_all is_unbroken ws ≡ true
 words_are_unbroken ws words = all_weaker is_word is_unbroken word_is_unbroken ws words
 
-black_is_unbroken : (w : List ℕ) → 0 < length w → list_all is_black w ≡ true → is_unbroken w ≡ true
-black_is_unbroken [] some black = absurd (omega arith)
-black_is_unbroken (b ∷ bs) some black = black
+no_space_is_unbroken : (w : List ℕ) → 0 < length w → list_all has_no_space w ≡ true → is_unbroken w ≡ true
+no_space_is_unbroken [] some black = absurd (omega arith)
+no_space_is_unbroken (b ∷ bs) some black = black
 
-digit_is_black : (b : ℕ) → is_ascii_digit b ≡ true → is_black b ≡ true
+digit_is_black : (b : ℕ) → is_ascii_digit b ≡ true → has_no_space b ≡ true
 digit_is_black b digit =
     let above : 48 ≤ b = leb-true 48 b (and_parts (nat_le 48 b) (nat_le b 57) digit).0 in
     not_from_false (is_white_space b)
     (or_from (nat_le 9 b && nat_le b 13) (b == 32) (and_right (nat_le 9 b) (nat_le b 13) (lt-leb b 13 (omega arith))) (ne_eqb b 32 (λ e. omega arith)))
 
-decimal_black : (n : ℕ) → n < 2 ^ 64 → list_all is_black (decimal n) ≡ true
-decimal_black n small = all_weaker is_ascii_digit is_black digit_is_black (decimal n) (decimal_digits n small)
+decimal_black : (n : ℕ) → n < 2 ^ 64 → list_all has_no_space (decimal n) ≡ true
+decimal_black n small = all_weaker is_ascii_digit has_no_space digit_is_black (decimal n) (decimal_digits n small)
 
 pub decimal_unbroken : (n : ℕ) → n < 2 ^ 64 → is_unbroken (decimal n) ≡ true
-decimal_unbroken n small = black_is_unbroken (decimal n) (decimal_not_empty n small) (decimal_black n small)
+decimal_unbroken n small = no_space_is_unbroken (decimal n) (decimal_not_empty n small) (decimal_black n small)
 
 pub code_unbroken : (k : ℕ) → is_unbroken (code_of k) ≡ true
-code_unbroken k = black_is_unbroken (code_of k) (code_not_empty k) (code_black k)
+code_unbroken k = no_space_is_unbroken (code_of k) (code_not_empty k) (code_black k)
 
-printed_letter_black : (b : Bit) → is_black (printed_letter b) ≡ true
+printed_letter_black : (b : Bit) → has_no_space (printed_letter b) ≡ true
 printed_letter_black Zero = refl
 printed_letter_black One = refl
 printed_letter_black X = refl
 printed_letter_black Z = refl
 
-printed_black : (v : List Bit) → list_all is_black (printed_letters v) ≡ true
+printed_black : (v : List Bit) → list_all has_no_space (printed_letters v) ≡ true
 printed_black [] = refl
-printed_black (b ∷ v) = and_from (is_black (printed_letter b)) (list_all is_black (printed_letters v)) (printed_letter_black b) (printed_black v)
+printed_black (b ∷ v) = and_from (has_no_space (printed_letter b)) (list_all has_no_space (printed_letters v)) (printed_letter_black b) (printed_black v)
 
 -- a word with another byte in front
-longer_unbroken : (b : ℕ) (w : List ℕ) → is_black b ≡ true → list_all is_black w ≡ true → is_unbroken (b ∷ w) ≡ true
-longer_unbroken b w first rest = and_from (is_black b) (list_all is_black w) first rest
+longer_unbroken : (b : ℕ) (w : List ℕ) → has_no_space b ≡ true → list_all has_no_space w ≡ true → is_unbroken (b ∷ w) ≡ true
+longer_unbroken b w first rest = and_from (has_no_space b) (list_all has_no_space w) first rest
 
 unit_unbroken : (unit : TimeUnit) → is_unbroken (unit_text unit) ≡ true
 unit_unbroken Second = refl

@@ -10,11 +10,11 @@ use Rattle.vcd_text.specs.Words.{PlacedWord, word_on}
 use Rattle.vcd_text.specs.Letters.{is_among}
 use Rattle.vcd_core.specs.Word.{is_one_of}
 use Rattle.vcd_text.specs.Items.{Item, spelling, spellings, is_other, begins_declaration, declaring_words, dump_words, vector_prefixes}
-use Rattle.vcd_text.specs.Grammar.{Context, Allows, AllowsAll, told_after, told_after_item, nothing_told, word_texts}
+use Rattle.vcd_text.specs.Grammar.{ParseState, Allows, AllowsAll, state_after, state_after_item, initial_state, word_texts}
 use Rattle.vcd_text.specs.Faults.{WordFault, among_declarations, among_changes, ChangeFault, no_tick, tick_goes_back, value_alone, value_of_none, pair_of_none, no_value, value_too_long, declaration_late, no_change, pair_prefixes, ShowsFault, fault_line}
 use Rattle.vcd_text.specs.inside.OpenItems.{shown_line}
-use Rattle.vcd_text.specs.inside.Reading.{Reads, TakesWord, goes_on, ends_item, Agrees, IsBegun, is_want_of_memory, error_at, BeginsVector, Steps}
-use Rattle.vcd_text.specs.inside.Variables.{Knows, BinaryNumberFault, TakesChange}
+use Rattle.vcd_text.specs.inside.Reading.{Reads, WordStep, goes_on, ends_item, ReaderMatches, IsBegun, is_want_of_memory, error_at, BeginsVector, WordsResult}
+use Rattle.vcd_text.specs.inside.Variables.{VariablesMatch, BinaryNumberFault, ChangeResult}
 use Rattle.vcd_text.specs.Refusals.{memory_error}
 use Rattle.vcd_text.specs.declared.fault.Fault.TheVariants.{NoMemory}
 use Rattle.vcd_text.specs.declared.reading.reader.OpenItem.{OpenItem}
@@ -23,20 +23,20 @@ use Rattle.vcd_text.specs.declared.reading.reader.Reader.{Reader}
 use Rattle.vcd_text.specs.declared.reading.variables.Variables.{Variables}
 use Rattle.vcd_text.proofs.Changing.{none_begun, whole_vector, vector_shown}
 
-allowed_more : (c : Context) (is : List Item) (i : Item) → AllowsAll c is → Allows (told_after c is) i → AllowsAll c (is ++ i ∷ [])
+allowed_more : (c : ParseState) (is : List Item) (i : Item) → AllowsAll c is → Allows (state_after c is) i → AllowsAll c (is ++ i ∷ [])
 allowed_more c [] i all here = (here, tt)
-allowed_more c (j ∷ is) i (first, rest) here = (first, allowed_more (told_after_item c j) is i rest here)
+allowed_more c (j ∷ is) i (first, rest) here = (first, allowed_more (state_after_item c j) is i rest here)
 
-after_more : (c : Context) (is : List Item) (i : Item) → told_after c (is ++ i ∷ []) ≡ told_after_item (told_after c is) i
+after_more : (c : ParseState) (is : List Item) (i : Item) → state_after c (is ++ i ∷ []) ≡ state_after_item (state_after c is) i
 after_more c [] i = refl
-after_more c (j ∷ is) i = after_more (told_after_item c j) is i
+after_more c (j ∷ is) i = after_more (state_after_item c j) is i
 
 spelled_more : (is : List Item) (i : Item) → spellings (is ++ i ∷ []) ≡ spellings is ++ spelling i
 spelled_more [] i = append-nil (spelling i)
 spelled_more (j ∷ is) i = ap (λ ws. spelling j ++ ws) (spelled_more is i) ∙ sym (append_assoc (spelling j) (spellings is) (spelling i))
 
 -- words that go on with the open item, or end it
-pub words_taken : (old new : Reader) (taken words : List PlacedWord) (r : Reads old taken) → TakesWord r.told (r.begun ++ words) new → Reads new (taken ++ words)
+pub words_taken : (old new : Reader) (taken words : List PlacedWord) (r : Reads old taken) → WordStep r.told (r.begun ++ words) new → Reads new (taken ++ words)
 words_taken old new taken words r (goes_on at) = record {
   items = r.items;
   whole = r.whole;
@@ -52,7 +52,7 @@ words_taken old new taken words r (ends_item i spelled allows at) = record {
   items = r.items ++ i ∷ [];
   whole = taken ++ words;
   begun = [];
-  told = told_after_item r.told i;
+  told = state_after_item r.told i;
   parts = sym (append-nil (taken ++ words));
   spelled =
       ap word_texts (ap (λ ws. ws ++ words) r.parts ∙ append_assoc r.whole r.begun words)
@@ -60,15 +60,15 @@ words_taken old new taken words r (ends_item i spelled allows at) = record {
       ∙ ap (λ ws. ws ++ word_texts (r.begun ++ words)) r.spelled
       ∙ ap (λ ws. spellings r.items ++ ws) (sym spelled)
       ∙ sym (spelled_more r.items i);
-  allowed = allowed_more nothing_told r.items i r.allowed (subst (λ c. Allows c i) (sym r.tells) allows);
-  tells = after_more nothing_told r.items i ∙ ap (λ c. told_after_item c i) r.tells;
+  allowed = allowed_more initial_state r.items i r.allowed (subst (λ c. Allows c i) (sym r.tells) allows);
+  tells = after_more initial_state r.items i ∙ ap (λ c. state_after_item c i) r.tells;
   at = at;
 }
 
 -- behind the whole items a word shows a fault, whatever follows it
-shown_behind : (old : Reader) (taken words begun more : List PlacedWord) (w : PlacedWord) (r : Reads old taken) (line : ℕ) (fault : Fault) → words ≡ r.whole ++ (begun ++ w ∷ more)
+shown_after : (old : Reader) (taken words begun more : List PlacedWord) (w : PlacedWord) (r : Reads old taken) (line : ℕ) (fault : Fault) → words ≡ r.whole ++ (begun ++ w ∷ more)
     → WordFault r.told (word_texts begun) w.text fault → line ≡ fault_line r.told.changing begun w → ShowsFault words line fault
-shown_behind old taken words begun more w r line fault parts decided at = record {
+shown_after old taken words begun more w r line fault parts decided at = record {
   items = r.items;
   whole = r.whole;
   begun = begun;
@@ -107,7 +107,7 @@ no_pair letters changing (b ∷ bs) words first text none is same among =
     false≢true (sym none ∙ ap (is_among letters) (sym (eqb-true b 36 r.0) ∙ first_is) ∙ among)
 
 -- behind another command no word shows a fault
-passed_over : (c : Context) (keyword : List ℕ) (words : List (List ℕ)) (word : List ℕ) (fault : Fault) → IsTrue (is_other c.changing keyword) → ChangeFault c (keyword ∷ words) word fault → ⊥
+passed_over : (c : ParseState) (keyword : List ℕ) (words : List (List ℕ)) (word : List ℕ) (fault : Fault) → IsTrue (is_other c.changing keyword) → ChangeFault c (keyword ∷ words) word fault → ⊥
 passed_over c keyword words word fault is (no_tick digits begun p q r) = absurd (cc)
 passed_over c keyword words word fault is (tick_goes_back digits begun p q r s) = absurd (cc)
 passed_over c keyword words word fault is (value_alone letter begun p q r) = absurd (cc)
@@ -122,11 +122,11 @@ line_of_first : (changing : Bool) (w : PlacedWord) → w.line ≡ fault_line cha
 line_of_first false w = refl
 line_of_first true w = refl
 
-declaring : (m : Reader) (c : Context) (begun : List PlacedWord) (w : PlacedWord) → Agrees m c → IsFalse m.changing → w.line ≡ fault_line c.changing begun w
+declaring : (m : Reader) (c : ParseState) (begun : List PlacedWord) (w : PlacedWord) → ReaderMatches m c → IsFalse m.changing → w.line ≡ fault_line c.changing begun w
 declaring m c begun w agrees none = sym (ap (λ b. fault_line b begun w) (sym agrees.changing ∙ none))
 
 -- the line that is shown is that of the definition
-pub line_shown : (m : Reader) (c : Context) (begun : List PlacedWord) (w : PlacedWord) (fault : Fault) (item : OpenItem) → Agrees m c → IsBegun m begun item → WordFault c (word_texts begun) w.text fault
+pub line_shown : (m : Reader) (c : ParseState) (begun : List PlacedWord) (w : PlacedWord) (fault : Fault) (item : OpenItem) → ReaderMatches m c → IsBegun m begun item → WordFault c (word_texts begun) w.text fault
     → shown_line item m.line w.line ≡ fault_line c.changing begun w
 line_shown m c begun w fault items.Nothing agrees none decided = line_of_first c.changing w ∙ ap (λ ws. fault_line c.changing ws w) (sym none)
 line_shown m c begun w fault (items.Entry kind) agrees is decided = declaring m c begun w agrees is.declares
@@ -150,15 +150,15 @@ one_shown old taken more w r fault refused =
     let parts : words ≡ r.whole ++ (r.begun ++ w ∷ more) = ap (λ ws. ws ++ w ∷ more) r.parts ∙ append_assoc r.whole r.begun (w ∷ more) in
     error_shown words line fault (elim refused [
       | inl memory ↦ inl memory
-      | inr row ↦ inr (shown_behind old taken words r.begun more w r line fault parts row (line_shown old r.told r.begun w fault old.item r.at.0 r.at.1 row))
+      | inr row ↦ inr (shown_after old taken words r.begun more w r line fault parts row (line_shown old r.told r.begun w fault old.item r.at.0 r.at.1 row))
     ])
 
 -- ---- both words of a change of several bits
 
 -- they are taken at once
 pub whole_vector_taken : (m : Reader) (vs : Variables) (text digits code : List ℕ) (line code_line : ℕ) → BeginsVector m text digits
-    → ((c : Context) → c.tick ≡ m.tick → Knows m.variables c → TakesChange c code digits (Ok tt) vs)
-    → Steps m (word_on text line ∷ word_on code code_line ∷ []) (Ok tt) (record m { variables = vs })
+    → ((c : ParseState) → c.tick ≡ m.tick → VariablesMatch m.variables c → ChangeResult c code digits (Ok tt) vs)
+    → WordsResult m (word_on text line ∷ word_on code code_line ∷ []) (Ok tt) (record m { variables = vs })
 whole_vector_taken m vs text digits code line code_line b takes taken r =
     let words : List PlacedWord = word_on text line ∷ word_on code code_line ∷ [] in
     let none = none_begun m r.begun b.between r.at.1 in
@@ -168,8 +168,8 @@ whole_vector_taken m vs text digits code line code_line b takes taken r =
 
 -- the code shows a fault, with the line of the first
 pub whole_vector_refused : (m new : Reader) (text digits code : List ℕ) (line code_line : ℕ) (fault : Fault) → BeginsVector m text digits
-    → ((c : Context) → c.tick ≡ m.tick → Knows m.variables c → (fault ≡ NoMemory) ⊎ BinaryNumberFault c code digits fault)
-    → Steps m (word_on text line ∷ word_on code code_line ∷ []) (Err (error_at line fault)) new
+    → ((c : ParseState) → c.tick ≡ m.tick → VariablesMatch m.variables c → (fault ≡ NoMemory) ⊎ BinaryNumberFault c code digits fault)
+    → WordsResult m (word_on text line ∷ word_on code code_line ∷ []) (Err (error_at line fault)) new
 whole_vector_refused m new text digits code line code_line fault b refuses taken more r =
     let first = word_on text line in
     let words : List PlacedWord = taken ++ first ∷ word_on code code_line ∷ more in
@@ -177,7 +177,7 @@ whole_vector_refused m new text digits code line code_line fault b refuses taken
     let parts : words ≡ r.whole ++ first ∷ word_on code code_line ∷ more = ap (λ ws. ws ++ first ∷ word_on code code_line ∷ more) (r.parts ∙ ap (λ bs. r.whole ++ bs) none ∙ append-nil r.whole) in
     error_shown words line fault (elim (refuses r.told (sym r.at.0.tick) r.at.0.variables) [
       | inl memory ↦ inl memory
-      | inr row ↦ inr (shown_behind m taken words (first ∷ []) more (word_on code code_line) r line fault parts
+      | inr row ↦ inr (shown_after m taken words (first ∷ []) more (word_on code code_line) r line fault parts
           (subst (λ t. WordFault r.told (t ∷ []) code fault) (sym b.spelled) (vector_shown m r.told b.letter digits code fault r.at.0 b.changes b.among row))
           (ap (λ changing. fault_line changing (first ∷ []) (word_on code code_line)) (sym b.changes ∙ r.at.0.changing)))
     ])

@@ -23,11 +23,11 @@ use Rattle.std.specs.Char.{is_ascii_digit}
 use Rattle.vcd_core.specs.Decimal.{number_of}
 use Rattle.vcd_text.specs.Items.{Item, entry, timescale, variable, end_definitions, end_word, is_end_word, has_no_end_word, timescale_of}
 use Rattle.vcd_core.specs.TimeUnits.{unit_text}
-use Rattle.vcd_text.specs.Grammar.{Context, VariableDeclaration, nothing_told, declaration_of, variable_of, may_have_code, has_room, is_skipped, kept_variables}
+use Rattle.vcd_text.specs.Grammar.{ParseState, VariableDeclaration, initial_state, declaration_of, variable_of, may_have_code, has_room, is_skipped, kept_variables}
 use Rattle.vcd_text.specs.Text.{header_items, timescale_items, scope_items, code_of, variable_item, signal_items, first_items, tick_items, end_items, items_of}
 use Rattle.vcd_text.proofs.CodesDiffer.{codes_differ, code_no_end}
 use Rattle.vcd_text.proofs.Decimals.{decimal_digits, decimal_is_number, number_of-decimal}
-use Rattle.vcd_text.proofs.DeclaredSignals.{declared_as, declared_context, declared_of}
+use Rattle.vcd_text.proofs.DeclaredSignals.{declared_as, declared_state, declared_of}
 use Rattle.vcd_text.proofs.ItemsInTurn.{Leads, leads_none, leads_first, leads_one, leads_both, leads_same}
 use Rattle.vcd_text.proofs.SharedScopes.{declaring, words_have_no_end, scopes_lead, scopes_end}
 use Rattle.vcd_text.proofs.SoundTimescales.{sound_count, count_small, timescale_read}
@@ -87,7 +87,7 @@ codes_below_more k ds d below is = λ j from.
     ∙ ap (λ b. cond b (Some d) None) other
 
 -- what the words of a variable declare
-words_declare : (c : Context) (kind size code : List ℕ) (n : ℕ) (words : List (List ℕ)) → 0 < length words → number_of size ≡ n
+words_declare : (c : ParseState) (kind size code : List ℕ) (n : ℕ) (words : List (List ℕ)) → 0 < length words → number_of size ≡ n
     → declaration_of c (kind ∷ size ∷ code ∷ words) ≡ Some (record { scopes = c.scopes; kind = kind; size = n; code = code; words = words })
 words_declare c kind size code n [] named number = absurd (omega arith)
 words_declare c kind size code n (w ∷ ws) named number = ap (λ m. Some (record { scopes = c.scopes; kind = kind; size = m; code = code; words = w ∷ ws })) number
@@ -112,7 +112,7 @@ variable_leads : (h : List Header) (t : Option Timescale) (ds : List VariableDec
     → Leads (declaring h t s.scopes ds) (variable_item k s ∷ []) (declaring h t s.scopes (ds ++ declared_as k s ∷ []))
 variable_leads h t ds end k s sound few at below =
     let most : s.width ≤ WIDTH_LIMIT = sound.most in
-    let before : Context = declaring h t s.scopes ds in
+    let before : ParseState = declaring h t s.scopes ds in
     let words : List (List ℕ) = s.kind ∷ decimal s.width ∷ code_of k ∷ s.words in
     let declares : declaration_of before words ≡ Some (declared_as k s) =
     words_declare before s.kind (decimal s.width) (code_of k) s.width s.words sound.named (number_of-decimal s.width (omega arith)) in
@@ -151,17 +151,17 @@ signals_lead h t opened ds end k (s ∷ ss) sound few at below =
 abbrev pub declaration_items : Contents → List Item
 declaration_items c = header_items c.header ++ timescale_items c.timescale ++ signal_items [] 0 c.signals ++ end_definitions ∷ []
 
-pub declarations_lead : (c : Contents) → IsSound c → Leads nothing_told (declaration_items c) (declared_context c)
+pub declarations_lead : (c : Contents) → IsSound c → Leads initial_state (declaration_items c) (declared_state c)
 declarations_lead c sound =
-    let header : Context = declaring c.header None [] [] in
-    let timed : Context = declaring c.header c.timescale [] [] in
-    let declared : Context = declaring c.header c.timescale [] (declared_of 0 c.signals) in
+    let header : ParseState = declaring c.header None [] [] in
+    let timed : ParseState = declaring c.header c.timescale [] [] in
+    let declared : ParseState = declaring c.header c.timescale [] (declared_of 0 c.signals) in
     let few : length c.signals ≤ SIGNAL_LIMIT = sound.few in
-    leads_both nothing_told declared (declared_context c) (header_items c.header ++ timescale_items c.timescale ++ signal_items [] 0 c.signals) (end_definitions ∷ [])
-    (leads_both nothing_told timed declared (header_items c.header ++ timescale_items c.timescale) (signal_items [] 0 c.signals)
-    (leads_both nothing_told header timed (header_items c.header) (timescale_items c.timescale) (header_leads [] c.header sound.header) (timescale_leads c.header c.timescale sound.timescale))
+    leads_both initial_state declared (declared_state c) (header_items c.header ++ timescale_items c.timescale ++ signal_items [] 0 c.signals) (end_definitions ∷ [])
+    (leads_both initial_state timed declared (header_items c.header ++ timescale_items c.timescale) (signal_items [] 0 c.signals)
+    (leads_both initial_state header timed (header_items c.header) (timescale_items c.timescale) (header_leads [] c.header sound.header) (timescale_leads c.header c.timescale sound.timescale))
     (signals_lead c.header c.timescale [] [] c.end 0 c.signals (recursion_from_All (IsSoundSignal c.end) c.signals sound.signals) (omega arith) refl (λ j from. refl)))
-    (leads_one declared (declared_context c) end_definitions refl refl)
+    (leads_one declared (declared_state c) end_definitions refl refl)
 
 in_two : (front first ticks end : List Item) (i : Item) → front ++ (i ∷ first) ++ ticks ++ end ≡ (front ++ i ∷ []) ++ (first ++ ticks ++ end)
 in_two front first ticks end i =

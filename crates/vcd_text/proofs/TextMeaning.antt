@@ -10,7 +10,7 @@ use Rattle.vcd_text.specs.Text.{code_of}
 use Rattle.vcd_text.proofs.DeclaredSignals.{all_sound_kept, declared_as, declared_of, none_skipped}
 use Rattle.vcd_text.proofs.ReadValues.{length-value_at}
 use Rattle.vcd_text.proofs.LatestValues.{latest_is}
-use Rattle.vcd_text.proofs.TextChanges.{value_changes_of, told_at}
+use Rattle.vcd_text.proofs.TextChanges.{value_changes_of, state_at}
 
 -- a signal of a capture is what the value changes say of its declaration
 signal_means : (c : Contents) → IsSound c → (k : ℕ) (d : SignalContents) → k < length c.signals
@@ -40,9 +40,9 @@ signals_mean c sound =
     (λ i k d at within. let here : i ≡ k = omega arith in ap (λ n. declared_signal (value_changes_of c) c.end (declared_as n (get_or c.signals i d))) (sym here) ∙ signal_means c sound i d within)
 
 -- the text of a sound capture means the capture
-pub text_means : (c : Contents) → IsSound c → c ≡ meaning (told_at c (value_changes_of c) c.end)
+pub text_means : (c : Contents) → IsSound c → c ≡ meaning (state_at c (value_changes_of c) c.end)
 text_means c sound = λ i. record { header = c.header; timescale = c.timescale; end = c.end; signals = sym (signals_mean c sound) i }
 
 -- and skips nothing
-pub text_skips_nothing : (c : Contents) → IsSound c → 0 ≡ skipped_count (told_at c (value_changes_of c) c.end)
+pub text_skips_nothing : (c : Contents) → IsSound c → 0 ≡ skipped_count (state_at c (value_changes_of c) c.end)
 text_skips_nothing c sound = sym (none_skipped c.end 0 c.signals sound.signals)

@@ -2,21 +2,21 @@
 use Rattle.std.proofs.Common.{◌++◌, refl, sym, subst}
 use Rattle.vcd_core.specs.Contents.{Contents}
 use Rattle.vcd_core.specs.Sound.{IsSound}
-use Rattle.vcd_text.specs.Grammar.{nothing_told}
+use Rattle.vcd_text.specs.Grammar.{initial_state}
 use Rattle.vcd_text.specs.Meaning.{FileMeans}
 use Rattle.vcd_text.specs.Text.{end_items, first_items, items_of, text, tick_items}
-use Rattle.vcd_text.proofs.DeclaredSignals.{declared_context}
+use Rattle.vcd_text.proofs.DeclaredSignals.{declared_state}
 use Rattle.vcd_text.proofs.SpelledItems.{words_of_text}
 use Rattle.vcd_text.proofs.ItemsInTurn.{Leads, leads_both}
-use Rattle.vcd_text.proofs.TextChanges.{changes_lead, value_changes_of, told_at}
+use Rattle.vcd_text.proofs.TextChanges.{changes_lead, value_changes_of, state_at}
 use Rattle.vcd_text.proofs.TextDeclarations.{declaration_items, declarations_lead, items_in_two}
 use Rattle.vcd_text.proofs.TextMeaning.{text_means, text_skips_nothing}
 
 -- the items of a sound capture's text are allowed in turn, and leave the value changes of its signals
-items_lead : (c : Contents) → IsSound c → Leads nothing_told (items_of c) (told_at c (value_changes_of c) c.end)
+items_lead : (c : Contents) → IsSound c → Leads initial_state (items_of c) (state_at c (value_changes_of c) c.end)
 items_lead c sound =
-    subst (λ items. Leads nothing_told items (told_at c (value_changes_of c) c.end)) (sym (items_in_two c))
-    (leads_both nothing_told (declared_context c) (told_at c (value_changes_of c) c.end) (declaration_items c) (first_items c.signals ++ tick_items c.signals 1 c.end ++ end_items c.signals c.end)
+    subst (λ items. Leads initial_state items (state_at c (value_changes_of c) c.end)) (sym (items_in_two c))
+    (leads_both initial_state (declared_state c) (state_at c (value_changes_of c) c.end) (declaration_items c) (first_items c.signals ++ tick_items c.signals 1 c.end ++ end_items c.signals c.end)
     (declarations_lead c sound) (changes_lead c sound))
 
 -- the text means the capture
@@ -24,7 +24,7 @@ pub read_back : (c : Contents) → IsSound c → FileMeans (text c) c 0
 read_back c sound =
     let all = items_lead c sound in
     record {
-      told = told_at c (value_changes_of c) c.end;
+      told = state_at c (value_changes_of c) c.end;
       accepted = record { items = items_of c; spelled = words_of_text c sound; allowed = all.allowed; tells = all.tells; definitions_ended = refl };
       means = text_means c sound;
       left_out = text_skips_nothing c sound;

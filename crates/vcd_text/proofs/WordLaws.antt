@@ -10,7 +10,7 @@ use Rattle.vcd_core.specs.Word.{is_word, is_white_space}
 use Rattle.vcd_text.specs.Items.{is_end_word}
 use Rattle.vcd_text.specs.inside.WordWalk.{feeds}
 use Rattle.vcd_text.specs.inside.Spaces.{begins_with_space}
-use Rattle.vcd_text.specs.Words.{line_behind, ends_before, with_longer_first, with_byte, PlacedWord, word_on, words_from}
+use Rattle.vcd_text.specs.Words.{line_after, ends_before, with_longer_first, with_byte, PlacedWord, word_on, words_from}
 
 -- the parts of a conjunction
 pub both : (a b : Bool) → (a && b) ≡ true → (a ≡ true) × (b ≡ true)
@@ -22,8 +22,8 @@ not_true true e = sym e
 not_true false e = refl
 
 -- a byte that is no white space is no line feed
-pub black_is_no_feed : (b : ℕ) → is_white_space b ≡ false → (b == 10) ≡ false
-black_is_no_feed b black = choose (b == 10) refl
+pub no_space_is_no_feed : (b : ℕ) → is_white_space b ≡ false → (b == 10) ≡ false
+no_space_is_no_feed b black = choose (b == 10) refl
   where
     choose : (t : Bool) → (b == 10) ≡ t → t ≡ false
     choose false e = refl
@@ -53,15 +53,15 @@ pub no_feeds : (word : List ℕ) → list_all (λ b. not (is_white_space b)) wor
 no_feeds [] black = refl
 no_feeds (b ∷ bs) black =
     let parts = both (not (is_white_space b)) (list_all (λ b. not (is_white_space b)) bs) black in
-    other_first b bs (b ∷ bs) refl (black_is_no_feed b (not_true (is_white_space b) parts.0)) ∙ no_feeds bs parts.1
+    other_first b bs (b ∷ bs) refl (no_space_is_no_feed b (not_true (is_white_space b) parts.0)) ∙ no_feeds bs parts.1
 
-pub feeds_behind : (n : ℕ) (text : List ℕ) → list_all (λ b. not (is_white_space b)) (take n text) ≡ true → feeds (drop n text) ≡ feeds text
-feeds_behind n text black = omega (arith, ap feeds (take-append-drop n text), feeds_both (take n text) (drop n text), no_feeds (take n text) black)
+pub feeds_after : (n : ℕ) (text : List ℕ) → list_all (λ b. not (is_white_space b)) (take n text) ≡ true → feeds (drop n text) ≡ feeds text
+feeds_after n text black = omega (arith, ap feeds (take-append-drop n text), feeds_both (take n text) (drop n text), no_feeds (take n text) black)
 
 -- ---- words at the front
 
-pub same_line : (b line : ℕ) → is_white_space b ≡ false → line_behind b line ≡ line
-same_line b line black = ap (λ t. cond t (line + 1) line) (black_is_no_feed b black)
+pub same_line : (b line : ℕ) → is_white_space b ≡ false → line_after b line ≡ line
+same_line b line black = ap (λ t. cond t (line + 1) line) (no_space_is_no_feed b black)
 
 -- the words of a text that begins with a word
 pub word_whole : (whole : Bool) (line : ℕ) (w rest : List ℕ) → 0 < length w → list_all (λ b. not (is_white_space b)) w ≡ true → ends_before whole rest ≡ true
@@ -70,14 +70,14 @@ unfolding words_from
 word_whole whole line [] rest some black ends = absurd (omega arith)
 word_whole whole line (b ∷ []) rest some black ends =
     let here : is_white_space b ≡ false = not_true _ (both _ _ black).0 in
-    ap (λ s. with_byte s (ends_before whole rest) b line (words_from whole (line_behind b line) rest)) here
-    ∙ ap (λ e. with_byte false e b line (words_from whole (line_behind b line) rest)) ends
+    ap (λ s. with_byte s (ends_before whole rest) b line (words_from whole (line_after b line) rest)) here
+    ∙ ap (λ e. with_byte false e b line (words_from whole (line_after b line) rest)) ends
     ∙ ap (λ n. word_on (b ∷ []) line ∷ words_from whole n rest) (same_line b line here)
 word_whole whole line (b ∷ c ∷ w) rest some black ends =
     let here : is_white_space b ≡ false = not_true _ (both _ _ black).0 in
-    let behind : is_white_space c ≡ false = not_true (is_white_space c) (both (not (is_white_space c)) (list_all (λ b. not (is_white_space b)) w) (both (not (is_white_space b)) (list_all (λ b. not (is_white_space b)) (c ∷ w)) black).1).0 in
-    ap (λ s. with_byte s (is_white_space c) b line (words_from whole (line_behind b line) (c ∷ w ++ rest))) here
-    ∙ ap (λ e. with_byte false e b line (words_from whole (line_behind b line) (c ∷ w ++ rest))) behind
+    let following : is_white_space c ≡ false = not_true (is_white_space c) (both (not (is_white_space c)) (list_all (λ b. not (is_white_space b)) w) (both (not (is_white_space b)) (list_all (λ b. not (is_white_space b)) (c ∷ w)) black).1).0 in
+    ap (λ s. with_byte s (is_white_space c) b line (words_from whole (line_after b line) (c ∷ w ++ rest))) here
+    ∙ ap (λ e. with_byte false e b line (words_from whole (line_after b line) (c ∷ w ++ rest))) following
     ∙ ap (λ n. with_longer_first b line (words_from whole n (c ∷ w ++ rest))) (same_line b line here)
     ∙ ap (with_longer_first b line) (word_whole whole line (c ∷ w) rest (omega arith) (both _ _ black).1 ends)
 
@@ -88,10 +88,10 @@ word_split whole line n text some black ends =
     ap (words_from whole line) (sym (take-append-drop n text)) ∙ word_whole whole line (take n text) (drop n text) some black ends
 
 -- white space at the front
-pub space_passed : (whole : Bool) (line b : ℕ) (bs : List ℕ) → is_white_space b ≡ true → words_from whole line (b ∷ bs) ≡ words_from whole (line_behind b line) bs
+pub space_passed : (whole : Bool) (line b : ℕ) (bs : List ℕ) → is_white_space b ≡ true → words_from whole line (b ∷ bs) ≡ words_from whole (line_after b line) bs
 unfolding words_from
 space_passed whole line b bs space =
-    ap (λ s. with_byte s (ends_before whole bs) b line (words_from whole (line_behind b line) bs)) space
+    ap (λ s. with_byte s (ends_before whole bs) b line (words_from whole (line_after b line) bs)) space
 
 -- where a text has no word at its front, and no white space, it is at its end
 pub no_word : (whole : Bool) (line n : ℕ) (text : List ℕ) → length (take n text) ≡ 0 → begins_with_space text ≡ false → ends_before true (drop n text) ≡ true
@@ -111,10 +111,10 @@ word_part line (b ∷ []) black =
     ap (λ s. with_byte s false b line []) here
 word_part line (b ∷ c ∷ w) black =
     let here : is_white_space b ≡ false = not_true _ (both _ _ black).0 in
-    let behind : is_white_space c ≡ false = not_true (is_white_space c) (both (not (is_white_space c)) (list_all (λ b. not (is_white_space b)) w) (both (not (is_white_space b)) (list_all (λ b. not (is_white_space b)) (c ∷ w)) black).1).0 in
-    ap (λ s. with_byte s (is_white_space c) b line (words_from false (line_behind b line) (c ∷ w))) here
-    ∙ ap (λ e. with_byte false e b line (words_from false (line_behind b line) (c ∷ w))) behind
-    ∙ ap (with_longer_first b line) (word_part (line_behind b line) (c ∷ w) (both _ _ black).1)
+    let following : is_white_space c ≡ false = not_true (is_white_space c) (both (not (is_white_space c)) (list_all (λ b. not (is_white_space b)) w) (both (not (is_white_space b)) (list_all (λ b. not (is_white_space b)) (c ∷ w)) black).1).0 in
+    ap (λ s. with_byte s (is_white_space c) b line (words_from false (line_after b line) (c ∷ w))) here
+    ∙ ap (λ e. with_byte false e b line (words_from false (line_after b line) (c ∷ w))) following
+    ∙ ap (with_longer_first b line) (word_part (line_after b line) (c ∷ w) (both _ _ black).1)
 
 -- ---- what words are
 
@@ -135,7 +135,7 @@ pub words_are_words : (whole : Bool) (line : ℕ) (bytes : List ℕ) → All (λ
 unfolding words_from
 words_are_words whole line [] = All-nil (λ (w : PlacedWord). is_run w.text)
 words_are_words whole line (b ∷ bs) =
-    runs_with_byte (is_white_space b) (ends_before whole bs) b line (words_from whole (line_behind b line) bs) refl (words_are_words whole (line_behind b line) bs)
+    runs_with_byte (is_white_space b) (ends_before whole bs) b line (words_from whole (line_after b line) bs) refl (words_are_words whole (line_after b line) bs)
 
 -- as tests: a run of bytes other than white space
 abbrev pub is_run_text : List ℕ → Bool
@@ -168,7 +168,7 @@ pub words_are_few : (whole : Bool) (line : ℕ) (bytes : List ℕ) → length (w
 unfolding words_from
 words_are_few whole line [] = omega arith
 words_are_few whole line (b ∷ bs) =
-    omega (arith, words_are_few whole (line_behind b line) bs, more_with_byte (is_white_space b) (ends_before whole bs) b line (words_from whole (line_behind b line) bs))
+    omega (arith, words_are_few whole (line_after b line) bs, more_with_byte (is_white_space b) (ends_before whole bs) b line (words_from whole (line_after b line) bs))
 
 -- the first word to come is a run
 pub first_is_run : (whole : Bool) (line : ℕ) (bytes : List ℕ) (w : PlacedWord) (ws : List PlacedWord) → words_from whole line bytes ≡ w ∷ ws → is_run w.text

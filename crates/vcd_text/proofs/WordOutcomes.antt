@@ -11,17 +11,17 @@ use Rattle.vcd_text.specs.declared.fault.Fault.{Fault}
 use Rattle.vcd_text.specs.declared.fault.Fault.TheVariants.{UnexpectedWord, BadTimescale, BadScope, UpscopeAtTop, BadVar, MixedCode, BadTime, TimeBackwards, BadChange, UnknownCode, ValueTooLong, TooManySignals}
 use Rattle.vcd_text.specs.Letters.{is_among, is_binary_digit}
 use Rattle.vcd_text.specs.Items.{Item, entry, timescale, scope, upscope, variable, end_definitions, stamp, scalar, vector, real_or_string, bracket, other, spelling, end_word, is_end_word, has_no_end_word, dump_words, declaring_words, header_words, begins_declaration, timescale_of, vector_prefixes, dropped_prefixes}
-use Rattle.vcd_text.specs.Grammar.{Context, VariableDeclaration, Allows, is_skipped, has_good_size, declaration_of, variable_of, may_have_code, has_room, is_tick, is_binary_number, takes_binary_number}
+use Rattle.vcd_text.specs.Grammar.{ParseState, VariableDeclaration, Allows, is_skipped, has_good_size, declaration_of, variable_of, may_have_code, has_room, is_tick, is_binary_number, takes_binary_number}
 use Rattle.vcd_text.specs.Faults.{WordFault, IsUnfinished, pair_prefixes, no_declaration, no_timescale, no_kind, upscope_at_top, upscope_goes_on, no_size, no_variable, code_mixed, no_room, definitions_go_on, no_tick, tick_goes_back, value_alone, value_of_none, pair_of_none, no_value, value_too_long, declaration_late, no_change, among_declarations, among_changes, declaration_due, words_due, upscope_due, variable_due, definitions_due, code_due, other_due}
 use Rattle.vcd_text.proofs.OneOf.{by_among, by_one_of}
 
 -- no word of an item has come, or something is due behind these
-pub data IsOpen (c : Context) (begun : List (List ℕ)) : Type 0 where
+pub data IsOpen (c : ParseState) (begun : List (List ℕ)) : Type 0 where
   between : begun ≡ [] → IsOpen c begun
   inside : IsUnfinished c begun → IsOpen c begun
 
 -- what comes of a word
-pub data WordOutcome (c : Context) (begun : List (List ℕ)) (word : List ℕ) : Type 0 where
+pub data WordOutcome (c : ParseState) (begun : List (List ℕ)) (word : List ℕ) : Type 0 where
   shows_fault : (fault : Fault) → WordFault c begun word fault → WordOutcome c begun word
   ends_item : (i : Item) → spelling i ≡ begun ++ word ∷ [] → Allows c i → WordOutcome c begun word
   goes_on : IsUnfinished c (begun ++ word ∷ []) → WordOutcome c begun word
@@ -55,14 +55,14 @@ is_some_by o x is = subst IsSome (sym is) refl
 
 -- ---- the first word of a declaration
 
-upscope_begins : (c : Context) → IsFalse c.changing → WordOutcome c [] (codes "$upscope")
+upscope_begins : (c : ParseState) → IsFalse c.changing → WordOutcome c [] (codes "$upscope")
 upscope_begins c declares =
     elim (cases_length c.scopes) [
       | inl none ↦ shows_fault UpscopeAtTop (among_declarations declares (upscope_at_top refl refl none refl))
       | inr some ↦ goes_on (upscope_due declares refl some)
     ]
 
-declaring_word : (c : Context) (word : List ℕ) → IsFalse c.changing → IsTrue (is_one_of declaring_words word) → WordOutcome c [] word
+declaring_word : (c : ParseState) (word : List ℕ) → IsFalse c.changing → IsTrue (is_one_of declaring_words word) → WordOutcome c [] word
 declaring_word c word declares is =
     by_one_of (WordOutcome c []) declaring_words word is (
       goes_on (words_due (codes "$scope") [] declares refl refl refl),
@@ -78,7 +78,7 @@ declaring_word c word declares is =
       ),
     )
 
-declaration_begins : (c : Context) (word : List ℕ) → IsFalse c.changing → WordOutcome c [] word
+declaration_begins : (c : ParseState) (word : List ℕ) → IsFalse c.changing → WordOutcome c [] word
 declaration_begins c word declares =
     elim (cases_Bool (begins_declaration word)) [
       | inr isnt ↦ shows_fault UnexpectedWord (among_declarations declares (no_declaration refl isnt refl))
@@ -93,7 +93,7 @@ declaration_begins c word declares =
 
 -- ---- the first word of a change
 
-stamp_word : (c : Context) (digits : List ℕ) → IsTrue c.changing → WordOutcome c [] (35 ∷ digits)
+stamp_word : (c : ParseState) (digits : List ℕ) → IsTrue c.changing → WordOutcome c [] (35 ∷ digits)
 stamp_word c digits changing =
     elim (cases_Bool (is_tick digits)) [
       | inr isnt ↦ shows_fault BadTime (among_changes changing (no_tick digits refl refl isnt refl))
@@ -103,7 +103,7 @@ stamp_word c digits changing =
       ]
     ]
 
-command_word : (c : Context) (text : List ℕ) → IsTrue c.changing → WordOutcome c [] (36 ∷ text)
+command_word : (c : ParseState) (text : List ℕ) → IsTrue c.changing → WordOutcome c [] (36 ∷ text)
 command_word c text changing =
     elim (cases_Bool (is_one_of dump_words (36 ∷ text))) [
       | inl dump ↦ ends_item (bracket (36 ∷ text)) refl (changing, dump)
@@ -113,7 +113,7 @@ command_word c text changing =
       ]
     ]
 
-letter_word : (c : Context) (letter : ℕ) (code : List ℕ) → IsTrue c.changing → IsTrue (is_binary_digit letter) → WordOutcome c [] (letter ∷ code)
+letter_word : (c : ParseState) (letter : ℕ) (code : List ℕ) → IsTrue c.changing → IsTrue (is_binary_digit letter) → WordOutcome c [] (letter ∷ code)
 letter_word c letter [] changing is = shows_fault BadChange (among_changes changing (value_alone letter refl refl is refl))
 letter_word c letter (b ∷ code) changing is =
     elim (cases_Option (variable_of c (b ∷ code))) [
@@ -121,7 +121,7 @@ letter_word c letter (b ∷ code) changing is =
       | inr (d, found) ↦ ends_item (scalar letter (b ∷ code)) refl (changing, is, omega arith, is_some_by (variable_of c (b ∷ code)) d found)
     ]
 
-change_begins : (c : Context) (word : List ℕ) → IsTrue c.changing → 0 < length word → WordOutcome c [] word
+change_begins : (c : ParseState) (word : List ℕ) → IsTrue c.changing → 0 < length word → WordOutcome c [] word
 change_begins c [] changing some = absurd (omega arith)
 change_begins c (first ∷ text) changing some =
     elim (cases_Bool (is_binary_digit first)) [
@@ -138,18 +138,18 @@ change_begins c (first ∷ text) changing some =
 
 -- ---- words up to `$end`
 
-timescale_ends : (c : Context) (words : List (List ℕ)) → IsFalse c.changing → IsTrue (has_no_end_word words) → WordOutcome c (codes "$timescale" ∷ words) end_word
+timescale_ends : (c : ParseState) (words : List (List ℕ)) → IsFalse c.changing → IsTrue (has_no_end_word words) → WordOutcome c (codes "$timescale" ∷ words) end_word
 timescale_ends c words declares no_end =
     elim (cases_Option (timescale_of words)) [
       | inl none ↦ shows_fault BadTimescale (among_declarations declares (no_timescale words refl refl no_end none refl))
       | inr (t, found) ↦ ends_item (timescale words) refl (declares, no_end, is_some_by (timescale_of words) t found)
     ]
 
-scope_ends : (c : Context) (words : List (List ℕ)) → IsFalse c.changing → IsTrue (has_no_end_word words) → WordOutcome c (codes "$scope" ∷ words) end_word
+scope_ends : (c : ParseState) (words : List (List ℕ)) → IsFalse c.changing → IsTrue (has_no_end_word words) → WordOutcome c (codes "$scope" ∷ words) end_word
 scope_ends c [] declares no_end = shows_fault BadScope (among_declarations declares (no_kind refl refl refl))
 scope_ends c (kind ∷ words) declares no_end = ends_item (scope kind words) refl (declares, no_end)
 
-words_end : (c : Context) (keyword : List ℕ) (words : List (List ℕ)) → IsFalse c.changing
+words_end : (c : ParseState) (keyword : List ℕ) (words : List (List ℕ)) → IsFalse c.changing
     → IsTrue (is_one_of (codes "$timescale" ∷ codes "$scope" ∷ header_words) keyword) → IsTrue (has_no_end_word words) → WordOutcome c (keyword ∷ words) end_word
 words_end c keyword words declares is no_end =
     by_one_of (λ w. WordOutcome c (w ∷ words) end_word) (codes "$timescale" ∷ codes "$scope" ∷ header_words) keyword is (
@@ -166,7 +166,7 @@ words_end c keyword words declares is no_end =
       ),
     )
 
-declared_ends : (c : Context) (words : List (List ℕ)) (d : VariableDeclaration) → IsFalse c.changing → IsTrue (has_no_end_word words) → IsTrue (has_good_size words)
+declared_ends : (c : ParseState) (words : List (List ℕ)) (d : VariableDeclaration) → IsFalse c.changing → IsTrue (has_no_end_word words) → IsTrue (has_good_size words)
     → declaration_of c words ≡ Some d → WordOutcome c (codes "$var" ∷ words) end_word
 declared_ends c words d declares no_end good told =
     elim (cases_Bool (may_have_code (variable_of c d.code) d)) [
@@ -182,7 +182,7 @@ declared_ends c words d declares no_end good told =
       ]
     ]
 
-variable_ends : (c : Context) (words : List (List ℕ)) → IsFalse c.changing → IsTrue (has_no_end_word words) → IsTrue (has_good_size words) → WordOutcome c (codes "$var" ∷ words) end_word
+variable_ends : (c : ParseState) (words : List (List ℕ)) → IsFalse c.changing → IsTrue (has_no_end_word words) → IsTrue (has_good_size words) → WordOutcome c (codes "$var" ∷ words) end_word
 variable_ends c words declares no_end good =
     elim (cases_Option (declaration_of c words)) [
       | inl none ↦ shows_fault BadVar (among_declarations declares (no_variable words refl refl no_end good none refl))
@@ -190,7 +190,7 @@ variable_ends c words declares no_end good =
     ]
 
 -- the second word of a variable is its size
-variable_continues : (c : Context) (words : List (List ℕ)) (word : List ℕ) → IsFalse c.changing → IsTrue (has_no_end_word words) → IsTrue (has_good_size words) → IsFalse (is_end_word word)
+variable_continues : (c : ParseState) (words : List (List ℕ)) (word : List ℕ) → IsFalse c.changing → IsTrue (has_no_end_word words) → IsTrue (has_good_size words) → IsFalse (is_end_word word)
     → WordOutcome c (codes "$var" ∷ words) word
 variable_continues c [] word declares no_end good isnt = goes_on (variable_due (word ∷ []) declares refl (no_end_more [] word no_end isnt) refl)
 variable_continues c (kind ∷ []) word declares no_end good isnt =
@@ -203,7 +203,7 @@ variable_continues c (kind ∷ size ∷ words) word declares no_end good isnt =
 
 -- ---- the code of a change of two words
 
-vector_ends : (c : Context) (first : ℕ) (digits code : List ℕ) (d : VariableDeclaration) → IsTrue c.changing → IsTrue (is_among pair_prefixes first) → IsTrue (is_among vector_prefixes first)
+vector_ends : (c : ParseState) (first : ℕ) (digits code : List ℕ) (d : VariableDeclaration) → IsTrue c.changing → IsTrue (is_among pair_prefixes first) → IsTrue (is_among vector_prefixes first)
     → variable_of c code ≡ Some d → WordOutcome c ((first ∷ digits) ∷ []) code
 vector_ends c first digits code d changing pair is found =
     let taken : IsTrue (takes_binary_number d digits) → WordOutcome c ((first ∷ digits) ∷ []) code =
@@ -220,7 +220,7 @@ vector_ends c first digits code d changing pair is found =
       ]
     ]
 
-pair_ends : (c : Context) (first : ℕ) (text code : List ℕ) → IsTrue c.changing → IsTrue (is_among pair_prefixes first) → WordOutcome c ((first ∷ text) ∷ []) code
+pair_ends : (c : ParseState) (first : ℕ) (text code : List ℕ) → IsTrue c.changing → IsTrue (is_among pair_prefixes first) → WordOutcome c ((first ∷ text) ∷ []) code
 pair_ends c first text code changing pair =
     elim (cases_Option (variable_of c code)) [
       | inl none ↦ shows_fault UnknownCode (among_changes changing (pair_of_none first text refl pair none refl))
@@ -232,10 +232,10 @@ pair_ends c first text code changing pair =
 
 -- ---- any word
 
-first_word : (c : Context) (word : List ℕ) → 0 < length word → WordOutcome c [] word
+first_word : (c : ParseState) (word : List ℕ) → 0 < length word → WordOutcome c [] word
 first_word c word some = elim (cases_Bool c.changing) [ inl changing ↦ change_begins c word changing some | inr declares ↦ declaration_begins c word declares ]
 
-later_word : (c : Context) (begun : List (List ℕ)) (word : List ℕ) → IsUnfinished c begun → WordOutcome c begun word
+later_word : (c : ParseState) (begun : List (List ℕ)) (word : List ℕ) → IsUnfinished c begun → WordOutcome c begun word
 later_word c begun word (declaration_due declares b) = rw b (declaration_begins c word declares)
 later_word c begun word (words_due keyword words declares b is no_end) =
     rw b (by_end (WordOutcome c (keyword ∷ words)) word (words_end c keyword words declares is no_end)
@@ -253,6 +253,6 @@ later_word c begun word (other_due keyword words b is no_end) =
     rw b (by_end (WordOutcome c (keyword ∷ words)) word (ends_item (other keyword words) refl (is, no_end))
     (λ isnt. goes_on (other_due keyword (words ++ word ∷ []) refl is (no_end_more words word no_end isnt))))
 
-pub word_outcome : (c : Context) (begun : List (List ℕ)) (word : List ℕ) → 0 < length word → IsOpen c begun → WordOutcome c begun word
+pub word_outcome : (c : ParseState) (begun : List (List ℕ)) (word : List ℕ) → 0 < length word → IsOpen c begun → WordOutcome c begun word
 word_outcome c begun word some (between none) = rw none (first_word c word some)
 word_outcome c begun word some (inside due) = later_word c begun word due

@@ -7,12 +7,12 @@ use Rattle.vcd_core.specs.Decimal.{is_number, number_of}
 use Rattle.vcd_core.specs.Word.{is_one_of}
 use Rattle.vcd_text.specs.Letters.{is_among, is_binary_digit}
 use Rattle.vcd_text.specs.Items.{Item, spellings, end_word, is_end_word, has_no_end_word, declaring_words, header_words, begins_declaration, is_other, timescale_of, vector_prefixes, dropped_prefixes}
-use Rattle.vcd_text.specs.Grammar.{Context, VariableDeclaration, is_skipped, has_good_size, declaration_of, variable_of, may_have_code, has_room, is_tick, is_binary_number, nothing_told, word_texts, AllowsAll, told_after}
+use Rattle.vcd_text.specs.Grammar.{ParseState, VariableDeclaration, is_skipped, has_good_size, declaration_of, variable_of, may_have_code, has_room, is_tick, is_binary_number, initial_state, word_texts, AllowsAll, state_after}
 
 -- ---- the rows: the words `begun` of an item that is not whole show no fault, and the word behind them shows this one
 
 -- among the declarations
-pub data DeclarationFault (c : Context) (begun : List (List ℕ)) (word : List ℕ) (fault : Fault) : Type 0 where
+pub data DeclarationFault (c : ParseState) (begun : List (List ℕ)) (word : List ℕ) (fault : Fault) : Type 0 where
   -- a word that begins no declaration
   no_declaration : begun ≡ [] → IsFalse (begins_declaration word)
       → fault ≡ UnexpectedWord → DeclarationFault c begun word fault
@@ -55,7 +55,7 @@ abbrev pub pair_prefixes : List ℕ
 pair_prefixes = vector_prefixes ++ dropped_prefixes
 
 -- among the changes
-pub data ChangeFault (c : Context) (begun : List (List ℕ)) (word : List ℕ) (fault : Fault) : Type 0 where
+pub data ChangeFault (c : ParseState) (begun : List (List ℕ)) (word : List ℕ) (fault : Fault) : Type 0 where
   -- a stamp that is no tick
   no_tick : (digits : List ℕ) → begun ≡ [] → word ≡ 35 ∷ digits → IsFalse (is_tick digits)
       → fault ≡ BadTime → ChangeFault c begun word fault
@@ -90,12 +90,12 @@ pub data ChangeFault (c : Context) (begun : List (List ℕ)) (word : List ℕ) (
       → fault ≡ BadChange → ChangeFault c begun word fault
 
 -- among the declarations or the changes, whichever a file has come to
-pub data WordFault (c : Context) (begun : List (List ℕ)) (word : List ℕ) (fault : Fault) : Type 0 where
+pub data WordFault (c : ParseState) (begun : List (List ℕ)) (word : List ℕ) (fault : Fault) : Type 0 where
   among_declarations : IsFalse c.changing → DeclarationFault c begun word fault → WordFault c begun word fault
   among_changes : IsTrue c.changing → ChangeFault c begun word fault → WordFault c begun word fault
 
 -- the words `begun` of an item that is not whole show no fault, and something is due behind them
-pub data IsUnfinished (c : Context) (begun : List (List ℕ)) : Type 0 where
+pub data IsUnfinished (c : ParseState) (begun : List (List ℕ)) : Type 0 where
   -- the next declaration
   declaration_due : IsFalse c.changing → begun ≡ [] → IsUnfinished c begun
   -- words up to the `$end` of a header entry, a timescale or a scope
@@ -131,17 +131,17 @@ pub record ShowsFault (words : List PlacedWord) (line : ℕ) (fault : Fault) : T
   pub more : List PlacedWord
   pub parts : words ≡ whole ++ (begun ++ word ∷ more)
   pub spelled : word_texts whole ≡ spellings items
-  pub allowed : AllowsAll nothing_told items
-  pub decided : WordFault (told_after nothing_told items) (word_texts begun) word.text fault
-  pub at : line ≡ fault_line (told_after nothing_told items).changing begun word
+  pub allowed : AllowsAll initial_state items
+  pub decided : WordFault (state_after initial_state items) (word_texts begun) word.text fault
+  pub at : line ≡ fault_line (state_after initial_state items).changing begun word
 
 -- the words end too early, and no word shows a fault
 pub record Stops (words : List PlacedWord) : Type 0 where
   pub items : List Item
   pub begun : List (List ℕ)
   pub spelled : word_texts words ≡ spellings items ++ begun
-  pub allowed : AllowsAll nothing_told items
-  pub unfinished : IsUnfinished (told_after nothing_told items) begun
+  pub allowed : AllowsAll initial_state items
+  pub unfinished : IsUnfinished (state_after initial_state items) begun
 
 -- the file has this fault, with this line: a word shows it, or the end comes too early
 pub data FileFault (bytes : List ℕ) (line : ℕ) (fault : Fault) : Type 0 where

@@ -30,7 +30,7 @@ pub record ValueChange : Type 0 where
   pub letters : List Bit
 
 -- what the items so far have told: the scopes are those that are open, outermost first; the tick is the last stamp, or 0; `changing` says whether `$enddefinitions $end` has come
-pub record Context : Type 0 where
+pub record ParseState : Type 0 where
   pub header : List Header
   pub timescale : Option Timescale
   pub scopes : List ScopeName
@@ -40,8 +40,8 @@ pub record Context : Type 0 where
   pub tick : ℕ
 
 -- before the first item
-abbrev pub nothing_told : Context
-nothing_told = record { header = []; timescale = None; scopes = []; declared = []; changing = false; value_changes = []; tick = 0 }
+abbrev pub initial_state : ParseState
+initial_state = record { header = []; timescale = None; scopes = []; declared = []; changing = false; value_changes = []; tick = 0 }
 
 -- ---- variables
 
@@ -60,7 +60,7 @@ has_good_size (kind ∷ []) = true
 has_good_size (kind ∷ size ∷ words) = is_number size
 
 -- what the words of a `$var` declare: kind, size, code, and one or more words of the name
-abbrev pub declaration_of : Context → List (List ℕ) → Option VariableDeclaration
+abbrev pub declaration_of : ParseState → List (List ℕ) → Option VariableDeclaration
 declaration_of c [] = None
 declaration_of c (kind ∷ []) = None
 declaration_of c (kind ∷ size ∷ []) = None
@@ -68,7 +68,7 @@ declaration_of c (kind ∷ size ∷ code ∷ []) = None
 declaration_of c (kind ∷ size ∷ code ∷ name ∷ names) = Some (record { scopes = c.scopes; kind = kind; size = number_of size; code = code; words = name ∷ names })
 
 -- the first variable of this code; the later ones agree with it
-abbrev pub variable_of : Context → List ℕ → Option VariableDeclaration
+abbrev pub variable_of : ParseState → List ℕ → Option VariableDeclaration
 variable_of c code = find (λ d. bytes_eq code d.code) c.declared
 
 -- whether two variables may have one code: both are skipped, or both are kept with one size
@@ -101,7 +101,7 @@ takes_binary_number d digits = is_skipped d || (is_binary_number digits && nat_l
 -- ---- what an item asks for
 
 -- behind what has been told an item gets what it asks for
-abbrev pub Allows : Context → Item → Type 0
+abbrev pub Allows : ParseState → Item → Type 0
 Allows c (entry kind words) = IsFalse c.changing × IsTrue (has_no_end_word words)
 Allows c (timescale words) = IsFalse c.changing × IsTrue (has_no_end_word words) × IsSome (timescale_of words)
 Allows c (scope kind words) = IsFalse c.changing × IsTrue (has_no_end_word (kind ∷ words))
@@ -121,38 +121,38 @@ Allows c (other word words) = IsTrue (is_other c.changing word) × IsTrue (has_n
 -- ---- what an item adds
 
 -- a value change to these letters at the tick, for a variable that is kept
-abbrev pub told_value_changes : Context → List ℕ → List Bit → Option VariableDeclaration → List ValueChange
-told_value_changes c code letters None = []
-told_value_changes c code letters (Some d) = if is_skipped d then [] else record { tick = c.tick; code = code; letters = letters } ∷ []
+abbrev pub value_changes_after : ParseState → List ℕ → List Bit → Option VariableDeclaration → List ValueChange
+value_changes_after c code letters None = []
+value_changes_after c code letters (Some d) = if is_skipped d then [] else record { tick = c.tick; code = code; letters = letters } ∷ []
 
 -- what has been told, with this value change behind the others
-abbrev pub with_value_change : Context → List ℕ → List Bit → Context
-with_value_change c code letters = record c { value_changes = c.value_changes ++ told_value_changes c code letters (variable_of c code) }
+abbrev pub with_value_change : ParseState → List ℕ → List Bit → ParseState
+with_value_change c code letters = record c { value_changes = c.value_changes ++ value_changes_after c code letters (variable_of c code) }
 
 -- what has been told behind an item
-abbrev pub told_after_item : Context → Item → Context
-told_after_item c (entry kind words) = record c { header = c.header ++ record { kind = kind; words = words } ∷ [] }
-told_after_item c (timescale words) = record c { timescale = timescale_of words }
-told_after_item c (scope kind words) = record c { scopes = c.scopes ++ record { kind = kind; words = words } ∷ [] }
-told_after_item c upscope = record c { scopes = take (length c.scopes - 1) c.scopes }
-told_after_item c (variable words) = record c { declared = c.declared ++ option_to_list (declaration_of c words) }
-told_after_item c end_definitions = record c { changing = true }
-told_after_item c (stamp digits) = record c { tick = number_of digits }
-told_after_item c (scalar digit code) = with_value_change c code (letters_of_digits (digit ∷ []))
-told_after_item c (vector first digits code) = with_value_change c code (letters_of_digits digits)
-told_after_item c (real_or_string first text code) = c
-told_after_item c (bracket word) = c
-told_after_item c (other word words) = c
+abbrev pub state_after_item : ParseState → Item → ParseState
+state_after_item c (entry kind words) = record c { header = c.header ++ record { kind = kind; words = words } ∷ [] }
+state_after_item c (timescale words) = record c { timescale = timescale_of words }
+state_after_item c (scope kind words) = record c { scopes = c.scopes ++ record { kind = kind; words = words } ∷ [] }
+state_after_item c upscope = record c { scopes = take (length c.scopes - 1) c.scopes }
+state_after_item c (variable words) = record c { declared = c.declared ++ option_to_list (declaration_of c words) }
+state_after_item c end_definitions = record c { changing = true }
+state_after_item c (stamp digits) = record c { tick = number_of digits }
+state_after_item c (scalar digit code) = with_value_change c code (letters_of_digits (digit ∷ []))
+state_after_item c (vector first digits code) = with_value_change c code (letters_of_digits digits)
+state_after_item c (real_or_string first text code) = c
+state_after_item c (bracket word) = c
+state_after_item c (other word words) = c
 
 -- what has been told behind items in a row
-abbrev pub told_after : Context → List Item → Context
-told_after c [] = c
-told_after c (i ∷ is) = told_after (told_after_item c i) is
+abbrev pub state_after : ParseState → List Item → ParseState
+state_after c [] = c
+state_after c (i ∷ is) = state_after (state_after_item c i) is
 
 -- each item gets what it asks for, in turn
-abbrev pub AllowsAll : Context → List Item → Type 0
+abbrev pub AllowsAll : ParseState → List Item → Type 0
 AllowsAll c [] = Unit {0}
-AllowsAll c (i ∷ is) = Allows c i × AllowsAll (told_after_item c i) is
+AllowsAll c (i ∷ is) = Allows c i × AllowsAll (state_after_item c i) is
 
 -- ---- files
 
@@ -161,9 +161,9 @@ abbrev pub word_texts : List PlacedWord → List (List ℕ)
 word_texts words = map (λ word. word.text) words
 
 -- the words are accepted, and tell this: they spell items, `$enddefinitions $end` among them, each of which gets what it asks for
-pub record Accepts (words : List PlacedWord) (told : Context) : Type 0 where
+pub record Accepts (words : List PlacedWord) (told : ParseState) : Type 0 where
   pub items : List Item
   pub spelled : word_texts words ≡ spellings items
-  pub allowed : AllowsAll nothing_told items
-  pub tells : told_after nothing_told items ≡ told
+  pub allowed : AllowsAll initial_state items
+  pub tells : state_after initial_state items ≡ told
   pub definitions_ended : IsTrue told.changing

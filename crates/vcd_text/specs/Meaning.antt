@@ -6,7 +6,7 @@ use Rattle.vcd_core.specs.Wave.{changes_of}
 use Rattle.vcd_core.specs.Contents.{Contents, SignalContents}
 use Rattle.vcd_text.specs.Words.{words_of}
 use Rattle.vcd_text.specs.Letters.{extension}
-use Rattle.vcd_text.specs.Grammar.{VariableDeclaration, ValueChange, Context, Accepts, is_skipped, kept_variables}
+use Rattle.vcd_text.specs.Grammar.{VariableDeclaration, ValueChange, ParseState, Accepts, is_skipped, kept_variables}
 
 -- the value that a code of this width has at a tick: the extension of the last value change, in the order of the file, with that code and a tick at most t; else `before`
 unfoldable pub latest_value : ℕ → List ℕ → ℕ → List Bit → List ValueChange → List Bit
@@ -25,16 +25,16 @@ declared_signal value_changes end d = record {
 }
 
 -- what a file means that has told this: each variable that is kept is a signal, in the order of the file; the end is the last stamp, or 0
-abbrev pub meaning : Context → Contents
+abbrev pub meaning : ParseState → Contents
 meaning c = record { header = c.header; timescale = c.timescale; end = c.tick; signals = map (declared_signal c.value_changes c.tick) (kept_variables c.declared) }
 
 -- how many variables are skipped
-abbrev pub skipped_count : Context → ℕ
+abbrev pub skipped_count : ParseState → ℕ
 skipped_count c = count_by is_skipped c.declared
 
 -- the file is accepted, and means these contents, with so many variables skipped
 pub record FileMeans (bytes : List ℕ) (contents : Contents) (skipped : ℕ) : Type 0 where
-  pub told : Context
+  pub told : ParseState
   pub accepted : Accepts (words_of bytes) told
   pub means : contents ≡ meaning told
   pub left_out : skipped ≡ skipped_count told

@@ -12,8 +12,8 @@ abbrev pub word_on : List ℕ → ℕ → PlacedWord
 word_on text line = record { text = text; line = line }
 
 -- the line behind a byte: a line feed begins another
-abbrev pub line_behind : ℕ → ℕ → ℕ
-line_behind b line = if b == 10 then line + 1 else line
+abbrev pub line_after : ℕ → ℕ → ℕ
+line_after b line = if b == 10 then line + 1 else line
 
 -- whether a word ends before these bytes: white space follows, or nothing and the end of the text counts as an end
 abbrev pub ends_before : Bool → List ℕ → Bool
@@ -34,7 +34,7 @@ with_byte false false b line ws = with_longer_first b line ws
 -- the maximal runs of bytes other than white space, the first byte being on this line; only those that white space follows unless the text is whole
 unfoldable pub words_from : Bool → ℕ → List ℕ → List PlacedWord
 words_from whole line [] = []
-words_from whole line (b ∷ bs) = with_byte (is_white_space b) (ends_before whole bs) b line (words_from whole (line_behind b line) bs)
+words_from whole line (b ∷ bs) = with_byte (is_white_space b) (ends_before whole bs) b line (words_from whole (line_after b line) bs)
 
 -- the words of a file, each with its line: 1 plus the line feeds before it
 abbrev pub words_of : List ℕ → List PlacedWord

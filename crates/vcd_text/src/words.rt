@@ -97,10 +97,10 @@ impl<'a> WordWalk<'a> {
         ensures room { LinesFit self.new }
         ensures feeds { feeds_at_end self.new ≡ feeds_at_end self.old }
     {
-        let (rest, passed) = behind_space(self.rest, self.passed);
-        let (text, behind) = rest.split_at(word_len(rest));
+        let (rest, passed) = after_space(self.rest, self.passed);
+        let (text, following) = rest.split_at(word_len(rest));
         self.passed = passed;
-        self.rest = behind;
+        self.rest = following;
         if text.is_empty() {
             return None;
         }
@@ -112,7 +112,7 @@ impl<'a> WordWalk<'a> {
 }
 
 /// What follows the white space at the front of a text, and how many line feeds come before it.
-fn behind_space(text: &[u8], passed: u64) -> (&[u8], u64)
+fn after_space(text: &[u8], passed: u64) -> (&[u8], u64)
     requires { passed + length text.now < 2 ^ 64 }
     ensures words { (whole : Bool) →
         words_from whole (result.1 + 1) result.0.now ≡ words_from whole (passed + 1) text.now }
@@ -122,14 +122,14 @@ fn behind_space(text: &[u8], passed: u64) -> (&[u8], u64)
 {
     let mut rest = text;
     let mut lines = passed;
-    while let Some((byte, behind)) = rest.split_first() {
+    while let Some((byte, following)) = rest.split_first() {
         if !is_white_space(*byte) {
             break;
         }
         if *byte == b'\n' {
             lines += 1;
         }
-        rest = behind;
+        rest = following;
     }
     (rest, lines)
 }

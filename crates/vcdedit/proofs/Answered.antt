@@ -26,7 +26,7 @@ use Rattle.vcdedit.specs.Reply.{LineReply, ok_reply, line_reply, step_reply, edi
 use Rattle.vcdedit.specs.Run.{machine_after_line, machine_after_command}
 use Rattle.vcdedit.specs.declared.replies.reply.Reply.{Reply}
 use Rattle.vcdedit.specs.inside.Answering.{is_no_memory, AnswersStep, AnswersCommand, AnswersLine}
-use Rattle.vcdedit.specs.inside.Replies.{TellsReply}
+use Rattle.vcdedit.specs.inside.Replies.{IsReplyTo}
 use Rattle.vcdedit.proofs.Steps.{reply_is_answer}
 
 -- ---- at which address a word lies
@@ -107,14 +107,14 @@ other_not_refused (steps.Depth depth) refusal other same =
 
 -- what is told is said to the step
 told : (number : ℕ) (said : LineReply) (s : Step) (old new : Machine) (reply : Reply) →
-    ((step_outcome old s).after ≡ new) × (step_reply s old.now (length old.past) (length old.future) ≡ said) → TellsReply number said reply → AnswersStep number s old new reply
-told number said s old new reply is tells = (is.0, subst (λ (r : LineReply). TellsReply number r reply) (sym is.1) tells)
+    ((step_outcome old s).after ≡ new) × (step_reply s old.now (length old.past) (length old.future) ≡ said) → IsReplyTo number said reply → AnswersStep number s old new reply
+told number said s old new reply is tells = (is.0, subst (λ (r : LineReply). IsReplyTo number r reply) (sym is.1) tells)
 
-pub step_accepted : (number : ℕ) (s : Step) (old new : Machine) (reply : Reply) → IsStep old s Done new → TellsReply number ok_reply reply → AnswersStep number s old new reply
+pub step_accepted : (number : ℕ) (s : Step) (old new : Machine) (reply : Reply) → IsStep old s Done new → IsReplyTo number ok_reply reply → AnswersStep number s old new reply
 step_accepted number s old new reply made tells = told number ok_reply s old new reply (answered s Done old new (outcome_of_step old s Done new made (done_not_refused s))) tells
 
 pub step_refused : (number : ℕ) (s : Step) (refusal : StepError) (old new : Machine) (reply : Reply) → IsStep old s (Refused refusal) new → is_no_memory refusal ≡ false →
-    TellsReply number (Err (step_error_name refusal)) reply → AnswersStep number s old new reply
+    IsReplyTo number (Err (step_error_name refusal)) reply → AnswersStep number s old new reply
 step_refused number s refusal old new reply made other tells =
     told number (Err (step_error_name refusal)) s old new reply (answered s (Refused refusal) old new (outcome_of_step old s (Refused refusal) new made (other_not_refused s refusal other))) tells
 
@@ -128,7 +128,7 @@ said_to skipped m asked = command_reply asked m.now skipped (length m.past) (len
 pub command_steps : (skipped number : ℕ) (s : Step) (old new : Machine) (reply : Reply) → AnswersStep number s old new reply → AnswersCommand skipped number (commands.Step s) old new reply
 command_steps skipped number s old new reply answers = (
   ap (λ (o : StepOutcome). o.after) (outcome_without_address old s) ∙ answers.0,
-  subst (λ (said : LineReply). TellsReply number said reply) (sym (reply_without_address s old.now (length old.past) (length old.future))) answers.1,
+  subst (λ (said : LineReply). IsReplyTo number said reply) (sym (reply_without_address s old.now (length old.past) (length old.future))) answers.1,
 )
 
 -- a line that asks for a command
@@ -137,14 +137,14 @@ pub line_asks : (skipped number : ℕ) (line : List ℕ) (command : Command) (ol
 unfolding machine_after_line line_reply said_to
 line_asks skipped number line command old new reply read answers = (
   ap (machine_after_command old) read ∙ answers.0,
-  subst (λ (said : LineReply). TellsReply number said reply) (sym (ap (said_to skipped old) read)) answers.1,
+  subst (λ (said : LineReply). IsReplyTo number said reply) (sym (ap (said_to skipped old) read)) answers.1,
 )
 
 -- a line that leaves the machine as it is
 pub line_stays : (skipped number : ℕ) (line : List ℕ) (asked : Result Command LineError) (old : Machine) (reply : Reply) → command_of_line old.now line ≡ asked → machine_after_command old asked ≡ old →
-    TellsReply number (command_reply asked old.now skipped (length old.past) (length old.future)) reply → AnswersLine skipped number line old old reply
+    IsReplyTo number (command_reply asked old.now skipped (length old.past) (length old.future)) reply → AnswersLine skipped number line old old reply
 unfolding machine_after_line line_reply said_to
 line_stays skipped number line asked old reply read stays tells = (
   ap (machine_after_command old) read ∙ stays,
-  subst (λ (said : LineReply). TellsReply number said reply) (sym (ap (said_to skipped old) read)) tells,
+  subst (λ (said : LineReply). IsReplyTo number said reply) (sym (ap (said_to skipped old) read)) tells,
 )

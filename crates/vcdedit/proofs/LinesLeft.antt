@@ -10,7 +10,7 @@ use Rattle.vcdedit.specs.Reply.{line_reply_text, is_line_refused}
 use Rattle.vcdedit.specs.Run.{machine_after_line, machine_after_lines, refusal_count}
 use Rattle.vcdedit.specs.RunOutcomes.{line_replies}
 use Rattle.vcdedit.specs.Script.{script_lines}
-use Rattle.vcdedit.specs.inside.RunLines.{TellsLine, RunsLines}
+use Rattle.vcdedit.specs.inside.RunLines.{LineStep, RunsLines}
 
 -- of all lines, after so many, these are left on this machine; the replies so far are told, and so many lines refused
 pub record AreLeft (skipped : ℕ) (lines : List (List ℕ)) (old : Machine) (number : ℕ) (left : List (List ℕ)) (now : Machine) (told : List (List ℕ)) (count : ℕ) : Type 0 where
@@ -19,7 +19,7 @@ pub record AreLeft (skipped : ℕ) (lines : List (List ℕ)) (old : Machine) (nu
   pub refused : refusal_count skipped old lines ≡ count + refusal_count skipped now left
 
 -- what the loop keeps: the replies told so far, of so many lines and of so many bytes
-pub record HasTold (skipped : ℕ) (lines : List (List ℕ)) (old : Machine) (number : ℕ) (left : List (List ℕ)) (now : Machine) (refused bytes : ℕ) (before after : Option (List ℕ)) : Type 0 where
+pub record RepliesSoFar (skipped : ℕ) (lines : List (List ℕ)) (old : Machine) (number : ℕ) (left : List (List ℕ)) (now : Machine) (refused bytes : ℕ) (before after : Option (List ℕ)) : Type 0 where
   pub told : List (List ℕ)
   pub one_each : length told ≡ number
   pub counted : length (concat told) ≡ bytes
@@ -27,7 +27,7 @@ pub record HasTold (skipped : ℕ) (lines : List (List ℕ)) (old : Machine) (nu
   pub are_left : AreLeft skipped lines old number left now told refused
 
 -- at the beginning all are left
-pub all_left : (skipped : ℕ) (lines : List (List ℕ)) (old : Machine) (before : Option (List ℕ)) → HasTold skipped lines old 0 lines old 0 0 before before
+pub all_left : (skipped : ℕ) (lines : List (List ℕ)) (old : Machine) (before : Option (List ℕ)) → RepliesSoFar skipped lines old 0 lines old 0 0 before before
 all_left skipped lines old before = record {
   told = [];
   one_each = refl;
@@ -37,8 +37,8 @@ all_left skipped lines old before = record {
 }
 
 -- what is said to a line on a machine, and how many lines are refused where this one is run
-abbrev pub told_to : (skipped number : ℕ) → List ℕ → Machine → List ℕ
-told_to skipped number line m = line_reply_text number line m.now skipped (length m.past) (length m.future)
+abbrev pub replied_to : (skipped number : ℕ) → List ℕ → Machine → List ℕ
+replied_to skipped number line m = line_reply_text number line m.now skipped (length m.past) (length m.future)
 
 abbrev refused_at : (skipped : ℕ) → List ℕ → Machine → ℕ
 refused_at skipped line m = cond (is_line_refused line m.now skipped (length m.past) (length m.future)) 1 0
@@ -46,13 +46,13 @@ refused_at skipped line m = cond (is_line_refused line m.now skipped (length m.p
 -- a line more
 line_more : (skipped : ℕ) (lines : List (List ℕ)) (old : Machine) (number : ℕ) (line : List ℕ) (left : List (List ℕ)) (now new : Machine) (told : List (List ℕ)) (refused : ℕ) →
     AreLeft skipped lines old number (line ∷ left) now told refused → machine_after_line now line ≡ new →
-    AreLeft skipped lines old (number + 1) left new (told ++ told_to skipped (number + 1) line now ∷ []) (refused + refused_at skipped line now)
+    AreLeft skipped lines old (number + 1) left new (told ++ replied_to skipped (number + 1) line now ∷ []) (refused + refused_at skipped line now)
 unfolding machine_after_lines line_replies refusal_count
 line_more skipped lines old number line left now new told refused so after = record {
   after = so.after ∙ ap (λ (m : Machine). machine_after_lines m left) after;
   replies = so.replies
-      ∙ ap (λ (m : Machine). told ++ told_to skipped (number + 1) line now ∷ line_replies skipped (number + 1 + 1) m left) after
-      ∙ sym (append_assoc told (told_to skipped (number + 1) line now ∷ []) (line_replies skipped (number + 1 + 1) new left));
+      ∙ ap (λ (m : Machine). told ++ replied_to skipped (number + 1) line now ∷ line_replies skipped (number + 1 + 1) m left) after
+      ∙ sym (append_assoc told (replied_to skipped (number + 1) line now ∷ []) (line_replies skipped (number + 1 + 1) new left));
   refused = so.refused
       ∙ ap (λ (m : Machine). refused + (refused_at skipped line now + refusal_count skipped m left)) after
       ∙ sym (add_assoc refused (refused_at skipped line now) (refusal_count skipped new left));
@@ -62,10 +62,10 @@ concat_more : (told : List (List ℕ)) (text : List ℕ) → concat (told ++ tex
 concat_more told text = concat-append told (text ∷ []) ∙ ap (λ l. concat told ++ l) (append-nil text)
 
 pub told_more : (skipped : ℕ) (lines : List (List ℕ)) (old : Machine) (number : ℕ) (line : List ℕ) (all left : List (List ℕ)) (now new : Machine) (refused more bytes written : ℕ) (before between after : Option (List ℕ)) →
-    all ≡ line ∷ left → HasTold skipped lines old number all now refused bytes before between → TellsLine skipped (number + 1) line now new more written between after →
-    HasTold skipped lines old (number + 1) left new (refused + more) (bytes + written) before after
+    all ≡ line ∷ left → RepliesSoFar skipped lines old number all now refused bytes before between → LineStep skipped (number + 1) line now new more written between after →
+    RepliesSoFar skipped lines old (number + 1) left new (refused + more) (bytes + written) before after
 told_more skipped lines old number line all left now new refused more bytes written before between after parts so tells =
-    let text : List ℕ = told_to skipped (number + 1) line now in
+    let text : List ℕ = replied_to skipped (number + 1) line now in
     let joined : concat (so.told ++ text ∷ []) ≡ concat so.told ++ text = concat_more so.told text in
     let len : length (concat (so.told ++ text ∷ [])) ≡ length (concat so.told) + length text = ap length joined ∙ length-append (concat so.told) text in
     let one_more : length (so.told ++ text ∷ []) ≡ length so.told + 1 = length-append so.told (text ∷ []) in
@@ -79,7 +79,7 @@ told_more skipped lines old number line all left now new refused more bytes writ
 
 -- where no line is left
 pub none_left : (skipped : ℕ) (lines : List (List ℕ)) (old : Machine) (number : ℕ) (left : List (List ℕ)) (now : Machine) (refused bytes : ℕ) (before after : Option (List ℕ)) →
-    left ≡ [] → HasTold skipped lines old number left now refused bytes before after → RunsLines skipped lines old now refused before after
+    left ≡ [] → RepliesSoFar skipped lines old number left now refused bytes before after → RunsLines skipped lines old now refused before after
 unfolding machine_after_lines line_replies refusal_count
 none_left skipped lines old number left now refused bytes before after none so =
     let last = rw none at so.are_left in

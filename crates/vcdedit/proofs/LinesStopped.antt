@@ -12,15 +12,15 @@ use Rattle.vcdedit.specs.declared.running.run_error.RunError.TheVariants as run_
 use Rattle.vcdedit.specs.Reply.{line_reply_text}
 use Rattle.vcdedit.specs.Run.{machine_after_line}
 use Rattle.vcdedit.specs.RunOutcomes.{line_replies}
-use Rattle.vcdedit.specs.inside.RunLines.{ReplyStops, LineStops, RepliesStop, LinesStop}
-use Rattle.vcdedit.proofs.LinesLeft.{HasTold}
+use Rattle.vcdedit.specs.inside.RunLines.{StopsAtReply, StopsAtLine, StopsInReplies, StopsInLines}
+use Rattle.vcdedit.proofs.LinesLeft.{RepliesSoFar}
 
 -- ---- texts, told one after another
 
 -- memory runs out at a text: those before it are told
 none_of_text : (replies told rest : List (List ℕ)) (text : List ℕ) (number line : ℕ) (before between after : Option (List ℕ)) →
     replies ≡ told ++ text ∷ rest → length told ≡ number → Appends before between (concat told) → line ≡ number + 1 → Keeps between after →
-    RepliesStop replies (Appends before after) (run_errors.NoMemory line)
+    StopsInReplies replies (Appends before after) (run_errors.NoMemory line)
 none_of_text replies told rest text number line before between after parts count took at kept =
     let whole : length replies ≡ length told + suc (length rest) = ap length parts ∙ length-append told (text ∷ rest) in
     let before_it : line - 1 ≡ length told = omega (arith, at, count) in
@@ -30,7 +30,7 @@ none_of_text replies told rest text number line before between after parts count
 -- the writer takes a front of a text: this and what was told before is a front of all texts
 front_of_text : (replies told rest : List (List ℕ)) (text : List ℕ) (bytes count written : ℕ) (before between after : Option (List ℕ)) →
     replies ≡ told ++ text ∷ rest → length (concat told) ≡ bytes → Appends before between (concat told) → written ≡ bytes + count → count ≤ length text → Appends between after (take count text) →
-    RepliesStop replies (Appends before after) (run_errors.ReplyFault written)
+    StopsInReplies replies (Appends before after) (run_errors.ReplyFault written)
 front_of_text replies told rest text bytes count written before between after parts told_bytes took at within takes =
     let whole : concat replies ≡ concat told ++ (text ++ concat rest) = ap concat parts ∙ concat-append told (text ∷ rest) in
     let sum : length (concat replies) ≡ length (concat told) + (length text + length (concat rest)) =
@@ -43,8 +43,8 @@ front_of_text replies told rest text bytes count written before between after pa
 
 -- the telling of one text stops, and so that of all
 text_stops : (replies told rest : List (List ℕ)) (text : List ℕ) (number bytes : ℕ) (before between after : Option (List ℕ)) (e : RunError) →
-    replies ≡ told ++ text ∷ rest → length told ≡ number → length (concat told) ≡ bytes → Appends before between (concat told) → ReplyStops (number + 1) text bytes between after e →
-    RepliesStop replies (Appends before after) e
+    replies ≡ told ++ text ∷ rest → length told ≡ number → length (concat told) ≡ bytes → Appends before between (concat told) → StopsAtReply (number + 1) text bytes between after e →
+    StopsInReplies replies (Appends before after) e
 text_stops replies told rest text number bytes before between after (run_errors.NoMemory line) parts count told_bytes took stops =
     none_of_text replies told rest text number line before between after parts count took stops.0 stops.1
 text_stops replies told rest text number bytes before between after (run_errors.ReplyFault written) parts count told_bytes took stops =
@@ -58,8 +58,8 @@ text_stops replies told rest text number bytes before between after (run_errors.
 
 -- at a line
 pub line_stops : (skipped : ℕ) (lines : List (List ℕ)) (old : Machine) (number : ℕ) (line : List ℕ) (all left : List (List ℕ)) (now : Machine) (refused bytes : ℕ) (before between after : Option (List ℕ)) (e : RunError) →
-    all ≡ line ∷ left → HasTold skipped lines old number all now refused bytes before between →
-    LineStops skipped (number + 1) line now bytes between after e → LinesStop skipped lines old before after e
+    all ≡ line ∷ left → RepliesSoFar skipped lines old number all now refused bytes before between →
+    StopsAtLine skipped (number + 1) line now bytes between after e → StopsInLines skipped lines old before after e
 unfolding line_replies
 line_stops skipped lines old number line all left now refused bytes before between after e parts so stops =
     let here = rw parts at so.are_left in
@@ -69,7 +69,7 @@ line_stops skipped lines old number line all left now refused bytes before betwe
 
 -- behind the last line, in the flush: all is told
 pub flush_stops : (skipped : ℕ) (lines : List (List ℕ)) (old : Machine) (number : ℕ) (left : List (List ℕ)) (now : Machine) (refused bytes : ℕ) (before between after : Option (List ℕ)) →
-    left ≡ [] → HasTold skipped lines old number left now refused bytes before between → Keeps between after → LinesStop skipped lines old before after (run_errors.ReplyFault bytes)
+    left ≡ [] → RepliesSoFar skipped lines old number left now refused bytes before between → Keeps between after → StopsInLines skipped lines old before after (run_errors.ReplyFault bytes)
 unfolding line_replies
 flush_stops skipped lines old number left now refused bytes before between after none so kept =
     let last = rw none at so.are_left in

@@ -20,7 +20,7 @@ use Rattle.vcdedit.specs.Script.{script_lines}
 use Rattle.vcdedit.specs.Run.{RunOutcome, IsRunOfReplays}
 use Rattle.vcdedit.specs.RunOutcomes.{run_outcome}
 use Rattle.vcdedit.specs.RunEnds.{ReaderEnd, WriterEnd, IsAccepted, IsWholeScript, IsUnread, HasText, RunEnds}
-use Rattle.vcdedit.specs.inside.RunLines.{IfReplyFault, RunsLines, LinesStop}
+use Rattle.vcdedit.specs.inside.RunLines.{IfReplyFault, RunsLines, StopsInLines}
 use Rattle.vcdedit.specs.inside.RunStages.{EndsBeforeOutput, EndsBeforeReplies}
 use Rattle.vcdedit.specs.inside.ScriptRuns.{ScriptGives}
 use Rattle.vcdedit.proofs.RunReplays.{run_is_of_replays}
@@ -86,7 +86,7 @@ capture_ends capture script e refused failed unread depth replies untouched outp
 -- in the lines
 pub lines_end : (capture script : ReaderEnd) (replies : WriterEnd) (bytes : List ℕ) (depth skipped : ℕ) (c : Contents) (e : RunError) →
     IsAccepted capture → IsWholeScript script → IfSome capture.coming (λ f. FileMeans f c skipped) → IfSome script.coming (λ s. bytes ≡ s) →
-    IfReplyFault e (λ _. replies.has_failed ≡ true) → LinesStop skipped (script_lines bytes) (first_machine c depth) replies.before replies.after e →
+    IfReplyFault e (λ _. replies.has_failed ≡ true) → StopsInLines skipped (script_lines bytes) (first_machine c depth) replies.before replies.after e →
     EndsBeforeOutput depth capture script replies e
 lines_end capture script replies bytes depth skipped c (run_errors.NoMemory zero) accepted whole means is failed stops output kept = absurd (omega (arith, stops.0))
 lines_end capture script replies bytes depth skipped c (run_errors.NoMemory (suc before)) accepted whole means is failed stops output kept =

@@ -3,7 +3,7 @@ use Rattle.std.proofs.Common.{◌≡◌, ◌<◌, ◌==◌, ℕ, true, false, Li
 use Rattle.std.proofs.lemmas.List.{take-append-drop, length-append, append-nil}
 use Rattle.std.proofs.lemmas.Bool.{eqb-true, eqb-false}
 use Rattle.vcdedit.specs.Script.{script_lines}
-use Rattle.vcdedit.specs.inside.ScriptParts.{is_behind_line}
+use Rattle.vcdedit.specs.inside.ScriptParts.{is_after_line}
 use Rattle.vcdedit.proofs.Lines.{is_one_line, line_whole, line_last}
 
 -- a line feed follows the first line
@@ -20,28 +20,28 @@ only_line script line rest parts none some one =
     ap script_lines same ∙ line_last line filled one ∙ ap (λ (r : List ℕ). line ∷ script_lines r) (sym none)
 
 -- a split at a place
-pub split_parts : (script line behind : List ℕ) (n : ℕ) → line ≡ take n script → behind ≡ drop n script → script ≡ line ++ behind
-split_parts script line behind n front back =
+pub split_parts : (script line following : List ℕ) (n : ℕ) → line ≡ take n script → following ≡ drop n script → script ≡ line ++ following
+split_parts script line following n front back =
     sym (take-append-drop n script) ∙ ap (λ (x : List ℕ). x ++ drop n script) (sym front) ∙ ap (λ (x : List ℕ). line ++ x) (sym back)
 
 -- the same where the script is split at a place
-pub first_at : (script line behind rest : List ℕ) (n b : ℕ) → line ≡ take n script → behind ≡ drop n script → behind ≡ b ∷ rest → is_one_line (take n script) ≡ true → is_behind_line (drop n script) ≡ true →
+pub first_at : (script line following rest : List ℕ) (n b : ℕ) → line ≡ take n script → following ≡ drop n script → following ≡ b ∷ rest → is_one_line (take n script) ≡ true → is_after_line (drop n script) ≡ true →
     (script_lines script ≡ line ∷ script_lines rest) × (length rest < length script)
-first_at script line behind rest n b front back begins one ends =
-    let parts : script ≡ line ++ b ∷ rest = split_parts script line behind n front back ∙ ap (λ (x : List ℕ). line ++ x) begins in
+first_at script line following rest n b front back begins one ends =
+    let parts : script ≡ line ++ b ∷ rest = split_parts script line following n front back ∙ ap (λ (x : List ℕ). line ++ x) begins in
     let black : is_one_line line ≡ true = rw front one in
-    let feed : (b == 10) ≡ true = ap is_behind_line (sym begins ∙ back) ∙ ends in
+    let feed : (b == 10) ≡ true = ap is_after_line (sym begins ∙ back) ∙ ends in
     (first_line script line rest b parts black feed, omega (arith, length-append line (b ∷ rest), ap length parts))
 
 pub nothing_left : (bytes : List ℕ) → length bytes ≡ 0 → bytes ≡ []
 nothing_left [] none = refl
 nothing_left (b ∷ bs) none = absurd (omega arith)
 
-pub last_at : (script line behind : List ℕ) (n : ℕ) → line ≡ take n script → behind ≡ drop n script → length behind ≡ 0 → (length script == 0) ≡ false → is_one_line (take n script) ≡ true →
-    (script_lines script ≡ line ∷ script_lines behind) × (length behind < length script)
-last_at script line behind n front back none some one =
-    let parts : script ≡ line ++ behind = split_parts script line behind n front back in
+pub last_at : (script line following : List ℕ) (n : ℕ) → line ≡ take n script → following ≡ drop n script → length following ≡ 0 → (length script == 0) ≡ false → is_one_line (take n script) ≡ true →
+    (script_lines script ≡ line ∷ script_lines following) × (length following < length script)
+last_at script line following n front back none some one =
+    let parts : script ≡ line ++ following = split_parts script line following n front back in
     let black : is_one_line line ≡ true = rw front one in
     let other = eqb-false (length script) 0 some in
     let filled : 0 < length script = omega (arith, other) in
-    (only_line script line behind parts (nothing_left behind none) filled black, omega arith)
+    (only_line script line following parts (nothing_left following none) filled black, omega arith)

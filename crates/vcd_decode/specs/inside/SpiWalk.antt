@@ -7,7 +7,7 @@ use Rattle.vcd_decode.specs.declared.annotation.Annotation.{Annotation}
 use Rattle.vcd_decode.specs.declared.spi_group.Group.{Group}
 use Rattle.vcd_decode.specs.SpiSetup.{SpiSetup}
 use Rattle.vcd_decode.specs.Lines.{is_zero}
-use Rattle.vcd_decode.specs.Spi.{line_data, group_start, group_end, segment_told}
+use Rattle.vcd_decode.specs.Spi.{line_data, group_start, group_end, segment_annotations}
 use Rattle.vcd_decode.specs.inside.LineEdges.{line_edge}
 use Rattle.vcd_decode.specs.inside.SpiClock.{samples}
 use Rattle.vcd_decode.specs.inside.SpiGroup.{line_bit, DataFits, group_before, group_after, word_annotation, rest_annotation}
@@ -36,12 +36,12 @@ pub record HasRoomForBit (u : SpiSetup) (g : Group) : Type 0 where
   pub miso : DataFits g.count g.miso
 
 -- what a group tells that is not ended
-abbrev pub rest_told : Group → List Annotation
-rest_told g = if g.count == 0 then [] else rest_annotation g ∷ []
+abbrev pub annotations_at_rest : Group → List Annotation
+annotations_at_rest g = if g.count == 0 then [] else rest_annotation g ∷ []
 
 -- what an edge tells where the chip stays as it is
-abbrev pub bit_told : SpiSetup → Group → BitEdge → List Annotation
-bit_told u g e =
+abbrev pub annotations_at_bit : SpiSetup → Group → BitEdge → List Annotation
+annotations_at_bit u g e =
     if not (is_sampling u e) then []
     else (if nat_lt (g.count + 1) u.bits then []
     else word_annotation (group_after u.order g e) ∷ [])
@@ -54,8 +54,8 @@ bit_group u g e =
     else group_before (group_after u.order g e))
 
 -- the same of any edge
-abbrev pub edge_told : SpiSetup → Group → BitEdge → List Annotation
-edge_told u g e = if deselects e then rest_told g else bit_told u g e
+abbrev pub annotations_at_edge : SpiSetup → Group → BitEdge → List Annotation
+annotations_at_edge u g e = if deselects e then annotations_at_rest g else annotations_at_bit u g e
 
 -- the group after any edge
 abbrev pub edge_group : SpiSetup → Group → BitEdge → Group
@@ -78,15 +78,15 @@ unfoldable pub edge_marks : SpiSetup → BitEdge → List (Option ℕ)
 edge_marks u e = if deselects e then None ∷ [] else (if is_sampling u e then Some e.tick ∷ [] else [])
 
 -- what marks tell, behind some ticks of the segment
-unfoldable pub marks_told : SpiSetup → Option (ℕ → Bit) → Option (ℕ → Bit) → List ℕ → List (Option ℕ) → List Annotation
-marks_told u mosi miso ticks [] = segment_told u mosi miso ticks
-marks_told u mosi miso ticks (None ∷ marks) = segment_told u mosi miso ticks ++ marks_told u mosi miso [] marks
-marks_told u mosi miso ticks (Some t ∷ marks) = marks_told u mosi miso (ticks ++ t ∷ []) marks
+unfoldable pub annotations_at_marks : SpiSetup → Option (ℕ → Bit) → Option (ℕ → Bit) → List ℕ → List (Option ℕ) → List Annotation
+annotations_at_marks u mosi miso ticks [] = segment_annotations u mosi miso ticks
+annotations_at_marks u mosi miso ticks (None ∷ marks) = segment_annotations u mosi miso ticks ++ annotations_at_marks u mosi miso [] marks
+annotations_at_marks u mosi miso ticks (Some t ∷ marks) = annotations_at_marks u mosi miso (ticks ++ t ∷ []) marks
 
 -- what is told and what is left tell all: the group is that of the ticks of a segment that are no whole word yet
-pub record SpiSoFar (u : SpiSetup) (clk : ℕ → Bit) (mosi miso cs : Option (ℕ → Bit)) (all found : List Annotation) (group : Group) (left : List BitEdge) : Type 0 where
+pub record SpiProgress (u : SpiSetup) (clk : ℕ → Bit) (mosi miso cs : Option (ℕ → Bit)) (all found : List Annotation) (group : Group) (left : List BitEdge) : Type 0 where
   pub ticks : List ℕ
   pub short : length ticks < u.bits
   pub is_group : group ≡ group_of u mosi miso ticks
   pub each : AllByRecursion (λ e. e ≡ line_edge (Some clk ∷ mosi ∷ miso ∷ cs ∷ []) e.tick) left
-  pub rest : found ++ marks_told u mosi miso ticks (flat_map (edge_marks u) left) ≡ all
+  pub rest : found ++ annotations_at_marks u mosi miso ticks (flat_map (edge_marks u) left) ≡ all

@@ -6,10 +6,10 @@ use Rattle.vcd_core.specs.declared.capture.TheConstants.{END_LIMIT}
 use Rattle.vcd_core.specs.Contents.{Contents, signal_at}
 use Rattle.vcd_core.specs.WaveView.{WaveView}
 use Rattle.vcd_core.specs.Wave.{IsWave}
-use Rattle.vcd_core.specs.Splice.{TicksFit}
+use Rattle.vcd_core.specs.Splice.{AllTicksFit}
 use Rattle.vcd_edit.specs.declared.record.Piece.{Piece}
 use Rattle.vcd_edit.specs.RecordView.{PieceView}
-use Rattle.vcd_edit.specs.Back.{changes_with_piece, with_piece, with_pieces, AreApart}
+use Rattle.vcd_edit.specs.AppliedRecords.{changes_with_piece, with_piece, with_pieces, AreApart}
 use Rattle.vcd_edit.specs.inside.Records.{piece_view}
 use Rattle.vcd_edit.specs.Touched.{touched_count}
 
@@ -19,17 +19,17 @@ use Rattle.vcd_edit.specs.Touched.{touched_count}
 pub record PieceReady (width : ℕ) (cs : List Change) (p : PieceView) : Type 0 where
   pub ordered : p.from ≤ p.to
   pub within : p.to ≤ length cs
-  pub ticks : TicksFit p.by (drop p.to cs)
+  pub ticks : AllTicksFit p.by (drop p.to cs)
   pub form : IsWave width (changes_with_piece p cs)
   pub small : All (λ c. c.tick < 2 ^ 64) p.changes
   pub upto : All (λ c. c.tick ≤ END_LIMIT) cs
 
 -- the second piece leads back from what the first makes of a list, and has touched changes alone
-pub record LeadsBack (cs : List Change) (p q : PieceView) : Type 0 where
+pub record IsInversePiece (cs : List Change) (p q : PieceView) : Type 0 where
   pub signal : q.signal ≡ p.signal
   pub ordered : q.from ≤ q.to
   pub within : q.to ≤ length (changes_with_piece p cs)
-  pub ticks : TicksFit q.by (drop q.to (changes_with_piece p cs))
+  pub ticks : AllTicksFit q.by (drop q.to (changes_with_piece p cs))
   pub back : changes_with_piece q (changes_with_piece p cs) ≡ cs
   pub stored : length q.changes ≤ touched_count (neg_ℤ p.by) cs (changes_with_piece p cs)
 
@@ -41,11 +41,11 @@ pub record PieceReadyIn (c : Contents) (p : PieceView) : Type 0 where
   pub ready : PieceReady (signal_at c p.signal).width (signal_at c p.signal).changes p
 
 -- the pieces of the second list lead back, each from what that of the first makes, one after another
-abbrev pub LeadBack : Contents → List PieceView → List PieceView → Type 0
-LeadBack c [] [] = Unit {0}
-LeadBack c [] (q ∷ qs) = ⊥
-LeadBack c (p ∷ ps) [] = ⊥
-LeadBack c (p ∷ ps) (q ∷ qs) = (p.signal < length c.signals) × LeadsBack (signal_at c p.signal).changes p q × LeadBack (with_piece c p) ps qs
+abbrev pub AreInversePieces : Contents → List PieceView → List PieceView → Type 0
+AreInversePieces c [] [] = Unit {0}
+AreInversePieces c [] (q ∷ qs) = ⊥
+AreInversePieces c (p ∷ ps) [] = ⊥
+AreInversePieces c (p ∷ ps) (q ∷ qs) = (p.signal < length c.signals) × IsInversePiece (signal_at c p.signal).changes p q × AreInversePieces (with_piece c p) ps qs
 
 -- ---- room
 
@@ -79,7 +79,7 @@ pub record ReservedSoFar (old : List Piece) (i : ℕ) (new : List Piece) (ss : L
 pub record PutSoFar (before : Contents) (old : List Piece) (i : ℕ) (new : List Piece) (now : Contents) (ss : List Signal) : Type 0 where
   pub rest : drop i new ≡ drop i old
   pub there : now ≡ with_pieces before (map piece_view (take i old))
-  pub back : LeadBack before (map piece_view (take i old)) (map piece_view (take i new))
+  pub back : AreInversePieces before (map piece_view (take i old)) (map piece_view (take i new))
   pub ready : All (PieceReadyIn now) (map piece_view (drop i old))
   pub apart : AreApart (map piece_view (drop i old))
   pub room : All (HasRoomForPiece ss) (drop i old)

@@ -2,7 +2,7 @@
 use Rattle.std.specs.Prelude.{◌≡◌, ℕ, ◌<◌, ◌≤◌, neg_ℤ, ℤ, All, length, List, [], reverse, slice_index_or, Option, Some, None}
 use Rattle.vcd_core.specs.Contents.{Contents, SignalContents, signal_at}
 use Rattle.vcd_edit.specs.RecordView.{PieceView, RecordView}
-use Rattle.vcd_edit.specs.Back.{back, Fits}
+use Rattle.vcd_edit.specs.AppliedRecords.{apply_record, Fits}
 use Rattle.vcd_edit.specs.Touched.{touched_from, partners, record_pairing, stored_changes}
 
 -- the word that was the first of the signal's name
@@ -45,8 +45,8 @@ IsNamedAt c (Some w) = 0 < length (signal_at c w.0).words
 
 -- the second record leads back from what the first makes of a capture, and stores no more than the first touches,
 -- where each signal's offset is the opposite of its piece's
-pub record LeadsOtherWay (c : Contents) (r q : RecordView) : Type 0 where
-  pub fits : Fits q (back r c)
-  pub leads : back q (back r c) ≡ c
+pub record IsInverse (c : Contents) (r q : RecordView) : Type 0 where
+  pub fits : Fits q (apply_record r c)
+  pub leads : apply_record q (apply_record r c) ≡ c
   pub stored : (offset : ℕ → ℤ) → All (λ p. offset p.signal ≡ neg_ℤ p.by) r.pieces
-      → stored_changes q ≤ touched_from offset 0 c.signals (partners (record_pairing r.signal) (back r c).signals)
+      → stored_changes q ≤ touched_from offset 0 c.signals (partners (record_pairing r.signal) (apply_record r c).signals)

@@ -8,14 +8,14 @@ use Rattle.vcd_edit.specs.RecordView.{PieceView, RecordView}
 use Rattle.vcd_edit.specs.Effect.{effect}
 use Rattle.vcd_edit.specs.Touched.{record_pairing}
 use Rattle.vcd_edit.specs.TouchedByEdit.{edit_offset, edit_pairing}
-use Rattle.vcd_edit.specs.Back.{with_pieces, back, PieceFits, Fits, AreApart}
+use Rattle.vcd_edit.specs.AppliedRecords.{with_pieces, apply_record, PieceFits, Fits, AreApart}
 use Rattle.vcd_edit.specs.inside.Ranges.{LeadsTo}
 use Rattle.vcd_edit.specs.inside.Records.{piece_view}
 
 -- a record that leads from a capture to what an edit makes of it
 pub record IsPlan (e : Edit) (c : Contents) (r : RecordView) : Type 0 where
   pub fits : Fits r c
-  pub leads : back r c ≡ effect e c
+  pub leads : apply_record r c ≡ effect e c
   pub offset : All (λ p. edit_offset e ≡ neg_ℤ p.by) r.pieces
   pub pairing : record_pairing r.signal ≡ edit_pairing e c
 

@@ -4,9 +4,9 @@ use Rattle.vcd_core.specs.declared.bit.Bit.{Bit}
 use Rattle.vcd_core.specs.declared.wave.Change.{Change}
 use Rattle.vcd_core.specs.Value.{all_x}
 use Rattle.vcd_core.specs.Wave.{changes_from, changes_of}
-use Rattle.vcd_core.specs.Splice.{TicksFit}
+use Rattle.vcd_core.specs.Splice.{AllTicksFit}
 use Rattle.vcd_edit.specs.RecordView.{PieceView}
-use Rattle.vcd_edit.specs.Back.{changes_with_piece}
+use Rattle.vcd_edit.specs.AppliedRecords.{changes_with_piece}
 
 -- the value at the tick before: all x before tick 0
 abbrev pub value_just_before : ℕ → (ℕ → List Bit) → ℕ → List Bit
@@ -21,5 +21,5 @@ changes_in width f t n = changes_from (value_just_before width f t) t n f
 pub record LeadsTo (p : PieceView) (cs : List Change) (width stop : ℕ) (f : ℕ → List Bit) : Type 0 where
   pub ordered : p.from ≤ p.to
   pub within : p.to ≤ length cs
-  pub ticks : TicksFit p.by (drop p.to cs)
+  pub ticks : AllTicksFit p.by (drop p.to cs)
   pub is : changes_with_piece p cs ≡ changes_of width stop f

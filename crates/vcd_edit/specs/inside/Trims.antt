@@ -1,9 +1,9 @@
 -- A piece without what stands in the list already.
 use Rattle.std.specs.Prelude.{◌≡◌, ◌+◌, ◌-◌, ◌≤◌, neg_ℤ, List, length, drop}
 use Rattle.vcd_core.specs.declared.wave.Change.{Change}
-use Rattle.vcd_core.specs.Splice.{TicksFit}
+use Rattle.vcd_core.specs.Splice.{AllTicksFit}
 use Rattle.vcd_edit.specs.RecordView.{PieceView}
-use Rattle.vcd_edit.specs.Back.{changes_with_piece}
+use Rattle.vcd_edit.specs.AppliedRecords.{changes_with_piece}
 use Rattle.vcd_edit.specs.Touched.{touched_count}
 
 -- the new piece makes of the list what the old one makes of it, and takes the place of touched changes alone
@@ -12,7 +12,7 @@ pub record IsTrimmed (cs : List Change) (old new : PieceView) : Type 0 where
   pub by : new.by ≡ old.by
   pub ordered : new.from ≤ new.to
   pub within : new.to ≤ length cs
-  pub ticks : TicksFit new.by (drop new.to cs)
+  pub ticks : AllTicksFit new.by (drop new.to cs)
   pub same : changes_with_piece new cs ≡ changes_with_piece old cs
   pub part : new.to - new.from ≤ touched_count (neg_ℤ old.by) cs (changes_with_piece old cs)
   pub less : new.to - new.from ≤ old.to - old.from

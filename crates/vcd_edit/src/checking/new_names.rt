@@ -6,7 +6,7 @@ ghost use Rattle.std.specs.Str.{bytes_eq};
 ghost use Rattle.vcd_core.specs.Contents.{contents, signal_contents, no_signal};
 ghost use Rattle.vcd_core.specs.Names.{full_name, full_names};
 ghost use Rattle.vcd_edit.specs.Effect.{renamed_signal};
-ghost use Rattle.vcd_edit.specs.Allowed.{lacks_operand, takes_name, edit_fault, TellsFault};
+ghost use Rattle.vcd_edit.specs.Allowed.{lacks_operand, takes_name, edit_fault, FaultIs};
 ghost use Rattle.vcd_edit.specs.declared.edit.Edit.TheVariants as edits;
 
 use crate::checking::operands::check_operands;
@@ -16,7 +16,7 @@ use vcd_core::{Capture, FullName, SIGNAL_LIMIT, Signal, Word, is_word};
 
 #[tactic(auto, unfolding(crate::specs::Allowed::edit_fault))]
 pub(crate) fn check_rename(capture: &Capture, signal: usize, word: &[u8]) -> Result<(), EditError>
-    ensures { TellsFault result
+    ensures { FaultIs result
         (edit_fault (edits.Rename signal word.entry) (contents capture.now)) }
 {
     let signals = capture.signals();
@@ -41,13 +41,13 @@ fn is_name_taken(signals: &[Signal], signal: usize, word: &[u8]) -> bool
         (full_names (remove (map signal_contents signals.now) signal)) }
 {
     let renamed = &signals[signal];
-    let others = behind_first(renamed.words.as_slice());
+    let others = after_first(renamed.words.as_slice());
     let name = FullName::new(renamed.scopes.as_slice(), word, others);
     name.is_taken(&signals[..signal]) || name.is_taken(&signals[signal + 1..])
 }
 
 /// The words of a name but the first.
-pub(crate) fn behind_first(words: &[Word]) -> &[Word]
+pub(crate) fn after_first(words: &[Word]) -> &[Word]
     ensures { result.now ≡ drop 1 words.now }
 {
     match words {
@@ -58,7 +58,7 @@ pub(crate) fn behind_first(words: &[Word]) -> &[Word]
 
 #[tactic(auto, unfolding(crate::specs::Allowed::edit_fault))]
 pub(crate) fn check_derive(capture: &Capture, word: &[u8], rule: Rule) -> Result<(), EditError>
-    ensures { TellsFault result (edit_fault (edits.Derive word.entry rule) (contents capture.now)) }
+    ensures { FaultIs result (edit_fault (edits.Derive word.entry rule) (contents capture.now)) }
 {
     check_operands(capture, rule)?;
     if !is_word(word) {

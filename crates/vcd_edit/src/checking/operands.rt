@@ -2,7 +2,7 @@
 
 ghost use Rattle.std.specs.Prelude.{◌∷◌, ◌||◌, nat_le, []};
 ghost use Rattle.vcd_core.specs.Contents.{contents, signal_at};
-ghost use Rattle.vcd_edit.specs.Allowed.{is_no_signal, is_wide, lacks_operand, has_wide_operand, is_bit_outside, first_fault, TellsFault};
+ghost use Rattle.vcd_edit.specs.Allowed.{is_no_signal, is_wide, lacks_operand, has_wide_operand, is_bit_outside, first_fault, FaultIs};
 ghost use Rattle.vcd_edit.specs.declared.fault.EditError.TheVariants as errors;
 
 use crate::edit::Rule;
@@ -11,7 +11,7 @@ use vcd_core::Capture;
 
 /// Whether the operands of a rule are there, of one bit where they have to be, and have the bit.
 pub(crate) fn check_operands(capture: &Capture, rule: Rule) -> Result<(), EditError>
-    ensures { TellsFault result (first_fault (
+    ensures { FaultIs result (first_fault (
         (lacks_operand rule (contents capture.now), errors.NoSuchSignal)
         ∷ (has_wide_operand rule (contents capture.now), errors.NotScalar)
         ∷ (is_bit_outside rule (contents capture.now), errors.BadBit) ∷ [])) }
@@ -24,7 +24,7 @@ pub(crate) fn check_operands(capture: &Capture, rule: Rule) -> Result<(), EditEr
 }
 
 fn check_scalar(capture: &Capture, a: usize) -> Result<(), EditError>
-    ensures { TellsFault result (first_fault (
+    ensures { FaultIs result (first_fault (
         (is_no_signal (contents capture.now) a, errors.NoSuchSignal)
         ∷ (is_wide (contents capture.now) a, errors.NotScalar) ∷ [])) }
 {
@@ -39,7 +39,7 @@ fn check_scalar(capture: &Capture, a: usize) -> Result<(), EditError>
 }
 
 fn check_scalars(capture: &Capture, a: usize, b: usize) -> Result<(), EditError>
-    ensures { TellsFault result (first_fault ((
+    ensures { FaultIs result (first_fault ((
       is_no_signal (contents capture.now) a || is_no_signal (contents capture.now) b,
       errors.NoSuchSignal,
     )
@@ -59,7 +59,7 @@ fn check_scalars(capture: &Capture, a: usize, b: usize) -> Result<(), EditError>
 }
 
 fn check_bit(capture: &Capture, a: usize, k: u64) -> Result<(), EditError>
-    ensures { TellsFault result (first_fault (
+    ensures { FaultIs result (first_fault (
         (is_no_signal (contents capture.now) a, errors.NoSuchSignal)
         ∷ (nat_le (signal_at (contents capture.now) a).width k, errors.BadBit) ∷ [])) }
 {

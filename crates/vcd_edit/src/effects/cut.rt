@@ -9,7 +9,7 @@ ghost use Rattle.vcd_edit.specs.inside.Records.{piece_view};
 ghost use Rattle.vcd_edit.specs.inside.Plans.{IsPlan, GivesValues, LeadEach};
 ghost use Rattle.vcd_edit.specs.declared.edit.Edit.TheVariants as edits;
 
-use crate::effects::making::{offset_back, put_change, value_just_before};
+use crate::effects::piece_builders::{offset_back, put_change, value_just_before};
 use crate::record::{Piece, Record};
 use std::alloc::Global;
 use vcd_core::{Capture, END_LIMIT, NoMemory, Signal, Wave};

@@ -9,7 +9,7 @@ ghost use Rattle.vcd_edit.specs.inside.Thinned.{begins_steady as steady_test, is
 ghost use Rattle.vcd_edit.specs.inside.Plans.{IsPlan};
 ghost use Rattle.vcd_edit.specs.declared.edit.Edit.TheVariants as edits;
 
-use crate::effects::making::{no_piece, one_piece, signal_there, x_value};
+use crate::effects::piece_builders::{no_piece, one_piece, signal_there, x_value};
 use crate::record::{Piece, Record};
 use std::alloc::Global;
 use vcd_core::{Capture, Change, NoMemory, Value, last_value};

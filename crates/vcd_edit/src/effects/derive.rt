@@ -13,8 +13,8 @@ ghost use Rattle.vcd_edit.specs.inside.Plans.{IsPlan};
 ghost use Rattle.vcd_edit.specs.declared.edit.Edit.TheVariants as edits;
 
 use crate::edit::Rule;
-use crate::effects::making::signal_there;
 use crate::effects::operators::{and, not, or, xor};
+use crate::effects::piece_builders::signal_there;
 use crate::record::Record;
 use std::alloc::Global;
 use vcd_core::{

@@ -8,7 +8,7 @@ ghost use Rattle.vcd_edit.specs.Allowed.{edit_fault};
 ghost use Rattle.vcd_edit.specs.inside.Plans.{IsPlan, GivesValues};
 ghost use Rattle.vcd_edit.specs.declared.edit.Edit.TheVariants as edits;
 
-use crate::effects::making::{
+use crate::effects::piece_builders::{
     one_piece, piece_between, put_change, signal_there, value_just_before,
 };
 use crate::record::{Piece, Record};

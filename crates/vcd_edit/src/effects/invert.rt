@@ -14,7 +14,7 @@ ghost use Rattle.vcd_edit.specs.inside.Inverse.{ShowsInverse};
 ghost use Rattle.vcd_edit.specs.inside.Plans.{IsPlan, GivesValues};
 ghost use Rattle.vcd_edit.specs.declared.edit.Edit.TheVariants as edits;
 
-use crate::effects::making::{one_piece, put_change, signal_there, whole_piece, x_value};
+use crate::effects::piece_builders::{one_piece, put_change, signal_there, whole_piece, x_value};
 use crate::record::Record;
 use std::alloc::Global;
 use vcd_core::{Capture, Change, NoMemory, Value, WORDS, words_in};

@@ -4,7 +4,7 @@ ghost use Rattle.std.specs.Prelude.{◌≡◌, [], None};
 ghost use Rattle.vcd_core.specs.Contents.{contents};
 ghost use Rattle.vcd_core.specs.Sound.{IsSound};
 ghost use Rattle.vcd_edit.specs.Allowed.{edit_fault};
-ghost use Rattle.vcd_edit.specs.Back.{PutsNoneIn};
+ghost use Rattle.vcd_edit.specs.AppliedRecords.{PutsNoneIn};
 ghost use Rattle.vcd_edit.specs.inside.Plans.{IsPlan};
 ghost use Rattle.vcd_edit.specs.declared.edit.Edit.TheVariants as edits;
 

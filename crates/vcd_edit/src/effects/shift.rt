@@ -11,7 +11,7 @@ ghost use Rattle.vcd_edit.specs.inside.Plans.{IsPlan, GivesValues};
 ghost use Rattle.vcd_edit.specs.declared.edit.Edit.TheVariants as edits;
 
 use crate::effects::cut::cut_piece;
-use crate::effects::making::{one_piece, put_change, signal_there};
+use crate::effects::piece_builders::{one_piece, put_change, signal_there};
 use crate::record::{Piece, Record};
 use std::alloc::Global;
 use vcd_core::{Bit, Capture, Change, END_LIMIT, NoMemory, Signal, Value};
@@ -46,13 +46,13 @@ fn shifted(
         (shift_value end by (signal_contents signal.now))) }
 {
     if by < 0 {
-        return come_earlier(alloc, signal, position, end, by);
+        return advanced(alloc, signal, position, end, by);
     }
-    come_later(alloc, signal, position, end, by)
+    delayed(alloc, signal, position, end, by)
 }
 
 /// The piece of a signal that comes earlier.
-fn come_earlier(
+fn advanced(
     alloc: Global,
     signal: &Signal,
     position: usize,
@@ -68,13 +68,13 @@ fn come_earlier(
     let ticks = by.unsigned_abs();
     if ticks > end {
         let last = signal.wave.at(end);
-        return one_value(alloc, signal, position, by, last);
+        return constant_piece(alloc, signal, position, by, last);
     }
     cut_piece(alloc, signal, position, 0, ticks)
 }
 
 /// The piece of a signal that comes later, or at the same tick.
-fn come_later(
+fn delayed(
     alloc: Global,
     signal: &Signal,
     position: usize,
@@ -91,7 +91,7 @@ fn come_later(
     let ticks = by.unsigned_abs();
     if ticks > end {
         let x = Value::filled(wave.width(), Bit::X);
-        return one_value(alloc, signal, position, by, x);
+        return constant_piece(alloc, signal, position, by, x);
     }
     let changes = wave.changes();
     let kept = wave.count_until(end - ticks + 1);
@@ -114,7 +114,7 @@ fn come_later(
 }
 
 /// The piece of a signal that has one value at all ticks.
-fn one_value(
+fn constant_piece(
     alloc: Global,
     signal: &Signal,
     position: usize,

@@ -3,12 +3,12 @@
 ghost use Rattle.std.specs.Prelude.{◌≡◌, ◌↔◌, ℕ, ◌<◌, ◌≤◌, All, IsTrue, Some, None, map, length, slice_index_or};
 ghost use Rattle.std.specs.List.{sum_by};
 ghost use Rattle.vcd_core.specs.Contents.{Contents, SignalContents, contents, signal_contents, no_signal};
-ghost use Rattle.vcd_edit.specs.Back.{with_pieces, PieceFits, AreApart};
+ghost use Rattle.vcd_edit.specs.AppliedRecords.{with_pieces, PieceFits, AreApart};
 ghost use Rattle.vcd_edit.specs.inside.Records.{piece_view};
-ghost use Rattle.vcd_edit.specs.inside.Fitting.{HasSoundNames, IsFormedSignal, lateness as lateness_of, StandsIn, AreSoundSignals};
+ghost use Rattle.vcd_edit.specs.inside.Fitting.{HasSoundNames, IsFormedSignal, late_count as lateness_of, IsValidIn, AreSoundSignals};
 
 use crate::fitting::sound_names::has_sound_names;
-use crate::pieces::piece_stands;
+use crate::pieces::is_valid_piece;
 use crate::record::Piece;
 use vcd_core::{SIGNAL_LIMIT, Signal, Wave, ends_by};
 
@@ -26,7 +26,7 @@ fn have_sound_names(signals: &[Signal]) -> bool
 }
 
 /// 1 where a wave has a change past the end, else 0.
-fn lateness(wave: &Wave, end: u64) -> usize
+fn late_count(wave: &Wave, end: u64) -> usize
     ensures is { result ≡ lateness_of end wave.now.changes }
     ensures most { result ≤ 1 }
 {
@@ -41,28 +41,28 @@ fn late_signals(signals: &[Signal], end: u64) -> usize
 {
     let mut count = 0;
     for signal in signals {
-        count += lateness(&signal.wave, end);
+        count += late_count(&signal.wave, end);
     }
     count
 }
 
 /// Whether a piece is for one of the signals, and leads to a wave up to the end.
-fn stands_in(piece: &Piece, signals: &[Signal], end: u64) -> bool
+fn is_valid_in(piece: &Piece, signals: &[Signal], end: u64) -> bool
     ensures { IsTrue result
-        ↔ StandsIn end (map signal_contents signals.now) (piece_view piece.now) }
+        ↔ IsValidIn end (map signal_contents signals.now) (piece_view piece.now) }
 {
     match signals.get(piece.signal) {
-        Some(signal) => piece_stands(piece, &signal.wave, end),
+        Some(signal) => is_valid_piece(piece, &signal.wave, end),
         None => false,
     }
 }
 
 /// The same of each piece.
-fn stand_in(pieces: &[Piece], signals: &[Signal], end: u64) -> bool
+fn are_valid_in(pieces: &[Piece], signals: &[Signal], end: u64) -> bool
     ensures { IsTrue result
-        ↔ All (StandsIn end (map signal_contents signals.now)) (map piece_view pieces.now) }
+        ↔ All (IsValidIn end (map signal_contents signals.now)) (map piece_view pieces.now) }
 {
-    pieces.iter().all(|piece| stands_in(piece, signals, end))
+    pieces.iter().all(|piece| is_valid_in(piece, signals, end))
 }
 
 /// How many pieces are for signals that have a change past the end.
@@ -74,7 +74,7 @@ fn late_pieces(pieces: &[Piece], signals: &[Signal], end: u64) -> usize
 {
     let mut count = 0;
     for piece in pieces {
-        count += lateness(&signals[piece.signal].wave, end);
+        count += late_count(&signals[piece.signal].wave, end);
     }
     count
 }
@@ -93,7 +93,7 @@ pub(crate) fn pieces_fit(pieces: &[Piece], signals: &[Signal], end: u64) -> bool
     if !have_sound_names(signals) {
         return false;
     }
-    if !stand_in(pieces, signals, end) {
+    if !are_valid_in(pieces, signals, end) {
         return false;
     }
     late_signals(signals, end) == late_pieces(pieces, signals, end)

@@ -7,7 +7,7 @@ ghost use Rattle.vcd_core.specs.Sound.{IsSoundSignal};
 ghost use Rattle.vcd_edit.specs.Effect.{renamed_signal};
 ghost use Rattle.vcd_edit.specs.inside.Fitting.{HasSoundNames, IsFormedSignal};
 
-use crate::checking::behind_first;
+use crate::checking::after_first;
 use vcd_core::{Signal, are_scopes_sound, are_words, is_skipped_kind, is_wave_sound, is_word};
 
 /// Whether all of a signal but its changes is sound.
@@ -47,7 +47,7 @@ pub(crate) fn is_sound_with_word(signal: &Signal, word: &[u8], end: u64) -> bool
         ↔ IsSoundSignal end (renamed_signal word.now (signal_contents signal.now)) }
 {
     is_word(word)
-        && are_words(behind_first(signal.words.as_slice()))
+        && are_words(after_first(signal.words.as_slice()))
         && is_word(signal.kind.as_slice())
         && !is_skipped_kind(signal.kind.as_slice())
         && are_scopes_sound(signal.scopes.as_slice())

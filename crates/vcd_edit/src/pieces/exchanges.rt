@@ -5,9 +5,9 @@ ghost use Rattle.std.specs.Int.{w64, FitsUnsigned};
 ghost use Rattle.vcd_core.specs.declared.capture.TheConstants.{END_LIMIT};
 ghost use Rattle.vcd_core.specs.Contents.{contents, signal_at};
 ghost use Rattle.vcd_edit.specs.RecordView.{PieceView};
-ghost use Rattle.vcd_edit.specs.Back.{changes_with_piece, with_piece, with_pieces, AreApart};
+ghost use Rattle.vcd_edit.specs.AppliedRecords.{changes_with_piece, with_piece, with_pieces, AreApart};
 ghost use Rattle.vcd_edit.specs.inside.Records.{piece_view};
-ghost use Rattle.vcd_edit.specs.inside.Exchanges.{PieceReady, PieceReadyIn, LeadsBack, LeadBack, wave_at, HasRoomForPiece};
+ghost use Rattle.vcd_edit.specs.inside.Exchanges.{PieceReady, PieceReadyIn, IsInversePiece, AreInversePieces, wave_at, HasRoomForPiece};
 
 use crate::pieces::trimming::trim;
 use crate::record::Piece;
@@ -31,7 +31,7 @@ fn exchange_piece(piece: &mut Piece, wave: &mut Wave)
     requires piece_room { piece.old.to - piece.old.from ≤ vec_capacity piece.old.changes }
     ensures width { wave.new.width ≡ wave.old.width }
     ensures there { wave.new.changes ≡ changes_with_piece (piece_view piece.old) wave.old.changes }
-    ensures back { LeadsBack wave.old.changes (piece_view piece.old) (piece_view piece.new) }
+    ensures back { IsInversePiece wave.old.changes (piece_view piece.old) (piece_view piece.new) }
 {
     trim(piece, wave.changes());
     let seam = piece.from + piece.changes.as_slice().len();
@@ -46,7 +46,7 @@ fn put_one(capture: &mut Capture, piece: &mut Piece)
     requires room { HasRoomForPiece capture.old.signals piece.old }
     ensures there { contents capture.new
         ≡ with_piece (contents capture.old) (piece_view piece.old) }
-    ensures back { LeadsBack (signal_at (contents capture.old) piece.old.signal).changes
+    ensures back { IsInversePiece (signal_at (contents capture.old) piece.old.signal).changes
         (piece_view piece.old) (piece_view piece.new) }
     ensures others { (k : ℕ) → k ≢ piece.old.signal
         → wave_at capture.new.signals k ≡ wave_at capture.old.signals k }
@@ -62,7 +62,7 @@ fn put_all(capture: &mut Capture, pieces: &mut [Piece])
     requires room { All (HasRoomForPiece capture.old.signals) pieces.old }
     ensures there { contents capture.new
         ≡ with_pieces (contents capture.old) (map piece_view pieces.old) }
-    ensures back { LeadBack (contents capture.old)
+    ensures back { AreInversePieces (contents capture.old)
         (map piece_view pieces.old) (map piece_view pieces.new) }
 {
     for piece in pieces.iter_mut() {
@@ -78,7 +78,7 @@ pub(crate) fn put_pieces(capture: &mut Capture, pieces: &mut Vec<Piece>)
     ensures there { contents capture.new
         ≡ with_pieces (contents capture.old) (map piece_view pieces.old.items) }
     ensures back { (qs : List PieceView) × (map piece_view pieces.new.items ≡ reverse qs)
-        × LeadBack (contents capture.old) (map piece_view pieces.old.items) qs }
+        × AreInversePieces (contents capture.old) (map piece_view pieces.old.items) qs }
 {
     put_all(capture, pieces.as_mut_slice());
     pieces.reverse();

@@ -3,9 +3,9 @@
 ghost use Rattle.std.specs.Prelude.{◌≡◌, All, List, map, reverse};
 ghost use Rattle.vcd_core.specs.Contents.{contents};
 ghost use Rattle.vcd_edit.specs.RecordView.{PieceView};
-ghost use Rattle.vcd_edit.specs.Back.{with_pieces, AreApart};
+ghost use Rattle.vcd_edit.specs.AppliedRecords.{with_pieces, AreApart};
 ghost use Rattle.vcd_edit.specs.inside.Records.{piece_view};
-ghost use Rattle.vcd_edit.specs.inside.Exchanges.{PieceReadyIn, LeadBack, HasRoomForPiece};
+ghost use Rattle.vcd_edit.specs.inside.Exchanges.{PieceReadyIn, AreInversePieces, HasRoomForPiece};
 
 use crate::pieces::exchanges::put_pieces;
 use crate::record::Piece;
@@ -36,7 +36,7 @@ pub(crate) fn exchange_pieces(capture: &mut Capture, pieces: &mut Vec<Piece>)
     ensures there { contents capture.new
         ≡ with_pieces (contents capture.old) (map piece_view pieces.old.items) }
     ensures back { (qs : List PieceView) × (map piece_view pieces.new.items ≡ reverse qs)
-        × LeadBack (contents capture.old) (map piece_view pieces.old.items) qs }
+        × AreInversePieces (contents capture.old) (map piece_view pieces.old.items) qs }
 {
     put_pieces(capture, pieces);
     release_rooms(pieces.as_mut_slice());

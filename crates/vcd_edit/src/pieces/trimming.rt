@@ -3,7 +3,7 @@
 ghost use Rattle.std.specs.Prelude.{◌≡◌, ℕ, ◌^◌, ◌<◌, ◌≤◌, pos, ◌-ℤ◌, neg_ℤ, All, length, drop, vec_len, vec_capacity};
 ghost use Rattle.std.specs.List.{common_prefix_len};
 ghost use Rattle.std.specs.Ordering.{int_eq};
-ghost use Rattle.vcd_core.specs.Splice.{TicksFit};
+ghost use Rattle.vcd_core.specs.Splice.{AllTicksFit};
 ghost use Rattle.vcd_edit.specs.Touched.{same_change, same_lowered, common_suffix_lowered};
 ghost use Rattle.vcd_edit.specs.inside.Records.{piece_view};
 ghost use Rattle.vcd_edit.specs.inside.Trims.{IsTrimmed};
@@ -78,7 +78,7 @@ fn drop_front(list: &mut Vec<Change>, count: usize)
 pub(crate) fn trim(piece: &mut Piece, changes: &[Change])
     requires ordered { piece.old.from ≤ piece.old.to }
     requires within { piece.old.to ≤ length changes.now }
-    requires ticks { TicksFit piece.old.by (drop piece.old.to changes.now) }
+    requires ticks { AllTicksFit piece.old.by (drop piece.old.to changes.now) }
     requires small { All (λ c. c.tick < 2 ^ 64) piece.old.changes.items }
     ensures trimmed { IsTrimmed changes.now (piece_view piece.old) (piece_view piece.new) }
     ensures capacity { vec_capacity piece.new.changes ≡ vec_capacity piece.old.changes }

@@ -4,18 +4,18 @@ use Rattle.circular_buffer.specs.Buffer.{Buffer}
 use Rattle.vcd_core.specs.Contents.{Contents}
 use Rattle.vcd_core.specs.Sound.{IsSound}
 use Rattle.vcd_edit.specs.RecordView.{RecordView}
-use Rattle.vcd_edit.specs.Back.{back, Fits}
+use Rattle.vcd_edit.specs.AppliedRecords.{apply_record, Fits}
 use Rattle.vcd_journal.specs.declared.step.TheConstants.{DEPTH_LIMIT}
 
 -- the captures that records lead to, one after another
 abbrev pub reached_captures : Contents → List RecordView → List Contents
 reached_captures c [] = []
-reached_captures c (r ∷ rs) = back r c ∷ reached_captures (back r c) rs
+reached_captures c (r ∷ rs) = apply_record r c ∷ reached_captures (apply_record r c) rs
 
 -- each record fits the capture that those before it lead to
 abbrev pub AllRecordsFit : Contents → List RecordView → Type 0
 AllRecordsFit c [] = Unit {0}
-AllRecordsFit c (r ∷ rs) = Fits r c × AllRecordsFit (back r c) rs
+AllRecordsFit c (r ∷ rs) = Fits r c × AllRecordsFit (apply_record r c) rs
 
 -- the records of two rings lead back and forth from a sound capture, are few enough, and the rings have room
 pub record IsHistory (c : Contents) (past future : Buffer RecordView) (depth : ℕ) : Type 0 where
@@ -28,7 +28,7 @@ pub record IsHistory (c : Contents) (past future : Buffer RecordView) (depth : �
   pub future_room : depth ≤ future.capacity
 
 -- the first record of a ring leads from c to d, and the others stay
-pub record IsWay (c : Contents) (before : List RecordView) (d : Contents) (after : List RecordView) : Type 0 where
+pub record PopsRecord (c : Contents) (before : List RecordView) (d : Contents) (after : List RecordView) : Type 0 where
   pub captures : reached_captures c before ≡ d ∷ reached_captures d after
   pub fit : AllRecordsFit c before
   pub rest_fit : AllRecordsFit d after

@@ -86,7 +86,7 @@ fn told(rt: &impl Abort, alloc: Global, depth: u64, steps: &[Step]) -> Result<St
     Ok(text)
 }
 
-fn check_told(
+fn check_answers_of(
     rt: &impl Abort,
     alloc: Global,
     depth: u64,
@@ -109,7 +109,7 @@ fn refused_edit_leaves_what_can_be_made_again(rt: HostRuntime) -> Result<(), Fai
         Step::Redo,
     ];
     let text = "ok ok BadRange ok ok ok NothingToRedo b 0 9 1 0";
-    check_told(&rt, rt.alloc(), DEPTH_LIMIT, &steps, text)
+    check_answers_of(&rt, rt.alloc(), DEPTH_LIMIT, &steps, text)
 }
 
 #[test]
@@ -123,7 +123,7 @@ fn oldest_step_is_dropped(rt: HostRuntime) -> Result<(), Fail> {
         Step::Undo,
     ];
     let text = "ok ok ok ok ok NothingToUndo b 0 9 0 2";
-    check_told(&rt, rt.alloc(), 2, &steps, text)
+    check_answers_of(&rt, rt.alloc(), 2, &steps, text)
 }
 
 #[test]
@@ -139,22 +139,22 @@ fn steps_are_made_again_in_order(rt: HostRuntime) -> Result<(), Fail> {
         Step::Redo,
         Step::Redo,
     ];
-    check_told(&rt, rt.alloc(), 3, &steps[..5], "ok ok ok ok ok b 0 9 1 2")?;
-    check_told(
+    check_answers_of(&rt, rt.alloc(), 3, &steps[..5], "ok ok ok ok ok b 0 9 1 2")?;
+    check_answers_of(
         &rt,
         rt.alloc(),
         3,
         &steps[..6],
         "ok ok ok ok ok ok a 0 9 0 3",
     )?;
-    check_told(
+    check_answers_of(
         &rt,
         rt.alloc(),
         3,
         &steps[..8],
         "ok ok ok ok ok ok ok ok b 1 9 2 1",
     )?;
-    check_told(
+    check_answers_of(
         &rt,
         rt.alloc(),
         3,
@@ -183,7 +183,7 @@ fn depth_makes_room_for_what_can_be_made_again(rt: HostRuntime) -> Result<(), Fa
     ];
     let text =
         "ok ok ok ok ok DepthTooSmall ok NothingToUndo ok ok ok ok NothingToUndo BadDepth c 0 9 0 1";
-    check_told(&rt, rt.alloc(), 3, &steps, text)
+    check_answers_of(&rt, rt.alloc(), 3, &steps, text)
 }
 
 #[test]
@@ -199,7 +199,7 @@ fn greater_depth_holds_more(rt: HostRuntime) -> Result<(), Fail> {
         Step::Depth(DEPTH_LIMIT),
     ];
     let text = "ok ok ok ok ok ok NothingToUndo ok b 0 9 0 2";
-    check_told(&rt, rt.alloc(), 1, &steps, text)
+    check_answers_of(&rt, rt.alloc(), 1, &steps, text)
 }
 
 /// Each field is bound at its type: a session holds records and one capture.

@@ -159,8 +159,8 @@ fn check_row(
     }
     let (answer, text) = row.split_once(':').ok_or("no answer")?;
     let mut file = file_of(alloc, front)?;
-    let behind = file_of(alloc, text)?;
-    file.extend_from_slice(behind.as_slice())?;
+    let following = file_of(alloc, text)?;
+    file.extend_from_slice(following.as_slice())?;
     check_answer(rt, alloc, file.as_slice(), fails, answer)
 }
 

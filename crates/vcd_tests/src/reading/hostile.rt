@@ -62,12 +62,12 @@ fn deep_scopes(rt: HostRuntime) -> Result<(), Fail> {
 }
 
 /// Appends each byte that is no white space, between two texts.
-fn append_codes(file: &mut Vec<u8>, front: &[u8], behind: &[u8]) -> Result<(), Fail> {
+fn append_codes(file: &mut Vec<u8>, front: &[u8], following: &[u8]) -> Result<(), Fail> {
     for code in 0..=255u8 {
         if !is_white_space(code) {
             file.extend_from_slice(front)?;
             file.push(code)?;
-            file.extend_from_slice(behind)?;
+            file.extend_from_slice(following)?;
         }
     }
     Ok(())

@@ -138,7 +138,7 @@ const BEHIND_THE_MOST: &str = "\
 0 BadVar:$var wire 2 ! $end";
 
 /// Stops where a row has another fault.
-fn check_behind(rt: &impl Abort, alloc: Global, row: &str) -> Result<(), Fail> {
+fn check_following(rt: &impl Abort, alloc: Global, row: &str) -> Result<(), Fail> {
     let (answer, more) = row.split_once(':').ok_or("no answer")?;
     let (line, name) = answer.split_once(' ').ok_or("no line")?;
     let line = line.parse::<usize>()?.saturating_add(SIGNAL_LIMIT + 1);
@@ -157,7 +157,7 @@ fn check_behind(rt: &impl Abort, alloc: Global, row: &str) -> Result<(), Fail> {
 #[test]
 fn one_signal_too_many(rt: HostRuntime) -> Result<(), Fail> {
     for row in BEHIND_THE_MOST.lines() {
-        check_behind(&rt, rt.alloc(), row)?;
+        check_following(&rt, rt.alloc(), row)?;
     }
     Ok(())
 }

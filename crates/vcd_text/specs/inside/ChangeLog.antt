@@ -27,12 +27,12 @@ RisesTo floor tick [] = floor ≤ tick
 RisesTo floor tick (e ∷ es) = (floor ≤ e.tick) × RisesTo e.tick tick es
 
 -- a wave with changes of the log behind its own has the values of f, and no change is past the tick
-pub record GivesLoggedValues (width tick : ℕ) (f : ℕ → List Bit) (changes : List Change) (behind : List LoggedChange) : Type 0 where
+pub record GivesLoggedValues (width tick : ℕ) (f : ℕ → List Bit) (changes : List Change) (following : List LoggedChange) : Type 0 where
   pub floor : ℕ
   pub ticks : All (λ (c : Change). c.tick ≤ floor) changes
-  pub rises : RisesTo floor tick behind
-  pub narrow : 0 < length behind → width ≤ 64
-  pub values : (t : ℕ) → value_after_changes width t (value_at width changes t) behind ≡ f t
+  pub rises : RisesTo floor tick following
+  pub narrow : 0 < length following → width ≤ 64
+  pub values : (t : ℕ) → value_after_changes width t (value_at width changes t) following ≡ f t
 
 -- ---- groups
 
@@ -69,35 +69,35 @@ pub record IsSameVariable (old new : Variable) : Type 0 where
   pub first : new.first ≡ old.first
 
 -- it has taken it
-pub record TakesLogged (e : LoggedChange) (old new : Variable) : Type 0 where
+pub record AppliesToVariable (e : LoggedChange) (old new : Variable) : Type 0 where
   pub same : IsSameVariable old new
   pub last : All (λ (c : Change). c.tick ≤ e.tick) new.signal.wave.changes
   pub values : (t : ℕ) → value_at new.signal.wave.width new.signal.wave.changes t
       ≡ (if nat_le e.tick t then logged_letters old.signal.wave.width e else value_at old.signal.wave.width old.signal.wave.changes t)
 
 -- one of these variables has
-pub record TakesAt (e : LoggedChange) (old new : List Variable) : Type 0 where
+pub record AppliesLogged (e : LoggedChange) (old new : List Variable) : Type 0 where
   pub before : Variable
   pub after : Variable
   pub stands : slice_get old e.position ≡ Some before
-  pub takes : TakesLogged e before after
+  pub takes : AppliesToVariable e before after
   pub others : new ≡ set old e.position after
 
 -- the variables can take what the log has for each
-abbrev pub CanSettle : List Variable → (ℕ → List LoggedChange) → Type 0
-CanSettle kept log =
+abbrev pub CanFlush : List Variable → (ℕ → List LoggedChange) → Type 0
+CanFlush kept log =
     (position : ℕ) → 0 < length (log position)
     → (v : Variable) × (slice_get kept position ≡ Some v) × (tick : ℕ) × (f : ℕ → List Bit)
     × GivesLoggedValues v.signal.wave.width tick f v.signal.wave.changes (log position)
 
 -- a variable is what it was, and its wave with what is left of the log has the values that it had
-pub record Becomes (old new : Variable) (log rest : List LoggedChange) : Type 0 where
+pub record FlushesOne (old new : Variable) (log rest : List LoggedChange) : Type 0 where
   pub same : IsSameVariable old new
   pub gives : (tick : ℕ) (f : ℕ → List Bit) → GivesLoggedValues old.signal.wave.width tick f old.signal.wave.changes log
       → GivesLoggedValues new.signal.wave.width tick f new.signal.wave.changes rest
 
 -- the variables have taken what is no more left of the log
-pub record Settles (old new : List Variable) (log rest : ℕ → List LoggedChange) : Type 0 where
+pub record FlushesLog (old new : List Variable) (log rest : ℕ → List LoggedChange) : Type 0 where
   pub long : length new ≡ length old
   pub each : (position : ℕ) (v : Variable) → slice_get old position ≡ Some v
-      → (w : Variable) × (slice_get new position ≡ Some w) × Becomes v w (log position) (rest position)
+      → (w : Variable) × (slice_get new position ≡ Some w) × FlushesOne v w (log position) (rest position)

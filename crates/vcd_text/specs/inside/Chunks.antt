@@ -15,19 +15,19 @@ use Rattle.vcd_text.specs.inside.Reading.{Reads}
 -- of the bytes that have come, the words that white space follows have been taken; the others are those of a word that may go on
 pub record HasTaken (m : Reader) (word : List ℕ) (passed left : ℕ) (bytes : List ℕ) : Type 0 where
   pub reads : Reads m (closed_words bytes)
-  pub behind : (whole : Bool) (rest : List ℕ) → words_from whole 1 (bytes ++ rest) ≡ closed_words bytes ++ words_from whole (passed + 1) (word ++ rest)
+  pub following : (whole : Bool) (rest : List ℕ) → words_from whole 1 (bytes ++ rest) ≡ closed_words bytes ++ words_from whole (passed + 1) (word ++ rest)
   pub black : list_all (λ b. not (is_white_space b)) word ≡ true
   pub short : length word ≤ length bytes
   pub lines : last_line bytes ≡ passed + 1
   pub room : length bytes + left ≡ FILE_LIMIT
 
 -- so far these bytes have come
-abbrev pub Holds : Progress → List ℕ → Type 0
-Holds p bytes = HasTaken p.reader p.buffer.bytes p.passed p.left bytes
+abbrev pub HasConsumed : Progress → List ℕ → Type 0
+HasConsumed p bytes = HasTaken p.reader p.buffer.bytes p.passed p.left bytes
 
 -- of bytes that may be known these are left, and what came between has been taken
-abbrev pub StandsAt : Option (List ℕ) → Option (List ℕ) → Progress → Type 0
-StandsAt coming left p = (bytes : List ℕ) × Consumes coming left bytes × Holds p bytes
+abbrev pub ProgressMatches : Option (List ℕ) → Option (List ℕ) → Progress → Type 0
+ProgressMatches coming left p = (bytes : List ℕ) × Consumes coming left bytes × HasConsumed p bytes
 
 -- a chunk stands behind the word that may go on, which has so many bytes; with it these bytes have come
 pub record HasCome (p : Progress) (from : ℕ) (bytes : List ℕ) : Type 0 where
@@ -41,5 +41,5 @@ pub record HasCome (p : Progress) (from : ℕ) (bytes : List ℕ) : Type 0 where
 
 -- the words that are sure now have been taken, or one shows a fault, or memory has run out
 abbrev pub TakesChunk : List ℕ → Result (Unit {0}) ReadError → Progress → Type 0
-TakesChunk bytes (Ok x) new = Holds new bytes
+TakesChunk bytes (Ok x) new = HasConsumed new bytes
 TakesChunk bytes (Err e) new = (e ≡ memory_error) ⊎ FrontFault bytes e.line e.fault

@@ -10,11 +10,11 @@ use Rattle.vcd_text.specs.Meaning.{FileMeans}
 use Rattle.vcd_text.specs.inside.OpenItems.{is_nothing}
 use Rattle.vcd_text.specs.Letters.{is_among}
 use Rattle.vcd_text.specs.Items.{Item, spelling, spellings, has_no_end_word, header_word, is_other, vector_prefixes, dropped_prefixes}
-use Rattle.vcd_text.specs.Grammar.{Context, Allows, AllowsAll, told_after, told_after_item, nothing_told, word_texts, has_good_size}
+use Rattle.vcd_text.specs.Grammar.{ParseState, Allows, AllowsAll, state_after, state_after_item, initial_state, word_texts, has_good_size}
 use Rattle.vcd_text.specs.Faults.{WordFault, ShowsFault}
 use Rattle.vcd_text.specs.Refusals.{memory_error}
 use Rattle.vcd_text.specs.inside.Scopes.{HoldsScopes}
-use Rattle.vcd_text.specs.inside.Variables.{Knows}
+use Rattle.vcd_text.specs.inside.Variables.{VariablesMatch}
 use Rattle.vcd_text.specs.declared.reading.reader.Reader.{Reader}
 use Rattle.vcd_text.specs.declared.reading.reader.OpenItem.{OpenItem}
 use Rattle.vcd_text.specs.declared.reading.reader.OpenItem.TheVariants as items
@@ -22,13 +22,13 @@ use Rattle.vcd_text.specs.declared.reading.reader.OpenItem.TheVariants as items
 -- ---- the state
 
 -- the reader holds what has been told
-pub record Agrees (m : Reader) (c : Context) : Type 0 where
+pub record ReaderMatches (m : Reader) (c : ParseState) : Type 0 where
   pub header : m.header.items ≡ c.header
   pub timescale : m.timescale ≡ c.timescale
   pub scopes : HoldsScopes m.scopes c.scopes c.declared
   pub changing : m.changing ≡ c.changing
   pub tick : m.tick ≡ c.tick
-  pub variables : Knows m.variables c
+  pub variables : VariablesMatch m.variables c
   pub silent : IsFalse c.changing → c.value_changes ≡ []
 
 -- a declaration is open whose words behind the keyword the reader keeps
@@ -69,20 +69,20 @@ IsBegun m begun items.Vector = AwaitsCode m begun vector_prefixes m.text.items
 IsBegun m begun items.Dropped = (text : List ℕ) × AwaitsCode m begun dropped_prefixes text
 
 -- behind whole items that have told this, these words of an open item have been taken
-abbrev pub At : Reader → Context → List PlacedWord → Type 0
-At m c begun = Agrees m c × IsBegun m begun m.item
+abbrev pub IsAtState : Reader → ParseState → List PlacedWord → Type 0
+IsAtState m c begun = ReaderMatches m c × IsBegun m begun m.item
 
 -- ---- one word
 
 -- a word goes on with the open item, or ends it, which then gets what it asks for
-pub data TakesWord (c : Context) (begun : List PlacedWord) (new : Reader) : Type 0 where
-  goes_on : At new c begun → TakesWord c begun new
-  ends_item : (i : Item) → spelling i ≡ word_texts begun → Allows c i → At new (told_after_item c i) [] → TakesWord c begun new
+pub data WordStep (c : ParseState) (begun : List PlacedWord) (new : Reader) : Type 0 where
+  goes_on : IsAtState new c begun → WordStep c begun new
+  ends_item : (i : Item) → spelling i ≡ word_texts begun → Allows c i → IsAtState new (state_after_item c i) [] → WordStep c begun new
 
 -- what comes of a word: it is taken, or shows a fault, or memory runs out
-abbrev pub TakesOrRefuses : Reader → PlacedWord → Result (Unit {0}) Fault → Reader → Type 0
-TakesOrRefuses old w (Ok x) new = (c : Context) (begun : List PlacedWord) → At old c begun → TakesWord c (begun ++ w ∷ []) new
-TakesOrRefuses old w (Err fault) new = (c : Context) (begun : List PlacedWord) → At old c begun → (fault ≡ NoMemory) ⊎ WordFault c (word_texts begun) w.text fault
+abbrev pub WordResult : Reader → PlacedWord → Result (Unit {0}) Fault → Reader → Type 0
+WordResult old w (Ok x) new = (c : ParseState) (begun : List PlacedWord) → IsAtState old c begun → WordStep c (begun ++ w ∷ []) new
+WordResult old w (Err fault) new = (c : ParseState) (begun : List PlacedWord) → IsAtState old c begun → (fault ≡ NoMemory) ⊎ WordFault c (word_texts begun) w.text fault
 
 -- ---- the words from the first
 
@@ -91,12 +91,12 @@ pub record Reads (m : Reader) (words : List PlacedWord) : Type 0 where
   pub items : List Item
   pub whole : List PlacedWord
   pub begun : List PlacedWord
-  pub told : Context
+  pub told : ParseState
   pub parts : words ≡ whole ++ begun
   pub spelled : word_texts whole ≡ spellings items
-  pub allowed : AllowsAll nothing_told items
-  pub tells : told_after nothing_told items ≡ told
-  pub at : At m told begun
+  pub allowed : AllowsAll initial_state items
+  pub tells : state_after initial_state items ≡ told
+  pub at : IsAtState m told begun
 
 -- some words have been taken, fewer than a number of 64 bits can count
 pub record IsUnderway (m : Reader) : Type 0 where
@@ -114,18 +114,18 @@ abbrev pub error_at : ℕ → Fault → ReadError
 error_at line fault = if is_want_of_memory fault then memory_error else record { line = line; fault = fault }
 
 -- these words more have been taken, or one of them shows a fault whatever follows, or memory has run out
-abbrev pub Steps : Reader → List PlacedWord → Result (Unit {0}) ReadError → Reader → Type 0
-Steps old words (Ok x) new = (taken : List PlacedWord) → Reads old taken → Reads new (taken ++ words)
-Steps old words (Err e) new = (taken more : List PlacedWord) → Reads old taken → (e ≡ memory_error) ⊎ ShowsFault (taken ++ (words ++ more)) e.line e.fault
+abbrev pub WordsResult : Reader → List PlacedWord → Result (Unit {0}) ReadError → Reader → Type 0
+WordsResult old words (Ok x) new = (taken : List PlacedWord) → Reads old taken → Reads new (taken ++ words)
+WordsResult old words (Err e) new = (taken more : List PlacedWord) → Reads old taken → (e ≡ memory_error) ⊎ ShowsFault (taken ++ (words ++ more)) e.line e.fault
 
 -- these words can be taken behind those that have been
 abbrev pub HasRoomFor : Reader → List PlacedWord → Type 0
 HasRoomFor m words = (taken : List PlacedWord) × Reads m taken × (length taken + length words < 2 ^ 63)
 
 -- all words of a list have been taken behind others, or one shows a fault, or memory has run out
-abbrev pub ReadsMore : List PlacedWord → List PlacedWord → Result ℕ ReadError → Reader → Type 0
-ReadsMore taken words (Ok passed) new = Reads new (taken ++ words)
-ReadsMore taken words (Err e) new = (e ≡ memory_error) ⊎ ShowsFault (taken ++ words) e.line e.fault
+abbrev pub AllWordsResult : List PlacedWord → List PlacedWord → Result ℕ ReadError → Reader → Type 0
+AllWordsResult taken words (Ok passed) new = Reads new (taken ++ words)
+AllWordsResult taken words (Err e) new = (e ≡ memory_error) ⊎ ShowsFault (taken ++ words) e.line e.fault
 
 -- nothing is open, and `$enddefinitions $end` has come
 abbrev pub is_complete : Reader → Bool

@@ -34,9 +34,9 @@ abbrev pub window_of_signal : ℕ → ℕ → ℕ → List Change → List Trans
 window_of_signal from to position changes = map (λ c. transition_of c.tick position) (filter (λ c. is_in_window from to c.tick) changes)
 
 -- the changes in a window of signals, the first at this position, signal by signal
-unfoldable pub window_by_signal : ℕ → ℕ → ℕ → List SignalContents → List Transition
-window_by_signal from to position [] = []
-window_by_signal from to position (s ∷ ss) = window_of_signal from to position s.changes ++ window_by_signal from to (position + 1) ss
+unfoldable pub unsorted_window : ℕ → ℕ → ℕ → List SignalContents → List Transition
+unsorted_window from to position [] = []
+unsorted_window from to position (s ∷ ss) = window_of_signal from to position s.changes ++ unsorted_window from to (position + 1) ss
 
 -- the value that a signal changes to
 abbrev pub transition_value : List SignalContents → Transition → List Bit

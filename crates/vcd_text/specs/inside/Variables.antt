@@ -11,13 +11,13 @@ use Rattle.vcd_text.specs.declared.fault.Fault.{Fault}
 use Rattle.vcd_text.specs.declared.fault.Fault.TheVariants as faults
 use Rattle.vcd_text.specs.Letters.{letters_of_digits, extension}
 use Rattle.vcd_text.specs.Items.{variable}
-use Rattle.vcd_text.specs.Grammar.{VariableDeclaration, ValueChange, Context, is_skipped, kept_variables, declaration_of, variable_of, may_have_code, has_room, is_binary_number, takes_binary_number, told_after_item, with_value_change}
+use Rattle.vcd_text.specs.Grammar.{VariableDeclaration, ValueChange, ParseState, is_skipped, kept_variables, declaration_of, variable_of, may_have_code, has_room, is_binary_number, takes_binary_number, state_after_item, with_value_change}
 use Rattle.vcd_text.specs.Meaning.{latest_value}
-use Rattle.vcd_text.specs.inside.ShortCodes.{code_owner}
+use Rattle.vcd_text.specs.inside.ShortCodes.{code_target}
 use Rattle.vcd_text.specs.inside.ChangeLog.{GivesLoggedValues, logged, AreGrouped}
 use Rattle.vcd_text.specs.declared.reading.change_log.LoggedChange.{LoggedChange}
-use Rattle.vcd_text.specs.declared.reading.variables.Owner.{Owner}
-use Rattle.vcd_text.specs.declared.reading.variables.Owner.TheVariants.{Skipped, Kept}
+use Rattle.vcd_text.specs.declared.reading.variables.CodeTarget.{CodeTarget}
+use Rattle.vcd_text.specs.declared.reading.variables.CodeTarget.TheVariants.{Skipped, Kept}
 use Rattle.vcd_text.specs.declared.reading.variables.Variable.{Variable}
 use Rattle.vcd_text.specs.declared.reading.variables.Variables.{Variables}
 
@@ -40,8 +40,8 @@ abbrev pub declaration : Variable → VariableDeclaration
 declaration v = declaration_by v.code v.signal
 
 -- what a code stands for
-abbrev pub owner_of : Variables → List ℕ → Option Owner
-owner_of vs code = code_owner vs.owners.codes code
+abbrev pub target_of : Variables → List ℕ → Option CodeTarget
+target_of vs code = code_target vs.code_targets.codes code
 
 -- the variable of this code and size stands at this position, and its wave with the changes that the log has for it follows the value changes, the last of which is at the tick or before
 pub record HasWave (vs : List Variable) (log : ℕ → List LoggedChange) (position : ℕ) (code : List ℕ) (size : ℕ) (value_changes : List ValueChange) (tick : ℕ) : Type 0 where
@@ -52,15 +52,15 @@ pub record HasWave (vs : List Variable) (log : ℕ → List LoggedChange) (posit
   pub gives : GivesLoggedValues size tick (λ t. latest_value size code t (all_x size) value_changes) first.signal.wave.changes (log position)
 
 -- what a code stands for agrees with the first variable that was declared with it
-abbrev pub Stands : List Variable → (ℕ → List LoggedChange) → List ValueChange → ℕ → List ℕ → Option Owner → Option VariableDeclaration → Type 0
-Stands vs log value_changes tick code None None = Unit {0}
-Stands vs log value_changes tick code (Some Skipped) (Some d) = IsTrue (is_skipped d)
-Stands vs log value_changes tick code (Some (Kept position)) (Some d) = IsFalse (is_skipped d) × HasWave vs log position code d.size value_changes tick
-Stands vs log value_changes tick code owner declared = ⊥
+abbrev pub TargetMatches : List Variable → (ℕ → List LoggedChange) → List ValueChange → ℕ → List ℕ → Option CodeTarget → Option VariableDeclaration → Type 0
+TargetMatches vs log value_changes tick code None None = Unit {0}
+TargetMatches vs log value_changes tick code (Some Skipped) (Some d) = IsTrue (is_skipped d)
+TargetMatches vs log value_changes tick code (Some (Kept position)) (Some d) = IsFalse (is_skipped d) × HasWave vs log position code d.size value_changes tick
+TargetMatches vs log value_changes tick code target declared = ⊥
 
 -- a kept variable knows the first one with its code, which stands no later and has the same size
 pub record HasFirst (vs : Variables) (position : ℕ) (v : Variable) : Type 0 where
-  pub owned : owner_of vs v.code ≡ Some (Kept v.first)
+  pub owned : target_of vs v.code ≡ Some (Kept v.first)
   pub no_later : v.first ≤ position
   pub same_size : (w : Variable) → slice_get vs.kept.items v.first ≡ Some w → w.signal.wave.width ≡ v.signal.wave.width
 
@@ -69,11 +69,11 @@ abbrev pub HasLogs : List Variable → (ℕ → List LoggedChange) → Type 0
 HasLogs vs log = (position : ℕ) → 0 < length (log position) → (v : Variable) × (slice_get vs position ≡ Some v) × (v.first ≡ position)
 
 -- the variables hold what has been told of them: declarations without their scopes, and value changes up to the tick
-pub record Knows (vs : Variables) (c : Context) : Type 0 where
+pub record VariablesMatch (vs : Variables) (c : ParseState) : Type 0 where
   pub kept : map without_scopes (kept_variables c.declared) ≡ map declaration vs.kept.items
   pub skipped : vs.skipped ≡ count_by is_skipped c.declared
   pub widths : vs.widths.items ≡ map (λ (v : Variable). v.signal.wave.width) vs.kept.items
-  pub stand : (code : List ℕ) → Stands vs.kept.items (logged vs.log.groups.items) c.value_changes c.tick code (owner_of vs code) (variable_of c code)
+  pub stand : (code : List ℕ) → TargetMatches vs.kept.items (logged vs.log.groups.items) c.value_changes c.tick code (target_of vs code) (variable_of c code)
   pub firsts : (position : ℕ) (v : Variable) → slice_get vs.kept.items position ≡ Some v → HasFirst vs position v
   pub few : length vs.kept.items ≤ SIGNAL_LIMIT
   pub grouped : AreGrouped 0 vs.log.groups.items
@@ -82,23 +82,23 @@ pub record Knows (vs : Variables) (c : Context) : Type 0 where
 -- ---- what comes of a declaration
 
 -- what has been told, with this declaration behind the others
-abbrev pub with_declaration : Context → VariableDeclaration → Context
+abbrev pub with_declaration : ParseState → VariableDeclaration → ParseState
 with_declaration c d = record c { declared = c.declared ++ d ∷ [] }
 
 -- the declaration may not stand here
-pub data CannotDeclare (c : Context) (d : VariableDeclaration) (fault : Fault) : Type 0 where
+pub data CannotDeclare (c : ParseState) (d : VariableDeclaration) (fault : Fault) : Type 0 where
   mixed : IsFalse (may_have_code (variable_of c d.code) d) → fault ≡ faults.MixedCode → CannotDeclare c d fault
   many : IsTrue (may_have_code (variable_of c d.code) d) → IsFalse (has_room c.declared d) → fault ≡ faults.TooManySignals → CannotDeclare c d fault
 
 -- what comes of a declaration: it is held beside the others, or may not stand here, or memory runs out
-abbrev pub DeclaresAs : Context → VariableDeclaration → Result (Unit {0}) Fault → Variables → Type 0
-DeclaresAs c d (Ok x) new = IsTrue (may_have_code (variable_of c d.code) d) × IsTrue (has_room c.declared d) × Knows new (with_declaration c d)
+abbrev pub DeclaresAs : ParseState → VariableDeclaration → Result (Unit {0}) Fault → Variables → Type 0
+DeclaresAs c d (Ok x) new = IsTrue (may_have_code (variable_of c d.code) d) × IsTrue (has_room c.declared d) × VariablesMatch new (with_declaration c d)
 DeclaresAs c d (Err fault) new = (fault ≡ faults.NoMemory) ⊎ CannotDeclare c d fault
 
 -- ---- what comes of a `$var`, at its `$end`
 
 -- the words declare no variable that may stand here
-pub data VariableFault (c : Context) (words : List (List ℕ)) (fault : Fault) : Type 0 where
+pub data VariableFault (c : ParseState) (words : List (List ℕ)) (fault : Fault) : Type 0 where
   no_variable : declaration_of c words ≡ None → fault ≡ faults.BadVar → VariableFault c words fault
   code_mixed : (d : VariableDeclaration) → declaration_of c words ≡ Some d → IsFalse (may_have_code (variable_of c d.code) d)
       → fault ≡ faults.MixedCode → VariableFault c words fault
@@ -106,10 +106,10 @@ pub data VariableFault (c : Context) (words : List (List ℕ)) (fault : Fault) :
       → fault ≡ faults.TooManySignals → VariableFault c words fault
 
 -- what comes of the words: their variable is held beside the others, or they show a fault, or memory runs out
-abbrev pub Declares : Context → List (List ℕ) → Result (Unit {0}) Fault → Variables → Type 0
+abbrev pub Declares : ParseState → List (List ℕ) → Result (Unit {0}) Fault → Variables → Type 0
 Declares c words (Ok x) new =
     IsSomeAnd (declaration_of c words) (λ d. IsTrue (may_have_code (variable_of c d.code) d) × IsTrue (has_room c.declared d))
-    × Knows new (told_after_item c (variable words))
+    × VariablesMatch new (state_after_item c (variable words))
 Declares c words (Err fault) new = (fault ≡ faults.NoMemory) ⊎ VariableFault c words fault
 
 -- ---- what comes of digits
@@ -132,7 +132,7 @@ RefusesBinaryNumber width digits fault =
 -- ---- what comes of a change with these digits
 
 -- the code is none, or its variable does not take the digits
-pub data BinaryNumberFault (c : Context) (code digits : List ℕ) (fault : Fault) : Type 0 where
+pub data BinaryNumberFault (c : ParseState) (code digits : List ℕ) (fault : Fault) : Type 0 where
   unknown : variable_of c code ≡ None → fault ≡ faults.UnknownCode → BinaryNumberFault c code digits fault
   no_value : (d : VariableDeclaration) → variable_of c code ≡ Some d → IsFalse (is_skipped d) → IsFalse (is_binary_number digits)
       → fault ≡ faults.BadChange → BinaryNumberFault c code digits fault
@@ -140,10 +140,10 @@ pub data BinaryNumberFault (c : Context) (code digits : List ℕ) (fault : Fault
       → fault ≡ faults.ValueTooLong → BinaryNumberFault c code digits fault
 
 -- what comes of the change: it is held, or shows a fault, or memory runs out
-abbrev pub TakesChange : Context → (code digits : List ℕ) → Result (Unit {0}) Fault → Variables → Type 0
-TakesChange c code digits (Ok x) new =
-    IsSomeAnd (variable_of c code) (λ d. IsTrue (takes_binary_number d digits)) × Knows new (with_value_change c code (letters_of_digits digits))
-TakesChange c code digits (Err fault) new = (fault ≡ faults.NoMemory) ⊎ BinaryNumberFault c code digits fault
+abbrev pub ChangeResult : ParseState → (code digits : List ℕ) → Result (Unit {0}) Fault → Variables → Type 0
+ChangeResult c code digits (Ok x) new =
+    IsSomeAnd (variable_of c code) (λ d. IsTrue (takes_binary_number d digits)) × VariablesMatch new (with_value_change c code (letters_of_digits digits))
+ChangeResult c code digits (Err fault) new = (fault ≡ faults.NoMemory) ⊎ BinaryNumberFault c code digits fault
 
 -- ---- what comes of the variables at the end
 

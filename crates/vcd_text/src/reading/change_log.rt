@@ -2,7 +2,7 @@
 //! at the end, some at a time, so that neither a wave nor its last change is waited for at each change.
 
 ghost use Rattle.std.specs.Prelude.{◌≡◌, ◌+◌, ◌++◌, ◌==◌, ◌≤◌, ℕ, List, [], ◌∷◌, length, if◌then◌else◌, OnOk};
-ghost use Rattle.vcd_text.specs.inside.ChangeLog.{logged, changes_of_position, AreGrouped, CanTake, TakesAt, CanSettle, Settles};
+ghost use Rattle.vcd_text.specs.inside.ChangeLog.{logged, changes_of_position, AreGrouped, CanTake, AppliesLogged, CanFlush, FlushesLog};
 
 use crate::reading::variables::Variable;
 use std::alloc::Global;
@@ -90,14 +90,14 @@ fn add_groups(
 /// How many changes a wave will have at most, as far as a group has been counted, and the words of the last one. It is
 /// about room alone, of which no contract speaks.
 #[derive(Clone, Copy)]
-struct Demand {
+struct ReserveHint {
     count: usize,
     low: u64,
     high: u64,
 }
 
 /// No change: all x.
-const NO_CHANGE: Demand = Demand {
+const NO_CHANGE: ReserveHint = ReserveHint {
     count: 0,
     low: u64::MAX,
     high: u64::MAX,
@@ -107,85 +107,81 @@ const NO_CHANGE: Demand = Demand {
 ///
 /// It takes two steps for each change. A wave is given room once, for the changes of the log that differ from the one
 /// before, and for the first.
-pub fn settle(
+pub fn flush_log(
     alloc: Global,
     kept: &mut Vec<Variable>,
     groups: Vec<Vec<LoggedChange>>,
 ) -> Result<(), NoMemory>
-    requires { CanSettle kept.old.items (logged groups.items) }
+    requires { CanFlush kept.old.items (logged groups.items) }
     ensures { OnOk result
-        (Settles kept.old.items kept.new.items (logged groups.items) (λ _. [])) }
+        (FlushesLog kept.old.items kept.new.items (logged groups.items) (λ _. [])) }
 {
-    let mut demands = Vec::new(alloc);
-    demands.resize(kept.len() / GROUPS + 1, NO_CHANGE)?;
+    let mut reserve_hints = Vec::new(alloc);
+    reserve_hints.resize(kept.len() / GROUPS + 1, NO_CHANGE)?;
     for group in groups {
-        count_changes(demands.as_mut_slice(), group.as_slice());
-        settle_group(kept, demands.as_mut_slice(), group.as_slice())?;
+        count_changes(reserve_hints.as_mut_slice(), group.as_slice());
+        flush_group(kept, reserve_hints.as_mut_slice(), group.as_slice())?;
     }
     Ok(())
 }
 
 /// Counts the changes of each variable of a group.
-fn count_changes(demands: &mut [Demand], group: &[LoggedChange])
-    ensures { length demands.new ≡ length demands.old }
+fn count_changes(reserve_hints: &mut [ReserveHint], group: &[LoggedChange])
+    ensures { length reserve_hints.new ≡ length reserve_hints.old }
 {
-    demands.fill(NO_CHANGE);
+    reserve_hints.fill(NO_CHANGE);
     for change in group {
-        if let Some(demand) = demands.get_mut(change.position / GROUPS) {
-            *demand = with_change(*demand, *change);
+        if let Some(reserve_hint) = reserve_hints.get_mut(change.position / GROUPS) {
+            *reserve_hint = with_change(*reserve_hint, *change);
         }
     }
 }
 
 /// The demand with a change more, which counts where its words differ from the last.
-fn with_change(demand: Demand, change: LoggedChange) -> Demand
+fn with_change(reserve_hint: ReserveHint, change: LoggedChange) -> ReserveHint
     ensures low { result.low ≡ change.low }
     ensures high { result.high ≡ change.high }
 {
-    let same = demand.low == change.low && demand.high == change.high;
-    Demand {
-        count: demand.count.saturating_add(usize::from(!same)),
+    let same = reserve_hint.low == change.low && reserve_hint.high == change.high;
+    ReserveHint {
+        count: reserve_hint.count.saturating_add(usize::from(!same)),
         low: change.low,
         high: change.high,
     }
 }
 
 /// Gives each variable the changes of a group. A wave gets room for as many as were counted at its first.
-fn settle_group(
+fn flush_group(
     kept: &mut Vec<Variable>,
-    demands: &mut [Demand],
+    reserve_hints: &mut [ReserveHint],
     group: &[LoggedChange],
 ) -> Result<(), NoMemory>
     requires { (rest : ℕ → List LoggedChange) ×
-        CanSettle kept.old.items (λ position. changes_of_position position group.now ++ rest position) }
-    ensures { OnOk result ((rest : ℕ → List LoggedChange) → Settles kept.old.items kept.new.items
+        CanFlush kept.old.items (λ position. changes_of_position position group.now ++ rest position) }
+    ensures { OnOk result ((rest : ℕ → List LoggedChange) → FlushesLog kept.old.items kept.new.items
         (λ position. changes_of_position position group.now ++ rest position) rest) }
 {
     for change in group {
-        let more = take_count(demands, change.position / GROUPS);
-        settle_change(kept, *change, more)?;
+        let more = take_count(reserve_hints, change.position / GROUPS);
+        flush_change(kept, *change, more)?;
     }
     Ok(())
 }
 
 /// What has been counted at a place, which becomes 0.
-fn take_count(demands: &mut [Demand], place: usize) -> usize
-    ensures { length demands.new ≡ length demands.old }
+fn take_count(reserve_hints: &mut [ReserveHint], place: usize) -> usize
+    ensures { length reserve_hints.new ≡ length reserve_hints.old }
 {
-    match demands.get_mut(place) {
-        Some(demand) => replace(&mut demand.count, 0),
+    match reserve_hints.get_mut(place) {
+        Some(reserve_hint) => replace(&mut reserve_hint.count, 0),
         None => 0,
     }
 }
 
 /// Gives a variable a change, and room for `more` changes first.
-fn settle_change(
-    kept: &mut Vec<Variable>,
-    change: LoggedChange,
-    more: usize,
-) -> Result<(), NoMemory>
+fn flush_change(kept: &mut Vec<Variable>, change: LoggedChange, more: usize) -> Result<(), NoMemory>
     requires { CanTake kept.old.items change }
-    ensures { OnOk result (TakesAt change kept.old.items kept.new.items) }
+    ensures { OnOk result (AppliesLogged change kept.old.items kept.new.items) }
 {
     kept[change.position].take_logged(change, more)
 }

@@ -7,7 +7,7 @@ ghost use Rattle.std.specs.Prelude.{◌≡◌, ◌<◌, ◌∷◌, ℕ, List, tr
 ghost use Rattle.vcd_text.specs.Words.{word_on};
 ghost use Rattle.vcd_text.specs.Letters.{is_among, is_binary_digit as digit_test};
 ghost use Rattle.vcd_text.specs.Items.{is_command, vector_prefixes, dropped_prefixes};
-ghost use Rattle.vcd_text.specs.inside.Reading.{IsUnderway, TakesOrRefuses, BeginsVector};
+ghost use Rattle.vcd_text.specs.inside.Reading.{IsUnderway, WordResult, BeginsVector};
 ghost use Rattle.vcd_text.specs.declared.reading.reader.OpenItem.TheVariants as items;
 
 use crate::fault::Fault;
@@ -25,7 +25,7 @@ impl Reader {
         requires changing { self.old.changing ≡ true }
         requires reading { IsUnderway self.old }
         requires word { 0 < length text.now }
-        ensures { TakesOrRefuses self.old (word_on text.now line) result self.new }
+        ensures { WordResult self.old (word_on text.now line) result self.new }
     {
         match text {
             [b'#', digits @ ..] => self.stamp(digits),
@@ -41,7 +41,7 @@ impl Reader {
         requires between { self.old.item ≡ items.Nothing }
         requires changing { self.old.changing ≡ true }
         ensures { (line : ℕ) →
-            TakesOrRefuses self.old (word_on (35 ∷ digits.now) line) result self.new }
+            WordResult self.old (word_on (35 ∷ digits.now) line) result self.new }
     {
         let Some(tick) = tick_of(digits) else {
             return Err(Fault::BadTime);
@@ -59,7 +59,7 @@ impl Reader {
         requires between { self.old.item ≡ items.Nothing }
         requires changing { self.old.changing ≡ true }
         requires command { is_command text.now ≡ true }
-        ensures { (line : ℕ) → TakesOrRefuses self.old (word_on text.now line) result self.new }
+        ensures { (line : ℕ) → WordResult self.old (word_on text.now line) result self.new }
     {
         if is_dump_word(text) {
             return Ok(());
@@ -77,7 +77,7 @@ impl Reader {
         requires changing { self.old.changing ≡ true }
         requires reading { IsUnderway self.old }
         requires value { is_among (codes "#$") first ≡ false }
-        ensures { TakesOrRefuses self.old (word_on (first ∷ rest.now) line) result self.new }
+        ensures { WordResult self.old (word_on (first ∷ rest.now) line) result self.new }
     {
         if is_binary_digit(first) {
             self.set_bit(alloc, first, rest)
@@ -99,7 +99,7 @@ impl Reader {
         requires reading { IsUnderway self.old }
         requires digit { digit_test digit ≡ true }
         ensures { (line : ℕ) →
-            TakesOrRefuses self.old (word_on (digit ∷ code.now) line) result self.new }
+            WordResult self.old (word_on (digit ∷ code.now) line) result self.new }
     {
         if code.is_empty() {
             return Err(Fault::BadChange);
@@ -127,7 +127,7 @@ impl Reader {
         requires between { self.old.item ≡ items.Nothing }
         requires changing { self.old.changing ≡ true }
         ensures { (first : ℕ) → is_among vector_prefixes first ≡ true →
-            TakesOrRefuses self.old (word_on (first ∷ digits.now) line) result self.new }
+            WordResult self.old (word_on (first ∷ digits.now) line) result self.new }
     {
         self.text.clear();
         self.text.extend_from_slice(digits)?;
@@ -141,7 +141,7 @@ impl Reader {
         requires between { self.old.item ≡ items.Nothing }
         requires changing { self.old.changing ≡ true }
         ensures { (first : ℕ) (text : List ℕ) → is_among dropped_prefixes first ≡ true →
-            TakesOrRefuses self.old (word_on (first ∷ text) line) (Ok result) self.new }
+            WordResult self.old (word_on (first ∷ text) line) (Ok result) self.new }
     {
         self.item = OpenItem::Dropped;
         self.line = line;
@@ -152,7 +152,7 @@ impl Reader {
     pub fn end_vector(&mut self, alloc: Global, code: &[u8]) -> Result<(), Fault>
         requires item { self.old.item ≡ items.Vector }
         requires reading { IsUnderway self.old }
-        ensures { (line : ℕ) → TakesOrRefuses self.old (word_on code.now line) result self.new }
+        ensures { (line : ℕ) → WordResult self.old (word_on code.now line) result self.new }
     {
         self.item = OpenItem::Nothing;
         let digits = self.text.as_slice();
@@ -163,7 +163,7 @@ impl Reader {
     /// was not declared.
     pub fn end_dropped(&mut self, code: &[u8]) -> Result<(), Fault>
         requires item { self.old.item ≡ items.Dropped }
-        ensures { (line : ℕ) → TakesOrRefuses self.old (word_on code.now line) result self.new }
+        ensures { (line : ℕ) → WordResult self.old (word_on code.now line) result self.new }
     {
         if !self.variables.has_code(code) {
             return Err(Fault::UnknownCode);

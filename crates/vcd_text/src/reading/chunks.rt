@@ -12,9 +12,9 @@ ghost use Rattle.vcd_text.specs.Meaning.{FileMeans};
 ghost use Rattle.vcd_text.specs.Faults.{FileFault};
 ghost use Rattle.vcd_text.specs.Refusals.{memory_error, IsRefusal};
 ghost use Rattle.vcd_text.specs.inside.Spaces.{is_closed};
-ghost use Rattle.vcd_text.specs.inside.Reading.{Reads, IsUnderway, Steps, HasRoomFor, ReadsMore, is_complete};
+ghost use Rattle.vcd_text.specs.inside.Reading.{Reads, IsUnderway, WordsResult, HasRoomFor, AllWordsResult, is_complete};
 ghost use Rattle.vcd_text.specs.inside.WordWalk.{words_left, feeds_at_end, LinesFit};
-ghost use Rattle.vcd_text.specs.inside.Chunks.{Holds, StandsAt, HasCome, TakesChunk};
+ghost use Rattle.vcd_text.specs.inside.Chunks.{HasConsumed, ProgressMatches, HasCome, TakesChunk};
 
 use crate::fault::{Fault, ReadError};
 use crate::reading::read_buffer::ReadBuffer;
@@ -40,7 +40,7 @@ pub struct Progress {
 impl Progress {
     /// Nothing has been read.
     pub fn new(alloc: Global) -> Progress
-        ensures { Holds result [] }
+        ensures { HasConsumed result [] }
     {
         Progress {
             reader: Reader::new(alloc),
@@ -57,15 +57,15 @@ impl Progress {
         source: &mut R,
     ) -> Result<bool, ReadError>
         requires ready { R.has_failed source.old ≡ false }
-        requires stands { (bytes : List ℕ) × Holds self.old bytes }
+        requires stands { (bytes : List ℕ) × HasConsumed self.old bytes }
         ensures taken { OnOk result ((coming : Option (List ℕ)) →
-            StandsAt coming (R.coming source.old) self.old →
-            StandsAt coming (R.coming source.new) self.new) }
+            ProgressMatches coming (R.coming source.old) self.old →
+            ProgressMatches coming (R.coming source.new) self.new) }
         ensures not_failed { OnOk result (R.has_failed source.new ≡ false) }
         ensures ended { IfOk result (λ more. more ≡ false → IsAtEnd (R.coming source.new)) }
         ensures fewer { IfOk result (λ more. more ≡ true → self.new.left < self.old.left) }
         ensures refused { IfErr result (λ e. (coming : Option (List ℕ)) →
-            StandsAt coming (R.coming source.old) self.old → IfSome coming (λ file.
+            ProgressMatches coming (R.coming source.old) self.old → IfSome coming (λ file.
             IsRefusal file (R.has_failed source.new) (R.coming source.new) e)) }
         ensures failed { IfErr result (λ e. e.fault ≡ Fault.ReadFault →
             R.has_failed source.new ≡ true) }
@@ -104,11 +104,11 @@ impl Progress {
 
     /// Takes the last word: what the file means then, or its fault.
     pub fn finish(self, alloc: Global) -> Result<Loaded, ReadError>
-        requires { (bytes : List ℕ) × Holds self bytes }
-        ensures means { IfOk result (λ loaded. (bytes : List ℕ) → Holds self bytes →
+        requires { (bytes : List ℕ) × HasConsumed self bytes }
+        ensures means { IfOk result (λ loaded. (bytes : List ℕ) → HasConsumed self bytes →
             FileMeans bytes (contents loaded.capture) loaded.skipped) }
         ensures sound { IfOk result (λ loaded. IsSound (contents loaded.capture)) }
-        ensures fault { IfErr result (λ e. (bytes : List ℕ) → Holds self bytes →
+        ensures fault { IfErr result (λ e. (bytes : List ℕ) → HasConsumed self bytes →
             (e ≡ memory_error) ⊎ FileFault bytes e.line e.fault) }
     {
         let Progress {
@@ -163,7 +163,7 @@ fn read_words(reader: &mut Reader, alloc: Global, words: WordWalk) -> Result<u64
     requires room { HasRoomFor reader.old (words_left words) }
     requires lines { LinesFit words }
     ensures words { (taken : List WordInFile) → Reads reader.old taken →
-        ReadsMore taken (words_left words.entry) result reader.new }
+        AllWordsResult taken (words_left words.entry) result reader.new }
     ensures feeds { IfOk result (λ passed. passed ≡ feeds_at_end words.entry) }
 {
     let mut left = words;
@@ -183,8 +183,8 @@ fn take_from(
     requires reading { IsUnderway reader.old }
     requires word { 0 < length first.text.now }
     requires lines { LinesFit words.old }
-    ensures words { (behind : List WordInFile) × (words_left words.old ≡ behind ++ words_left words.new)
-        × Steps reader.old (word_at first.entry ∷ behind) result reader.new }
+    ensures words { (following : List WordInFile) × (words_left words.old ≡ following ++ words_left words.new)
+        × WordsResult reader.old (word_at first.entry ∷ following) result reader.new }
     ensures lines { LinesFit words.new }
     ensures feeds { feeds_at_end words.new ≡ feeds_at_end words.old }
 {

@@ -4,7 +4,7 @@ ghost use Rattle.std.specs.Prelude.{◌≡◌, ◌∷◌, ◌++◌, ℕ, [], tru
 ghost use Rattle.vcd_text.specs.Words.{word_on};
 ghost use Rattle.vcd_core.specs.Word.{is_one_of};
 ghost use Rattle.vcd_text.specs.Items.{end_word, is_end_word, declaring_words, header_words, begins_declaration};
-ghost use Rattle.vcd_text.specs.inside.Reading.{IsUnderway, TakesOrRefuses};
+ghost use Rattle.vcd_text.specs.inside.Reading.{IsUnderway, WordResult};
 ghost use Rattle.vcd_text.specs.inside.OpenItems.{is_inside};
 ghost use Rattle.vcd_text.specs.inside.OpeningWords.{Opens, keeps_words};
 ghost use Rattle.vcd_text.specs.declared.reading.reader.OpenItem.TheVariants as items;
@@ -25,7 +25,7 @@ impl Reader {
     pub fn begin_declaration(&mut self, text: &[u8]) -> Result<(), Fault>
         requires between { self.old.item ≡ items.Nothing }
         requires declaring { self.old.changing ≡ false }
-        ensures { (line : ℕ) → TakesOrRefuses self.old (word_on text.now line) result self.new }
+        ensures { (line : ℕ) → WordResult self.old (word_on text.now line) result self.new }
     {
         let Some(item) = opened_item(text) else {
             return Err(Fault::UnexpectedWord);
@@ -44,7 +44,7 @@ impl Reader {
     pub fn go_on(&mut self, alloc: Global, text: &[u8]) -> Result<(), Fault>
         requires inside { is_inside self.old.item ≡ true }
         requires word { is_end_word text.now ≡ false }
-        ensures { (line : ℕ) → TakesOrRefuses self.old (word_on text.now line) result self.new }
+        ensures { (line : ℕ) → WordResult self.old (word_on text.now line) result self.new }
     {
         match self.item {
             OpenItem::Upscope | OpenItem::EndDefinitions => Err(Fault::UnexpectedWord),
@@ -58,7 +58,7 @@ impl Reader {
     fn keep_word(&mut self, alloc: Global, text: &[u8]) -> Result<(), Fault>
         requires keeps { keeps_words self.old.item ≡ true }
         requires word { is_end_word text.now ≡ false }
-        ensures { (line : ℕ) → TakesOrRefuses self.old (word_on text.now line) result self.new }
+        ensures { (line : ℕ) → WordResult self.old (word_on text.now line) result self.new }
     {
         push_copy(alloc, &mut self.words, text)?;
         Ok(())
@@ -68,7 +68,7 @@ impl Reader {
     fn go_on_variable(&mut self, alloc: Global, text: &[u8]) -> Result<(), Fault>
         requires item { self.old.item ≡ items.Variable }
         requires word { is_end_word text.now ≡ false }
-        ensures { (line : ℕ) → TakesOrRefuses self.old (word_on text.now line) result self.new }
+        ensures { (line : ℕ) → WordResult self.old (word_on text.now line) result self.new }
     {
         if self.words.len() == 1 && size_of(text).is_none() {
             return Err(Fault::BadVar);
@@ -85,7 +85,7 @@ impl Reader {
     pub fn close(&mut self, alloc: Global) -> Result<(), Fault>
         requires inside { is_inside self.old.item ≡ true }
         requires reading { IsUnderway self.old }
-        ensures { (line : ℕ) → TakesOrRefuses self.old (word_on end_word line) result self.new }
+        ensures { (line : ℕ) → WordResult self.old (word_on end_word line) result self.new }
     {
         match self.item {
             OpenItem::Entry(kind) => self.close_entry(alloc, kind),
@@ -100,7 +100,7 @@ impl Reader {
 
     fn close_entry(&mut self, alloc: Global, kind: HeaderKind) -> Result<(), Fault>
         requires { self.old.item ≡ items.Entry kind }
-        ensures { (line : ℕ) → TakesOrRefuses self.old (word_on end_word line) result self.new }
+        ensures { (line : ℕ) → WordResult self.old (word_on end_word line) result self.new }
     {
         let words = words_out_of(alloc, &mut self.words);
         self.header.push(Header { kind, words })?;
@@ -111,7 +111,7 @@ impl Reader {
     /// The last of several timescales counts.
     fn close_timescale(&mut self, alloc: Global) -> Result<(), Fault>
         requires { self.old.item ≡ items.Timescale }
-        ensures { (line : ℕ) → TakesOrRefuses self.old (word_on end_word line) result self.new }
+        ensures { (line : ℕ) → WordResult self.old (word_on end_word line) result self.new }
     {
         match timescale_in(alloc, &self.words)? {
             Some(timescale) => {
@@ -125,7 +125,7 @@ impl Reader {
 
     fn close_scope(&mut self, alloc: Global) -> Result<(), Fault>
         requires { self.old.item ≡ items.Scope }
-        ensures { (line : ℕ) → TakesOrRefuses self.old (word_on end_word line) result self.new }
+        ensures { (line : ℕ) → WordResult self.old (word_on end_word line) result self.new }
     {
         if self.words.is_empty() {
             return Err(Fault::BadScope);
@@ -139,7 +139,7 @@ impl Reader {
 
     fn close_upscope(&mut self) -> Result<(), Fault>
         requires { self.old.item ≡ items.Upscope }
-        ensures { (line : ℕ) → TakesOrRefuses self.old (word_on end_word line) result self.new }
+        ensures { (line : ℕ) → WordResult self.old (word_on end_word line) result self.new }
     {
         self.scopes.leave();
         self.item = OpenItem::Nothing;
@@ -149,7 +149,7 @@ impl Reader {
     fn close_variable(&mut self, alloc: Global) -> Result<(), Fault>
         requires item { self.old.item ≡ items.Variable }
         requires reading { IsUnderway self.old }
-        ensures { (line : ℕ) → TakesOrRefuses self.old (word_on end_word line) result self.new }
+        ensures { (line : ℕ) → WordResult self.old (word_on end_word line) result self.new }
     {
         self.variables.declare(alloc, &self.words)?;
         self.scopes.note_place(self.variables.kept.len())?;
@@ -160,9 +160,9 @@ impl Reader {
     /// All codes are known now, so the table of the short ones is made.
     fn close_definitions(&mut self, alloc: Global) -> Result<(), Fault>
         requires { self.old.item ≡ items.EndDefinitions }
-        ensures { (line : ℕ) → TakesOrRefuses self.old (word_on end_word line) result self.new }
+        ensures { (line : ℕ) → WordResult self.old (word_on end_word line) result self.new }
     {
-        self.variables.owners.make_table(alloc)?;
+        self.variables.code_targets.make_table(alloc)?;
         self.changing = true;
         self.item = OpenItem::Nothing;
         Ok(())
@@ -170,7 +170,7 @@ impl Reader {
 
     fn close_other(&mut self) -> Result<(), Fault>
         requires { self.old.item ≡ items.Other }
-        ensures { (line : ℕ) → TakesOrRefuses self.old (word_on end_word line) result self.new }
+        ensures { (line : ℕ) → WordResult self.old (word_on end_word line) result self.new }
     {
         self.item = OpenItem::Nothing;
         Ok(())

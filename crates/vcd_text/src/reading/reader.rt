@@ -1,12 +1,12 @@
 //! The reader, which takes one word after another.
 
 ghost use Rattle.std.specs.Prelude.{◌≡◌, ◌<◌, ◌∷◌, [], ℕ, List, true, length, IfOk};
-ghost use Rattle.vcd_text.specs.Grammar.{Context};
-ghost use Rattle.vcd_text.specs.inside.Variables.{Knows};
+ghost use Rattle.vcd_text.specs.Grammar.{ParseState};
+ghost use Rattle.vcd_text.specs.inside.Variables.{VariablesMatch};
 ghost use Rattle.vcd_core.specs.Contents.{contents};
 ghost use Rattle.vcd_text.specs.Words.{word_on};
 ghost use Rattle.vcd_text.specs.inside.OpenItems.{shown_line};
-ghost use Rattle.vcd_text.specs.inside.Reading.{Reads, IsUnderway, TakesOrRefuses, Steps, is_complete, BeginsVector, Means};
+ghost use Rattle.vcd_text.specs.inside.Reading.{Reads, IsUnderway, WordResult, WordsResult, is_complete, BeginsVector, Means};
 
 use crate::fault::{Fault, ReadError};
 use crate::reading::Loaded;
@@ -77,7 +77,7 @@ impl Reader {
     pub fn take_word(&mut self, alloc: Global, text: &[u8], line: u64) -> Result<(), ReadError>
         requires reading { IsUnderway self.old }
         requires word { 0 < length text.now }
-        ensures { Steps self.old (word_on text.now line ∷ []) result self.new }
+        ensures { WordsResult self.old (word_on text.now line ∷ []) result self.new }
     {
         let shown = self.shown_line(line);
         match self.take(alloc, text, line) {
@@ -97,7 +97,7 @@ impl Reader {
     ) -> Result<(), ReadError>
         requires reading { IsUnderway self.old }
         ensures { (text : List ℕ) (code_line : ℕ) → BeginsVector self.old text digits.now →
-            Steps self.old (word_on text line ∷ word_on code.now code_line ∷ []) result self.new }
+            WordsResult self.old (word_on text line ∷ word_on code.now code_line ∷ []) result self.new }
     {
         match self.variables.change(alloc, code, self.tick, digits) {
             Ok(()) => Ok(()),
@@ -119,7 +119,7 @@ impl Reader {
     fn take(&mut self, alloc: Global, text: &[u8], line: u64) -> Result<(), Fault>
         requires reading { IsUnderway self.old }
         requires word { 0 < length text.now }
-        ensures { TakesOrRefuses self.old (word_on text.now line) result self.new }
+        ensures { WordResult self.old (word_on text.now line) result self.new }
     {
         match self.item {
             OpenItem::Nothing if self.changing => self.begin_change(alloc, text, line),
@@ -141,7 +141,7 @@ impl Reader {
     /// The capture that the file means, once its last word has been taken.
     pub fn finish(self, alloc: Global) -> Result<Loaded, NoMemory>
         requires complete { is_complete self ≡ true }
-        requires known { (c : Context) × Knows self.variables c }
+        requires known { (c : ParseState) × VariablesMatch self.variables c }
         ensures { IfOk result (λ loaded. Means self (contents loaded.capture) loaded.skipped) }
     {
         let Reader {

@@ -40,7 +40,7 @@ impl Scopes {
     ghost use Rattle.std.specs.Prelude.{ℕ, List, ◌-◌, ◌==◌, ◌++◌, ◌∷◌, [], map, take, OnOk};
     ghost use Rattle.vcd_core.specs.Contents.{signal_contents};
     ghost use Rattle.vcd_text.specs.Items.{variable};
-    ghost use Rattle.vcd_text.specs.Grammar.{Context, kept_variables, told_after_item};
+    ghost use Rattle.vcd_text.specs.Grammar.{ParseState, kept_variables, state_after_item};
     ghost use Rattle.vcd_text.specs.Meaning.{declared_signal};
     ghost use Rattle.vcd_text.specs.inside.Variables.{without_scopes};
     ghost use Rattle.vcd_text.specs.inside.Scopes.{HoldsScopes};
@@ -68,7 +68,7 @@ impl Scopes {
     /// Opens a scope in the innermost. Behind a scope that was closed, in which a variable stands, it copies those that
     /// are open.
     pub fn enter(&mut self, alloc: Global, scope: ScopeName) -> Result<(), NoMemory>
-        ensures { (c : Context) → HoldsScopes self.old c.scopes c.declared →
+        ensures { (c : ParseState) → HoldsScopes self.old c.scopes c.declared →
             OnOk result (HoldsScopes self.new (c.scopes ++ scope ∷ []) c.declared) }
     {
         self.go_to_end(alloc)?;
@@ -79,7 +79,7 @@ impl Scopes {
 
     /// Cuts the chain back to the scopes that are open, where no variable stands in the others, or begins another.
     fn go_to_end(&mut self, alloc: Global) -> Result<(), NoMemory>
-        ensures same { (c : Context) → HoldsScopes self.old c.scopes c.declared →
+        ensures same { (c : ParseState) → HoldsScopes self.old c.scopes c.declared →
             OnOk result (HoldsScopes self.new c.scopes c.declared) }
         ensures end { OnOk result (self.new.depth ≡ length self.new.chain.items) }
     {
@@ -97,7 +97,7 @@ impl Scopes {
     /// Takes the scopes that are closed out of the chain.
     fn cut_chain(&mut self)
         requires reached { self.old.reach ≤ self.old.depth }
-        ensures same { (c : Context) → HoldsScopes self.old c.scopes c.declared →
+        ensures same { (c : ParseState) → HoldsScopes self.old c.scopes c.declared →
             HoldsScopes self.new c.scopes c.declared }
         ensures end { self.new.depth ≡ length self.new.chain.items }
     {
@@ -106,7 +106,7 @@ impl Scopes {
 
     /// Begins another chain, with a copy of the scopes that are open.
     fn begin_chain(&mut self, alloc: Global) -> Result<(), NoMemory>
-        ensures same { (c : Context) → HoldsScopes self.old c.scopes c.declared →
+        ensures same { (c : ParseState) → HoldsScopes self.old c.scopes c.declared →
             OnOk result (HoldsScopes self.new c.scopes c.declared) }
         ensures end { OnOk result (self.new.depth ≡ length self.new.chain.items) }
     {
@@ -119,7 +119,7 @@ impl Scopes {
 
     /// Closes the innermost scope, where one is open.
     pub fn leave(&mut self)
-        ensures { (c : Context) → HoldsScopes self.old c.scopes c.declared →
+        ensures { (c : ParseState) → HoldsScopes self.old c.scopes c.declared →
             HoldsScopes self.new (take (length c.scopes - 1) c.scopes) c.declared }
     {
         self.depth = self.depth.saturating_sub(1);
@@ -128,9 +128,9 @@ impl Scopes {
     /// Notes where the scopes of the variable that these words have just declared stand, where it is kept: `kept`
     /// is how many variables are.
     pub fn note_place(&mut self, kept: usize) -> Result<(), NoMemory>
-        ensures { (c : Context) (words : List (List ℕ)) → HoldsScopes self.old c.scopes c.declared →
-            kept ≡ length (kept_variables (told_after_item c (variable words)).declared) →
-            OnOk result (HoldsScopes self.new c.scopes (told_after_item c (variable words)).declared) }
+        ensures { (c : ParseState) (words : List (List ℕ)) → HoldsScopes self.old c.scopes c.declared →
+            kept ≡ length (kept_variables (state_after_item c (variable words)).declared) →
+            OnOk result (HoldsScopes self.new c.scopes (state_after_item c (variable words)).declared) }
     {
         if kept > self.places.len() {
             let chain = self.chains.len();
@@ -143,7 +143,7 @@ impl Scopes {
 
     /// Gives the signals of the kept variables their scopes. The paths in one chain share its list.
     pub fn place_signals(self, alloc: Global, signals: &mut [Signal]) -> Result<(), NoMemory>
-        ensures { (c : Context) → HoldsScopes self c.scopes c.declared →
+        ensures { (c : ParseState) → HoldsScopes self c.scopes c.declared →
             map signal_contents signals.old ≡
             map (declared_signal c.value_changes c.tick) (map without_scopes (kept_variables c.declared)) →
             OnOk result (map signal_contents signals.new ≡

@@ -7,19 +7,19 @@ ghost use Rattle.vcd_core.specs.WordRows.{letters_of};
 ghost use Rattle.vcd_core.specs.declared.capture.ScopeName.{ScopeName};
 ghost use Rattle.vcd_core.specs.declared.value.TheConstants.{WIDTH_LIMIT};
 ghost use Rattle.vcd_core.specs.Word.{is_skipped_kind as skips_kind};
-ghost use Rattle.vcd_text.specs.Grammar.{Context, VariableDeclaration, variable_of, kept_variables, has_good_size, is_skipped};
+ghost use Rattle.vcd_text.specs.Grammar.{ParseState, VariableDeclaration, variable_of, kept_variables, has_good_size, is_skipped};
 ghost use Rattle.vcd_text.specs.Meaning.{declared_signal};
-ghost use Rattle.vcd_text.specs.inside.ChangeLog.{TakesLogged};
+ghost use Rattle.vcd_text.specs.inside.ChangeLog.{AppliesToVariable};
 ghost use Rattle.vcd_text.specs.inside.ValueDigits.{WritesValue};
-ghost use Rattle.vcd_text.specs.inside.Variables.{owner_of, declaration_in, without_scopes, Knows, Declares, DeclaresAs, TakesChange, Sets, RefusesBinaryNumber};
+ghost use Rattle.vcd_text.specs.inside.Variables.{target_of, declaration_in, without_scopes, VariablesMatch, Declares, DeclaresAs, ChangeResult, Sets, RefusesBinaryNumber};
 ghost use Rattle.vcd_text.specs.declared.fault.Fault.TheVariants.{NoMemory as NoMemoryFault, TooManySignals};
-ghost use Rattle.vcd_text.specs.declared.reading.variables.Owner.TheVariants.{Kept as KeptAt};
+ghost use Rattle.vcd_text.specs.declared.reading.variables.CodeTarget.TheVariants.{Kept as KeptAt};
 
 use crate::fault::Fault;
 use crate::reading::binary_number::{BinaryNumberError, LetterWord, read_value, read_word};
-use crate::reading::change_log::{ChangeLog, LoggedChange, settle};
+use crate::reading::change_log::{ChangeLog, LoggedChange, flush_log};
+use crate::reading::code_targets::CodeTargets;
 use crate::reading::finished_signals::push_signal;
-use crate::reading::owners::Owners;
 use crate::reading::ticks_and_sizes::size_of;
 use std::alloc::Global;
 use std::mem::replace;
@@ -61,7 +61,7 @@ impl Variable {
     pub fn take_logged(&mut self, change: LoggedChange, more: usize) -> Result<(), NoMemory>
         requires narrow { self.old.signal.wave.width ≤ 64 }
         requires late { All (λ c. c.tick ≤ change.tick) self.old.signal.wave.changes }
-        ensures taken { OnOk result (TakesLogged change self.old self.new) }
+        ensures taken { OnOk result (AppliesToVariable change self.old self.new) }
         // It succeeds where the wave's own list has room for `more` changes, and for this one.
         ensures in_place { length self.old.signal.wave.changes + 1 < self.old.signal.wave.room →
             length self.old.signal.wave.changes + more < self.old.signal.wave.room → IsOk result }
@@ -89,7 +89,7 @@ fn word_of_digits(width: u64, digits: &[u8]) -> Result<LetterWord, Fault>
 
 /// What a code stands for.
 #[derive(Clone, Copy, Debug, PartialEq, Eq)]
-pub enum Owner {
+pub enum CodeTarget {
     /// A variable that is skipped.
     Skipped,
     /// The variable at this position, the first with the code.
@@ -104,7 +104,7 @@ pub struct Variables {
     /// Their widths, in a row of their own, so that a change waits for no variable.
     pub widths: Vec<u64>,
     /// What each code stands for.
-    pub owners: Owners,
+    pub code_targets: CodeTargets,
     /// How many are skipped.
     pub skipped: u64,
     /// The changes that the waves of at most 64 bits do not have yet.
@@ -114,12 +114,12 @@ pub struct Variables {
 impl Variables {
     /// No variables. It takes no memory.
     pub fn new(alloc: Global) -> Variables
-        ensures { (c : Context) → c.declared ≡ [] → c.value_changes ≡ [] → Knows result c }
+        ensures { (c : ParseState) → c.declared ≡ [] → c.value_changes ≡ [] → VariablesMatch result c }
     {
         Variables {
             kept: Vec::new(alloc),
             widths: Vec::new(alloc),
-            owners: Owners::new(alloc),
+            code_targets: CodeTargets::new(alloc),
             skipped: 0,
             log: ChangeLog::new(alloc),
         }
@@ -135,7 +135,7 @@ impl Variables {
     pub fn declare(&mut self, alloc: Global, words: &[Word]) -> Result<(), Fault>
         requires size { IsTrue (has_good_size words.now) }
         requires few { self.old.skipped + 1 < 2 ^ 64 }
-        ensures { (c : Context) → c.value_changes ≡ [] → Knows self.old c →
+        ensures { (c : ParseState) → c.value_changes ≡ [] → VariablesMatch self.old c →
             Declares c words.now result self.new }
     {
         let [kind, size, code, name @ ..] = words else {
@@ -157,13 +157,13 @@ impl Variables {
     /// Declares a variable that is skipped.
     fn skip(&mut self, alloc: Global, code: &[u8]) -> Result<(), Fault>
         requires few { self.old.skipped + 1 < 2 ^ 64 }
-        ensures { (c : Context) (d : VariableDeclaration) → Knows self.old c → d.code ≡ code.now →
+        ensures { (c : ParseState) (d : VariableDeclaration) → VariablesMatch self.old c → d.code ≡ code.now →
             IsTrue (is_skipped d) → DeclaresAs c d result self.new }
     {
-        match self.owner(code) {
-            None => self.own(alloc, code, Owner::Skipped)?,
-            Some(Owner::Skipped) => {}
-            Some(Owner::Kept(_)) => return Err(Fault::MixedCode),
+        match self.target(code) {
+            None => self.bind(alloc, code, CodeTarget::Skipped)?,
+            Some(CodeTarget::Skipped) => {}
+            Some(CodeTarget::Kept(_)) => return Err(Fault::MixedCode),
         }
         self.skipped += 1;
         Ok(())
@@ -173,20 +173,20 @@ impl Variables {
     fn keep(&mut self, alloc: Global, code: &[u8], signal: Signal) -> Result<(), Fault>
         requires bare { signal.scopes ≡ [] }
         requires silent { signal.wave.changes ≡ [] }
-        ensures { (c : Context) (scopes : List ScopeName) →
+        ensures { (c : ParseState) (scopes : List ScopeName) →
             let d = declaration_in scopes code.now signal in
-            Knows self.old c → c.value_changes ≡ [] → IsFalse (is_skipped d) →
+            VariablesMatch self.old c → c.value_changes ≡ [] → IsFalse (is_skipped d) →
             DeclaresAs c d result self.new }
     {
-        match self.owner(code) {
+        match self.target(code) {
             None => self.keep_first(alloc, code, signal),
-            Some(Owner::Kept(first)) => {
+            Some(CodeTarget::Kept(first)) => {
                 if !self.has_width(first, signal.wave.width()) {
                     return Err(Fault::MixedCode);
                 }
                 self.push(alloc, code, signal, first)
             }
-            Some(Owner::Skipped) => Err(Fault::MixedCode),
+            Some(CodeTarget::Skipped) => Err(Fault::MixedCode),
         }
     }
 
@@ -197,9 +197,9 @@ impl Variables {
             record { code = code.now; signal = signal; first = length self.old.kept.items } ∷ []) }
         ensures widths { OnOk result (self.new.widths.items ≡
             self.old.widths.items ++ signal.wave.width ∷ []) }
-        ensures owners { OnOk result ((key : List ℕ) → owner_of self.new key ≡
+        ensures code_targets { OnOk result ((key : List ℕ) → target_of self.new key ≡
             (if bytes_eq key code.now then Some (KeptAt (length self.old.kept.items))
-            else owner_of self.old key)) }
+            else target_of self.old key)) }
         ensures skipped { self.new.skipped ≡ self.old.skipped }
         ensures log { self.new.log ≡ self.old.log }
         ensures refuses { IfErr result (λ fault. (fault ≡ NoMemoryFault) ⊎
@@ -207,7 +207,7 @@ impl Variables {
     {
         let first = self.kept.len();
         self.push(alloc, code, signal, first)?;
-        self.own(alloc, code, Owner::Kept(first))?;
+        self.bind(alloc, code, CodeTarget::Kept(first))?;
         Ok(())
     }
 
@@ -224,7 +224,7 @@ impl Variables {
             record { code = code.now; signal = signal; first = first } ∷ []) }
         ensures widths { OnOk result (self.new.widths.items ≡
             self.old.widths.items ++ signal.wave.width ∷ []) }
-        ensures owners { self.new.owners ≡ self.old.owners }
+        ensures code_targets { self.new.code_targets ≡ self.old.code_targets }
         ensures skipped { self.new.skipped ≡ self.old.skipped }
         ensures log { self.new.log ≡ self.old.log }
         ensures refuses { IfErr result (λ fault. (fault ≡ NoMemoryFault) ⊎
@@ -244,22 +244,22 @@ impl Variables {
     }
 
     /// Lets a code stand for this.
-    fn own(&mut self, alloc: Global, code: &[u8], owner: Owner) -> Result<(), NoMemory>
-        ensures owners { OnOk result ((key : List ℕ) → owner_of self.new key ≡
-            (if bytes_eq key code.now then Some owner else owner_of self.old key)) }
+    fn bind(&mut self, alloc: Global, code: &[u8], target: CodeTarget) -> Result<(), NoMemory>
+        ensures code_targets { OnOk result ((key : List ℕ) → target_of self.new key ≡
+            (if bytes_eq key code.now then Some target else target_of self.old key)) }
         ensures kept { self.new.kept ≡ self.old.kept }
         ensures widths { self.new.widths ≡ self.old.widths }
         ensures skipped { self.new.skipped ≡ self.old.skipped }
         ensures log { self.new.log ≡ self.old.log }
     {
-        self.owners.insert(alloc, code, owner)
+        self.code_targets.insert(alloc, code, target)
     }
 
     /// What a code stands for.
-    fn owner(&self, code: &[u8]) -> Option<Owner>
-        ensures { result ≡ owner_of self.now code.now }
+    fn target(&self, code: &[u8]) -> Option<CodeTarget>
+        ensures { result ≡ target_of self.now code.now }
     {
-        self.owners.get(code)
+        self.code_targets.get(code)
     }
 
     /// Whether a variable stands at this position, of this width.
@@ -282,14 +282,14 @@ impl Variables {
         tick: u64,
         digits: &[u8],
     ) -> Result<(), Fault>
-        requires known { (c : Context) × Knows self.old c × (c.tick ≤ tick) }
-        ensures { (c : Context) → c.tick ≡ tick → Knows self.old c →
-            TakesChange c code.now digits.now result self.new }
+        requires known { (c : ParseState) × VariablesMatch self.old c × (c.tick ≤ tick) }
+        ensures { (c : ParseState) → c.tick ≡ tick → VariablesMatch self.old c →
+            ChangeResult c code.now digits.now result self.new }
     {
-        match self.owner(code) {
+        match self.target(code) {
             None => Err(Fault::UnknownCode),
-            Some(Owner::Skipped) => Ok(()),
-            Some(Owner::Kept(first)) => self.change_at(alloc, first, tick, digits),
+            Some(CodeTarget::Skipped) => Ok(()),
+            Some(CodeTarget::Kept(first)) => self.change_at(alloc, first, tick, digits),
         }
     }
 
@@ -302,11 +302,11 @@ impl Variables {
         tick: u64,
         digits: &[u8],
     ) -> Result<(), Fault>
-        requires known { (c : Context) × (code : List ℕ) × Knows self.old c × (c.tick ≤ tick)
-            × (owner_of self.old code ≡ Some (KeptAt first)) }
-        ensures { (c : Context) (code : List ℕ) → c.tick ≡ tick → Knows self.old c →
-            owner_of self.old code ≡ Some (KeptAt first) →
-            TakesChange c code digits.now result self.new }
+        requires known { (c : ParseState) × (code : List ℕ) × VariablesMatch self.old c × (c.tick ≤ tick)
+            × (target_of self.old code ≡ Some (KeptAt first)) }
+        ensures { (c : ParseState) (code : List ℕ) → c.tick ≡ tick → VariablesMatch self.old c →
+            target_of self.old code ≡ Some (KeptAt first) →
+            ChangeResult c code digits.now result self.new }
     {
         let width = self.widths[first];
         if width > 64 {
@@ -327,9 +327,9 @@ impl Variables {
 
     /// Whether a code has been declared.
     pub fn has_code(&self, code: &[u8]) -> bool
-        ensures { (c : Context) → Knows self.now c → result ≡ is_some (variable_of c code.now) }
+        ensures { (c : ParseState) → VariablesMatch self.now c → result ≡ is_some (variable_of c code.now) }
     {
-        self.owner(code).is_some()
+        self.target(code).is_some()
     }
 
     /// The signals that the kept variables have become, in their order, without their scopes.
@@ -337,30 +337,30 @@ impl Variables {
     /// The waves are made of the log first. A signal is moved. The later variables of a code share the list of the
     /// first, so that no change is copied.
     pub fn into_signals(self, alloc: Global) -> Result<Vec<Signal>, NoMemory>
-        requires { (c : Context) × Knows self c }
-        ensures { IfOk result (λ signals. (c : Context) → Knows self c →
+        requires { (c : ParseState) × VariablesMatch self c }
+        ensures { IfOk result (λ signals. (c : ParseState) → VariablesMatch self c →
             map signal_contents signals.items ≡
             map (declared_signal c.value_changes c.tick) (map without_scopes (kept_variables c.declared))) }
     {
         let mut variables = self;
-        variables.settle(alloc)?;
-        variables.settled_signals(alloc)
+        variables.flush_log(alloc)?;
+        variables.flushed_signals(alloc)
     }
 
     /// Gives the waves what the log has for them, which is empty then.
-    fn settle(&mut self, alloc: Global) -> Result<(), NoMemory>
-        requires { (c : Context) × Knows self.old c }
-        ensures same { OnOk result ((c : Context) → Knows self.old c → Knows self.new c) }
+    fn flush_log(&mut self, alloc: Global) -> Result<(), NoMemory>
+        requires { (c : ParseState) × VariablesMatch self.old c }
+        ensures same { OnOk result ((c : ParseState) → VariablesMatch self.old c → VariablesMatch self.new c) }
         ensures empty { OnOk result (self.new.log.groups.items ≡ []) }
     {
         let groups = replace(&mut self.log.groups, Vec::new(alloc));
-        settle(alloc, &mut self.kept, groups)
+        flush_log(alloc, &mut self.kept, groups)
     }
 
     /// The signals that the kept variables have become, where the log is empty.
-    fn settled_signals(self, alloc: Global) -> Result<Vec<Signal>, NoMemory>
-        ensures { IfOk result (λ signals. self.log.groups.items ≡ [] → (c : Context) →
-            Knows self c → map signal_contents signals.items ≡
+    fn flushed_signals(self, alloc: Global) -> Result<Vec<Signal>, NoMemory>
+        ensures { IfOk result (λ signals. self.log.groups.items ≡ [] → (c : ParseState) →
+            VariablesMatch self c → map signal_contents signals.items ≡
             map (declared_signal c.value_changes c.tick) (map without_scopes (kept_variables c.declared))) }
     {
         let Variables { kept, .. } = self;

@@ -3,7 +3,7 @@
 ghost use Rattle.std.specs.Prelude.{◌≡◌, ◌<◌, ◌≤◌, ◌+◌, ◌-◌, ◌^◌, false, true, ℕ, List, [], ◌∷◌, Option, length, take, vec_len, vec_capacity, OnOk, IfErr, IfOk};
 ghost use Rattle.std.specs.Io.KnownBytes.{Appends};
 ghost use Rattle.vcd_text.specs.WriteEnds.{TookBefore};
-ghost use Rattle.vcd_text.specs.inside.Written.{IsWritten, Writes};
+ghost use Rattle.vcd_text.specs.inside.Written.{HasEmitted, Emits};
 
 use crate::fault::WriteError;
 use std::alloc::Global;
@@ -33,7 +33,7 @@ impl WriteBuffer {
 
 /// Writes a piece of the text behind what was written. It takes no memory.
 pub fn write_piece<W: Sink>(buffer: &mut WriteBuffer, writer: &mut W, piece: &[u8])
-    ensures { Writes buffer.old (W.taken writer.old) (W.has_failed writer.old)
+    ensures { Emits buffer.old (W.taken writer.old) (W.has_failed writer.old)
         buffer.new (W.taken writer.new) (W.has_failed writer.new) piece.now }
 {
     if has_space_for(&buffer.waiting, piece.len()) {
@@ -46,7 +46,7 @@ pub fn write_piece<W: Sink>(buffer: &mut WriteBuffer, writer: &mut W, piece: &[u
 
 /// Writes a byte of the text behind what was written.
 pub fn write_byte<W: Sink>(buffer: &mut WriteBuffer, writer: &mut W, byte: u8)
-    ensures { Writes buffer.old (W.taken writer.old) (W.has_failed writer.old)
+    ensures { Emits buffer.old (W.taken writer.old) (W.has_failed writer.old)
         buffer.new (W.taken writer.new) (W.has_failed writer.new) (byte ∷ []) }
 {
     if has_space_for(&buffer.waiting, 1) {
@@ -58,7 +58,7 @@ pub fn write_byte<W: Sink>(buffer: &mut WriteBuffer, writer: &mut W, byte: u8)
 
 /// Keeps a piece where the buffer has room for it, and otherwise sends it behind what waits.
 fn write_first<W: Sink>(buffer: &mut WriteBuffer, writer: &mut W, piece: &[u8])
-    ensures { Writes buffer.old (W.taken writer.old) (W.has_failed writer.old)
+    ensures { Emits buffer.old (W.taken writer.old) (W.has_failed writer.old)
         buffer.new (W.taken writer.new) (W.has_failed writer.new) piece.now }
 {
     if has_space_for(&buffer.waiting, piece.len()) {
@@ -77,7 +77,7 @@ fn has_space_for(waiting: &Vec<u8>, count: usize) -> bool
 
 /// Sends all that waits.
 fn send_waiting<W: Sink>(buffer: &mut WriteBuffer, writer: &mut W)
-    ensures written { Writes buffer.old (W.taken writer.old) (W.has_failed writer.old)
+    ensures written { Emits buffer.old (W.taken writer.old) (W.has_failed writer.old)
         buffer.new (W.taken writer.new) (W.has_failed writer.new) [] }
     ensures empty { buffer.new.waiting.items ≡ [] }
 {
@@ -89,7 +89,7 @@ fn send_waiting<W: Sink>(buffer: &mut WriteBuffer, writer: &mut W)
 /// Sends a piece, where nothing waits.
 fn send_piece<W: Sink>(buffer: &mut WriteBuffer, writer: &mut W, piece: &[u8])
     requires empty { buffer.old.waiting.items ≡ [] }
-    ensures { Writes buffer.old (W.taken writer.old) (W.has_failed writer.old)
+    ensures { Emits buffer.old (W.taken writer.old) (W.has_failed writer.old)
         buffer.new (W.taken writer.new) (W.has_failed writer.new) piece.now }
 {
     let count = send_bytes(writer, piece);
@@ -118,11 +118,11 @@ fn send_bytes<W: Sink>(writer: &mut W, bytes: &[u8]) -> u128
 /// An error means that the writer has failed, and says how many bytes it took of the text that was written.
 pub fn finish<W: Sink>(buffer: WriteBuffer, writer: &mut W) -> Result<(), WriteError>
     ensures written { OnOk result ((before : Option (List ℕ)) (text : List ℕ) → length text < 2 ^ 128 - 1
-        → IsWritten before (W.taken writer.old) (W.has_failed writer.old) buffer text
+        → HasEmitted before (W.taken writer.old) (W.has_failed writer.old) buffer text
         → Appends before (W.taken writer.new) text) }
     ensures not_failed { OnOk result (W.has_failed writer.new ≡ false) }
     ensures fault { IfErr result (λ e. (before : Option (List ℕ)) (text : List ℕ) → length text < 2 ^ 128 - 1
-        → IsWritten before (W.taken writer.old) (W.has_failed writer.old) buffer text
+        → HasEmitted before (W.taken writer.old) (W.has_failed writer.old) buffer text
         → TookBefore text before (W.taken writer.new) (W.has_failed writer.new) e) }
 {
     let mut buffer = buffer;

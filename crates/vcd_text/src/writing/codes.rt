@@ -3,7 +3,7 @@
 ghost use Rattle.std.specs.Prelude.{◌≡◌, ◌<◌};
 ghost use Rattle.vcd_core.specs.declared.capture.TheConstants.{SIGNAL_LIMIT};
 ghost use Rattle.vcd_text.specs.Text.{code_of};
-ghost use Rattle.vcd_text.specs.inside.Written.{Writes};
+ghost use Rattle.vcd_text.specs.inside.Written.{Emits};
 
 use super::buffer::{WriteBuffer, write_byte};
 use vcd_core::Sink;
@@ -17,7 +17,7 @@ const COUNT: usize = 94;
 /// lowest digit first. One step for each byte.
 pub fn write_code<W: Sink>(buffer: &mut WriteBuffer, writer: &mut W, position: usize)
     requires { position < SIGNAL_LIMIT }
-    ensures { Writes buffer.old (W.taken writer.old) (W.has_failed writer.old)
+    ensures { Emits buffer.old (W.taken writer.old) (W.has_failed writer.old)
         buffer.new (W.taken writer.new) (W.has_failed writer.new) (code_of position) }
 {
     let mut left = position + 1;

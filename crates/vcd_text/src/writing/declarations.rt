@@ -9,7 +9,7 @@ ghost use Rattle.vcd_core.specs.declared.capture.TheConstants.{SIGNAL_LIMIT};
 ghost use Rattle.vcd_text.specs.Items.{entry, header_word, scope, upscope};
 ghost use Rattle.vcd_text.specs.Text.{header_items, item_line, same_scope, scope_items, signal_items, timescale_items, variable_item};
 ghost use Rattle.vcd_text.specs.inside.TextParts.{declarations_text};
-ghost use Rattle.vcd_text.specs.inside.Written.{Writes};
+ghost use Rattle.vcd_text.specs.inside.Written.{Emits};
 
 use super::buffer::{WriteBuffer, write_byte, write_piece};
 use super::codes::write_code;
@@ -20,7 +20,7 @@ use vcd_core::{Capture, Header, HeaderKind, ScopeName, Signal, Sink, Timescale, 
 /// Writes the declarations, with the header and the timescale before them and their end behind them.
 pub fn write_declarations<W: Sink>(buffer: &mut WriteBuffer, writer: &mut W, capture: &Capture)
     requires { length capture.now.signals ≤ SIGNAL_LIMIT }
-    ensures { Writes buffer.old (W.taken writer.old) (W.has_failed writer.old)
+    ensures { Emits buffer.old (W.taken writer.old) (W.has_failed writer.old)
         buffer.new (W.taken writer.new) (W.has_failed writer.new)
         (declarations_text (contents capture.now)) }
 {
@@ -32,7 +32,7 @@ pub fn write_declarations<W: Sink>(buffer: &mut WriteBuffer, writer: &mut W, cap
 
 /// Writes a line for each header entry.
 fn write_header<W: Sink>(buffer: &mut WriteBuffer, writer: &mut W, header: &[Header])
-    ensures { Writes buffer.old (W.taken writer.old) (W.has_failed writer.old)
+    ensures { Emits buffer.old (W.taken writer.old) (W.has_failed writer.old)
         buffer.new (W.taken writer.new) (W.has_failed writer.new)
         (flat_map item_line (header_items header.now)) }
 {
@@ -42,7 +42,7 @@ fn write_header<W: Sink>(buffer: &mut WriteBuffer, writer: &mut W, header: &[Hea
 }
 
 fn write_entry<W: Sink>(buffer: &mut WriteBuffer, writer: &mut W, header: &Header)
-    ensures { Writes buffer.old (W.taken writer.old) (W.has_failed writer.old)
+    ensures { Emits buffer.old (W.taken writer.old) (W.has_failed writer.old)
         buffer.new (W.taken writer.new) (W.has_failed writer.new)
         (item_line (entry header.now.kind header.now.words)) }
 {
@@ -63,7 +63,7 @@ fn header_keyword(kind: HeaderKind) -> &'static str
 
 /// Writes the line of the timescale, where there is one.
 fn write_timescale<W: Sink>(buffer: &mut WriteBuffer, writer: &mut W, timescale: Option<Timescale>)
-    ensures { Writes buffer.old (W.taken writer.old) (W.has_failed writer.old)
+    ensures { Emits buffer.old (W.taken writer.old) (W.has_failed writer.old)
         buffer.new (W.taken writer.new) (W.has_failed writer.new)
         (flat_map item_line (timescale_items timescale)) }
 {
@@ -83,7 +83,7 @@ fn write_timescale<W: Sink>(buffer: &mut WriteBuffer, writer: &mut W, timescale:
 /// Its time grows with the scopes of all signals, those that several stand in counted for each.
 fn write_signals<W: Sink>(buffer: &mut WriteBuffer, writer: &mut W, signals: &[Signal])
     requires { length signals.now ≤ SIGNAL_LIMIT }
-    ensures { Writes buffer.old (W.taken writer.old) (W.has_failed writer.old)
+    ensures { Emits buffer.old (W.taken writer.old) (W.has_failed writer.old)
         buffer.new (W.taken writer.new) (W.has_failed writer.new)
         (flat_map item_line (signal_items [] 0 (map signal_contents signals.now))) }
 {
@@ -104,7 +104,7 @@ fn write_variable<W: Sink>(
     signal: &Signal,
 )
     requires { position < SIGNAL_LIMIT }
-    ensures { Writes buffer.old (W.taken writer.old) (W.has_failed writer.old)
+    ensures { Emits buffer.old (W.taken writer.old) (W.has_failed writer.old)
         buffer.new (W.taken writer.new) (W.has_failed writer.new)
         (item_line (variable_item position (signal_contents signal.now))) }
 {
@@ -128,7 +128,7 @@ fn write_scope_changes<W: Sink>(
     opened: &[ScopeName],
     path: &[ScopeName],
 )
-    ensures { Writes buffer.old (W.taken writer.old) (W.has_failed writer.old)
+    ensures { Emits buffer.old (W.taken writer.old) (W.has_failed writer.old)
         buffer.new (W.taken writer.new) (W.has_failed writer.new)
         (flat_map item_line (scope_items opened.now path.now)) }
 {
@@ -138,7 +138,7 @@ fn write_scope_changes<W: Sink>(
 }
 
 fn write_upscopes<W: Sink>(buffer: &mut WriteBuffer, writer: &mut W, count: usize)
-    ensures { Writes buffer.old (W.taken writer.old) (W.has_failed writer.old)
+    ensures { Emits buffer.old (W.taken writer.old) (W.has_failed writer.old)
         buffer.new (W.taken writer.new) (W.has_failed writer.new)
         (flat_map item_line (replicate count upscope)) }
 {
@@ -148,7 +148,7 @@ fn write_upscopes<W: Sink>(buffer: &mut WriteBuffer, writer: &mut W, count: usiz
 }
 
 fn write_scopes<W: Sink>(buffer: &mut WriteBuffer, writer: &mut W, scopes: &[ScopeName])
-    ensures { Writes buffer.old (W.taken writer.old) (W.has_failed writer.old)
+    ensures { Emits buffer.old (W.taken writer.old) (W.has_failed writer.old)
         buffer.new (W.taken writer.new) (W.has_failed writer.new)
         (flat_map item_line (map (λ s. scope s.kind s.words) scopes.now)) }
 {
@@ -158,7 +158,7 @@ fn write_scopes<W: Sink>(buffer: &mut WriteBuffer, writer: &mut W, scopes: &[Sco
 }
 
 fn write_scope<W: Sink>(buffer: &mut WriteBuffer, writer: &mut W, name: &ScopeName)
-    ensures { Writes buffer.old (W.taken writer.old) (W.has_failed writer.old)
+    ensures { Emits buffer.old (W.taken writer.old) (W.has_failed writer.old)
         buffer.new (W.taken writer.new) (W.has_failed writer.new)
         (item_line (scope name.now.kind name.now.words)) }
 {

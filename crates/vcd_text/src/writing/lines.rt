@@ -2,14 +2,14 @@
 
 ghost use Rattle.std.specs.Prelude.{◌≡◌, ◌∷◌, [], codes};
 ghost use Rattle.vcd_text.specs.inside.SpacedWords.{spaced_words};
-ghost use Rattle.vcd_text.specs.inside.Written.{Writes};
+ghost use Rattle.vcd_text.specs.inside.Written.{Emits};
 
 use super::buffer::{WriteBuffer, write_byte, write_piece};
 use vcd_core::{Sink, Word};
 
 /// Writes a space and a word.
 pub fn write_word<W: Sink>(buffer: &mut WriteBuffer, writer: &mut W, word: &[u8])
-    ensures { Writes buffer.old (W.taken writer.old) (W.has_failed writer.old)
+    ensures { Emits buffer.old (W.taken writer.old) (W.has_failed writer.old)
         buffer.new (W.taken writer.new) (W.has_failed writer.new)
         (spaced_words (word.now ∷ [])) }
 {
@@ -19,7 +19,7 @@ pub fn write_word<W: Sink>(buffer: &mut WriteBuffer, writer: &mut W, word: &[u8]
 
 /// Writes words, each behind a space.
 pub fn write_words<W: Sink>(buffer: &mut WriteBuffer, writer: &mut W, words: &[Word])
-    ensures { Writes buffer.old (W.taken writer.old) (W.has_failed writer.old)
+    ensures { Emits buffer.old (W.taken writer.old) (W.has_failed writer.old)
         buffer.new (W.taken writer.new) (W.has_failed writer.new)
         (spaced_words words.now) }
 {
@@ -30,7 +30,7 @@ pub fn write_words<W: Sink>(buffer: &mut WriteBuffer, writer: &mut W, words: &[W
 
 /// Ends the line of a declaration.
 pub fn write_end<W: Sink>(buffer: &mut WriteBuffer, writer: &mut W)
-    ensures { Writes buffer.old (W.taken writer.old) (W.has_failed writer.old)
+    ensures { Emits buffer.old (W.taken writer.old) (W.has_failed writer.old)
         buffer.new (W.taken writer.new) (W.has_failed writer.new)
         (codes " $end\n") }
 {

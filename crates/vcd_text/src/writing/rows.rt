@@ -54,10 +54,10 @@ fn guessed_stop(wave: &Wave, next: KeptChange, to: u64) -> usize {
     if next.tick >= to {
         return next.place;
     }
-    let behind = next.place.saturating_add(1);
-    match wave.changes().get(behind) {
-        Some(second) => behind.saturating_add(usize::from(second.tick < to)),
-        None => behind,
+    let following = next.place.saturating_add(1);
+    match wave.changes().get(following) {
+        Some(second) => following.saturating_add(usize::from(second.tick < to)),
+        None => following,
     }
 }
 
@@ -100,12 +100,12 @@ pub fn list_signal(
         return None;
     }
     push_in_room(row, listed_change(next, position, wave.width()));
-    let start = place_behind(wave.changes(), next.place);
-    list_behind(row, room, position, wave, start, guess, next.tick + 1, to)
+    let start = place_after(wave.changes(), next.place);
+    list_after(row, room, position, wave, start, guess, next.tick + 1, to)
 }
 
 /// The place behind that of a change.
-fn place_behind(changes: &[Change], place: usize) -> usize
+fn place_after(changes: &[Change], place: usize) -> usize
     requires { place < length changes.now }
     ensures { result ≡ place + 1 }
 {
@@ -114,7 +114,7 @@ fn place_behind(changes: &[Change], place: usize) -> usize
 
 /// Lists the transitions of the signal at `position` in a window whose changes begin at a place of its wave, and answers
 /// its next change behind the window; none where there is no room.
-fn list_behind(
+fn list_after(
     row: &mut Vec<ListedTransition>,
     room: usize,
     position: usize,

@@ -9,7 +9,7 @@ ghost use Rattle.vcd_core.specs.declared.capture.TheConstants.{END_LIMIT, SIGNAL
 ghost use Rattle.vcd_text.specs.inside.NextChanges.{AreNext};
 ghost use Rattle.vcd_text.specs.inside.Transitions.{last_tick, transition_items, transition_value};
 ghost use Rattle.vcd_text.specs.inside.Windows.{IsListed, IsKeyIn, in_order, listed_transition, transitions_of};
-ghost use Rattle.vcd_text.specs.inside.Written.{Writes};
+ghost use Rattle.vcd_text.specs.inside.Written.{Emits};
 ghost use Rattle.vcd_text.specs.declared.writing.keys.TheConstants.{PLACES};
 ghost use Rattle.vcd_text.specs.Text.{all_values, code_of, end_items, first_items, item_line, stamp_of, tick_items, value_item};
 
@@ -25,7 +25,7 @@ use vcd_core::{Signal, Sink, Wave};
 /// Writes the values at tick 0.
 pub fn write_first_values<W: Sink>(buffer: &mut WriteBuffer, writer: &mut W, signals: &[Signal])
     requires { length signals.now ≤ SIGNAL_LIMIT }
-    ensures { Writes buffer.old (W.taken writer.old) (W.has_failed writer.old)
+    ensures { Emits buffer.old (W.taken writer.old) (W.has_failed writer.old)
         buffer.new (W.taken writer.new) (W.has_failed writer.new)
         (flat_map item_line (first_items (map signal_contents signals.now))) }
 {
@@ -37,7 +37,7 @@ pub fn write_first_values<W: Sink>(buffer: &mut WriteBuffer, writer: &mut W, sig
 
 fn write_all_values<W: Sink>(buffer: &mut WriteBuffer, writer: &mut W, signals: &[Signal])
     requires { length signals.now ≤ SIGNAL_LIMIT }
-    ensures { Writes buffer.old (W.taken writer.old) (W.has_failed writer.old)
+    ensures { Emits buffer.old (W.taken writer.old) (W.has_failed writer.old)
         buffer.new (W.taken writer.new) (W.has_failed writer.new)
         (flat_map item_line (all_values (map signal_contents signals.now) 0)) }
 {
@@ -64,7 +64,7 @@ pub fn write_transitions<W: Sink>(
     requires places { window.old.room ≤ PLACES }
     requires row { window.old.room ≤ vec_capacity window.old.row }
     requires order { window.old.room ≤ vec_capacity window.old.order }
-    ensures { Writes buffer.old (W.taken writer.old) (W.has_failed writer.old)
+    ensures { Emits buffer.old (W.taken writer.old) (W.has_failed writer.old)
         buffer.new (W.taken writer.new) (W.has_failed writer.new)
         (flat_map item_line (tick_items (map signal_contents signals.now) 1 end
         ++ end_items (map signal_contents signals.now) end)) }
@@ -149,7 +149,7 @@ fn write_listed<W: Sink>(
     requires few { length signals.now ≤ SIGNAL_LIMIT }
     requires listed { All (IsListed (map signal_contents signals.now)) row.now }
     requires keys { All (IsKeyIn row.now) order.now }
-    ensures text { Writes buffer.old (W.taken writer.old) (W.has_failed writer.old)
+    ensures text { Emits buffer.old (W.taken writer.old) (W.has_failed writer.old)
         buffer.new (W.taken writer.new) (W.has_failed writer.new) (flat_map item_line
         (transition_items (map signal_contents signals.now) last (in_order row.now order.now))) }
     ensures last { result ≡ last_tick last (in_order row.now order.now) }
@@ -190,7 +190,7 @@ fn write_found<W: Sink>(
 ) -> u64
     requires few { length signals.now ≤ SIGNAL_LIMIT }
     requires listed { All (IsListed (map signal_contents signals.now)) found.now }
-    ensures text { Writes buffer.old (W.taken writer.old) (W.has_failed writer.old)
+    ensures text { Emits buffer.old (W.taken writer.old) (W.has_failed writer.old)
         buffer.new (W.taken writer.new) (W.has_failed writer.new) (flat_map item_line
         (transition_items (map signal_contents signals.now) last (transitions_of found.now))) }
     ensures last { result ≡ last_tick last (transitions_of found.now) }
@@ -213,7 +213,7 @@ fn write_new_value<W: Sink>(
 )
     requires few { length signals.now ≤ SIGNAL_LIMIT }
     requires listed { IsListed (map signal_contents signals.now) listed }
-    ensures { Writes buffer.old (W.taken writer.old) (W.has_failed writer.old)
+    ensures { Emits buffer.old (W.taken writer.old) (W.has_failed writer.old)
         buffer.new (W.taken writer.new) (W.has_failed writer.new)
         (item_line (value_item (code_of listed.position)
         (transition_value (map signal_contents signals.now) (listed_transition listed)))) }
@@ -249,7 +249,7 @@ fn write_value_near<W: Sink>(
     place: usize,
 )
     requires { position < SIGNAL_LIMIT }
-    ensures { Writes buffer.old (W.taken writer.old) (W.has_failed writer.old)
+    ensures { Emits buffer.old (W.taken writer.old) (W.has_failed writer.old)
         buffer.new (W.taken writer.new) (W.has_failed writer.new)
         (item_line (value_item (code_of position)
         (value_at wave.now.width wave.now.changes tick))) }
@@ -264,7 +264,7 @@ fn write_value_near<W: Sink>(
 }
 
 fn write_new_stamp<W: Sink>(buffer: &mut WriteBuffer, writer: &mut W, last: u64, tick: u64)
-    ensures { Writes buffer.old (W.taken writer.old) (W.has_failed writer.old)
+    ensures { Emits buffer.old (W.taken writer.old) (W.has_failed writer.old)
         buffer.new (W.taken writer.new) (W.has_failed writer.new)
         (flat_map item_line (if tick == last then [] else stamp_of tick ∷ [])) }
 {
@@ -275,7 +275,7 @@ fn write_new_stamp<W: Sink>(buffer: &mut WriteBuffer, writer: &mut W, last: u64,
 }
 
 fn write_last_stamp<W: Sink>(buffer: &mut WriteBuffer, writer: &mut W, last: u64, end: u64)
-    ensures { Writes buffer.old (W.taken writer.old) (W.has_failed writer.old)
+    ensures { Emits buffer.old (W.taken writer.old) (W.has_failed writer.old)
         buffer.new (W.taken writer.new) (W.has_failed writer.new)
         (flat_map item_line (if nat_lt last end then stamp_of end ∷ [] else [])) }
 {
@@ -286,7 +286,7 @@ fn write_last_stamp<W: Sink>(buffer: &mut WriteBuffer, writer: &mut W, last: u64
 }
 
 fn write_stamp<W: Sink>(buffer: &mut WriteBuffer, writer: &mut W, tick: u64)
-    ensures { Writes buffer.old (W.taken writer.old) (W.has_failed writer.old)
+    ensures { Emits buffer.old (W.taken writer.old) (W.has_failed writer.old)
         buffer.new (W.taken writer.new) (W.has_failed writer.new)
         (flat_map item_line (stamp_of tick ∷ [])) }
 {

@@ -8,7 +8,7 @@ ghost use Rattle.vcd_core.specs.declared.capture.TheConstants.{SIGNAL_LIMIT};
 ghost use Rattle.vcd_text.specs.Letters.{pad_letter, printed_letters, short_form};
 ghost use Rattle.vcd_text.specs.Text.{code_of, item_line, value_item};
 ghost use Rattle.vcd_text.specs.inside.ValueFronts.{is_spare_above, value_front, word_letter};
-ghost use Rattle.vcd_text.specs.inside.Written.{Writes};
+ghost use Rattle.vcd_text.specs.inside.Written.{Emits};
 
 use super::buffer::{WriteBuffer, write_byte, write_piece};
 use super::codes::write_code;
@@ -23,7 +23,7 @@ pub fn write_value<W: Sink>(
     value: &Value,
 )
     requires { position < SIGNAL_LIMIT }
-    ensures { Writes buffer.old (W.taken writer.old) (W.has_failed writer.old)
+    ensures { Emits buffer.old (W.taken writer.old) (W.has_failed writer.old)
         buffer.new (W.taken writer.new) (W.has_failed writer.new)
         (item_line (value_item (code_of position) value.now)) }
 {
@@ -53,7 +53,7 @@ pub fn write_word_value<W: Sink>(
     requires position { position < SIGNAL_LIMIT }
     requires least { 1 ≤ width }
     requires most { width ≤ 64 }
-    ensures { Writes buffer.old (W.taken writer.old) (W.has_failed writer.old)
+    ensures { Emits buffer.old (W.taken writer.old) (W.has_failed writer.old)
         buffer.new (W.taken writer.new) (W.has_failed writer.new)
         (item_line (value_item (code_of position) (letters_of width (low ∷ []) (high ∷ [])))) }
 {
@@ -72,7 +72,7 @@ fn write_word_front<W: Sink>(
 )
     requires least { 1 ≤ width }
     requires most { width ≤ 64 }
-    ensures { Writes buffer.old (W.taken writer.old) (W.has_failed writer.old)
+    ensures { Emits buffer.old (W.taken writer.old) (W.has_failed writer.old)
         buffer.new (W.taken writer.new) (W.has_failed writer.new)
         (value_front (letters_of width (low ∷ []) (high ∷ []))) }
 {
@@ -88,7 +88,7 @@ fn write_word_front<W: Sink>(
 /// Writes the letters of a value that are below bit `count`, a word at a time.
 fn write_lowest<W: Sink>(buffer: &mut WriteBuffer, writer: &mut W, value: &Value, count: u64)
     requires { count ≤ length value.now }
-    ensures { Writes buffer.old (W.taken writer.old) (W.has_failed writer.old)
+    ensures { Emits buffer.old (W.taken writer.old) (W.has_failed writer.old)
         buffer.new (W.taken writer.new) (W.has_failed writer.new)
         (printed_letters (drop (length value.now - count) value.now)) }
 {
@@ -105,7 +105,7 @@ fn write_lowest<W: Sink>(buffer: &mut WriteBuffer, writer: &mut W, value: &Value
 /// Writes the `count` lowest letters of two words.
 fn write_letters<W: Sink>(buffer: &mut WriteBuffer, writer: &mut W, count: u64, low: u64, high: u64)
     requires { count ≤ 64 }
-    ensures { Writes buffer.old (W.taken writer.old) (W.has_failed writer.old)
+    ensures { Emits buffer.old (W.taken writer.old) (W.has_failed writer.old)
         buffer.new (W.taken writer.new) (W.has_failed writer.new)
         (printed_letters (letters_of count (low ∷ []) (high ∷ []))) }
 {

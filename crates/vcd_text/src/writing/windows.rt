@@ -7,7 +7,7 @@ ghost use Rattle.vcd_core.specs.Sound.{IsSoundSignal};
 ghost use Rattle.vcd_core.specs.declared.capture.TheConstants.{END_LIMIT, SIGNAL_LIMIT};
 ghost use Rattle.vcd_text.specs.declared.writing.keys.TheConstants.{PLACES, SPAN};
 ghost use Rattle.vcd_text.specs.inside.NextChanges.{AreNext};
-ghost use Rattle.vcd_text.specs.inside.Transitions.{transitions_from, window_by_signal};
+ghost use Rattle.vcd_text.specs.inside.Transitions.{transitions_from, unsorted_window};
 ghost use Rattle.vcd_text.specs.inside.Windows.{IsListed, IsKeyIn, in_order, transitions_of};
 
 use super::kept_changes::KeptChange;
@@ -105,7 +105,7 @@ fn fill_some(
     ensures some { 1 ≤ result }
     ensures most { result ≤ most }
     ensures all { transitions_of row.new.items ≡
-        window_by_signal from (from + result) 0 (map signal_contents signals.now) }
+        unsorted_window from (from + result) 0 (map signal_contents signals.now) }
     ensures listed { All (IsListed (map signal_contents signals.now)) row.new.items }
     ensures near { All (λ m. m.change.tick < from + SPAN) row.new.items }
     ensures few { length row.new.items ≤ room }
@@ -137,13 +137,13 @@ fn fill_ticks(
     requires from { 1 ≤ from }
     requires order { from ≤ to }
     ensures all { result ≡ true → transitions_of row.new.items ≡
-        window_by_signal from to 0 (map signal_contents signals.now) }
+        unsorted_window from to 0 (map signal_contents signals.now) }
     ensures listed { result ≡ true → All (IsListed (map signal_contents signals.now)) row.new.items }
     ensures near { result ≡ true → All (λ m. m.change.tick < from + SPAN) row.new.items }
     ensures few { length row.new.items ≤ room }
     ensures next { AreNext (if result then to else from) signals.now nexts.new }
     ensures full { result ≡ false → (from + SPAN < to) ⊎
-        (room < length (window_by_signal from to 0 (map signal_contents signals.now))) }
+        (room < length (unsorted_window from to 0 (map signal_contents signals.now))) }
     ensures room { vec_capacity row.old ≤ vec_capacity row.new }
 {
     if fill_row(row, room, signals, nexts, from, to, end) {
@@ -172,13 +172,13 @@ fn fill_row(
     requires from { 1 ≤ from }
     requires order { from ≤ to }
     ensures all { result ≡ true → transitions_of row.new.items ≡
-        window_by_signal from to 0 (map signal_contents signals.now) }
+        unsorted_window from to 0 (map signal_contents signals.now) }
     ensures listed { result ≡ true → All (IsListed (map signal_contents signals.now)) row.new.items }
     ensures few { length row.new.items ≤ room }
     ensures next { result ≡ true → AreNext to signals.now nexts.new }
     ensures all_next { length nexts.new ≡ length signals.now }
     ensures full { result ≡ false →
-        room < length (window_by_signal from to 0 (map signal_contents signals.now)) }
+        room < length (unsorted_window from to 0 (map signal_contents signals.now)) }
     ensures room { vec_capacity row.old ≤ vec_capacity row.new }
 {
     row.clear();

@@ -4,5 +4,5 @@ use Rattle.vcdedit.specs.declared.replies.reply.Reply.{Reply}
 use Rattle.vcdedit.specs.Reply.{LineReply, reply_text}
 
 -- this is said to the line of this number
-abbrev pub TellsReply : ℕ → LineReply → Reply → Type 0
-TellsReply number said reply = (reply.text.items ≡ reply_text number said) × (reply.is_refused ≡ is_err said)
+abbrev pub IsReplyTo : ℕ → LineReply → Reply → Type 0
+IsReplyTo number said reply = (reply.text.items ≡ reply_text number said) × (reply.is_refused ≡ is_err said)

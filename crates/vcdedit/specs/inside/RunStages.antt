@@ -14,5 +14,5 @@ EndsBeforeReplies capture script e =
     (depth : ℕ) (replies : WriterEnd) → IsUntouched replies → EndsBeforeOutput depth capture script replies e
 
 -- it ends so behind an accepted capture
-abbrev pub EndsBehindCapture : (script : ReaderEnd) → RunError → Type 0
-EndsBehindCapture script e = (capture : ReaderEnd) → IsAccepted capture → EndsBeforeReplies capture script e
+abbrev pub EndsAfterCapture : (script : ReaderEnd) → RunError → Type 0
+EndsAfterCapture script e = (capture : ReaderEnd) → IsAccepted capture → EndsBeforeReplies capture script e

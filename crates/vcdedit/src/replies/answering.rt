@@ -4,7 +4,7 @@ ghost use Rattle.std.specs.Prelude.{◌≡◌, false, Err, IfOk, OnErr};
 ghost use Rattle.vcd_journal.specs.StepErrorNames.{step_error_name};
 ghost use Rattle.vcdedit.specs.CommandSignals.{HasItsSignals};
 ghost use Rattle.vcdedit.specs.inside.Answering.{AnswersStep, AnswersCommand, AnswersLine, is_no_memory as wants_memory};
-ghost use Rattle.vcdedit.specs.inside.Replies.{TellsReply};
+ghost use Rattle.vcdedit.specs.inside.Replies.{IsReplyTo};
 
 use crate::replies::Reply;
 use crate::replies::decoding::{i2c_text, spi_text, uart_text};
@@ -109,7 +109,7 @@ fn answer_step(
 /// What is said to a refused step, unless memory was refused.
 fn refuse_step(alloc: Global, number: u64, refusal: StepError) -> Result<Reply, NoMemory>
     ensures named { IfOk result (λ reply.
-        TellsReply number (Err (step_error_name refusal)) reply) }
+        IsReplyTo number (Err (step_error_name refusal)) reply) }
     ensures memory { IfOk result (λ _. wants_memory refusal ≡ false) }
 {
     if is_no_memory(refusal) {

@@ -2,7 +2,7 @@
 
 ghost use Rattle.std.specs.Prelude.{◌≡◌, ◌++◌, ℕ, Ok, Err, OnOk, IfOk, false};
 ghost use Rattle.vcdedit.specs.Reply.{ok_reply, reply_text};
-ghost use Rattle.vcdedit.specs.inside.Replies.{TellsReply};
+ghost use Rattle.vcdedit.specs.inside.Replies.{IsReplyTo};
 
 use crate::replies::appending::append_decimal;
 use std::alloc::Global;
@@ -31,7 +31,7 @@ impl Reply {
 
     /// The reply to an accepted step.
     pub fn accepted(alloc: Global) -> Result<Reply, NoMemory>
-        ensures { IfOk result (λ reply. (number : ℕ) → TellsReply number ok_reply reply) }
+        ensures { IfOk result (λ reply. (number : ℕ) → IsReplyTo number ok_reply reply) }
     {
         let mut text = Vec::new(alloc);
         text.extend_from_slice(b"ok\n")?;
@@ -40,7 +40,7 @@ impl Reply {
 
     /// The reply to the line of this number, counted from 1, that is refused for the fault with this name.
     pub fn refused(alloc: Global, number: u64, name: &str) -> Result<Reply, NoMemory>
-        ensures { IfOk result (λ reply. TellsReply number (Err name.now) reply) }
+        ensures { IfOk result (λ reply. IsReplyTo number (Err name.now) reply) }
     {
         let mut text = Vec::new(alloc);
         append_refusal(&mut text, number, name)?;

@@ -5,7 +5,7 @@ ghost use Rattle.vcd_core.specs.Contents.{contents};
 ghost use Rattle.vcd_core.specs.Sound.{IsSound};
 ghost use Rattle.vcd_text.specs.Meaning.{FileMeans};
 ghost use Rattle.vcdedit.specs.RunEnds.{reader_end, IsAccepted, IsWholeScript};
-ghost use Rattle.vcdedit.specs.inside.RunStages.{EndsBeforeReplies, EndsBehindCapture};
+ghost use Rattle.vcdedit.specs.inside.RunStages.{EndsBeforeReplies, EndsAfterCapture};
 
 use crate::running::RunError;
 use std::alloc::Global;
@@ -64,7 +64,7 @@ fn read_script<S: Source>(alloc: Global, reader: &mut S) -> Result<Vec<u8>, RunE
     ensures short { IfOk result (λ script. length script.items ≤ SCRIPT_LIMIT) }
     ensures whole { OnOk result (IsWholeScript
         (reader_end S.coming S.has_failed reader.old reader.new)) }
-    ensures ended { IfErr result (EndsBehindCapture
+    ensures ended { IfErr result (EndsAfterCapture
         (reader_end S.coming S.has_failed reader.old reader.new)) }
 {
     let mut bytes = Vec::new(alloc);

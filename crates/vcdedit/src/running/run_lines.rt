@@ -3,7 +3,7 @@
 ghost use Rattle.std.specs.Prelude.{◌≡◌, ◌≤◌, ◌<◌, ◌^◌, ℕ, false, true, length, IfOk, IfErr, OnOk};
 ghost use Rattle.std.specs.Io.KnownBytes.{Appends};
 ghost use Rattle.vcdedit.specs.Script.{script_lines};
-ghost use Rattle.vcdedit.specs.inside.RunLines.{IfReplyFault, TellsLine, RunsLines, IsLineFault, ReplyStops, LineStops, LinesStop};
+ghost use Rattle.vcdedit.specs.inside.RunLines.{IfReplyFault, LineStep, RunsLines, IsLineFault, StopsAtReply, StopsAtLine, StopsInLines};
 
 use crate::replies::answer_line;
 use crate::running::RunError;
@@ -42,19 +42,19 @@ pub fn run_lines<P: Sink>(
     ensures not_failed { OnOk result (P.has_failed replies.new ≡ false) }
     ensures fault { IfErr result IsLineFault }
     ensures failed { IfErr result (λ e. IfReplyFault e (λ _. P.has_failed replies.new ≡ true)) }
-    ensures stopped { IfErr result (LinesStop skipped (script_lines script.now) session.old
+    ensures stopped { IfErr result (StopsInLines skipped (script_lines script.now) session.old
         (P.taken replies.old) (P.taken replies.new)) }
 {
     let mut rest = script;
     let mut number = 0u64;
     let mut refused = 0u64;
     let mut written = 0u128;
-    while let Some((line, behind)) = split_line(rest) {
+    while let Some((line, following)) = split_line(rest) {
         number += 1;
         let outcome = run_line(alloc, session, skipped, number, line, replies, written)?;
         refused += outcome.refused;
         written += outcome.written as u128;
-        rest = behind;
+        rest = following;
     }
     match replies.flush() {
         Ok(()) => Ok(refused),
@@ -76,14 +76,14 @@ fn run_line<P: Sink>(
     requires counted { 1 ≤ number }
     requires room { written < 2 ^ 127 }
     ensures told { IfOk result (λ outcome.
-        TellsLine skipped number line.now session.old session.new outcome.refused outcome.written
+        LineStep skipped number line.now session.old session.new outcome.refused outcome.written
         (P.taken replies.old) (P.taken replies.new)) }
     ensures few { IfOk result (λ outcome. outcome.refused ≤ 1) }
     ensures short { IfOk result (λ outcome. outcome.written < 2 ^ 64) }
     ensures not_failed { OnOk result (P.has_failed replies.new ≡ false) }
     ensures fault { IfErr result IsLineFault }
     ensures failed { IfErr result (λ e. IfReplyFault e (λ _. P.has_failed replies.new ≡ true)) }
-    ensures stopped { IfErr result (LineStops skipped number line.now session.old written
+    ensures stopped { IfErr result (StopsAtLine skipped number line.now session.old written
         (P.taken replies.old) (P.taken replies.new)) }
 {
     match answer_line(alloc, session, skipped, number, line) {
@@ -107,7 +107,7 @@ fn write_reply<P: Sink>(text: &[u8], replies: &mut P, written: u128) -> Result<(
     ensures not_failed { OnOk result (P.has_failed replies.new ≡ false) }
     ensures fault { IfErr result IsLineFault }
     ensures failed { IfErr result (λ e. IfReplyFault e (λ _. P.has_failed replies.new ≡ true)) }
-    ensures stopped { IfErr result (λ e. (number : ℕ) → ReplyStops number text.now written
+    ensures stopped { IfErr result (λ e. (number : ℕ) → StopsAtReply number text.now written
         (P.taken replies.old) (P.taken replies.new) e) }
 {
     match write_all(replies, text) {

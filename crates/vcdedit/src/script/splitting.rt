@@ -3,7 +3,7 @@
 ghost use Rattle.std.specs.Prelude.{◌≡◌, ◌≤◌, ◌<◌, ◌==◌, ◌∷◌, [], true, not, length, take, drop, MatchOption};
 ghost use Rattle.std.specs.List.{list_all};
 ghost use Rattle.vcdedit.specs.Script.{script_lines};
-ghost use Rattle.vcdedit.specs.inside.ScriptParts.{is_behind_line};
+ghost use Rattle.vcdedit.specs.inside.ScriptParts.{is_after_line};
 
 /// The first line of a script, without its line feed, and what follows it. There is none where the script is
 /// empty.
@@ -15,10 +15,10 @@ pub fn split_line(script: &[u8]) -> Option<(&[u8], &[u8])>
     if script.is_empty() {
         return None;
     }
-    let (line, behind) = script.split_at(line_len(script));
-    match behind.split_first() {
+    let (line, following) = script.split_at(line_len(script));
+    match following.split_first() {
         Some((_, rest)) => Some((line, rest)),
-        None => Some((line, behind)),
+        None => Some((line, following)),
     }
 }
 
@@ -26,7 +26,7 @@ pub fn split_line(script: &[u8]) -> Option<(&[u8], &[u8])>
 fn line_len(script: &[u8]) -> usize
     ensures within { result ≤ length script.now }
     ensures line { list_all (λ b. not (b == 10)) (take result script.now) ≡ true }
-    ensures ends { is_behind_line (drop result script.now) ≡ true }
+    ensures ends { is_after_line (drop result script.now) ≡ true }
 {
     for (i, byte) in script.iter().enumerate() {
         if *byte == b'\n' {

@@ -1,7 +1,7 @@
 use Rattle.std.specs.Option.{option_copied, option_map}
 use Rattle.vcd_decode.specs.Lines.{line_of}
 use Rattle.vcd_decode.specs.Spi.{spi_annotations}
-use Rattle.vcd_decode.specs.inside.SpiWalk.{SpiSoFar}
+use Rattle.vcd_decode.specs.inside.SpiWalk.{SpiProgress}
 use Rattle.vcd_decode.proofs.spi_words.spi.Given as goal
 
 -- what is told and what is left tell all
@@ -10,4 +10,4 @@ invariant-loop-edge l =
     let mosi = option_map line_of (option_copied l.fn.mosi) in
     let miso = option_map line_of (option_copied l.fn.miso) in
     let cs = option_map line_of (option_copied l.fn.cs) in
-    SpiSoFar l.fn.setup (line_of l.fn.clk) mosi miso cs (spi_annotations l.fn.setup (line_of l.fn.clk) mosi miso cs l.fn.end) l.found.items l.group l.edge-iterator
+    SpiProgress l.fn.setup (line_of l.fn.clk) mosi miso cs (spi_annotations l.fn.setup (line_of l.fn.clk) mosi miso cs l.fn.end) l.found.items l.group l.edge-iterator

@@ -1,4 +1,4 @@
-use Rattle.vcd_edit.proofs.SeamTests.{failed}
+use Rattle.vcd_edit.proofs.AdjacencyTests.{failed}
 use Rattle.vcd_edit.proofs.FitKinds.{word_by_tests, word_here, word_others}
 use Rattle.vcd_edit.proofs.fitting.may_be_renamed.Goals as goal
 

@@ -2,9 +2,9 @@ use Rattle.std.proofs.Common.{◌≡◌, ◌∙◌, ◌<◌, ◌≤◌, All, ap,
 use Rattle.std.proofs.lemmas.List.{length-map}
 use Rattle.vcd_core.specs.Contents.{signal_contents, signal_at, contents}
 use Rattle.vcd_edit.specs.declared.record.Piece.{Piece}
-use Rattle.vcd_edit.specs.Back.{back, with_moved_signal, Fits}
+use Rattle.vcd_edit.specs.AppliedRecords.{apply_record, with_moved_signal, Fits}
 use Rattle.vcd_edit.specs.inside.Records.{piece_view, record_view, moved_signal_view}
-use Rattle.vcd_edit.specs.inside.Opposites.{opposite_move, LeadsOtherWay}
+use Rattle.vcd_edit.specs.inside.Opposites.{opposite_move, IsInverse}
 use Rattle.vcd_edit.proofs.TouchedParts.{whole_list}
 use Rattle.vcd_edit.proofs.Exchanged.{fits_each, ready_then, word_fits_then, word_named_then, end_is_back, is_record_then, leads_then}
 use Rattle.vcd_edit.proofs.reverting.exchange_record.Goals as goal
@@ -87,7 +87,7 @@ returns-in-Ok-clause-back c =
     let moved : contents c.exchange_signal.new.capture ≡ with_moved_signal v.signal now = c.in-Ok.ensures.there ∙ ap (with_moved_signal v.signal) c.reserve_all.ensures.contents in
     end_is_back now v fits c.way.invariant c.requires.sound _ whole (contents c.exchange_signal.new.capture) moved (contents c.exchange_pieces.new.capture) c.exchange_pieces.ensures.there
     (contents c.exchange_word-word.new.capture) (contents c.exchange_end-other_end.new.capture) c.exchange_word-word.ensures.there c.exchange_end-other_end.ensures.there
-    ∙ ap (λ r. back r now) c.way.view_is
+    ∙ ap (λ r. apply_record r now) c.way.view_is
 
 pub returns-in-Ok-clause-opposite : goal.returns-in-Ok-clause-opposite
 returns-in-Ok-clause-opposite c =
@@ -99,7 +99,7 @@ returns-in-Ok-clause-opposite c =
     let moved : contents c.exchange_signal.new.capture ≡ with_moved_signal v.signal now = c.in-Ok.ensures.there ∙ ap (with_moved_signal v.signal) c.reserve_all.ensures.contents in
     let signal : moved_signal_view c.in-Ok.signal ≡ opposite_move v.signal now = c.in-Ok.ensures.back ∙ ap (opposite_move v.signal) c.reserve_all.ensures.contents in
     let q = record_view c.exchange_pieces.new.pieces.items c.exchange_word-word.result c.in-Ok.signal c.exchange_end-other_end.result in
-    subst (λ r. LeadsOtherWay now r q) c.way.view_is
+    subst (λ r. IsInverse now r q) c.way.view_is
     (leads_then now v fits c.way.invariant c.requires.sound _ whole (contents c.exchange_signal.new.capture) moved (contents c.exchange_pieces.new.capture) c.exchange_pieces.ensures.there
     (contents c.exchange_word-word.new.capture) (contents c.exchange_end-other_end.new.capture) c.exchange_word-word.ensures.there c.exchange_end-other_end.ensures.there c.exchange_pieces.ensures.back.0 c.exchange_pieces.ensures.back.2 q
     c.exchange_pieces.ensures.back.1 c.exchange_word-word.ensures.back signal c.exchange_end-other_end.ensures.back)

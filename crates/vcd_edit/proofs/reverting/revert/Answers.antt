@@ -1,12 +1,12 @@
 use Rattle.std.proofs.lemmas.Result.{IfOk-weaker}
 use Rattle.vcd_core.specs.Contents.{contents}
 use Rattle.vcd_edit.specs.Touched.{piece_offset}
-use Rattle.vcd_edit.specs.inside.Opposites.{LeadsOtherWay}
+use Rattle.vcd_edit.specs.inside.Opposites.{IsInverse}
 use Rattle.vcd_edit.proofs.TouchedSums.{own_offsets}
 use Rattle.vcd_edit.proofs.reverting.revert.Goals as goal
 
 pub returns-clause-bound : goal.returns-clause-bound
 returns-clause-bound c =
     let way = c.args.way in
-    IfOk-weaker c.exchange_record.result (LeadsOtherWay (contents c.args.capture.now) way) _ (λ q leads. leads.stored (piece_offset way.pieces) (own_offsets way.pieces c.exchange_record.ensures.apart))
+    IfOk-weaker c.exchange_record.result (IsInverse (contents c.args.capture.now) way) _ (λ q leads. leads.stored (piece_offset way.pieces) (own_offsets way.pieces c.exchange_record.ensures.apart))
     c.exchange_record.ensures.opposite

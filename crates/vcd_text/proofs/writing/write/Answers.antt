@@ -7,7 +7,7 @@ use Rattle.vcd_core.specs.declared.capture.Signal.{Signal}
 use Rattle.vcd_core.specs.Contents.{contents, signal_contents}
 use Rattle.vcd_text.specs.Text.{end_items, first_items, item_line, text, tick_items}
 use Rattle.vcd_text.specs.inside.TextParts.{declarations_text}
-use Rattle.vcd_text.specs.inside.Written.{IsWritten}
+use Rattle.vcd_text.specs.inside.Written.{HasEmitted}
 use Rattle.vcd_text.proofs.TextLengths.{text_countable}
 use Rattle.vcd_text.proofs.Texts.{whole_text}
 use Rattle.vcd_text.proofs.Written.{whole_written, writes_as, writes_both}
@@ -20,7 +20,7 @@ on_ok (Err e) f p = tt
 
 -- the whole text is written
 all_written : (g : given.Over) (c : goal.After-drop-window-3 g)
-    → IsWritten (g.W.Sink.taken c.args.writer.now) (g.W.Sink.taken c.write_transitions.new.writer) (g.W.Sink.has_failed c.write_transitions.new.writer) c.write_transitions.new.buffer (text (contents c.args.capture.now))
+    → HasEmitted (g.W.Sink.taken c.args.writer.now) (g.W.Sink.taken c.write_transitions.new.writer) (g.W.Sink.has_failed c.write_transitions.new.writer) c.write_transitions.new.buffer (text (contents c.args.capture.now))
 all_written g c =
     let declarations = declarations_text (contents c.args.capture.now) in
     let rest : List Signal → ℕ → List ℕ = λ signals end.

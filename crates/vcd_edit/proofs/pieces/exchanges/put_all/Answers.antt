@@ -1,9 +1,9 @@
 use Rattle.std.proofs.Common.{◌≡◌, ◌≢◌, ◌∙◌, ◌<◌, ℕ, refl, subst, sym, ap, length, arith}
 use Rattle.vcd_core.specs.Contents.{contents, signal_at}
 use Rattle.vcd_edit.specs.declared.record.Piece.{Piece}
-use Rattle.vcd_edit.specs.Back.{with_piece, with_pieces}
+use Rattle.vcd_edit.specs.AppliedRecords.{with_piece, with_pieces}
 use Rattle.vcd_edit.specs.inside.Records.{piece_view}
-use Rattle.vcd_edit.specs.inside.Exchanges.{LeadsBack, PieceReadyIn, wave_at, HasRoomForPiece}
+use Rattle.vcd_edit.specs.inside.Exchanges.{IsInversePiece, PieceReadyIn, wave_at, HasRoomForPiece}
 use Rattle.vcd_edit.proofs.PieceLoops.{next_ready, next_room, put_more}
 use Rattle.vcd_edit.proofs.pieces.exchanges.put_all.Goals as goal
 
@@ -34,8 +34,8 @@ loop-piece-preserved c =
     let e = c.put_one.ensures in
     let inside : l.piece-index < length l.pieces = omega arith in
     let there : contents c.put_one.new.capture ≡ with_piece (contents l.capture) (piece_view x) = e.there ∙ ap (λ p. with_piece (contents l.capture) (piece_view p)) (sym c.piece-item.is) in
-    let back : LeadsBack (signal_at (contents l.capture) x.signal).changes (piece_view x) (piece_view c.put_one.new.piece) =
-    subst (λ (p : Piece). LeadsBack (signal_at (contents l.capture) p.signal).changes (piece_view p) (piece_view c.put_one.new.piece)) (sym c.piece-item.is) e.back in
+    let back : IsInversePiece (signal_at (contents l.capture) x.signal).changes (piece_view x) (piece_view c.put_one.new.piece) =
+    subst (λ (p : Piece). IsInversePiece (signal_at (contents l.capture) p.signal).changes (piece_view p) (piece_view c.put_one.new.piece)) (sym c.piece-item.is) e.back in
     let others : (k : ℕ) → k ≢ x.signal → wave_at c.put_one.new.capture.signals k ≡ wave_at l.capture.signals k =
     subst (λ (p : Piece). (k : ℕ) → k ≢ p.signal → wave_at c.put_one.new.capture.signals k ≡ wave_at l.capture.signals k) (sym c.piece-item.is) e.others in
     put_more (contents c.args.capture.now) c.args.pieces.now l.pieces l.piece-index x c.put_one.new.piece (contents l.capture) (contents c.put_one.new.capture)

@@ -9,13 +9,13 @@ use Rattle.vcd_text.proofs.LetterWords.{RowsHold, rows_more, letters_more, no_le
 use Rattle.vcd_text.proofs.reading.binary_number.extended_value.Goals as goal
 
 -- behind the last digit there is none
-none_behind : (digits : List ℕ) → list_all is_binary_digit (drop (length digits - 0) digits) ≡ list_all is_binary_digit []
-none_behind digits = ap (list_all is_binary_digit) (drop_all (length digits - 0) digits (omega arith))
+none_after : (digits : List ℕ) → list_all is_binary_digit (drop (length digits - 0) digits) ≡ list_all is_binary_digit []
+none_after digits = ap (list_all is_binary_digit) (drop_all (length digits - 0) digits (omega arith))
 
 pub loop-k-init : goal.loop-k-init
 loop-k-init c = record {
   rows = record { low = λ i below. absurd (omega arith); high = λ i below. absurd (omega arith) };
-  letters = none_behind c.args.digits.now;
+  letters = none_after c.args.digits.now;
   sized = refl;
   sized_high = refl;
 }

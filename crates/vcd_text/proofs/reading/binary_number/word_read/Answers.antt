@@ -7,7 +7,7 @@ use Rattle.vcd_core.specs.declared.bit.Bit.{Bit}
 use Rattle.vcd_text.specs.declared.reading.binary_number.LetterWord.{LetterWord}
 use Rattle.vcd_text.specs.Letters.{is_binary_digit, letters_of_digits}
 use Rattle.vcd_text.specs.inside.LetterWords.{HoldsLetters, AddsLetters}
-use Rattle.vcd_text.proofs.LetterWords.{eight_at, eight_more, holds_both, both_are_digits, not_all_behind, not_all_before}
+use Rattle.vcd_text.proofs.LetterWords.{eight_at, eight_more, holds_both, both_are_digits, not_all_after, not_all_before}
 use Rattle.vcd_text.proofs.reading.binary_number.word_read.Goals as goal
 
 -- the digits of one of the eights
@@ -21,7 +21,7 @@ returns-in_err-word c =
     let i = c.loop-eight.eight-index in
     let at = eight_digits digits _ i c.as_chunks.ensures.front (omega (arith, c.loop-eight-test.true, c.as_chunks.ensures.front_len)) in
     let none : list_all is_binary_digit digits ≡ false =
-    not_all_behind (8 * i) digits (not_all_before 8 (drop (8 * i) digits) (sym (ap (list_all is_binary_digit) at) ∙ c.in_err-word.ensures)) in
+    not_all_after (8 * i) digits (not_all_before 8 (drop (8 * i) digits) (sym (ap (list_all is_binary_digit) at) ∙ c.in_err-word.ensures)) in
     search rules
 
 pub loop-eight-preserved : goal.loop-eight-preserved
@@ -44,9 +44,9 @@ of_the_rest : (pad : Bit) (digits : List ℕ) (n low high : ℕ) (o : Option Let
     → MatchOption o (list_all is_binary_digit (drop n digits) ≡ false)
     (λ w. (list_all is_binary_digit (drop n digits) ≡ true) × AddsLetters (letters_of_digits (drop n digits)) low high w.low w.high)
     → MatchOption o (list_all is_binary_digit digits ≡ false) (λ w. (list_all is_binary_digit digits ≡ true) × HoldsLetters pad (letters_of_digits digits) w.low w.high)
-of_the_rest pad digits n low high None letters holds none = not_all_behind n digits none
-of_the_rest pad digits n low high (Some w) letters holds (behind, adds) = (
-  both_are_digits (take n digits) (drop n digits) digits (take-append-drop n digits) letters behind,
+of_the_rest pad digits n low high None letters holds none = not_all_after n digits none
+of_the_rest pad digits n low high (Some w) letters holds (following, adds) = (
+  both_are_digits (take n digits) (drop n digits) digits (take-append-drop n digits) letters following,
   holds_both pad (take n digits) (drop n digits) digits low high w.low w.high (take-append-drop n digits) holds adds,
 )
 

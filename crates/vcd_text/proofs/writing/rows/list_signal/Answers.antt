@@ -13,7 +13,7 @@ use Rattle.vcd_text.specs.inside.Windows.{listed_transition, transitions_of}
 use Rattle.vcd_text.proofs.WaveChanges.{wide_at}
 use Rattle.vcd_text.proofs.Listing.{count_to}
 use Rattle.vcd_text.proofs.Near.{value_standing}
-use Rattle.vcd_text.proofs.NextChanges.{behind_next, first_transition, stays_next, still_window}
+use Rattle.vcd_text.proofs.NextChanges.{after_next, first_transition, stays_next, still_window}
 use Rattle.vcd_text.proofs.Rows.{is_listed, listed_more, one_put}
 use Rattle.vcd_text.proofs.writing.rows.list_signal.Goals as goal
 
@@ -26,20 +26,20 @@ returns-then-next-to-clause-all c =
 pub returns-then-next-to-clause-next : goal.returns-then-next-to-clause-next
 returns-then-next-to-clause-next c = stays_next c.args.from c.args.to c.args.wave.now.changes c.args.next c.requires.next c.requires.from c.requires.order (omega arith)
 
-pub place_behind-start-requires : goal.place_behind-start-requires
-place_behind-start-requires c = subst (λ (l : List Change). c.args.next.place < length l) (sym c.changes.ensures.changes) (c.requires.next.inside (omega arith))
+pub place_after-start-requires : goal.place_after-start-requires
+place_after-start-requires c = subst (λ (l : List Change). c.args.next.place < length l) (sym c.changes.ensures.changes) (c.requires.next.inside (omega arith))
 
-pub list_behind-requires-clause-start : goal.list_behind-requires-clause-start
-list_behind-requires-clause-start c =
+pub list_after-requires-clause-start : goal.list_after-requires-clause-start
+list_after-requires-clause-start c =
     let cs = c.args.wave.now.changes in
     let next = c.args.next in
     let here : next.tick ≡ next.tick + 1 - 1 = omega arith in
-    c.place_behind-start.ensures
-    ∙ behind_next c.args.from 0 (all_x c.args.wave.now.width) cs next c.requires.form.rise c.requires.next (c.requires.next.inside (omega arith))
+    c.place_after-start.ensures
+    ∙ after_next c.args.from 0 (all_x c.args.wave.now.width) cs next c.requires.form.rise c.requires.next (c.requires.next.inside (omega arith))
     ∙ ap (λ t. count_to t cs) here
 
 -- the first transition of the window, and the others
-first : (c : goal.After-list_behind) → window_of_signal c.args.from c.args.to c.args.position c.args.wave.now.changes
+first : (c : goal.After-list_after) → window_of_signal c.args.from c.args.to c.args.position c.args.wave.now.changes
     ≡ transition_of c.args.next.tick c.args.position ∷ window_of_signal (c.args.next.tick + 1) c.args.to c.args.position c.args.wave.now.changes
 first c =
     first_transition c.args.from c.args.to c.args.position 0 (all_x c.args.wave.now.width) c.args.wave.now.changes c.args.next c.requires.form.rise c.requires.next (c.requires.next.inside (omega arith))
@@ -58,7 +58,7 @@ returns-clause-all c =
     let row = c.args.row.now.items in
     let rest = window_of_signal (c.args.next.tick + 1) c.args.to c.args.position c.args.wave.now.changes in
     let is : listed_transition m ≡ transition_of c.args.next.tick c.args.position = λ i. transition_of (c.listed_change.ensures.change i).tick (c.listed_change.ensures.position i) in
-    IfSome_then c.list_behind.result c.list_behind.ensures.all
+    IfSome_then c.list_after.result c.list_after.ensures.all
     (λ _ all. all ∙ one_put row c.push_in_room.new.list.items m (transition_of c.args.next.tick c.args.position) rest c.push_in_room.ensures.items is ∙ ap (λ l. transitions_of row ++ l) (sym (first c)))
 
 pub returns-clause-listed : goal.returns-clause-listed
@@ -73,7 +73,7 @@ returns-clause-listed c = λ signals inside values before.
     let value = values x.tick ∙ value_standing 0 (all_x width) cs next.place x.tick (change 0 []) c.requires.form.rise there refl in
     let wide = c.listed_change.ensures.width ∙ c.width.ensures.width ∙ sym (wide_at width cs next.place (change 0 []) c.requires.form there) in
     let here = is_listed signals c.args.position x m c.listed_change.ensures.position keeps wide (omega (arith, c.listed_change.ensures.width, c.width.ensures.least)) inside value in
-    c.list_behind.ensures.listed signals inside values (listed_more signals m c.args.row.now.items c.push_in_room.new.list.items here c.push_in_room.ensures.items before)
+    c.list_after.ensures.listed signals inside values (listed_more signals m c.args.row.now.items c.push_in_room.new.list.items here c.push_in_room.ensures.items before)
 
 pub returns-clause-full : goal.returns-clause-full
 returns-clause-full c =
@@ -81,4 +81,4 @@ returns-clause-full c =
     let whole = window_of_signal c.args.from c.args.to c.args.position c.args.wave.now.changes in
     let grown = ap (length {A = ListedTransition}) c.push_in_room.ensures.items ∙ length_push c.args.row.now.items c.listed_change.result in
     let same : length c.push_in_room.new.list.items + length rest ≡ length c.args.row.now.items + length whole = omega (arith, grown, ap (length {A = Transition}) (first c)) in
-    subst (λ n. IfNone c.list_behind.result (c.args.room < n)) same c.list_behind.ensures.full
+    subst (λ n. IfNone c.list_after.result (c.args.room < n)) same c.list_after.ensures.full

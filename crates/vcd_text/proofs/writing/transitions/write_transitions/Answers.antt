@@ -22,17 +22,17 @@ pub loop-from-preserved : goal.loop-from-preserved
 loop-from-preserved g c =
     let signals = map signal_contents c.args.signals.now in
     let window = c.fill_window-count in
-    let behind : c.loop-from.from + window.result ≤ c.args.end + 1 = omega (arith, window.ensures.most, c.min-ticks.ensures) in
+    let following : c.loop-from.from + window.result ≤ c.args.end + 1 = omega (arith, window.ensures.most, c.min-ticks.ensures) in
     record {
       text =
           front_grows _ c.loop-from.invariant.text c.write_listed-last.ensures.text
           (window_walked signals c.args.end c.loop-from.last c.write_listed-last.result c.loop-from.from window.result _
-          ((λ p. in_order (c.as_slice.ensures.value p) (c.as_slice-in-loop-from.ensures.value p)) ∙ window.ensures.all) c.write_listed-last.ensures.last behind);
+          ((λ p. in_order (c.as_slice.ensures.value p) (c.as_slice-in-loop-from.ensures.value p)) ∙ window.ensures.all) c.write_listed-last.ensures.last following);
       next = window.ensures.next;
       row = omega (arith, c.loop-from.invariant.row, window.ensures.room);
       order = omega (arith, c.loop-from.invariant.order, window.ensures.order);
       from = omega (arith, c.loop-from.invariant.from);
-      within = behind;
+      within = following;
       some = c.next_most-most.ensures;
     }
 

@@ -1,7 +1,7 @@
 -- A letter that is not spare begins the short form; so does the last.
 use Rattle.std.proofs.Common.{◌≡◌, ◌+◌, ◌-◌, ◌*◌, ◌/◌, ◌≤◌, ℕ, length, drop, refl, sym, ap, subst, ◌∙◌, arith, inl, inr}
 use Rattle.vcd_text.proofs.LetterBits.{HoldsFrom, IsKept, is_spare_in}
-use Rattle.vcd_text.proofs.ShortForms.{left_out, short_is, shortened, stays, told_at, word_left_out, word_stays}
+use Rattle.vcd_text.proofs.ShortForms.{left_out, short_is, shortened, stays, state_at, word_left_out, word_stays}
 use Rattle.vcd_text.proofs.writing.values.kept_letters.Goals as goal
 
 pub returns-then-kept-gt1-clause-rest : goal.returns-then-kept-gt1-clause-rest
@@ -38,7 +38,7 @@ returns-then-not-is_spare-clause-rest c =
     let place : below + 1 - 2 ≡ below - 1 = omega arith in
     sym (stays v (below + 1) (omega arith) (omega (arith, c.loop-left.invariant.within)) (λ more.
     ap (is_spare_in v) place
-    ∙ told_at v below _ _ _ _ (omega (arith, c.loop-left-test.true)) c.bit.ensures c.bit-in-loop-left.ensures c.is_spare.ensures c.if-not-is_spare.true))
+    ∙ state_at v below _ _ _ _ (omega (arith, c.loop-left-test.true)) c.bit.ensures c.bit-in-loop-left.ensures c.is_spare.ensures c.if-not-is_spare.true))
     ∙ ap (λ n. shortened (drop (length v - n) v)) (sym one)
     ∙ sym (word_left_out v below _ _ left kept holds (omega arith) (omega arith) c.loop-left.invariant.within is)
     ∙ c.loop-left.invariant.spare ∙ sym (short_is v)
@@ -63,7 +63,7 @@ loop-left-preserved c =
           sym (left_out v (below + 1) below some (omega arith) (omega (arith, c.loop-left.invariant.within)) (λ i past within.
           let here : i ≡ below - 1 = omega arith in
           ap (is_spare_in v) here
-          ∙ told_at v below _ _ _ _ some c.bit.ensures c.bit-in-loop-left.ensures c.is_spare.ensures c.if-not-is_spare.false))
+          ∙ state_at v below _ _ _ _ some c.bit.ensures c.bit-in-loop-left.ensures c.is_spare.ensures c.if-not-is_spare.false))
           ∙ ap (λ n. shortened (drop (length v - n) v)) (sym one)
           ∙ sym (word_left_out v below _ _ left kept holds (omega arith) (omega arith) c.loop-left.invariant.within is)
           ∙ c.loop-left.invariant.spare;

@@ -5,14 +5,14 @@ use Rattle.vcd_core.specs.Contents.{signal_contents}
 use Rattle.vcd_text.specs.declared.writing.kept_changes.KeptChange.{KeptChange}
 use Rattle.vcd_text.specs.declared.writing.rows.TheConstants.{AHEAD}
 use Rattle.vcd_text.specs.inside.NextChanges.{IsNext}
-use Rattle.vcd_text.specs.inside.Transitions.{window_by_signal}
+use Rattle.vcd_text.specs.inside.Transitions.{unsorted_window}
 use Rattle.vcd_text.specs.inside.Windows.{IsListed, transitions_of}
 use Rattle.vcd_text.proofs.writing.windows.fill_row.Given as goal
 
 abbrev pub invariant-loop-position : goal.invariant-loop-position
 invariant-loop-position l =
     record {
-      all : transitions_of l.row.items ++ window_by_signal l.from l.to l.position (map signal_contents (drop l.position l.signals)) ≡ window_by_signal l.from l.to 0 (map signal_contents l.signals);
+      all : transitions_of l.row.items ++ unsorted_window l.from l.to l.position (map signal_contents (drop l.position l.signals)) ≡ unsorted_window l.from l.to 0 (map signal_contents l.signals);
       listed : All (IsListed (map signal_contents l.signals)) l.row.items;
       guesses : length l.guesses ≡ AHEAD;
       all_next : length l.nexts ≡ length l.signals;

@@ -3,7 +3,7 @@ use Rattle.std.proofs.Common.{◌≢◌, ◌<◌, ◌+◌, inl, inr, if◌then�
 use Rattle.std.proofs.lemmas.List.{length-map}
 use Rattle.vcd_core.specs.Contents.{signal_contents}
 use Rattle.vcd_text.specs.inside.NextChanges.{AreNext}
-use Rattle.vcd_text.specs.inside.Transitions.{window_by_signal}
+use Rattle.vcd_text.specs.inside.Transitions.{unsorted_window}
 use Rattle.vcd_text.proofs.Counts.{one_tick_within}
 use Rattle.vcd_text.proofs.writing.windows.fill_some.Goals as goal
 
@@ -14,7 +14,7 @@ loop-count-preserved c =
     let more : c.loop-count.count ≢ 1 = λ only. elim (c.fill_ticks.ensures.full c.loop-count-test.true) [
       | inl far ↦ omega (arith, far, only)
       | inr over ↦
-          omega (arith, subst (λ n. c.args.room < length (window_by_signal c.args.from (c.args.from + n) 0 signals)) only over, one, length-map c.args.signals.now signal_contents, c.requires.all)
+          omega (arith, subst (λ n. c.args.room < length (unsorted_window c.args.from (c.args.from + n) 0 signals)) only over, one, length-map c.args.signals.now signal_contents, c.requires.all)
     ] in
     record {
       next = subst (λ b. AreNext (if b then c.args.from + c.loop-count.count else c.args.from) c.args.signals.now c.fill_ticks.new.nexts) c.loop-count-test.true c.fill_ticks.ensures.next;

@@ -1,7 +1,7 @@
 use Rattle.std.proofs.Common.{Err, List, ℕ, refl, subst}
 use Rattle.std.proofs.lemmas.Result.{IfOk-weaker}
 use Rattle.vcdedit.specs.inside.Answering.{AnswersCommand, AnswersLine}
-use Rattle.vcdedit.specs.inside.Replies.{TellsReply}
+use Rattle.vcdedit.specs.inside.Replies.{IsReplyTo}
 use Rattle.vcdedit.proofs.Answered.{line_asks, line_stays}
 use Rattle.vcdedit.proofs.replies.answering.answer_line.Goals as goal
 
@@ -18,7 +18,7 @@ pub returns-in-Err-clause-answers : goal.returns-in-Err-clause-answers
 returns-in-Err-clause-answers c =
     let old = c.args.session.now in
     let read = rw (c.capture.ensures.now) at c.in-Err.ensures.fault in
-    IfOk-weaker c.refused.result (λ reply. TellsReply c.args.number (Err c.name.result.now) reply) (λ reply. AnswersLine c.args.skipped c.args.number c.args.line.now old old reply)
+    IfOk-weaker c.refused.result (λ reply. IsReplyTo c.args.number (Err c.name.result.now) reply) (λ reply. AnswersLine c.args.skipped c.args.number c.args.line.now old old reply)
     (λ reply tells. line_stays c.args.skipped c.args.number c.args.line.now (Err c.in-Err.fault) old reply read refl
-    (subst (λ (name : List ℕ). TellsReply c.args.number (Err name) reply) c.name.ensures tells))
+    (subst (λ (name : List ℕ). IsReplyTo c.args.number (Err name) reply) c.name.ensures tells))
     c.refused.ensures

@@ -6,7 +6,7 @@ use Rattle.vcd_text.specs.declared.fault.Fault.TheVariants as faults
 use Rattle.vcd_text.specs.declared.fault.ReadError.{ReadError}
 use Rattle.vcd_text.specs.declared.reading.chunks.Progress.{Progress}
 use Rattle.vcd_text.specs.Refusals.{IsRefusal}
-use Rattle.vcd_text.specs.inside.Chunks.{HasTaken, StandsAt}
+use Rattle.vcd_text.specs.inside.Chunks.{HasTaken, ProgressMatches}
 use Rattle.vcd_text.proofs.Chunks.{has_come, shown_early, is_no_failure, full, broken}
 use Rattle.vcd_text.proofs.reading.chunks.Progress.take_chunk.Goals as goal
 
@@ -43,7 +43,7 @@ returns-in_err-take_words-clause-refused g c =
     let now : Progress = record p { buffer = c.read_from.new.self; left = p.left - c.in-Ok.count } in
     let refused = err_from_is_err_and c.from_residual-in_err-take_words.result c.from_residual-in_err-take_words.ensures.1 in
     let source = c.read_from.new.source in
-    subst (λ r. IfErr r (λ (e : ReadError). (coming : Option (List ℕ)) → StandsAt coming (g.R.Source.coming c.args.source.now) p
+    subst (λ r. IfErr r (λ (e : ReadError). (coming : Option (List ℕ)) → ProgressMatches coming (g.R.Source.coming c.args.source.now) p
     → IfSome coming (λ file. IsRefusal file (g.R.Source.has_failed source) (g.R.Source.coming source) e))) (sym (refused.1 ∙ ap Err refused.2))
     (λ coming stands.
     let (bytes, first, taken) = stands in

@@ -1,5 +1,5 @@
 use Rattle.std.proofs.Common.{[], refl}
-use Rattle.vcd_text.specs.Grammar.{nothing_told}
+use Rattle.vcd_text.specs.Grammar.{initial_state}
 use Rattle.vcd_text.proofs.reading.reader.Reader.new.Goals as goal
 
 pub returns : goal.returns
@@ -7,7 +7,7 @@ returns c = record {
   items = [];
   whole = [];
   begun = [];
-  told = nothing_told;
+  told = initial_state;
   parts = refl;
   spelled = refl;
   allowed = tt;
@@ -19,7 +19,7 @@ returns c = record {
       scopes = c.new-2.ensures;
       changing = refl;
       tick = refl;
-      variables = c.new-3.ensures nothing_told refl refl;
+      variables = c.new-3.ensures initial_state refl refl;
       silent = λ _. refl;
     },
     refl,

@@ -3,7 +3,7 @@ use Rattle.std.specs.Vec.{with_item}
 use Rattle.std.proofs.lemmas.Result.{err_from_is_err_and}
 use Rattle.std.proofs.lemmas.List.Elements.{All-weaker}
 use Rattle.vcd_core.specs.declared.wave.Change.{Change}
-use Rattle.vcd_text.specs.inside.Variables.{Sets, TakesChange}
+use Rattle.vcd_text.specs.inside.Variables.{Sets, ChangeResult}
 use Rattle.vcd_text.specs.declared.reading.change_log.LoggedChange.{LoggedChange}
 use Rattle.vcd_text.specs.declared.reading.variables.Variable.{Variable}
 use Rattle.vcd_text.proofs.ChangedVariables.{own_wave, read_is, width_is, wave_late, refused, wide_changes, narrow_changes}
@@ -36,7 +36,7 @@ returns-in_err-word c = λ told code tick k had.
     let digits = c.args.digits.now in
     let width = c.index-width.result.now in
     let failed = err_from_is_err_and c.from_residual.result c.from_residual.ensures.1 in
-    subst (λ r. TakesChange told code digits r old) (sym (failed.1 ∙ ap Err failed.2))
+    subst (λ r. ChangeResult told code digits r old) (sym (failed.1 ∙ ap Err failed.2))
     (inr (refused old told code digits c.args.first k had width c.in_err-word.field-0.0 (width_is old told code digits c.args.first k had width c.index-width.ensures) c.in_err-word.ensures))
 
 pub returns : goal.returns

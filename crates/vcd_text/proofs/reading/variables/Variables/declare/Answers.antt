@@ -16,9 +16,9 @@ returns-then-is_skipped c = λ told value_changes k.
     let size = c.size-item.result in
     let code = c.code-item.result in
     let front = words_in_front words kind size code c.in-len3-up.len_at_least c.kind-item.is c.size-item.is c.code-item.is in
-    let behind = take_rest words 3 in
+    let following = take_rest words 3 in
     let other = eqb-false _ 0 (sym c.is_empty.ensures ∙ c.if-is_empty.false) in
-    let some : 0 < length (drop 3 words) = omega (arith, other, ap (length {A = List ℕ}) behind) in
+    let some : 0 < length (drop 3 words) = omega (arith, other, ap (length {A = List ℕ}) following) in
     let d = worded_declaration told kind size code (drop 3 words) in
     let read = c.in-Some.ensures.1 ∙ ap (λ word. min (number_of word) (WIDTH_LIMIT + 1)) c.as_slice.ensures in
     let skipped : is_skipped d ≡ true =
@@ -35,9 +35,9 @@ returns c = λ told value_changes k.
     let size = c.size-item.result in
     let code = c.code-item.result in
     let front = words_in_front words kind size code c.in-len3-up.len_at_least c.kind-item.is c.size-item.is c.code-item.is in
-    let behind = take_rest words 3 in
+    let following = take_rest words 3 in
     let other = eqb-false _ 0 (sym c.is_empty.ensures ∙ c.if-is_empty.false) in
-    let some : 0 < length (drop 3 words) = omega (arith, other, ap (length {A = List ℕ}) behind) in
+    let some : 0 < length (drop 3 words) = omega (arith, other, ap (length {A = List ℕ}) following) in
     let d = worded_declaration told kind size code (drop 3 words) in
     let read = c.in-Some.ensures.1 ∙ ap (λ word. min (number_of word) (WIDTH_LIMIT + 1)) c.as_slice.ensures in
     let tested =
@@ -50,7 +50,7 @@ returns c = λ told value_changes k.
       kind = signal.kind i;
       size = (signal.width ∙ kept_size (is_skipped_kind kind) (number_of size) c.in-Some.size read tested) i;
       code = c.as_slice-3.ensures i;
-      words = (signal.words ∙ behind) i;
+      words = (signal.words ∙ following) i;
     } in
     declares_words told words kind size code (drop 3 words) c.keep.result c.keep.new.self front some
     (subst (λ (e : VariableDeclaration). DeclaresAs told e c.keep.result c.keep.new.self) same (c.keep.ensures told told.scopes k value_changes (ap is_skipped same ∙ keeps)))

@@ -1,0 +1,135 @@
+//! Whether a piece leads from one wave to another.
+
+ghost use Rattle.std.specs.Prelude.{◌≡◌, ◌↔◌, ℕ, List, ◌+◌, ◌≤◌, nat_le, length, take, map, All, IsTrue};
+ghost use Rattle.vcd_core.specs.Splice.{moved_change, TickFits, AllTicksFit};
+ghost use Rattle.vcd_core.specs.Wave.{last_value, AreChangesFrom, AllUpTo};
+ghost use Rattle.vcd_core.specs.declared.bit.Bit.{Bit as BitLetter};
+ghost use Rattle.vcd_edit.specs.inside.Adjacency.{floor_after, value_following, may_follow, may_all_follow, MovesTo, IsValidPiece};
+ghost use Rattle.vcd_edit.specs.inside.Records.{piece_view};
+
+use crate::record::Piece;
+use vcd_core::{Change, WIDTH_LIMIT, Wave, ends_by, last_value, moved_change};
+
+/// Whether a tick is free behind the changes.
+fn is_free(before: &[Change], tick: u64) -> bool
+    ensures { result ≡ nat_le (floor_after 0 before.now) tick }
+{
+    match before.split_last() {
+        Some((last, _)) => last.tick < tick,
+        None => true,
+    }
+}
+
+/// Whether a change may stand right behind the changes before it.
+fn may_follow(before: &[Change], width: u64, change: &Change) -> bool
+    requires least { 1 ≤ width }
+    requires most { width ≤ WIDTH_LIMIT }
+    ensures { result
+        ≡ may_follow (floor_after 0 before.now) (value_following width before.now) change.now }
+{
+    let last = last_value(before, width);
+    is_free(before, change.tick) && change.value != last && change.value.width() == last.width()
+}
+
+/// The changes right behind which the one at `index` stands: those before it, or `before` where it is the first.
+fn changes_after<'a>(before: &'a [Change], changes: &'a [Change], index: usize) -> &'a [Change]
+    requires { index ≤ length changes.now }
+    ensures floor { floor_after 0 result.now
+        ≡ floor_after (floor_after 0 before.now) (take index changes.now) }
+    ensures value { (width : ℕ) → value_following width result.now
+        ≡ last_value (value_following width before.now) (take index changes.now) }
+{
+    if index == 0 {
+        before
+    } else {
+        &changes[..index]
+    }
+}
+
+/// Whether changes may stand right behind others, one after another.
+fn may_all_follow(before: &[Change], width: u64, changes: &[Change]) -> bool
+    requires least { 1 ≤ width }
+    requires most { width ≤ WIDTH_LIMIT }
+    ensures { result
+        ≡ may_all_follow (floor_after 0 before.now) (value_following width before.now) changes.now }
+{
+    for i in 0..changes.len() {
+        if !may_follow(changes_after(before, changes, i), width, &changes[i]) {
+            return false;
+        }
+    }
+    true
+}
+
+/// Whether a tick may move by `by` ticks, to one up to the end.
+fn moves_to(tick: u64, by: i64, end: u64) -> bool
+    ensures { IsTrue result ↔ MovesTo by end tick }
+{
+    match tick.checked_add_signed(by) {
+        Some(later) => later <= end,
+        None => false,
+    }
+}
+
+/// Whether all changes may move by `by` ticks, to ticks up to the end: the first and the last tell.
+fn all_move_to(changes: &[Change], by: i64, end: u64) -> bool
+    requires { (floor : ℕ) × (before : List BitLetter) × AreChangesFrom floor before changes.now }
+    ensures { IsTrue result ↔ All (λ c. MovesTo by end c.tick) changes.now }
+{
+    let count = changes.len();
+    if count == 0 {
+        return true;
+    }
+    moves_to(changes[0].tick, by, end) && moves_to(changes[count - 1].tick, by, end)
+}
+
+/// Whether the first of the later changes, once moved, may stand right behind the changes before it.
+fn may_come_next(before: &[Change], width: u64, later: &[Change], by: i64) -> bool
+    requires least { 1 ≤ width }
+    requires most { width ≤ WIDTH_LIMIT }
+    requires fit { AllTicksFit by later.now }
+    ensures { result ≡ may_all_follow (floor_after 0 before.now) (value_following width before.now)
+        (map (moved_change by) (take 1 later.now)) }
+{
+    if later.is_empty() {
+        return true;
+    }
+    may_follow(before, width, &moved_change(&later[0], by))
+}
+
+/// Whether the piece's part stands within the changes of the wave, and what the piece makes of them is a wave
+/// up to the end.
+///
+/// It looks at the piece, at the two seams and at the last change, and takes no memory.
+pub(crate) fn is_valid_piece(piece: &Piece, wave: &Wave, end: u64) -> bool
+    ensures { IsTrue result ↔ IsValidPiece wave.now.width end wave.now.changes
+        (piece_view piece.now) }
+{
+    let changes = wave.changes();
+    let width = wave.width();
+    if piece.from > piece.to || piece.to > changes.len() {
+        return false;
+    }
+    let front = &changes[..piece.from];
+    let later = &changes[piece.to..];
+    let list = piece.changes.as_slice();
+    // One test after another, each with its own exit: what a passed one shows, the next ones ask for.
+    if !all_move_to(later, piece.by, end) {
+        return false;
+    }
+    if !may_all_follow(front, width, list) {
+        return false;
+    }
+    if !may_come_next(
+        changes_after(front, list, list.len()),
+        width,
+        later,
+        piece.by,
+    ) {
+        return false;
+    }
+    if !ends_by(front, end) {
+        return false;
+    }
+    ends_by(list, end)
+}

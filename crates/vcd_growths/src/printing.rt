@@ -1,0 +1,118 @@
+//! What is written of a call and of what it left.
+
+ghost use Rattle.vcd_core.specs.Contents.{contents};
+ghost use Rattle.vcd_core.specs.Sound.{IsSound};
+
+use std::alloc::{AllocError, AllocFailed};
+use std::io;
+use std::io::Write;
+use std::rt::Runtime;
+use vcd_core::{Capture, NoMemory, ToWrite, Wave};
+use vcd_edit::Edit;
+use vcd_journal::{DEPTH_LIMIT, Session, Step};
+use vcd_text::write;
+
+/// The words are not understood, or something but the call itself failed.
+#[derive(Clone, Copy, Debug)]
+pub struct Stopped;
+
+impl From<io::Error> for Stopped {
+    fn from(_fault: io::Error) -> Stopped {
+        Stopped
+    }
+}
+
+impl From<AllocError> for Stopped {
+    fn from(_refused: AllocError) -> Stopped {
+        Stopped
+    }
+}
+
+impl<T: Drop> From<AllocFailed<T>> for Stopped {
+    fn from(_refused: AllocFailed<T>) -> Stopped {
+        Stopped
+    }
+}
+
+impl From<NoMemory> for Stopped {
+    fn from(_refused: NoMemory) -> Stopped {
+        Stopped
+    }
+}
+
+/// Memory may be refused from here on.
+pub fn refuse<R: Runtime>(rt: &R) -> Result<(), Stopped> {
+    io::writer(rt).write_all(b"refuse\n")?;
+    Ok(())
+}
+
+/// What is told of a call that was not refused.
+pub const DONE: &str = "done";
+
+/// Memory is refused no more, and this became of the call: `DONE`, or the name of a fault.
+pub fn allow<R: Runtime>(rt: &R, outcome: &str) -> Result<(), Stopped> {
+    io::writer(rt).write_all(b"allow\n")?;
+    println!(rt; "{outcome}")?;
+    Ok(())
+}
+
+/// Each change of a wave.
+pub fn print_wave<R: Runtime>(rt: &R, wave: &Wave) -> Result<(), Stopped> {
+    for change in wave.changes() {
+        println!(rt; "{} {:?}", change.tick, change.value)?;
+    }
+    Ok(())
+}
+
+/// All of a capture: its text.
+pub fn print_capture<R: Runtime + AllocGlobal>(rt: &R, capture: &Capture) -> Result<(), Stopped>
+    requires { IsSound (contents capture.now) }
+{
+    match write(rt.alloc(), capture, &mut ToWrite::new(io::writer(rt))) {
+        Ok(()) => Ok(()),
+        Err(_) => Err(Stopped),
+    }
+}
+
+/// All of a session: the capture now, those that both histories lead to, and the depth.
+pub fn print_session<R: Runtime + AllocGlobal>(
+    rt: &R,
+    session: &mut Session,
+) -> Result<(), Stopped> {
+    print_now(rt, session)?;
+    print_way(rt, session, &Step::Undo)?;
+    print_way(rt, session, &Step::Redo)?;
+    print_depth(rt, session)
+}
+
+/// How many steps go back and forth, and the capture now.
+fn print_now<R: Runtime + AllocGlobal>(rt: &R, session: &Session) -> Result<(), Stopped> {
+    println!(rt; "{} back, {} forth", session.undoable(), session.redoable())?;
+    print_capture(rt, session.capture())
+}
+
+/// The captures that a step leads to, made until it is refused.
+fn print_way<R: Runtime + AllocGlobal>(
+    rt: &R,
+    session: &mut Session,
+    step: &Step,
+) -> Result<(), Stopped> {
+    for _ in 0..DEPTH_LIMIT {
+        if session.make_step(step).is_err() {
+            return Ok(());
+        }
+        print_now(rt, session)?;
+    }
+    Ok(())
+}
+
+/// The depth: how many of many steps are held.
+fn print_depth<R: Runtime>(rt: &R, session: &mut Session) -> Result<(), Stopped> {
+    for _ in 0..=DEPTH_LIMIT {
+        if session.apply(&Edit::Invert { signal: 0 }).is_err() {
+            return Err(Stopped);
+        }
+    }
+    println!(rt; "depth {}", session.undoable())?;
+    Ok(())
+}

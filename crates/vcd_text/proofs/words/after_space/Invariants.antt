@@ -1,0 +1,12 @@
+use Rattle.std.proofs.Common.{◌≡◌, ◌+◌, ◌≤◌, Bool, length}
+use Rattle.vcd_text.specs.Words.{words_from}
+use Rattle.vcd_text.specs.inside.WordWalk.{feeds}
+use Rattle.vcd_text.proofs.words.after_space.Given as goal
+
+abbrev pub invariant-loop-byte : goal.invariant-loop-byte
+invariant-loop-byte l =
+    ((whole : Bool) → words_from whole (l.lines + 1) l.rest ≡ words_from whole (l.passed + 1) l.text) × (l.lines + length l.rest ≤ l.passed + length l.text)
+    × (l.lines + feeds l.rest ≡ l.passed + feeds l.text)
+
+abbrev pub decreases-loop-byte : goal.decreases-loop-byte
+decreases-loop-byte l = length l.rest

@@ -1,0 +1,177 @@
+//! What the codes of a file stand for: by a map, and for short codes by a table as well.
+
+ghost use Rattle.std.specs.Prelude.{◌≡◌, ◌⊎◌, ◌+◌, ◌<◌, ◌≤◌, ◌^◌, ℕ, List, length, if◌then◌else◌, slice_get, Some, None, IfSome, IfOk, OnOk, bytes_eq};
+ghost use Rattle.vcd_text.specs.declared.reading.variables.CodeTarget.TheVariants.{Kept as KeptAt};
+ghost use Rattle.vcd_text.specs.inside.ShortCodes.{HasPlace, TableAgrees, code_target};
+
+use crate::reading::variables::CodeTarget;
+use indexmap::IndexMap;
+use std::alloc::Global;
+use vcd_core::{NoMemory, SIGNAL_LIMIT, copy_word};
+
+/// What the codes stand for.
+#[derive(Drop)]
+pub struct CodeTargets {
+    /// Each code, with what it stands for.
+    pub codes: IndexMap<Vec<u8>, CodeTarget>,
+    /// At the place of a short code, one more than the position that it stands for; 0 where that is not known.
+    pub short: Vec<u32>,
+    ghost agrees: { TableAgrees (code_target codes) short.items },
+}
+
+impl CodeTargets {
+    /// No codes. It takes no memory.
+    pub fn new(alloc: Global) -> CodeTargets
+        ensures { (code : List ℕ) → code_target result.codes code ≡ None }
+    {
+        CodeTargets {
+            codes: IndexMap::new(alloc),
+            short: Vec::new(alloc),
+        }
+    }
+
+    /// What a code stands for.
+    pub fn get(&self, code: &[u8]) -> Option<CodeTarget>
+        ensures { result ≡ code_target self.now.codes code.now }
+    {
+        if let Some(position) = self.position_of_short(code) {
+            return Some(CodeTarget::Kept(position));
+        }
+        target_in(&self.codes, code)
+    }
+
+    /// The position that a short code stands for, where the table knows it.
+    fn position_of_short(&self, code: &[u8]) -> Option<usize>
+        ensures { IfSome result (λ position.
+            code_target self.now.codes code.now ≡ Some (KeptAt position)) }
+    {
+        let place = short_place(code)?;
+        let number = *self.short.get(place)?;
+        if number == 0 {
+            return None;
+        }
+        Some(number as usize - 1)
+    }
+
+    /// Lets a code stand for this. The table is empty then.
+    pub fn insert(&mut self, alloc: Global, code: &[u8], target: CodeTarget) -> Result<(), NoMemory>
+        ensures { OnOk result ((key : List ℕ) → code_target self.new.codes key ≡
+            (if bytes_eq key code.now then Some target else code_target self.old.codes key)) }
+    {
+        let key = copy_word(alloc, code)?.into_vec();
+        self.short.clear();
+        self.codes.insert(key, target)?;
+        Ok(())
+    }
+
+    /// Makes the table: four bytes for each place up to that of the last short code.
+    pub fn make_table(&mut self, alloc: Global) -> Result<(), NoMemory>
+        ensures { self.new.codes ≡ self.old.codes }
+    {
+        self.short = table_of(alloc, &self.codes)?;
+        Ok(())
+    }
+}
+
+/// What a code stands for by the map.
+fn target_in(codes: &IndexMap<Vec<u8>, CodeTarget>, code: &[u8]) -> Option<CodeTarget>
+    ensures { result ≡ code_target codes.now code.now }
+{
+    codes.get(code).copied()
+}
+
+/// The table of the short codes of a map.
+fn table_of(alloc: Global, codes: &IndexMap<Vec<u8>, CodeTarget>) -> Result<Vec<u32>, NoMemory>
+    ensures { IfOk result (λ table.
+        TableAgrees (code_target codes.now) table.items) }
+{
+    let mut table = Vec::new(alloc);
+    for index in 0..codes.len() {
+        enter_at(&mut table, codes, index)?;
+    }
+    Ok(table)
+}
+
+/// Enters the code at an index of the map.
+fn enter_at(
+    table: &mut Vec<u32>,
+    codes: &IndexMap<Vec<u8>, CodeTarget>,
+    index: usize,
+) -> Result<(), NoMemory>
+    requires { TableAgrees (code_target codes.now) table.old.items }
+    ensures { OnOk result (TableAgrees (code_target codes.now) table.new.items) }
+{
+    let Some((code, _)) = codes.get_index(index) else {
+        return Ok(());
+    };
+    enter(table, codes, code.as_slice())
+}
+
+/// Enters a code where it is short and stands for a position.
+fn enter(
+    table: &mut Vec<u32>,
+    codes: &IndexMap<Vec<u8>, CodeTarget>,
+    code: &[u8],
+) -> Result<(), NoMemory>
+    requires { TableAgrees (code_target codes.now) table.old.items }
+    ensures { OnOk result
+        (TableAgrees (code_target codes.now) table.new.items) }
+{
+    let Some(place) = short_place(code) else {
+        return Ok(());
+    };
+    let Some(CodeTarget::Kept(position)) = target_in(codes, code) else {
+        return Ok(());
+    };
+    if position >= SIGNAL_LIMIT {
+        return Ok(());
+    }
+    put(table, place, position as u32 + 1)
+}
+
+/// Puts a number at a place, behind zeros where the table ends before it.
+fn put(table: &mut Vec<u32>, place: usize, number: u32) -> Result<(), NoMemory>
+    requires { place < 2 ^ 32 }
+    ensures { OnOk result ((i n : ℕ) → slice_get table.new.items i ≡ Some n → 0 < n →
+        ((i ≡ place) × (n ≡ number)) ⊎ (slice_get table.old.items i ≡ Some n)) }
+{
+    lengthen(table, place + 1)?;
+    table[place] = number;
+    Ok(())
+}
+
+/// Adds zeros to a table that is shorter.
+fn lengthen(table: &mut Vec<u32>, len: usize) -> Result<(), NoMemory>
+    ensures long { OnOk result (len ≤ length table.new.items) }
+    ensures same { OnOk result ((i n : ℕ) → slice_get table.new.items i ≡ Some n → 0 < n →
+        slice_get table.old.items i ≡ Some n) }
+{
+    if table.len() >= len {
+        return Ok(());
+    }
+    table.resize(len, 0)?;
+    Ok(())
+}
+
+/// The place of a code of one to three bytes, each from 1 to 127.
+fn short_place(code: &[u8]) -> Option<usize>
+    ensures place { IfSome result (HasPlace code.now) }
+    ensures few { IfSome result (λ place. place < 2 ^ 32) }
+{
+    match code {
+        [a] => Some(code_digit(*a)?),
+        [a, b] => Some(code_digit(*a)? + 128 * code_digit(*b)?),
+        [a, b, c] => Some(code_digit(*a)? + 128 * (code_digit(*b)? + 128 * code_digit(*c)?)),
+        _ => None,
+    }
+}
+
+/// A byte from 1 to 127.
+fn code_digit(byte: u8) -> Option<usize>
+    ensures { IfSome result (λ digit. (digit ≡ byte) × (0 < byte) × (byte < 128)) }
+{
+    if byte == 0 || byte >= 128 {
+        return None;
+    }
+    Some(usize::from(byte))
+}
