@@ -26,33 +26,46 @@ abbrev pub bit_walk_of : BitTrace → BitTrace → BitTrace → BitTrace → Ins
 bit_walk_of a b c d = record { a = a; b = b; c = c; d = d }
 
 -- where no change is left, no edge is
-pub bit_walk_over : (e : Inside) → EachRises 0 (bit_traces_left e) → next_tick_of (bit_traces_left e) ≡ None → bit_edges_left e ≡ []
+pub bit_walk_over : (e : Inside) → EachRises 0 (bit_traces_left e) → next_tick_of (bit_traces_left e) ≡ None
+    → bit_edges_left e ≡ []
 unfolding bit_edges_left
 bit_walk_over e rise next = ap (map bit_edge) (no_edges (bit_traces_left e) (reach (bit_traces_left e)) rise next)
 
 -- the tracks past a tick are the waves past it
-advanced : (e : Inside) (a b c d : BitTrace) (t : ℕ) → bit_trace_left a ≡ trace_after t (bit_trace_left e.a) → bit_trace_left b ≡ trace_after t (bit_trace_left e.b)
+advanced : (e : Inside) (a b c d : BitTrace) (t : ℕ) → bit_trace_left a ≡ trace_after t (bit_trace_left e.a)
+    → bit_trace_left b ≡ trace_after t (bit_trace_left e.b)
     → bit_trace_left c ≡ trace_after t (bit_trace_left e.c) → bit_trace_left d ≡ trace_after t (bit_trace_left e.d)
     → bit_traces_left (bit_walk_of a b c d) ≡ map (trace_after t) (bit_traces_left e)
 advanced e a b c d t a_is b_is c_is d_is = λ i. a_is i ∷ b_is i ∷ c_is i ∷ d_is i ∷ []
 
-pub bit_walk_next : (e : Inside) (a b c d : BitTrace) (t : ℕ) → EachRises 0 (bit_traces_left e) → next_tick_of (bit_traces_left e) ≡ Some t
+pub bit_walk_next : (e : Inside) (a b c d : BitTrace) (t : ℕ) → EachRises 0 (bit_traces_left e)
+    → next_tick_of (bit_traces_left e) ≡ Some t
     → bit_trace_left a ≡ trace_after t (bit_trace_left e.a) → bit_trace_left b ≡ trace_after t (bit_trace_left e.b)
     → bit_trace_left c ≡ trace_after t (bit_trace_left e.c) → bit_trace_left d ≡ trace_after t (bit_trace_left e.d)
-    → bit_edges_left e ≡ record { tick = t; before = e.a.bit ∷ e.b.bit ∷ e.c.bit ∷ e.d.bit ∷ []; at = a.bit ∷ b.bit ∷ c.bit ∷ d.bit ∷ [] } ∷ bit_edges_left (bit_walk_of a b c d)
+    → bit_edges_left e ≡ record {
+      tick = t;
+      before = e.a.bit ∷ e.b.bit ∷ e.c.bit ∷ e.d.bit ∷ [];
+      at =
+          a.bit ∷ b.bit ∷ c.bit ∷ d.bit ∷ [];
+    } ∷ bit_edges_left (bit_walk_of a b c d)
 unfolding bit_edges_left
 bit_walk_next e a b c d t rise next a_is b_is c_is d_is =
     let ls = bit_traces_left e in
     let ks = bit_traces_left (bit_walk_of a b c d) in
-    let P : List Trace → Type 0 = λ ks. map bit_edge (edges_on ls (reach ls)) ≡ bit_edge (record { tick = t; before = map (λ l. l.before) ls; at = map (λ l. l.before) ks }) ∷ map bit_edge (edges_on ks (reach ks)) in
-    let step : P ks = subst P (sym (advanced e a b c d t a_is b_is c_is d_is)) (ap (map bit_edge) (walk_step ls t rise next)) in
+    let P : List Trace → Type 0 =
+    λ ks. map bit_edge (edges_on ls (reach ls))
+    ≡ bit_edge (record { tick = t; before = map (λ l. l.before) ls; at = map (λ l. l.before) ks })
+    ∷ map bit_edge (edges_on ks (reach ks)) in
+    let step : P ks = subst P (sym (advanced e a b c d t a_is b_is c_is d_is))
+    (ap (map bit_edge) (walk_step ls t rise next)) in
     step ∙ (λ i. record {
       tick = t;
       before = lowest_of e.a.bit i ∷ lowest_of e.b.bit i ∷ lowest_of e.c.bit i ∷ lowest_of e.d.bit i ∷ [];
       at = lowest_of a.bit i ∷ lowest_of b.bit i ∷ lowest_of c.bit i ∷ lowest_of d.bit i ∷ [];
     } ∷ map bit_edge (edges_on ks (reach ks)))
 
-pub bit_walk_kept : (e : Inside) (a b c d : BitTrace) (t : ℕ) → EachRises 0 (bit_traces_left e) → next_tick_of (bit_traces_left e) ≡ Some t
+pub bit_walk_kept : (e : Inside) (a b c d : BitTrace) (t : ℕ) → EachRises 0 (bit_traces_left e)
+    → next_tick_of (bit_traces_left e) ≡ Some t
     → bit_trace_left a ≡ trace_after t (bit_trace_left e.a) → bit_trace_left b ≡ trace_after t (bit_trace_left e.b)
     → bit_trace_left c ≡ trace_after t (bit_trace_left e.c) → bit_trace_left d ≡ trace_after t (bit_trace_left e.d)
     → EachRises 0 (bit_traces_left (bit_walk_of a b c d))
@@ -60,8 +73,10 @@ bit_walk_kept e a b c d t rise next a_is b_is c_is d_is =
     subst (EachRises 0) (sym (advanced e a b c d t a_is b_is c_is d_is)) (walk_rises (bit_traces_left e) t rise next)
 
 -- a walk over whole waves has all their edges to come
-pub bit_walk_from : (e : Inside) (waves : List (Option WaveView)) (end : ℕ) → bit_traces_left e ≡ map trace_of waves → EachUpTo end waves → bit_edges_left e ≡ map bit_edge (edges_on (map trace_of waves) end)
+pub bit_walk_from : (e : Inside) (waves : List (Option WaveView)) (end : ℕ) → bit_traces_left e ≡ map trace_of waves
+    → EachUpTo end waves → bit_edges_left e ≡ map bit_edge (edges_on (map trace_of waves) end)
 unfolding bit_edges_left
 bit_walk_from e waves end is upto =
-    let P : List Trace → Type 0 = λ ks. map bit_edge (edges_on ks (reach ks)) ≡ map bit_edge (edges_on (map trace_of waves) end) in
+    let P : List Trace → Type 0 =
+    λ ks. map bit_edge (edges_on ks (reach ks)) ≡ map bit_edge (edges_on (map trace_of waves) end) in
     subst P (sym is) (ap (map bit_edge) (walk_begins waves end upto))

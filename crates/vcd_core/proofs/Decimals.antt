@@ -1,5 +1,6 @@
 -- Reading decimal digits, one after another, up to a greatest number.
-use Rattle.std.proofs.Common.{◌≡◌, ℕ, zero, suc, ◌+◌, ◌-◌, ◌*◌, ◌<◌, true, List, [], ◌∷◌, length, min, take, get_or, arith}
+use Rattle.std.proofs.Common.{◌≡◌, ℕ, zero, suc, ◌+◌, ◌-◌, ◌*◌, ◌<◌, true, List, [], ◌∷◌, length, min, take, get_or}
+use Rattle.std.proofs.Common.{arith}
 use Rattle.std.specs.List.{list_all}
 use Rattle.std.specs.Char.{is_ascii_digit, digit_value}
 use Rattle.std.specs.Str.Parse.{digits_value}
@@ -9,17 +10,23 @@ use Rattle.std.proofs.lemmas.Int.Digits.{digits_value_more}
 use Rattle.std.proofs.lemmas.Bool.Decides.{nat_tests}
 
 -- each byte of a list of digits is one
-digit_within : (bytes : List ℕ) (i : ℕ) → list_all is_ascii_digit bytes ≡ true → i < length bytes → IsInRange 48 57 (get_or bytes i 0)
+digit_within : (bytes : List ℕ) (i : ℕ) → list_all is_ascii_digit bytes ≡ true → i < length bytes
+    → IsInRange 48 57 (get_or bytes i 0)
 digit_within [] i all within = absurd (omega arith)
 digit_within (b ∷ bytes) zero all within = grind (arith, nat_tests)
 digit_within (b ∷ bytes) (suc i) all within = digit_within bytes i (grind (arith, nat_tests)) (omega arith)
 
 -- a number that stops at a limit takes in one more digit
-capped_more : (value limit digit : ℕ) → min (min (min value limit * 10) limit + digit) limit ≡ min (value * 10 + digit) limit
+capped_more : (value limit digit : ℕ)
+    → min (min (min value limit * 10) limit + digit) limit ≡ min (value * 10 + digit) limit
 capped_more value limit digit = grind arith
 
 -- the step of reading a numeral that stops at a limit
-pub numeral_more : (bytes : List ℕ) (i limit number product digit : ℕ) → list_all is_ascii_digit bytes ≡ true → i < length bytes → number ≡ min (digits_value 10 (take i bytes)) limit → product ≡ min (number * 10) limit → digit ≡ get_or bytes i 0 - 48 → min (product + digit) limit ≡ min (digits_value 10 (take (i + 1) bytes)) limit
+pub numeral_more : (bytes : List ℕ) (i limit number product digit : ℕ) → list_all is_ascii_digit bytes ≡ true
+    → i < length bytes → number ≡ min (digits_value 10 (take i bytes)) limit → product ≡ min (number * 10) limit
+    → digit ≡ get_or bytes i 0 - 48 → min (product + digit) limit ≡ min (digits_value 10 (take (i + 1) bytes)) limit
 numeral_more bytes i limit number product digit all within number_is product_is digit_is =
-    let value : digit ≡ digit_value (get_or bytes i 0) = omega (arith, digit_value_digit (get_or bytes i 0) (digit_within bytes i all within)) in
-    rw (product_is, number_is, value, digits_value_more 10 bytes i within) (capped_more (digits_value 10 (take i bytes)) limit (digit_value (get_or bytes i 0)))
+    let value : digit ≡ digit_value (get_or bytes i 0) =
+    omega (arith, digit_value_digit (get_or bytes i 0) (digit_within bytes i all within)) in
+    rw (product_is, number_is, value, digits_value_more 10 bytes i within)
+    (capped_more (digits_value 10 (take i bytes)) limit (digit_value (get_or bytes i 0)))

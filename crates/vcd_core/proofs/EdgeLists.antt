@@ -1,16 +1,20 @@
 -- The edges of several waves, past the next tick at which one changes.
-use Rattle.std.proofs.Common.{◌≡◌, ℕ, zero, suc, ◌+◌, ◌<◌, ◌≤◌, Bool, true, false, cond, List, [], ◌∷◌, map, refl, ap, ◌∙◌, inl, inr, arith}
+use Rattle.std.proofs.Common.{◌≡◌, ℕ, zero, suc, ◌+◌, ◌<◌, ◌≤◌, Bool, true, false, cond, List, [], ◌∷◌, map, refl, ap}
+use Rattle.std.proofs.Common.{◌∙◌, inl, inr, arith}
 use Rattle.std.specs.List.{filter, range_with_len}
 use Rattle.std.proofs.lemmas.Bool.{cases_eq}
 
 -- tests and functions that agree from a tick on keep and give the same
-pub same_from : {X : Type 0} (p q : ℕ → Bool) (f g : ℕ → X) (a n : ℕ) → ((u : ℕ) → a ≤ u → p u ≡ q u) → ((u : ℕ) → a ≤ u → f u ≡ g u) → map f (filter p (range_with_len a n)) ≡ map g (filter q (range_with_len a n))
+pub same_from : {X : Type 0} (p q : ℕ → Bool) (f g : ℕ → X) (a n : ℕ) → ((u : ℕ) → a ≤ u → p u ≡ q u)
+    → ((u : ℕ) → a ≤ u → f u ≡ g u) → map f (filter p (range_with_len a n)) ≡ map g (filter q (range_with_len a n))
 same_from p q f g a zero tests values = refl
 same_from p q f g a (suc n) tests values =
     let later = same_from p q f g (a + 1) n (λ u from. tests u (omega arith)) (λ u from. values u (omega arith)) in
     rw (tests a (omega arith)) (choose (q a) later)
   where
-    choose : (b : Bool) → map f (filter p (range_with_len (a + 1) n)) ≡ map g (filter q (range_with_len (a + 1) n)) → map f (cond b (a ∷ filter p (range_with_len (a + 1) n)) (filter p (range_with_len (a + 1) n))) ≡ map g (cond b (a ∷ filter q (range_with_len (a + 1) n)) (filter q (range_with_len (a + 1) n)))
+    choose : (b : Bool) → map f (filter p (range_with_len (a + 1) n)) ≡ map g (filter q (range_with_len (a + 1) n))
+        → map f (cond b (a ∷ filter p (range_with_len (a + 1) n)) (filter p (range_with_len (a + 1) n)))
+        ≡ map g (cond b (a ∷ filter q (range_with_len (a + 1) n)) (filter q (range_with_len (a + 1) n)))
     choose true later = λ i. values a (omega arith) i ∷ later i
     choose false later = later
 
@@ -25,7 +29,8 @@ first_kept p q f g t a (suc n) from to none here neither tests values =
       | inl at ↦
           let keeps : p a ≡ true = ap p at ∙ here in
           let drops : q a ≡ false = neither a (omega arith) in
-          let later = same_from p q f g (a + 1) n (λ u from. tests u (omega arith)) (λ u from. values u (omega arith)) in
+          let later = same_from p q f g (a + 1) n (λ u from. tests u (omega arith))
+          (λ u from. values u (omega arith)) in
           rw (keeps, drops) (λ i. f (at i) ∷ later i)
       | inr apart ↦
           let before : p a ≡ false = none a (omega arith) in
@@ -38,7 +43,8 @@ pub none_from : (p : ℕ → Bool) (a n : ℕ) → ((u : ℕ) → a ≤ u → p 
 none_from p a zero none = refl
 none_from p a (suc n) none = rw (none a (omega arith)) (none_from p (a + 1) n (λ u from. none u (omega arith)))
 
-pub none_past : (p : ℕ → Bool) (end a m n : ℕ) → end < a + m → m ≤ n → ((u : ℕ) → end < u → p u ≡ false) → filter p (range_with_len a n) ≡ filter p (range_with_len a m)
+pub none_past : (p : ℕ → Bool) (end a m n : ℕ) → end < a + m → m ≤ n → ((u : ℕ) → end < u → p u ≡ false)
+    → filter p (range_with_len a n) ≡ filter p (range_with_len a m)
 none_past p end a zero n past le none = none_from p a n (λ u from. none u (omega arith))
 none_past p end a (suc m) zero past le none = absurd (omega arith)
 none_past p end a (suc m) (suc n) past le none =

@@ -1,5 +1,6 @@
 -- The edges of several waves, one step at a time.
-use Rattle.std.proofs.Common.{◌≡◌, ◌⊎◌, ℕ, zero, suc, ◌<◌, ◌≤◌, ◌||◌, ◌==◌, if◌then◌else◌, min, Bool, true, false, not, Option, Some, None, List, [], ◌∷◌, map, refl, sym, ap, subst, ◌∙◌, inl, inr, arith}
+use Rattle.std.proofs.Common.{◌≡◌, ◌⊎◌, ℕ, zero, suc, ◌<◌, ◌≤◌, ◌||◌, ◌==◌, if◌then◌else◌, min, Bool, true, false, not}
+use Rattle.std.proofs.Common.{Option, Some, None, List, [], ◌∷◌, map, refl, sym, ap, subst, ◌∙◌, inl, inr, arith}
 use Rattle.std.specs.List.{filter, list_any, range_with_len}
 use Rattle.std.proofs.lemmas.Bool.{cases_lt}
 use Rattle.std.proofs.lemmas.Option.{same_Some}
@@ -8,11 +9,14 @@ use Rattle.vcd_core.specs.declared.wave.Change.{Change}
 use Rattle.vcd_core.specs.declared.edges.Edge.{Edge}
 use Rattle.vcd_core.specs.Wave.{AllUpTo}
 use Rattle.vcd_core.specs.WaveView.{WaveView}
-use Rattle.vcd_core.specs.Edges.{Trace, trace_of, value_on, value_before, same_value, changes_at, edge_on, edges_on, EachUpTo}
+use Rattle.vcd_core.specs.Edges.{Trace, trace_of, value_on, value_before, same_value, changes_at, edge_on, edges_on}
+use Rattle.vcd_core.specs.Edges.{EachUpTo}
 use Rattle.vcd_core.specs.declared.edges.Trace.{Trace as LentTrace}
 use Rattle.vcd_core.specs.declared.edges.Edges.TheInside.{Inside}
-use Rattle.vcd_core.specs.inside.EdgeWalk.{trace_left, traces_left, edges_left, next_tick, earlier_tick, next_tick_of, trace_after, trace_past, EachRises, ticks_sum, reach}
-use Rattle.vcd_core.proofs.EdgeLines.{line, quiet, quiet_value, quiet_before, after_agrees, after_rises, changes_there, rises_next, lower_rises, ended}
+use Rattle.vcd_core.specs.inside.EdgeWalk.{trace_left, traces_left, edges_left, next_tick, earlier_tick, next_tick_of}
+use Rattle.vcd_core.specs.inside.EdgeWalk.{trace_after, trace_past, EachRises, ticks_sum, reach}
+use Rattle.vcd_core.proofs.EdgeLines.{line, quiet, quiet_value, quiet_before, after_agrees, after_rises, changes_there}
+use Rattle.vcd_core.proofs.EdgeLines.{rises_next, lower_rises, ended}
 use Rattle.vcd_core.proofs.EdgeLists.{first_kept, none_from, none_past}
 
 -- ---- the tick of the next change
@@ -38,7 +42,8 @@ earlier_one (Some w) (Some v) t is =
     ]
 
 -- no wave changes before the next tick
-pub rises_each : (ls : List Trace) (t : ℕ) → EachRises 0 ls → ((u : ℕ) → next_tick_of ls ≡ Some u → t ≤ u) → EachRises t ls
+pub rises_each : (ls : List Trace) (t : ℕ) → EachRises 0 ls → ((u : ℕ) → next_tick_of ls ≡ Some u → t ≤ u)
+    → EachRises t ls
 rises_each [] t rise least = tt
 rises_each (l ∷ ls) t (rises, rise) least = (
   rises_next l.before l.changes t rises (earlier_left (next_tick l.changes) (next_tick_of ls) t least),
@@ -46,10 +51,12 @@ rises_each (l ∷ ls) t (rises, rise) least = (
 )
 
 pub rises_to_next : (ls : List Trace) (t : ℕ) → EachRises 0 ls → next_tick_of ls ≡ Some t → EachRises t ls
-rises_to_next ls t rise next = rises_each ls t rise (λ u is. let same : Some t ≡ Some u = sym next ∙ is in omega (arith, same_Some t u same))
+rises_to_next ls t rise next =
+    rises_each ls t rise (λ u is. let same : Some t ≡ Some u = sym next ∙ is in omega (arith, same_Some t u same))
 
 -- and one changes there
-pub change_each : (ls : List Trace) (t : ℕ) → EachRises t ls → next_tick_of ls ≡ Some t → list_any (changes_at t) ls ≡ true
+pub change_each : (ls : List Trace) (t : ℕ) → EachRises t ls → next_tick_of ls ≡ Some t
+    → list_any (changes_at t) ls ≡ true
 change_each [] t rise next = absurd (cc)
 change_each (l ∷ ls) t (rises, rise) next =
     elim (earlier_one (next_tick l.changes) (next_tick_of ls) t next) [
@@ -69,16 +76,19 @@ quiet_each (l ∷ ls) floor t (rises, rise) early = rw (quiet l floor t rises ea
 
 pub lower_each : (ls : List Trace) (low high : ℕ) → low ≤ high → EachRises high ls → EachRises low ls
 lower_each [] low high le rise = tt
-lower_each (l ∷ ls) low high le (rises, rise) = (lower_rises l.before l.changes low high le rises, lower_each ls low high le rise)
+lower_each (l ∷ ls) low high le (rises, rise) =
+    (lower_rises l.before l.changes low high le rises, lower_each ls low high le rise)
 
 pub after_each : (ls : List Trace) (t : ℕ) → EachRises t ls → EachRises (suc t) (map (trace_after t) ls)
 after_each [] t rise = tt
 after_each (l ∷ ls) t (rises, rise) = (after_rises l.before l.changes t rises, after_each ls t rise)
 
 -- past the tick the waves and those after it have the same values
-values_agree : (ls : List Trace) (t u : ℕ) → EachRises t ls → t ≤ u → map (λ l. value_on l u) ls ≡ map (λ l. value_on l u) (map (trace_after t) ls)
+values_agree : (ls : List Trace) (t u : ℕ) → EachRises t ls → t ≤ u
+    → map (λ l. value_on l u) ls ≡ map (λ l. value_on l u) (map (trace_after t) ls)
 values_agree [] t u rise later = refl
-values_agree (l ∷ ls) t u (rises, rise) later = λ i. after_agrees l.before l.changes t u rises later i ∷ values_agree ls t u rise later i
+values_agree (l ∷ ls) t u (rises, rise) later =
+    λ i. after_agrees l.before l.changes t u rises later i ∷ values_agree ls t u rise later i
 
 edges_agree : (ls : List Trace) (t u : ℕ) → EachRises t ls → t < u → edge_on ls u ≡ edge_on (map (trace_after t) ls) u
 edges_agree ls t zero rise later = absurd (omega arith)
@@ -88,7 +98,8 @@ edges_agree ls t (suc u) rise later =
     λ i. record { tick = suc u; before = before i; at = at i }
 
 -- and change at the same ticks
-tests_agree : (ls : List Trace) (t u : ℕ) → EachRises t ls → t < u → list_any (changes_at u) ls ≡ list_any (changes_at u) (map (trace_after t) ls)
+tests_agree : (ls : List Trace) (t u : ℕ) → EachRises t ls → t < u
+    → list_any (changes_at u) ls ≡ list_any (changes_at u) (map (trace_after t) ls)
 tests_agree ls t zero rise later = absurd (omega arith)
 tests_agree [] t (suc u) rise later = refl
 tests_agree (l ∷ ls) t (suc u) (rises, rise) later =
@@ -102,7 +113,8 @@ befores : (ls : List Trace) (t : ℕ) → EachRises t ls → map (λ l. value_be
 befores [] t rise = refl
 befores (l ∷ ls) t (rises, rise) = λ i. quiet_before l.before l.changes t t rises (omega arith) i ∷ befores ls t rise i
 
-afters : (ls : List Trace) (t : ℕ) → EachRises t ls → map (λ l. value_on l t) ls ≡ map (λ l. l.before) (map (trace_after t) ls)
+afters : (ls : List Trace) (t : ℕ) → EachRises t ls
+    → map (λ l. value_on l t) ls ≡ map (λ l. l.before) (map (trace_after t) ls)
 afters [] t rise = refl
 afters (l ∷ ls) t (rises, rise) =
     let next = trace_after t l in
@@ -123,22 +135,28 @@ next_edge_is ls t rise =
     λ i. record { tick = t; before = before i; at = at i }
 
 -- it comes first, and then those of the waves past it
-pub edges_step : (ls : List Trace) (end t : ℕ) → EachRises 0 ls → next_tick_of ls ≡ Some t → t ≤ end → edges_on ls end ≡ next_edge ls t ∷ edges_on (map (trace_after t) ls) end
+pub edges_step : (ls : List Trace) (end t : ℕ) → EachRises 0 ls → next_tick_of ls ≡ Some t → t ≤ end
+    → edges_on ls end ≡ next_edge ls t ∷ edges_on (map (trace_after t) ls) end
 unfolding edges_on
 edges_step ls end t rise next within =
     let here = rises_to_next ls t rise next in
     let past = map (trace_after t) ls in
-    let split = first_kept (λ u. list_any (changes_at u) ls) (λ u. list_any (changes_at u) past) (edge_on ls) (edge_on past) t 0 (suc end) (omega arith) (omega arith)
-    (λ u early. quiet_each ls t u here early) (change_each ls t here next) (λ u early. quiet_each past (suc t) u (after_each ls t here) early)
+    let split = first_kept (λ u. list_any (changes_at u) ls) (λ u. list_any (changes_at u) past) (edge_on ls)
+    (edge_on past) t 0 (suc end) (omega arith) (omega arith)
+    (λ u early. quiet_each ls t u here early) (change_each ls t here next)
+    (λ u early. quiet_each past (suc t) u (after_each ls t here) early)
     (λ u later. tests_agree ls t u here later) (λ u later. edges_agree ls t u here later) in
-    split ∙ ap (λ (e : Edge). e ∷ map (edge_on past) (filter (λ u. list_any (changes_at u) past) (range_with_len 0 (suc end)))) (next_edge_is ls t here)
+    split ∙ ap (λ (e : Edge). e
+    ∷ map (edge_on past) (filter (λ u. list_any (changes_at u) past) (range_with_len 0 (suc end))))
+    (next_edge_is ls t here)
 
 -- where no change is left there is no edge
 pub no_edges : (ls : List Trace) (end : ℕ) → EachRises 0 ls → next_tick_of ls ≡ None → edges_on ls end ≡ []
 unfolding edges_on
 no_edges ls end rise next =
     let never = none_from (λ u. list_any (changes_at u) ls) 0 (suc end)
-    (λ u _. quiet_each ls (suc u) u (rises_each ls (suc u) rise (λ w is. let both : None ≡ Some w = sym next ∙ is in absurd (cc))) (omega arith)) in
+    (λ u _. quiet_each ls (suc u) u (rises_each ls (suc u) rise (λ w is. let both : None ≡ Some w = sym next ∙ is in
+    absurd (cc))) (omega arith)) in
     ap (map (edge_on ls)) never
 
 -- ---- the end
@@ -150,7 +168,8 @@ EachEnds end (l ∷ ls) = AllUpTo end l.changes × EachEnds end ls
 
 ended_each : (ls : List Trace) (end t : ℕ) → EachEnds end ls → end < t → list_any (changes_at t) ls ≡ false
 ended_each [] end t ends late = refl
-ended_each (l ∷ ls) end t (ends, rest) late = rw (ended l.before l.changes end t ends late) (ended_each ls end t rest late)
+ended_each (l ∷ ls) end t (ends, rest) late =
+    rw (ended l.before l.changes end t ends late) (ended_each ls end t rest late)
 
 -- two ends that no change is past give the same edges
 pub edges_same : (ls : List Trace) (m n : ℕ) → EachEnds m ls → EachEnds n ls → edges_on ls m ≡ edges_on ls n
@@ -158,8 +177,10 @@ unfolding edges_on
 edges_same ls m n ends_m ends_n =
     let test : ℕ → Bool = λ u. list_any (changes_at u) ls in
     elim (cases_lt m n) [
-      | inl below ↦ sym (ap (map (edge_on ls)) (none_past test m 0 (suc m) (suc n) (omega arith) (omega arith) (λ u late. ended_each ls m u ends_m late)))
-      | inr above ↦ ap (map (edge_on ls)) (none_past test n 0 (suc n) (suc m) (omega arith) (omega arith) (λ u late. ended_each ls n u ends_n late))
+      | inl below ↦ sym (ap (map (edge_on ls))
+          (none_past test m 0 (suc m) (suc n) (omega arith) (omega arith) (λ u late. ended_each ls m u ends_m late)))
+      | inr above ↦ ap (map (edge_on ls))
+          (none_past test n 0 (suc n) (suc m) (omega arith) (omega arith) (λ u late. ended_each ls n u ends_n late))
     ]
 
 ticks_within : (cs : List Change) (n : ℕ) → ticks_sum cs ≤ n → AllUpTo n cs
@@ -182,7 +203,8 @@ next_within (l ∷ ls) end t (ends, rest) next =
       | inr later ↦ next_within ls end t rest later
     ]
 
-after_ends_line : (before : Option (List Bit)) (cs : List Change) (end t : ℕ) → AllUpTo end cs → AllUpTo end (trace_past t before cs).changes
+after_ends_line : (before : Option (List Bit)) (cs : List Change) (end t : ℕ) → AllUpTo end cs
+    → AllUpTo end (trace_past t before cs).changes
 after_ends_line before [] end t ends = tt
 after_ends_line before (c ∷ cs) end t ends = choose (c.tick == t)
   where
@@ -195,16 +217,21 @@ after_ends [] end t ends = tt
 after_ends (l ∷ ls) end t (ends, rest) = (after_ends_line l.before l.changes end t ends, after_ends ls end t rest)
 
 -- a step of the walk
-pub walk_step : (ls : List Trace) (t : ℕ) → EachRises 0 ls → next_tick_of ls ≡ Some t → edges_on ls (reach ls) ≡ next_edge ls t ∷ edges_on (map (trace_after t) ls) (reach (map (trace_after t) ls))
+pub walk_step : (ls : List Trace) (t : ℕ) → EachRises 0 ls → next_tick_of ls ≡ Some t
+    → edges_on ls (reach ls) ≡ next_edge ls t ∷ edges_on (map (trace_after t) ls) (reach (map (trace_after t) ls))
 walk_step ls t rise next =
     let ends = reach_ends ls (reach ls) (omega arith) in
     let past = map (trace_after t) ls in
     edges_step ls (reach ls) t rise next (next_within ls (reach ls) t ends next)
-    ∙ ap (λ (es : List Edge). next_edge ls t ∷ es) (edges_same past (reach ls) (reach past) (after_ends ls (reach ls) t ends) (reach_ends past (reach past) (omega arith)))
+    ∙ ap (λ (es : List Edge). next_edge ls t ∷ es)
+    (edges_same past (reach ls) (reach past) (after_ends ls (reach ls) t ends)
+    (reach_ends past (reach past) (omega arith)))
 
 -- after which the waves still rise
-pub walk_rises : (ls : List Trace) (t : ℕ) → EachRises 0 ls → next_tick_of ls ≡ Some t → EachRises 0 (map (trace_after t) ls)
-walk_rises ls t rise next = lower_each (map (trace_after t) ls) 0 (suc t) (omega arith) (after_each ls t (rises_to_next ls t rise next))
+pub walk_rises : (ls : List Trace) (t : ℕ) → EachRises 0 ls → next_tick_of ls ≡ Some t
+    → EachRises 0 (map (trace_after t) ls)
+walk_rises ls t rise next =
+    lower_each (map (trace_after t) ls) 0 (suc t) (omega arith) (after_each ls t (rises_to_next ls t rise next))
 
 -- ---- the beginning
 
@@ -214,7 +241,8 @@ waves_end (None ∷ waves) end (upto, rest) = (tt, waves_end waves end rest)
 waves_end (Some w ∷ waves) end (upto, rest) = (upto, waves_end waves end rest)
 
 -- a walk from the start has all edges to come
-pub walk_begins : (waves : List (Option WaveView)) (end : ℕ) → EachUpTo end waves → edges_on (map trace_of waves) (reach (map trace_of waves)) ≡ edges_on (map trace_of waves) end
+pub walk_begins : (waves : List (Option WaveView)) (end : ℕ) → EachUpTo end waves
+    → edges_on (map trace_of waves) (reach (map trace_of waves)) ≡ edges_on (map trace_of waves) end
 walk_begins waves end upto =
     let ls = map trace_of waves in
     edges_same ls (reach ls) end (reach_ends ls (reach ls) (omega arith)) (waves_end waves end upto)
@@ -231,27 +259,41 @@ abbrev pub walk_of : LentTrace → LentTrace → LentTrace → LentTrace → Ins
 walk_of a b c d = record { a = a; b = b; c = c; d = d }
 
 -- the waves past a tick are those of the tracks past it
-advanced_lines : (e : Inside) (a b c d : LentTrace) (t : ℕ) → trace_left a ≡ trace_after t (trace_left e.a) → trace_left b ≡ trace_after t (trace_left e.b) → trace_left c ≡ trace_after t (trace_left e.c) → trace_left d ≡ trace_after t (trace_left e.d)
+advanced_lines : (e : Inside) (a b c d : LentTrace) (t : ℕ) → trace_left a ≡ trace_after t (trace_left e.a)
+    → trace_left b ≡ trace_after t (trace_left e.b) → trace_left c ≡ trace_after t (trace_left e.c)
+    → trace_left d ≡ trace_after t (trace_left e.d)
     → traces_left (walk_of a b c d) ≡ map (trace_after t) (traces_left e)
 advanced_lines e a b c d t a_is b_is c_is d_is = λ i. a_is i ∷ b_is i ∷ c_is i ∷ d_is i ∷ []
 
-pub walk_next : (e : Inside) (a b c d : LentTrace) (t : ℕ) → EachRises 0 (traces_left e) → next_tick_of (traces_left e) ≡ Some t
-    → trace_left a ≡ trace_after t (trace_left e.a) → trace_left b ≡ trace_after t (trace_left e.b) → trace_left c ≡ trace_after t (trace_left e.c) → trace_left d ≡ trace_after t (trace_left e.d)
-    → edges_left e ≡ record { tick = t; before = map (λ l. l.before) (traces_left e); at = map (λ l. l.before) (traces_left (walk_of a b c d)) } ∷ edges_left (walk_of a b c d)
+pub walk_next : (e : Inside) (a b c d : LentTrace) (t : ℕ) → EachRises 0 (traces_left e)
+    → next_tick_of (traces_left e) ≡ Some t
+    → trace_left a ≡ trace_after t (trace_left e.a) → trace_left b ≡ trace_after t (trace_left e.b)
+    → trace_left c ≡ trace_after t (trace_left e.c) → trace_left d ≡ trace_after t (trace_left e.d)
+    → edges_left e ≡ record {
+      tick = t;
+      before = map (λ l. l.before) (traces_left e);
+      at =
+          map (λ l. l.before) (traces_left (walk_of a b c d));
+    } ∷ edges_left (walk_of a b c d)
 unfolding edges_left
 walk_next e a b c d t rise next a_is b_is c_is d_is =
     let ls = traces_left e in
-    let P : List Trace → Type 0 = λ ks. edges_on ls (reach ls) ≡ record { tick = t; before = map (λ l. l.before) ls; at = map (λ l. l.before) ks } ∷ edges_on ks (reach ks) in
+    let P : List Trace → Type 0 =
+    λ ks. edges_on ls (reach ls) ≡ record { tick = t; before = map (λ l. l.before) ls; at = map (λ l. l.before) ks }
+    ∷ edges_on ks (reach ks) in
     subst P (sym (advanced_lines e a b c d t a_is b_is c_is d_is)) (walk_step ls t rise next)
 
-pub walk_kept : (e : Inside) (a b c d : LentTrace) (t : ℕ) → EachRises 0 (traces_left e) → next_tick_of (traces_left e) ≡ Some t
-    → trace_left a ≡ trace_after t (trace_left e.a) → trace_left b ≡ trace_after t (trace_left e.b) → trace_left c ≡ trace_after t (trace_left e.c) → trace_left d ≡ trace_after t (trace_left e.d)
+pub walk_kept : (e : Inside) (a b c d : LentTrace) (t : ℕ) → EachRises 0 (traces_left e)
+    → next_tick_of (traces_left e) ≡ Some t
+    → trace_left a ≡ trace_after t (trace_left e.a) → trace_left b ≡ trace_after t (trace_left e.b)
+    → trace_left c ≡ trace_after t (trace_left e.c) → trace_left d ≡ trace_after t (trace_left e.d)
     → EachRises 0 (traces_left (walk_of a b c d))
 walk_kept e a b c d t rise next a_is b_is c_is d_is =
     subst (EachRises 0) (sym (advanced_lines e a b c d t a_is b_is c_is d_is)) (walk_rises (traces_left e) t rise next)
 
 -- a walk over whole waves has all their edges to come
-pub walk_from : (e : Inside) (waves : List (Option WaveView)) (end : ℕ) → traces_left e ≡ map trace_of waves → EachUpTo end waves → edges_left e ≡ edges_on (map trace_of waves) end
+pub walk_from : (e : Inside) (waves : List (Option WaveView)) (end : ℕ) → traces_left e ≡ map trace_of waves
+    → EachUpTo end waves → edges_left e ≡ edges_on (map trace_of waves) end
 unfolding edges_left
 walk_from e waves end is upto =
     let P : List Trace → Type 0 = λ ks. edges_on ks (reach ks) ≡ edges_on (map trace_of waves) end in

@@ -1,5 +1,7 @@
 -- How a full name begins, and the tests of full names.
-use Rattle.std.proofs.Common.{◌≡◌, Bool, true, false, suc, append_assoc, length-append, if◌then◌else◌, ◌||◌, ℕ, ◌-◌, ◌<◌, ◌≤◌, List, [], ◌∷◌, ◌++◌, length, get_or, take, drop, map, refl, sym, ap, ◌∙◌, append-nil, arith}
+use Rattle.std.proofs.Common.{◌≡◌, Bool, true, false, suc, append_assoc, length-append, if◌then◌else◌, ◌||◌, ℕ, ◌-◌}
+use Rattle.std.proofs.Common.{◌<◌, ◌≤◌, List, [], ◌∷◌, ◌++◌, length, get_or, take, drop, map, refl, sym, ap, ◌∙◌}
+use Rattle.std.proofs.Common.{append-nil, arith}
 use Rattle.std.specs.List.{concat, list_any, ends_with}
 use Rattle.std.proofs.Math.Dec.{eqb}
 use Rattle.std.proofs.lemmas.Bool.Decides.{Decides-eqb}
@@ -20,48 +22,59 @@ unfolding name_in
 name_in-none words = refl
 
 -- a name in scopes begins with the outermost one and a `.` (46)
-pub name_in-scope : (scope : ScopeName) (scopes : List ScopeName) (words : List (List ℕ)) → name_in (scope ∷ scopes) words ≡ scope_text scope ++ 46 ∷ name_in scopes words
+pub name_in-scope : (scope : ScopeName) (scopes : List ScopeName) (words : List (List ℕ))
+    → name_in (scope ∷ scopes) words ≡ scope_text scope ++ 46 ∷ name_in scopes words
 unfolding name_in
 name_in-scope scope [] words = refl
 name_in-scope scope (next ∷ scopes) words = refl
 
 -- an empty word adds nothing to a name
-pub name_in-empty_word : (scopes : List ScopeName) (words : List (List ℕ)) → name_in scopes ([] ∷ words) ≡ name_in scopes words
+pub name_in-empty_word : (scopes : List ScopeName) (words : List (List ℕ))
+    → name_in scopes ([] ∷ words) ≡ name_in scopes words
 unfolding name_in
 name_in-empty_word scopes words = refl
 
 -- a test of each image
-pub list_any-map : {X Y : Type 0} (f : X → Y) (p : Y → Bool) (xs : List X) → list_any p (map f xs) ≡ list_any (λ x. p (f x)) xs
+pub list_any-map : {X Y : Type 0} (f : X → Y) (p : Y → Bool) (xs : List X)
+    → list_any p (map f xs) ≡ list_any (λ x. p (f x)) xs
 list_any-map f p [] = refl
 list_any-map f p (x ∷ xs) = ap (λ (b : Bool). p (f x) || b) (list_any-map f p xs)
 
 pub ruleset name_steps = (name_in-empty_word, append-nil)
 
 -- the bytes of a name whose parts are taken from its scopes, at none and at one scope or more
-pub bytes_in_none : (scopes : List ScopeName) (first : List ℕ) (others : List (List ℕ)) → length scopes < 1 → first ++ (concat others ++ []) ≡ name_in scopes (first ∷ others)
+pub bytes_in_none : (scopes : List ScopeName) (first : List ℕ) (others : List (List ℕ)) → length scopes < 1
+    → first ++ (concat others ++ []) ≡ name_in scopes (first ∷ others)
 bytes_in_none [] first others none = rw append-nil (sym (name_in-none (first ∷ others)))
 bytes_in_none (scope ∷ scopes) first others none = absurd (omega arith)
 
-pub bytes_in_scope : (scopes : List ScopeName) (scope : ScopeName) (name : List (List ℕ)) (text : List ℕ) (words : List (List ℕ)) (in_scope : Bool) →
+pub bytes_in_scope : (scopes : List ScopeName) (scope : ScopeName) (name : List (List ℕ)) (text : List ℕ)
+    (words : List (List ℕ)) (in_scope : Bool) →
     1 ≤ length scopes → scope ≡ get_or scopes 0 scope → text ≡ [] → words ≡ scope.words → in_scope ≡ true →
-    text ++ (concat words ++ (if in_scope then 46 ∷ name_in (take (length scopes - 1) (drop 1 scopes)) name else [])) ≡ name_in scopes name
+    text ++ (concat words ++ (if in_scope then 46 ∷ name_in (take (length scopes - 1) (drop 1 scopes)) name else []))
+    ≡ name_in scopes name
 bytes_in_scope [] scope name text words in_scope some is empty same within = absurd (omega arith)
 bytes_in_scope (s ∷ inner) scope name text words in_scope some is empty same within =
     let whole : take (length (s ∷ inner) - 1) inner ≡ inner = take_all (length (s ∷ inner) - 1) inner (omega arith) in
     rw (empty, same, within, whole, is) (sym (name_in-scope s inner name))
 
 -- the bytes of a name of which a scope is left
-pub bytes_drained : (n : FullName) → IsDrained n → n.in_scope ≡ true → name_bytes n ≡ 46 ∷ name_in n.scopes.now (n.first.now ∷ n.others.now)
+pub bytes_drained : (n : FullName) → IsDrained n → n.in_scope ≡ true
+    → name_bytes n ≡ 46 ∷ name_in n.scopes.now (n.first.now ∷ n.others.now)
 bytes_drained n drained within = rw (drained.text, drained.words, within) refl
 
 -- whether the name of one of the signals is this
-pub is_one_of_names : (name : List ℕ) (signals : List Signal) → list_any (bytes_eq name) (full_names (map signal_contents signals)) ≡ list_any (λ s. bytes_eq name (full_name (signal_contents s))) signals
-is_one_of_names name signals = list_any-map full_name (bytes_eq name) (map signal_contents signals) ∙ list_any-map signal_contents (λ s. bytes_eq name (full_name s)) signals
+pub is_one_of_names : (name : List ℕ) (signals : List Signal)
+    → list_any (bytes_eq name) (full_names (map signal_contents signals))
+    ≡ list_any (λ s. bytes_eq name (full_name (signal_contents s))) signals
+is_one_of_names name signals = list_any-map full_name (bytes_eq name) (map signal_contents signals)
+    ∙ list_any-map signal_contents (λ s. bytes_eq name (full_name s)) signals
 
 -- ---- what a name ends with
 
 -- the last of several words, the first of which is given apart
-pub last_word_of : (first : List ℕ) (others : List (List ℕ)) (w : List ℕ) → 1 ≤ length others → w ≡ get_or others (length others - 1) w → (front : List ℕ) × (first ++ concat others ≡ front ++ w)
+pub last_word_of : (first : List ℕ) (others : List (List ℕ)) (w : List ℕ) → 1 ≤ length others
+    → w ≡ get_or others (length others - 1) w → (front : List ℕ) × (first ++ concat others ≡ front ++ w)
 last_word_of first [] w some is = absurd (omega arith)
 last_word_of first (v ∷ []) w some is = (first, ap (λ l. first ++ l) (append-nil v ∙ sym is))
 last_word_of first (v ∷ u ∷ us) w some is =
@@ -70,21 +83,29 @@ last_word_of first (v ∷ u ∷ us) w some is =
     (rest.0, sym (append_assoc first v (concat (u ∷ us))) ∙ rest.1)
 
 -- a name in scopes ends with its words
-pub name_in_ends : (scopes : List ScopeName) (words : List (List ℕ)) → (front : List ℕ) × (name_in scopes words ≡ front ++ concat words)
+pub name_in_ends : (scopes : List ScopeName) (words : List (List ℕ))
+    → (front : List ℕ) × (name_in scopes words ≡ front ++ concat words)
 name_in_ends [] words = ([], name_in-none words)
 name_in_ends (scope ∷ scopes) words =
-    let rest = name_in_ends scopes words in
-    (scope_text scope ++ 46 ∷ rest.0, name_in-scope scope scopes words ∙ ap (λ l. scope_text scope ++ 46 ∷ l) rest.1 ∙ sym (append_assoc (scope_text scope) (46 ∷ rest.0) (concat words)))
+    let rest = name_in_ends scopes words in (
+      scope_text scope ++ 46 ∷ rest.0,
+      name_in-scope scope scopes words ∙ ap (λ l. scope_text scope ++ 46 ∷ l) rest.1
+          ∙ sym (append_assoc (scope_text scope) (46 ∷ rest.0) (concat words)),
+    )
 
 -- and so does one of which a scope is left
-pub last_in_scope : (n : FullName) (last : List ℕ) → n.in_scope ≡ true → ((front : List ℕ) × (n.first.now ++ concat n.others.now ≡ front ++ last)) → (front : List ℕ) × (name_bytes n ≡ front ++ last)
+pub last_in_scope : (n : FullName) (last : List ℕ) → n.in_scope ≡ true
+    → ((front : List ℕ) × (n.first.now ++ concat n.others.now ≡ front ++ last))
+    → (front : List ℕ) × (name_bytes n ≡ front ++ last)
 last_in_scope n last within (front, ends) =
     let scoped = name_in_ends n.scopes.now (n.first.now ∷ n.others.now) in
     let before = n.text.now ++ (concat n.words.now ++ 46 ∷ scoped.0) in (
       before ++ front,
-      (λ i. n.text.now ++ (concat n.words.now ++ (if within i then 46 ∷ name_in n.scopes.now (n.first.now ∷ n.others.now) else [])))
+      (λ i. n.text.now ++ (concat n.words.now
+          ++ (if within i then 46 ∷ name_in n.scopes.now (n.first.now ∷ n.others.now) else [])))
           ∙ (λ i. n.text.now ++ (concat n.words.now ++ 46 ∷ (scoped.1 ∙ ap (λ l. scoped.0 ++ l) ends) i))
-          ∙ sym (append_assoc before front last ∙ append_assoc n.text.now (concat n.words.now ++ 46 ∷ scoped.0) (front ++ last)
+          ∙ sym (append_assoc before front last
+          ∙ append_assoc n.text.now (concat n.words.now ++ 46 ∷ scoped.0) (front ++ last)
           ∙ ap (λ l. n.text.now ++ l) (append_assoc (concat n.words.now) (46 ∷ scoped.0) (front ++ last))),
     )
 
@@ -94,13 +115,15 @@ end_of_longer [] y a b is le = (y, is)
 end_of_longer (c ∷ x) [] a b is le = absurd (omega (arith, ap length is, length-append x a))
 end_of_longer (c ∷ x) (d ∷ y) a b is le = end_of_longer x y a b (ap (drop 1) is) le
 
-pub ends_with_end : (x y a b : List ℕ) (r : Bool) → r ≡ ends_with eqb a b → x ++ a ≡ y ++ b → length b ≤ length a → r ≡ true
+pub ends_with_end : (x y a b : List ℕ) (r : Bool) → r ≡ ends_with eqb a b → x ++ a ≡ y ++ b → length b ≤ length a
+    → r ≡ true
 ends_with_end x y a b r told is le =
     let longer = end_of_longer x y a b is le in
     (ends_is Decides-eqb a b r told).1 longer.0 longer.1
 
 -- a text that does not end as a name does is not that name
-pub other_end : (text name last : List ℕ) (r : Bool) → r ≡ ends_with eqb text last → r ≡ false → ((front : List ℕ) × (name ≡ front ++ last)) → false ≡ bytes_eq text name
+pub other_end : (text name last : List ℕ) (r : Bool) → r ≡ ends_with eqb text last → r ≡ false
+    → ((front : List ℕ) × (name ≡ front ++ last)) → false ≡ bytes_eq text name
 other_end text name last r told fails (front, ends) = choose (bytes_eq text name) ((bytes_eq-Decides text name).0)
   where
     choose : (b : Bool) → (b ≡ true → text ≡ name) → false ≡ b

@@ -1,5 +1,6 @@
 -- The bits of two planes, after writes to their words.
-use Rattle.std.proofs.Common.{◌≡◌, ◌≢◌, ℕ, zero, suc, ◌+◌, ◌-◌, ◌*◌, ◌/◌, ◌%◌, ◌^◌, ◌<◌, ◌≤◌, min, List, [], ◌∷◌, length, replicate, get_or, sym, ap, ◌∙◌, arith, inl, inr}
+use Rattle.std.proofs.Common.{◌≡◌, ◌≢◌, ℕ, zero, suc, ◌+◌, ◌-◌, ◌*◌, ◌/◌, ◌%◌, ◌^◌, ◌<◌, ◌≤◌, min, List, [], ◌∷◌}
+use Rattle.std.proofs.Common.{length, replicate, get_or, sym, ap, ◌∙◌, arith, inl, inr}
 use Rattle.std.proofs.Math.ListN.{set}
 use Rattle.std.specs.Int.{bit_at}
 use Rattle.std.specs.Int.Bits.{bit_and}
@@ -10,14 +11,18 @@ use Rattle.vcd_core.specs.WordRows.{row_bit}
 use Rattle.vcd_core.specs.inside.Planes.{plane_bit}
 
 -- the bits of the word that was written
-pub plane_bit-set_same : (words : List ℕ) (plane j x k : ℕ) → j < length words → 2 * (k / 64) + plane ≡ j → plane_bit plane (set words j x) k ≡ bit_at x (k % 64)
+pub plane_bit-set_same : (words : List ℕ) (plane j x k : ℕ) → j < length words → 2 * (k / 64) + plane ≡ j
+    → plane_bit plane (set words j x) k ≡ bit_at x (k % 64)
 unfolding plane_bit
-plane_bit-set_same words plane j x k within here = ap (λ i. bit_at (get_or (set words j x) i 0) (k % 64)) here ∙ ap (λ w. bit_at w (k % 64)) (get_or-set_same words j x 0 within)
+plane_bit-set_same words plane j x k within here = ap (λ i. bit_at (get_or (set words j x) i 0) (k % 64)) here
+    ∙ ap (λ w. bit_at w (k % 64)) (get_or-set_same words j x 0 within)
 
 -- the bits of the other words
-pub plane_bit-set_other : (words : List ℕ) (plane j x k : ℕ) → 2 * (k / 64) + plane ≢ j → plane_bit plane (set words j x) k ≡ plane_bit plane words k
+pub plane_bit-set_other : (words : List ℕ) (plane j x k : ℕ) → 2 * (k / 64) + plane ≢ j
+    → plane_bit plane (set words j x) k ≡ plane_bit plane words k
 unfolding plane_bit
-plane_bit-set_other words plane j x k elsewhere = ap (λ w. bit_at w (k % 64)) (get_or-set_other words j (2 * (k / 64) + plane) x 0 elsewhere)
+plane_bit-set_other words plane j x k elsewhere =
+    ap (λ w. bit_at w (k % 64)) (get_or-set_other words j (2 * (k / 64) + plane) x 0 elsewhere)
 
 -- where the new word differs from the old one in one bit alone, so does the plane
 pub plane_bit-write : (words : List ℕ) (plane k x : ℕ) → 2 * (k / 64) + plane < length words
@@ -30,8 +35,10 @@ plane_bit-write words plane k x within others i apart =
           let low : i % 64 < 64 = omega arith in
           let differs : i % 64 ≢ k % 64 = omega arith in
           let place : 2 * (i / 64) + plane ≡ 2 * (k / 64) + plane = omega arith in
-          plane_bit-set_same words plane (2 * (k / 64) + plane) x i within place ∙ others (i % 64) low differs ∙ ap (λ j. bit_at (get_or words j 0) (i % 64)) (sym place)
-      | inr elsewhere ↦ let differs : 2 * (i / 64) + plane ≢ 2 * (k / 64) + plane = omega arith in plane_bit-set_other words plane (2 * (k / 64) + plane) x i differs
+          plane_bit-set_same words plane (2 * (k / 64) + plane) x i within place ∙ others (i % 64) low differs
+          ∙ ap (λ j. bit_at (get_or words j 0) (i % 64)) (sym place)
+      | inr elsewhere ↦ let differs : 2 * (i / 64) + plane ≢ 2 * (k / 64) + plane = omega arith in
+          plane_bit-set_other words plane (2 * (k / 64) + plane) x i differs
     ]
 
 -- the other plane stays
@@ -63,16 +70,20 @@ module _ (words : List ℕ) (j low high : ℕ) (within : 2 * j + 1 < length word
   pub low_set : (k : ℕ) → k / 64 ≡ j → plane_bit 0 (both_set words j low high) k ≡ bit_at low (k % 64)
   low_set k here =
       let elsewhere : 2 * (k / 64) + 0 ≢ 2 * j + 1 = omega arith in
-      plane_bit-set_other (set words (2 * j) low) 0 (2 * j + 1) high k elsewhere ∙ plane_bit-set_same words 0 (2 * j) low k (omega arith) (omega arith)
+      plane_bit-set_other (set words (2 * j) low) 0 (2 * j + 1) high k elsewhere
+      ∙ plane_bit-set_same words 0 (2 * j) low k (omega arith) (omega arith)
 
   pub high_set : (k : ℕ) → k / 64 ≡ j → plane_bit 1 (both_set words j low high) k ≡ bit_at high (k % 64)
-  high_set k here = plane_bit-set_same (set words (2 * j) low) 1 (2 * j + 1) high k (omega (arith, length-set words (2 * j) low)) (omega arith)
+  high_set k here = plane_bit-set_same (set words (2 * j) low) 1 (2 * j + 1) high k
+      (omega (arith, length-set words (2 * j) low)) (omega arith)
 
-  pub others_kept : (plane k : ℕ) → plane < 2 → k / 64 ≢ j → plane_bit plane (both_set words j low high) k ≡ plane_bit plane words k
+  pub others_kept : (plane k : ℕ) → plane < 2 → k / 64 ≢ j
+      → plane_bit plane (both_set words j low high) k ≡ plane_bit plane words k
   others_kept plane k which elsewhere =
       let first : 2 * (k / 64) + plane ≢ 2 * j + 1 = omega arith in
       let second : 2 * (k / 64) + plane ≢ 2 * j = omega arith in
-      plane_bit-set_other (set words (2 * j) low) plane (2 * j + 1) high k first ∙ plane_bit-set_other words plane (2 * j) low k second
+      plane_bit-set_other (set words (2 * j) low) plane (2 * j + 1) high k first
+      ∙ plane_bit-set_other words plane (2 * j) low k second
 
 -- the first words of both planes hold the bits of two rows that are below the width
 pub record HoldsRows (n width j : ℕ) (words lows highs : List ℕ) : Type 0 where
@@ -83,7 +94,9 @@ pub record HoldsRows (n width j : ℕ) (words lows highs : List ℕ) : Type 0 wh
 -- and one word more
 pub one_more : (n width j left : ℕ) (words low high : List ℕ) → length words ≡ 2 * n → j < n → left ≡ width - 64 * j
     → HoldsRows n width j words low high
-    → HoldsRows n width (j + 1) (both_set words j (bit_and (get_or low j 0) (2 ^ min left 64 - 1)) (bit_and (get_or high j 0) (2 ^ min left 64 - 1))) low high
+    → HoldsRows n width (j + 1)
+    (both_set words j (bit_and (get_or low j 0) (2 ^ min left 64 - 1))
+    (bit_and (get_or high j 0) (2 ^ min left 64 - 1))) low high
 unfolding row_bit
 one_more n width j left words low high sized within is holds =
     let inside : 2 * j + 1 < length words = omega arith in
@@ -91,12 +104,18 @@ one_more n width j left words low high sized within is holds =
     let b = bit_and (get_or high j 0) (2 ^ min left 64 - 1) in
     record {
       low = λ k below in_width. elim (cases_eq (k / 64) j) [
-        | inl here ↦ low_set words j a b inside k here ∙ masked (get_or low j 0) left (k % 64) (omega arith) (omega arith) ∙ ap (λ i. bit_at (get_or low i 0) (k % 64)) (sym here)
-        | inr elsewhere ↦ others_kept words j a b inside 0 k (omega arith) elsewhere ∙ holds.low k (omega arith) in_width
+        | inl here ↦ low_set words j a b inside k here
+            ∙ masked (get_or low j 0) left (k % 64) (omega arith) (omega arith)
+            ∙ ap (λ i. bit_at (get_or low i 0) (k % 64)) (sym here)
+        | inr elsewhere ↦ others_kept words j a b inside 0 k (omega arith) elsewhere
+            ∙ holds.low k (omega arith) in_width
       ];
       high = λ k below in_width. elim (cases_eq (k / 64) j) [
-        | inl here ↦ high_set words j a b inside k here ∙ masked (get_or high j 0) left (k % 64) (omega arith) (omega arith) ∙ ap (λ i. bit_at (get_or high i 0) (k % 64)) (sym here)
-        | inr elsewhere ↦ others_kept words j a b inside 1 k (omega arith) elsewhere ∙ holds.high k (omega arith) in_width
+        | inl here ↦ high_set words j a b inside k here
+            ∙ masked (get_or high j 0) left (k % 64) (omega arith) (omega arith)
+            ∙ ap (λ i. bit_at (get_or high i 0) (k % 64)) (sym here)
+        | inr elsewhere ↦ others_kept words j a b inside 1 k (omega arith) elsewhere
+            ∙ holds.high k (omega arith) in_width
       ];
       clear = λ plane k which out below. elim (cases_eq (k / 64) j) [
         | inl here ↦ cleared plane k which here out
@@ -104,9 +123,13 @@ one_more n width j left words low high sized within is holds =
       ];
     }
   where
-    cleared : (plane k : ℕ) → plane < 2 → k / 64 ≡ j → width ≤ k → plane_bit plane (both_set words j (bit_and (get_or low j 0) (2 ^ min left 64 - 1)) (bit_and (get_or high j 0) (2 ^ min left 64 - 1))) k ≡ 0
-    cleared zero k which here out = low_set words j _ _ (omega arith) k here ∙ masked_above (get_or low j 0) left (k % 64) (omega arith) (omega arith)
-    cleared (suc zero) k which here out = high_set words j _ _ (omega arith) k here ∙ masked_above (get_or high j 0) left (k % 64) (omega arith) (omega arith)
+    cleared : (plane k : ℕ) → plane < 2 → k / 64 ≡ j → width ≤ k
+        → plane_bit plane (both_set words j (bit_and (get_or low j 0) (2 ^ min left 64 - 1))
+        (bit_and (get_or high j 0) (2 ^ min left 64 - 1))) k ≡ 0
+    cleared zero k which here out = low_set words j _ _ (omega arith) k here
+        ∙ masked_above (get_or low j 0) left (k % 64) (omega arith) (omega arith)
+    cleared (suc zero) k which here out = high_set words j _ _ (omega arith) k here
+        ∙ masked_above (get_or high j 0) left (k % 64) (omega arith) (omega arith)
     cleared (suc (suc _)) k which here out = absurd (omega arith)
 
 -- planes of zeros hold none
@@ -115,10 +138,14 @@ unfolding plane_bit
 none_held n width low high = record {
   low = λ k below _. absurd (omega arith);
   high = λ k below _. absurd (omega arith);
-  clear = λ plane k which _ below. ap (λ w. bit_at w (k % 64)) (get_or-replicate (2 * n) (2 * (k / 64) + plane) 0 0 (omega arith)) ∙ bit_at-zero (k % 64);
+  clear = λ plane k which _ below. ap (λ w. bit_at w (k % 64))
+      (get_or-replicate (2 * n) (2 * (k / 64) + plane) 0 0 (omega arith)) ∙ bit_at-zero (k % 64);
 }
 
 -- a word of each plane, the others zero
-pub word_held : (n width low high mask : ℕ) → 0 < n → mask ≡ 2 ^ min width 64 - 1 → HoldsRows n width 1 (both_set (replicate (2 * n) 0) 0 (bit_and low mask) (bit_and high mask)) (low ∷ []) (high ∷ [])
+pub word_held : (n width low high mask : ℕ) → 0 < n → mask ≡ 2 ^ min width 64 - 1
+    → HoldsRows n width 1 (both_set (replicate (2 * n) 0) 0 (bit_and low mask) (bit_and high mask)) (low ∷ [])
+    (high ∷ [])
 word_held n width low high mask some is =
-    rw is (one_more n width 0 width (replicate (2 * n) 0) (low ∷ []) (high ∷ []) (length-replicate (2 * n) 0) some (omega arith) (none_held n width (low ∷ []) (high ∷ [])))
+    rw is (one_more n width 0 width (replicate (2 * n) 0) (low ∷ []) (high ∷ []) (length-replicate (2 * n) 0) some
+    (omega arith) (none_held n width (low ∷ []) (high ∷ [])))

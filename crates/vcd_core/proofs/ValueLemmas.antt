@@ -1,9 +1,11 @@
 -- The letters that two planes show.
-use Rattle.std.proofs.Common.{◌≡◌, ◌≢◌, ℕ, ◌+◌, ◌-◌, ◌*◌, ◌/◌, ◌%◌, ◌<◌, ◌≤◌, inl, inr, if◌then◌else◌, nat_lt, List, [], ◌∷◌, ◌↔◌, min, ◌^◌, length, take, replicate, get_or, refl, sym, ap, ◌∙◌, arith}
+use Rattle.std.proofs.Common.{◌≡◌, ◌≢◌, ℕ, ◌+◌, ◌-◌, ◌*◌, ◌/◌, ◌%◌, ◌<◌, ◌≤◌, inl, inr, if◌then◌else◌, nat_lt, List, []}
+use Rattle.std.proofs.Common.{◌∷◌, ◌↔◌, min, ◌^◌, length, take, replicate, get_or, refl, sym, ap, ◌∙◌, arith}
 use Rattle.std.proofs.Math.ListN.{set}
 use Rattle.std.specs.Int.{bit_at}
 use Rattle.std.specs.Int.Bits.{bit_and, mask_lt}
-use Rattle.std.proofs.lemmas.List.{ext_get_or, get_or-set_same, get_or-set_other, get_or-replicate, get_or-take, length-replicate, length-set}
+use Rattle.std.proofs.lemmas.List.{ext_get_or, get_or-set_same, get_or-set_other, get_or-replicate, get_or-take}
+use Rattle.std.proofs.lemmas.List.{length-replicate, length-set}
 use Rattle.std.proofs.lemmas.List.FromFn.{get_or-map-range_with_len, length-map-range_with_len}
 use Rattle.std.proofs.lemmas.Nat.Bits.{bit_at-lt, same_from_bits_below}
 use Rattle.std.proofs.lemmas.Bool.{cases_lt, lt-ltb, le-ltb}
@@ -14,7 +16,8 @@ use Rattle.vcd_core.specs.declared.value.Value.TheInside.{Inside}
 use Rattle.vcd_core.specs.Value.{letter_at}
 use Rattle.vcd_core.specs.WordRows.{row_bit, letter_of, low_of, high_of, letters_of}
 use Rattle.vcd_core.specs.inside.Planes.{plane_bit, letters_in, view_value, bit_in, IsValue}
-use Rattle.vcd_core.specs.inside.PlaneLaws.{letter_at-letters_in, length-letters_in, bit_in-letter_of, low_of-letter_of, high_of-letter_of}
+use Rattle.vcd_core.specs.inside.PlaneLaws.{letter_at-letters_in, length-letters_in, bit_in-letter_of, low_of-letter_of}
+use Rattle.vcd_core.specs.inside.PlaneLaws.{high_of-letter_of}
 use Rattle.vcd_core.proofs.PlaneBits.{masked, masked_above}
 
 pub letter_of-letter : (b : Bit) → letter_of (low_of b) (high_of b) ≡ b
@@ -24,7 +27,8 @@ letter_of-letter X = refl
 letter_of-letter Z = refl
 
 -- a value is known by its letters
-pub same_letter_at : (v w : List Bit) → length v ≡ length w → ((k : ℕ) → k < length v → letter_at v k ≡ letter_at w k) → v ≡ w
+pub same_letter_at : (v w : List Bit) → length v ≡ length w → ((k : ℕ) → k < length v → letter_at v k ≡ letter_at w k)
+    → v ≡ w
 same_letter_at v w long same = ext_get_or X v w long (λ i within.
     let k : ℕ = length v - 1 - i in
     let back : length v - 1 - k ≡ i = omega arith in
@@ -38,20 +42,24 @@ pub letters_in-shown : (v : List Bit) (width : ℕ) (words : List ℕ) → width
     → letters_in width words ≡ v
 letters_in-shown v width words long lows highs = same_letter_at _ v (length-letters_in width words ∙ long) (λ k within.
     let inside : k < width = omega (arith, length-letters_in width words) in
-    letter_at-letters_in width words k inside ∙ (λ p. letter_of (lows k inside p) (highs k inside p)) ∙ letter_of-letter (letter_at v k))
+    letter_at-letters_in width words k inside ∙ (λ p. letter_of (lows k inside p) (highs k inside p))
+    ∙ letter_of-letter (letter_at v k))
 
 pub length-letters_of : (width : ℕ) (low high : List ℕ) → length (letters_of width low high) ≡ width
 unfolding letters_of
 length-letters_of width low high = length-map-range_with_len _ 0 width
 
 -- the letter at bit k is that of the rows' bits k
-pub letter_at-letters_of : (width : ℕ) (low high : List ℕ) (k : ℕ) → k < width → letter_at (letters_of width low high) k ≡ letter_of (row_bit low k) (row_bit high k)
+pub letter_at-letters_of : (width : ℕ) (low high : List ℕ) (k : ℕ) → k < width
+    → letter_at (letters_of width low high) k ≡ letter_of (row_bit low k) (row_bit high k)
 unfolding letters_of
 letter_at-letters_of width low high k within =
-    let place : length (letters_of width low high) - 1 - k ≡ width - 1 - k = ap (λ n. n - 1 - k) (length-letters_of width low high) in
+    let place : length (letters_of width low high) - 1 - k ≡ width - 1 - k =
+    ap (λ n. n - 1 - k) (length-letters_of width low high) in
     let back : width - 1 - (width - 1 - k) ≡ k = omega arith in
     ap (λ i. get_or (letters_of width low high) i X) place
-    ∙ get_or-map-range_with_len (λ i. letter_of (row_bit low (width - 1 - i)) (row_bit high (width - 1 - i))) 0 width (width - 1 - k) (width - 1 - k) X (omega arith) (omega arith)
+    ∙ get_or-map-range_with_len (λ i. letter_of (row_bit low (width - 1 - i)) (row_bit high (width - 1 - i))) 0 width
+    (width - 1 - k) (width - 1 - k) X (omega arith) (omega arith)
     ∙ ap (λ i. letter_of (row_bit low i) (row_bit high i)) back
 
 -- planes with the bits of two rows show the letters of the rows
@@ -59,9 +67,11 @@ pub letters_in-rows : (width : ℕ) (words low high : List ℕ)
     → ((k : ℕ) → k < width → plane_bit 0 words k ≡ row_bit low k)
     → ((k : ℕ) → k < width → plane_bit 1 words k ≡ row_bit high k)
     → letters_in width words ≡ letters_of width low high
-letters_in-rows width words low high lows highs = same_letter_at _ _ (length-letters_in width words ∙ sym (length-letters_of width low high)) (λ k within.
+letters_in-rows width words low high lows highs =
+    same_letter_at _ _ (length-letters_in width words ∙ sym (length-letters_of width low high)) (λ k within.
     let inside : k < width = omega (arith, length-letters_in width words) in
-    letter_at-letters_in width words k inside ∙ (λ p. letter_of (lows k inside p) (highs k inside p)) ∙ sym (letter_at-letters_of width low high k inside))
+    letter_at-letters_in width words k inside ∙ (λ p. letter_of (lows k inside p) (highs k inside p))
+    ∙ sym (letter_at-letters_of width low high k inside))
 
 pub letter_at-replicate : (n k : ℕ) (b : Bit) → k < n → letter_at (replicate n b) k ≡ b
 letter_at-replicate n k b within = get_or-replicate n _ b X (omega (arith, length-replicate n b))
@@ -71,9 +81,12 @@ pub letters_of-replicate : (width n low high : ℕ) (b : Bit) → width ≤ 64 *
     → ((i : ℕ) → i < 64 → bit_at low i ≡ low_of b) → ((i : ℕ) → i < 64 → bit_at high i ≡ high_of b)
     → letters_of width (replicate n low) (replicate n high) ≡ replicate width b
 unfolding row_bit
-letters_of-replicate width n low high b within lows highs = same_letter_at _ _ (length-letters_of width (replicate n low) (replicate n high) ∙ sym (length-replicate width b)) (λ k below.
+letters_of-replicate width n low high b within lows highs =
+    same_letter_at _ _ (length-letters_of width (replicate n low) (replicate n high) ∙ sym (length-replicate width b))
+    (λ k below.
     let inside : k < width = omega (arith, length-letters_of width (replicate n low) (replicate n high)) in
-    let at : (w : ℕ) → row_bit (replicate n w) k ≡ bit_at w (k % 64) = λ w. ap (λ x. bit_at x (k % 64)) (get_or-replicate n (k / 64) w 0 (omega arith)) in
+    let at : (w : ℕ) → row_bit (replicate n w) k ≡ bit_at w (k % 64) =
+    λ w. ap (λ x. bit_at x (k % 64)) (get_or-replicate n (k / 64) w 0 (omega arith)) in
     letter_at-letters_of width _ _ k inside
     ∙ (λ p. letter_of ((at low ∙ lows (k % 64) (omega arith)) p) ((at high ∙ highs (k % 64) (omega arith)) p))
     ∙ letter_of-letter b ∙ sym (letter_at-replicate width k b inside))
@@ -81,25 +94,33 @@ letters_of-replicate width n low high b within lows highs = same_letter_at _ _ (
 -- the letter that was written, and the others
 pub letter_at-set_same : (v : List Bit) (k : ℕ) (b : Bit) → k < length v → letter_at (set v (length v - 1 - k) b) k ≡ b
 letter_at-set_same v k b within =
-    ap (λ n. get_or (set v (length v - 1 - k) b) (n - 1 - k) X) (length-set v _ b) ∙ get_or-set_same v (length v - 1 - k) b X (omega arith)
+    ap (λ n. get_or (set v (length v - 1 - k) b) (n - 1 - k) X) (length-set v _ b)
+    ∙ get_or-set_same v (length v - 1 - k) b X (omega arith)
 
-pub letter_at-set_other : (v : List Bit) (k i : ℕ) (b : Bit) → k < length v → i < length v → i ≢ k → letter_at (set v (length v - 1 - k) b) i ≡ letter_at v i
+pub letter_at-set_other : (v : List Bit) (k i : ℕ) (b : Bit) → k < length v → i < length v → i ≢ k
+    → letter_at (set v (length v - 1 - k) b) i ≡ letter_at v i
 letter_at-set_other v k i b within inside apart =
     let differs : length v - 1 - i ≢ length v - 1 - k = omega arith in
-    ap (λ n. get_or (set v (length v - 1 - k) b) (n - 1 - i) X) (length-set v _ b) ∙ get_or-set_other v (length v - 1 - k) (length v - 1 - i) b X differs
+    ap (λ n. get_or (set v (length v - 1 - k) b) (n - 1 - i) X) (length-set v _ b)
+    ∙ get_or-set_other v (length v - 1 - k) (length v - 1 - i) b X differs
 
 -- the words in use tell the letters
-pub same_words : (width m : ℕ) (xs ys : List ℕ) → width ≤ 64 * m → take (2 * m) xs ≡ take (2 * m) ys → letters_in width xs ≡ letters_in width ys
+pub same_words : (width m : ℕ) (xs ys : List ℕ) → width ≤ 64 * m → take (2 * m) xs ≡ take (2 * m) ys
+    → letters_in width xs ≡ letters_in width ys
 unfolding plane_bit
-same_words width m xs ys fits same = same_letter_at _ _ (length-letters_in width xs ∙ sym (length-letters_in width ys)) (λ k below.
+same_words width m xs ys fits same =
+    same_letter_at _ _ (length-letters_in width xs ∙ sym (length-letters_in width ys)) (λ k below.
     let inside : k < width = omega (arith, length-letters_in width xs) in
-    letter_at-letters_in width xs k inside ∙ (λ p. letter_of (same_bit 0 k (omega arith) inside p) (same_bit 1 k (omega arith) inside p)) ∙ sym (letter_at-letters_in width ys k inside))
+    letter_at-letters_in width xs k inside
+    ∙ (λ p. letter_of (same_bit 0 k (omega arith) inside p) (same_bit 1 k (omega arith) inside p))
+    ∙ sym (letter_at-letters_in width ys k inside))
   where
     same_bit : (plane k : ℕ) → plane < 2 → k < width → plane_bit plane xs k ≡ plane_bit plane ys k
     same_bit plane k which inside =
         let i : ℕ = 2 * (k / 64) + plane in
         let within : i < 2 * m = omega arith in
-        ap (λ w. bit_at w (k % 64)) (sym (get_or-take (2 * m) xs i 0 within) ∙ ap (λ l. get_or l i 0) same ∙ get_or-take (2 * m) ys i 0 within)
+        ap (λ w. bit_at w (k % 64)) (sym (get_or-take (2 * m) xs i 0 within) ∙ ap (λ l. get_or l i 0) same
+        ∙ get_or-take (2 * m) ys i 0 within)
 
 -- what the planes of a value tell of its letters
 module _ (v : List Bit) (inside : Inside) (is : IsValue inside) (shows : view_value inside ≡ v) where
@@ -107,47 +128,60 @@ module _ (v : List Bit) (inside : Inside) (is : IsValue inside) (shows : view_va
   unfolding view_value
   length-shown = ap length (sym shows) ∙ length-letters_in inside.width inside.planes
 
-  pub letter_at-shown : (k : ℕ) → k < length v → letter_at v k ≡ letter_of (plane_bit 0 inside.planes k) (plane_bit 1 inside.planes k)
+  pub letter_at-shown : (k : ℕ) → k < length v
+      → letter_at v k ≡ letter_of (plane_bit 0 inside.planes k) (plane_bit 1 inside.planes k)
   unfolding view_value
-  letter_at-shown k within = ap (λ w. letter_at w k) (sym shows) ∙ letter_at-letters_in inside.width inside.planes k (omega (arith, length-shown))
+  letter_at-shown k within = ap (λ w. letter_at w k) (sym shows)
+      ∙ letter_at-letters_in inside.width inside.planes k (omega (arith, length-shown))
 
   -- a bit of the value is within its planes
   pub in_planes : (plane k : ℕ) → plane < 2 → k < length v → 2 * (k / 64) + plane < length inside.planes
   in_planes plane k which within = omega (arith, length-shown, is.most, is.planes.sized)
 
-  pub bit-shown : (plane k : ℕ) → plane < 2 → k < length v → plane_bit plane inside.planes k ≡ bit_in plane (letter_at v k)
+  pub bit-shown : (plane k : ℕ) → plane < 2 → k < length v
+      → plane_bit plane inside.planes k ≡ bit_in plane (letter_at v k)
   unfolding plane_bit
   bit-shown plane k which within =
       sym (ap (bit_in plane) (letter_at-shown k within)
-      ∙ bit_in-letter_of plane _ _ (bit_at-lt _ _) (bit_at-lt _ _) which (plane_bit plane inside.planes k) (ap (λ p. plane_bit p inside.planes k)) (ap (λ p. plane_bit p inside.planes k)))
+      ∙ bit_in-letter_of plane _ _ (bit_at-lt _ _) (bit_at-lt _ _) which (plane_bit plane inside.planes k)
+      (ap (λ p. plane_bit p inside.planes k)) (ap (λ p. plane_bit p inside.planes k)))
 
   pub word_within : (plane k : ℕ) → plane < 2 → 64 * k < length v → 2 * k + plane < length inside.planes
   word_within plane k which within = omega (arith, length-shown, is.most, is.planes.sized)
 
   -- a word of a plane holds the bits of its letters, and none past the value
   pub word-shown : (plane k i : ℕ) → plane < 2 → 64 * k < length v → i < 64
-      → bit_at (get_or inside.planes (2 * k + plane) 0) i ≡ (if nat_lt (64 * k + i) (length v) then bit_in plane (letter_at v (64 * k + i)) else 0)
+      → bit_at (get_or inside.planes (2 * k + plane) 0) i
+      ≡ (if nat_lt (64 * k + i) (length v) then bit_in plane (letter_at v (64 * k + i)) else 0)
   unfolding plane_bit
   word-shown plane k i which within below =
       let place : 2 * ((64 * k + i) / 64) + plane ≡ 2 * k + plane = omega arith in
       let rest : (64 * k + i) % 64 ≡ i = omega arith in
-      let here : plane_bit plane inside.planes (64 * k + i) ≡ bit_at (get_or inside.planes (2 * k + plane) 0) i = (λ p. bit_at (get_or inside.planes (place p) 0) (rest p)) in
+      let here : plane_bit plane inside.planes (64 * k + i) ≡ bit_at (get_or inside.planes (2 * k + plane) 0) i =
+      (λ p. bit_at (get_or inside.planes (place p) 0) (rest p)) in
       sym here ∙ elim (cases_lt (64 * k + i) (length v)) [
         | inl in_value ↦ rw (lt-ltb (64 * k + i) (length v) in_value) (bit-shown plane (64 * k + i) which in_value)
-        | inr past ↦ rw (le-ltb (64 * k + i) (length v) past) (is.planes.clear plane (64 * k + i) which (omega (arith, length-shown)) (omega (arith, length-shown, is.most)))
+        | inr past ↦ rw (le-ltb (64 * k + i) (length v) past)
+            (is.planes.clear plane (64 * k + i) which (omega (arith, length-shown))
+            (omega (arith, length-shown, is.most)))
       ]
 
   -- the first words of a narrow value are those of two rows of one word that have its letters, cut at its width
   pub first_word : (plane w mask : ℕ) → plane < 2 → 1 ≤ length v → length v ≤ 64 → mask ≡ 2 ^ min inside.width 64 - 1
-      → ((k : ℕ) → k < length v → bit_in plane (letter_at v k) ≡ bit_at w k) → get_or inside.planes plane 0 ≡ bit_and w mask
+      → ((k : ℕ) → k < length v → bit_in plane (letter_at v k) ≡ bit_at w k)
+      → get_or inside.planes plane 0 ≡ bit_and w mask
   first_word plane w mask which some narrow is_mask same = rw is_mask (
-      same_from_bits_below 64 _ _ (is.planes.small plane 0 (omega (arith, is.planes.sized, word_within plane 0 which (omega arith)))) small (λ i below.
+      same_from_bits_below 64 _ _
+      (is.planes.small plane 0 (omega (arith, is.planes.sized, word_within plane 0 which (omega arith)))) small
+      (λ i below.
       let place : plane ≡ 2 * 0 + plane = omega arith in
       let bit : 64 * 0 + i ≡ i = omega arith in
       ap (λ j. bit_at (get_or inside.planes j 0) i) place ∙ word-shown plane 0 i which (omega arith) below
       ∙ ap (λ k. if nat_lt k (length v) then bit_in plane (letter_at v k) else 0) bit ∙ elim (cases_lt i (length v)) [
-        | inl in_value ↦ rw (lt-ltb i (length v) in_value) (same i in_value ∙ sym (masked w inside.width i (omega (arith, length-shown)) below))
-        | inr past ↦ rw (le-ltb i (length v) past) (sym (masked_above w inside.width i (omega (arith, length-shown)) below))
+        | inl in_value ↦ rw (lt-ltb i (length v) in_value) (same i in_value
+            ∙ sym (masked w inside.width i (omega (arith, length-shown)) below))
+        | inr past ↦ rw (le-ltb i (length v) past)
+            (sym (masked_above w inside.width i (omega (arith, length-shown)) below))
       ]))
     where
       small : bit_and w (2 ^ min inside.width 64 - 1) < 2 ^ 64
@@ -155,33 +189,41 @@ module _ (v : List Bit) (inside : Inside) (is : IsValue inside) (shows : view_va
 
   -- and such words give the letters
   pub letters_by_first_words : (low high mask : ℕ) → length v ≤ 64 → mask ≡ 2 ^ min inside.width 64 - 1
-      → get_or inside.planes 0 0 ≡ bit_and low mask → get_or inside.planes 1 0 ≡ bit_and high mask → letters_of (length v) (low ∷ []) (high ∷ []) ≡ v
+      → get_or inside.planes 0 0 ≡ bit_and low mask → get_or inside.planes 1 0 ≡ bit_and high mask
+      → letters_of (length v) (low ∷ []) (high ∷ []) ≡ v
   unfolding view_value plane_bit row_bit
   letters_by_first_words low high mask narrow is_mask first second =
       ap (λ n. letters_of n (low ∷ []) (high ∷ [])) length-shown
-      ∙ sym (letters_in-rows inside.width inside.planes (low ∷ []) (high ∷ []) (λ k below. bits 0 low k below first) (λ k below. bits 1 high k below second))
+      ∙ sym (letters_in-rows inside.width inside.planes (low ∷ []) (high ∷ []) (λ k below. bits 0 low k below first)
+      (λ k below. bits 1 high k below second))
       ∙ shows
     where
-      bits : (plane w k : ℕ) → k < inside.width → get_or inside.planes plane 0 ≡ bit_and w mask → plane_bit plane inside.planes k ≡ row_bit (w ∷ []) k
+      bits : (plane w k : ℕ) → k < inside.width → get_or inside.planes plane 0 ≡ bit_and w mask
+          → plane_bit plane inside.planes k ≡ row_bit (w ∷ []) k
       bits plane w k below word =
           let none : k / 64 ≡ 0 = omega (arith, length-shown) in
           let place : 2 * (k / 64) + plane ≡ plane = omega (arith, none) in
-          ap (λ j. bit_at (get_or inside.planes j 0) (k % 64)) place ∙ ap (λ x. bit_at x (k % 64)) (word ∙ ap (bit_and w) is_mask)
+          ap (λ j. bit_at (get_or inside.planes j 0) (k % 64)) place
+          ∙ ap (λ x. bit_at x (k % 64)) (word ∙ ap (bit_and w) is_mask)
           ∙ masked w inside.width (k % 64) (omega arith) (omega arith)
           ∙ ap (λ j. bit_at (get_or (w ∷ []) j 0) (k % 64)) (sym none)
 
   -- so the comparison of the words decides whether the letters are the same
   pub first_words-Decides : (low high mask : ℕ) → length v ≤ 64 → mask ≡ 2 ^ min inside.width 64 - 1
-      → (get_or inside.planes 0 0 ≡ bit_and low mask) × (get_or inside.planes 1 0 ≡ bit_and high mask) ↔ (letters_of (length v) (low ∷ []) (high ∷ []) ≡ v)
+      → (get_or inside.planes 0 0 ≡ bit_and low mask)
+      × (get_or inside.planes 1 0 ≡ bit_and high mask) ↔ (letters_of (length v) (low ∷ []) (high ∷ []) ≡ v)
   unfolding row_bit
   first_words-Decides low high mask narrow is_mask = (
     (λ (first, second). letters_by_first_words low high mask narrow is_mask first second),
     (λ same.
         let some : 1 ≤ length v = omega (arith, length-shown, is.least) in
         let letter : (k : ℕ) → k < length v → letter_at v k ≡ letter_of (row_bit (low ∷ []) k) (row_bit (high ∷ []) k) =
-        λ k within. ap (λ l. letter_at l k) (sym same) ∙ letter_at-letters_of (length v) (low ∷ []) (high ∷ []) k within in (
-          first_word 0 low mask (omega arith) some narrow is_mask (λ k within. ap low_of (letter k within) ∙ low_of-letter_of _ _ (row_bit-lt low k) ∙ one_row low k (omega arith)),
-          first_word 1 high mask (omega arith) some narrow is_mask (λ k within. ap high_of (letter k within) ∙ high_of-letter_of _ _ (row_bit-lt high k) ∙ one_row high k (omega arith)),
+        λ k within. ap (λ l. letter_at l k) (sym same)
+        ∙ letter_at-letters_of (length v) (low ∷ []) (high ∷ []) k within in (
+          first_word 0 low mask (omega arith) some narrow is_mask (λ k within. ap low_of (letter k within)
+              ∙ low_of-letter_of _ _ (row_bit-lt low k) ∙ one_row low k (omega arith)),
+          first_word 1 high mask (omega arith) some narrow is_mask (λ k within. ap high_of (letter k within)
+              ∙ high_of-letter_of _ _ (row_bit-lt high k) ∙ one_row high k (omega arith)),
         )),
   )
     where

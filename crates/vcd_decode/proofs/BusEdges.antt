@@ -12,7 +12,8 @@ use Rattle.vcd_decode.specs.inside.LineEdges.{lines_of, line_edge}
 use Rattle.vcd_decode.proofs.EdgeTicks.{over_edges}
 
 -- where no level changes, nothing happens
-nothing_happens : (t : ℕ) (scl sda : Bit) → bus_event t (record { scl = scl; sda = sda }) (record { scl = scl; sda = sda }) ≡ None
+nothing_happens : (t : ℕ) (scl sda : Bit)
+    → bus_event t (record { scl = scl; sda = sda }) (record { scl = scl; sda = sda }) ≡ None
 nothing_happens t Zero Zero = refl
 nothing_happens t Zero One = refl
 nothing_happens t Zero X = refl
@@ -34,7 +35,8 @@ as_lists : {A B : Type 0} (f : A → Option B) (xs : List A) → filter_map f xs
 as_lists f [] = refl
 as_lists f (x ∷ xs) = choose (f x) (as_lists f xs)
   where
-    choose : (o : Option _) → filter_map f xs ≡ flat_map (λ y. option_to_list (f y)) xs → cons_option o (filter_map f xs) ≡ option_to_list o ++ flat_map (λ y. option_to_list (f y)) xs
+    choose : (o : Option _) → filter_map f xs ≡ flat_map (λ y. option_to_list (f y)) xs
+        → cons_option o (filter_map f xs) ≡ option_to_list o ++ flat_map (λ y. option_to_list (f y)) xs
     choose None others = others
     choose (Some y) others = ap (λ ys. y ∷ ys) others
 
@@ -42,9 +44,11 @@ module _ (scl sda : WaveView) where
   abbrev pub bus_waves : List (Option WaveView)
   bus_waves = Some scl ∷ Some sda ∷ None ∷ None ∷ []
 
-  still : (t : ℕ) → (line_edge (lines_of bus_waves) t).at ≡ (line_edge (lines_of bus_waves) t).before → option_to_list (edge_event (line_edge (lines_of bus_waves) t)) ≡ []
+  still : (t : ℕ) → (line_edge (lines_of bus_waves) t).at ≡ (line_edge (lines_of bus_waves) t).before
+      → option_to_list (edge_event (line_edge (lines_of bus_waves) t)) ≡ []
   still t same =
-      ap (λ (letters : List (Option Bit)). option_to_list (bus_event t (levels_of (line_edge (lines_of bus_waves) t).before) (levels_of letters))) same
+      ap (λ (letters : List (Option Bit)). option_to_list
+      (bus_event t (levels_of (line_edge (lines_of bus_waves) t).before) (levels_of letters))) same
       ∙ ap option_to_list (nothing_happens t (letter_before (line_of scl) t) (letter_before (line_of sda) t))
 
   pub events_are : (end : ℕ) → edge_events (bit_edges_of bus_waves end) ≡ bus_events (line_of scl) (line_of sda) end

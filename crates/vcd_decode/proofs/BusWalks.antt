@@ -1,5 +1,7 @@
 -- Events taken one at a time bring the annotations of the whole bus.
-use Rattle.std.proofs.Common.{◌≡◌, ◌≢◌, ℕ, zero, suc, ◌<◌, ◌≤◌, ◌==◌, nat_le, Bool, true, false, if◌then◌else◌, Option, Some, None, Result, Ok, Err, OnOk, IfOk, List, [], ◌∷◌, ◌++◌, length, take, refl, sym, ap, ◌∙◌, inl, inr, arith}
+use Rattle.std.proofs.Common.{◌≡◌, ◌≢◌, ℕ, zero, suc, ◌<◌, ◌≤◌, ◌==◌, nat_le, Bool, true, false, if◌then◌else◌, Option}
+use Rattle.std.proofs.Common.{Some, None, Result, Ok, Err, OnOk, IfOk, List, [], ◌∷◌, ◌++◌, length, take, refl, sym, ap}
+use Rattle.std.proofs.Common.{◌∙◌, inl, inr, arith}
 use Rattle.std.specs.Option.{option_or}
 use Rattle.std.specs.List.{cons_option}
 use Rattle.vcd_core.specs.declared.memory.NoMemory.{NoMemory}
@@ -17,9 +19,12 @@ use Rattle.vcd_decode.specs.declared.i2c_bus.bytes.ByteRole.TheVariants as roles
 use Rattle.vcd_decode.specs.declared.i2c_bus.bytes.PartByte.{PartByte}
 use Rattle.vcd_decode.specs.declared.i2c_bus.transfer.Transfer.{Transfer}
 use Rattle.vcd_decode.specs.Lines.{annotation}
-use Rattle.vcd_decode.specs.BusBytes.{number_with, number_of_bits, byte_kind, role_after, acknowledge_kind, ten_bit_address}
-use Rattle.vcd_decode.specs.I2c.{bits_annotation, byte_annotations, rest_annotations, nines_annotations, bits_until, has_condition, shown_address, events_annotations}
-use Rattle.vcd_decode.specs.inside.BusWalk.{no_bits, part_with, part_of, left_annotations, whole_annotations, transfer_after_byte, event_annotations, bus_after, walk_annotations}
+use Rattle.vcd_decode.specs.BusBytes.{number_with, number_of_bits, byte_kind, role_after, acknowledge_kind}
+use Rattle.vcd_decode.specs.BusBytes.{ten_bit_address}
+use Rattle.vcd_decode.specs.I2c.{bits_annotation, byte_annotations, rest_annotations, nines_annotations, bits_until}
+use Rattle.vcd_decode.specs.I2c.{has_condition, shown_address, events_annotations}
+use Rattle.vcd_decode.specs.inside.BusWalk.{no_bits, part_with, part_of, left_annotations, whole_annotations}
+use Rattle.vcd_decode.specs.inside.BusWalk.{transfer_after_byte, event_annotations, bus_after, walk_annotations}
 use Rattle.vcd_decode.specs.Groups.{groups_of}
 use Rattle.vcd_decode.proofs.Groups.{groups_none, groups_short, groups_whole}
 use Rattle.vcd_decode.proofs.PartBytes.{part_count, part_first, part_last, part_number}
@@ -37,7 +42,8 @@ test_other m n other = choose (m == n) refl
 
 -- ---- fewer than nine bits
 
-rest_alone : (ended : Bool) (role : ByteRole) (g : List BusBit) → length g ≤ 8 → nines_annotations ended role (groups_of 9 g) ≡ rest_annotations ended g
+rest_alone : (ended : Bool) (role : ByteRole) (g : List BusBit) → length g ≤ 8
+    → nines_annotations ended role (groups_of 9 g) ≡ rest_annotations ended g
 unfolding nines_annotations
 rest_alone true role [] few = ap (nines_annotations true role) (groups_none 9)
 rest_alone false role [] few = ap (nines_annotations false role) (groups_none 9)
@@ -46,7 +52,8 @@ rest_alone ended role (b ∷ g) few =
     ap (nines_annotations ended role) (groups_short 9 (b ∷ g) (omega arith) (omega arith)) ∙ rw short refl
 
 -- what a condition leaves of them
-left_is : (role : ByteRole) (g : List BusBit) (given : Option ℕ) → left_annotations (Some (transfer_of role (part_of g) given)) ≡ rest_annotations true g
+left_is : (role : ByteRole) (g : List BusBit) (given : Option ℕ)
+    → left_annotations (Some (transfer_of role (part_of g) given)) ≡ rest_annotations true g
 left_is role [] given = refl
 left_is role (b ∷ g) given =
     let count = part_count (b ∷ g) in
@@ -66,7 +73,8 @@ none_given g = choose (nat_le 2 (length g))
 -- ---- a whole byte
 
 -- eight bits at hand and the ninth
-whole_is : (role : ByteRole) (g : List BusBit) (given : Option ℕ) (b : BusBit) → length g ≡ 8 → byte_annotations role (g ++ b ∷ []) ≡ whole_annotations (transfer_of role (part_of g) given) b
+whole_is : (role : ByteRole) (g : List BusBit) (given : Option ℕ) (b : BusBit) → length g ≡ 8
+    → byte_annotations role (g ++ b ∷ []) ≡ whole_annotations (transfer_of role (part_of g) given) b
 whole_is role [] given b eight = absurd (omega arith)
 whole_is role (a ∷ g) given b eight =
     let front = take_at (a ∷ g) (b ∷ []) 8 eight in
@@ -74,8 +82,10 @@ whole_is role (a ∷ g) given b eight =
     let first = part_first a g in
     let last = part_last a g in
     let number = part_number (a ∷ g) in
-    (λ i. bits_annotation (front i) (byte_kind role (number_of_bits (front i))) ∷ bits_annotation (ninth i) (acknowledge_kind (number_of_bits (ninth i))) ∷ [])
-    ∙ sym (λ i. annotation (first i) (last i) (byte_kind role (number i)) ∷ annotation b.tick b.tick (acknowledge_kind (number_with (Some 0) b)) ∷ [])
+    (λ i. bits_annotation (front i) (byte_kind role (number_of_bits (front i)))
+    ∷ bits_annotation (ninth i) (acknowledge_kind (number_of_bits (ninth i))) ∷ [])
+    ∙ sym (λ i. annotation (first i) (last i) (byte_kind role (number i))
+    ∷ annotation b.tick b.tick (acknowledge_kind (number_with (Some 0) b)) ∷ [])
 
 acknowledge_none : (number : Option ℕ) → ten_bit_address (acknowledge_kind number) ≡ None
 acknowledge_none None = refl
@@ -91,10 +101,14 @@ or_none None = refl
 or_none (Some x) = refl
 
 -- the address that the whole bits show, with the one that came before
-given_past : (t : Transfer) (b : BusBit) (others : List Annotation) → option_or t.address (shown_address (whole_annotations t b ++ others)) ≡ option_or (transfer_after_byte t).address (shown_address others)
+given_past : (t : Transfer) (b : BusBit) (others : List Annotation)
+    → option_or t.address (shown_address (whole_annotations t b ++ others))
+    ≡ option_or (transfer_after_byte t).address (shown_address others)
 unfolding shown_address
 given_past t b others =
-    ap (λ (o : Option ℕ). option_or t.address (option_or (ten_bit_address (byte_kind t.role t.part.number)) (option_or o (shown_address others)))) (acknowledge_none (number_with (Some 0) b))
+    ap (λ (o : Option ℕ). option_or t.address
+    (option_or (ten_bit_address (byte_kind t.role t.part.number)) (option_or o (shown_address others))))
+    (acknowledge_none (number_with (Some 0) b))
     ∙ or_assoc t.address (ten_bit_address (byte_kind t.role t.part.number)) (shown_address others)
 
 -- the annotations of bits at hand and those to come up to the next condition
@@ -103,17 +117,21 @@ stretch es role g = nines_annotations (has_condition es) role (groups_of 9 (g ++
 
 -- a full nine and what is behind it
 stretch_past : (es : List BusEvent) (role : ByteRole) (g : List BusBit) (given : Option ℕ) (b : BusBit) → length g ≡ 8
-    → nines_annotations (has_condition es) role (groups_of 9 (g ++ b ∷ bits_until es)) ≡ whole_annotations (transfer_of role (part_of g) given) b ++ stretch es (role_after role (part_of g).number) []
+    → nines_annotations (has_condition es) role (groups_of 9 (g ++ b ∷ bits_until es))
+    ≡ whole_annotations (transfer_of role (part_of g) given) b ++ stretch es (role_after role (part_of g).number) []
 unfolding nines_annotations
 stretch_past es role g given b eight =
     let nine : length (g ++ b ∷ []) ≡ 9 = length_push g b ∙ omega arith in
     let full : (length (g ++ b ∷ []) == 9) ≡ true = (Decides-eqb (length (g ++ b ∷ [])) 9).1 nine in
     let front = take_at g (b ∷ []) 8 eight in
-    let number : number_of_bits (take 8 (g ++ b ∷ [])) ≡ (part_of g).number = ap number_of_bits front ∙ sym (part_number g) in
+    let number : number_of_bits (take 8 (g ++ b ∷ [])) ≡ (part_of g).number = ap number_of_bits front
+    ∙ sym (part_number g) in
     let annotations = whole_is role g given b eight in
-    ap (λ (bs : List BusBit). nines_annotations (has_condition es) role (groups_of 9 bs)) (sym (append_assoc g (b ∷ []) (bits_until es)))
+    ap (λ (bs : List BusBit). nines_annotations (has_condition es) role (groups_of 9 bs))
+    (sym (append_assoc g (b ∷ []) (bits_until es)))
     ∙ ap (nines_annotations (has_condition es) role) (groups_whole 9 (g ++ b ∷ []) (bits_until es) (omega arith) nine)
-    ∙ rw full (λ i. annotations i ++ nines_annotations (has_condition es) (role_after role (number i)) (groups_of 9 (bits_until es)))
+    ∙ rw full (λ i. annotations i ++ nines_annotations (has_condition es) (role_after role (number i))
+    (groups_of 9 (bits_until es)))
 
 -- ---- all events
 
@@ -122,28 +140,46 @@ WalksFree es = walk_annotations None es ≡ events_annotations None es
 
 abbrev WalksTransfer : List BusEvent → Type 0
 WalksTransfer es = (role : ByteRole) (g : List BusBit) (given : Option ℕ) → length g ≤ 8
-    → walk_annotations (Some (transfer_of role (part_of g) given)) es ≡ stretch es role g ++ events_annotations (Some (option_or given (shown_address (stretch es role g)))) es
+    → walk_annotations (Some (transfer_of role (part_of g) given)) es ≡ stretch es role g
+    ++ events_annotations (Some (option_or given (shown_address (stretch es role g)))) es
 
 -- a condition comes: the bits at hand are a rest
-at_condition : (c : BusEvent) (es : List BusEvent) (role : ByteRole) (g : List BusBit) (given : Option ℕ) → length g ≤ 8 → bits_until (c ∷ es) ≡ [] → has_condition (c ∷ es) ≡ true
-    → (left_annotations (Some (transfer_of role (part_of g) given)) ≡ stretch (c ∷ es) role g) × (option_or given (shown_address (stretch (c ∷ es) role g)) ≡ given)
+at_condition : (c : BusEvent) (es : List BusEvent) (role : ByteRole) (g : List BusBit) (given : Option ℕ) → length g ≤ 8
+    → bits_until (c ∷ es) ≡ [] → has_condition (c ∷ es) ≡ true
+    → (left_annotations (Some (transfer_of role (part_of g) given)) ≡ stretch (c ∷ es) role g)
+    × (option_or given (shown_address (stretch (c ∷ es) role g)) ≡ given)
 at_condition c es role g given few none ended =
     let all : stretch (c ∷ es) role g ≡ rest_annotations true g =
-    (λ i. nines_annotations (ended i) role (groups_of 9 (g ++ none i))) ∙ ap (λ (bs : List BusBit). nines_annotations true role (groups_of 9 bs)) (append-nil g) ∙ rest_alone true role g few in
-    (left_is role g given ∙ sym all, ap (λ (shown : List Annotation). option_or given (shown_address shown)) all ∙ ap (option_or given) (none_given g) ∙ or_none given)
+    (λ i. nines_annotations (ended i) role (groups_of 9 (g ++ none i)))
+    ∙ ap (λ (bs : List BusBit). nines_annotations true role (groups_of 9 bs)) (append-nil g)
+    ∙ rest_alone true role g few in (
+      left_is role g given ∙ sym all,
+      ap (λ (shown : List Annotation). option_or given (shown_address shown)) all
+          ∙ ap (option_or given) (none_given g) ∙ or_none given,
+    )
 
 -- a bit that ends a byte, and one that does not
-bit_whole : (t : Transfer) (b : BusBit) (es : List BusEvent) → (t.part.count == 8) ≡ true → walk_annotations (Some t) (events.Bit b ∷ es) ≡ whole_annotations t b ++ walk_annotations (Some (transfer_after_byte t)) es
+bit_whole : (t : Transfer) (b : BusBit) (es : List BusEvent) → (t.part.count == 8) ≡ true
+    → walk_annotations (Some t) (events.Bit b ∷ es) ≡ whole_annotations t b
+    ++ walk_annotations (Some (transfer_after_byte t)) es
 unfolding walk_annotations
-bit_whole t b es is = λ i. (if is i then whole_annotations t b else []) ++ walk_annotations (Some (if is i then transfer_after_byte t else record t { part = part_with t.part b })) es
+bit_whole t b es is =
+    λ i. (if is i then whole_annotations t b else [])
+    ++ walk_annotations (Some (if is i then transfer_after_byte t else record t { part = part_with t.part b })) es
 
-bit_more : (t : Transfer) (b : BusBit) (es : List BusEvent) → (t.part.count == 8) ≡ false → walk_annotations (Some t) (events.Bit b ∷ es) ≡ walk_annotations (Some (record t { part = part_with t.part b })) es
+bit_more : (t : Transfer) (b : BusBit) (es : List BusEvent) → (t.part.count == 8) ≡ false
+    → walk_annotations (Some t) (events.Bit b ∷ es) ≡ walk_annotations (Some (record t { part = part_with t.part b }))
+    es
 unfolding walk_annotations
-bit_more t b es is = λ i. (if is i then whole_annotations t b else []) ++ walk_annotations (Some (if is i then transfer_after_byte t else record t { part = part_with t.part b })) es
+bit_more t b es is = λ i. (if is i then whole_annotations t b else [])
+    ++ walk_annotations (Some (if is i then transfer_after_byte t else record t { part = part_with t.part b })) es
 
-held_byte : (b : BusBit) (es : List BusEvent) (role : ByteRole) (g : List BusBit) (given : Option ℕ) → WalksTransfer es → length g ≡ 8
+held_byte : (b : BusBit) (es : List BusEvent) (role : ByteRole) (g : List BusBit) (given : Option ℕ) → WalksTransfer es
+    → length g ≡ 8
     → walk_annotations (Some (transfer_of role (part_of g) given)) (events.Bit b ∷ es)
-    ≡ stretch (events.Bit b ∷ es) role g ++ events_annotations (Some (option_or given (shown_address (stretch (events.Bit b ∷ es) role g)))) (events.Bit b ∷ es)
+    ≡ stretch (events.Bit b ∷ es) role g
+    ++ events_annotations (Some (option_or given (shown_address (stretch (events.Bit b ∷ es) role g))))
+    (events.Bit b ∷ es)
 unfolding bits_until has_condition events_annotations
 held_byte b es role g given later eight =
     let t : Transfer = transfer_of role (part_of g) given in
@@ -159,9 +195,12 @@ held_byte b es role g given later eight =
     ∙ ap (λ (o : Option ℕ). (whole ++ rest) ++ events_annotations (Some o) es) (sym (given_past t b rest))
     ∙ sym (λ i. past i ++ events_annotations (Some (option_or given (shown_address (past i)))) es)
 
-held_bit : (b : BusBit) (es : List BusEvent) (role : ByteRole) (g : List BusBit) (given : Option ℕ) → WalksTransfer es → length g < 8
+held_bit : (b : BusBit) (es : List BusEvent) (role : ByteRole) (g : List BusBit) (given : Option ℕ) → WalksTransfer es
+    → length g < 8
     → walk_annotations (Some (transfer_of role (part_of g) given)) (events.Bit b ∷ es)
-    ≡ stretch (events.Bit b ∷ es) role g ++ events_annotations (Some (option_or given (shown_address (stretch (events.Bit b ∷ es) role g)))) (events.Bit b ∷ es)
+    ≡ stretch (events.Bit b ∷ es) role g
+    ++ events_annotations (Some (option_or given (shown_address (stretch (events.Bit b ∷ es) role g))))
+    (events.Bit b ∷ es)
 unfolding bits_until has_condition events_annotations
 held_bit b es role g given later few =
     let t : Transfer = transfer_of role (part_of g) given in
@@ -171,11 +210,17 @@ held_bit b es role g given later few =
     bit_more t b es count
     ∙ ap (λ (p : PartByte). walk_annotations (Some (transfer_of role p given)) es) more
     ∙ later role (g ++ b ∷ []) given (omega (arith, length_push g b))
-    ∙ (λ i. nines_annotations (has_condition es) role (groups_of 9 (longer i)) ++ events_annotations (Some (option_or given (shown_address (nines_annotations (has_condition es) role (groups_of 9 (longer i)))))) es)
+    ∙ (λ i. nines_annotations (has_condition es) role (groups_of 9 (longer i))
+    ++ events_annotations
+    (Some (option_or given (shown_address (nines_annotations (has_condition es) role (groups_of 9 (longer i))))))
+    es)
 
-held_start : (t : ℕ) (es : List BusEvent) (role : ByteRole) (g : List BusBit) (given : Option ℕ) → WalksTransfer es → length g ≤ 8
+held_start : (t : ℕ) (es : List BusEvent) (role : ByteRole) (g : List BusBit) (given : Option ℕ) → WalksTransfer es
+    → length g ≤ 8
     → walk_annotations (Some (transfer_of role (part_of g) given)) (events.Start t ∷ es)
-    ≡ stretch (events.Start t ∷ es) role g ++ events_annotations (Some (option_or given (shown_address (stretch (events.Start t ∷ es) role g)))) (events.Start t ∷ es)
+    ≡ stretch (events.Start t ∷ es) role g
+    ++ events_annotations (Some (option_or given (shown_address (stretch (events.Start t ∷ es) role g))))
+    (events.Start t ∷ es)
 unfolding walk_annotations bits_until has_condition events_annotations
 held_start t es role g given later few =
     let here = at_condition (events.Start t) es role g given few refl refl in
@@ -184,13 +229,17 @@ held_start t es role g given later few =
     let others : List Annotation = shown ++ events_annotations (Some (shown_address shown)) es in
     let start : List Annotation = annotation t t kinds.RepeatedStart ∷ [] in
     let old = sym here.1 in
-    ap (λ (annotations : List Annotation). (rest ++ start) ++ annotations) (later (roles.Address given) [] None (omega arith))
+    ap (λ (annotations : List Annotation). (rest ++ start) ++ annotations)
+    (later (roles.Address given) [] None (omega arith))
     ∙ append_assoc rest start others
     ∙ (λ i. here.0 i ++ events_annotations (Some (old i)) (events.Start t ∷ es))
 
-held_stop : (t : ℕ) (es : List BusEvent) (role : ByteRole) (g : List BusBit) (given : Option ℕ) → WalksFree es → length g ≤ 8
+held_stop : (t : ℕ) (es : List BusEvent) (role : ByteRole) (g : List BusBit) (given : Option ℕ) → WalksFree es
+    → length g ≤ 8
     → walk_annotations (Some (transfer_of role (part_of g) given)) (events.Stop t ∷ es)
-    ≡ stretch (events.Stop t ∷ es) role g ++ events_annotations (Some (option_or given (shown_address (stretch (events.Stop t ∷ es) role g)))) (events.Stop t ∷ es)
+    ≡ stretch (events.Stop t ∷ es) role g
+    ++ events_annotations (Some (option_or given (shown_address (stretch (events.Stop t ∷ es) role g))))
+    (events.Stop t ∷ es)
 unfolding walk_annotations bits_until has_condition events_annotations
 held_stop t es role g given later few =
     let here = at_condition (events.Stop t) es role g given few refl refl in
@@ -204,11 +253,15 @@ held_stop t es role g given later few =
 held_none : WalksTransfer []
 unfolding walk_annotations bits_until has_condition events_annotations
 held_none role g given few =
-    sym (append-nil (stretch [] role g) ∙ ap (λ (bs : List BusBit). nines_annotations false role (groups_of 9 bs)) (append-nil g) ∙ rest_alone false role g few)
+    sym (append-nil (stretch [] role g)
+    ∙ ap (λ (bs : List BusBit). nines_annotations false role (groups_of 9 bs)) (append-nil g)
+    ∙ rest_alone false role g few)
 
 held_start_free : (t : ℕ) (es : List BusEvent) → WalksTransfer es → WalksFree (events.Start t ∷ es)
 unfolding walk_annotations events_annotations
-held_start_free t es later = ap (λ (annotations : List Annotation). annotation t t kinds.Start ∷ annotations) (later (roles.Address None) [] None (omega arith))
+held_start_free t es later =
+    ap (λ (annotations : List Annotation). annotation t t kinds.Start ∷ annotations)
+    (later (roles.Address None) [] None (omega arith))
 
 walked : (es : List BusEvent) → WalksFree es × WalksTransfer es
 unfolding walk_annotations events_annotations
@@ -225,17 +278,21 @@ walked (events.Start t ∷ es) =
     let later = walked es in
     (held_start_free t es later.1, λ role g given few. held_start t es role g given later.1 few)
 walked (events.Stop t ∷ es) =
-    let later = walked es in
-    (ap (λ (annotations : List Annotation). annotation t t kinds.Stop ∷ annotations) later.0, λ role g given few. held_stop t es role g given later.0 few)
+    let later = walked es in (
+      ap (λ (annotations : List Annotation). annotation t t kinds.Stop ∷ annotations) later.0,
+      λ role g given few. held_stop t es role g given later.0 few,
+    )
 
 -- events taken one at a time, from a free bus on
 pub walk_is : (es : List BusEvent) → walk_annotations None es ≡ events_annotations None es
 walk_is es = (walked es).0
 
 -- what an event brings, and then those behind it
-pub event_taken : (r : Result (Option Transfer) NoMemory) (old new : List Annotation) (bus : Option Transfer) (told : Option BusEvent) (e : BusEvent) → told ≡ Some e
+pub event_taken : (r : Result (Option Transfer) NoMemory) (old new : List Annotation) (bus : Option Transfer)
+    (told : Option BusEvent) (e : BusEvent) → told ≡ Some e
     → OnOk r (new ≡ old ++ event_annotations bus e) → IfOk r (λ next. next ≡ bus_after bus e)
-    → IfOk r (λ next. (es : List BusEvent) → new ++ walk_annotations next es ≡ old ++ walk_annotations bus (cons_option told es))
+    → IfOk r (λ next. (es : List BusEvent)
+    → new ++ walk_annotations next es ≡ old ++ walk_annotations bus (cons_option told es))
 unfolding walk_annotations
 event_taken (Err fault) old new bus told e is annotations after = tt
 event_taken (Ok next) old new bus told e is annotations after = λ es.
@@ -244,6 +301,8 @@ event_taken (Ok next) old new bus told e is annotations after = λ es.
     ∙ ap (λ (o : Option BusEvent). old ++ walk_annotations bus (cons_option o es)) (sym is)
 
 -- where no event is left, what was found is all
-pub all_found : (found : List Annotation) (bus : Option Transfer) (left : List BusEvent) (all : List Annotation) → left ≡ [] → found ++ walk_annotations bus left ≡ all → found ≡ all
+pub all_found : (found : List Annotation) (bus : Option Transfer) (left : List BusEvent) (all : List Annotation)
+    → left ≡ [] → found ++ walk_annotations bus left ≡ all → found ≡ all
 unfolding walk_annotations
-all_found found bus left all none is = sym (append-nil found) ∙ ap (λ (es : List BusEvent). found ++ walk_annotations bus es) (sym none) ∙ is
+all_found found bus left all none is = sym (append-nil found)
+    ∙ ap (λ (es : List BusEvent). found ++ walk_annotations bus es) (sym none) ∙ is

@@ -7,14 +7,16 @@ use Rattle.vcd_core.specs.declared.wave.Change.{Change}
 use Rattle.vcd_core.specs.Wave.{change, value_from}
 use Rattle.vcd_decode.specs.declared.annotation.Annotation.{Annotation}
 use Rattle.vcd_decode.specs.declared.annotation.Kind.{Kind}
-use Rattle.vcd_decode.specs.declared.annotation.Kind.TheVariants.{Unknown, PartialOf, Start, RepeatedStart, Stop, Address, AddressHigh, TenBitAddress, Data, Ack, Nack}
+use Rattle.vcd_decode.specs.declared.annotation.Kind.TheVariants.{Unknown, PartialOf, Start, RepeatedStart, Stop}
+use Rattle.vcd_decode.specs.declared.annotation.Kind.TheVariants.{Address, AddressHigh, TenBitAddress, Data, Ack, Nack}
 use Rattle.vcd_decode.specs.declared.annotation.Direction.TheVariants.{Write, Read}
 use Rattle.vcd_decode.specs.declared.i2c_bus.events.BusEvent.{BusEvent}
 use Rattle.vcd_decode.specs.declared.i2c_bus.events.BusEvent.TheVariants as events
 use Rattle.vcd_decode.specs.Lines.{line_of, annotation}
 use Rattle.vcd_decode.specs.Groups.{groups_of}
 use Rattle.vcd_decode.specs.BusEvents.{bus_events}
-use Rattle.vcd_decode.specs.I2c.{i2c_annotations, nines_annotations, bits_until, has_condition, shown_address, events_annotations}
+use Rattle.vcd_decode.specs.I2c.{i2c_annotations, nines_annotations, bits_until, has_condition, shown_address}
+use Rattle.vcd_decode.specs.I2c.{events_annotations}
 
 abbrev at : ℕ → Kind → Annotation
 at tick kind = annotation tick tick kind
@@ -41,7 +43,9 @@ clock n = from 0 One ∷ from 15 Zero ∷ beats 20 n
 
 -- what the changes of SCL and SDA show
 abbrev annotations : List Change → List Change → ℕ → List Annotation
-annotations scl sda end = i2c_annotations (line_of (record { width = 1; changes = scl; room = 0; splice_room = 0 })) (line_of (record { width = 1; changes = sda; room = 0; splice_room = 0 })) end
+annotations scl sda end =
+    i2c_annotations (line_of (record { width = 1; changes = scl; room = 0; splice_room = 0 }))
+    (line_of (record { width = 1; changes = sda; room = 0; splice_room = 0 })) end
 
 -- an address and its acknowledge; one bit is behind them, the rise of SCL before STOP
 address_of_seven_bits : annotations (clock 9) (turns One Zero (0 ∷ 10 ∷ 17 ∷ 27 ∷ 37 ∷ 47 ∷ 115 ∷ [])) 120
@@ -56,7 +60,8 @@ unfolding value_from bus_events groups_of nines_annotations bits_until has_condi
 z_is_high = refl
 
 -- a bit that is x
-unknown_byte : annotations (clock 9) (turns One Zero (0 ∷ 10 ∷ 17 ∷ 27 ∷ 37 ∷ 47 ∷ []) ++ from 50 X ∷ from 51 Zero ∷ from 115 One ∷ []) 120
+unknown_byte : annotations (clock 9) (turns One Zero (0 ∷ 10 ∷ 17 ∷ 27 ∷ 37 ∷ 47 ∷ [])
+    ++ from 50 X ∷ from 51 Zero ∷ from 115 One ∷ []) 120
     ≡ at 10 Start ∷ annotation 20 90 Unknown ∷ at 100 Ack ∷ at 115 Stop ∷ []
 unfolding value_from bus_events groups_of nines_annotations bits_until has_condition shown_address events_annotations
 unknown_byte = refl
@@ -68,22 +73,31 @@ unfolding value_from bus_events groups_of nines_annotations bits_until has_condi
 partial_byte = refl
 
 -- a byte is read behind a repeated START
-repeated_start : annotations (clock 28) (turns One Zero (0 ∷ 10 ∷ 17 ∷ 27 ∷ 37 ∷ 47 ∷ 107 ∷ 113 ∷ 117 ∷ 127 ∷ 137 ∷ 147 ∷ 187 ∷ 197 ∷ 247 ∷ 297 ∷ 303 ∷ [])) 310
-    ≡ at 10 Start ∷ annotation 20 90 (Address 80 Write) ∷ at 100 Ack ∷ at 113 RepeatedStart ∷ annotation 120 190 (Address 80 Read) ∷ at 200 Ack
+repeated_start : annotations (clock 28)
+    (turns One Zero (0 ∷ 10 ∷ 17 ∷ 27 ∷ 37 ∷ 47 ∷ 107 ∷ 113 ∷ 117 ∷ 127 ∷ 137 ∷ 147 ∷ 187 ∷ 197 ∷ 247 ∷ 297 ∷ 303 ∷ []))
+    310
+    ≡ at 10 Start ∷ annotation 20 90 (Address 80 Write) ∷ at 100 Ack ∷ at 113 RepeatedStart
+    ∷ annotation 120 190 (Address 80 Read) ∷ at 200 Ack
     ∷ annotation 210 280 (Data 15) ∷ at 290 Nack ∷ at 303 Stop ∷ []
 unfolding value_from bus_events groups_of nines_annotations bits_until has_condition shown_address events_annotations
 repeated_start = refl
 
 -- an address of ten bits is written, and read again
-ten_bits : annotations (clock 37) (turns One Zero (0 ∷ 10 ∷ 17 ∷ 57 ∷ 67 ∷ 77 ∷ 107 ∷ 117 ∷ 127 ∷ 137 ∷ 157 ∷ 167 ∷ 177 ∷ 187 ∷ 197 ∷ 203 ∷ 207 ∷ 247 ∷ 257 ∷ 267 ∷ 277 ∷ 287 ∷ 337 ∷ 387 ∷ 393 ∷ [])) 400
-    ≡ at 10 Start ∷ annotation 20 90 (AddressHigh 2 Write) ∷ at 100 Ack ∷ annotation 110 180 (TenBitAddress 677 Write) ∷ at 190 Ack ∷ at 203 RepeatedStart
-    ∷ annotation 210 280 (TenBitAddress 677 Read) ∷ at 290 Ack ∷ annotation 300 370 (Data 15) ∷ at 380 Nack ∷ at 393 Stop ∷ []
+ten_bits : annotations (clock 37)
+    (turns One Zero (0 ∷ 10 ∷ 17 ∷ 57 ∷ 67 ∷ 77 ∷ 107 ∷ 117 ∷ 127 ∷ 137 ∷ 157 ∷ 167 ∷ 177 ∷ 187 ∷ 197 ∷ 203 ∷ 207 ∷ 247
+    ∷ 257 ∷ 267 ∷ 277 ∷ 287 ∷ 337 ∷ 387 ∷ 393 ∷ [])) 400
+    ≡ at 10 Start ∷ annotation 20 90 (AddressHigh 2 Write) ∷ at 100 Ack ∷ annotation 110 180 (TenBitAddress 677 Write)
+    ∷ at 190 Ack ∷ at 203 RepeatedStart
+    ∷ annotation 210 280 (TenBitAddress 677 Read) ∷ at 290 Ack ∷ annotation 300 370 (Data 15) ∷ at 380 Nack
+    ∷ at 393 Stop ∷ []
 unfolding value_from bus_events groups_of nines_annotations bits_until has_condition shown_address events_annotations
 ten_bits = refl
 
 -- the same where the write is cut away
-ten_bits_without_write : annotations (beats 0 19) (turns One Zero (0 ∷ 3 ∷ 7 ∷ 47 ∷ 57 ∷ 67 ∷ 77 ∷ 87 ∷ 137 ∷ 187 ∷ 193 ∷ [])) 200
-    ≡ at 3 Start ∷ annotation 10 80 (AddressHigh 2 Read) ∷ at 90 Ack ∷ annotation 100 170 (Data 15) ∷ at 180 Nack ∷ at 193 Stop ∷ []
+ten_bits_without_write : annotations (beats 0 19)
+    (turns One Zero (0 ∷ 3 ∷ 7 ∷ 47 ∷ 57 ∷ 67 ∷ 77 ∷ 87 ∷ 137 ∷ 187 ∷ 193 ∷ [])) 200
+    ≡ at 3 Start ∷ annotation 10 80 (AddressHigh 2 Read) ∷ at 90 Ack ∷ annotation 100 170 (Data 15) ∷ at 180 Nack
+    ∷ at 193 Stop ∷ []
 unfolding value_from bus_events groups_of nines_annotations bits_until has_condition shown_address events_annotations
 ten_bits_without_write = refl
 
@@ -100,16 +114,19 @@ bits tick (level ∷ levels) = events.Bit (record { tick = tick; level = level }
 
 -- a byte that is acknowledged
 abbrev byte : ℕ → ℕ → List BusEvent
-byte tick n = bits tick (map (λ k. if n / 2 ^ k % 2 == 1 then One else Zero) (7 ∷ 6 ∷ 5 ∷ 4 ∷ 3 ∷ 2 ∷ 1 ∷ 0 ∷ []) ++ Zero ∷ [])
+byte tick n = bits tick (map (λ k. if n / 2 ^ k % 2 == 1 then One else Zero) (7 ∷ 6 ∷ 5 ∷ 4 ∷ 3 ∷ 2 ∷ 1 ∷ 0 ∷ [])
+    ++ Zero ∷ [])
 
 -- eight bits are no byte without an acknowledge
-eight_bits : events_annotations None (events.Start 0 ∷ bits 1 (One ∷ Zero ∷ One ∷ Zero ∷ One ∷ Zero ∷ One ∷ Zero ∷ []) ++ events.Stop 9 ∷ [])
+eight_bits : events_annotations None (events.Start 0 ∷ bits 1 (One ∷ Zero ∷ One ∷ Zero ∷ One ∷ Zero ∷ One ∷ Zero ∷ [])
+    ++ events.Stop 9 ∷ [])
     ≡ at 0 Start ∷ annotation 1 8 (PartialOf 8) ∷ at 9 Stop ∷ []
 unfolding groups_of nines_annotations bits_until has_condition shown_address events_annotations
 eight_bits = refl
 
 -- at the capture's end a byte that is not ended gives nothing, whole ones are annotations
-cut_off : events_annotations None (events.Start 0 ∷ byte 1 7 ++ bits 10 (Zero ∷ Zero ∷ [])) ≡ at 0 Start ∷ annotation 1 8 (Address 3 Read) ∷ at 9 Ack ∷ []
+cut_off : events_annotations None (events.Start 0 ∷ byte 1 7 ++ bits 10 (Zero ∷ Zero ∷ []))
+    ≡ at 0 Start ∷ annotation 1 8 (Address 3 Read) ∷ at 9 Ack ∷ []
 unfolding groups_of nines_annotations bits_until has_condition shown_address events_annotations
 cut_off = refl
 
@@ -120,34 +137,46 @@ unfolding groups_of nines_annotations bits_until has_condition shown_address eve
 outside = refl
 
 -- an acknowledge that is x; data behind an address that is unknown
-unknown_acknowledge : events_annotations None (events.Start 0 ∷ bits 1 (Zero ∷ Zero ∷ Zero ∷ Zero ∷ Zero ∷ Zero ∷ Zero ∷ X ∷ X ∷ []) ++ byte 10 7 ++ events.Stop 19 ∷ [])
+unknown_acknowledge : events_annotations None
+    (events.Start 0 ∷ bits 1 (Zero ∷ Zero ∷ Zero ∷ Zero ∷ Zero ∷ Zero ∷ Zero ∷ X ∷ X ∷ []) ++ byte 10 7
+    ++ events.Stop 19 ∷ [])
     ≡ at 0 Start ∷ annotation 1 8 Unknown ∷ at 9 Unknown ∷ annotation 10 17 (Data 7) ∷ at 18 Ack ∷ at 19 Stop ∷ []
 unfolding groups_of nines_annotations bits_until has_condition shown_address events_annotations
 unknown_acknowledge = refl
 
 -- an address of ten bits is read again also behind a read of it; data behind its second byte
-read_twice : events_annotations None (events.Start 0 ∷ byte 1 244 ++ byte 10 165 ++ byte 19 9 ++ events.Start 28 ∷ byte 29 245 ++ events.Start 38 ∷ byte 39 245)
-    ≡ at 0 Start ∷ annotation 1 8 (AddressHigh 2 Write) ∷ at 9 Ack ∷ annotation 10 17 (TenBitAddress 677 Write) ∷ at 18 Ack ∷ annotation 19 26 (Data 9) ∷ at 27 Ack
-    ∷ at 28 RepeatedStart ∷ annotation 29 36 (TenBitAddress 677 Read) ∷ at 37 Ack ∷ at 38 RepeatedStart ∷ annotation 39 46 (TenBitAddress 677 Read) ∷ at 47 Ack ∷ []
+read_twice : events_annotations None (events.Start 0 ∷ byte 1 244 ++ byte 10 165 ++ byte 19 9
+    ++ events.Start 28 ∷ byte 29 245 ++ events.Start 38 ∷ byte 39 245)
+    ≡ at 0 Start ∷ annotation 1 8 (AddressHigh 2 Write) ∷ at 9 Ack ∷ annotation 10 17 (TenBitAddress 677 Write)
+    ∷ at 18 Ack ∷ annotation 19 26 (Data 9) ∷ at 27 Ack
+    ∷ at 28 RepeatedStart ∷ annotation 29 36 (TenBitAddress 677 Read) ∷ at 37 Ack ∷ at 38 RepeatedStart
+    ∷ annotation 39 46 (TenBitAddress 677 Read) ∷ at 47 Ack ∷ []
 unfolding groups_of nines_annotations bits_until has_condition shown_address events_annotations
 read_twice = refl
 
 -- not where a STOP is between
-read_after_stop : events_annotations None (events.Start 0 ∷ byte 1 244 ++ byte 10 165 ++ events.Stop 19 ∷ events.Start 20 ∷ byte 21 245)
-    ≡ at 0 Start ∷ annotation 1 8 (AddressHigh 2 Write) ∷ at 9 Ack ∷ annotation 10 17 (TenBitAddress 677 Write) ∷ at 18 Ack ∷ at 19 Stop
+read_after_stop : events_annotations None (events.Start 0 ∷ byte 1 244 ++ byte 10 165
+    ++ events.Stop 19 ∷ events.Start 20 ∷ byte 21 245)
+    ≡ at 0 Start ∷ annotation 1 8 (AddressHigh 2 Write) ∷ at 9 Ack ∷ annotation 10 17 (TenBitAddress 677 Write)
+    ∷ at 18 Ack ∷ at 19 Stop
     ∷ at 20 Start ∷ annotation 21 28 (AddressHigh 2 Read) ∷ at 29 Ack ∷ []
 unfolding groups_of nines_annotations bits_until has_condition shown_address events_annotations
 read_after_stop = refl
 
 -- nor with other high bits, nor behind another address
-read_of_another : events_annotations None (events.Start 0 ∷ byte 1 244 ++ byte 10 165 ++ events.Start 19 ∷ byte 20 243 ++ events.Start 29 ∷ byte 30 245)
-    ≡ at 0 Start ∷ annotation 1 8 (AddressHigh 2 Write) ∷ at 9 Ack ∷ annotation 10 17 (TenBitAddress 677 Write) ∷ at 18 Ack
-    ∷ at 19 RepeatedStart ∷ annotation 20 27 (AddressHigh 1 Read) ∷ at 28 Ack ∷ at 29 RepeatedStart ∷ annotation 30 37 (AddressHigh 2 Read) ∷ at 38 Ack ∷ []
+read_of_another : events_annotations None (events.Start 0 ∷ byte 1 244 ++ byte 10 165 ++ events.Start 19 ∷ byte 20 243
+    ++ events.Start 29 ∷ byte 30 245)
+    ≡ at 0 Start ∷ annotation 1 8 (AddressHigh 2 Write) ∷ at 9 Ack ∷ annotation 10 17 (TenBitAddress 677 Write)
+    ∷ at 18 Ack
+    ∷ at 19 RepeatedStart ∷ annotation 20 27 (AddressHigh 1 Read) ∷ at 28 Ack ∷ at 29 RepeatedStart
+    ∷ annotation 30 37 (AddressHigh 2 Read) ∷ at 38 Ack ∷ []
 unfolding groups_of nines_annotations bits_until has_condition shown_address events_annotations
 read_of_another = refl
 
 -- nor where the second byte was unknown
-read_of_unknown : events_annotations None (events.Start 0 ∷ byte 1 244 ++ bits 10 (One ∷ Zero ∷ One ∷ X ∷ Zero ∷ One ∷ Zero ∷ One ∷ Zero ∷ []) ++ events.Start 19 ∷ byte 20 245)
+read_of_unknown : events_annotations None
+    (events.Start 0 ∷ byte 1 244 ++ bits 10 (One ∷ Zero ∷ One ∷ X ∷ Zero ∷ One ∷ Zero ∷ One ∷ Zero ∷ [])
+    ++ events.Start 19 ∷ byte 20 245)
     ≡ at 0 Start ∷ annotation 1 8 (AddressHigh 2 Write) ∷ at 9 Ack ∷ annotation 10 17 Unknown ∷ at 18 Ack
     ∷ at 19 RepeatedStart ∷ annotation 20 27 (AddressHigh 2 Read) ∷ at 28 Ack ∷ []
 unfolding groups_of nines_annotations bits_until has_condition shown_address events_annotations

@@ -19,11 +19,19 @@ use Rattle.vcd_decode.specs.Spi.{spi_annotations}
 
 -- a line with these changes
 line : List (ℕ × Bit) → ℕ → Bit
-line changes = line_of (record { width = 1; changes = map (λ c. change c.0 (c.1 ∷ [])) changes; room = 0; splice_room = 0 })
+line changes = line_of (record {
+  width = 1;
+  changes = map (λ c. change c.0 (c.1 ∷ [])) changes;
+  room = 0;
+  splice_room =
+      0;
+})
 
 -- the words of the lines: clock, MOSI, MISO, chip select
-found : SpiSetup → List (ℕ × Bit) → Option (List (ℕ × Bit)) → Option (List (ℕ × Bit)) → Option (List (ℕ × Bit)) → ℕ → List Annotation
-found u clk mosi miso cs end = spi_annotations u (line clk) (option_map line mosi) (option_map line miso) (option_map line cs) end
+found : SpiSetup → List (ℕ × Bit) → Option (List (ℕ × Bit)) → Option (List (ℕ × Bit)) → Option (List (ℕ × Bit)) → ℕ
+    → List Annotation
+found u clk mosi miso cs end =
+    spi_annotations u (line clk) (option_map line mosi) (option_map line miso) (option_map line cs) end
 
 -- a clock that rises at so many tens and falls five ticks later
 clock : ℕ → List (ℕ × Bit)
@@ -37,18 +45,22 @@ sent = (0, One) ∷ (15, Zero) ∷ (25, One) ∷ (35, Zero) ∷ (55, One) ∷ (6
 selected : List (ℕ × Bit)
 selected = (0, Zero) ∷ (120, One) ∷ []
 
-word_and_rest : found (spi_setup 0 8 Msb) (clock 11) (Some sent) None (Some selected) 120 ≡ annotation 10 80 (Word (Number 165) Absent) ∷ annotation 90 110 (PartialOf 3) ∷ []
+word_and_rest : found (spi_setup 0 8 Msb) (clock 11) (Some sent) None (Some selected) 120
+    ≡ annotation 10 80 (Word (Number 165) Absent) ∷ annotation 90 110 (PartialOf 3) ∷ []
 unfolding found line clock sent selected spi_annotations groups_of value_from
 word_and_rest = refl
 
 -- x at one sampling tick makes the word unknown
-unclear_bit : found (spi_setup 0 8 Msb) (clock 11) (Some ((0, One) ∷ (15, Zero) ∷ (25, One) ∷ (35, Zero) ∷ (40, X) ∷ (41, Zero) ∷ (55, One) ∷ (65, Zero) ∷ (75, One) ∷ [])) None (Some selected) 120
+unclear_bit : found (spi_setup 0 8 Msb) (clock 11)
+    (Some ((0, One) ∷ (15, Zero) ∷ (25, One) ∷ (35, Zero) ∷ (40, X) ∷ (41, Zero) ∷ (55, One) ∷ (65, Zero) ∷ (75, One)
+    ∷ [])) None (Some selected) 120
     ≡ annotation 10 80 (Word Unknown Absent) ∷ annotation 90 110 (PartialOf 3) ∷ []
 unfolding found line clock sent selected spi_annotations groups_of value_from
 unclear_bit = refl
 
 -- the chip is not selected at one tick between two bits
-parted : found (spi_setup 0 8 Msb) (clock 11) (Some sent) None (Some ((0, Zero) ∷ (42, One) ∷ (43, Zero) ∷ (120, One) ∷ [])) 120
+parted : found (spi_setup 0 8 Msb) (clock 11) (Some sent) None
+    (Some ((0, Zero) ∷ (42, One) ∷ (43, Zero) ∷ (120, One) ∷ [])) 120
     ≡ annotation 10 40 (PartialOf 4) ∷ annotation 50 110 (PartialOf 7) ∷ []
 unfolding found line clock sent spi_annotations groups_of value_from
 parted = refl
@@ -58,11 +70,13 @@ parted = refl
 answered : List (ℕ × Bit)
 answered = (0, Zero) ∷ (12, One) ∷ (22, Zero) ∷ (32, One) ∷ []
 
-lowest_bit_first : found (spi_setup 1 4 Lsb) (clock 4) None (Some answered) None 50 ≡ annotation 15 45 (Word Absent (Number 13)) ∷ []
+lowest_bit_first : found (spi_setup 1 4 Lsb) (clock 4) None (Some answered) None 50
+    ≡ annotation 15 45 (Word Absent (Number 13)) ∷ []
 unfolding found line clock answered spi_annotations groups_of value_from
 lowest_bit_first = refl
 
-highest_bit_first : found (spi_setup 1 4 Msb) (clock 4) None (Some answered) None 50 ≡ annotation 15 45 (Word Absent (Number 11)) ∷ []
+highest_bit_first : found (spi_setup 1 4 Msb) (clock 4) None (Some answered) None 50
+    ≡ annotation 15 45 (Word Absent (Number 11)) ∷ []
 unfolding found line clock answered spi_annotations groups_of value_from
 highest_bit_first = refl
 
@@ -76,19 +90,22 @@ unfolding found line clock spi_annotations groups_of value_from
 rising = refl
 
 -- both lines
-both_ways : found (spi_setup 0 2 Msb) (clock 4) (Some ((0, One) ∷ (30, Z) ∷ [])) (Some ((0, Zero) ∷ (20, One) ∷ [])) None 50
+both_ways : found (spi_setup 0 2 Msb) (clock 4) (Some ((0, One) ∷ (30, Z) ∷ [])) (Some ((0, Zero) ∷ (20, One) ∷ []))
+    None 50
     ≡ annotation 10 20 (Word (Number 3) (Number 1)) ∷ annotation 30 40 (Word Unknown (Number 3)) ∷ []
 unfolding found line clock spi_annotations groups_of value_from
 both_ways = refl
 
 -- ---- clock and chip select that change at one tick: the bit counts where the chip is selected from that tick on
 
-at_one_tick : found (spi_setup 0 2 Msb) (clock 3) None None (Some ((0, One) ∷ (10, Zero) ∷ (30, One) ∷ [])) 40 ≡ annotation 10 20 (Word Absent Absent) ∷ []
+at_one_tick : found (spi_setup 0 2 Msb) (clock 3) None None (Some ((0, One) ∷ (10, Zero) ∷ (30, One) ∷ [])) 40
+    ≡ annotation 10 20 (Word Absent Absent) ∷ []
 unfolding found line clock spi_annotations groups_of value_from
 at_one_tick = refl
 
 -- x and z of the chip select part too, and an edge from x is none
-unclear_select : found (spi_setup 0 2 Msb) ((10, One) ∷ (15, Zero) ∷ (20, One) ∷ (25, Zero) ∷ (30, One) ∷ []) None None (Some ((0, Zero) ∷ (22, Z) ∷ (23, X) ∷ (24, Zero) ∷ [])) 40
+unclear_select : found (spi_setup 0 2 Msb) ((10, One) ∷ (15, Zero) ∷ (20, One) ∷ (25, Zero) ∷ (30, One) ∷ []) None None
+    (Some ((0, Zero) ∷ (22, Z) ∷ (23, X) ∷ (24, Zero) ∷ [])) 40
     ≡ annotation 20 20 (PartialOf 1) ∷ annotation 30 30 (PartialOf 1) ∷ []
 unfolding found line spi_annotations groups_of value_from
 unclear_select = refl

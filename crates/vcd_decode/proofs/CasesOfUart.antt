@@ -17,7 +17,13 @@ use Rattle.vcd_decode.specs.Uart.{uart_annotations, frames, falls, begun_frame, 
 
 -- the frames of a line with these changes
 found : List (ℕ × Bit) → ℕ → UartSetup → List Annotation
-found changes end u = uart_annotations (line_of (record { width = 1; changes = map (λ c. change c.0 (c.1 ∷ [])) changes; room = 0; splice_room = 0 })) end u
+found changes end u =
+    uart_annotations (line_of (record {
+      width = 1;
+      changes = map (λ c. change c.0 (c.1 ∷ [])) changes;
+      room = 0;
+      splice_room = 0;
+    })) end u
 
 -- 0x41 with eight data bits, and with nine
 letter_a : List (ℕ × Bit)
@@ -32,7 +38,8 @@ unfolding found letter_a uart_annotations frames falls begun_frame sample_offset
 nine_bits = refl
 
 -- the capture ends before the last stop bit is sampled
-cut_off : found ((0, One) ∷ (20, Zero) ∷ (30, One) ∷ (40, Zero) ∷ (90, One) ∷ (100, Zero) ∷ []) 100 (uart_setup 10 1 8 None 1) ≡ annotation 20 100 Partial ∷ []
+cut_off : found ((0, One) ∷ (20, Zero) ∷ (30, One) ∷ (40, Zero) ∷ (90, One) ∷ (100, Zero) ∷ []) 100
+    (uart_setup 10 1 8 None 1) ≡ annotation 20 100 Partial ∷ []
 unfolding found uart_annotations frames falls begun_frame sample_offset value_from
 cut_off = refl
 
@@ -65,58 +72,70 @@ glitch : found ((0, One) ∷ (10, Zero) ∷ (12, One) ∷ []) 40 (uart_setup 10 
 unfolding found uart_annotations frames falls begun_frame sample_offset value_from
 glitch = refl
 
-x_among_the_data : found ((0, One) ∷ (20, Zero) ∷ (30, X) ∷ (40, One) ∷ []) 130 (uart_setup 10 1 8 None 1) ≡ annotation 20 115 Unknown ∷ []
+x_among_the_data : found ((0, One) ∷ (20, Zero) ∷ (30, X) ∷ (40, One) ∷ []) 130 (uart_setup 10 1 8 None 1)
+    ≡ annotation 20 115 Unknown ∷ []
 unfolding found uart_annotations frames falls begun_frame sample_offset value_from
 x_among_the_data = refl
 
 -- ---- where it goes on
 
 -- a fall at the tick behind the last sample begins a frame
-on_after_a_frame : found ((0, One) ∷ (20, Zero) ∷ (30, One) ∷ (40, Zero) ∷ (90, One) ∷ (100, Zero) ∷ (110, One) ∷ (116, Zero) ∷ []) 130 (uart_setup 10 1 8 None 1)
+on_after_a_frame : found ((0, One) ∷ (20, Zero) ∷ (30, One) ∷ (40, Zero) ∷ (90, One) ∷ (100, Zero) ∷ (110, One) ∷ (
+  116,
+  Zero,
+) ∷ []) 130 (uart_setup 10 1 8 None 1)
     ≡ annotation 20 115 (Byte 65) ∷ annotation 116 130 Partial ∷ []
 unfolding found uart_annotations frames falls begun_frame sample_offset value_from
 on_after_a_frame = refl
 
 -- one at the last sample belongs to the frame, whose stop bit is then 0
-not_at_its_last_tick : found ((0, One) ∷ (20, Zero) ∷ (30, One) ∷ (40, Zero) ∷ (90, One) ∷ (100, Zero) ∷ (110, One) ∷ (115, Zero) ∷ []) 130 (uart_setup 10 1 8 None 1)
+not_at_its_last_tick : found ((0, One) ∷ (20, Zero) ∷ (30, One) ∷ (40, Zero) ∷ (90, One) ∷ (100, Zero) ∷ (110, One)
+    ∷ (115, Zero) ∷ []) 130 (uart_setup 10 1 8 None 1)
     ≡ annotation 20 115 FrameError ∷ []
 unfolding found uart_annotations frames falls begun_frame sample_offset value_from
 not_at_its_last_tick = refl
 
 -- a frame may begin while the start bit of a glitch would still last
-on_after_a_glitch : found ((0, One) ∷ (10, Zero) ∷ (12, One) ∷ (16, Zero) ∷ []) 40 (uart_setup 10 1 8 None 1) ≡ annotation 16 40 Partial ∷ []
+on_after_a_glitch : found ((0, One) ∷ (10, Zero) ∷ (12, One) ∷ (16, Zero) ∷ []) 40 (uart_setup 10 1 8 None 1)
+    ≡ annotation 16 40 Partial ∷ []
 unfolding found uart_annotations frames falls begun_frame sample_offset value_from
 on_after_a_glitch = refl
 
 -- and behind a stop bit that is 0
-on_after_a_frame_error : found ((0, One) ∷ (10, Zero) ∷ (13, One) ∷ (18, Zero) ∷ (28, One) ∷ (29, Zero) ∷ []) 40 (uart_setup 25 10 5 None 1) ≡ annotation 10 26 FrameError ∷ annotation 29 40 Partial ∷ []
+on_after_a_frame_error : found ((0, One) ∷ (10, Zero) ∷ (13, One) ∷ (18, Zero) ∷ (28, One) ∷ (29, Zero) ∷ []) 40
+    (uart_setup 25 10 5 None 1) ≡ annotation 10 26 FrameError ∷ annotation 29 40 Partial ∷ []
 unfolding found uart_annotations frames falls begun_frame sample_offset value_from
 on_after_a_frame_error = refl
 
 -- behind a wrong parity
-on_after_a_parity_error : found ((0, One) ∷ (10, Zero) ∷ (13, One) ∷ (18, Zero) ∷ (28, One) ∷ (29, Zero) ∷ []) 40 (uart_setup 25 10 5 Odd 1) ≡ annotation 10 28 (ParityError 3) ∷ annotation 29 40 Partial ∷ []
+on_after_a_parity_error : found ((0, One) ∷ (10, Zero) ∷ (13, One) ∷ (18, Zero) ∷ (28, One) ∷ (29, Zero) ∷ []) 40
+    (uart_setup 25 10 5 Odd 1) ≡ annotation 10 28 (ParityError 3) ∷ annotation 29 40 Partial ∷ []
 unfolding found uart_annotations frames falls begun_frame sample_offset value_from
 on_after_a_parity_error = refl
 
 -- behind an x
-on_after_unknown : found ((0, One) ∷ (10, Zero) ∷ (13, X) ∷ (18, Zero) ∷ (26, One) ∷ (27, Zero) ∷ []) 40 (uart_setup 25 10 5 None 1) ≡ annotation 10 26 Unknown ∷ annotation 27 40 Partial ∷ []
+on_after_unknown : found ((0, One) ∷ (10, Zero) ∷ (13, X) ∷ (18, Zero) ∷ (26, One) ∷ (27, Zero) ∷ []) 40
+    (uart_setup 25 10 5 None 1) ≡ annotation 10 26 Unknown ∷ annotation 27 40 Partial ∷ []
 unfolding found uart_annotations frames falls begun_frame sample_offset value_from
 on_after_unknown = refl
 
 -- ---- which fault counts
 
 -- a stop bit that is 0 counts above a wrong parity
-frame_error_beside_parity_error : found ((0, One) ∷ (10, Zero) ∷ (13, One) ∷ (18, Zero) ∷ []) 30 (uart_setup 25 10 5 Odd 1) ≡ annotation 10 28 FrameError ∷ []
+frame_error_beside_parity_error : found ((0, One) ∷ (10, Zero) ∷ (13, One) ∷ (18, Zero) ∷ []) 30
+    (uart_setup 25 10 5 Odd 1) ≡ annotation 10 28 FrameError ∷ []
 unfolding found uart_annotations frames falls begun_frame sample_offset value_from
 frame_error_beside_parity_error = refl
 
 -- x or z counts above both
-x_beside_frame_error : found ((0, One) ∷ (10, Zero) ∷ (13, Z) ∷ (18, Zero) ∷ []) 30 (uart_setup 25 10 5 Odd 1) ≡ annotation 10 28 Unknown ∷ []
+x_beside_frame_error : found ((0, One) ∷ (10, Zero) ∷ (13, Z) ∷ (18, Zero) ∷ []) 30 (uart_setup 25 10 5 Odd 1)
+    ≡ annotation 10 28 Unknown ∷ []
 unfolding found uart_annotations frames falls begun_frame sample_offset value_from
 x_beside_frame_error = refl
 
 -- a stop bit may be unknown too
-x_in_the_stop_bit : found ((0, One) ∷ (10, Zero) ∷ (13, One) ∷ (18, Zero) ∷ (26, X) ∷ []) 30 (uart_setup 25 10 5 None 1) ≡ annotation 10 26 Unknown ∷ []
+x_in_the_stop_bit : found ((0, One) ∷ (10, Zero) ∷ (13, One) ∷ (18, Zero) ∷ (26, X) ∷ []) 30 (uart_setup 25 10 5 None 1)
+    ≡ annotation 10 26 Unknown ∷ []
 unfolding found uart_annotations frames falls begun_frame sample_offset value_from
 x_in_the_stop_bit = refl
 
@@ -125,20 +144,24 @@ both_stop_bits : found short_bits 30 (uart_setup 25 10 5 None 2) ≡ annotation 
 unfolding found short_bits uart_annotations frames falls begun_frame sample_offset value_from
 both_stop_bits = refl
 
-second_stop_bit : found ((0, One) ∷ (10, Zero) ∷ (13, One) ∷ (18, Zero) ∷ (26, One) ∷ (28, Zero) ∷ []) 30 (uart_setup 25 10 5 None 2) ≡ annotation 10 28 FrameError ∷ []
+second_stop_bit : found ((0, One) ∷ (10, Zero) ∷ (13, One) ∷ (18, Zero) ∷ (26, One) ∷ (28, Zero) ∷ []) 30
+    (uart_setup 25 10 5 None 2) ≡ annotation 10 28 FrameError ∷ []
 unfolding found uart_annotations frames falls begun_frame sample_offset value_from
 second_stop_bit = refl
 
-two_stop_bits : found ((0, One) ∷ (10, Zero) ∷ (13, One) ∷ (18, Zero) ∷ (26, One) ∷ []) 30 (uart_setup 25 10 5 None 2) ≡ annotation 10 28 (Byte 3) ∷ []
+two_stop_bits : found ((0, One) ∷ (10, Zero) ∷ (13, One) ∷ (18, Zero) ∷ (26, One) ∷ []) 30 (uart_setup 25 10 5 None 2)
+    ≡ annotation 10 28 (Byte 3) ∷ []
 unfolding found uart_annotations frames falls begun_frame sample_offset value_from
 two_stop_bits = refl
 
 -- the parity bit behind nine data bits counts
-nine_bits_with_parity : found ((0, One) ∷ (10, Zero) ∷ (33, One) ∷ (35, Zero) ∷ (36, One) ∷ []) 40 (uart_setup 25 10 9 Even 1) ≡ annotation 10 38 (Byte 256) ∷ []
+nine_bits_with_parity : found ((0, One) ∷ (10, Zero) ∷ (33, One) ∷ (35, Zero) ∷ (36, One) ∷ []) 40
+    (uart_setup 25 10 9 Even 1) ≡ annotation 10 38 (Byte 256) ∷ []
 unfolding found uart_annotations frames falls begun_frame sample_offset value_from
 nine_bits_with_parity = refl
 
-nine_bits_without_it : found ((0, One) ∷ (10, Zero) ∷ (33, One) ∷ (35, Zero) ∷ (37, One) ∷ []) 40 (uart_setup 25 10 9 Even 1) ≡ annotation 10 38 (ParityError 256) ∷ []
+nine_bits_without_it : found ((0, One) ∷ (10, Zero) ∷ (33, One) ∷ (35, Zero) ∷ (37, One) ∷ []) 40
+    (uart_setup 25 10 9 Even 1) ≡ annotation 10 38 (ParityError 256) ∷ []
 unfolding found uart_annotations frames falls begun_frame sample_offset value_from
 nine_bits_without_it = refl
 
@@ -165,12 +188,24 @@ longest = 25 * RATIO_LIMIT / 2
 last_start : ℕ
 last_start = END_LIMIT - longest
 
-at_the_last_tick : begun_frame (line_of (record { width = 1; changes = change 0 (One ∷ []) ∷ change last_start (Zero ∷ []) ∷ []; room = 0; splice_room = 0 })) END_LIMIT (uart_setup RATIO_LIMIT 1 9 Odd 2) last_start
+at_the_last_tick : begun_frame
+    (line_of (record {
+      width = 1;
+      changes = change 0 (One ∷ []) ∷ change last_start (Zero ∷ []) ∷ [];
+      room = 0;
+      splice_room = 0;
+    })) END_LIMIT (uart_setup RATIO_LIMIT 1 9 Odd 2) last_start
     ≡ Some (annotation last_start END_LIMIT FrameError)
 unfolding longest last_start begun_frame sample_offset value_from
 at_the_last_tick = refl
 
-past_the_last_tick : begun_frame (line_of (record { width = 1; changes = change 0 (One ∷ []) ∷ change (last_start + 1) (Zero ∷ []) ∷ []; room = 0; splice_room = 0 })) END_LIMIT (uart_setup RATIO_LIMIT 1 9 Odd 2) (last_start + 1)
+past_the_last_tick : begun_frame
+    (line_of (record {
+      width = 1;
+      changes = change 0 (One ∷ []) ∷ change (last_start + 1) (Zero ∷ []) ∷ [];
+      room = 0;
+      splice_room = 0;
+    })) END_LIMIT (uart_setup RATIO_LIMIT 1 9 Odd 2) (last_start + 1)
     ≡ Some (annotation (last_start + 1) END_LIMIT Partial)
 unfolding longest last_start begun_frame sample_offset value_from
 past_the_last_tick = refl

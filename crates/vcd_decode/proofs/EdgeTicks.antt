@@ -1,5 +1,6 @@
 -- What is empty where no line changes: over all ticks it is what it is over the edges.
-use Rattle.std.proofs.Common.{◌≡◌, ℕ, zero, suc, ◌||◌, Bool, true, false, not, cond, Option, Some, None, List, [], ◌∷◌, ◌++◌, map, replicate, get_or, refl, sym, ap, subst, ◌∙◌}
+use Rattle.std.proofs.Common.{◌≡◌, ℕ, zero, suc, ◌||◌, Bool, true, false, not, cond, Option, Some, None, List, [], ◌∷◌}
+use Rattle.std.proofs.Common.{◌++◌, map, replicate, get_or, refl, sym, ap, subst, ◌∙◌}
 use Rattle.std.specs.List.{filter, flat_map, list_any, range_with_len, AllByRecursion}
 use Rattle.std.specs.Option.{option_map}
 use Rattle.vcd_core.specs.declared.bit.Bit.{Bit}
@@ -20,25 +21,31 @@ x_letter zero i = refl
 x_letter (suc n) zero = refl
 x_letter (suc n) (suc i) = x_letter n i
 
-bit_before : (wave : Option WaveView) (t : ℕ) → lowest_bit (value_before (trace_of wave) t) ≡ option_map (λ f. letter_before f t) (option_map line_of wave)
+bit_before : (wave : Option WaveView) (t : ℕ)
+    → lowest_bit (value_before (trace_of wave) t) ≡ option_map (λ f. letter_before f t) (option_map line_of wave)
 bit_before None zero = refl
 bit_before None (suc t) = refl
 bit_before (Some w) zero = ap (λ (b : Bit). Some b) (x_letter w.width _)
 bit_before (Some w) (suc t) = refl
 
-bit_here : (wave : Option WaveView) (t : ℕ) → lowest_bit (value_on (trace_of wave) t) ≡ option_map (λ f. f t) (option_map line_of wave)
+bit_here : (wave : Option WaveView) (t : ℕ)
+    → lowest_bit (value_on (trace_of wave) t) ≡ option_map (λ f. f t) (option_map line_of wave)
 bit_here None t = refl
 bit_here (Some w) t = refl
 
-bits_before : (waves : List (Option WaveView)) (t : ℕ) → map lowest_bit (map (λ l. value_before l t) (map trace_of waves)) ≡ map (option_map (λ f. letter_before f t)) (lines_of waves)
+bits_before : (waves : List (Option WaveView)) (t : ℕ)
+    → map lowest_bit (map (λ l. value_before l t) (map trace_of waves))
+    ≡ map (option_map (λ f. letter_before f t)) (lines_of waves)
 bits_before [] t = refl
 bits_before (wave ∷ waves) t = λ i. bit_before wave t i ∷ bits_before waves t i
 
-bits_here : (waves : List (Option WaveView)) (t : ℕ) → map lowest_bit (map (λ l. value_on l t) (map trace_of waves)) ≡ map (option_map (λ f. f t)) (lines_of waves)
+bits_here : (waves : List (Option WaveView)) (t : ℕ) → map lowest_bit (map (λ l. value_on l t) (map trace_of waves))
+    ≡ map (option_map (λ f. f t)) (lines_of waves)
 bits_here [] t = refl
 bits_here (wave ∷ waves) t = λ i. bit_here wave t i ∷ bits_here waves t i
 
-edge_is : (waves : List (Option WaveView)) (t : ℕ) → bit_edge (edge_on (map trace_of waves) t) ≡ line_edge (lines_of waves) t
+edge_is : (waves : List (Option WaveView)) (t : ℕ)
+    → bit_edge (edge_on (map trace_of waves) t) ≡ line_edge (lines_of waves) t
 edge_is waves t =
     let before = bits_before waves t in
     let here = bits_here waves t in
@@ -58,16 +65,19 @@ same_where : (v w : Option (List Bit)) → not (same_value v w) ≡ false → v 
 same_where None None none = refl
 same_where None (Some w) none = absurd (cc)
 same_where (Some v) None none = absurd (cc)
-same_where (Some v) (Some w) none = ap (λ (u : List Bit). Some u) ((same_letters-Decides v w).0 (twice (same_letters v w) none))
+same_where (Some v) (Some w) none =
+    ap (λ (u : List Bit). Some u) ((same_letters-Decides v w).0 (twice (same_letters v w) none))
   where
     twice : (b : Bool) → not b ≡ false → b ≡ true
     twice true none = refl
     twice false none = absurd (cc)
 
-still_values : (ls : List Trace) (t : ℕ) → list_any (changes_at t) ls ≡ false → map (λ l. value_on l t) ls ≡ map (λ l. value_before l t) ls
+still_values : (ls : List Trace) (t : ℕ) → list_any (changes_at t) ls ≡ false
+    → map (λ l. value_on l t) ls ≡ map (λ l. value_before l t) ls
 still_values [] t none = refl
 still_values (l ∷ ls) t none =
-    let here = same_where (value_on l t) (value_before l t) (first_fails (changes_at t l) (list_any (changes_at t) ls) none) in
+    let here = same_where (value_on l t) (value_before l t)
+    (first_fails (changes_at t l) (list_any (changes_at t) ls) none) in
     let rest = still_values ls t (second_fails (changes_at t l) (list_any (changes_at t) ls) none) in
     λ i. here i ∷ rest i
 
@@ -99,9 +109,11 @@ module _ (waves : List (Option WaveView)) where
   unfolding edges_on
   edges_are end =
       map-map bit_edge (edge_on (map trace_of waves)) (filter changes (range_with_len 0 (suc end)))
-      ∙ map_same (λ t. bit_edge (edge_on (map trace_of waves) t)) (line_edge lines) (filter changes (range_with_len 0 (suc end))) (edge_is waves)
+      ∙ map_same (λ t. bit_edge (edge_on (map trace_of waves) t)) (line_edge lines)
+      (filter changes (range_with_len 0 (suc end))) (edge_is waves)
 
-  each_map : {A B : Type 0} (P : B → Type 0) (f : A → B) (xs : List A) → ((x : A) → P (f x)) → AllByRecursion P (map f xs)
+  each_map : {A B : Type 0} (P : B → Type 0) (f : A → B) (xs : List A) → ((x : A) → P (f x))
+      → AllByRecursion P (map f xs)
   each_map P f [] all = tt
   each_map P f (x ∷ xs) all = (all x, each_map P f xs all)
 
@@ -109,18 +121,25 @@ module _ (waves : List (Option WaveView)) where
   pub each_edge : (end : ℕ) → AllByRecursion (λ e. e ≡ line_edge lines e.tick) (bit_edges_of waves end)
   each_edge end =
       let P : BitEdge → Type 0 = λ e. e ≡ line_edge lines e.tick in
-      subst (AllByRecursion P) (sym (edges_are end)) (each_map P (line_edge lines) (filter changes (range_with_len 0 (suc end))) (λ t. refl))
+      subst (AllByRecursion P) (sym (edges_are end))
+      (each_map P (line_edge lines) (filter changes (range_with_len 0 (suc end))) (λ t. refl))
 
-  module _ {A : Type 0} (g : BitEdge → List A) (still : (t : ℕ) → (line_edge lines t).at ≡ (line_edge lines t).before → g (line_edge lines t) ≡ []) where
-    over_kept : (ticks : List ℕ) → flat_map g (map (line_edge lines) (filter changes ticks)) ≡ flat_map (λ t. g (line_edge lines t)) ticks
+  module _ {A : Type 0} (g : BitEdge → List A) (still : (t : ℕ) → (line_edge lines t).at ≡ (line_edge lines t).before
+      → g (line_edge lines t) ≡ []) where
+    over_kept : (ticks : List ℕ)
+        → flat_map g (map (line_edge lines) (filter changes ticks)) ≡ flat_map (λ t. g (line_edge lines t)) ticks
     over_kept [] = refl
     over_kept (t ∷ ticks) = choose (changes t) refl (over_kept ticks)
       where
-        choose : (b : Bool) → changes t ≡ b → flat_map g (map (line_edge lines) (filter changes ticks)) ≡ flat_map (λ u. g (line_edge lines u)) ticks
-            → flat_map g (map (line_edge lines) (cond b (t ∷ filter changes ticks) (filter changes ticks))) ≡ g (line_edge lines t) ++ flat_map (λ u. g (line_edge lines u)) ticks
+        choose : (b : Bool) → changes t ≡ b → flat_map g (map (line_edge lines) (filter changes ticks))
+            ≡ flat_map (λ u. g (line_edge lines u)) ticks
+            → flat_map g (map (line_edge lines) (cond b (t ∷ filter changes ticks) (filter changes ticks)))
+            ≡ g (line_edge lines t) ++ flat_map (λ u. g (line_edge lines u)) ticks
         choose true change later = ap (λ xs. g (line_edge lines t) ++ xs) later
-        choose false none later = later ∙ ap (λ xs. xs ++ flat_map (λ u. g (line_edge lines u)) ticks) (sym (still t (still_bits waves t none)))
+        choose false none later = later
+            ∙ ap (λ xs. xs ++ flat_map (λ u. g (line_edge lines u)) ticks) (sym (still t (still_bits waves t none)))
 
     -- what is empty where no line changes
-    pub over_edges : (end : ℕ) → flat_map g (bit_edges_of waves end) ≡ flat_map (λ t. g (line_edge lines t)) (range_with_len 0 (suc end))
+    pub over_edges : (end : ℕ)
+        → flat_map g (bit_edges_of waves end) ≡ flat_map (λ t. g (line_edge lines t)) (range_with_len 0 (suc end))
     over_edges end = ap (flat_map g) (edges_are end) ∙ over_kept (range_with_len 0 (suc end))

@@ -1,5 +1,6 @@
 -- A list cut into groups: none, a short one, and a whole one in front of the others.
-use Rattle.std.proofs.Common.{◌≡◌, ℕ, zero, suc, ◌+◌, ◌-◌, ◌*◌, ◌/◌, ◌<◌, ◌≤◌, List, [], ◌∷◌, ◌++◌, map, length, take, drop, refl, ap, ◌∙◌, arith}
+use Rattle.std.proofs.Common.{◌≡◌, ℕ, zero, suc, ◌+◌, ◌-◌, ◌*◌, ◌/◌, ◌<◌, ◌≤◌, List, [], ◌∷◌, ◌++◌, map, length, take}
+use Rattle.std.proofs.Common.{drop, refl, ap, ◌∙◌, arith}
 use Rattle.std.specs.List.{range_with_len}
 use Rattle.std.specs.Fork.{slice_chunk}
 use Rattle.std.specs.Slice.Iter.{chunk_count}
@@ -54,7 +55,8 @@ groups_short n xs some short =
     ∙ ap (λ ys. ys ∷ []) (take_all n xs short)
 
 -- numbers one further on
-map_shifted : {X : Type 0} (f g : ℕ → X) (a n : ℕ) → ((i : ℕ) → f (i + 1) ≡ g i) → map f (range_with_len (a + 1) n) ≡ map g (range_with_len a n)
+map_shifted : {X : Type 0} (f g : ℕ → X) (a n : ℕ) → ((i : ℕ) → f (i + 1) ≡ g i)
+    → map f (range_with_len (a + 1) n) ≡ map g (range_with_len a n)
 map_shifted f g a zero same = refl
 map_shifted f g a (suc n) same = λ i. same a i ∷ map_shifted f g (a + 1) n same i
 
@@ -66,10 +68,12 @@ take_front (suc n) (x ∷ c) xs whole = ap (λ ys. x ∷ ys) (take_front n c xs 
 
 drop_front : {X : Type 0} (k : ℕ) (c xs : List X) → drop (length c + k) (c ++ xs) ≡ drop k xs
 drop_front k [] xs = ap (λ n. drop n xs) {x = 0 + k} {y = k} (omega arith)
-drop_front k (x ∷ c) xs = ap (λ n. drop n (x ∷ c ++ xs)) {x = length (x ∷ c) + k} {y = suc (length c + k)} (omega arith) ∙ drop_front k c xs
+drop_front k (x ∷ c) xs = ap (λ n. drop n (x ∷ c ++ xs)) {x = length (x ∷ c) + k} {y = suc (length c + k)} (omega arith)
+    ∙ drop_front k c xs
 
 -- a whole group stands in front of those of what is left
-pub groups_whole : {X : Type 0} (n : ℕ) (c xs : List X) → 0 < n → length c ≡ n → groups_of n (c ++ xs) ≡ c ∷ groups_of n xs
+pub groups_whole : {X : Type 0} (n : ℕ) (c xs : List X) → 0 < n → length c ≡ n
+    → groups_of n (c ++ xs) ≡ c ∷ groups_of n xs
 unfolding groups_of
 groups_whole n c xs some whole =
     let long : length (c ++ xs) ≡ n + length xs = length-append c xs ∙ ap (λ k. k + length xs) whole in
@@ -80,7 +84,8 @@ groups_whole n c xs some whole =
     first : take n (drop (0 * n) (c ++ xs)) ≡ c
     first = ap (λ k. take n (drop k (c ++ xs))) {x = 0 * n} {y = 0} (omega arith) ∙ take_front n c xs whole
 
-    later : map (slice_chunk (c ++ xs) n) (range_with_len 1 (chunk_count (length xs) n)) ≡ map (slice_chunk xs n) (range_with_len 0 (chunk_count (length xs) n))
+    later : map (slice_chunk (c ++ xs) n) (range_with_len 1 (chunk_count (length xs) n))
+        ≡ map (slice_chunk xs n) (range_with_len 0 (chunk_count (length xs) n))
     later = map_shifted (slice_chunk (c ++ xs) n) (slice_chunk xs n) 0 (chunk_count (length xs) n) (λ i.
         ap (λ k. take n (drop k (c ++ xs))) {x = (i + 1) * n} {y = length c + i * n} (omega (arith, whole))
         ∙ ap (take n) (drop_front (i * n) c xs))

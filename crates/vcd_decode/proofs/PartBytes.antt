@@ -1,5 +1,6 @@
 -- What is kept of the bits at hand.
-use Rattle.std.proofs.Common.{◌≡◌, ◌+◌, ◌-◌, ◌<◌, ◌==◌, Bool, true, false, if◌then◌else◌, List, [], ◌∷◌, length, fold, refl, sym, ap, ◌∙◌, arith, add-zero}
+use Rattle.std.proofs.Common.{◌≡◌, ◌+◌, ◌-◌, ◌<◌, ◌==◌, Bool, true, false, if◌then◌else◌, List, [], ◌∷◌, length, fold}
+use Rattle.std.proofs.Common.{refl, sym, ap, ◌∙◌, arith, add-zero}
 use Rattle.std.proofs.lemmas.Bool.Decides.{Decides-eqb}
 use Rattle.std.specs.Prelude.{slice_index}
 use Rattle.vcd_decode.specs.declared.i2c_bus.events.BusBit.{BusBit}
@@ -20,7 +21,8 @@ kept_first (b ∷ g) p some = kept_first g (part_with p b) (omega arith) ∙ cho
     choose true is = let none : p.count ≡ 0 = (Decides-eqb p.count 0).0 is in absurd (omega arith)
     choose false is = refl
 
-kept_last : (g : List BusBit) (b : BusBit) (p : PartByte) → (fold part_with p (b ∷ g)).last ≡ slice_index (ticks_of (b ∷ g)) (length g)
+kept_last : (g : List BusBit) (b : BusBit) (p : PartByte)
+    → (fold part_with p (b ∷ g)).last ≡ slice_index (ticks_of (b ∷ g)) (length g)
 kept_last [] b p = refl
 kept_last (c ∷ g) b p = kept_last g c (part_with p b)
 
@@ -37,5 +39,6 @@ part_number g = kept_number g no_bits
 pub part_first : (b : BusBit) (g : List BusBit) → (part_of (b ∷ g)).first ≡ b.tick
 part_first b g = kept_first g (part_with no_bits b) (omega arith)
 
-pub part_last : (b : BusBit) (g : List BusBit) → (part_of (b ∷ g)).last ≡ slice_index (ticks_of (b ∷ g)) (length (b ∷ g) - 1)
+pub part_last : (b : BusBit) (g : List BusBit)
+    → (part_of (b ∷ g)).last ≡ slice_index (ticks_of (b ∷ g)) (length (b ∷ g) - 1)
 part_last b g = kept_last g b no_bits ∙ ap (slice_index (ticks_of (b ∷ g))) (omega arith)

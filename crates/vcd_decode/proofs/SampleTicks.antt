@@ -7,15 +7,18 @@ use Rattle.vcd_decode.specs.Uart.{sample_offset}
 
 quotients_rise : (a b d : ℕ) → a ≤ b → a / d ≤ b / d
 quotients_rise a b zero le = rw (div-zero a, div-zero b) (omega arith)
-quotients_rise a b (suc d) le = (le-div_iff_mul-le {k = suc d} {x = a / suc d} {y = b} (omega arith)).1 (le_trans (div-mul-le_self a (suc d)) le)
+quotients_rise a b (suc d) le =
+    (le-div_iff_mul-le {k = suc d} {x = a / suc d} {y = b} (omega arith)).1 (le_trans (div-mul-le_self a (suc d)) le)
 
 -- later bits are sampled no earlier
 pub offsets_rise : (u : UartSetup) (k m : ℕ) → k ≤ m → sample_offset u k ≤ sample_offset u m
 unfolding sample_offset
 offsets_rise u k m le =
-    quotients_rise ((2 * k + 1) * u.numerator) ((2 * m + 1) * u.numerator) (2 * u.denominator) (mul-le-mul_right u.numerator (omega arith))
+    quotients_rise ((2 * k + 1) * u.numerator) ((2 * m + 1) * u.numerator) (2 * u.denominator)
+    (mul-le-mul_right u.numerator (omega arith))
 
 -- a list by the number behind each index
-pub shifted : {X : Type 0} (f : ℕ → X) (a n : ℕ) → map (λ k. f (k + 1)) (range_with_len a n) ≡ map f (range_with_len (a + 1) n)
+pub shifted : {X : Type 0} (f : ℕ → X) (a n : ℕ)
+    → map (λ k. f (k + 1)) (range_with_len a n) ≡ map f (range_with_len (a + 1) n)
 shifted f a zero = refl
 shifted f a (suc n) = λ i. f (a + 1) ∷ shifted f (a + 1) n i

@@ -1,5 +1,6 @@
 -- The group of some ticks of SPI: what one more tick makes of it, and what it tells.
-use Rattle.std.proofs.Common.{◌≡◌, ℕ, ◌+◌, ◌-◌, ◌*◌, ◌^◌, ◌<◌, ◌==◌, ◌||◌, Bool, true, false, if◌then◌else◌, Option, Some, None, List, [], ◌∷◌, ◌++◌, map, length, reverse, get_or, refl, sym, ap, ◌∙◌, arith}
+use Rattle.std.proofs.Common.{◌≡◌, ℕ, ◌+◌, ◌-◌, ◌*◌, ◌^◌, ◌<◌, ◌==◌, ◌||◌, Bool, true, false, if◌then◌else◌, Option}
+use Rattle.std.proofs.Common.{Some, None, List, [], ◌∷◌, ◌++◌, map, length, reverse, get_or, refl, sym, ap, ◌∙◌, arith}
 use Rattle.std.specs.List.{list_any}
 use Rattle.std.specs.Option.{is_some, option_map}
 use Rattle.std.proofs.Math.Nat.{pow-suc}
@@ -16,8 +17,10 @@ use Rattle.vcd_decode.specs.declared.spi_setup.BitOrder.{BitOrder}
 use Rattle.vcd_decode.specs.declared.spi_setup.BitOrder.TheVariants.{Msb, Lsb}
 use Rattle.vcd_decode.specs.SpiSetup.{SpiSetup}
 use Rattle.vcd_decode.specs.Lines.{line_of, is_one, is_unclear, number_from_letters}
-use Rattle.vcd_decode.specs.Spi.{ordered_number, data_of, line_data, group_start, group_end, group_annotation, segment_annotations}
-use Rattle.vcd_decode.specs.inside.SpiGroup.{longer_number, data_after, data_before, first_data, DataFits, group_before, word_annotation, rest_annotation}
+use Rattle.vcd_decode.specs.Spi.{ordered_number, data_of, line_data, group_start, group_end, group_annotation}
+use Rattle.vcd_decode.specs.Spi.{segment_annotations}
+use Rattle.vcd_decode.specs.inside.SpiGroup.{longer_number, data_after, data_before, first_data, DataFits, group_before}
+use Rattle.vcd_decode.specs.inside.SpiGroup.{word_annotation, rest_annotation}
 use Rattle.vcd_decode.specs.inside.SpiWalk.{annotations_at_rest, group_of}
 use Rattle.vcd_decode.proofs.Groups.{groups_none, groups_short}
 
@@ -36,17 +39,20 @@ number_below : (bs : List Bit) → number_from_letters bs < 2 ^ length bs
 number_below [] = omega arith
 number_below (b ∷ bs) = omega (arith, number_below bs, digit_small b, pow-suc 2 (length bs))
 
-number_last : (bs : List Bit) (b : Bit) → number_from_letters (bs ++ b ∷ []) ≡ number_from_letters bs + digit b * 2 ^ length bs
+number_last : (bs : List Bit) (b : Bit)
+    → number_from_letters (bs ++ b ∷ []) ≡ number_from_letters bs + digit b * 2 ^ length bs
 number_last [] b = omega arith
 number_last (c ∷ bs) b =
-    let doubled : digit b * 2 ^ length (c ∷ bs) ≡ digit b * (2 ^ length bs * 2) = ap (λ n. digit b * n) (pow-suc 2 (length bs)) in
+    let doubled : digit b * 2 ^ length (c ∷ bs) ≡ digit b * (2 ^ length bs * 2) =
+    ap (λ n. digit b * n) (pow-suc 2 (length bs)) in
     omega (arith, number_last bs b, doubled)
 
 pub ordered_below : (order : BitOrder) (bs : List Bit) → ordered_number order bs < 2 ^ length bs
 ordered_below Msb bs = omega (arith, number_below (reverse bs), ap (λ n. 2 ^ n) (length-reverse bs))
 ordered_below Lsb bs = number_below bs
 
-ordered_last : (order : BitOrder) (bs : List Bit) (b : Bit) → ordered_number order (bs ++ b ∷ []) ≡ longer_number order (length bs) (ordered_number order bs) (digit b)
+ordered_last : (order : BitOrder) (bs : List Bit) (b : Bit)
+    → ordered_number order (bs ++ b ∷ []) ≡ longer_number order (length bs) (ordered_number order bs) (digit b)
 ordered_last Msb bs b = ap number_from_letters (reverse-append bs (b ∷ [])) ∙ (omega arith)
 ordered_last Lsb bs b = number_last bs b
 
@@ -59,13 +65,16 @@ any_last bs b = list_any-append is_unclear bs (b ∷ []) ∙ ap (λ r. list_any 
     or_false true = refl
     or_false false = refl
 
-data_last : (order : BitOrder) (bs : List Bit) (b : Bit) → data_of order (bs ++ b ∷ []) ≡ data_after order (length bs) (data_of order bs) (Some b)
+data_last : (order : BitOrder) (bs : List Bit) (b : Bit)
+    → data_of order (bs ++ b ∷ []) ≡ data_after order (length bs) (data_of order bs) (Some b)
 data_last order bs b =
     ap (λ r. if r then Unknown else Number (ordered_number order (bs ++ b ∷ []))) (any_last bs b)
     ∙ ap (λ n. if (list_any is_unclear bs || is_unclear b) then Unknown else Number n) (ordered_last order bs b)
     ∙ choose (list_any is_unclear bs) b
   where
-    choose : (c : Bool) (b : Bit) → (if (c || is_unclear b) then Unknown else Number (longer_number order (length bs) (ordered_number order bs) (digit b)))
+    choose : (c : Bool) (b : Bit)
+        → (if (c || is_unclear b) then Unknown else Number
+        (longer_number order (length bs) (ordered_number order bs) (digit b)))
         ≡ data_after order (length bs) (if c then Unknown else Number (ordered_number order bs)) (Some b)
     choose true b = refl
     choose false Zero = refl
@@ -73,14 +82,17 @@ data_last order bs b =
     choose false X = refl
     choose false Z = refl
 
-line_last : (order : BitOrder) (line : Option (ℕ → Bit)) (ts : List ℕ) (t : ℕ) → line_data order line (ts ++ t ∷ []) ≡ data_after order (length ts) (line_data order line ts) (option_map (λ f. f t) line)
+line_last : (order : BitOrder) (line : Option (ℕ → Bit)) (ts : List ℕ) (t : ℕ)
+    → line_data order line (ts ++ t ∷ [])
+    ≡ data_after order (length ts) (line_data order line ts) (option_map (λ f. f t) line)
 line_last order None ts t = refl
 line_last order (Some f) ts t =
     ap (data_of order) (map-append f ts (t ∷ []))
     ∙ data_last order (map f ts) (f t)
     ∙ ap (λ n. data_after order n (data_of order (map f ts)) (Some (f t))) (length-map ts f)
 
-pub line_fits : (order : BitOrder) (line : Option (ℕ → Bit)) (ts : List ℕ) → DataFits (length ts) (line_data order line ts)
+pub line_fits : (order : BitOrder) (line : Option (ℕ → Bit)) (ts : List ℕ)
+    → DataFits (length ts) (line_data order line ts)
 line_fits order None ts = tt
 line_fits order (Some f) ts = choose (list_any is_unclear (map f ts))
   where
@@ -91,13 +103,15 @@ line_fits order (Some f) ts = choose (list_any is_unclear (map f ts))
     choose true = tt
     choose false = below
 
-pub line_first : (order : BitOrder) (wave : Option WaveView) → first_data (is_some wave) ≡ line_data order (option_map line_of wave) []
+pub line_first : (order : BitOrder) (wave : Option WaveView)
+    → first_data (is_some wave) ≡ line_data order (option_map line_of wave) []
 line_first Msb None = refl
 line_first Msb (Some w) = refl
 line_first Lsb None = refl
 line_first Lsb (Some w) = refl
 
-line_before : (order : BitOrder) (line : Option (ℕ → Bit)) (ts : List ℕ) → data_before (line_data order line ts) ≡ line_data order line []
+line_before : (order : BitOrder) (line : Option (ℕ → Bit)) (ts : List ℕ)
+    → data_before (line_data order line ts) ≡ line_data order line []
 line_before order None ts = refl
 line_before Msb (Some f) ts = choose (list_any is_unclear (map f ts))
   where
@@ -128,7 +142,9 @@ length_last ts t = sym (length-append ts (t ∷ []))
 
 last_last : (ts : List ℕ) (t : ℕ) → t ≡ group_end (ts ++ t ∷ [])
 last_last ts t =
-    sym (get_or-append_seam ts t [] 0) ∙ ap (λ n. get_or (ts ++ t ∷ []) n 0) {x = length ts} {y = length (ts ++ t ∷ []) - 1} (omega (arith, length_last ts t))
+    sym (get_or-append_seam ts t [] 0)
+    ∙ ap (λ n. get_or (ts ++ t ∷ []) n 0) {x = length ts} {y =
+    length (ts ++ t ∷ []) - 1} (omega (arith, length_last ts t))
 
 -- ---- groups
 
@@ -157,13 +173,17 @@ module _ (u : SpiSetup) (mosi miso : Option (ℕ → Bit)) where
       λ i. record { start = 0; last = 0; count = 0; mosi = out i; miso = back i }
 
   -- what it tells where it is no whole word
-  pub rest_is : (ts : List ℕ) → length ts < u.bits → annotations_at_rest (group_of u mosi miso ts) ≡ segment_annotations u mosi miso ts
+  pub rest_is : (ts : List ℕ) → length ts < u.bits
+      → annotations_at_rest (group_of u mosi miso ts) ≡ segment_annotations u mosi miso ts
   rest_is [] short = sym (ap (map (group_annotation u mosi miso)) (groups_none u.bits))
   rest_is (t ∷ ts) short =
       let some = not_none t ts in
-      let told : group_annotation u mosi miso (t ∷ ts) ≡ rest_annotation (group_of u mosi miso (t ∷ ts)) = rw (lt-ltb (length (t ∷ ts)) u.bits short) refl in
-      rw some (sym (ap (map (group_annotation u mosi miso)) (groups_short u.bits (t ∷ ts) (omega arith) (omega arith)) ∙ ap (λ a. a ∷ []) told))
+      let told : group_annotation u mosi miso (t ∷ ts) ≡ rest_annotation (group_of u mosi miso (t ∷ ts)) =
+      rw (lt-ltb (length (t ∷ ts)) u.bits short) refl in
+      rw some (sym (ap (map (group_annotation u mosi miso)) (groups_short u.bits (t ∷ ts) (omega arith) (omega arith))
+      ∙ ap (λ a. a ∷ []) told))
 
   -- and where it is one
-  pub word_is : (ts : List ℕ) → length ts ≡ u.bits → group_annotation u mosi miso ts ≡ word_annotation (group_of u mosi miso ts)
+  pub word_is : (ts : List ℕ) → length ts ≡ u.bits
+      → group_annotation u mosi miso ts ≡ word_annotation (group_of u mosi miso ts)
   word_is ts whole = rw (le-ltb (length ts) u.bits (omega arith)) refl

@@ -52,11 +52,13 @@ cut_run : effect (Cut 3 7) (alone 10 (from 0 Zero ∷ from 3 One ∷ from 7 Zero
 unfolding effect changes_from value_from
 cut_run = refl
 
-cut_into_run : effect (Cut 2 5) (alone 10 (from 0 Zero ∷ from 3 One ∷ from 7 Zero ∷ [])) ≡ alone 7 (from 0 Zero ∷ from 2 One ∷ from 4 Zero ∷ [])
+cut_into_run : effect (Cut 2 5) (alone 10 (from 0 Zero ∷ from 3 One ∷ from 7 Zero ∷ []))
+    ≡ alone 7 (from 0 Zero ∷ from 2 One ∷ from 4 Zero ∷ [])
 unfolding effect changes_from value_from
 cut_into_run = refl
 
-cut_all_but_three : effect (Cut 3 10) (alone 10 (from 0 Zero ∷ from 3 One ∷ from 7 Zero ∷ [])) ≡ alone 3 (from 0 Zero ∷ [])
+cut_all_but_three : effect (Cut 3 10) (alone 10 (from 0 Zero ∷ from 3 One ∷ from 7 Zero ∷ []))
+    ≡ alone 3 (from 0 Zero ∷ [])
 unfolding effect changes_from value_from
 cut_all_but_three = refl
 
@@ -67,9 +69,11 @@ unfolding effect changes_from value_from run_start run_end steady_value
 deglitch = refl
 
 abbrev pub three_signals : Contents
-three_signals = capture 4 (wire (codes "a") (from 0 Zero ∷ []) ∷ wire (codes "b") (from 0 One ∷ []) ∷ wire (codes "c") (from 0 Z ∷ []) ∷ [])
+three_signals = capture 4 (wire (codes "a") (from 0 Zero ∷ []) ∷ wire (codes "b") (from 0 One ∷ [])
+    ∷ wire (codes "c") (from 0 Z ∷ []) ∷ [])
 
-remove_second : effect (Remove 1) three_signals ≡ capture 4 (wire (codes "a") (from 0 Zero ∷ []) ∷ wire (codes "c") (from 0 Z ∷ []) ∷ [])
+remove_second : effect (Remove 1) three_signals
+    ≡ capture 4 (wire (codes "a") (from 0 Zero ∷ []) ∷ wire (codes "c") (from 0 Z ∷ []) ∷ [])
 unfolding effect
 remove_second = refl
 
@@ -78,7 +82,8 @@ unfolding effect
 remove_all = refl
 
 rename_second : effect (Rename 1 (lent (codes "d"))) three_signals
-    ≡ capture 4 (wire (codes "a") (from 0 Zero ∷ []) ∷ wire (codes "d") (from 0 One ∷ []) ∷ wire (codes "c") (from 0 Z ∷ []) ∷ [])
+    ≡ capture 4 (wire (codes "a") (from 0 Zero ∷ []) ∷ wire (codes "d") (from 0 One ∷ [])
+    ∷ wire (codes "c") (from 0 Z ∷ []) ∷ [])
 unfolding effect
 rename_second = refl
 
@@ -89,13 +94,17 @@ abbrev pub with_first : List Change → Contents
 with_first changes = capture 8 (a changes ∷ wire (codes "b") (from 0 One ∷ from 5 X ∷ []) ∷ [])
 
 abbrev pub with_third : List ℕ → List Change → Contents
-with_third name changes = capture 8 (a (from 0 Zero ∷ from 3 One ∷ []) ∷ wire (codes "b") (from 0 One ∷ from 5 X ∷ []) ∷ wire name changes ∷ [])
+with_third name changes =
+    capture 8 (a (from 0 Zero ∷ from 3 One ∷ []) ∷ wire (codes "b") (from 0 One ∷ from 5 X ∷ []) ∷ wire name changes
+    ∷ [])
 
-derive_and : effect (Derive (lent (codes "y")) (And 0 1)) two_signals ≡ with_third (codes "y") (from 0 Zero ∷ from 3 One ∷ from 5 X ∷ [])
+derive_and : effect (Derive (lent (codes "y")) (And 0 1)) two_signals
+    ≡ with_third (codes "y") (from 0 Zero ∷ from 3 One ∷ from 5 X ∷ [])
 unfolding effect changes_from value_from
 derive_and = refl
 
-derive_xor : effect (Derive (lent (codes "n")) (Xor 0 1)) two_signals ≡ with_third (codes "n") (from 0 One ∷ from 3 Zero ∷ from 5 X ∷ [])
+derive_xor : effect (Derive (lent (codes "n")) (Xor 0 1)) two_signals
+    ≡ with_third (codes "n") (from 0 One ∷ from 3 Zero ∷ from 5 X ∷ [])
 unfolding effect changes_from value_from
 derive_xor = refl
 
@@ -103,7 +112,8 @@ derive_or : effect (Derive (lent (codes "o")) (Or 0 1)) two_signals ≡ with_thi
 unfolding effect changes_from value_from
 derive_or = refl
 
-derive_not : effect (Derive (lent (codes "m")) (Not 1)) two_signals ≡ with_third (codes "m") (from 0 Zero ∷ from 5 X ∷ [])
+derive_not : effect (Derive (lent (codes "m")) (Not 1)) two_signals
+    ≡ with_third (codes "m") (from 0 Zero ∷ from 5 X ∷ [])
 unfolding effect changes_from value_from
 derive_not = refl
 
@@ -137,7 +147,14 @@ force_two_ticks = refl
 abbrev pub scalar_and_vector : Contents
 scalar_and_vector = capture 9 (
     a (from 0 Zero ∷ [])
-    ∷ record { scopes = top ∷ []; kind = codes "wire"; words = codes "v" ∷ []; width = 4; changes = change 0 (Zero ∷ Zero ∷ Zero ∷ Zero ∷ []) ∷ [] }
+    ∷ record {
+      scopes = top ∷ [];
+      kind = codes "wire";
+      words = codes "v" ∷ [];
+      width = 4;
+      changes =
+          change 0 (Zero ∷ Zero ∷ Zero ∷ Zero ∷ []) ∷ [];
+    }
     ∷ []
     )
 

@@ -10,7 +10,8 @@ use Rattle.vcd_core.specs.Splice.{moved_change, spliced_changes}
 use Rattle.vcd_core.specs.Contents.{Contents, SignalContents}
 use Rattle.vcd_edit.specs.RecordView.{PieceView, RecordView}
 use Rattle.vcd_edit.specs.AppliedRecords.{with_pieces, apply_record}
-use Rattle.vcd_edit.specs.Touched.{touched_count, touched_from, touched_by_record, piece_offset, partners, takes_out, puts_in, stored_changes}
+use Rattle.vcd_edit.specs.Touched.{touched_count, touched_from, touched_by_record, piece_offset, partners, takes_out}
+use Rattle.vcd_edit.specs.Touched.{puts_in, stored_changes}
 
 -- ---- captures and records
 
@@ -44,20 +45,32 @@ pulse = from 0 Zero ∷ from 3 One ∷ from 7 Zero ∷ []
 -- ---- what a record leads to
 
 -- the undo of a cut of the ticks 2 to 4: the change at 3 comes back, the later one moves, and the end too
-undo_of_cut : apply_record (record { pieces = piece 1 2 (from 3 One ∷ []) (pos 3) ∷ []; word = None; signal = None; other_end = Some 10 }) (alone 7 (from 0 Zero ∷ from 2 One ∷ from 4 Zero ∷ [])) ≡ alone 10 pulse
+undo_of_cut : apply_record (record {
+  pieces = piece 1 2 (from 3 One ∷ []) (pos 3) ∷ [];
+  word = None;
+  signal = None;
+  other_end = Some 10;
+}) (alone 7 (from 0 Zero ∷ from 2 One ∷ from 4 Zero ∷ [])) ≡ alone 10 pulse
 unfolding apply_record with_pieces spliced_changes moved_change
 undo_of_cut = refl
 
-undo_of_rename : apply_record (record { pieces = []; word = Some (0, codes "a"); signal = None; other_end = None }) (capture 9 (wire (codes "b") pulse ∷ [])) ≡ alone 9 pulse
+undo_of_rename : apply_record (record { pieces = []; word = Some (0, codes "a"); signal = None; other_end = None })
+    (capture 9 (wire (codes "b") pulse ∷ [])) ≡ alone 9 pulse
 unfolding apply_record with_pieces
 undo_of_rename = refl
 
-undo_of_remove : apply_record (record { pieces = []; word = None; signal = Some (1, Some (wire (codes "b") pulse)); other_end = None }) (capture 9 (wire (codes "a") [] ∷ wire (codes "c") [] ∷ []))
+undo_of_remove : apply_record (record {
+  pieces = [];
+  word = None;
+  signal = Some (1, Some (wire (codes "b") pulse));
+  other_end = None;
+}) (capture 9 (wire (codes "a") [] ∷ wire (codes "c") [] ∷ []))
     ≡ capture 9 (wire (codes "a") [] ∷ wire (codes "b") pulse ∷ wire (codes "c") [] ∷ [])
 unfolding apply_record with_pieces
 undo_of_remove = refl
 
-undo_of_derive : apply_record (record { pieces = []; word = None; signal = Some (1, None); other_end = None }) (capture 9 (wire (codes "a") pulse ∷ wire (codes "d") [] ∷ [])) ≡ alone 9 pulse
+undo_of_derive : apply_record (record { pieces = []; word = None; signal = Some (1, None); other_end = None })
+    (capture 9 (wire (codes "a") pulse ∷ wire (codes "d") [] ∷ [])) ≡ alone 9 pulse
 unfolding apply_record with_pieces
 undo_of_derive = refl
 
@@ -89,7 +102,8 @@ undo_of_cut_into_pulse_touches : touched_count (negsuc 2) (from 0 Zero ∷ from 
 unfolding touched_count
 undo_of_cut_into_pulse_touches = refl
 
-deglitch_touches : touched_count (pos 0) (from 0 Zero ∷ from 5 One ∷ from 6 Zero ∷ from 7 One ∷ from 20 Zero ∷ []) (from 0 Zero ∷ from 7 One ∷ from 20 Zero ∷ []) ≡ 2
+deglitch_touches : touched_count (pos 0) (from 0 Zero ∷ from 5 One ∷ from 6 Zero ∷ from 7 One ∷ from 20 Zero ∷ [])
+    (from 0 Zero ∷ from 7 One ∷ from 20 Zero ∷ []) ≡ 2
 unfolding touched_count
 deglitch_touches = refl
 
@@ -99,23 +113,31 @@ unfolding touched_count
 shift_touches = refl
 
 -- a value forced within a run adds two changes and touches none
-force_in_run_touches : touched_count (pos 0) (from 0 Zero ∷ from 9 One ∷ []) (from 0 Zero ∷ from 3 One ∷ from 5 Zero ∷ from 9 One ∷ []) ≡ 0
+force_in_run_touches : touched_count (pos 0) (from 0 Zero ∷ from 9 One ∷ [])
+    (from 0 Zero ∷ from 3 One ∷ from 5 Zero ∷ from 9 One ∷ []) ≡ 0
 unfolding touched_count
 force_in_run_touches = refl
 
 -- a signal that is taken out is touched whole, and the others are not
-remove_touches : touched_from (λ k. pos 0) 0 (wire (codes "a") pulse ∷ wire (codes "b") (from 0 One ∷ []) ∷ wire (codes "c") pulse ∷ [])
+remove_touches : touched_from (λ k. pos 0) 0 (wire (codes "a") pulse ∷ wire (codes "b") (from 0 One ∷ [])
+    ∷ wire (codes "c") pulse ∷ [])
     (partners (takes_out 1) (wire (codes "a") pulse ∷ wire (codes "c") pulse ∷ [])) ≡ 1
 unfolding touched_from touched_count
 remove_touches = refl
 
 undo_of_remove_touches : touched_from (λ k. pos 0) 0 (wire (codes "a") pulse ∷ wire (codes "c") pulse ∷ [])
-    (partners (puts_in 1) (wire (codes "a") pulse ∷ wire (codes "b") (from 0 One ∷ []) ∷ wire (codes "c") pulse ∷ [])) ≡ 0
+    (partners (puts_in 1) (wire (codes "a") pulse ∷ wire (codes "b") (from 0 One ∷ []) ∷ wire (codes "c") pulse ∷ []))
+    ≡ 0
 unfolding touched_from touched_count
 undo_of_remove_touches = refl
 
 -- the undo of the cut into the pulse, as a record: its own offset is the opposite of its piece's
-undo_of_cut_touches : touched_by_record (record { pieces = piece 1 2 (from 3 One ∷ []) (pos 3) ∷ []; word = None; signal = None; other_end = Some 10 })
+undo_of_cut_touches : touched_by_record (record {
+  pieces = piece 1 2 (from 3 One ∷ []) (pos 3) ∷ [];
+  word = None;
+  signal = None;
+  other_end = Some 10;
+})
     (alone 7 (from 0 Zero ∷ from 2 One ∷ from 4 Zero ∷ [])) ≡ 1
 unfolding apply_record with_pieces spliced_changes moved_change touched_from touched_count piece_offset
 undo_of_cut_touches = refl

@@ -20,7 +20,8 @@ touched_by_cut : (touched_by_edit (Cut 3 7) (alone 10 (from 0 Zero ∷ from 3 On
 unfolding effect changes_from value_from touched_count touched_from
 touched_by_cut = (refl, refl)
 
-touched_by_deglitch : touched_by_edit (Deglitch 0 3) (alone 30 (from 0 Zero ∷ from 5 One ∷ from 6 Zero ∷ from 7 One ∷ from 20 Zero ∷ [])) ≡ 2
+touched_by_deglitch : touched_by_edit (Deglitch 0 3)
+    (alone 30 (from 0 Zero ∷ from 5 One ∷ from 6 Zero ∷ from 7 One ∷ from 20 Zero ∷ [])) ≡ 2
 unfolding effect changes_from value_from run_start run_end steady_value touched_count touched_from
 touched_by_deglitch = refl
 

@@ -1,5 +1,7 @@
 -- The code's tests of changes, and its walks over two lists.
-use Rattle.std.proofs.Common.{◌≡◌, ℕ, ◌+◌, ◌-◌, ◌^◌, ◌<◌, ◌≤◌, Bool, true, false, eqb, ℤ, pos, ◌+ℤ◌, ◌-ℤ◌, neg_ℤ, unsigned_abs, List, length, drop, get_or, reverse, min, Option, Some, None, SomeIff, sym, subst, ◌∙◌, inl, inr, arith}
+use Rattle.std.proofs.Common.{◌≡◌, ℕ, ◌+◌, ◌-◌, ◌^◌, ◌<◌, ◌≤◌, Bool, true, false, eqb, ℤ, pos, ◌+ℤ◌, ◌-ℤ◌, neg_ℤ}
+use Rattle.std.proofs.Common.{unsigned_abs, List, length, drop, get_or, reverse, min, Option, Some, None, SomeIff, sym}
+use Rattle.std.proofs.Common.{subst, ◌∙◌, inl, inr, arith}
 use Rattle.std.specs.Int.{w64, FitsUnsigned}
 use Rattle.std.specs.List.{common_prefix_len}
 use Rattle.std.specs.Option.{option_eq}
@@ -38,29 +40,48 @@ moved_test old new by at (Some x) r same small told is =
     let at_new : x ≡ new = eqb-true x new equal in
     let later : pos old -ℤ neg_ℤ by ≡ pos new = omega (arith, ints, fits.0, value, at_new, same) in
     (Decides-int_eq _ _).1 later)
-    (λ equal. eq-eqb x new (let later : pos old -ℤ neg_ℤ by ≡ pos new = (Decides-int_eq _ _).0 equal in omega (arith, ints, fits.0, value, later, same)))
+    (λ equal. eq-eqb x new (let later : pos old -ℤ neg_ℤ by ≡ pos new = (Decides-int_eq _ _).0 equal in
+    omega (arith, ints, fits.0, value, later, same)))
 
 -- ---- walks over two lists
 
 module _ (e : Change → Change → Bool) (xs ys : List Change) (i : ℕ) where
   -- behind the shorter list nothing is left
-  pub walk_end : (most : ℕ) → most ≡ min (length xs) (length ys) → most ≤ i → i ≤ most → i + common_prefix_len e (drop i xs) (drop i ys) ≡ common_prefix_len e xs ys
+  pub walk_end : (most : ℕ) → most ≡ min (length xs) (length ys) → most ≤ i → i ≤ most
+      → i + common_prefix_len e (drop i xs) (drop i ys) ≡ common_prefix_len e xs ys
       → most ≡ common_prefix_len e xs ys
   walk_end most is past within left =
       let le = common_prefix_len-le e (drop i xs) (drop i ys) in
       omega (arith, le.0, le.1, length-drop i xs, length-drop i ys)
 
   -- from the end: what is left at a pair that differs, and at one that matches
-  pub back_stops : (c d : Change) → i < length xs → i < length ys → c ≡ get_or xs (length xs - 1 - i) c → d ≡ get_or ys (length ys - 1 - i) d → e c d ≡ false
-      → i + common_prefix_len e (drop i (reverse xs)) (drop i (reverse ys)) ≡ common_prefix_len e (reverse xs) (reverse ys)
+  pub back_stops : (c d : Change) → i < length xs → i < length ys → c ≡ get_or xs (length xs - 1 - i) c
+      → d ≡ get_or ys (length ys - 1 - i) d → e c d ≡ false
+      → i + common_prefix_len e (drop i (reverse xs)) (drop i (reverse ys))
+      ≡ common_prefix_len e (reverse xs) (reverse ys)
       → i ≡ common_prefix_len e (reverse xs) (reverse ys)
   back_stops c d in_xs in_ys is_c is_d differs left =
-      let first = subst (λ x. e x (get_or (reverse ys) i d) ≡ false) (is_c ∙ sym (get_or-reverse xs i c in_xs)) (subst (λ y. e c y ≡ false) (is_d ∙ sym (get_or-reverse ys i d in_ys)) differs) in
-      omega (arith, left, common_prefix_len-drop_no e (reverse xs) (reverse ys) i c d (omega (arith, length-reverse xs)) (omega (arith, length-reverse ys)) first)
+      let first = subst (λ x. e x (get_or (reverse ys) i d) ≡ false) (is_c ∙ sym (get_or-reverse xs i c in_xs))
+      (subst (λ y. e c y ≡ false) (is_d ∙ sym (get_or-reverse ys i d in_ys)) differs) in
+      omega (
+        arith,
+        left,
+        common_prefix_len-drop_no e (reverse xs) (reverse ys) i c d (omega (arith, length-reverse xs))
+            (omega (arith, length-reverse ys)) first,
+      )
 
-  pub back_more : (c d : Change) → i < length xs → i < length ys → c ≡ get_or xs (length xs - 1 - i) c → d ≡ get_or ys (length ys - 1 - i) d → e c d ≡ true
-      → i + common_prefix_len e (drop i (reverse xs)) (drop i (reverse ys)) ≡ common_prefix_len e (reverse xs) (reverse ys)
-      → i + 1 + common_prefix_len e (drop (i + 1) (reverse xs)) (drop (i + 1) (reverse ys)) ≡ common_prefix_len e (reverse xs) (reverse ys)
+  pub back_more : (c d : Change) → i < length xs → i < length ys → c ≡ get_or xs (length xs - 1 - i) c
+      → d ≡ get_or ys (length ys - 1 - i) d → e c d ≡ true
+      → i + common_prefix_len e (drop i (reverse xs)) (drop i (reverse ys))
+      ≡ common_prefix_len e (reverse xs) (reverse ys)
+      → i + 1 + common_prefix_len e (drop (i + 1) (reverse xs)) (drop (i + 1) (reverse ys))
+      ≡ common_prefix_len e (reverse xs) (reverse ys)
   back_more c d in_xs in_ys is_c is_d same left =
-      let first = subst (λ x. e x (get_or (reverse ys) i d) ≡ true) (is_c ∙ sym (get_or-reverse xs i c in_xs)) (subst (λ y. e c y ≡ true) (is_d ∙ sym (get_or-reverse ys i d in_ys)) same) in
-      omega (arith, left, common_prefix_len-drop_yes e (reverse xs) (reverse ys) i c d (omega (arith, length-reverse xs)) (omega (arith, length-reverse ys)) first)
+      let first = subst (λ x. e x (get_or (reverse ys) i d) ≡ true) (is_c ∙ sym (get_or-reverse xs i c in_xs))
+      (subst (λ y. e c y ≡ true) (is_d ∙ sym (get_or-reverse ys i d in_ys)) same) in
+      omega (
+        arith,
+        left,
+        common_prefix_len-drop_yes e (reverse xs) (reverse ys) i c d
+            (omega (arith, length-reverse xs)) (omega (arith, length-reverse ys)) first,
+      )

@@ -1,5 +1,6 @@
 -- The pieces of a cut, signal by signal, and the plan that they make.
-use Rattle.std.proofs.Common.{◌≡◌, ◌<◌, ◌≤◌, ℕ, ℤ, ◌+◌, ◌-◌, ◌^◌, ◌||◌, nat_le, nat_lt, false, List, [], ◌∷◌, ◌++◌, length, map, get_or, Some, None, refl, sym, ap, subst, ◌∙◌, arith}
+use Rattle.std.proofs.Common.{◌≡◌, ◌<◌, ◌≤◌, ℕ, ℤ, ◌+◌, ◌-◌, ◌^◌, ◌||◌, nat_le, nat_lt, false, List, [], ◌∷◌, ◌++◌}
+use Rattle.std.proofs.Common.{length, map, get_or, Some, None, refl, sym, ap, subst, ◌∙◌, arith}
 use Rattle.std.specs.Prelude.{pos, neg_ℤ, ◌-ℤ◌}
 use Rattle.std.specs.List.{count_by}
 use Rattle.std.proofs.lemmas.Int.{ints}
@@ -24,9 +25,12 @@ use Rattle.vcd_edit.proofs.Cuts.{quiet_cut}
 
 -- the ticks of a cut
 pub cut_ticks : (from to : ℕ) (c : Contents) → edit_fault (Cut from to) c ≡ None → (from < to) × (to ≤ c.end)
-cut_ticks from to c none = let free : (nat_le to from || nat_lt c.end to) ≡ false = (no_fault (Cut from to) c none).range in (grind (arith, nat_tests), grind (arith, nat_tests))
+cut_ticks from to c none = let free : (nat_le to from || nat_lt c.end to) ≡ false =
+    (no_fault (Cut from to) c none).range in (grind (arith, nat_tests), grind (arith, nat_tests))
 
-module _ (c : Contents) (signals : List Signal) (are : c.signals ≡ map signal_contents signals) (sound : IsSound c) (from to : ℕ) (some : from < to) (ends : to ≤ c.end) (n : ℕ) (s : Signal) (within : n < length signals) (at : s ≡ get_or signals n s) (ps : List Piece) where
+module _ (c : Contents) (signals : List Signal) (are : c.signals ≡ map signal_contents signals) (sound : IsSound c)
+    (from to : ℕ) (some : from < to) (ends : to ≤ c.end) (n : ℕ) (s : Signal) (within : n < length signals)
+    (at : s ≡ get_or signals n s) (ps : List Piece) where
   abbrev stop : ℕ
   stop = c.end - (to - from)
 
@@ -39,40 +43,67 @@ module _ (c : Contents) (signals : List Signal) (are : c.signals ≡ map signal_
   sound_here : IsSoundSignal c.end (signal_contents s)
   sound_here = subst (IsSoundSignal c.end) here (sound_at c n within_c sound)
 
-  pub cut_without : count_by (λ c. nat_lt c.tick from) s.wave.changes ≡ length s.wave.changes → LeadEach c (neg_ℤ (pos (to - from))) (signal_after_cut stop from to) n (map piece_view ps)
+  pub cut_without : count_by (λ c. nat_lt c.tick from) s.wave.changes ≡ length s.wave.changes
+      → LeadEach c (neg_ℤ (pos (to - from))) (signal_after_cut stop from to) n (map piece_view ps)
       → LeadEach c (neg_ℤ (pos (to - from))) (signal_after_cut stop from to) (n + 1) (map piece_view ps)
   cut_without quiet lead =
-      lead_without c (signal_after_cut stop from to) n (neg_ℤ (pos (to - from))) (map piece_view ps) lead within_c (signal_contents s) here
+      lead_without c (signal_after_cut stop from to) n (neg_ℤ (pos (to - from))) (map piece_view ps) lead within_c
+      (signal_contents s) here
       (quiet_cut from to stop (signal_contents s) sound_here.wave (omega (arith, some, ends)) quiet)
 
   pub cut_with : (p : Piece) (more : List Piece)
-      → ((end stop : ℕ) → IsSoundSignal end (signal_contents s) → end ≤ stop + (to - from) → from ≤ stop → stop < 2 ^ 64 → GivesValues n (signal_contents s) stop (neg_ℤ (pos (to - from))) (cut_value from to (signal_contents s)) p)
-      → more ≡ ps ++ p ∷ [] → LeadEach c (neg_ℤ (pos (to - from))) (signal_after_cut stop from to) n (map piece_view ps) → LeadEach c (neg_ℤ (pos (to - from))) (signal_after_cut stop from to) (n + 1) (map piece_view more)
+      → ((end stop : ℕ) → IsSoundSignal end (signal_contents s) → end ≤ stop + (to - from) → from ≤ stop → stop < 2 ^ 64
+      → GivesValues n (signal_contents s) stop (neg_ℤ (pos (to - from))) (cut_value from to (signal_contents s)) p)
+      → more ≡ ps ++ p ∷ [] → LeadEach c (neg_ℤ (pos (to - from))) (signal_after_cut stop from to) n (map piece_view ps)
+      → LeadEach c (neg_ℤ (pos (to - from))) (signal_after_cut stop from to) (n + 1) (map piece_view more)
   cut_with p more gives is lead =
-      let piece = gives c.end stop sound_here (omega (arith, some, ends)) (omega (arith, some, ends)) (omega (arith, sound.end)) in
-      subst (LeadEach c (neg_ℤ (pos (to - from))) (signal_after_cut stop from to) (n + 1)) (sym (ap (map piece_view) is ∙ map-append piece_view ps (p ∷ [])))
-      (lead_with c (signal_after_cut stop from to) n (neg_ℤ (pos (to - from))) (map piece_view ps) lead within_c (signal_contents s) (piece_view p) stop (cut_value from to (signal_contents s)) here piece.signal refl piece.leads piece.moves)
+      let piece = gives c.end stop sound_here (omega (arith, some, ends)) (omega (arith, some, ends))
+      (omega (arith, sound.end)) in
+      subst (LeadEach c (neg_ℤ (pos (to - from))) (signal_after_cut stop from to) (n + 1))
+      (sym (ap (map piece_view) is ∙ map-append piece_view ps (p ∷ [])))
+      (lead_with c (signal_after_cut stop from to) n (neg_ℤ (pos (to - from))) (map piece_view ps) lead within_c
+      (signal_contents s) (piece_view p) stop (cut_value from to (signal_contents s)) here piece.signal refl
+      piece.leads piece.moves)
 
 -- the pieces of all signals, and the end
 pub cut_plan : (c : Contents) (from to : ℕ) (ps : List PieceView) → IsSound c → edit_fault (Cut from to) c ≡ None
     → LeadEach c (neg_ℤ (pos (to - from))) (signal_after_cut (c.end - (to - from)) from to) (length c.signals) ps
-    → IsPlan (Cut from to) c (record { pieces = ps; word = None; signal = None; other_end = Some (c.end - (to - from)) })
+    → IsPlan (Cut from to) c (record {
+      pieces = ps;
+      word = None;
+      signal = None;
+      other_end =
+          Some (c.end - (to - from));
+    })
 unfolding apply_record effect
 cut_plan c from to ps sound none lead =
-    is_plan (Cut from to) c (record { pieces = ps; word = None; signal = None; other_end = Some (c.end - (to - from)) }) sound none
-    (ap (λ (d : Contents). record d { end = c.end - (to - from) }) (lead_all c (neg_ℤ (pos (to - from))) (signal_after_cut (c.end - (to - from)) from to) ps lead))
-    lead.fit tt tt (λ k d less. opposite from to (cut_ticks from to c none).0 ∙ ap neg_ℤ (sym (lead.moves k d less))) refl
+    is_plan (Cut from to) c (record { pieces = ps; word = None; signal = None; other_end = Some (c.end - (to - from)) })
+    sound none
+    (ap (λ (d : Contents). record d { end = c.end - (to - from) })
+    (lead_all c (neg_ℤ (pos (to - from))) (signal_after_cut (c.end - (to - from)) from to) ps lead))
+    lead.fit tt tt (λ k d less. opposite from to (cut_ticks from to c none).0 ∙ ap neg_ℤ (sym (lead.moves k d less)))
+    refl
   where
     opposite : (from to : ℕ) → from < to → pos to -ℤ pos from ≡ neg_ℤ (neg_ℤ (pos (to - from)))
     opposite from to some = omega (arith, ints)
 
 -- all signals have been reached
-pub cut_end : (c : Contents) (signals : List Signal) → c.signals ≡ map signal_contents signals → (from to n : ℕ) (ps : List PieceView) → n ≡ length signals
-    → LeadEach c (neg_ℤ (pos (to - from))) (signal_after_cut (c.end - (to - from)) from to) n ps → LeadEach c (neg_ℤ (pos (to - from))) (signal_after_cut (c.end - (to - from)) from to) (length c.signals) ps
+pub cut_end : (c : Contents) (signals : List Signal) → c.signals ≡ map signal_contents signals
+    → (from to n : ℕ) (ps : List PieceView) → n ≡ length signals
+    → LeadEach c (neg_ℤ (pos (to - from))) (signal_after_cut (c.end - (to - from)) from to) n ps
+    → LeadEach c (neg_ℤ (pos (to - from))) (signal_after_cut (c.end - (to - from)) from to) (length c.signals) ps
 cut_end c signals are from to n ps all lead =
-    subst (λ (n : ℕ). LeadEach c (neg_ℤ (pos (to - from))) (signal_after_cut (c.end - (to - from)) from to) n ps) (all ∙ sym (ap length are ∙ length-map signals signal_contents)) lead
+    subst (λ (n : ℕ). LeadEach c (neg_ℤ (pos (to - from))) (signal_after_cut (c.end - (to - from)) from to) n ps) (all
+    ∙ sym (ap length are ∙ length-map signals signal_contents)) lead
 
 -- such pieces are the only part of a record but the end
-pub cut_is_one_step : (c : Contents) (by : ℤ) (g : SignalContents → SignalContents) (n : ℕ) (ps : List PieceView) (end : ℕ) → LeadEach c by g n ps
+pub cut_is_one_step : (c : Contents) (by : ℤ) (g : SignalContents → SignalContents) (n : ℕ) (ps : List PieceView)
+    (end : ℕ) → LeadEach c by g n ps
     → IsOneStep (record { pieces = ps; word = None; signal = None; other_end = Some end })
-cut_is_one_step c by g n ps end lead = record { apart = lead.apart; word_alone = λ other. absurd (other refl); signal_alone = λ other. absurd (other refl) }
+cut_is_one_step c by g n ps end lead =
+    record {
+      apart = lead.apart;
+      word_alone = λ other. absurd (other refl);
+      signal_alone =
+          λ other. absurd (other refl);
+    }

@@ -27,19 +27,29 @@ use Rattle.vcd_edit.specs.inside.Plans.{IsPlan}
 use Rattle.vcd_edit.proofs.Plans.{is_plan}
 
 -- a rule by the values of its operands
-rule_is : (rule : Rule) (c : Contents) (t : ℕ) → operator_bit rule (signal_value (signal_at c (first_operand rule)) t) (signal_value (signal_at c (last_operand rule)) t) ≡ rule_bit rule c t
+rule_is : (rule : Rule) (c : Contents) (t : ℕ)
+    → operator_bit rule (signal_value (signal_at c (first_operand rule)) t)
+    (signal_value (signal_at c (last_operand rule)) t) ≡ rule_bit rule c t
 rule_is (Not a) c t = refl
 rule_is (And a b) c t = refl
 rule_is (Or a b) c t = refl
 rule_is (Xor a b) c t = refl
 rule_is (BitOf a k) c t = refl
 
-pub derived_parts : (c : Contents) (word : List ℕ) (rule : Rule) (scopes : List ScopeName) (kind : List ℕ) (words : List (List ℕ)) (wave : WaveView) (first last : SignalContents)
-    → signal_at c (first_operand rule) ≡ first → signal_at c (last_operand rule) ≡ last → scopes ≡ first.scopes → kind ≡ codes "wire" → words ≡ word ∷ []
-    → (wave.width ≡ 1) × (wave.changes ≡ changes_of 1 c.end (λ t. operator_bit rule (signal_value first t) (signal_value last t) ∷ []))
-    → record { scopes = scopes; kind = kind; words = words; width = wave.width; changes = wave.changes } ≡ derived_signal word rule c
-derived_parts c word rule scopes kind words wave first last is_first is_last same_scopes same_kind same_words (width, changes) =
-    let all = changes ∙ (λ i. changes_of 1 c.end (λ t. operator_bit rule (signal_value (sym is_first i) t) (signal_value (sym is_last i) t) ∷ []))
+pub derived_parts : (c : Contents) (word : List ℕ) (rule : Rule) (scopes : List ScopeName) (kind : List ℕ)
+    (words : List (List ℕ)) (wave : WaveView) (first last : SignalContents)
+    → signal_at c (first_operand rule) ≡ first → signal_at c (last_operand rule) ≡ last → scopes ≡ first.scopes
+    → kind ≡ codes "wire" → words ≡ word ∷ []
+    → (wave.width ≡ 1) × (wave.changes
+    ≡ changes_of 1 c.end (λ t. operator_bit rule (signal_value first t) (signal_value last t) ∷ []))
+    → record { scopes = scopes; kind = kind; words = words; width = wave.width; changes = wave.changes }
+    ≡ derived_signal word rule c
+derived_parts c word rule scopes kind words wave first last is_first is_last same_scopes same_kind same_words (
+  width,
+  changes,
+) =
+    let all = changes ∙ (λ i. changes_of 1 c.end
+    (λ t. operator_bit rule (signal_value (sym is_first i) t) (signal_value (sym is_last i) t) ∷ []))
     ∙ changes_same 1 c.end _ (λ t. rule_bit rule c t ∷ []) (λ t to. ap (λ (b : Bit). b ∷ []) (rule_is rule c t)) in
     let scoped = same_scopes ∙ ap (λ (s : SignalContents). s.scopes) (sym is_first) in
     λ i. record { scopes = scoped i; kind = same_kind i; words = same_words i; width = width i; changes = all i }
@@ -48,12 +58,22 @@ derived_parts c word rule scopes kind words wave first last is_first is_last sam
 insert_last : (ss : List SignalContents) (k : ℕ) (s : SignalContents) → k ≡ length ss → insert ss k s ≡ push ss s
 insert_last ss k s is = λ i. take_all k ss (omega (arith, is)) i ++ s ∷ drop_all k ss (omega (arith, is)) i
 
-pub derive_plan : (c : Contents) (word : Bor (List ℕ)) (rule : Rule) (k : ℕ) (s : SignalContents) (pieces : List Piece) → IsSound c → edit_fault (Derive word rule) c ≡ None
+pub derive_plan : (c : Contents) (word : Bor (List ℕ)) (rule : Rule) (k : ℕ) (s : SignalContents) (pieces : List Piece)
+    → IsSound c → edit_fault (Derive word rule) c ≡ None
     → k ≡ length c.signals → s ≡ derived_signal word.now rule c → pieces ≡ []
-    → IsPlan (Derive word rule) c (record { pieces = map piece_view pieces; word = None; signal = Some (k, Some s); other_end = None })
+    → IsPlan (Derive word rule) c (record {
+      pieces = map piece_view pieces;
+      word = None;
+      signal = Some (k, Some s);
+      other_end = None;
+    })
 unfolding apply_record with_pieces effect
 derive_plan c word rule k s pieces sound none last is empty =
-    subst (λ (ps : List Piece). IsPlan (Derive word rule) c (record { pieces = map piece_view ps; word = None; signal = Some (k, Some s); other_end = None })) (sym empty)
-    (is_plan (Derive word rule) c (record { pieces = []; word = None; signal = Some (k, Some s); other_end = None }) sound none
-    (ap (λ (ss : List SignalContents). record c { signals = ss }) (insert_last c.signals k s last ∙ ap (push c.signals) is))
-    (All-nil (PieceFits c)) tt (omega (arith, last)) (All-nil (λ (p : PieceView). pos 0 ≡ neg_ℤ p.by)) (ap (λ (n : ℕ). puts_in n) last))
+    subst (λ (ps : List Piece). IsPlan (Derive word rule) c
+    (record { pieces = map piece_view ps; word = None; signal = Some (k, Some s); other_end = None })) (sym empty)
+    (is_plan (Derive word rule) c (record { pieces = []; word = None; signal = Some (k, Some s); other_end = None })
+    sound none
+    (ap (λ (ss : List SignalContents). record c { signals = ss }) (insert_last c.signals k s last
+    ∙ ap (push c.signals) is))
+    (All-nil (PieceFits c)) tt (omega (arith, last)) (All-nil (λ (p : PieceView). pos 0 ≡ neg_ℤ p.by))
+    (ap (λ (n : ℕ). puts_in n) last))

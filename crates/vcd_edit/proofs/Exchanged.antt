@@ -4,22 +4,30 @@ use Rattle.std.proofs.lemmas.List.{get_or-map, length-map}
 use Rattle.vcd_core.specs.Contents.{Contents}
 use Rattle.vcd_core.specs.Sound.{IsSound}
 use Rattle.vcd_edit.specs.RecordView.{PieceView, RecordView}
-use Rattle.vcd_edit.specs.AppliedRecords.{with_pieces, with_first_word, with_moved_signal, with_end, apply_record, PieceFits, WordFits, Fits, AreApart, IsOneStep}
+use Rattle.vcd_edit.specs.AppliedRecords.{with_pieces, with_first_word, with_moved_signal, with_end, apply_record}
+use Rattle.vcd_edit.specs.AppliedRecords.{PieceFits, WordFits, Fits, AreApart, IsOneStep}
 use Rattle.vcd_edit.specs.declared.record.Piece.{Piece}
 use Rattle.vcd_edit.specs.inside.Records.{piece_view}
 use Rattle.vcd_edit.specs.inside.Exchanges.{PieceReadyIn, AreInversePieces}
-use Rattle.vcd_edit.specs.inside.Opposites.{opposite_word, opposite_move, opposite_end, opposite_record, IsNamedAt, IsInverse}
-use Rattle.vcd_edit.proofs.WaysBack.{pieces_ready, opposite_is_record, leads_other_way, in_order, ready_moved, lead_moved, word_fits, word_named, word_same, end_same}
+use Rattle.vcd_edit.specs.inside.Opposites.{opposite_word, opposite_move, opposite_end, opposite_record, IsNamedAt}
+use Rattle.vcd_edit.specs.inside.Opposites.{IsInverse}
+use Rattle.vcd_edit.proofs.WaysBack.{pieces_ready, opposite_is_record, leads_other_way, in_order, ready_moved}
+use Rattle.vcd_edit.proofs.WaysBack.{lead_moved, word_fits, word_named, word_same, end_same}
 
 -- each piece of a record that fits
-pub fits_each : (c : Contents) (l : List Piece) → All (PieceFits c) (map piece_view l) → All (λ p. PieceFits c (piece_view p)) l
-fits_each c l all = λ k d less. subst (PieceFits c) (get_or-map piece_view l k d (piece_view d) less) (all k (piece_view d) (omega (arith, less, length-map l piece_view)))
+pub fits_each : (c : Contents) (l : List Piece) → All (PieceFits c) (map piece_view l)
+    → All (λ p. PieceFits c (piece_view p)) l
+fits_each c l all = λ k d less. subst (PieceFits c) (get_or-map piece_view l k d (piece_view d) less)
+    (all k (piece_view d) (omega (arith, less, length-map l piece_view)))
 
-module _ (c : Contents) (r : RecordView) (fits : Fits r c) (one : IsOneStep r) (sound : IsSound c) (l : List PieceView) (whole : l ≡ r.pieces)
+module _ (c : Contents) (r : RecordView) (fits : Fits r c) (one : IsOneStep r) (sound : IsSound c) (l : List PieceView)
+    (whole : l ≡ r.pieces)
     (moved : Contents) (to_moved : moved ≡ with_moved_signal r.signal c) where
   -- after the signal, before the pieces
   pub ready_then : All (PieceReadyIn moved) l
-  ready_then = subst (All (PieceReadyIn moved)) (sym whole) (subst (λ x. All (PieceReadyIn x) r.pieces) (sym to_moved) (ready_moved c r one (pieces_ready c r fits one sound)))
+  ready_then = subst (All (PieceReadyIn moved)) (sym whole)
+      (subst (λ x. All (PieceReadyIn x) r.pieces) (sym to_moved)
+      (ready_moved c r one (pieces_ready c r fits one sound)))
 
   pub apart_then : AreApart l
   apart_then = subst AreApart (sym whole) one.apart
@@ -36,23 +44,30 @@ module _ (c : Contents) (r : RecordView) (fits : Fits r c) (one : IsOneStep r) (
     word_named_then = subst (λ x. IsNamedAt x r.word) (sym spliced_is) (word_named c r one fits.word sound)
 
     -- after the word and the end
-    module _ (named end : Contents) (to_named : named ≡ with_first_word r.word spliced) (to_end : end ≡ with_end r.other_end named) where
+    module _ (named end : Contents) (to_named : named ≡ with_first_word r.word spliced)
+        (to_end : end ≡ with_end r.other_end named) where
       pub end_is_back : end ≡ apply_record r c
-      end_is_back = to_end ∙ ap (λ x. with_end r.other_end x) to_named ∙ ap (λ x. with_end r.other_end (with_first_word r.word x)) spliced_is ∙ in_order c r one
+      end_is_back = to_end ∙ ap (λ x. with_end r.other_end x) to_named
+          ∙ ap (λ x. with_end r.other_end (with_first_word r.word x)) spliced_is ∙ in_order c r one
 
-      module _ (qs : List PieceView) (lead : AreInversePieces moved l qs) (q : RecordView) (pieces : q.pieces ≡ reverse qs) (word : q.word ≡ opposite_word r.word spliced)
-          (signal : q.signal ≡ opposite_move r.signal c) (other_end : q.other_end ≡ opposite_end r.other_end named) where
-        lead_is : AreInversePieces c r.pieces qs
-        lead_is = lead_moved c r one qs (subst (λ x. AreInversePieces x r.pieces qs) to_moved (subst (λ xs. AreInversePieces moved xs qs) whole lead))
+      module _ (qs : List PieceView) (lead : AreInversePieces moved l qs) (q : RecordView)
+          (pieces : q.pieces ≡ reverse qs) (word : q.word ≡ opposite_word r.word spliced)
+          (signal : q.signal ≡ opposite_move r.signal c) (other_end : q.other_end ≡ opposite_end r.other_end named)
+        where
+          lead_is : AreInversePieces c r.pieces qs
+          lead_is = lead_moved c r one qs
+              (subst (λ x. AreInversePieces x r.pieces qs) to_moved
+              (subst (λ xs. AreInversePieces moved xs qs) whole lead))
 
-        other_way : q ≡ opposite_record r qs c
-        other_way =
-            let word_is = word ∙ ap (opposite_word r.word) spliced_is ∙ word_same c r one in
-            let end_is = other_end ∙ ap (opposite_end r.other_end) (to_named ∙ ap (with_first_word r.word) spliced_is) ∙ end_same c r one in
-            λ i. record { pieces = pieces i; word = word_is i; signal = signal i; other_end = end_is i }
+          other_way : q ≡ opposite_record r qs c
+          other_way =
+              let word_is = word ∙ ap (opposite_word r.word) spliced_is ∙ word_same c r one in
+              let end_is = other_end ∙ ap (opposite_end r.other_end) (to_named ∙ ap (with_first_word r.word) spliced_is)
+              ∙ end_same c r one in
+              λ i. record { pieces = pieces i; word = word_is i; signal = signal i; other_end = end_is i }
 
-        pub is_record_then : IsOneStep q
-        is_record_then = subst IsOneStep (sym other_way) (opposite_is_record c r qs one lead_is)
+          pub is_record_then : IsOneStep q
+          is_record_then = subst IsOneStep (sym other_way) (opposite_is_record c r qs one lead_is)
 
-        pub leads_then : IsInverse c r q
-        leads_then = subst (IsInverse c r) (sym other_way) (leads_other_way c r qs one fits sound lead_is)
+          pub leads_then : IsInverse c r q
+          leads_then = subst (IsInverse c r) (sym other_way) (leads_other_way c r qs one fits sound lead_is)

@@ -1,5 +1,6 @@
 -- What it says of an edit that it has no fault.
-use Rattle.std.proofs.Common.{◌≡◌, ◌<◌, ℕ, ◌||◌, not, Bool, true, false, if◌then◌else◌, IsTrue, length, Option, Some, None, refl, arith}
+use Rattle.std.proofs.Common.{◌≡◌, ◌<◌, ℕ, ◌||◌, not, Bool, true, false, if◌then◌else◌, IsTrue, length, Option, Some}
+use Rattle.std.proofs.Common.{None, refl, arith}
 use Rattle.std.proofs.lemmas.Bool.Decides.{nat_tests}
 use Rattle.vcd_core.specs.Contents.{Contents, signal_at}
 use Rattle.vcd_edit.specs.declared.edit.Edit.{Edit}
@@ -8,7 +9,9 @@ use Rattle.vcd_edit.specs.declared.edit.Rule.TheVariants.{Not, And, Or, Xor, Bit
 use Rattle.vcd_edit.specs.declared.fault.EditError.{EditError}
 use Rattle.vcd_edit.specs.Effect.{first_operand}
 use Rattle.vcd_edit.specs.inside.Derived.{last_operand, has_two_operands}
-use Rattle.vcd_edit.specs.Allowed.{is_no_signal, is_wide, has_wide_operand, lacks_operand, lacks_signal, joins_wide_signal, lacks_bit, has_bad_range, has_bad_count, has_bad_value, gives_no_word, takes_name, adds_too_many, edit_fault}
+use Rattle.vcd_edit.specs.Allowed.{is_no_signal, is_wide, has_wide_operand, lacks_operand, lacks_signal}
+use Rattle.vcd_edit.specs.Allowed.{joins_wide_signal, lacks_bit, has_bad_range, has_bad_count, has_bad_value}
+use Rattle.vcd_edit.specs.Allowed.{gives_no_word, takes_name, adds_too_many, edit_fault}
 
 -- none of the nine tests holds
 pub record HasNoFault (e : Edit) (c : Contents) : Type 0 where
@@ -23,7 +26,8 @@ pub record HasNoFault (e : Edit) (c : Contents) : Type 0 where
   pub room : adds_too_many e c ≡ false
 
 -- a test that does not hold is passed over
-not_first : (b : Bool) (error : EditError) (rest : Option EditError) → (if b then Some error else rest) ≡ None → (b ≡ false) × (rest ≡ None)
+not_first : (b : Bool) (error : EditError) (rest : Option EditError) → (if b then Some error else rest) ≡ None
+    → (b ≡ false) × (rest ≡ None)
 not_first true error rest none = absurd (cc)
 not_first false error rest none = (refl, none)
 
@@ -39,7 +43,17 @@ no_fault e c none =
     let i = not_first (gives_no_word e) _ _ h.1 in
     let j = not_first (takes_name e c) _ _ i.1 in
     let k = not_first (adds_too_many e c) _ _ j.1 in
-    record { signals = a.0; scalars = b.0; bit = d.0; range = f.0; count = g.0; value = h.0; word = i.0; name = j.0; room = k.0 }
+    record {
+      signals = a.0;
+      scalars = b.0;
+      bit = d.0;
+      range = f.0;
+      count = g.0;
+      value = h.0;
+      word = i.0;
+      name = j.0;
+      room = k.0;
+    }
 
 -- a position that is one
 pub signal_there : (c : Contents) (k : ℕ) → is_no_signal c k ≡ false → k < length c.signals
@@ -50,7 +64,8 @@ neither true q none = none
 neither false q none = refl
 
 -- the first operand is there where none is missing
-pub first_operand_there : (c : Contents) (rule : Rule) → lacks_operand rule c ≡ false → first_operand rule < length c.signals
+pub first_operand_there : (c : Contents) (rule : Rule) → lacks_operand rule c ≡ false
+    → first_operand rule < length c.signals
 first_operand_there c (Not a) none = signal_there c a none
 first_operand_there c (And a b) none = signal_there c a (neither (is_no_signal c a) (is_no_signal c b) none)
 first_operand_there c (Or a b) none = signal_there c a (neither (is_no_signal c a) (is_no_signal c b) none)
@@ -62,14 +77,16 @@ other true q none = absurd (cc)
 other false q none = none
 
 -- each operand is there where none is missing
-pub first_there : (c : Contents) (rule : Rule) → lacks_operand rule c ≡ false → is_no_signal c (first_operand rule) ≡ false
+pub first_there : (c : Contents) (rule : Rule) → lacks_operand rule c ≡ false
+    → is_no_signal c (first_operand rule) ≡ false
 first_there c (Not a) none = none
 first_there c (And a b) none = neither (is_no_signal c a) (is_no_signal c b) none
 first_there c (Or a b) none = neither (is_no_signal c a) (is_no_signal c b) none
 first_there c (Xor a b) none = neither (is_no_signal c a) (is_no_signal c b) none
 first_there c (BitOf a k) none = none
 
-pub last_there : (c : Contents) (rule : Rule) → lacks_operand rule c ≡ false → is_no_signal c (last_operand rule) ≡ false
+pub last_there : (c : Contents) (rule : Rule) → lacks_operand rule c ≡ false
+    → is_no_signal c (last_operand rule) ≡ false
 last_there c (Not a) none = none
 last_there c (And a b) none = other (is_no_signal c a) (is_no_signal c b) none
 last_there c (Or a b) none = other (is_no_signal c a) (is_no_signal c b) none
@@ -85,8 +102,10 @@ holds_where_not false none = absurd (cc)
 narrow : (c : Contents) (k : ℕ) → is_wide c k ≡ false → (signal_at c k).width ≡ 1
 narrow c k none = grind (arith, nat_tests)
 
-both_narrow : (c : Contents) (a b : ℕ) → (is_wide c a || is_wide c b) ≡ false → ((signal_at c a).width ≡ 1) × ((signal_at c b).width ≡ 1)
-both_narrow c a b none = (narrow c a (neither (is_wide c a) (is_wide c b) none), narrow c b (other (is_wide c a) (is_wide c b) none))
+both_narrow : (c : Contents) (a b : ℕ) → (is_wide c a || is_wide c b) ≡ false → ((signal_at c a).width ≡ 1)
+    × ((signal_at c b).width ≡ 1)
+both_narrow c a b none =
+    (narrow c a (neither (is_wide c a) (is_wide c b) none), narrow c b (other (is_wide c a) (is_wide c b) none))
 
 pub operands_narrow : (c : Contents) (rule : Rule) → has_wide_operand rule c ≡ false → has_two_operands rule ≡ true
     → ((signal_at c (first_operand rule)).width ≡ 1) × ((signal_at c (last_operand rule)).width ≡ 1)

@@ -1,5 +1,6 @@
 -- Which records with a word, or with a signal to put in or take out, fit a capture; and the three kinds together.
-use Rattle.std.proofs.Common.{◌≡◌, ◌↔◌, refl, ℕ, ◌+◌, ◌<◌, ◌≤◌, List, [], ◌∷◌, length, map, get_or, All, Option, Some, None, Bool, IsTrue, IfSome, sym, ap, subst, ◌∙◌, arith}
+use Rattle.std.proofs.Common.{◌≡◌, ◌↔◌, refl, ℕ, ◌+◌, ◌<◌, ◌≤◌, List, [], ◌∷◌, length, map, get_or, All, Option, Some}
+use Rattle.std.proofs.Common.{None, Bool, IsTrue, IfSome, sym, ap, subst, ◌∙◌, arith}
 use Rattle.std.specs.Option.{unwrap_or}
 use Rattle.std.specs.List.{insert, remove, list_all}
 use Rattle.std.proofs.lemmas.List.{length-set, length-map}
@@ -11,15 +12,18 @@ use Rattle.vcd_core.specs.Contents.{Contents, SignalContents, signal_contents, n
 use Rattle.vcd_core.specs.Sound.{is_sound_header, is_sound_timescale, IsSoundSignal}
 use Rattle.vcd_edit.specs.RecordView.{PieceView, RecordView}
 use Rattle.vcd_edit.specs.Effect.{renamed_signal}
-use Rattle.vcd_edit.specs.AppliedRecords.{with_piece, with_pieces, with_first_word, with_moved_signal, with_end, apply_record, PieceFits, MayMoveSignal, Fits, IsOneStep}
+use Rattle.vcd_edit.specs.AppliedRecords.{with_piece, with_pieces, with_first_word, with_moved_signal, with_end}
+use Rattle.vcd_edit.specs.AppliedRecords.{apply_record, PieceFits, MayMoveSignal, Fits, IsOneStep}
 use Rattle.vcd_edit.specs.inside.Fitting.{AreSoundSignals, PartsFit, KindFits, HasSoundMetadata}
 use Rattle.vcd_edit.proofs.Plans.{contents_at}
 use Rattle.vcd_edit.proofs.Others.{with_other, other_there, with_one_more, one_more_there}
-use Rattle.vcd_edit.proofs.WaysBack.{parts, none_put, no_pieces_at_word, no_pieces_at_move, no_word_at_move, move_of_end, end_kept}
+use Rattle.vcd_edit.proofs.WaysBack.{parts, none_put, no_pieces_at_word, no_pieces_at_move, no_word_at_move}
+use Rattle.vcd_edit.proofs.WaysBack.{move_of_end, end_kept}
 
 -- ---- a word
 
-module _ (end : ℕ) (c : Contents) (k : ℕ) (word : List ℕ) (signals : List Signal) (same : c.signals ≡ map signal_contents signals) where
+module _ (end : ℕ) (c : Contents) (k : ℕ) (word : List ℕ) (signals : List Signal)
+    (same : c.signals ≡ map signal_contents signals) where
   abbrev WordIsFit : Type 0
   WordIsFit = (k < length c.signals) × AreSoundSignals end (with_first_word (Some (k, word)) c).signals
 
@@ -29,14 +33,22 @@ module _ (end : ℕ) (c : Contents) (k : ℕ) (word : List ℕ) (signals : List 
   abbrev renamed : SignalContents
   renamed = renamed_signal word (signal_at c k)
 
-  renamed_is : (s : Signal) → k < length signals → s ≡ get_or signals k s → renamed ≡ renamed_signal word (signal_contents s)
-  renamed_is s within is = ap (renamed_signal word) (ap (λ l. get_or l k no_signal) same ∙ contents_at signals k s within is)
+  renamed_is : (s : Signal) → k < length signals → s ≡ get_or signals k s
+      → renamed ≡ renamed_signal word (signal_contents s)
+  renamed_is s within is =
+      ap (renamed_signal word) (ap (λ l. get_or l k no_signal) same ∙ contents_at signals k s within is)
 
-  pub word_by_tests : (s : Signal) → k < length signals → length signals ≤ SIGNAL_LIMIT → s ≡ get_or signals k s → IsSoundSignal end (renamed_signal word (signal_contents s))
+  pub word_by_tests : (s : Signal) → k < length signals → length signals ≤ SIGNAL_LIMIT → s ≡ get_or signals k s
+      → IsSoundSignal end (renamed_signal word (signal_contents s))
       → All (IsSoundSignal end) (remove (map signal_contents signals) k) → WordIsFit
   word_by_tests s within few is here others = (
     omega (arith, within, count),
-    (omega (arith, few, count, length-set c.signals k renamed), with_other (IsSoundSignal end) c.signals k renamed (subst (IsSoundSignal end) (sym (renamed_is s within is)) here) (subst (λ ss. All (IsSoundSignal end) (remove ss k)) (sym same) others)),
+    (
+      omega (arith, few, count, length-set c.signals k renamed),
+      with_other (IsSoundSignal end) c.signals k renamed
+          (subst (IsSoundSignal end) (sym (renamed_is s within is)) here)
+          (subst (λ ss. All (IsSoundSignal end) (remove ss k)) (sym same) others),
+    ),
   )
 
   pub word_within : WordIsFit → k < length signals
@@ -45,13 +57,16 @@ module _ (end : ℕ) (c : Contents) (k : ℕ) (word : List ℕ) (signals : List 
   pub word_few : WordIsFit → length signals ≤ SIGNAL_LIMIT
   word_few (within, (few, sound)) = omega (arith, few, count, length-set c.signals k renamed)
 
-  pub word_here : WordIsFit → (s : Signal) → s ≡ get_or signals k s → IsSoundSignal end (renamed_signal word (signal_contents s))
+  pub word_here : WordIsFit → (s : Signal) → s ≡ get_or signals k s
+      → IsSoundSignal end (renamed_signal word (signal_contents s))
   word_here (within, (few, sound)) s is =
-      subst (IsSoundSignal end) (renamed_is s (word_within (within, (few, sound))) is) (other_there (IsSoundSignal end) c.signals k renamed within sound).0
+      subst (IsSoundSignal end) (renamed_is s (word_within (within, (few, sound))) is)
+      (other_there (IsSoundSignal end) c.signals k renamed within sound).0
 
   pub word_others : WordIsFit → All (IsSoundSignal end) (remove (map signal_contents signals) k)
   word_others (within, (few, sound)) =
-      subst (λ ss. All (IsSoundSignal end) (remove ss k)) same (other_there (IsSoundSignal end) c.signals k renamed within sound).1
+      subst (λ ss. All (IsSoundSignal end) (remove ss k)) same
+      (other_there (IsSoundSignal end) c.signals k renamed within sound).1
 
 -- ---- a signal put in or taken out
 
@@ -63,10 +78,17 @@ module _ (end at : ℕ) (s : SignalContents) (signals : List Signal) where
   MayPut = (at ≤ length signals) × AreSoundSignals end (insert ss at s)
 
   count_put : at ≤ length signals → length (insert ss at s) ≡ length signals + 1
-  count_put within = omega (arith, within, length-map signals signal_contents, length-insert ss at s (omega (arith, within, length-map signals signal_contents)))
+  count_put within = omega (
+    arith,
+    within,
+    length-map signals signal_contents,
+    length-insert ss at s (omega (arith, within, length-map signals signal_contents)),
+  )
 
-  pub put_by_tests : at ≤ length signals → length signals < SIGNAL_LIMIT → IsSoundSignal end s → All (IsSoundSignal end) ss → MayPut
-  put_by_tests within few here all = (within, (omega (arith, few, count_put within), with_one_more (IsSoundSignal end) ss at s here all))
+  pub put_by_tests : at ≤ length signals → length signals < SIGNAL_LIMIT → IsSoundSignal end s
+      → All (IsSoundSignal end) ss → MayPut
+  put_by_tests within few here all =
+      (within, (omega (arith, few, count_put within), with_one_more (IsSoundSignal end) ss at s here all))
 
   pub put_few : MayPut → length signals < SIGNAL_LIMIT
   put_few (within, (few, sound)) = omega (arith, few, count_put within)
@@ -76,12 +98,18 @@ module _ (end at : ℕ) (s : SignalContents) (signals : List Signal) where
 
 module _ (end at : ℕ) (signals : List Signal) where
   pub count_taken : at < length signals → length (remove (map signal_contents signals) at) + 1 ≡ length signals
-  count_taken within = omega (arith, within, length-map signals signal_contents, length-remove (map signal_contents signals) at (omega (arith, within, length-map signals signal_contents)))
+  count_taken within = omega (
+    arith,
+    within,
+    length-map signals signal_contents,
+    length-remove (map signal_contents signals) at (omega (arith, within, length-map signals signal_contents)),
+  )
 
 -- ---- the kinds
 
 -- a record fits by its kind
-pub kinds_tell : (end : ℕ) (c : Contents) (ps : List PieceView) (w : Option (ℕ × List ℕ)) (m : Option (ℕ × Option SignalContents)) (e : Option ℕ) → IsOneStep (parts ps w m e)
+pub kinds_tell : (end : ℕ) (c : Contents) (ps : List PieceView) (w : Option (ℕ × List ℕ))
+    (m : Option (ℕ × Option SignalContents)) (e : Option ℕ) → IsOneStep (parts ps w m e)
     → KindFits end c ps w m ↔ PartsFit end (parts ps w m e) c
 unfolding apply_record
 kinds_tell end c ps None None e one =
@@ -91,38 +119,56 @@ kinds_tell end c ps None None e one =
     )
 kinds_tell end c ps (Some w) None e one =
     let none = no_pieces_at_word ps w None e one in
-    let same = move_of_end e (with_first_word (Some w) (with_pieces c ps)) ∙ ap (λ (x : Contents). (with_first_word (Some w) x).signals) (none_put c ps none) in (
-      (λ k. (subst (All (PieceFits c)) (sym none) (All-nil (PieceFits c)), k.0, tt, subst (AreSoundSignals end) (sym same) k.1)),
+    let same = move_of_end e (with_first_word (Some w) (with_pieces c ps))
+    ∙ ap (λ (x : Contents). (with_first_word (Some w) x).signals) (none_put c ps none) in (
+      (λ k. (
+        subst (All (PieceFits c)) (sym none) (All-nil (PieceFits c)),
+        k.0,
+        tt,
+        subst (AreSoundSignals end) (sym same) k.1,
+      )),
       (λ p. (p.1, subst (AreSoundSignals end) same p.3)),
     )
 kinds_tell end c ps None (Some m) e one =
     let none = no_pieces_at_move ps None m e one in
-    let same = move_of_end e (with_moved_signal (Some m) (with_pieces c ps)) ∙ ap (λ (x : Contents). (with_moved_signal (Some m) x).signals) (none_put c ps none) in (
-      (λ k. (subst (All (PieceFits c)) (sym none) (All-nil (PieceFits c)), tt, k.0, subst (AreSoundSignals end) (sym same) k.1)),
+    let same = move_of_end e (with_moved_signal (Some m) (with_pieces c ps))
+    ∙ ap (λ (x : Contents). (with_moved_signal (Some m) x).signals) (none_put c ps none) in (
+      (λ k. (
+        subst (All (PieceFits c)) (sym none) (All-nil (PieceFits c)),
+        tt,
+        k.0,
+        subst (AreSoundSignals end) (sym same) k.1,
+      )),
       (λ p. (p.2, subst (AreSoundSignals end) same p.3)),
     )
 kinds_tell end c ps (Some w) (Some m) e one = absurd (no_word_at_move ps w m e one)
 
 module _ (end : ℕ) (c : Contents) (r : RecordView) (e : Option ℕ) (one : IsOneStep r) where
-  by_kind : (w : Option (ℕ × List ℕ)) (m : Option (ℕ × Option SignalContents)) → r.word ≡ w → r.signal ≡ m → (test : Bool) → IsTrue test ↔ KindFits end c r.pieces w m
+  by_kind : (w : Option (ℕ × List ℕ)) (m : Option (ℕ × Option SignalContents)) → r.word ≡ w → r.signal ≡ m
+      → (test : Bool) → IsTrue test ↔ KindFits end c r.pieces w m
       → IsTrue test ↔ PartsFit end (record r { other_end = e }) c
   by_kind w m word signal test tells =
-      let one_now : IsOneStep (parts r.pieces r.word r.signal e) = record { apart = one.apart; word_alone = one.word_alone; signal_alone = one.signal_alone } in
+      let one_now : IsOneStep (parts r.pieces r.word r.signal e) =
+      record { apart = one.apart; word_alone = one.word_alone; signal_alone = one.signal_alone } in
       let kinds = kinds_tell end c r.pieces r.word r.signal e one_now in
-      let same : KindFits end c r.pieces r.word r.signal ≡ KindFits end c r.pieces w m = λ i. KindFits end c r.pieces (word i) (signal i) in (
+      let same : KindFits end c r.pieces r.word r.signal ≡ KindFits end c r.pieces w m =
+      λ i. KindFits end c r.pieces (word i) (signal i) in (
         (λ yes. kinds.0 (subst (λ (t : Type 0). t) (sym same) (tells.0 yes))),
         (λ fit. tells.1 (subst (λ (t : Type 0). t) same (kinds.1 fit))),
       )
 
-  pub parts_by_move : (m : ℕ × Option SignalContents) → r.signal ≡ Some m → (test : Bool) → IsTrue test ↔ (MayMoveSignal c m.0 m.1 × AreSoundSignals end (with_moved_signal (Some m) c).signals)
+  pub parts_by_move : (m : ℕ × Option SignalContents) → r.signal ≡ Some m → (test : Bool)
+      → IsTrue test ↔ (MayMoveSignal c m.0 m.1 × AreSoundSignals end (with_moved_signal (Some m) c).signals)
       → IsTrue test ↔ PartsFit end (record r { other_end = e }) c
   parts_by_move m signal test tells = by_kind r.word (Some m) refl signal test tells
 
-  pub parts_by_word : (w : ℕ × List ℕ) → r.signal ≡ None → r.word ≡ Some w → (test : Bool) → IsTrue test ↔ ((w.0 < length c.signals) × AreSoundSignals end (with_first_word (Some w) c).signals)
+  pub parts_by_word : (w : ℕ × List ℕ) → r.signal ≡ None → r.word ≡ Some w → (test : Bool)
+      → IsTrue test ↔ ((w.0 < length c.signals) × AreSoundSignals end (with_first_word (Some w) c).signals)
       → IsTrue test ↔ PartsFit end (record r { other_end = e }) c
   parts_by_word w signal word test tells = by_kind (Some w) None word signal test tells
 
-  pub parts_by_pieces : r.signal ≡ None → r.word ≡ None → (test : Bool) → IsTrue test ↔ (All (PieceFits c) r.pieces × AreSoundSignals end (with_pieces c r.pieces).signals)
+  pub parts_by_pieces : r.signal ≡ None → r.word ≡ None → (test : Bool)
+      → IsTrue test ↔ (All (PieceFits c) r.pieces × AreSoundSignals end (with_pieces c r.pieces).signals)
       → IsTrue test ↔ PartsFit end (record r { other_end = e }) c
   parts_by_pieces signal word test tells = by_kind None None word signal test tells
 
@@ -138,14 +184,16 @@ unfolding with_pieces
 timescale_kept c [] = refl
 timescale_kept c (p ∷ ps) = timescale_kept (with_piece c p) ps
 
-end_of : (c : Contents) (w : Option (ℕ × List ℕ)) (m : Option (ℕ × Option SignalContents)) (e : Option ℕ) → (with_end e (with_moved_signal m (with_first_word w c))).end ≡ unwrap_or e c.end
+end_of : (c : Contents) (w : Option (ℕ × List ℕ)) (m : Option (ℕ × Option SignalContents)) (e : Option ℕ)
+    → (with_end e (with_moved_signal m (with_first_word w c))).end ≡ unwrap_or e c.end
 end_of c None None None = refl
 end_of c (Some w) None None = refl
 end_of c None (Some m) None = refl
 end_of c (Some w) (Some m) None = refl
 end_of c w m (Some end) = refl
 
-header_of : (c : Contents) (w : Option (ℕ × List ℕ)) (m : Option (ℕ × Option SignalContents)) (e : Option ℕ) → (with_end e (with_moved_signal m (with_first_word w c))).header ≡ c.header
+header_of : (c : Contents) (w : Option (ℕ × List ℕ)) (m : Option (ℕ × Option SignalContents)) (e : Option ℕ)
+    → (with_end e (with_moved_signal m (with_first_word w c))).header ≡ c.header
 header_of c None None None = refl
 header_of c (Some w) None None = refl
 header_of c None (Some m) None = refl
@@ -155,7 +203,8 @@ header_of c (Some w) None (Some end) = refl
 header_of c None (Some m) (Some end) = refl
 header_of c (Some w) (Some m) (Some end) = refl
 
-timescale_of : (c : Contents) (w : Option (ℕ × List ℕ)) (m : Option (ℕ × Option SignalContents)) (e : Option ℕ) → (with_end e (with_moved_signal m (with_first_word w c))).timescale ≡ c.timescale
+timescale_of : (c : Contents) (w : Option (ℕ × List ℕ)) (m : Option (ℕ × Option SignalContents)) (e : Option ℕ)
+    → (with_end e (with_moved_signal m (with_first_word w c))).timescale ≡ c.timescale
 timescale_of c None None None = refl
 timescale_of c (Some w) None None = refl
 timescale_of c None (Some m) None = refl
@@ -168,7 +217,8 @@ timescale_of c (Some w) (Some m) (Some end) = refl
 module _ (r : RecordView) (c : Contents) where
   end_then : (apply_record r c).end ≡ unwrap_or r.other_end c.end
   unfolding apply_record
-  end_then = end_of (with_pieces c r.pieces) r.word r.signal r.other_end ∙ ap (unwrap_or r.other_end) (end_kept c r.pieces)
+  end_then = end_of (with_pieces c r.pieces) r.word r.signal r.other_end
+      ∙ ap (unwrap_or r.other_end) (end_kept c r.pieces)
 
   header_then : (apply_record r c).header ≡ c.header
   unfolding apply_record
@@ -178,7 +228,8 @@ module _ (r : RecordView) (c : Contents) where
   unfolding apply_record
   timescale_then = timescale_of (with_pieces c r.pieces) r.word r.signal r.other_end ∙ timescale_kept c r.pieces
 
-  pub fits_by_parts : HasSoundMetadata (unwrap_or r.other_end c.end) c → PartsFit (unwrap_or r.other_end c.end) r c → Fits r c
+  pub fits_by_parts : HasSoundMetadata (unwrap_or r.other_end c.end) c → PartsFit (unwrap_or r.other_end c.end) r c
+      → Fits r c
   fits_by_parts frame parts = record {
     pieces = parts.0;
     word = parts.1;
@@ -200,4 +251,9 @@ module _ (r : RecordView) (c : Contents) where
   )
 
   pub parts_fits : Fits r c → PartsFit (unwrap_or r.other_end c.end) r c
-  parts_fits fits = (fits.pieces, fits.word, fits.signal, (fits.sound.few, subst (λ end. All (IsSoundSignal end) (apply_record r c).signals) end_then fits.sound.signals))
+  parts_fits fits = (
+    fits.pieces,
+    fits.word,
+    fits.signal,
+    (fits.sound.few, subst (λ end. All (IsSoundSignal end) (apply_record r c).signals) end_then fits.sound.signals),
+  )

@@ -1,5 +1,6 @@
 -- The words of the inverse of a value, and the letters that they show.
-use Rattle.std.proofs.Common.{◌≡◌, ℕ, ◌<◌, ◌≤◌, ◌+◌, ◌-◌, ◌*◌, ◌/◌, ◌%◌, ◌^◌, max, List, length, map, get_or, refl, sym, ap, ◌∙◌, arith, inl, inr, if◌then◌else◌, nat_lt}
+use Rattle.std.proofs.Common.{◌≡◌, ℕ, ◌<◌, ◌≤◌, ◌+◌, ◌-◌, ◌*◌, ◌/◌, ◌%◌, ◌^◌, max, List, length, map, get_or, refl, sym}
+use Rattle.std.proofs.Common.{ap, ◌∙◌, arith, inl, inr, if◌then◌else◌, nat_lt}
 use Rattle.std.proofs.Math.ListN.{set}
 use Rattle.std.specs.Int.{bit_at, bit_not, w64}
 use Rattle.std.specs.Int.Bits.{bit_or}
@@ -37,7 +38,8 @@ shows_more value bit row j x there word shown = λ k below within.
     ]
 
 -- all words
-pub shows_all : (value : List Bit) (bit : Bit → ℕ) (row : List ℕ) (limit : ℕ) → length value ≤ limit → ShowsInverseUpTo limit value bit row → ShowsInverse value bit row
+pub shows_all : (value : List Bit) (bit : Bit → ℕ) (row : List ℕ) (limit : ℕ) → length value ≤ limit
+    → ShowsInverseUpTo limit value bit row → ShowsInverse value bit row
 unfolding ShowsInverseUpTo
 shows_all value bit row limit most shown = λ k below within. shown k (omega arith) within
 
@@ -55,33 +57,41 @@ not_high One = refl
 not_high X = refl
 not_high Z = refl
 
-within_value : (value : List Bit) (bit : Bit → ℕ) (k : ℕ) → k < length value → (if nat_lt k (length value) then bit (letter_at value k) else 0) ≡ bit (letter_at value k)
+within_value : (value : List Bit) (bit : Bit → ℕ) (k : ℕ) → k < length value
+    → (if nat_lt k (length value) then bit (letter_at value k) else 0) ≡ bit (letter_at value k)
 within_value value bit k within = rw (lt-ltb k (length value) within) refl
 
 pub inverse_low : (value : List Bit) (j high low : ℕ) → low < 2 ^ 64
     → ((i : ℕ) → i < 64 → bit_at high i ≡ high_bit value (64 * j + i))
     → ((i : ℕ) → i < 64 → bit_at low i ≡ low_bit value (64 * j + i))
-    → (i : ℕ) → i < 64 → 64 * j + i < length value → bit_at (bit_or high (bit_not w64 low)) i ≡ low_of (not_bit (letter_at value (64 * j + i)))
+    → (i : ℕ) → i < 64 → 64 * j + i < length value
+    → bit_at (bit_or high (bit_not w64 low)) i ≡ low_of (not_bit (letter_at value (64 * j + i)))
 inverse_low value j high low fits highs lows i inside within =
     bit_at_or high (bit_not w64 low) i
-    ∙ (λ p. max ((highs i inside ∙ within_value value high_of (64 * j + i) within) p) ((bit_at_not w64 low i fits inside ∙ ap (λ b. 1 - b) (lows i inside ∙ within_value value low_of (64 * j + i) within)) p))
+    ∙ (λ p. max ((highs i inside ∙ within_value value high_of (64 * j + i) within) p)
+    ((bit_at_not w64 low i fits inside
+    ∙ ap (λ b. 1 - b) (lows i inside ∙ within_value value low_of (64 * j + i) within)) p))
     ∙ not_low (letter_at value (64 * j + i))
 
 pub inverse_high : (value : List Bit) (j high : ℕ) → ((i : ℕ) → i < 64 → bit_at high i ≡ high_bit value (64 * j + i))
     → (i : ℕ) → i < 64 → 64 * j + i < length value → bit_at high i ≡ high_of (not_bit (letter_at value (64 * j + i)))
-inverse_high value j high highs i inside within = highs i inside ∙ within_value value high_of (64 * j + i) within ∙ not_high (letter_at value (64 * j + i))
+inverse_high value j high highs i inside within = highs i inside ∙ within_value value high_of (64 * j + i) within
+    ∙ not_high (letter_at value (64 * j + i))
 
 -- ---- the letters
 
-letter_at-map : (value : List Bit) (k : ℕ) → k < length value → letter_at (map not_bit value) k ≡ not_bit (letter_at value k)
+letter_at-map : (value : List Bit) (k : ℕ) → k < length value
+    → letter_at (map not_bit value) k ≡ not_bit (letter_at value k)
 letter_at-map value k within =
     ap (λ n. get_or (map not_bit value) (n - 1 - k) X) (length-map value not_bit)
     ∙ get_or-map not_bit value (length value - 1 - k) X X (omega arith)
 
 -- rows that show the inverse have its letters
-pub inverse_letters : (value : List Bit) (low high : List ℕ) → ShowsInverse value low_of low → ShowsInverse value high_of high → letters_of (length value) low high ≡ map not_bit value
+pub inverse_letters : (value : List Bit) (low high : List ℕ) → ShowsInverse value low_of low
+    → ShowsInverse value high_of high → letters_of (length value) low high ≡ map not_bit value
 unfolding ShowsInverseUpTo
-inverse_letters value low high lows highs = same_letter_at _ _ (length-letters_of (length value) low high ∙ sym (length-map value not_bit)) (λ k below.
+inverse_letters value low high lows highs =
+    same_letter_at _ _ (length-letters_of (length value) low high ∙ sym (length-map value not_bit)) (λ k below.
     let within : k < length value = omega (arith, length-letters_of (length value) low high) in
     letter_at-letters_of (length value) low high k within
     ∙ (λ p. letter_of (lows k within within p) (highs k within within p))

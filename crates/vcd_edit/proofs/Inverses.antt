@@ -1,5 +1,6 @@
 -- The piece of a signal with each bit negated.
-use Rattle.std.proofs.Common.{◌≡◌, ℕ, zero, suc, ◌<◌, ◌≤◌, ◌+◌, Bool, true, false, List, [], ◌∷◌, ◌++◌, length, map, drop, get_or, refl, sym, ap, ◌∙◌, arith, append_assoc}
+use Rattle.std.proofs.Common.{◌≡◌, ℕ, zero, suc, ◌<◌, ◌≤◌, ◌+◌, Bool, true, false, List, [], ◌∷◌, ◌++◌, length, map}
+use Rattle.std.proofs.Common.{drop, get_or, refl, sym, ap, ◌∙◌, arith, append_assoc}
 use Rattle.std.proofs.lemmas.List.{length-map, length-replicate, append-nil, drop_all}
 use Rattle.std.proofs.Math.Seq.{drop-cons}
 use Rattle.vcd_core.specs.declared.bit.Bit.{Bit}
@@ -17,11 +18,13 @@ use Rattle.vcd_edit.proofs.ThinnedLists.{thinned_is, wave_rises, mapped_rise, ma
 -- ---- the changes of a wave, one after another
 
 -- the last change put, where the rest is still to come
-pub thinned_more : (before last : List Bit) (c : Change) (out more rest all : List Change) → out ++ thinned_list last (c ∷ rest) ≡ all → more ≡ out ++ unless_same (same_letters c.value last) c []
+pub thinned_more : (before last : List Bit) (c : Change) (out more rest all : List Change)
+    → out ++ thinned_list last (c ∷ rest) ≡ all → more ≡ out ++ unless_same (same_letters c.value last) c []
     → more ++ thinned_list c.value rest ≡ all
 unfolding thinned_list
 thinned_more before last c out more rest all was put =
-    ap (λ (cs : List Change). cs ++ thinned_list c.value rest) put ∙ append_assoc out (unless_same (same_letters c.value last) c []) (thinned_list c.value rest)
+    ap (λ (cs : List Change). cs ++ thinned_list c.value rest) put
+    ∙ append_assoc out (unless_same (same_letters c.value last) c []) (thinned_list c.value rest)
     ∙ ap (λ (cs : List Change). out ++ cs) (joined (same_letters c.value last)) ∙ was
   where
     joined : (b : Bool) → unless_same b c [] ++ thinned_list c.value rest ≡ unless_same b c (thinned_list c.value rest)
@@ -32,27 +35,38 @@ thinned_more before last c out more rest all was put =
 left : (h : List Bit → List Bit) (cs : List Change) (i : ℕ) (c : Change) → i < length cs → c ≡ get_or cs i c
     → map (with_value h) (drop i cs) ≡ with_value h c ∷ map (with_value h) (drop (i + 1) cs)
 left h cs i c within at =
-    ap (map (with_value h)) (drop-cons cs i c within ∙ ap (λ (d : Change). d ∷ drop (suc i) cs) (sym at)) ∙ ap (λ n. with_value h c ∷ map (with_value h) (drop n cs)) {x = suc i} {y = i + 1} (omega arith)
+    ap (map (with_value h)) (drop-cons cs i c within ∙ ap (λ (d : Change). d ∷ drop (suc i) cs) (sym at))
+    ∙ ap (λ n. with_value h c ∷ map (with_value h) (drop n cs)) {x = suc i} {y = i + 1} (omega arith)
 
-pub inverse_more : (before last value : List Bit) (cs : List Change) (i : ℕ) (c : Change) (out more : List Change) → i < length cs → c ≡ get_or cs i c → value ≡ map not_bit c.value
-    → out ++ thinned_list last (map (with_value (map not_bit)) (drop i cs)) ≡ thinned_list before (map (with_value (map not_bit)) cs)
+pub inverse_more : (before last value : List Bit) (cs : List Change) (i : ℕ) (c : Change) (out more : List Change)
+    → i < length cs → c ≡ get_or cs i c → value ≡ map not_bit c.value
+    → out ++ thinned_list last (map (with_value (map not_bit)) (drop i cs))
+    ≡ thinned_list before (map (with_value (map not_bit)) cs)
     → more ≡ out ++ unless_same (same_letters value last) (change c.tick value) []
-    → more ++ thinned_list value (map (with_value (map not_bit)) (drop (i + 1) cs)) ≡ thinned_list before (map (with_value (map not_bit)) cs)
+    → more ++ thinned_list value (map (with_value (map not_bit)) (drop (i + 1) cs))
+    ≡ thinned_list before (map (with_value (map not_bit)) cs)
 inverse_more before last value cs i c out more within at is was put =
     ap (λ v. more ++ thinned_list v (map (with_value (map not_bit)) (drop (i + 1) cs))) is
-    ∙ thinned_more before last (with_value (map not_bit) c) out more (map (with_value (map not_bit)) (drop (i + 1) cs)) (thinned_list before (map (with_value (map not_bit)) cs))
+    ∙ thinned_more before last (with_value (map not_bit) c) out more (map (with_value (map not_bit)) (drop (i + 1) cs))
+    (thinned_list before (map (with_value (map not_bit)) cs))
     (ap (λ (rest : List Change). out ++ thinned_list last rest) (sym (left (map not_bit) cs i c within at)) ∙ was)
     (put ∙ ap (λ v. out ++ unless_same (same_letters v last) (change c.tick v) []) is)
 
 -- none is left
 pub inverse_done : (before last : List Bit) (cs : List Change) (i : ℕ) (out : List Change) → length cs ≤ i
-    → out ++ thinned_list last (map (with_value (map not_bit)) (drop i cs)) ≡ thinned_list before (map (with_value (map not_bit)) cs) → out ≡ thinned_list before (map (with_value (map not_bit)) cs)
+    → out ++ thinned_list last (map (with_value (map not_bit)) (drop i cs))
+    ≡ thinned_list before (map (with_value (map not_bit)) cs)
+    → out ≡ thinned_list before (map (with_value (map not_bit)) cs)
 unfolding thinned_list
 inverse_done before last cs i out past all =
-    sym (append-nil out) ∙ ap (λ (rest : List Change). out ++ thinned_list last (map (with_value (map not_bit)) rest)) (sym (drop_all i cs past)) ∙ all
+    sym (append-nil out) ∙ ap (λ (rest : List Change). out ++ thinned_list last (map (with_value (map not_bit)) rest))
+    (sym (drop_all i cs past)) ∙ all
 
-pub inverse_none : (before : List Bit) (cs out : List Change) → out ≡ [] → out ++ thinned_list before (map (with_value (map not_bit)) (drop 0 cs)) ≡ thinned_list before (map (with_value (map not_bit)) cs)
-inverse_none before cs out empty = ap (λ (l : List Change). l ++ thinned_list before (map (with_value (map not_bit)) cs)) empty
+pub inverse_none : (before : List Bit) (cs out : List Change) → out ≡ []
+    → out ++ thinned_list before (map (with_value (map not_bit)) (drop 0 cs))
+    ≡ thinned_list before (map (with_value (map not_bit)) cs)
+inverse_none before cs out empty =
+    ap (λ (l : List Change). l ++ thinned_list before (map (with_value (map not_bit)) cs)) empty
 
 -- ---- the whole signal
 
@@ -65,9 +79,11 @@ pub inverse_changes : (end : ℕ) (s : SignalContents) → IsWave s.width s.chan
     → thinned_list (all_x s.width) (map (with_value (map not_bit)) s.changes) ≡ changes_of s.width end (inverse_value s)
 inverse_changes end s is upto =
     thinned_is s.width end (map (with_value (map not_bit)) s.changes) (inverse_value s)
-    (mapped_rise s.width 0 (map not_bit) s.changes (λ v. length-map v not_bit) (wave_rises s.width 0 (all_x s.width) s.changes (length-replicate s.width X) is.rise))
+    (mapped_rise s.width 0 (map not_bit) s.changes (λ v. length-map v not_bit)
+    (wave_rises s.width 0 (all_x s.width) s.changes (length-replicate s.width X) is.rise))
     (mapped_upto end (map not_bit) s.changes upto)
-    (λ t to. ap (λ v. value_from v (map (with_value (map not_bit)) s.changes) t) (sym (inverse_of_x s.width)) ∙ mapped_value (map not_bit) (all_x s.width) s.changes t)
+    (λ t to. ap (λ v. value_from v (map (with_value (map not_bit)) s.changes) t) (sym (inverse_of_x s.width))
+    ∙ mapped_value (map not_bit) (all_x s.width) s.changes t)
 
 pub invert_is_wave : (k : ℕ) (c : Contents) → effect (Invert k) c ≡ with_wave c k (inverse_value (signal_at c k))
 unfolding effect

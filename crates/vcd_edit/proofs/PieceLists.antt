@@ -1,6 +1,8 @@
 -- Pieces for several signals, one after another.
-use Rattle.std.proofs.Common.{◌≡◌, ◌≢◌, ℕ, zero, suc, ◌+◌, ◌-◌, ◌<◌, ◌≤◌, ℤ, List, [], ◌∷◌, ◌++◌, length, map, take, drop, get_or, set, All, refl, sym, ap, subst, ◌∙◌, arith}
-use Rattle.std.proofs.lemmas.List.{set-get_or, length-map, length-take-le, get_or-append_right, get_or-drop, take_all, drop_all, append-nil}
+use Rattle.std.proofs.Common.{◌≡◌, ◌≢◌, ℕ, zero, suc, ◌+◌, ◌-◌, ◌<◌, ◌≤◌, ℤ, List, [], ◌∷◌, ◌++◌, length, map, take}
+use Rattle.std.proofs.Common.{drop, get_or, set, All, refl, sym, ap, subst, ◌∙◌, arith}
+use Rattle.std.proofs.lemmas.List.{set-get_or, length-map, length-take-le, get_or-append_right, get_or-drop, take_all}
+use Rattle.std.proofs.lemmas.List.{drop_all, append-nil}
 use Rattle.std.proofs.lemmas.List.Edits.{map_over_more}
 use Rattle.std.proofs.lemmas.List.Elements.{All-nil, All-push, All-head, All-tail}
 use Rattle.vcd_core.specs.declared.bit.Bit.{Bit}
@@ -9,12 +11,14 @@ use Rattle.vcd_core.specs.Splice.{AllTicksFit}
 use Rattle.vcd_core.specs.Contents.{Contents, SignalContents, no_signal, signal_at}
 use Rattle.vcd_edit.specs.RecordView.{PieceView}
 use Rattle.vcd_edit.specs.Effect.{with_values}
-use Rattle.vcd_edit.specs.AppliedRecords.{changes_with_piece, signal_with_changes, with_piece, with_pieces, PieceFits, NoneFor, AreApart}
+use Rattle.vcd_edit.specs.AppliedRecords.{changes_with_piece, signal_with_changes, with_piece, with_pieces, PieceFits}
+use Rattle.vcd_edit.specs.AppliedRecords.{NoneFor, AreApart}
 use Rattle.vcd_edit.specs.inside.Ranges.{LeadsTo}
 use Rattle.vcd_edit.specs.inside.Plans.{LeadEach}
 
 -- one more piece is the last
-pub with_pieces-push : (c : Contents) (ps : List PieceView) (p : PieceView) → with_pieces c (ps ++ p ∷ []) ≡ with_piece (with_pieces c ps) p
+pub with_pieces-push : (c : Contents) (ps : List PieceView) (p : PieceView)
+    → with_pieces c (ps ++ p ∷ []) ≡ with_piece (with_pieces c ps) p
 unfolding with_pieces
 with_pieces-push c [] p = refl
 with_pieces-push c (q ∷ ps) p = with_pieces-push (with_piece c q) ps p
@@ -24,21 +28,27 @@ none_more k [] p none other = (other, tt)
 none_more k (q ∷ ps) p (apart, none) other = (apart, none_more k ps p none other)
 
 -- pieces for signals below a position, and one for the signal there
-apart_more : (ps : List PieceView) (p : PieceView) → AreApart ps → All (λ q. q.signal < p.signal) ps → AreApart (ps ++ p ∷ [])
+apart_more : (ps : List PieceView) (p : PieceView) → AreApart ps → All (λ q. q.signal < p.signal) ps
+    → AreApart (ps ++ p ∷ [])
 apart_more [] p apart below = (tt, tt)
 apart_more (q ∷ ps) p (none, apart) below =
-    let first : q.signal < p.signal = All-head (λ (q : PieceView). q.signal < p.signal) q ps below in
-    (none_more q.signal ps p none (λ same. absurd (omega (arith, first, same))), apart_more ps p apart (All-tail (λ (q : PieceView). q.signal < p.signal) q ps below))
+    let first : q.signal < p.signal = All-head (λ (q : PieceView). q.signal < p.signal) q ps below in (
+      none_more q.signal ps p none (λ same. absurd (omega (arith, first, same))),
+      apart_more ps p apart (All-tail (λ (q : PieceView). q.signal < p.signal) q ps below),
+    )
 
 -- an element that has not been reached yet
-pub element_here : {X : Type 0} (f : X → X) (xs ys : List X) (i : ℕ) (d : X) → i < length xs → ys ≡ map f (take i xs) ++ drop i xs → get_or ys i d ≡ get_or xs i d
+pub element_here : {X : Type 0} (f : X → X) (xs ys : List X) (i : ℕ) (d : X) → i < length xs
+    → ys ≡ map f (take i xs) ++ drop i xs → get_or ys i d ≡ get_or xs i d
 element_here f xs ys i d within is =
     ap (λ l. get_or l i d) is
-    ∙ get_or-append_right (map f (take i xs)) (drop i xs) i i d (length-map (take i xs) f ∙ length-take-le i xs (omega arith)) (omega arith)
+    ∙ get_or-append_right (map f (take i xs)) (drop i xs) i i d (length-map (take i xs) f
+    ∙ length-take-le i xs (omega arith)) (omega arith)
     ∙ get_or-drop i xs (i - i) d
     ∙ ap (λ k. get_or xs k d) {x = i + (i - i)} {y = i} (omega arith)
 
-module _ (c : Contents) (g : SignalContents → SignalContents) (n : ℕ) (by : ℤ) (ps : List PieceView) (lead : LeadEach c by g n ps) (within : n < length c.signals) where
+module _ (c : Contents) (g : SignalContents → SignalContents) (n : ℕ) (by : ℤ) (ps : List PieceView)
+    (lead : LeadEach c by g n ps) (within : n < length c.signals) where
   abbrev reached : List SignalContents
   reached = map g (take n c.signals) ++ drop n c.signals
 
@@ -46,9 +56,11 @@ module _ (c : Contents) (g : SignalContents → SignalContents) (n : ℕ) (by : 
   here = element_here g c.signals reached n no_signal within refl
 
   more : set reached n (g (signal_at c n)) ≡ map g (take (n + 1) c.signals) ++ drop (n + 1) c.signals
-  more = map_over_more g c.signals reached n (signal_at c n) within refl (sym (get_or_any c.signals n within) ∙ sym (element_here g c.signals reached n (signal_at c n) within refl))
+  more = map_over_more g c.signals reached n (signal_at c n) within refl (sym (get_or_any c.signals n within)
+      ∙ sym (element_here g c.signals reached n (signal_at c n) within refl))
     where
-      get_or_any : (ss : List SignalContents) (k : ℕ) → k < length ss → get_or ss k (get_or ss k no_signal) ≡ get_or ss k no_signal
+      get_or_any : (ss : List SignalContents) (k : ℕ) → k < length ss
+          → get_or ss k (get_or ss k no_signal) ≡ get_or ss k no_signal
       get_or_any [] k within = absurd (omega arith)
       get_or_any (s ∷ ss) zero within = refl
       get_or_any (s ∷ ss) (suc k) within = get_or_any ss k (omega arith)
@@ -73,10 +85,12 @@ module _ (c : Contents) (g : SignalContents → SignalContents) (n : ℕ) (by : 
           set_same ss k = set-get_or ss k no_signal
 
   -- a signal with a piece
-  pub lead_with : (s : SignalContents) (p : PieceView) (end : ℕ) (f : ℕ → List Bit) → signal_at c n ≡ s → p.signal ≡ n → g s ≡ with_values end f s → LeadsTo p s.changes s.width end f → p.by ≡ by
+  pub lead_with : (s : SignalContents) (p : PieceView) (end : ℕ) (f : ℕ → List Bit) → signal_at c n ≡ s → p.signal ≡ n
+      → g s ≡ with_values end f s → LeadsTo p s.changes s.width end f → p.by ≡ by
       → LeadEach c by g (n + 1) (ps ++ p ∷ [])
   lead_with s p end f is at_n given gives moves = record {
-    led = with_pieces-push c ps p ∙ ap (λ (d : Contents). with_piece d p) lead.led ∙ ap (λ (ss : List SignalContents). record c { signals = ss }) (written ∙ more);
+    led = with_pieces-push c ps p ∙ ap (λ (d : Contents). with_piece d p) lead.led
+        ∙ ap (λ (ss : List SignalContents). record c { signals = ss }) (written ∙ more);
     fit = All-push (PieceFits c) ps p lead.fit (record {
       signal = omega (arith, at_n, within);
       ordered = gives.ordered;
@@ -91,21 +105,37 @@ module _ (c : Contents) (g : SignalContents → SignalContents) (n : ℕ) (by : 
       there : signal_at c p.signal ≡ s
       there = ap (λ (k : ℕ). signal_at c k) at_n ∙ is
 
-      written : set reached p.signal (signal_with_changes (get_or reached p.signal no_signal) (changes_with_piece p (get_or reached p.signal no_signal).changes)) ≡ set reached n (g (signal_at c n))
+      written : set reached p.signal
+          (signal_with_changes (get_or reached p.signal no_signal)
+          (changes_with_piece p (get_or reached p.signal no_signal).changes)) ≡ set reached n (g (signal_at c n))
       written =
-          ap (λ (k : ℕ). set reached k (signal_with_changes (get_or reached k no_signal) (changes_with_piece p (get_or reached k no_signal).changes))) at_n
-          ∙ ap (λ (s : SignalContents). set reached n (signal_with_changes s (changes_with_piece p s.changes))) (here ∙ is)
+          ap (λ (k : ℕ). set reached k
+          (signal_with_changes (get_or reached k no_signal)
+          (changes_with_piece p (get_or reached k no_signal).changes))) at_n
+          ∙ ap (λ (s : SignalContents). set reached n (signal_with_changes s (changes_with_piece p s.changes))) (here
+          ∙ is)
           ∙ ap (λ (cs : List Change). set reached n (signal_with_changes s cs)) gives.is
           ∙ ap (set reached n) (sym given ∙ ap g (sym is))
 
 -- no signal yet
-pub lead_none : (c : Contents) (by : ℤ) (g : SignalContents → SignalContents) (ps : List PieceView) → ps ≡ [] → LeadEach c by g 0 ps
+pub lead_none : (c : Contents) (by : ℤ) (g : SignalContents → SignalContents) (ps : List PieceView) → ps ≡ []
+    → LeadEach c by g 0 ps
 unfolding with_pieces
 lead_none c by g ps empty =
-    subst (LeadEach c by g 0) (sym empty) (record { led = refl; fit = All-nil (PieceFits c); below = All-nil (λ (p : PieceView). p.signal < 0); apart = tt; moves = All-nil (λ (p : PieceView). p.by ≡ by) })
+    subst (LeadEach c by g 0) (sym empty)
+    (record {
+      led = refl;
+      fit = All-nil (PieceFits c);
+      below = All-nil (λ (p : PieceView). p.signal < 0);
+      apart =
+          tt;
+      moves = All-nil (λ (p : PieceView). p.by ≡ by);
+    })
 
 -- all signals
-pub lead_all : (c : Contents) (by : ℤ) (g : SignalContents → SignalContents) (ps : List PieceView) → LeadEach c by g (length c.signals) ps → with_pieces c ps ≡ record c { signals = map g c.signals }
+pub lead_all : (c : Contents) (by : ℤ) (g : SignalContents → SignalContents) (ps : List PieceView)
+    → LeadEach c by g (length c.signals) ps → with_pieces c ps ≡ record c { signals = map g c.signals }
 lead_all c by g ps lead =
     lead.led ∙ ap (λ (ss : List SignalContents). record c { signals = ss })
-    ((λ i. map g (take_all (length c.signals) c.signals (omega arith) i) ++ drop_all (length c.signals) c.signals (omega arith) i) ∙ append-nil (map g c.signals))
+    ((λ i. map g (take_all (length c.signals) c.signals (omega arith) i)
+    ++ drop_all (length c.signals) c.signals (omega arith) i) ∙ append-nil (map g c.signals))

@@ -1,8 +1,10 @@
 -- What a capture holds after a piece was put into one of its waves.
-use Rattle.std.proofs.Common.{◌≡◌, ◌≢◌, refl, suc, ℕ, ◌<◌, ◌≤◌, List, ◌∷◌, ◌++◌, length, take, drop, map, get_or, set, slice_index_or, sym, ap, subst, ◌∙◌, inl, inr, arith}
+use Rattle.std.proofs.Common.{◌≡◌, ◌≢◌, refl, suc, ℕ, ◌<◌, ◌≤◌, List, ◌∷◌, ◌++◌, length, take, drop, map, get_or, set}
+use Rattle.std.proofs.Common.{slice_index_or, sym, ap, subst, ◌∙◌, inl, inr, arith}
 use Rattle.std.specs.List.{insert, remove}
 use Rattle.std.proofs.lemmas.Bool.{cases_eq}
-use Rattle.std.proofs.lemmas.List.{map-set, get_or-map, get_or-set_same, get_or-set_other, set-get_or, length-map, map-append, take-map, drop-map}
+use Rattle.std.proofs.lemmas.List.{map-set, get_or-map, get_or-set_same, get_or-set_other, set-get_or, length-map}
+use Rattle.std.proofs.lemmas.List.{map-append, take-map, drop-map}
 use Rattle.vcd_core.specs.declared.wave.Change.{Change}
 use Rattle.vcd_core.specs.declared.capture.Signal.{Signal}
 use Rattle.vcd_core.specs.WaveView.{WaveView}
@@ -12,12 +14,17 @@ use Rattle.vcd_edit.specs.AppliedRecords.{signal_with_changes}
 use Rattle.vcd_edit.specs.inside.Exchanges.{no_wave, wave_at, HasNoLessRoom}
 
 -- the signal at a position, by what it holds
-pub contents_at : (signals : List Signal) (k : ℕ) (s : Signal) → k < length signals → s ≡ get_or signals k s → slice_index_or (map signal_contents signals) k no_signal ≡ signal_contents s
-contents_at signals k s within is = get_or-map signal_contents signals k s no_signal within ∙ ap signal_contents (sym is)
+pub contents_at : (signals : List Signal) (k : ℕ) (s : Signal) → k < length signals → s ≡ get_or signals k s
+    → slice_index_or (map signal_contents signals) k no_signal ≡ signal_contents s
+contents_at signals k s within is = get_or-map signal_contents signals k s no_signal within
+    ∙ ap signal_contents (sym is)
 
 -- its changes become others
-pub changes_written : (signals : List Signal) (k : ℕ) (s : Signal) (w : WaveView) (cs : List Change) → k < length signals → s ≡ get_or signals k s → w.width ≡ s.wave.width → w.changes ≡ cs
-    → map signal_contents (set signals k (record s { wave = w })) ≡ set (map signal_contents signals) k (signal_with_changes (slice_index_or (map signal_contents signals) k no_signal) cs)
+pub changes_written : (signals : List Signal) (k : ℕ) (s : Signal) (w : WaveView) (cs : List Change)
+    → k < length signals → s ≡ get_or signals k s → w.width ≡ s.wave.width → w.changes ≡ cs
+    → map signal_contents (set signals k (record s { wave = w }))
+    ≡ set (map signal_contents signals) k
+    (signal_with_changes (slice_index_or (map signal_contents signals) k no_signal) cs)
 changes_written signals k s w cs within is width changes =
     map-set signal_contents signals k (record s { wave = w })
     ∙ ap (set (map signal_contents signals) k)
@@ -30,53 +37,73 @@ changes_written signals k s w cs within is width changes =
     })
 
 -- the waves elsewhere stay
-pub other_waves : (signals : List Signal) (k j : ℕ) (s : Signal) → j ≢ k → wave_at (set signals k s) j ≡ wave_at signals j
+pub other_waves : (signals : List Signal) (k j : ℕ) (s : Signal) → j ≢ k
+    → wave_at (set signals k s) j ≡ wave_at signals j
 other_waves signals k j s other =
-    ap (λ l. get_or l j no_wave) (map-set (λ (t : Signal). t.wave) signals k s) ∙ get_or-set_other (map (λ (t : Signal). t.wave) signals) k j s.wave no_wave other
+    ap (λ l. get_or l j no_wave) (map-set (λ (t : Signal). t.wave) signals k s)
+    ∙ get_or-set_other (map (λ (t : Signal). t.wave) signals) k j s.wave no_wave other
 
 -- with other room alone, the signals hold what they held
-pub contents_kept : (signals : List Signal) (k : ℕ) (s : Signal) (w : WaveView) → k < length signals → s ≡ get_or signals k s → w.width ≡ s.wave.width → w.changes ≡ s.wave.changes
+pub contents_kept : (signals : List Signal) (k : ℕ) (s : Signal) (w : WaveView) → k < length signals
+    → s ≡ get_or signals k s → w.width ≡ s.wave.width → w.changes ≡ s.wave.changes
     → map signal_contents (set signals k (record s { wave = w })) ≡ map signal_contents signals
 contents_kept signals k s w within is width changes =
     let at = contents_at signals k s within is in
     changes_written signals k s w s.wave.changes within is width changes
-    ∙ ap (λ cs. set (map signal_contents signals) k (signal_with_changes (slice_index_or (map signal_contents signals) k no_signal) cs)) (ap (λ (t : SignalContents). t.changes) (sym at))
+    ∙ ap (λ cs. set (map signal_contents signals) k
+    (signal_with_changes (slice_index_or (map signal_contents signals) k no_signal) cs))
+    (ap (λ (t : SignalContents). t.changes) (sym at))
     ∙ set-get_or (map signal_contents signals) k no_signal
 
-pub wave_there : (signals : List Signal) (k : ℕ) (s : Signal) (w : WaveView) → k < length signals → wave_at (set signals k (record s { wave = w })) k ≡ w
+pub wave_there : (signals : List Signal) (k : ℕ) (s : Signal) (w : WaveView) → k < length signals
+    → wave_at (set signals k (record s { wave = w })) k ≡ w
 wave_there signals k s w within =
     ap (λ l. get_or l k no_wave) (map-set (λ (t : Signal). t.wave) signals k (record s { wave = w }))
-    ∙ get_or-set_same (map (λ (t : Signal). t.wave) signals) k w no_wave (omega (arith, length-map signals (λ (t : Signal). t.wave), within))
+    ∙ get_or-set_same (map (λ (t : Signal). t.wave) signals) k w no_wave
+    (omega (arith, length-map signals (λ (t : Signal). t.wave), within))
 
 -- the wave at a position is that of the signal there
-pub wave_is_there : (signals : List Signal) (k : ℕ) (s : Signal) → k < length signals → s ≡ get_or signals k s → wave_at signals k ≡ s.wave
-wave_is_there signals k s within is = get_or-map (λ (t : Signal). t.wave) signals k s no_wave within ∙ ap (λ (t : Signal). t.wave) (sym is)
+pub wave_is_there : (signals : List Signal) (k : ℕ) (s : Signal) → k < length signals → s ≡ get_or signals k s
+    → wave_at signals k ≡ s.wave
+wave_is_there signals k s within is = get_or-map (λ (t : Signal). t.wave) signals k s no_wave within
+    ∙ ap (λ (t : Signal). t.wave) (sym is)
 
 -- where one wave has no less room, none has
-pub rooms_grow : (signals : List Signal) (k : ℕ) (s : Signal) (w : WaveView) → k < length signals → s ≡ get_or signals k s → w.changes ≡ s.wave.changes → s.wave.splice_room ≤ w.splice_room
+pub rooms_grow : (signals : List Signal) (k : ℕ) (s : Signal) (w : WaveView) → k < length signals
+    → s ≡ get_or signals k s → w.changes ≡ s.wave.changes → s.wave.splice_room ≤ w.splice_room
     → (j : ℕ) → HasNoLessRoom (wave_at signals j) (wave_at (set signals k (record s { wave = w })) j)
 rooms_grow signals k s w within is same more j =
     elim (cases_eq j k) [
-      | inl here ↦ subst (λ n. HasNoLessRoom (wave_at signals n) (wave_at (set signals k (record s { wave = w })) n)) (sym here)
-          (subst (λ v. HasNoLessRoom v (wave_at (set signals k (record s { wave = w })) k)) (sym (wave_is_there signals k s within is))
-          (subst (HasNoLessRoom s.wave) (sym (wave_there signals k s w within)) (record { count = ap length same; room = more })))
-      | inr other ↦ subst (HasNoLessRoom (wave_at signals j)) (sym (other_waves signals k j (record s { wave = w }) other)) (record { count = refl; room = omega arith })
+      | inl here ↦ subst (λ n. HasNoLessRoom (wave_at signals n) (wave_at (set signals k (record s { wave = w })) n))
+          (sym here)
+          (subst (λ v. HasNoLessRoom v (wave_at (set signals k (record s { wave = w })) k))
+          (sym (wave_is_there signals k s within is))
+          (subst (HasNoLessRoom s.wave) (sym (wave_there signals k s w within))
+          (record { count = ap length same; room = more })))
+      | inr other ↦ subst (HasNoLessRoom (wave_at signals j))
+          (sym (other_waves signals k j (record s { wave = w }) other)) (record { count = refl; room = omega arith })
     ]
 
 -- ---- a word, and a signal put in or taken out
 
-pub word_written : (signals : List Signal) (k : ℕ) (s : Signal) (word : List ℕ) (words : List (List ℕ)) → k < length signals → s ≡ get_or signals k s → words ≡ word ∷ drop 1 s.words
-    → map signal_contents (set signals k (record s { words = words })) ≡ set (map signal_contents signals) k (renamed_signal word (slice_index_or (map signal_contents signals) k no_signal))
+pub word_written : (signals : List Signal) (k : ℕ) (s : Signal) (word : List ℕ) (words : List (List ℕ))
+    → k < length signals → s ≡ get_or signals k s → words ≡ word ∷ drop 1 s.words
+    → map signal_contents (set signals k (record s { words = words }))
+    ≡ set (map signal_contents signals) k
+    (renamed_signal word (slice_index_or (map signal_contents signals) k no_signal))
 word_written signals k s word words within is written =
     map-set signal_contents signals k (record s { words = words })
     ∙ rw (contents_at signals k s within is, written) refl
 
-pub signal_put : (signals : List Signal) (k : ℕ) (s : Signal) → map signal_contents (insert signals k s) ≡ insert (map signal_contents signals) k (signal_contents s)
+pub signal_put : (signals : List Signal) (k : ℕ) (s : Signal)
+    → map signal_contents (insert signals k s) ≡ insert (map signal_contents signals) k (signal_contents s)
 signal_put signals k s =
     map-append signal_contents (take k signals) (s ∷ drop k signals)
-    ∙ (λ i. sym (take-map signal_contents k signals) i ++ signal_contents s ∷ sym (drop-map signal_contents k signals) i)
+    ∙ (λ i. sym (take-map signal_contents k signals) i ++ signal_contents s ∷ sym (drop-map signal_contents k signals)
+    i)
 
-pub signal_taken : (signals : List Signal) (k : ℕ) → map signal_contents (remove signals k) ≡ remove (map signal_contents signals) k
+pub signal_taken : (signals : List Signal) (k : ℕ)
+    → map signal_contents (remove signals k) ≡ remove (map signal_contents signals) k
 signal_taken signals k =
     map-append signal_contents (take k signals) (drop (suc k) signals)
     ∙ (λ i. sym (take-map signal_contents k signals) i ++ sym (drop-map signal_contents (suc k) signals) i)

@@ -1,5 +1,7 @@
 -- What an edit with no fault makes of a sound capture is sound.
-use Rattle.std.proofs.Common.{◌≡◌, ◌<◌, ℕ, zero, suc, ◌+◌, ◌-◌, ◌==◌, ◌&&◌, not, nat_le, nat_lt, Bool, true, false, if◌then◌else◌, IsTrue, ℤ, pos, negsuc, ◌-ℤ◌, List, [], ◌∷◌, length, take, drop, get_or, None, refl, ◌∙◌, arith}
+use Rattle.std.proofs.Common.{◌≡◌, ◌<◌, ℕ, zero, suc, ◌+◌, ◌-◌, ◌==◌, ◌&&◌, not, nat_le, nat_lt, Bool, true, false}
+use Rattle.std.proofs.Common.{if◌then◌else◌, IsTrue, ℤ, pos, negsuc, ◌-ℤ◌, List, [], ◌∷◌, length, take, drop, get_or}
+use Rattle.std.proofs.Common.{None, refl, ◌∙◌, arith}
 use Rattle.std.specs.List.{list_all, push, remove}
 use Rattle.std.proofs.lemmas.Bool.Decides.{nat_tests}
 use Rattle.std.proofs.lemmas.List.{length-replicate, length-map, length-set, length_push}
@@ -19,35 +21,48 @@ use Rattle.vcd_edit.specs.declared.edit.Edit.{Edit}
 use Rattle.vcd_edit.specs.declared.edit.Edit.TheVariants.{Rename, Remove, Invert, Shift, Cut, Deglitch, Force, Derive}
 use Rattle.vcd_edit.specs.declared.edit.Rule.{Rule}
 use Rattle.vcd_edit.specs.Operators.{not_bit}
-use Rattle.vcd_edit.specs.Effect.{with_values, with_wave, renamed_signal, inverse_value, value_near, shift_value, cut_value, force_value, is_steady, steady_value, first_operand, rule_bit, derived_signal, cut_contents, effect}
+use Rattle.vcd_edit.specs.Effect.{with_values, with_wave, renamed_signal, inverse_value, value_near, shift_value}
+use Rattle.vcd_edit.specs.Effect.{cut_value, force_value, is_steady, steady_value, first_operand, rule_bit}
+use Rattle.vcd_edit.specs.Effect.{derived_signal, cut_contents, effect}
 use Rattle.vcd_edit.specs.Allowed.{edit_fault}
 use Rattle.vcd_edit.proofs.Faults.{no_fault, signal_there, first_operand_there, holds_where_not}
 
 -- ---- the width of values
 
-value_from_width : (width floor : ℕ) (before kept : List Bit) (cs : List Change) (t : ℕ) → length before ≡ width → length kept ≡ width → AreChangesFrom floor kept cs
+value_from_width : (width floor : ℕ) (before kept : List Bit) (cs : List Change) (t : ℕ) → length before ≡ width
+    → length kept ≡ width → AreChangesFrom floor kept cs
     → length (value_from before cs t) ≡ width
 unfolding value_from
 value_from_width width floor before kept [] t long alike rise = long
 value_from_width width floor before kept (c ∷ cs) t long alike (at, other, wide, rest) =
     value_from_width width (c.tick + 1) (if nat_le c.tick t then c.value else before) c.value cs t
-    (elim (nat_le c.tick t) as (λ b. length (if b then c.value else before) ≡ width) [ true ↦ wide ∙ alike | false ↦ long ]) (wide ∙ alike) rest
+    (elim (nat_le c.tick t) as (λ b. length (if b then c.value else before) ≡ width) [
+      | true ↦ wide ∙ alike
+      | false ↦
+          long
+    ]) (wide ∙ alike) rest
 
 -- each value of a wave has its width
 pub value_at_width : (width : ℕ) (cs : List Change) (t : ℕ) → IsWave width cs → length (value_at width cs t) ≡ width
 value_at_width width cs t wave =
-    value_from_width width 0 (all_x width) (all_x width) cs t (length-replicate width X) (length-replicate width X) wave.rise
+    value_from_width width 0 (all_x width) (all_x width) cs t (length-replicate width X) (length-replicate width X)
+    wave.rise
 
 -- either value has the width
-either_width : (b : Bool) (v w : List Bit) (width : ℕ) → length v ≡ width → length w ≡ width → length (if b then v else w) ≡ width
+either_width : (b : Bool) (v w : List Bit) (width : ℕ) → length v ≡ width → length w ≡ width
+    → length (if b then v else w) ≡ width
 either_width true v w width left right = left
 either_width false v w width left right = right
 
-value_near_width : (end : ℕ) (s : SignalContents) (t : ℤ) → IsWave s.width s.changes → length (value_near end s t) ≡ s.width
+value_near_width : (end : ℕ) (s : SignalContents) (t : ℤ) → IsWave s.width s.changes
+    → length (value_near end s t) ≡ s.width
 value_near_width end s (negsuc n) wave = length-replicate s.width X
-value_near_width end s (pos u) wave = either_width (nat_lt end u) _ _ s.width (value_at_width s.width s.changes end wave) (value_at_width s.width s.changes u wave)
+value_near_width end s (pos u) wave =
+    either_width (nat_lt end u) _ _ s.width (value_at_width s.width s.changes end wave)
+    (value_at_width s.width s.changes u wave)
 
-steady_value_width : (ticks end : ℕ) (f : ℕ → List Bit) (t width : ℕ) → ((u : ℕ) → length (f u) ≡ width) → length (steady_value ticks end f t) ≡ width
+steady_value_width : (ticks end : ℕ) (f : ℕ → List Bit) (t width : ℕ) → ((u : ℕ) → length (f u) ≡ width)
+    → length (steady_value ticks end f t) ≡ width
 unfolding steady_value
 steady_value_width ticks end f zero width wide = wide 0
 steady_value_width ticks end f (suc t) width wide =
@@ -56,7 +71,8 @@ steady_value_width ticks end f (suc t) width wide =
 -- ---- signals
 
 -- a sound signal with other values, up to another end
-pub sound_with_values : (end stop : ℕ) (f : ℕ → List Bit) (s : SignalContents) → IsSoundSignal end s → ((t : ℕ) → length (f t) ≡ s.width)
+pub sound_with_values : (end stop : ℕ) (f : ℕ → List Bit) (s : SignalContents) → IsSoundSignal end s
+    → ((t : ℕ) → length (f t) ≡ s.width)
     → IsSoundSignal stop (with_values stop f s)
 sound_with_values end stop f s sound wide = record {
   scopes = sound.scopes;
@@ -83,7 +99,8 @@ others_are_words [] all = refl
 others_are_words (word ∷ words) all = second_holds (is_word word) (list_all is_word words) all
 
 -- a sound signal with another first word of its name
-pub sound_renamed : (end : ℕ) (word : List ℕ) (s : SignalContents) → IsTrue (is_word word) → IsSoundSignal end s → IsSoundSignal end (renamed_signal word s)
+pub sound_renamed : (end : ℕ) (word : List ℕ) (s : SignalContents) → IsTrue (is_word word) → IsSoundSignal end s
+    → IsSoundSignal end (renamed_signal word s)
 sound_renamed end word s is sound = record {
   scopes = sound.scopes;
   kind = sound.kind;
@@ -97,7 +114,8 @@ sound_renamed end word s is sound = record {
 }
 
 -- a derived signal, where its first operand is sound
-pub sound_derived : (c : Contents) (word : List ℕ) (rule : Rule) → IsTrue (is_word word) → IsSoundSignal c.end (signal_at c (first_operand rule))
+pub sound_derived : (c : Contents) (word : List ℕ) (rule : Rule) → IsTrue (is_word word)
+    → IsSoundSignal c.end (signal_at c (first_operand rule))
     → IsSoundSignal c.end (derived_signal word rule c)
 sound_derived c word rule is sound = record {
   scopes = sound.scopes;
@@ -118,7 +136,8 @@ pub sound_at : (c : Contents) (k : ℕ) → k < length c.signals → IsSound c �
 sound_at c k within sound = All-get_or (IsSoundSignal c.end) c.signals k no_signal within sound.signals
 
 -- another sound signal in the place of one
-pub sound_with_signal : (c : Contents) (k : ℕ) (s : SignalContents) → IsSound c → IsSoundSignal c.end s → IsSound (with_signal c k s)
+pub sound_with_signal : (c : Contents) (k : ℕ) (s : SignalContents) → IsSound c → IsSoundSignal c.end s
+    → IsSound (with_signal c k s)
 sound_with_signal c k s sound alike = record {
   header = sound.header;
   timescale = sound.timescale;
@@ -127,20 +146,26 @@ sound_with_signal c k s sound alike = record {
   signals = All-set (IsSoundSignal c.end) c.signals k s alike sound.signals;
 }
 
-pub sound_with_wave : (c : Contents) (k : ℕ) (f : ℕ → List Bit) → k < length c.signals → IsSound c → ((t : ℕ) → length (f t) ≡ (signal_at c k).width) → IsSound (with_wave c k f)
+pub sound_with_wave : (c : Contents) (k : ℕ) (f : ℕ → List Bit) → k < length c.signals → IsSound c
+    → ((t : ℕ) → length (f t) ≡ (signal_at c k).width) → IsSound (with_wave c k f)
 sound_with_wave c k f within sound wide =
-    sound_with_signal c k (with_values c.end f (signal_at c k)) sound (sound_with_values c.end c.end f (signal_at c k) (sound_at c k within sound) wide)
+    sound_with_signal c k (with_values c.end f (signal_at c k)) sound
+    (sound_with_values c.end c.end f (signal_at c k) (sound_at c k within sound) wide)
 
-pub sound_removed : (c : Contents) (k : ℕ) → k < length c.signals → IsSound c → IsSound (record c { signals = remove c.signals k })
+pub sound_removed : (c : Contents) (k : ℕ) → k < length c.signals → IsSound c
+    → IsSound (record c { signals = remove c.signals k })
 sound_removed c k within sound = record {
   header = sound.header;
   timescale = sound.timescale;
   end = sound.end;
   few = omega (arith, length-remove c.signals k within, sound.few);
-  signals = All-append (IsSoundSignal c.end) (take k c.signals) (drop (suc k) c.signals) (All-take (IsSoundSignal c.end) k c.signals sound.signals) (All-drop (IsSoundSignal c.end) (suc k) c.signals sound.signals);
+  signals = All-append (IsSoundSignal c.end) (take k c.signals) (drop (suc k) c.signals)
+      (All-take (IsSoundSignal c.end) k c.signals sound.signals)
+      (All-drop (IsSoundSignal c.end) (suc k) c.signals sound.signals);
 }
 
-pub sound_pushed : (c : Contents) (s : SignalContents) → length c.signals < SIGNAL_LIMIT → IsSound c → IsSoundSignal c.end s → IsSound (record c { signals = push c.signals s })
+pub sound_pushed : (c : Contents) (s : SignalContents) → length c.signals < SIGNAL_LIMIT → IsSound c
+    → IsSoundSignal c.end s → IsSound (record c { signals = push c.signals s })
 sound_pushed c s few sound alike = record {
   header = sound.header;
   timescale = sound.timescale;
@@ -155,11 +180,14 @@ sound_cut c from to sound = record {
   timescale = sound.timescale;
   end = omega (arith, sound.end);
   few = rw (length-map c.signals (λ s. with_values (c.end - (to - from)) (cut_value from to s) s)) (sound.few);
-  signals = All-map (IsSoundSignal (c.end - (to - from))) (λ s. with_values (c.end - (to - from)) (cut_value from to s) s) c.signals
-      (λ k d within. sound_with_values c.end (c.end - (to - from)) (cut_value from to (get_or c.signals k d)) (get_or c.signals k d) (sound.signals k d within)
+  signals = All-map (IsSoundSignal (c.end - (to - from)))
+      (λ s. with_values (c.end - (to - from)) (cut_value from to s) s) c.signals
+      (λ k d within. sound_with_values c.end (c.end - (to - from)) (cut_value from to (get_or c.signals k d))
+      (get_or c.signals k d) (sound.signals k d within)
       (λ t. either_width (nat_lt t from) _ _ (get_or c.signals k d).width
       (value_at_width (get_or c.signals k d).width (get_or c.signals k d).changes t (sound.signals k d within).wave)
-      (value_at_width (get_or c.signals k d).width (get_or c.signals k d).changes (t + (to - from)) (sound.signals k d within).wave)));
+      (value_at_width (get_or c.signals k d).width (get_or c.signals k d).changes (t + (to - from))
+      (sound.signals k d within).wave)));
 }
 
 -- a value that has its signal's width
@@ -176,8 +204,10 @@ unfolding effect
 effect_is_sound (Rename k word) c sound none =
     let free = no_fault (Rename k word) c none in
     sound_with_signal c k (renamed_signal word.now (signal_at c k)) sound
-    (sound_renamed c.end word.now (signal_at c k) (holds_where_not (is_word word.now) free.word) (sound_at c k (signal_there c k free.signals) sound))
-effect_is_sound (Remove k) c sound none = sound_removed c k (signal_there c k (no_fault (Remove k) c none).signals) sound
+    (sound_renamed c.end word.now (signal_at c k) (holds_where_not (is_word word.now) free.word)
+    (sound_at c k (signal_there c k free.signals) sound))
+effect_is_sound (Remove k) c sound none =
+    sound_removed c k (signal_there c k (no_fault (Remove k) c none).signals) sound
 effect_is_sound (Invert k) c sound none =
     let within = signal_there c k (no_fault (Invert k) c none).signals in
     let s : SignalContents = signal_at c k in
@@ -186,20 +216,24 @@ effect_is_sound (Invert k) c sound none =
 effect_is_sound (Shift k by) c sound none =
     let within = signal_there c k (no_fault (Shift k by) c none).signals in
     let s : SignalContents = signal_at c k in
-    sound_with_wave c k (shift_value c.end by s) within sound (λ t. value_near_width c.end s (pos t -ℤ by) (sound_at c k within sound).wave)
+    sound_with_wave c k (shift_value c.end by s) within sound
+    (λ t. value_near_width c.end s (pos t -ℤ by) (sound_at c k within sound).wave)
 effect_is_sound (Cut from to) c sound none = sound_cut c from to sound
 effect_is_sound (Deglitch k ticks) c sound none =
     let within = signal_there c k (no_fault (Deglitch k ticks) c none).signals in
     let s : SignalContents = signal_at c k in
     sound_with_wave c k (steady_value ticks c.end (signal_value s)) within sound
-    (λ t. steady_value_width ticks c.end (signal_value s) t s.width (λ u. value_at_width s.width s.changes u (sound_at c k within sound).wave))
+    (λ t. steady_value_width ticks c.end (signal_value s) t s.width
+    (λ u. value_at_width s.width s.changes u (sound_at c k within sound).wave))
 effect_is_sound (Force k from to value) c sound none =
     let free = no_fault (Force k from to value) c none in
     let within = signal_there c k free.signals in
     let s : SignalContents = signal_at c k in
     sound_with_wave c k (force_value from to value s) within sound
-    (λ t. either_width (nat_le from t && nat_lt t to) _ _ s.width (same_width value s free.value) (value_at_width s.width s.changes t (sound_at c k within sound).wave))
+    (λ t. either_width (nat_le from t && nat_lt t to) _ _ s.width (same_width value s free.value)
+    (value_at_width s.width s.changes t (sound_at c k within sound).wave))
 effect_is_sound (Derive word rule) c sound none =
     let free = no_fault (Derive word rule) c none in
     sound_pushed c (derived_signal word.now rule c) (room_for c free.room) sound
-    (sound_derived c word.now rule (holds_where_not (is_word word.now) free.word) (sound_at c (first_operand rule) (first_operand_there c rule free.signals) sound))
+    (sound_derived c word.now rule (holds_where_not (is_word word.now) free.word)
+    (sound_at c (first_operand rule) (first_operand_there c rule free.signals) sound))

@@ -1,5 +1,6 @@
 -- Changes of which only those count that change the value, and the functions whose changes they are.
-use Rattle.std.proofs.Common.{◌≡◌, ℕ, ◌+◌, ◌<◌, ◌≤◌, Bool, true, false, nat_le, if◌then◌else◌, List, [], ◌∷◌, length, map, inl, inr, refl, sym, ap, subst, ◌∙◌, arith}
+use Rattle.std.proofs.Common.{◌≡◌, ℕ, ◌+◌, ◌<◌, ◌≤◌, Bool, true, false, nat_le, if◌then◌else◌, List, [], ◌∷◌, length}
+use Rattle.std.proofs.Common.{map, inl, inr, refl, sym, ap, subst, ◌∙◌, arith}
 use Rattle.std.proofs.lemmas.Bool.{cases_lt}
 use Rattle.std.proofs.lemmas.List.{length-replicate}
 use Rattle.vcd_core.specs.declared.bit.Bit.{Bit}
@@ -15,19 +16,22 @@ rise_lower width low high [] le rise = tt
 rise_lower width low high (c ∷ cs) le (from, wide, rest) = (omega arith, wide, rest)
 
 -- before the first change the value is the one before the list
-pub early_value : (width : ℕ) (v : List Bit) (cs : List Change) (floor t : ℕ) → TicksRise width floor cs → t < floor → value_from v cs t ≡ v
+pub early_value : (width : ℕ) (v : List Bit) (cs : List Change) (floor t : ℕ) → TicksRise width floor cs → t < floor
+    → value_from v cs t ≡ v
 unfolding value_from
 early_value width v [] floor t rise early = refl
 early_value width v (c ∷ cs) floor t (from, wide, rest) early =
     value_skip v c cs t (omega arith) ∙ early_value width v cs (c.tick + 1) t rest (omega arith)
 
-thinned_rise : (width floor : ℕ) (before : List Bit) (cs : List Change) → length before ≡ width → TicksRise width floor cs → AreChangesFrom floor before (thinned_list before cs)
+thinned_rise : (width floor : ℕ) (before : List Bit) (cs : List Change) → length before ≡ width
+    → TicksRise width floor cs → AreChangesFrom floor before (thinned_list before cs)
 unfolding thinned_list
 thinned_rise width floor before [] long rise = tt
 thinned_rise width floor before (c ∷ cs) long (from, wide, rest) =
     let tail = thinned_rise width (c.tick + 1) c.value cs wide rest in
     put_cases (λ l. AreChangesFrom floor before l) c.value before c (thinned_list c.value cs)
-    (λ equal. lower_floor floor (c.tick + 1) before (thinned_list c.value cs) (omega arith) (subst (λ v. AreChangesFrom (c.tick + 1) v (thinned_list c.value cs)) equal tail))
+    (λ equal. lower_floor floor (c.tick + 1) before (thinned_list c.value cs) (omega arith)
+    (subst (λ v. AreChangesFrom (c.tick + 1) v (thinned_list c.value cs)) equal tail))
     (λ other. (from, other, wide ∙ sym long, tail))
 
 thinned_upto : (end : ℕ) (before : List Bit) (cs : List Change) → AllUpTo end cs → AllUpTo end (thinned_list before cs)
@@ -38,7 +42,8 @@ thinned_upto end before (c ∷ cs) (here, upto) =
     put_cases (λ l. AllUpTo end l) c.value before c (thinned_list c.value cs) (λ _. tail) (λ _. (here, tail))
 
 -- and the values are the same
-thinned_value : (width floor : ℕ) (before : List Bit) (cs : List Change) (t : ℕ) → length before ≡ width → TicksRise width floor cs
+thinned_value : (width floor : ℕ) (before : List Bit) (cs : List Change) (t : ℕ) → length before ≡ width
+    → TicksRise width floor cs
     → value_from before (thinned_list before cs) t ≡ value_from before cs t
 unfolding thinned_list value_from
 thinned_value width floor before [] t long rise = refl
@@ -46,37 +51,51 @@ thinned_value width floor before (c ∷ cs) t long (from, wide, rest) =
     let tail = thinned_value width (c.tick + 1) c.value cs t wide rest in
     elim (cases_lt t c.tick) [
       | inl early ↦
-          put_cases (λ l. value_from before l t ≡ value_from before (c ∷ cs) t) c.value before c (thinned_list c.value cs)
-          (λ equal. value_early before c.value (thinned_list c.value cs) (c.tick + 1) t (thinned_rise width (c.tick + 1) c.value cs wide rest) (omega arith)
+          put_cases (λ l. value_from before l t ≡ value_from before (c ∷ cs) t) c.value before c
+          (thinned_list c.value cs)
+          (λ equal. value_early before c.value (thinned_list c.value cs) (c.tick + 1) t
+          (thinned_rise width (c.tick + 1) c.value cs wide rest) (omega arith)
           ∙ sym (early_value width before (c ∷ cs) c.tick t (omega arith, wide, rest) early))
-          (λ other. value_skip before c (thinned_list c.value cs) t early ∙ value_early before c.value (thinned_list c.value cs) (c.tick + 1) t (thinned_rise width (c.tick + 1) c.value cs wide rest) (omega arith)
+          (λ other. value_skip before c (thinned_list c.value cs) t early
+          ∙ value_early before c.value (thinned_list c.value cs) (c.tick + 1) t
+          (thinned_rise width (c.tick + 1) c.value cs wide rest) (omega arith)
           ∙ sym (early_value width before (c ∷ cs) c.tick t (omega arith, wide, rest) early))
       | inr late ↦
-          put_cases (λ l. value_from before l t ≡ value_from before (c ∷ cs) t) c.value before c (thinned_list c.value cs)
-          (λ equal. subst (λ v. value_from v (thinned_list c.value cs) t ≡ value_from c.value cs t) equal tail ∙ sym (value_past before c cs t late))
+          put_cases (λ l. value_from before l t ≡ value_from before (c ∷ cs) t) c.value before c
+          (thinned_list c.value cs)
+          (λ equal. subst (λ v. value_from v (thinned_list c.value cs) t ≡ value_from c.value cs t) equal tail
+          ∙ sym (value_past before c cs t late))
           (λ other. value_past before c (thinned_list c.value cs) t late ∙ tail ∙ sym (value_past before c cs t late))
     ]
 
 -- such a list is that of the changes of the function whose values it has
-pub thinned_is : (width end : ℕ) (cs : List Change) (f : ℕ → List Bit) → TicksRise width 0 cs → AllUpTo end cs → ((t : ℕ) → t ≤ end → value_from (all_x width) cs t ≡ f t)
+pub thinned_is : (width end : ℕ) (cs : List Change) (f : ℕ → List Bit) → TicksRise width 0 cs → AllUpTo end cs
+    → ((t : ℕ) → t ≤ end → value_from (all_x width) cs t ≡ f t)
     → thinned_list (all_x width) cs ≡ changes_of width end f
 thinned_is width end cs f rise upto same =
     let long = length-replicate width X in
-    wave_is width end (thinned_list (all_x width) cs) f (record { rise = thinned_rise width 0 (all_x width) cs long rise }) (thinned_upto end (all_x width) cs upto)
+    wave_is width end (thinned_list (all_x width) cs) f
+    (record { rise = thinned_rise width 0 (all_x width) cs long rise }) (thinned_upto end (all_x width) cs upto)
     (λ t to. thinned_value width 0 (all_x width) cs t long rise ∙ same t to)
 
 -- the changes of a wave rise
-pub wave_rises : (width floor : ℕ) (before : List Bit) (cs : List Change) → length before ≡ width → AreChangesFrom floor before cs → TicksRise width floor cs
+pub wave_rises : (width floor : ℕ) (before : List Bit) (cs : List Change) → length before ≡ width
+    → AreChangesFrom floor before cs → TicksRise width floor cs
 wave_rises width floor before [] long rise = tt
-wave_rises width floor before (c ∷ cs) long (from, other, wide, rest) = (from, wide ∙ long, wave_rises width (c.tick + 1) c.value cs (wide ∙ long) rest)
+wave_rises width floor before (c ∷ cs) long (from, other, wide, rest) =
+    (from, wide ∙ long, wave_rises width (c.tick + 1) c.value cs (wide ∙ long) rest)
 
 -- ---- the same function of each value
 
-pub mapped_rise : (width floor : ℕ) (h : List Bit → List Bit) (cs : List Change) → ((v : List Bit) → length (h v) ≡ length v) → TicksRise width floor cs → TicksRise width floor (map (with_value h) cs)
+pub mapped_rise : (width floor : ℕ) (h : List Bit → List Bit) (cs : List Change)
+    → ((v : List Bit) → length (h v) ≡ length v) → TicksRise width floor cs
+    → TicksRise width floor (map (with_value h) cs)
 mapped_rise width floor h [] keeps rise = tt
-mapped_rise width floor h (c ∷ cs) keeps (from, wide, rest) = (from, keeps c.value ∙ wide, mapped_rise width (c.tick + 1) h cs keeps rest)
+mapped_rise width floor h (c ∷ cs) keeps (from, wide, rest) =
+    (from, keeps c.value ∙ wide, mapped_rise width (c.tick + 1) h cs keeps rest)
 
-pub mapped_upto : (end : ℕ) (h : List Bit → List Bit) (cs : List Change) → AllUpTo end cs → AllUpTo end (map (with_value h) cs)
+pub mapped_upto : (end : ℕ) (h : List Bit → List Bit) (cs : List Change) → AllUpTo end cs
+    → AllUpTo end (map (with_value h) cs)
 mapped_upto end h [] upto = tt
 mapped_upto end h (c ∷ cs) (here, upto) = (here, mapped_upto end h cs upto)
 
@@ -84,7 +103,8 @@ either_value : (h : List Bit → List Bit) (b : Bool) (v w : List Bit) → (if b
 either_value h true v w = refl
 either_value h false v w = refl
 
-pub mapped_value : (h : List Bit → List Bit) (before : List Bit) (cs : List Change) (t : ℕ) → value_from (h before) (map (with_value h) cs) t ≡ h (value_from before cs t)
+pub mapped_value : (h : List Bit → List Bit) (before : List Bit) (cs : List Change) (t : ℕ)
+    → value_from (h before) (map (with_value h) cs) t ≡ h (value_from before cs t)
 unfolding value_from
 mapped_value h before [] t = refl
 mapped_value h before (c ∷ cs) t =

@@ -1,11 +1,15 @@
 -- What a splice touches, by its part and its piece alone.
-use Rattle.std.proofs.Common.{◌≡◌, ℕ, suc, ◌+◌, ◌-◌, ◌^◌, ◌<◌, ◌≤◌, ◌==◌, Bool, true, ℤ, pos, ◌+ℤ◌, ◌-ℤ◌, neg_ℤ, unsigned_abs, List, [], ◌∷◌, ◌++◌, length, take, drop, get_or, map, reverse, All, refl, sym, ap, subst, ◌∙◌, inl, inr, arith}
+use Rattle.std.proofs.Common.{◌≡◌, ℕ, suc, ◌+◌, ◌-◌, ◌^◌, ◌<◌, ◌≤◌, ◌==◌, Bool, true, ℤ, pos, ◌+ℤ◌, ◌-ℤ◌, neg_ℤ}
+use Rattle.std.proofs.Common.{unsigned_abs, List, [], ◌∷◌, ◌++◌, length, take, drop, get_or, map, reverse, All, refl}
+use Rattle.std.proofs.Common.{sym, ap, subst, ◌∙◌, inl, inr, arith}
 use Rattle.std.specs.Int.{w64, FitsUnsigned}
 use Rattle.std.specs.List.{common_prefix_len}
 use Rattle.std.specs.Ordering.{int_eq}
 use Rattle.std.proofs.lemmas.Bool.{cases_lt, cases_Bool, and_from, and_parts, eq-eqb, eqb-true, cond-true, cond-false}
 use Rattle.std.proofs.lemmas.Bool.Decides.{Decides-int_eq}
-use Rattle.std.proofs.lemmas.List.{append_assoc, reverse-append, reverse-reverse, length-append, length-map, length-reverse, length-drop, drop-append-le, take-append-le, take_all, drop_at, append-nil, take-append-drop, get_or-reverse, map-append, map-id}
+use Rattle.std.proofs.lemmas.List.{append_assoc, reverse-append, reverse-reverse, length-append, length-map}
+use Rattle.std.proofs.lemmas.List.{length-reverse, length-drop, drop-append-le, take-append-le, take_all, drop_at}
+use Rattle.std.proofs.lemmas.List.{append-nil, take-append-drop, get_or-reverse, map-append, map-id}
 use Rattle.std.proofs.lemmas.List.Sums.{common_prefix_len-le}
 use Rattle.std.proofs.lemmas.List.Elements.{All-nil, All-cons, All-head, All-tail}
 use Rattle.std.proofs.lemmas.Int.{ints}
@@ -21,7 +25,8 @@ same_letters_self : (c : Change) → same_letters c.value c.value ≡ true
 same_letters_self c = (same_letters-Decides c.value c.value).1 refl
 
 pub same_change_self : (c : Change) → same_change c c ≡ true
-same_change_self c = and_from (c.tick == c.tick) (same_letters c.value c.value) (eq-eqb c.tick c.tick refl) (same_letters_self c)
+same_change_self c = and_from (c.tick == c.tick) (same_letters c.value c.value) (eq-eqb c.tick c.tick refl)
+    (same_letters_self c)
 
 same_change_is : (c d : Change) → same_change c d ≡ true → c ≡ d
 same_change_is c d same =
@@ -29,21 +34,25 @@ same_change_is c d same =
     λ i. record { tick = eqb-true c.tick d.tick parts.0 i; value = (same_letters-Decides c.value d.value).0 parts.1 i }
 
 -- a change is the one that it becomes
-same_lowered_moved : (by o : ℤ) (c : Change) → o ≡ neg_ℤ by → TickFits by c → same_lowered o c (moved_change by c) ≡ true
+same_lowered_moved : (by o : ℤ) (c : Change) → o ≡ neg_ℤ by → TickFits by c
+    → same_lowered o c (moved_change by c) ≡ true
 unfolding moved_change TickFits
 same_lowered_moved by o c opposite fits =
     let tick : pos c.tick -ℤ o ≡ pos (unsigned_abs (pos c.tick +ℤ by)) = omega (arith, ints, fits.0, opposite) in
     and_from _ _ ((Decides-int_eq _ _).1 tick) (same_letters_self c)
 
 -- and only that one
-same_lowered_is : (by o : ℤ) (c d : Change) → o ≡ neg_ℤ by → d.tick < 2 ^ 64 → same_lowered o c d ≡ true → (moved_change by c ≡ d) × TickFits by c
+same_lowered_is : (by o : ℤ) (c d : Change) → o ≡ neg_ℤ by → d.tick < 2 ^ 64 → same_lowered o c d ≡ true
+    → (moved_change by c ≡ d) × TickFits by c
 unfolding moved_change TickFits
 same_lowered_is by o c d opposite small same =
     let parts = and_parts (int_eq (pos c.tick -ℤ o) (pos d.tick)) (same_letters c.value d.value) same in
     let tick : pos c.tick -ℤ o ≡ pos d.tick = (Decides-int_eq _ _).0 parts.0 in
     let later : pos c.tick +ℤ by ≡ pos d.tick = omega (arith, ints, tick, opposite) in
-    let value : c.value ≡ d.value = (same_letters-Decides c.value d.value).0 parts.1 in
-    ((λ i. record { tick = unsigned_abs (later i); value = value i }), subst (FitsUnsigned w64) (sym later) (omega (arith, ints), omega (arith, ints, small)))
+    let value : c.value ≡ d.value = (same_letters-Decides c.value d.value).0 parts.1 in (
+      (λ i. record { tick = unsigned_abs (later i); value = value i }),
+      subst (FitsUnsigned w64) (sym later) (omega (arith, ints), omega (arith, ints, small)),
+    )
 
 -- ---- common prefixes
 
@@ -57,21 +66,26 @@ module _ {X Y : Type 0} (e : X → Y → Bool) where
       ∙ ap (λ n. 1 + n) (prefix_after h us xs ys (All-tail (λ a. e a (h a) ≡ true) a us match)) ∙ omega arith
 
   -- lists that differ before either ends
-  prefix_differs : (xs cs : List X) (ys ds : List Y) → common_prefix_len e xs ys < length xs → common_prefix_len e xs ys < length ys
+  prefix_differs : (xs cs : List X) (ys ds : List Y) → common_prefix_len e xs ys < length xs
+      → common_prefix_len e xs ys < length ys
       → common_prefix_len e (xs ++ cs) (ys ++ ds) ≡ common_prefix_len e xs ys
   prefix_differs [] cs ys ds in_xs in_ys = absurd (omega arith)
   prefix_differs (x ∷ xs) cs [] ds in_xs in_ys = absurd (omega arith)
   prefix_differs (x ∷ xs) cs (y ∷ ys) ds in_xs in_ys =
       elim (cases_Bool (e x y)) [
         | inl is ↦
-            let here : common_prefix_len e (x ∷ xs) (y ∷ ys) ≡ 1 + common_prefix_len e xs ys = cond-true (e x y) _ _ is in
-            cond-true (e x y) _ _ is ∙ ap (λ n. 1 + n) (prefix_differs xs cs ys ds (omega arith) (omega arith)) ∙ sym here
+            let here : common_prefix_len e (x ∷ xs) (y ∷ ys) ≡ 1 + common_prefix_len e xs ys =
+            cond-true (e x y) _ _ is in
+            cond-true (e x y) _ _ is ∙ ap (λ n. 1 + n) (prefix_differs xs cs ys ds (omega arith) (omega arith))
+            ∙ sym here
         | inr is ↦ cond-false (e x y) _ _ is ∙ sym (cond-false (e x y) _ _ is)
       ]
 
   -- what matches in front is what each first part becomes
-  prefix_parts : (h : X → Y) (P : X → Type 0) (Q : Y → Type 0) → ((a : X) (b : Y) → Q b → e a b ≡ true → (h a ≡ b) × P a) → (xs : List X) (ys : List Y) → All Q ys
-      → (map h (take (common_prefix_len e xs ys) xs) ≡ take (common_prefix_len e xs ys) ys) × All P (take (common_prefix_len e xs ys) xs)
+  prefix_parts : (h : X → Y) (P : X → Type 0) (Q : Y → Type 0)
+      → ((a : X) (b : Y) → Q b → e a b ≡ true → (h a ≡ b) × P a) → (xs : List X) (ys : List Y) → All Q ys
+      → (map h (take (common_prefix_len e xs ys) xs) ≡ take (common_prefix_len e xs ys) ys)
+      × All P (take (common_prefix_len e xs ys) xs)
   prefix_parts h P Q means [] ys all = (refl, All-nil P)
   prefix_parts h P Q means (x ∷ xs) [] all = (refl, All-nil P)
   prefix_parts h P Q means (x ∷ xs) (y ∷ ys) all =
@@ -79,9 +93,11 @@ module _ {X Y : Type 0} (e : X → Y → Bool) where
         | inl is ↦
             let rest = prefix_parts h P Q means xs ys (All-tail Q y ys all) in
             let here = means x y (All-head Q y ys all) is in
-            subst (λ n. (map h (take n (x ∷ xs)) ≡ take n (y ∷ ys)) × All P (take n (x ∷ xs))) (sym (cond-true (e x y) (1 + common_prefix_len e xs ys) 0 is ∙ one_more (common_prefix_len e xs ys)))
+            subst (λ n. (map h (take n (x ∷ xs)) ≡ take n (y ∷ ys)) × All P (take n (x ∷ xs)))
+            (sym (cond-true (e x y) (1 + common_prefix_len e xs ys) 0 is ∙ one_more (common_prefix_len e xs ys)))
             ((λ i. here.0 i ∷ rest.0 i), All-cons P x _ here.1 rest.1)
-        | inr is ↦ subst (λ n. (map h (take n (x ∷ xs)) ≡ take n (y ∷ ys)) × All P (take n (x ∷ xs))) (sym (cond-false (e x y) (1 + common_prefix_len e xs ys) 0 is)) (refl, All-nil P)
+        | inr is ↦ subst (λ n. (map h (take n (x ∷ xs)) ≡ take n (y ∷ ys)) × All P (take n (x ∷ xs)))
+            (sym (cond-false (e x y) (1 + common_prefix_len e xs ys) 0 is)) (refl, All-nil P)
       ]
     where
       one_more : (n : ℕ) → 1 + n ≡ suc n
@@ -99,11 +115,13 @@ suffix_end by o xs ys (c ∷ cs) opposite fit =
     let last : common_suffix_lowered o (xs ++ c ∷ []) (ys ++ d ∷ []) ≡ 1 + common_suffix_lowered o xs ys =
     (λ i. common_prefix_len (same_lowered o) (reverse-append xs (c ∷ []) i) (reverse-append ys (d ∷ []) i))
     ∙ cond-true (same_lowered o c d) _ _ (same_lowered_moved by o c opposite (All-head (TickFits by) c cs fit)) in
-    (λ i. common_suffix_lowered o (sym (append_assoc xs (c ∷ []) cs) i) (sym (append_assoc ys (d ∷ []) (map (moved_change by) cs)) i))
+    (λ i. common_suffix_lowered o (sym (append_assoc xs (c ∷ []) cs) i)
+    (sym (append_assoc ys (d ∷ []) (map (moved_change by) cs)) i))
     ∙ suffix_end by o (xs ++ c ∷ []) (ys ++ d ∷ []) cs opposite (All-tail (TickFits by) c cs fit)
     ∙ ap (λ n. length cs + n) last ∙ omega arith
 
-pub suffix_le : (o : ℤ) (xs ys : List Change) → (common_suffix_lowered o xs ys ≤ length xs) × (common_suffix_lowered o xs ys ≤ length ys)
+pub suffix_le : (o : ℤ) (xs ys : List Change) → (common_suffix_lowered o xs ys ≤ length xs)
+    × (common_suffix_lowered o xs ys ≤ length ys)
 suffix_le o xs ys =
     let both = common_prefix_len-le (same_lowered o) (reverse xs) (reverse ys) in
     (omega (arith, both.0, length-reverse xs), omega (arith, both.1, length-reverse ys))
@@ -116,7 +134,8 @@ module _ {X : Type 0} where
       let parts : xs ≡ reverse (drop n back) ++ reverse (take n back) =
       sym (ap reverse (take-append-drop n back) ∙ reverse-reverse xs) ∙ reverse-append (take n back) (drop n back) in
       ap (drop (length xs - n)) parts
-      ∙ drop_at (reverse (drop n back)) (reverse (take n back)) (length xs - n) (omega (arith, length-reverse (drop n back), length-drop n back, length-reverse xs))
+      ∙ drop_at (reverse (drop n back)) (reverse (take n back)) (length xs - n)
+      (omega (arith, length-reverse (drop n back), length-drop n back, length-reverse xs))
 
   -- what a slice leaves in its list, where it is the whole list
   pub whole_list : (n : ℕ) (new old : List X) → n ≡ length new → take n (new ++ drop (length new) old) ≡ new
@@ -125,7 +144,8 @@ module _ {X : Type 0} where
   pub map-reverse : {Y : Type 0} (h : X → Y) (xs : List X) → map h (reverse xs) ≡ reverse (map h xs)
   map-reverse h [] = refl
   map-reverse h (x ∷ xs) =
-      ap (map h) (reverse-append (x ∷ []) xs) ∙ map-append h (reverse xs) (x ∷ []) ∙ ap (λ l. l ++ h x ∷ []) (map-reverse h xs) ∙ sym (reverse-append (h x ∷ []) (map h xs))
+      ap (map h) (reverse-append (x ∷ []) xs) ∙ map-append h (reverse xs) (x ∷ [])
+      ∙ ap (λ l. l ++ h x ∷ []) (map-reverse h xs) ∙ sym (reverse-append (h x ∷ []) (map h xs))
 
   pub All-reverse : (P : X → Type 0) (xs : List X) → All P xs → All P (reverse xs)
   All-reverse P xs all = λ k d within.
@@ -134,23 +154,29 @@ module _ {X : Type 0} where
 
 -- the old changes that match at the end move to the new ones
 pub suffix_moves : (by o : ℤ) (xs ys : List Change) → o ≡ neg_ℤ by → All (λ c. c.tick < 2 ^ 64) ys
-    → (map (moved_change by) (drop (length xs - common_suffix_lowered o xs ys) xs) ≡ drop (length ys - common_suffix_lowered o xs ys) ys)
+    → (map (moved_change by) (drop (length xs - common_suffix_lowered o xs ys) xs)
+    ≡ drop (length ys - common_suffix_lowered o xs ys) ys)
     × AllTicksFit by (drop (length xs - common_suffix_lowered o xs ys) xs)
 suffix_moves by o xs ys opposite small =
     let n = common_suffix_lowered o xs ys in
     let le = suffix_le o xs ys in
-    let parts = prefix_parts (same_lowered o) (moved_change by) (TickFits by) (λ c. c.tick < 2 ^ 64) (λ c d less same. same_lowered_is by o c d opposite less same)
+    let parts = prefix_parts (same_lowered o) (moved_change by) (TickFits by) (λ c. c.tick < 2 ^ 64)
+    (λ c d less same. same_lowered_is by o c d opposite less same)
     (reverse xs) (reverse ys) (All-reverse (λ c. c.tick < 2 ^ 64) ys small) in (
-      ap (map (moved_change by)) (drop-by_reverse xs n le.0) ∙ map-reverse (moved_change by) (take n (reverse xs)) ∙ ap reverse parts.0 ∙ sym (drop-by_reverse ys n le.1),
-      subst (AllTicksFit by) (sym (drop-by_reverse xs n le.0)) (All-reverse (TickFits by) (take n (reverse xs)) parts.1),
+      ap (map (moved_change by)) (drop-by_reverse xs n le.0) ∙ map-reverse (moved_change by) (take n (reverse xs))
+          ∙ ap reverse parts.0 ∙ sym (drop-by_reverse ys n le.1),
+      subst (AllTicksFit by) (sym (drop-by_reverse xs n le.0))
+          (All-reverse (TickFits by) (take n (reverse xs)) parts.1),
     )
 
 -- the old changes that match in front are the new ones
-pub prefix_same : (xs ys : List Change) → take (common_prefix_len same_change xs ys) xs ≡ take (common_prefix_len same_change xs ys) ys
+pub prefix_same : (xs ys : List Change)
+    → take (common_prefix_len same_change xs ys) xs ≡ take (common_prefix_len same_change xs ys) ys
 prefix_same xs ys =
     let n = common_prefix_len same_change xs ys in
     sym (map-id (take n xs))
-    ∙ (prefix_parts same_change (λ c. c) (λ c. Unit {0}) (λ c. Unit {0}) (λ c d _ same. (same_change_is c d same, tt)) xs ys (λ k d within. tt)).0
+    ∙ (prefix_parts same_change (λ c. c) (λ c. Unit {0}) (λ c. Unit {0}) (λ c d _ same. (same_change_is c d same, tt))
+    xs ys (λ k d within. tt)).0
 
 -- ---- what a list touches
 
@@ -175,18 +201,25 @@ module _ (by o : ℤ) (before ms ns cs : List Change) (opposite : o ≡ neg_ℤ 
 
   front_is : front < length ms → front < length ns → common_prefix_len same_change old new ≡ length before + front
   front_is in_ms in_ns =
-      (λ i. common_prefix_len same_change (append_assoc before ms cs i) (append_assoc before ns (map (moved_change by) cs) i))
-      ∙ ap (λ l. common_prefix_len same_change (before ++ (ms ++ cs)) (l ++ (ns ++ map (moved_change by) cs))) (sym (map-id before))
-      ∙ prefix_after same_change (λ c. c) before (ms ++ cs) (ns ++ map (moved_change by) cs) (λ k d within. same_change_self (get_or before k d))
+      (λ i. common_prefix_len same_change (append_assoc before ms cs i)
+      (append_assoc before ns (map (moved_change by) cs) i))
+      ∙ ap (λ l. common_prefix_len same_change (before ++ (ms ++ cs)) (l ++ (ns ++ map (moved_change by) cs)))
+      (sym (map-id before))
+      ∙ prefix_after same_change (λ c. c) before (ms ++ cs) (ns ++ map (moved_change by) cs)
+      (λ k d within. same_change_self (get_or before k d))
       ∙ ap (λ n. length before + n) (prefix_differs same_change ms cs ns (map (moved_change by) cs) in_ms in_ns)
 
-  rest_is : (xs ds : List Change) → front ≤ length xs → drop (length before + front) (before ++ xs ++ ds) ≡ drop front xs ++ ds
+  rest_is : (xs ds : List Change) → front ≤ length xs
+      → drop (length before + front) (before ++ xs ++ ds) ≡ drop front xs ++ ds
   rest_is xs ds le =
-      ap (drop (length before + front)) (append_assoc before xs ds) ∙ drop_after before (xs ++ ds) front ∙ drop-append-le front xs ds le
+      ap (drop (length before + front)) (append_assoc before xs ds) ∙ drop_after before (xs ++ ds) front
+      ∙ drop-append-le front xs ds le
     where
       drop_after : (us xs : List Change) (n : ℕ) → drop (length us + n) (us ++ xs) ≡ drop n xs
       drop_after [] xs n = ap (λ k. drop k xs) {x = 0 + n} {y = n} (omega arith)
-      drop_after (u ∷ us) xs n = ap (λ k. drop k (u ∷ us ++ xs)) {x = suc (length us) + n} {y = suc (length us + n)} (omega arith) ∙ drop_after us xs n
+      drop_after (u ∷ us) xs n =
+          ap (λ k. drop k (u ∷ us ++ xs)) {x = suc (length us) + n} {y = suc (length us + n)} (omega arith)
+          ∙ drop_after us xs n
 
   -- of a list with a part that gives way, and with the later changes moved, no more is touched in the part alone
   pub touched_middle : touched_count o ms ns ≤ touched_count o old new
@@ -199,14 +232,23 @@ module _ (by o : ℤ) (before ms ns cs : List Change) (opposite : o ≡ neg_ℤ 
           | inr all ↦
               let least = touched_least o old new in
               let lengths : length old + length ns ≡ length new + length ms =
-              omega (arith, length-append (before ++ ms) cs, length-append before ms, length-append (before ++ ns) (map (moved_change by) cs), length-append before ns, length-map cs (moved_change by)) in
+              omega (
+                arith,
+                length-append (before ++ ms) cs,
+                length-append before ms,
+                length-append (before ++ ns) (map (moved_change by) cs),
+                length-append before ns,
+                length-map cs (moved_change by),
+              ) in
               omega (arith, least, lengths, both.0, both.1)
           | inl in_ns ↦
               let same = front_is in_ms in_ns in
-              let ends : common_suffix_lowered o (drop (common_prefix_len same_change old new) old) (drop (common_prefix_len same_change old new) new)
+              let ends : common_suffix_lowered o (drop (common_prefix_len same_change old new) old)
+              (drop (common_prefix_len same_change old new) new)
               ≡ length cs + common_suffix_lowered o (drop front ms) (drop front ns) =
               (λ i. common_suffix_lowered o (drop (same i) old) (drop (same i) new))
-              ∙ (λ i. common_suffix_lowered o (rest_is ms cs (omega arith) i) (rest_is ns (map (moved_change by) cs) (omega arith) i))
+              ∙ (λ i. common_suffix_lowered o (rest_is ms cs (omega arith) i)
+              (rest_is ns (map (moved_change by) cs) (omega arith) i))
               ∙ suffix_end by o (drop front ms) (drop front ns) cs opposite fit in
               omega (arith, same, ends, length-append (before ++ ms) cs, length-append before ms)
         ]

@@ -1,5 +1,6 @@
 -- What pieces that lead back store is within what is touched, signal by signal.
-use Rattle.std.proofs.Common.{◌≡◌, ℕ, zero, suc, ◌+◌, ◌<◌, ◌≤◌, ◌==◌, ℤ, neg_ℤ, List, [], ◌∷◌, length, map, reverse, get_or, set, All, Option, Some, None, refl, sym, ap, ◌∙◌, arith}
+use Rattle.std.proofs.Common.{◌≡◌, ℕ, zero, suc, ◌+◌, ◌<◌, ◌≤◌, ◌==◌, ℤ, neg_ℤ, List, [], ◌∷◌, length, map, reverse}
+use Rattle.std.proofs.Common.{get_or, set, All, Option, Some, None, refl, sym, ap, ◌∙◌, arith}
 use Rattle.std.specs.List.{sum_by, common_prefix_len}
 use Rattle.std.proofs.lemmas.Bool.{eq-eqb, ne_eqb, cond-true, cond-false}
 use Rattle.std.proofs.lemmas.List.{length-map, get_or-map, reverse-append}
@@ -17,8 +18,10 @@ use Rattle.vcd_edit.proofs.PiecesBack.{signal_here, signal_kept, counts_kept, co
 -- ---- the sum over the signals
 
 -- one signal touches no more than all
-pub touched_at_least : (offset : ℕ → ℤ) (j : ℕ) (ss : List SignalContents) (ns : List (Option SignalContents)) (k : ℕ) (s : SignalContents) (n : Option SignalContents)
-    → k < length ss → k < length ns → touched_of (offset (j + k)) (get_or ss k s) (get_or ns k n) ≤ touched_from offset j ss ns
+pub touched_at_least : (offset : ℕ → ℤ) (j : ℕ) (ss : List SignalContents) (ns : List (Option SignalContents)) (k : ℕ)
+    (s : SignalContents) (n : Option SignalContents)
+    → k < length ss → k < length ns
+    → touched_of (offset (j + k)) (get_or ss k s) (get_or ns k n) ≤ touched_from offset j ss ns
 unfolding touched_from
 touched_at_least offset j [] ns k s n in_ss in_ns = absurd (omega arith)
 touched_at_least offset j (x ∷ ss) [] k s n in_ss in_ns = absurd (omega arith)
@@ -26,17 +29,28 @@ touched_at_least offset j (x ∷ ss) (y ∷ ns) zero s n in_ss in_ns =
     omega (arith, ap (λ i. touched_of (offset i) x y) {x = j + 0} {y = j} (omega arith))
 touched_at_least offset j (x ∷ ss) (y ∷ ns) (suc k) s n in_ss in_ns =
     let rest = touched_at_least offset (suc j) ss ns k s n (omega arith) (omega arith) in
-    omega (arith, rest, ap (λ i. touched_of (offset i) (get_or ss k s) (get_or ns k n)) {x = j + suc k} {y = suc j + k} (omega arith))
+    omega (
+      arith,
+      rest,
+      ap (λ i. touched_of (offset i) (get_or ss k s) (get_or ns k n)) {x = j + suc k} {y =
+          suc j + k} (omega arith),
+    )
 
 -- another signal in its place changes its own part alone
-touched-set : (offset : ℕ → ℤ) (j : ℕ) (ss : List SignalContents) (ns : List (Option SignalContents)) (k : ℕ) (s new : SignalContents) (n : Option SignalContents)
+touched-set : (offset : ℕ → ℤ) (j : ℕ) (ss : List SignalContents) (ns : List (Option SignalContents)) (k : ℕ)
+    (s new : SignalContents) (n : Option SignalContents)
     → k < length ss → k < length ns
-    → touched_from offset j (set ss k new) ns + touched_of (offset (j + k)) (get_or ss k s) (get_or ns k n) ≡ touched_from offset j ss ns + touched_of (offset (j + k)) new (get_or ns k n)
+    → touched_from offset j (set ss k new) ns + touched_of (offset (j + k)) (get_or ss k s) (get_or ns k n)
+    ≡ touched_from offset j ss ns + touched_of (offset (j + k)) new (get_or ns k n)
 unfolding touched_from
 touched-set offset j [] ns k s new n in_ss in_ns = absurd (omega arith)
 touched-set offset j (x ∷ ss) [] k s new n in_ss in_ns = absurd (omega arith)
 touched-set offset j (x ∷ ss) (y ∷ ns) zero s new n in_ss in_ns =
-    omega (arith, ap (λ i. touched_of (offset i) x y) {x = j + 0} {y = j} (omega arith), ap (λ i. touched_of (offset i) new y) {x = j + 0} {y = j} (omega arith))
+    omega (
+      arith,
+      ap (λ i. touched_of (offset i) x y) {x = j + 0} {y = j} (omega arith),
+      ap (λ i. touched_of (offset i) new y) {x = j + 0} {y = j} (omega arith),
+    )
 touched-set offset j (x ∷ ss) (y ∷ ns) (suc k) s new n in_ss in_ns =
     let rest = touched-set offset (suc j) ss ns k s new n (omega arith) (omega arith) in
     omega (
@@ -60,7 +74,8 @@ touched_self o cs =
     prefix_self (x ∷ xs) = cond-true (same_change x x) _ _ (same_change_self x) ∙ omega (arith, prefix_self xs)
 
 -- what pieces that lead back store, where each signal's offset is the opposite of its piece's
-pub stored_within : (offset : ℕ → ℤ) (c : Contents) (ps qs : List PieceView) → AreInversePieces c ps qs → AreApart ps → All (λ p. offset p.signal ≡ neg_ℤ p.by) ps
+pub stored_within : (offset : ℕ → ℤ) (c : Contents) (ps qs : List PieceView) → AreInversePieces c ps qs → AreApart ps
+    → All (λ p. offset p.signal ≡ neg_ℤ p.by) ps
     → sum_by (λ q. length q.changes) qs ≤ touched_from offset 0 c.signals (map Some (with_pieces c ps).signals)
 unfolding with_pieces
 stored_within offset c [] [] lead apart opposite = omega arith
@@ -72,12 +87,16 @@ stored_within offset c (p ∷ ps) (q ∷ qs) (within, leads, lead) (none, apart)
     let after = map Some end.signals in
     let old = signal_at c p.signal in
     let new = signal_with_changes old (changes_with_piece p old.changes) in
-    let rest = stored_within offset next ps qs lead apart (All-tail (λ p. offset p.signal ≡ neg_ℤ p.by) p ps opposite) in
-    let in_after : p.signal < length after = omega (arith, within, length-map {A = SignalContents} end.signals Some, counts_kept next ps, count_kept c p) in
+    let rest = stored_within offset next ps qs lead apart
+    (All-tail (λ p. offset p.signal ≡ neg_ℤ p.by) p ps opposite) in
+    let in_after : p.signal < length after =
+    omega (arith, within, length-map {A = SignalContents} end.signals Some, counts_kept next ps, count_kept c p) in
     let partner : get_or after p.signal None ≡ Some new =
-    get_or-map Some end.signals p.signal no_signal None (omega (arith, within, counts_kept next ps, count_kept c p)) ∙ ap Some (signal_kept next ps p.signal none ∙ signal_here c p within) in
+    get_or-map Some end.signals p.signal no_signal None (omega (arith, within, counts_kept next ps, count_kept c p))
+    ∙ ap Some (signal_kept next ps p.signal none ∙ signal_here c p within) in
     let moved = touched-set offset 0 c.signals after p.signal no_signal new None within in_after in
-    let mine : touched_count (neg_ℤ p.by) old.changes new.changes ≡ touched_of (offset (0 + p.signal)) old (get_or after p.signal None) =
+    let mine : touched_count (neg_ℤ p.by) old.changes new.changes
+    ≡ touched_of (offset (0 + p.signal)) old (get_or after p.signal None) =
     ap (λ o. touched_count o old.changes new.changes) (sym (All-head (λ p. offset p.signal ≡ neg_ℤ p.by) p ps opposite))
     ∙ ap (λ i. touched_count (offset i) old.changes new.changes) {x = p.signal} {y = 0 + p.signal} (omega arith)
     ∙ ap (touched_of (offset (0 + p.signal)) old) (sym partner) in
@@ -94,7 +113,8 @@ sum_by-reverse f (p ∷ ps) =
 -- the changes in pieces, counted in the code
 pub sum_by-map : {X Y : Type 0} (f : Y → ℕ) (g : X → Y) (xs : List X) → sum_by f (map g xs) ≡ sum_by (λ x. f (g x)) xs
 sum_by-map f g [] = refl
-sum_by-map f g (x ∷ xs) = sum_by-cons f (g x) (map g xs) ∙ ap (λ n. f (g x) + n) (sum_by-map f g xs) ∙ sym (sum_by-cons (λ x. f (g x)) x xs)
+sum_by-map f g (x ∷ xs) = sum_by-cons f (g x) (map g xs) ∙ ap (λ n. f (g x) + n) (sum_by-map f g xs)
+    ∙ sym (sum_by-cons (λ x. f (g x)) x xs)
 
 -- ---- the offsets of a record's own pieces
 
@@ -103,5 +123,8 @@ unfolding piece_offset
 own_offsets [] apart = λ k d less. absurd (omega arith)
 own_offsets (p ∷ ps) (none, apart) =
     let rest = own_offsets ps apart in
-    All-cons (λ q. piece_offset (p ∷ ps) q.signal ≡ neg_ℤ q.by) p ps (cond-true (p.signal == p.signal) _ _ (eq-eqb p.signal p.signal refl))
-    (λ k d less. cond-false (p.signal == (get_or ps k d).signal) _ _ (ne_eqb p.signal (get_or ps k d).signal (λ same. none_all p.signal ps none k d less (sym same))) ∙ rest k d less)
+    All-cons (λ q. piece_offset (p ∷ ps) q.signal ≡ neg_ℤ q.by) p ps
+    (cond-true (p.signal == p.signal) _ _ (eq-eqb p.signal p.signal refl))
+    (λ k d less. cond-false (p.signal == (get_or ps k d).signal) _ _
+    (ne_eqb p.signal (get_or ps k d).signal (λ same. none_all p.signal ps none k d less (sym same)))
+    ∙ rest k d less)

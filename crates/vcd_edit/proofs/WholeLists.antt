@@ -1,5 +1,6 @@
 -- Pieces that take the place of a whole list of changes.
-use Rattle.std.proofs.Common.{◌≡◌, ℕ, suc, ◌≤◌, ◌+◌, List, [], ◌++◌, length, take, drop, map, sym, ap, subst, ◌∙◌, arith}
+use Rattle.std.proofs.Common.{◌≡◌, ℕ, suc, ◌≤◌, ◌+◌, List, [], ◌++◌, length, take, drop, map, sym, ap, subst, ◌∙◌}
+use Rattle.std.proofs.Common.{arith}
 use Rattle.std.proofs.lemmas.List.{append-nil, drop_all}
 use Rattle.std.proofs.lemmas.List.Elements.{All-nil}
 use Rattle.vcd_core.specs.declared.bit.Bit.{Bit}
@@ -17,7 +18,8 @@ use Rattle.vcd_edit.specs.inside.Ranges.{LeadsTo}
 use Rattle.vcd_edit.proofs.Ranges.{changes_in-constant}
 
 -- the piece of a whole list is the list that comes
-pub whole_leads : (p : PieceView) (cs : List Change) (width end : ℕ) (f : ℕ → List Bit) → p.from ≡ 0 → p.to ≡ length cs → p.changes ≡ changes_of width end f
+pub whole_leads : (p : PieceView) (cs : List Change) (width end : ℕ) (f : ℕ → List Bit) → p.from ≡ 0 → p.to ≡ length cs
+    → p.changes ≡ changes_of width end f
     → LeadsTo p cs width end f
 unfolding spliced_changes
 whole_leads p cs width end f first last told =
@@ -32,13 +34,16 @@ whole_leads p cs width end f first last told =
 -- the changes of one value at all ticks
 pub one_value_changes : (width end : ℕ) (f : ℕ → List Bit) (v : List Bit) → ((t : ℕ) → t ≤ end → f t ≡ v)
     → unless_same (same_letters v (all_x width)) (change 0 v) [] ≡ changes_of width end f
-one_value_changes width end f v same = sym (changes_in-constant width f v 0 (suc end) (omega arith) (λ i less. same (0 + i) (omega arith)))
+one_value_changes width end f v same =
+    sym (changes_in-constant width f v 0 (suc end) (omega arith) (λ i less. same (0 + i) (omega arith)))
 
 -- the piece of the whole list of a signal
 pub whole_gives : (p : Piece) (k : ℕ) (s : SignalContents) (items : List Change) (end : ℕ) (f : ℕ → List Bit)
-    → piece_view p ≡ record { signal = k; from = 0; to = length s.changes; changes = items; by = pos 0 } → items ≡ changes_of s.width end f → GivesValues k s end (pos 0) f p
+    → piece_view p ≡ record { signal = k; from = 0; to = length s.changes; changes = items; by = pos 0 }
+    → items ≡ changes_of s.width end f → GivesValues k s end (pos 0) f p
 whole_gives p k s items end f is told = record {
   signal = ap (λ (q : PieceView). q.signal) is;
   moves = ap (λ (q : PieceView). q.by) is;
-  leads = whole_leads (piece_view p) s.changes s.width end f (ap (λ (q : PieceView). q.from) is) (ap (λ (q : PieceView). q.to) is) (ap (λ (q : PieceView). q.changes) is ∙ told);
+  leads = whole_leads (piece_view p) s.changes s.width end f (ap (λ (q : PieceView). q.from) is)
+      (ap (λ (q : PieceView). q.to) is) (ap (λ (q : PieceView). q.changes) is ∙ told);
 }

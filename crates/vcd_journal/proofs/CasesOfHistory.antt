@@ -118,10 +118,12 @@ redo_after_refused_edit = (refl, refl, refl, refl)
 -- ---- the edits in force after three renames, two undos, one that is refused, and two depths
 
 abbrev pub three_renames : List Step
-three_renames = to (codes "b") ∷ to (codes "c") ∷ to (codes "d") ∷ steps.Undo ∷ steps.Depth 1 ∷ steps.Undo ∷ steps.Undo ∷ steps.Depth 3 ∷ []
+three_renames = to (codes "b") ∷ to (codes "c") ∷ to (codes "d") ∷ steps.Undo ∷ steps.Depth 1 ∷ steps.Undo ∷ steps.Undo
+    ∷ steps.Depth 3 ∷ []
 
 abbrev pub their_answers : List Answer
-their_answers = Done ∷ Done ∷ Done ∷ Done ∷ Refused refusals.DepthTooSmall ∷ Done ∷ Refused refusals.NothingToUndo ∷ Done ∷ []
+their_answers = Done ∷ Done ∷ Done ∷ Done ∷ Refused refusals.DepthTooSmall ∷ Done ∷ Refused refusals.NothingToUndo
+    ∷ Done ∷ []
 
 -- the rename whose capture the history has dropped stays in force
 still_in_force :

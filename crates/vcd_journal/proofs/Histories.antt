@@ -1,5 +1,6 @@
 -- The records of a session and the captures that they lead to.
-use Rattle.std.proofs.Common.{◌≡◌, ◌<◌, ◌≤◌, ◌+◌, ℕ, zero, suc, List, [], ◌∷◌, ◌-◌, length, take, drop, refl, sym, ◌∙◌, ap, subst, Some, arith}
+use Rattle.std.proofs.Common.{◌≡◌, ◌<◌, ◌≤◌, ◌+◌, ℕ, zero, suc, List, [], ◌∷◌, ◌-◌, length, take, drop, refl, sym, ◌∙◌}
+use Rattle.std.proofs.Common.{ap, subst, Some, arith}
 use Rattle.std.specs.Prelude.{slice_get}
 use Rattle.std.proofs.lemmas.List.{take_all, length-take}
 use Rattle.vcd_core.specs.Contents.{Contents}
@@ -17,20 +18,25 @@ length_reached_captures c [] = refl
 length_reached_captures c (r ∷ rs) = ap suc (length_reached_captures (apply_record r c) rs)
 
 -- the newest records lead to the nearest captures
-pub reached_captures_take : (c : Contents) (n : ℕ) (rs : List RecordView) → reached_captures c (take n rs) ≡ take n (reached_captures c rs)
+pub reached_captures_take : (c : Contents) (n : ℕ) (rs : List RecordView)
+    → reached_captures c (take n rs) ≡ take n (reached_captures c rs)
 reached_captures_take c zero rs = refl
 reached_captures_take c (suc n) [] = refl
-reached_captures_take c (suc n) (r ∷ rs) = ap (λ (cs : List Contents). apply_record r c ∷ cs) (reached_captures_take (apply_record r c) n rs)
+reached_captures_take c (suc n) (r ∷ rs) =
+    ap (λ (cs : List Contents). apply_record r c ∷ cs) (reached_captures_take (apply_record r c) n rs)
 
 -- the newest of records that fit do so too
-pub AllRecordsFit_take : (c : Contents) (n : ℕ) (rs : List RecordView) → AllRecordsFit c rs → AllRecordsFit c (take n rs)
+pub AllRecordsFit_take : (c : Contents) (n : ℕ) (rs : List RecordView) → AllRecordsFit c rs
+    → AllRecordsFit c (take n rs)
 AllRecordsFit_take c zero rs fit = tt
 AllRecordsFit_take c (suc n) [] fit = tt
 AllRecordsFit_take c (suc n) (r ∷ rs) fit = (fit.0, AllRecordsFit_take (apply_record r c) n rs fit.1)
 
 -- the captures that a session can go to are as many as its records
-pub few_captures : (c : Contents) (past future : Buffer RecordView) (depth : ℕ) → IsHistory c past future depth → length (reached_captures c past.items) + length (reached_captures c future.items) ≤ depth
-few_captures c past future depth held = rw (length_reached_captures c past.items, length_reached_captures c future.items) (held.few)
+pub few_captures : (c : Contents) (past future : Buffer RecordView) (depth : ℕ) → IsHistory c past future depth
+    → length (reached_captures c past.items) + length (reached_captures c future.items) ≤ depth
+few_captures c past future depth held =
+    rw (length_reached_captures c past.items, length_reached_captures c future.items) (held.few)
 
 -- and there is one where there is a record
 pub some_captures : (c : Contents) (rs : List RecordView) → 0 < length rs → 0 < length (reached_captures c rs)
@@ -38,9 +44,11 @@ some_captures c rs some = rw (length_reached_captures c rs) some
 
 -- the machine that a session with these records stands for
 abbrev pub machine_of : Contents → List RecordView → List RecordView → ℕ → Machine
-machine_of c past future depth = record { past = reached_captures c past; now = c; future = reached_captures c future; depth = depth }
+machine_of c past future depth =
+    record { past = reached_captures c past; now = c; future = reached_captures c future; depth = depth }
 
-pub same_machine : (c d : Contents) (past past_then future future_then : List RecordView) (depth : ℕ) → d ≡ c → past_then ≡ past → future_then ≡ future →
+pub same_machine : (c d : Contents) (past past_then future future_then : List RecordView) (depth : ℕ) → d ≡ c
+    → past_then ≡ past → future_then ≡ future →
     machine_of d past_then future_then depth ≡ machine_of c past future depth
 same_machine c d past past_then future future_then depth capture back forth =
     λ i. machine_of (capture i) (back i) (forth i) depth
@@ -48,28 +56,41 @@ same_machine c d past past_then future future_then depth capture back forth =
 -- ---- edits
 
 -- an edit adds the capture before it to the past
-pub past_after_edit : (before after : Contents) (r : RecordView) (rs : List RecordView) (n : ℕ) → apply_record r after ≡ before → reached_captures after (take n (r ∷ rs)) ≡ take n (before ∷ reached_captures before rs)
-past_after_edit before after r rs n leads = reached_captures_take after n (r ∷ rs) ∙ ap (λ (c : Contents). take n (c ∷ reached_captures c rs)) leads
+pub past_after_edit : (before after : Contents) (r : RecordView) (rs : List RecordView) (n : ℕ)
+    → apply_record r after ≡ before
+    → reached_captures after (take n (r ∷ rs)) ≡ take n (before ∷ reached_captures before rs)
+past_after_edit before after r rs n leads = reached_captures_take after n (r ∷ rs)
+    ∙ ap (λ (c : Contents). take n (c ∷ reached_captures c rs)) leads
 
 -- and its record fits
-pub fit_after_edit : (before after : Contents) (r : RecordView) (rs : List RecordView) (n : ℕ) → apply_record r after ≡ before → Fits r after → AllRecordsFit before rs → AllRecordsFit after (take n (r ∷ rs))
-fit_after_edit before after r rs n leads fits fit = AllRecordsFit_take after n (r ∷ rs) (fits, subst (λ (c : Contents). AllRecordsFit c rs) (sym leads) fit)
+pub fit_after_edit : (before after : Contents) (r : RecordView) (rs : List RecordView) (n : ℕ)
+    → apply_record r after ≡ before → Fits r after → AllRecordsFit before rs → AllRecordsFit after (take n (r ∷ rs))
+fit_after_edit before after r rs n leads fits fit =
+    AllRecordsFit_take after n (r ∷ rs) (fits, subst (λ (c : Contents). AllRecordsFit c rs) (sym leads) fit)
 
 -- few are kept
 pub few_after_edit : (r : RecordView) (rs : List RecordView) (n : ℕ) → length (take n (r ∷ rs)) ≤ n
 few_after_edit r rs n = let kept = length-take n (r ∷ rs) in omega (arith, kept)
 
 -- the machine after an edit
-pub machine_of_edit : (e : Edit) (before after : Contents) (r : RecordView) (rs fs : List RecordView) (depth : ℕ) → after ≡ effect e before → apply_record r after ≡ before →
+pub machine_of_edit : (e : Edit) (before after : Contents) (r : RecordView) (rs fs : List RecordView) (depth : ℕ)
+    → after ≡ effect e before → apply_record r after ≡ before →
     machine_of after (take depth (r ∷ rs)) [] depth ≡ machine_after_edit e (machine_of before rs fs depth)
 machine_of_edit e before after r rs fs depth forth leads =
-    ap (λ (cs : List Contents). record { past = cs; now = after; future = []; depth = depth }) (past_after_edit before after r rs depth leads)
-    ∙ ap (λ (c : Contents). record { past = take depth (before ∷ reached_captures before rs); now = c; future = []; depth = depth }) forth
+    ap (λ (cs : List Contents). record { past = cs; now = after; future = []; depth = depth })
+    (past_after_edit before after r rs depth leads)
+    ∙ ap (λ (c : Contents). record {
+      past = take depth (before ∷ reached_captures before rs);
+      now = c;
+      future = [];
+      depth = depth;
+    }) forth
 
 -- ---- undo and redo
 
 -- the first of the records is taken out
-first_way : (c d : Contents) (q : RecordView) (rs : List RecordView) → d ≡ apply_record q c → AllRecordsFit c (q ∷ rs) → PopsRecord c (q ∷ rs) d rs
+first_way : (c d : Contents) (q : RecordView) (rs : List RecordView) → d ≡ apply_record q c → AllRecordsFit c (q ∷ rs)
+    → PopsRecord c (q ∷ rs) d rs
 first_way c d q rs leads fit = record {
   captures = ap (λ (e : Contents). e ∷ reached_captures e rs) (sym leads);
   fit = fit;
@@ -77,18 +98,22 @@ first_way c d q rs leads fit = record {
   count = refl;
 }
 
-pub way_ahead : (c d : Contents) (r : RecordView) (rs : List RecordView) → Some r ≡ slice_get rs 0 → d ≡ apply_record r c → AllRecordsFit c rs → PopsRecord c rs d (drop 1 rs)
+pub way_ahead : (c d : Contents) (r : RecordView) (rs : List RecordView) → Some r ≡ slice_get rs 0
+    → d ≡ apply_record r c → AllRecordsFit c rs → PopsRecord c rs d (drop 1 rs)
 way_ahead c d r [] first leads fit = absurd (cc)
-way_ahead c d r (q ∷ rs) first leads fit = let same : r ≡ q = cc in first_way c d q rs (leads ∙ ap (λ (p : RecordView). apply_record p c) same) fit
+way_ahead c d r (q ∷ rs) first leads fit = let same : r ≡ q = cc in
+    first_way c d q rs (leads ∙ ap (λ (p : RecordView). apply_record p c) same) fit
 
 -- the record that leads back is put in front
-pub way_after : (c d : Contents) (r : RecordView) (rs : List RecordView) (n : ℕ) → apply_record r d ≡ c → Fits r d → AllRecordsFit c rs → length rs < n → PopsRecord d (take n (r ∷ rs)) c rs
+pub way_after : (c d : Contents) (r : RecordView) (rs : List RecordView) (n : ℕ) → apply_record r d ≡ c → Fits r d
+    → AllRecordsFit c rs → length rs < n → PopsRecord d (take n (r ∷ rs)) c rs
 way_after c d r rs n leads fits fit room =
     let whole : take n (r ∷ rs) ≡ r ∷ rs = take_all n (r ∷ rs) (omega arith) in
     rw whole (first_way d c r rs (sym leads) (fits, subst (λ (e : Contents). AllRecordsFit e rs) (sym leads) fit))
 
 -- a record that was taken out stands where it stood
-pub record_put_back : (r : RecordView) (rs : List RecordView) (n : ℕ) → Some r ≡ slice_get rs 0 → length rs ≤ n → take n (r ∷ drop 1 rs) ≡ rs
+pub record_put_back : (r : RecordView) (rs : List RecordView) (n : ℕ) → Some r ≡ slice_get rs 0 → length rs ≤ n
+    → take n (r ∷ drop 1 rs) ≡ rs
 record_put_back r [] n first within = absurd (cc)
 record_put_back r (q ∷ rs) n first within = let same : r ≡ q = cc in rw same (take_all n (q ∷ rs) within)
 
@@ -98,4 +123,5 @@ pub machine_of_depth : (c : Contents) (rs fs : List RecordView) (old depth : ℕ
     machine_of c (take (depth - length fs) rs) fs depth ≡ machine_after_depth depth (machine_of c rs fs old)
 machine_of_depth c rs fs old depth =
     ap (λ (cs : List Contents). record { past = cs; now = c; future = reached_captures c fs; depth = depth })
-    (reached_captures_take c (depth - length fs) rs ∙ ap (λ (n : ℕ). take (depth - n) (reached_captures c rs)) (sym (length_reached_captures c fs)))
+    (reached_captures_take c (depth - length fs) rs
+    ∙ ap (λ (n : ℕ). take (depth - n) (reached_captures c rs)) (sym (length_reached_captures c fs)))

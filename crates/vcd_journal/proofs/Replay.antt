@@ -1,5 +1,6 @@
 -- The replay law: what the machine holds is what the edits in force make of the first capture.
-use Rattle.std.proofs.Common.{◌≡◌, ◌-◌, ℕ, zero, suc, Bool, true, false, if◌then◌else◌, List, [], ◌∷◌, length, take, Option, Some, None, sym, ap, subst, refl, inl, inr}
+use Rattle.std.proofs.Common.{◌≡◌, ◌-◌, ℕ, zero, suc, Bool, true, false, if◌then◌else◌, List, [], ◌∷◌, length, take}
+use Rattle.std.proofs.Common.{Option, Some, None, sym, ap, subst, refl, inl, inr}
 use Rattle.std.specs.Prelude.{nat_lt, not}
 use Rattle.vcd_core.specs.Contents.{Contents}
 use Rattle.vcd_edit.specs.declared.edit.Edit.{Edit}
@@ -10,8 +11,11 @@ use Rattle.vcd_journal.specs.declared.step.Step.{Step}
 use Rattle.vcd_journal.specs.declared.step.Step.TheVariants as steps
 use Rattle.vcd_journal.specs.declared.step.StepError.TheVariants as refusals
 use Rattle.vcd_journal.specs.declared.step.Answer.{Answer}
-use Rattle.vcd_journal.specs.Machine.{Machine, StepOutcome, first_machine, machine_after_depth, accepted_outcome, refused_outcome, edit_outcome, undo_outcome, redo_outcome, is_depth, step_outcome, memory_refusal, IsStep, StepsLead}
-use Rattle.vcd_journal.specs.InForce.{Tally, tally_after, tally_after_all, replay, earlier_replays, later_replays, IsReplay}
+use Rattle.vcd_journal.specs.Machine.{Machine, StepOutcome, first_machine, machine_after_depth, accepted_outcome}
+use Rattle.vcd_journal.specs.Machine.{refused_outcome, edit_outcome, undo_outcome, redo_outcome, is_depth, step_outcome}
+use Rattle.vcd_journal.specs.Machine.{memory_refusal, IsStep, StepsLead}
+use Rattle.vcd_journal.specs.InForce.{Tally, tally_after, tally_after_all, replay, earlier_replays, later_replays}
+use Rattle.vcd_journal.specs.InForce.{IsReplay}
 use Rattle.vcd_journal.specs.Laws.{SessionIsReplay}
 
 -- each capture of the past is the replay of the edits before one in force, the last first
@@ -25,7 +29,8 @@ abbrev pub FutureFollows : Contents → List Edit → List Edit → List Content
 FutureFollows c es [] [] = Unit {0}
 FutureFollows c es [] (next ∷ later) = ⊥
 FutureFollows c es (u ∷ undone_edits) [] = ⊥
-FutureFollows c es (u ∷ undone_edits) (next ∷ later) = (next ≡ replay c (u ∷ es)) × FutureFollows c (u ∷ es) undone_edits later
+FutureFollows c es (u ∷ undone_edits) (next ∷ later) = (next ≡ replay c (u ∷ es))
+    × FutureFollows c (u ∷ es) undone_edits later
 
 -- the machine holds what the tally makes of the first capture
 pub record Follows (c : Contents) (t : Tally) (m : Machine) : Type 0 where
@@ -33,7 +38,8 @@ pub record Follows (c : Contents) (t : Tally) (m : Machine) : Type 0 where
   pub past : PastFollows c t.edits_in_force m.past
   pub future : FutureFollows c t.edits_in_force t.undone_edits m.future
 
-pub past_taken : (c : Contents) (n : ℕ) (es : List Edit) (past : List Contents) → PastFollows c es past → PastFollows c es (take n past)
+pub past_taken : (c : Contents) (n : ℕ) (es : List Edit) (past : List Contents) → PastFollows c es past
+    → PastFollows c es (take n past)
 past_taken c zero es past h = tt
 past_taken c (suc n) es [] h = tt
 past_taken c (suc n) [] (held ∷ older) h = absurd h
@@ -41,7 +47,8 @@ past_taken c (suc n) (e ∷ es) (held ∷ older) h = (h.0, past_taken c n es old
 
 -- ---- what comes of each step where there is memory
 
-pub edit_follows : (c : Contents) (t : Tally) (m : Machine) (e : Edit) (found : Option EditError) → Follows c t m → Follows c (tally_after t (steps.Edit e) (edit_outcome found e m).answer) (edit_outcome found e m).after
+pub edit_follows : (c : Contents) (t : Tally) (m : Machine) (e : Edit) (found : Option EditError) → Follows c t m
+    → Follows c (tally_after t (steps.Edit e) (edit_outcome found e m).answer) (edit_outcome found e m).after
 unfolding replay
 edit_follows c t m e None f = record {
   now = ap (effect e) f.now;
@@ -50,16 +57,20 @@ edit_follows c t m e None f = record {
 }
 edit_follows c t m e (Some found) f = f
 
-pub undo_follows : (c : Contents) (es undone_edits : List Edit) (m : Machine) (past : List Contents) → PastFollows c es past →
+pub undo_follows : (c : Contents) (es undone_edits : List Edit) (m : Machine) (past : List Contents)
+    → PastFollows c es past →
     Follows c (record { edits_in_force = es; undone_edits = undone_edits }) m →
-    Follows c (tally_after (record { edits_in_force = es; undone_edits = undone_edits }) steps.Undo (undo_outcome past m).answer) (undo_outcome past m).after
+    Follows c (tally_after (record { edits_in_force = es; undone_edits = undone_edits }) steps.Undo
+    (undo_outcome past m).answer) (undo_outcome past m).after
 undo_follows c es undone_edits m [] p f = f
 undo_follows c [] undone_edits m (held ∷ older) p f = absurd p
 undo_follows c (e ∷ es) undone_edits m (held ∷ older) p f = record { now = p.0; past = p.1; future = (f.now, f.future) }
 
-pub redo_follows : (c : Contents) (es undone_edits : List Edit) (m : Machine) (future : List Contents) → FutureFollows c es undone_edits future →
+pub redo_follows : (c : Contents) (es undone_edits : List Edit) (m : Machine) (future : List Contents)
+    → FutureFollows c es undone_edits future →
     Follows c (record { edits_in_force = es; undone_edits = undone_edits }) m →
-    Follows c (tally_after (record { edits_in_force = es; undone_edits = undone_edits }) steps.Redo (redo_outcome future m).answer) (redo_outcome future m).after
+    Follows c (tally_after (record { edits_in_force = es; undone_edits = undone_edits }) steps.Redo
+    (redo_outcome future m).answer) (redo_outcome future m).after
 redo_follows c es undone_edits m [] p f = f
 redo_follows c es [] m (next ∷ later) p f = absurd p
 redo_follows c es (u ∷ undone_edits) m (next ∷ later) p f = record { now = p.0; past = (f.now, f.past); future = p.1 }
@@ -70,7 +81,8 @@ depth_choice depth m bad small = if bad then refused_outcome refusals.BadDepth m
     else (if small then refused_outcome refusals.DepthTooSmall m else accepted_outcome (machine_after_depth depth m))
 
 pub depth_follows : (c : Contents) (t : Tally) (m : Machine) (depth : ℕ) (bad small : Bool) → Follows c t m →
-    Follows c (tally_after t (steps.Depth depth) (depth_choice depth m bad small).answer) (depth_choice depth m bad small).after
+    Follows c (tally_after t (steps.Depth depth) (depth_choice depth m bad small).answer)
+    (depth_choice depth m bad small).after
 depth_follows c t m depth true small f = f
 depth_follows c t m depth false true f = f
 depth_follows c t m depth false false f = record {
@@ -79,11 +91,13 @@ depth_follows c t m depth false false f = record {
   future = f.future;
 }
 
-pub outcome_follows : (c : Contents) (t : Tally) (m : Machine) (s : Step) → Follows c t m → Follows c (tally_after t s (step_outcome m s).answer) (step_outcome m s).after
+pub outcome_follows : (c : Contents) (t : Tally) (m : Machine) (s : Step) → Follows c t m
+    → Follows c (tally_after t s (step_outcome m s).answer) (step_outcome m s).after
 outcome_follows c t m (steps.Edit e) f = edit_follows c t m e (edit_fault e m.now) f
 outcome_follows c t m steps.Undo f = undo_follows c t.edits_in_force t.undone_edits m m.past f.past f
 outcome_follows c t m steps.Redo f = redo_follows c t.edits_in_force t.undone_edits m m.future f.future f
-outcome_follows c t m (steps.Depth depth) f = depth_follows c t m depth (not (is_depth depth)) (nat_lt depth (length m.future)) f
+outcome_follows c t m (steps.Depth depth) f =
+    depth_follows c t m depth (not (is_depth depth)) (nat_lt depth (length m.future)) f
 
 -- ---- what may come of each step
 
@@ -94,8 +108,10 @@ refusal_counts_not t steps.Undo = refl
 refusal_counts_not t steps.Redo = refl
 refusal_counts_not t (steps.Depth depth) = refl
 
-pub step_follows : (c : Contents) (t : Tally) (m : Machine) (s : Step) (a : Answer) (n : Machine) → Follows c t m → IsStep m s a n → Follows c (tally_after t s a) n
-step_follows c t m s a n f (inl same) = subst (λ (o : StepOutcome). Follows c (tally_after t s o.answer) o.after) (sym same) (outcome_follows c t m s f)
+pub step_follows : (c : Contents) (t : Tally) (m : Machine) (s : Step) (a : Answer) (n : Machine) → Follows c t m
+    → IsStep m s a n → Follows c (tally_after t s a) n
+step_follows c t m s a n f (inl same) =
+    subst (λ (o : StepOutcome). Follows c (tally_after t s o.answer) o.after) (sym same) (outcome_follows c t m s f)
 step_follows c t m s a n f (inr refused) = rw (refused.answer, refused.unchanged, refusal_counts_not t s) f
 
 -- any steps
@@ -105,22 +121,26 @@ unfolding StepsLead tally_after_all
 run_follows c t m [] [] n f r = subst (Follows c t) (sym r) f
 run_follows c t m [] (a ∷ answers) n f r = absurd r
 run_follows c t m (s ∷ asked) [] n f r = absurd r
-run_follows c t m (s ∷ asked) (a ∷ answers) n f r = run_follows c (tally_after t s a) r.0 asked answers n (step_follows c t m s a r.0 f r.1) r.2
+run_follows c t m (s ∷ asked) (a ∷ answers) n f r =
+    run_follows c (tally_after t s a) r.0 asked answers n (step_follows c t m s a r.0 f r.1) r.2
 
 -- ---- as lists
 
-pub past_is : (c : Contents) (es : List Edit) (past : List Contents) → PastFollows c es past → past ≡ take (length past) (earlier_replays c es)
+pub past_is : (c : Contents) (es : List Edit) (past : List Contents) → PastFollows c es past
+    → past ≡ take (length past) (earlier_replays c es)
 unfolding earlier_replays
 past_is c es [] p = refl
 past_is c [] (held ∷ older) p = absurd p
 past_is c (e ∷ es) (held ∷ older) p = let rest = past_is c es older p.1 in λ i. p.0 i ∷ rest i
 
-pub future_is : (c : Contents) (es undone_edits : List Edit) (future : List Contents) → FutureFollows c es undone_edits future → future ≡ later_replays c es undone_edits
+pub future_is : (c : Contents) (es undone_edits : List Edit) (future : List Contents)
+    → FutureFollows c es undone_edits future → future ≡ later_replays c es undone_edits
 unfolding later_replays
 future_is c es [] [] p = refl
 future_is c es [] (next ∷ later) p = absurd p
 future_is c es (u ∷ undone_edits) [] p = absurd p
-future_is c es (u ∷ undone_edits) (next ∷ later) p = let rest = future_is c (u ∷ es) undone_edits later p.1 in λ i. p.0 i ∷ rest i
+future_is c es (u ∷ undone_edits) (next ∷ later) p = let rest = future_is c (u ∷ es) undone_edits later p.1 in
+    λ i. p.0 i ∷ rest i
 
 -- a machine that follows the tally is a replay
 pub is_replay : (c : Contents) (t : Tally) (m : Machine) → Follows c t m → IsReplay c t m
@@ -134,4 +154,5 @@ pub session_is_replay : SessionIsReplay
 unfolding replay
 session_is_replay c depth asked answers m r =
     is_replay c (tally_after_all (record { edits_in_force = []; undone_edits = [] }) asked answers) m
-    (run_follows c (record { edits_in_force = []; undone_edits = [] }) (first_machine c depth) asked answers m (record { now = refl; past = tt; future = tt }) r)
+    (run_follows c (record { edits_in_force = []; undone_edits = [] }) (first_machine c depth) asked answers m
+    (record { now = refl; past = tt; future = tt }) r)

@@ -1,5 +1,6 @@
 -- Steps of the machine, each from what a call says of it.
-use Rattle.std.proofs.Common.{◌≡◌, ◌≢◌, ◌<◌, ◌≤◌, ℕ, true, false, List, [], ◌∷◌, ◌++◌, None, length, refl, sym, ◌∙◌, ap, subst, inl, inr, arith}
+use Rattle.std.proofs.Common.{◌≡◌, ◌≢◌, ◌<◌, ◌≤◌, ℕ, true, false, List, [], ◌∷◌, ◌++◌, None, length, refl, sym, ◌∙◌, ap}
+use Rattle.std.proofs.Common.{subst, inl, inr, arith}
 use Rattle.std.specs.Prelude.{nat_lt}
 use Rattle.std.proofs.lemmas.Bool.Decides.{nat_tests}
 use Rattle.vcd_core.specs.Contents.{Contents}
@@ -12,66 +13,94 @@ use Rattle.vcd_journal.specs.declared.step.Step.TheVariants as steps
 use Rattle.vcd_journal.specs.declared.step.StepError.TheVariants as refusals
 use Rattle.vcd_journal.specs.declared.step.Answer.{Answer}
 use Rattle.vcd_journal.specs.declared.step.Answer.TheVariants.{Done, Refused}
-use Rattle.vcd_journal.specs.Machine.{Machine, machine_after_edit, machine_after_depth, refused_outcome, undo_outcome, redo_outcome, is_depth, step_outcome, memory_refusal, IsStep, StepsLead}
+use Rattle.vcd_journal.specs.Machine.{Machine, machine_after_edit, machine_after_depth, refused_outcome, undo_outcome}
+use Rattle.vcd_journal.specs.Machine.{redo_outcome, is_depth, step_outcome, memory_refusal, IsStep, StepsLead}
 
 -- ---- edits
 
-pub edit_accepted : (e : Edit) (m n : Machine) → edit_fault e m.now ≡ None → n ≡ machine_after_edit e m → IsStep m (steps.Edit e) Done n
+pub edit_accepted : (e : Edit) (m n : Machine) → edit_fault e m.now ≡ None → n ≡ machine_after_edit e m
+    → IsStep m (steps.Edit e) Done n
 edit_accepted e m n none is = inl (rw (none, is) refl)
 
-pub edit_refused : (e : Edit) (found : EditError) (m n : Machine) → MayRefuse (edit_fault e m.now) found → n ≡ m → IsStep m (steps.Edit e) (Refused (refusals.Edit found)) n
+pub edit_refused : (e : Edit) (found : EditError) (m n : Machine) → MayRefuse (edit_fault e m.now) found → n ≡ m
+    → IsStep m (steps.Edit e) (Refused (refusals.Edit found)) n
 edit_refused e found m n (inl here) is = inl (rw (here, is) refl)
-edit_refused e found m n (inr starved) is = inr (record { wants = refl; accepted = rw (starved.0) refl; answer = ap (λ r. Refused (refusals.Edit r)) starved.1; unchanged = is })
+edit_refused e found m n (inr starved) is =
+    inr (record {
+      wants = refl;
+      accepted = rw (starved.0) refl;
+      answer = ap (λ r. Refused (refusals.Edit r)) starved.1;
+      unchanged = is;
+    })
 
 -- ---- undo and redo
 
-pub undo_accepted : (m n : Machine) → m.past ≡ n.now ∷ n.past → n.future ≡ m.now ∷ m.future → n.depth ≡ m.depth → IsStep m steps.Undo Done n
+pub undo_accepted : (m n : Machine) → m.past ≡ n.now ∷ n.past → n.future ≡ m.now ∷ m.future → n.depth ≡ m.depth
+    → IsStep m steps.Undo Done n
 undo_accepted m n back forth depth =
-    inl (rw back (λ i. record { answer = Done; after = record { past = n.past; now = n.now; future = forth i; depth = depth i } }))
+    inl (rw back (λ i. record {
+      answer = Done;
+      after =
+          record { past = n.past; now = n.now; future = forth i; depth = depth i };
+    }))
 
 pub undo_refused : (m n : Machine) → m.past ≡ [] → n ≡ m → IsStep m steps.Undo (Refused refusals.NothingToUndo) n
-undo_refused m n none is = inl (ap (refused_outcome refusals.NothingToUndo) is ∙ sym (ap (λ (past : List Contents). undo_outcome past m) none))
+undo_refused m n none is =
+    inl (ap (refused_outcome refusals.NothingToUndo) is ∙ sym (ap (λ (past : List Contents). undo_outcome past m) none))
 
 undo_done : (m : Machine) (past : List Contents) → 0 < length past → (undo_outcome past m).answer ≡ Done
 undo_done m [] some = absurd (omega arith)
 undo_done m (back ∷ older) some = refl
 
 pub undo_starved : (m n : Machine) → 0 < length m.past → n ≡ m → IsStep m steps.Undo (Refused refusals.NoMemory) n
-undo_starved m n some is = inr (record { wants = refl; accepted = undo_done m m.past some; answer = refl; unchanged = is })
+undo_starved m n some is =
+    inr (record { wants = refl; accepted = undo_done m m.past some; answer = refl; unchanged = is })
 
-pub redo_accepted : (m n : Machine) → m.future ≡ n.now ∷ n.future → n.past ≡ m.now ∷ m.past → n.depth ≡ m.depth → IsStep m steps.Redo Done n
+pub redo_accepted : (m n : Machine) → m.future ≡ n.now ∷ n.future → n.past ≡ m.now ∷ m.past → n.depth ≡ m.depth
+    → IsStep m steps.Redo Done n
 redo_accepted m n forth back depth =
-    inl (rw forth (λ i. record { answer = Done; after = record { past = back i; now = n.now; future = n.future; depth = depth i } }))
+    inl (rw forth (λ i. record {
+      answer = Done;
+      after =
+          record { past = back i; now = n.now; future = n.future; depth = depth i };
+    }))
 
 pub redo_refused : (m n : Machine) → m.future ≡ [] → n ≡ m → IsStep m steps.Redo (Refused refusals.NothingToRedo) n
-redo_refused m n none is = inl (ap (refused_outcome refusals.NothingToRedo) is ∙ sym (ap (λ (future : List Contents). redo_outcome future m) none))
+redo_refused m n none is =
+    inl (ap (refused_outcome refusals.NothingToRedo) is
+    ∙ sym (ap (λ (future : List Contents). redo_outcome future m) none))
 
 redo_done : (m : Machine) (future : List Contents) → 0 < length future → (redo_outcome future m).answer ≡ Done
 redo_done m [] some = absurd (omega arith)
 redo_done m (next ∷ later) some = refl
 
 pub redo_starved : (m n : Machine) → 0 < length m.future → n ≡ m → IsStep m steps.Redo (Refused refusals.NoMemory) n
-redo_starved m n some is = inr (record { wants = refl; accepted = redo_done m m.future some; answer = refl; unchanged = is })
+redo_starved m n some is =
+    inr (record { wants = refl; accepted = redo_done m m.future some; answer = refl; unchanged = is })
 
 -- ---- another depth
 
 pub depth_within : (depth : ℕ) → is_depth depth ≡ true → depth ≤ DEPTH_LIMIT
 depth_within depth valid = grind (arith, nat_tests)
 
-pub depth_refused : (depth : ℕ) (m n : Machine) → is_depth depth ≡ false → n ≡ m → IsStep m (steps.Depth depth) (Refused refusals.BadDepth) n
+pub depth_refused : (depth : ℕ) (m n : Machine) → is_depth depth ≡ false → n ≡ m
+    → IsStep m (steps.Depth depth) (Refused refusals.BadDepth) n
 depth_refused depth m n bad is = inl (rw (is, bad) refl)
 
-pub depth_too_small : (depth : ℕ) (m n : Machine) → is_depth depth ≡ true → depth < length m.future → n ≡ m → IsStep m (steps.Depth depth) (Refused refusals.DepthTooSmall) n
+pub depth_too_small : (depth : ℕ) (m n : Machine) → is_depth depth ≡ true → depth < length m.future → n ≡ m
+    → IsStep m (steps.Depth depth) (Refused refusals.DepthTooSmall) n
 depth_too_small depth m n is_one less is =
     let small : nat_lt depth (length m.future) ≡ true = grind (arith, nat_tests) in
     inl (rw (is, is_one, small) refl)
 
-pub depth_accepted : (depth : ℕ) (m n : Machine) → is_depth depth ≡ true → length m.future ≤ depth → n ≡ machine_after_depth depth m → IsStep m (steps.Depth depth) Done n
+pub depth_accepted : (depth : ℕ) (m n : Machine) → is_depth depth ≡ true → length m.future ≤ depth
+    → n ≡ machine_after_depth depth m → IsStep m (steps.Depth depth) Done n
 depth_accepted depth m n is_one most is =
     let small : nat_lt depth (length m.future) ≡ false = grind (arith, nat_tests) in
     inl (rw (is, is_one, small) refl)
 
-pub depth_starved : (depth : ℕ) (m n : Machine) → is_depth depth ≡ true → length m.future ≤ depth → m.depth < depth → n ≡ m → IsStep m (steps.Depth depth) (Refused refusals.NoMemory) n
+pub depth_starved : (depth : ℕ) (m n : Machine) → is_depth depth ≡ true → length m.future ≤ depth → m.depth < depth
+    → n ≡ m → IsStep m (steps.Depth depth) (Refused refusals.NoMemory) n
 depth_starved depth m n is_one most greater is =
     let small : nat_lt depth (length m.future) ≡ false = grind (arith, nat_tests) in
     let wants : nat_lt m.depth depth ≡ true = grind (arith, nat_tests) in
@@ -84,7 +113,8 @@ pub ample_step : (m : Machine) (s : Step) → IsStep m s (step_outcome m s).answ
 ample_step m s = inl refl
 
 -- and it comes of each step that is not refused for want of memory
-pub outcome_of_step : (m : Machine) (s : Step) (a : Answer) (n : Machine) → IsStep m s a n → a ≢ memory_refusal s → record { answer = a; after = n } ≡ step_outcome m s
+pub outcome_of_step : (m : Machine) (s : Step) (a : Answer) (n : Machine) → IsStep m s a n → a ≢ memory_refusal s
+    → record { answer = a; after = n } ≡ step_outcome m s
 outcome_of_step m s a n (inl same) other = same
 outcome_of_step m s a n (inr refused) other = absurd (other refused.answer)
 
@@ -94,10 +124,12 @@ unfolding StepsLead
 no_steps_lead m = refl
 
 -- one step more
-pub steps_lead_more : (m : Machine) (asked : List Step) (answers : List Answer) (n : Machine) (s : Step) (a : Answer) (last : Machine) →
+pub steps_lead_more : (m : Machine) (asked : List Step) (answers : List Answer) (n : Machine) (s : Step) (a : Answer)
+    (last : Machine) →
     StepsLead m asked answers n → IsStep n s a last → StepsLead m (asked ++ s ∷ []) (answers ++ a ∷ []) last
 unfolding StepsLead
-steps_lead_more m [] [] n s a last before step = (last, subst (λ (from : Machine). IsStep from s a last) before step, refl)
+steps_lead_more m [] [] n s a last before step =
+    (last, subst (λ (from : Machine). IsStep from s a last) before step, refl)
 steps_lead_more m [] (b ∷ answers) n s a last before step = absurd before
 steps_lead_more m (r ∷ asked) [] n s a last before step = absurd before
 steps_lead_more m (r ∷ asked) (b ∷ answers) n s a last before step =

@@ -4,23 +4,44 @@ use Rattle.std.specs.Prelude.{ℕ, ◌+◌, List, ◌++◌, [], ◌∷◌, take,
 use Rattle.std.specs.Fmt.{digits}
 use Rattle.vcd_core.specs.declared.capture.TheConstants.{END_LIMIT}
 use Rattle.vcd_text.specs.declared.fault.Fault.{Fault}
-use Rattle.vcd_text.specs.declared.fault.Fault.TheVariants.{Truncated, UnexpectedWord, BadChange, BadTimescale, BadScope, UpscopeAtTop, BadVar, MixedCode, BadTime, TimeBackwards, UnknownCode, ValueTooLong}
+use Rattle.vcd_text.specs.declared.fault.Fault.TheVariants.{Truncated, UnexpectedWord, BadChange, BadTimescale}
+use Rattle.vcd_text.specs.declared.fault.Fault.TheVariants.{BadScope, UpscopeAtTop, BadVar, MixedCode, BadTime}
+use Rattle.vcd_text.specs.declared.fault.Fault.TheVariants.{TimeBackwards, UnknownCode, ValueTooLong}
 use Rattle.vcd_text.specs.Words.{PlacedWord, word_on, words_from, words_of, closed_words}
 use Rattle.vcd_text.specs.Grammar.{initial_state, state_after, word_texts, AllowsAll}
 use Rattle.vcd_text.proofs.OneAnswer.{accepted-not_refused}
 use Rattle.vcd_text.specs.Items.{Item, spellings, scope, upscope, variable, end_definitions, stamp, vector, bracket}
-use Rattle.vcd_text.specs.Faults.{FileFault, FrontFault, WordFault, fault_line, HasNoFrontFault, shown, too_early, declaration_due, code_due, among_declarations, among_changes, upscope_at_top, no_timescale, no_kind, no_variable, no_size, code_mixed, no_declaration, definitions_go_on, declaration_late, value_alone, no_value, no_change, no_tick, tick_goes_back, value_of_none, pair_of_none, value_too_long}
+use Rattle.vcd_text.specs.Faults.{FileFault, FrontFault, WordFault, fault_line, HasNoFrontFault, shown, too_early}
+use Rattle.vcd_text.specs.Faults.{declaration_due, code_due, among_declarations, among_changes, upscope_at_top}
+use Rattle.vcd_text.specs.Faults.{no_timescale, no_kind, no_variable, no_size, code_mixed, no_declaration}
+use Rattle.vcd_text.specs.Faults.{definitions_go_on, declaration_late, value_alone, no_value, no_change, no_tick}
+use Rattle.vcd_text.specs.Faults.{tick_goes_back, value_of_none, pair_of_none, value_too_long}
 
 -- one variable, and the end of the declarations
 abbrev one_variable : List Item
 one_variable = variable (codes "wire" ∷ codes "1" ∷ codes "!" ∷ codes "a" ∷ []) ∷ end_definitions ∷ []
 
 -- a word of a file shows a fault, behind these whole items and the words of another
-shows : (bytes : List ℕ) (line : ℕ) (fault : Fault) (items : List Item) (whole begun : List PlacedWord) (word : PlacedWord) (more : List PlacedWord)
-    → words_of bytes ≡ whole ++ (begun ++ word ∷ more) → word_texts whole ≡ spellings items → AllowsAll initial_state items
-    → WordFault (state_after initial_state items) (word_texts begun) word.text fault → line ≡ fault_line (state_after initial_state items).changing begun word → FileFault bytes line fault
+shows : (bytes : List ℕ) (line : ℕ) (fault : Fault) (items : List Item) (whole begun : List PlacedWord)
+    (word : PlacedWord) (more : List PlacedWord)
+    → words_of bytes ≡ whole ++ (begun ++ word ∷ more) → word_texts whole ≡ spellings items
+    → AllowsAll initial_state items
+    → WordFault (state_after initial_state items) (word_texts begun) word.text fault
+    → line ≡ fault_line (state_after initial_state items).changing begun word → FileFault bytes line fault
 shows bytes line fault items whole begun word more parts spelled allowed decided at =
-    shown (record { items = items; whole = whole; begun = begun; word = word; more = more; parts = parts; spelled = spelled; allowed = allowed; decided = decided; at = at })
+    shown (record {
+      items = items;
+      whole = whole;
+      begun = begun;
+      word = word;
+      more = more;
+      parts = parts;
+      spelled =
+          spelled;
+      allowed = allowed;
+      decided = decided;
+      at = at;
+    })
 
 -- a stamp below the one before it, also where only the closed words are known
 abbrev time_back : List ℕ
@@ -62,7 +83,14 @@ ends_before_code = too_early (record {
 -- the empty file
 nothing : FileFault [] 1 Truncated
 unfolding words_from
-nothing = too_early (record { items = []; begun = []; spelled = refl; allowed = tt; unfinished = declaration_due refl refl }) refl refl
+nothing = too_early (record {
+  items = [];
+  begun = [];
+  spelled = refl;
+  allowed = tt;
+  unfinished =
+      declaration_due refl refl;
+}) refl refl
 
 -- a tick one past the greatest
 abbrev past_greatest : List ℕ
@@ -74,14 +102,16 @@ late_tick = codes "$var wire 1 ! a $end\n$enddefinitions $end\n#" ++ past_greate
 tick_too_great : FileFault late_tick 3 BadTime
 unfolding words_from digits
 tick_too_great =
-    shows _ _ _ one_variable (take 8 (words_of late_tick)) [] (word_on (codes "#" ++ past_greatest) 3) (word_on (codes "#9") 4 ∷ []) refl refl (search arith)
+    shows _ _ _ one_variable (take 8 (words_of late_tick)) [] (word_on (codes "#" ++ past_greatest) 3)
+    (word_on (codes "#9") 4 ∷ []) refl refl (search arith)
     (among_changes refl (no_tick past_greatest refl refl refl refl)) refl
 
 -- files of one line
 two_nanoseconds : FileFault (codes "$timescale 2 ns $end\n") 1 BadTimescale
 unfolding words_from digits
 two_nanoseconds =
-    shows _ _ _ [] [] (word_on (codes "$timescale") 1 ∷ word_on (codes "2") 1 ∷ word_on (codes "ns") 1 ∷ []) (word_on (codes "$end") 1) [] refl refl tt
+    shows _ _ _ [] [] (word_on (codes "$timescale") 1 ∷ word_on (codes "2") 1 ∷ word_on (codes "ns") 1 ∷ [])
+    (word_on (codes "$end") 1) [] refl refl tt
     (among_declarations refl (no_timescale (codes "2" ∷ codes "ns" ∷ []) refl refl refl refl refl)) refl
 
 scope_without_kind : FileFault (codes "$scope $end\n") 1 BadScope
@@ -93,8 +123,10 @@ scope_without_kind =
 variable_without_name : FileFault (codes "$var wire 1 ! $end\n") 1 BadVar
 unfolding words_from
 variable_without_name =
-    shows _ _ _ [] [] (word_on (codes "$var") 1 ∷ word_on (codes "wire") 1 ∷ word_on (codes "1") 1 ∷ word_on (codes "!") 1 ∷ []) (word_on (codes "$end") 1) [] refl refl tt
-    (among_declarations refl (no_variable (codes "wire" ∷ codes "1" ∷ codes "!" ∷ []) refl refl refl refl refl refl)) refl
+    shows _ _ _ [] [] (word_on (codes "$var") 1 ∷ word_on (codes "wire") 1 ∷ word_on (codes "1") 1
+    ∷ word_on (codes "!") 1 ∷ []) (word_on (codes "$end") 1) [] refl refl tt
+    (among_declarations refl (no_variable (codes "wire" ∷ codes "1" ∷ codes "!" ∷ []) refl refl refl refl refl refl))
+    refl
 
 -- a size that is no number is decided at its word, of a skipped kind too, though the file ends there
 real_without_size : FileFault (codes "$var real x") 1 BadVar
@@ -116,20 +148,24 @@ two_sizes = codes "$var wire 1 ! a $end $var wire 2 ! b $end\n"
 code_of_two_sizes : FileFault two_sizes 1 MixedCode
 unfolding words_from
 code_of_two_sizes =
-    shows _ _ _ (variable (codes "wire" ∷ codes "1" ∷ codes "!" ∷ codes "a" ∷ []) ∷ []) (take 6 (words_of two_sizes)) (take 5 (drop 6 (words_of two_sizes))) (word_on (codes "$end") 1) [] refl refl (search arith)
-    (among_declarations refl (code_mixed (codes "wire" ∷ codes "2" ∷ codes "!" ∷ codes "b" ∷ []) _ refl refl refl refl refl refl refl)) refl
+    shows _ _ _ (variable (codes "wire" ∷ codes "1" ∷ codes "!" ∷ codes "a" ∷ []) ∷ []) (take 6 (words_of two_sizes))
+    (take 5 (drop 6 (words_of two_sizes))) (word_on (codes "$end") 1) [] refl refl (search arith)
+    (among_declarations refl
+    (code_mixed (codes "wire" ∷ codes "2" ∷ codes "!" ∷ codes "b" ∷ []) _ refl refl refl refl refl refl refl)) refl
 
 unknown_code : FileFault (codes "$enddefinitions $end 1\"\n") 1 UnknownCode
 unfolding words_from
 unknown_code =
-    shows _ _ _ (end_definitions ∷ []) (word_on (codes "$enddefinitions") 1 ∷ word_on (codes "$end") 1 ∷ []) [] (word_on (codes "1\"") 1) [] refl refl (search arith)
+    shows _ _ _ (end_definitions ∷ []) (word_on (codes "$enddefinitions") 1 ∷ word_on (codes "$end") 1 ∷ []) []
+    (word_on (codes "1\"") 1) [] refl refl (search arith)
     (among_changes refl (value_of_none 49 (codes "\"") refl refl refl (omega arith) refl refl)) refl
 
 -- a change of two words has the line of its first, also where `$end` stands in the place of the code
 unknown_code_of_vector : FileFault (codes "$enddefinitions $end\nb1\n$end\n") 2 UnknownCode
 unfolding words_from
 unknown_code_of_vector =
-    shows _ _ _ (end_definitions ∷ []) (word_on (codes "$enddefinitions") 1 ∷ word_on (codes "$end") 1 ∷ []) (word_on (codes "b1") 2 ∷ []) (word_on (codes "$end") 3) [] refl refl (search arith)
+    shows _ _ _ (end_definitions ∷ []) (word_on (codes "$enddefinitions") 1 ∷ word_on (codes "$end") 1 ∷ [])
+    (word_on (codes "b1") 2 ∷ []) (word_on (codes "$end") 3) [] refl refl (search arith)
     (among_changes refl (pair_of_none 98 (codes "1") refl refl refl refl)) refl
 
 -- more digits than bits
@@ -139,7 +175,11 @@ long_value = codes "$scope module top $end\n$var wire 4 ! v $end\n$upscope $end\
 value_of_five_digits : FileFault long_value 10 ValueTooLong
 unfolding words_from
 value_of_five_digits =
-    shows _ _ _ (scope (codes "module") (codes "top" ∷ []) ∷ variable (codes "wire" ∷ codes "4" ∷ codes "!" ∷ codes "v" ∷ []) ∷ upscope ∷ end_definitions ∷ stamp (codes "0") ∷ bracket (codes "$dumpvars") ∷ vector 98 (codes "x") (codes "!") ∷ bracket (codes "$end") ∷ stamp (codes "1") ∷ []) (take 20 (words_of long_value)) (word_on (codes "b00001") 10 ∷ []) (word_on (codes "!") 10) (drop 22 (words_of long_value)) refl refl (search arith)
+    shows _ _ _ (scope (codes "module") (codes "top" ∷ [])
+    ∷ variable (codes "wire" ∷ codes "4" ∷ codes "!" ∷ codes "v" ∷ []) ∷ upscope ∷ end_definitions
+    ∷ stamp (codes "0") ∷ bracket (codes "$dumpvars") ∷ vector 98 (codes "x") (codes "!") ∷ bracket (codes "$end")
+    ∷ stamp (codes "1") ∷ []) (take 20 (words_of long_value)) (word_on (codes "b00001") 10 ∷ [])
+    (word_on (codes "!") 10) (drop 22 (words_of long_value)) refl refl (search arith)
     (among_changes refl (value_too_long 98 (codes "00001") _ refl refl refl refl refl (omega arith) refl)) refl
 
 -- the words of a dump's brackets begin no declaration
@@ -160,7 +200,9 @@ definitions_open =
 scope_among_changes : FileFault (codes "$enddefinitions $end\n$scope module top $end\n") 2 UnexpectedWord
 unfolding words_from
 scope_among_changes =
-    shows _ _ _ (end_definitions ∷ []) (word_on (codes "$enddefinitions") 1 ∷ word_on (codes "$end") 1 ∷ []) [] (word_on (codes "$scope") 2) (word_on (codes "module") 2 ∷ word_on (codes "top") 2 ∷ word_on (codes "$end") 2 ∷ []) refl refl (search arith)
+    shows _ _ _ (end_definitions ∷ []) (word_on (codes "$enddefinitions") 1 ∷ word_on (codes "$end") 1 ∷ []) []
+    (word_on (codes "$scope") 2) (word_on (codes "module") 2 ∷ word_on (codes "top") 2 ∷ word_on (codes "$end") 2
+    ∷ []) refl refl (search arith)
     (among_changes refl (declaration_late refl refl refl)) refl
 
 -- a binary digit without a code, a change without digits, and a word that is no change
@@ -170,26 +212,30 @@ bad_changes change = codes "$var wire 1 ! a $end $enddefinitions $end\n" ++ chan
 lone_letter : FileFault (bad_changes (codes "1 !")) 2 BadChange
 unfolding words_from
 lone_letter =
-    shows _ _ _ one_variable (take 8 (words_of (bad_changes []))) [] (word_on (codes "1") 2) (word_on (codes "!") 2 ∷ []) refl refl (search arith)
+    shows _ _ _ one_variable (take 8 (words_of (bad_changes []))) [] (word_on (codes "1") 2)
+    (word_on (codes "!") 2 ∷ []) refl refl (search arith)
     (among_changes refl (value_alone 49 refl refl refl refl)) refl
 
 no_digit : FileFault (bad_changes (codes "b !")) 2 BadChange
 unfolding words_from
 no_digit =
-    shows _ _ _ one_variable (take 8 (words_of (bad_changes []))) (word_on (codes "b") 2 ∷ []) (word_on (codes "!") 2) [] refl refl (search arith)
+    shows _ _ _ one_variable (take 8 (words_of (bad_changes []))) (word_on (codes "b") 2 ∷ []) (word_on (codes "!") 2)
+    [] refl refl (search arith)
     (among_changes refl (no_value 98 [] _ refl refl refl refl refl refl)) refl
 
 no_change_at_all : FileFault (bad_changes (codes "q!")) 2 BadChange
 unfolding words_from
 no_change_at_all =
-    shows _ _ _ one_variable (take 8 (words_of (bad_changes []))) [] (word_on (codes "q!") 2) [] refl refl (search arith)
+    shows _ _ _ one_variable (take 8 (words_of (bad_changes []))) [] (word_on (codes "q!") 2) [] refl refl
+    (search arith)
     (among_changes refl (no_change 113 (codes "!") refl refl refl refl refl)) refl
 
 -- the file without its last line shows no fault: where the reader fails there, its fault is told
 front_without_fault : HasNoFrontFault (codes "$var wire 1 ! a $end\n$enddefinitions $end\n#10\n")
 unfolding words_from
 front_without_fault line fault =
-    accepted-not_refused (closed_words (codes "$var wire 1 ! a $end\n$enddefinitions $end\n#10\n")) (state_after initial_state (one_variable ++ stamp (codes "10") ∷ [])) line fault (record {
+    accepted-not_refused (closed_words (codes "$var wire 1 ! a $end\n$enddefinitions $end\n#10\n"))
+    (state_after initial_state (one_variable ++ stamp (codes "10") ∷ [])) line fault (record {
       items = one_variable ++ stamp (codes "10") ∷ [];
       spelled = refl;
       allowed = search arith;

@@ -25,7 +25,8 @@ from tick letters = change tick (letters_of_digits letters)
 
 -- a wire with one word for a name
 abbrev pub wire : List ScopeName → List ℕ → ℕ → List Change → SignalContents
-wire scopes name width changes = record { scopes = scopes; kind = codes "wire"; words = name ∷ []; width = width; changes = changes }
+wire scopes name width changes =
+    record { scopes = scopes; kind = codes "wire"; words = name ∷ []; width = width; changes = changes }
 
 -- a capture without header and timescale
 abbrev pub capture : ℕ → List SignalContents → Contents
@@ -54,7 +55,8 @@ text_of_one_scalar = refl
 abbrev pub two_scopes : Contents
 two_scopes = capture 3 (
     wire (top ∷ []) (codes "a") 1 (from 0 (codes "0") ∷ from 3 (codes "1") ∷ [])
-    ∷ wire (top ∷ scope (codes "module") (codes "sub") ∷ []) (codes "a") 1 (from 0 (codes "1") ∷ from 3 (codes "0") ∷ [])
+    ∷ wire (top ∷ scope (codes "module") (codes "sub") ∷ []) (codes "a") 1
+    (from 0 (codes "1") ∷ from 3 (codes "0") ∷ [])
     ∷ [])
 
 text_of_two_scopes : text two_scopes
@@ -63,7 +65,9 @@ unfolding text items_of signal_items code_digits tick_items value_from short_for
 text_of_two_scopes = refl
 
 -- a vector is written in its short form, at tick 0 also where it is x
-text_of_vector : text (capture 3 (wire (top ∷ []) (codes "v") 4 (from 1 (codes "0001") ∷ from 2 (codes "zzz1") ∷ from 3 (codes "0000") ∷ []) ∷ []))
+text_of_vector : text
+    (capture 3 (wire (top ∷ []) (codes "v") 4 (from 1 (codes "0001") ∷ from 2 (codes "zzz1") ∷ from 3 (codes "0000")
+    ∷ []) ∷ []))
     ≡ codes "$scope module top $end\n$var wire 4 ! v $end\n$upscope $end\n$enddefinitions $end\n#0\n$dumpvars\nbx !\n$end\n#1\nb1 !\n#2\nbz1 !\n#3\nb0 !\n"
 unfolding text items_of signal_items code_digits tick_items value_from short_form digits
 text_of_vector = refl
@@ -78,13 +82,15 @@ unfolding text items_of signal_items code_digits tick_items value_from short_for
 text_of_single_changes = refl
 
 -- no signals, and an end of 0, which has no further stamp
-text_of_no_signals : (text (capture 4 []) ≡ codes "$enddefinitions $end\n#0\n$dumpvars\n$end\n#4\n") × (text (capture 0 []) ≡ codes "$enddefinitions $end\n#0\n$dumpvars\n$end\n")
+text_of_no_signals : (text (capture 4 []) ≡ codes "$enddefinitions $end\n#0\n$dumpvars\n$end\n#4\n")
+    × (text (capture 0 []) ≡ codes "$enddefinitions $end\n#0\n$dumpvars\n$end\n")
 unfolding text items_of signal_items code_digits tick_items value_from short_form digits
 text_of_no_signals = (refl, refl)
 
 -- header entries keep their order, and one without words has no further space
 text_of_header : text (record {
-  header = record { kind = Comment; words = [] } ∷ record { kind = Date; words = codes "May" ∷ codes "1" ∷ [] } ∷ record { kind = Version; words = codes "2" ∷ [] } ∷ [];
+  header = record { kind = Comment; words = [] } ∷ record { kind = Date; words = codes "May" ∷ codes "1" ∷ [] }
+      ∷ record { kind = Version; words = codes "2" ∷ [] } ∷ [];
   timescale = Some (record { count = 100; unit = Femtosecond });
   end = 0;
   signals = [];
@@ -105,7 +111,8 @@ unfolding text items_of signal_items code_digits tick_items value_from short_for
 text_of_scopes = refl
 
 -- after `~` come the codes of two bytes, the lowest digit first; that of the last signal there may be has three
-codes_of_signals : (code_of 0 ≡ codes "!") × (code_of 93 ≡ codes "~") × (code_of 94 ≡ codes "!!") × (code_of 95 ≡ codes "\"!")
+codes_of_signals : (code_of 0 ≡ codes "!") × (code_of 93 ≡ codes "~") × (code_of 94 ≡ codes "!!")
+    × (code_of 95 ≡ codes "\"!")
     × (code_of 8929 ≡ codes "~~") × (code_of 8930 ≡ codes "!!!") × (code_of (SIGNAL_LIMIT - 1) ≡ codes "2G'")
 unfolding code_digits
 codes_of_signals = (refl, refl, refl, refl, refl, refl, refl)

@@ -10,13 +10,15 @@ unfolding words_from
 empty_file = (refl, refl)
 
 -- a word has the line that it begins on; white space of any kind parts words, and may stand at both ends
-lines_of_words : words_of (codes "\n$end\r\n\t#10 1!") ≡ word_on (codes "$end") 2 ∷ word_on (codes "#10") 3 ∷ word_on (codes "1!") 3 ∷ []
+lines_of_words : words_of (codes "\n$end\r\n\t#10 1!") ≡ word_on (codes "$end") 2 ∷ word_on (codes "#10") 3
+    ∷ word_on (codes "1!") 3 ∷ []
 unfolding words_from
 lines_of_words = refl
 
 -- the bytes 9 to 13 and 32 part words, 8 and 14 do not
 white_space : words_of (97 ∷ 9 ∷ 97 ∷ 10 ∷ 97 ∷ 11 ∷ 97 ∷ 12 ∷ 97 ∷ 13 ∷ 97 ∷ 32 ∷ 97 ∷ 8 ∷ 97 ∷ 14 ∷ 97 ∷ [])
-    ≡ word_on (codes "a") 1 ∷ word_on (codes "a") 1 ∷ word_on (codes "a") 2 ∷ word_on (codes "a") 2 ∷ word_on (codes "a") 2 ∷ word_on (codes "a") 2 ∷ word_on (97 ∷ 8 ∷ 97 ∷ 14 ∷ 97 ∷ []) 2 ∷ []
+    ≡ word_on (codes "a") 1 ∷ word_on (codes "a") 1 ∷ word_on (codes "a") 2 ∷ word_on (codes "a") 2
+    ∷ word_on (codes "a") 2 ∷ word_on (codes "a") 2 ∷ word_on (97 ∷ 8 ∷ 97 ∷ 14 ∷ 97 ∷ []) 2 ∷ []
 unfolding words_from
 white_space = refl
 
@@ -34,5 +36,6 @@ end_of_file : (last_line (codes "#10\n#9") ≡ 2) × (last_line (codes "#10\n#9\
 end_of_file = (refl, refl)
 
 -- white space at the end closes a text, and nothing else but that there is none
-closed_texts : (is_closed [] ≡ true) × (is_closed (codes "#9\n") ≡ true) × (is_closed (codes " ") ≡ true) × (is_closed (codes "#9\n#10") ≡ false)
+closed_texts : (is_closed [] ≡ true) × (is_closed (codes "#9\n") ≡ true) × (is_closed (codes " ") ≡ true)
+    × (is_closed (codes "#9\n#10") ≡ false)
 closed_texts = (refl, refl, refl, refl)

@@ -1,5 +1,6 @@
 -- The groups of a log, with a group or a change more.
-use Rattle.std.proofs.Common.{◌≡◌, ◌≢◌, ℕ, zero, suc, ◌+◌, ◌%◌, ◌<◌, true, false, ◌==◌, cond, if◌then◌else◌, List, [], ◌∷◌, ◌++◌, set, All, None, Some, inl, inr, refl, sym, ap, subst, ◌∙◌, arith}
+use Rattle.std.proofs.Common.{◌≡◌, ◌≢◌, ℕ, zero, suc, ◌+◌, ◌%◌, ◌<◌, true, false, ◌==◌, cond, if◌then◌else◌, List, []}
+use Rattle.std.proofs.Common.{◌∷◌, ◌++◌, set, All, None, Some, inl, inr, refl, sym, ap, subst, ◌∙◌, arith}
 use Rattle.std.specs.Prelude.{slice_get}
 use Rattle.std.specs.Global.{Vec}
 use Rattle.std.proofs.lemmas.Bool.{eqb-true, cases_Bool}
@@ -12,43 +13,57 @@ use Rattle.vcd_text.specs.declared.reading.change_log.TheConstants.{GROUPS}
 
 -- ---- an empty group more
 
-pub logged_longer : (gs : List (Vec LoggedChange)) (g : Vec LoggedChange) (position : ℕ) → g.items ≡ [] → logged (gs ++ g ∷ []) position ≡ logged gs position
+pub logged_longer : (gs : List (Vec LoggedChange)) (g : Vec LoggedChange) (position : ℕ) → g.items ≡ []
+    → logged (gs ++ g ∷ []) position ≡ logged gs position
 logged_longer [] g position none = ap (λ es. changes_of_position position es ++ []) none
-logged_longer (h ∷ gs) g position none = ap (λ es. changes_of_position position h.items ++ es) (logged_longer gs g position none)
+logged_longer (h ∷ gs) g position none =
+    ap (λ es. changes_of_position position h.items ++ es) (logged_longer gs g position none)
 
-pub grouped_longer : (index : ℕ) (gs : List (Vec LoggedChange)) (g : Vec LoggedChange) → g.items ≡ [] → AreGrouped index gs → AreGrouped index (gs ++ g ∷ [])
-grouped_longer index [] g none are =
-    (subst (All (λ (e : LoggedChange). e.position % GROUPS ≡ index)) (sym none) (All-nil (λ (e : LoggedChange). e.position % GROUPS ≡ index)), tt)
+pub grouped_longer : (index : ℕ) (gs : List (Vec LoggedChange)) (g : Vec LoggedChange) → g.items ≡ []
+    → AreGrouped index gs → AreGrouped index (gs ++ g ∷ [])
+grouped_longer index [] g none are = (
+  subst (All (λ (e : LoggedChange). e.position % GROUPS ≡ index)) (sym none)
+      (All-nil (λ (e : LoggedChange). e.position % GROUPS ≡ index)),
+  tt,
+)
 grouped_longer index (h ∷ gs) g none (here, are) = (here, grouped_longer (index + 1) gs g none are)
 
 -- ---- a change more
 
 -- what stands for a change of this position, or another
-changes_more : (es : List LoggedChange) (e : LoggedChange) (position : ℕ) → changes_of_position position (es ++ e ∷ []) ≡ changes_of_position position es ++ cond (e.position == position) (e ∷ []) []
+changes_more : (es : List LoggedChange) (e : LoggedChange) (position : ℕ)
+    → changes_of_position position (es ++ e ∷ []) ≡ changes_of_position position es
+    ++ cond (e.position == position) (e ∷ []) []
 changes_more es e position = filter-append (λ (x : LoggedChange). x.position == position) es (e ∷ [])
 
 -- a group with another remainder has no change of the position
-none_at : (index : ℕ) (es : List LoggedChange) (position : ℕ) → position % GROUPS ≢ index → All (λ (e : LoggedChange). e.position % GROUPS ≡ index) es → changes_of_position position es ≡ []
+none_at : (index : ℕ) (es : List LoggedChange) (position : ℕ) → position % GROUPS ≢ index
+    → All (λ (e : LoggedChange). e.position % GROUPS ≡ index) es → changes_of_position position es ≡ []
 none_at index [] position apart are = refl
 none_at index (e ∷ es) position apart are =
     let other : (e.position == position) ≡ false = elim (cases_Bool (e.position == position)) [
-      | inl same ↦ absurd (apart (ap (λ (p : ℕ). p % GROUPS) (sym (eqb-true e.position position same)) ∙ All-head (λ (x : LoggedChange). x.position % GROUPS ≡ index) e es are))
+      | inl same ↦ absurd (apart (ap (λ (p : ℕ). p % GROUPS) (sym (eqb-true e.position position same))
+          ∙ All-head (λ (x : LoggedChange). x.position % GROUPS ≡ index) e es are))
       | inr other ↦ other
     ] in
     ap (λ b. cond b (e ∷ changes_of_position position es) (changes_of_position position es)) other
     ∙ none_at index es position apart (All-tail (λ (x : LoggedChange). x.position % GROUPS ≡ index) e es are)
 
 -- so have the groups behind its own
-none_after : (index : ℕ) (gs : List (Vec LoggedChange)) (position : ℕ) → position % GROUPS < index → AreGrouped index gs → logged gs position ≡ []
+none_after : (index : ℕ) (gs : List (Vec LoggedChange)) (position : ℕ) → position % GROUPS < index → AreGrouped index gs
+    → logged gs position ≡ []
 none_after index [] position early are = refl
 none_after index (g ∷ gs) position early (here, are) =
-    ap (λ es. es ++ logged gs position) (none_at index g.items position (λ same. absurd (omega (arith, early, same))) here)
+    ap (λ es. es ++ logged gs position)
+    (none_at index g.items position (λ same. absurd (omega (arith, early, same))) here)
     ∙ none_after (index + 1) gs position (omega (arith, early)) are
 
 module _ (e : LoggedChange) (h : Vec LoggedChange) where
   -- the change stands behind the others of its position
-  here_with : (index : ℕ) (gs : List (Vec LoggedChange)) (i : ℕ) (g : Vec LoggedChange) → slice_get gs i ≡ Some g → h.items ≡ g.items ++ e ∷ []
-      → e.position % GROUPS ≡ index + i → AreGrouped index gs → logged (set gs i h) e.position ≡ logged gs e.position ++ e ∷ []
+  here_with : (index : ℕ) (gs : List (Vec LoggedChange)) (i : ℕ) (g : Vec LoggedChange) → slice_get gs i ≡ Some g
+      → h.items ≡ g.items ++ e ∷ []
+      → e.position % GROUPS ≡ index + i → AreGrouped index gs
+      → logged (set gs i h) e.position ≡ logged gs e.position ++ e ∷ []
   here_with index [] i g at more of are = let never : None ≡ Some g = at in absurd (cc)
   here_with index (x ∷ gs) zero g at more of (here, are) =
       let is : x ≡ g = same_Some x g at in
@@ -58,13 +73,16 @@ module _ (e : LoggedChange) (h : Vec LoggedChange) where
       ∙ append-nil (changes_of_position e.position (g.items ++ e ∷ []))
       ∙ changes_more g.items e e.position
       ∙ (λ i. changes_of_position e.position (sym is i).items ++ cond (own i) (e ∷ []) [])
-      ∙ ap (λ es. es ++ e ∷ []) (sym (append-nil (changes_of_position e.position x.items)) ∙ ap (λ es. changes_of_position e.position x.items ++ es) (sym following))
+      ∙ ap (λ es. es ++ e ∷ []) (sym (append-nil (changes_of_position e.position x.items))
+      ∙ ap (λ es. changes_of_position e.position x.items ++ es) (sym following))
   here_with index (x ∷ gs) (suc i) g at more of (here, are) =
-      ap (λ es. changes_of_position e.position x.items ++ es) (here_with (index + 1) gs i g at more (omega (arith, of)) are)
+      ap (λ es. changes_of_position e.position x.items ++ es)
+      (here_with (index + 1) gs i g at more (omega (arith, of)) are)
       ∙ sym (append_assoc (changes_of_position e.position x.items) (logged gs e.position) (e ∷ []))
 
   -- other positions have what they had
-  there_with : (gs : List (Vec LoggedChange)) (i : ℕ) (g : Vec LoggedChange) (position : ℕ) → slice_get gs i ≡ Some g → h.items ≡ g.items ++ e ∷ []
+  there_with : (gs : List (Vec LoggedChange)) (i : ℕ) (g : Vec LoggedChange) (position : ℕ) → slice_get gs i ≡ Some g
+      → h.items ≡ g.items ++ e ∷ []
       → (e.position == position) ≡ false → logged (set gs i h) position ≡ logged gs position
   there_with [] i g position at more other = refl
   there_with (x ∷ gs) zero g position at more other =
@@ -73,13 +91,17 @@ module _ (e : LoggedChange) (h : Vec LoggedChange) where
       (ap (changes_of_position position) more ∙ changes_more g.items e position
       ∙ (λ i. changes_of_position position (sym is i).items ++ cond (other i) (e ∷ []) [])
       ∙ append-nil (changes_of_position position x.items))
-  there_with (x ∷ gs) (suc i) g position at more other = ap (λ es. changes_of_position position x.items ++ es) (there_with gs i g position at more other)
+  there_with (x ∷ gs) (suc i) g position at more other =
+      ap (λ es. changes_of_position position x.items ++ es) (there_with gs i g position at more other)
 
-  pub logged_with : (gs : List (Vec LoggedChange)) (g : Vec LoggedChange) (position : ℕ) → slice_get gs (e.position % GROUPS) ≡ Some g → h.items ≡ g.items ++ e ∷ [] → AreGrouped 0 gs
-      → logged (set gs (e.position % GROUPS) h) position ≡ (if e.position == position then logged gs position ++ e ∷ [] else logged gs position)
+  pub logged_with : (gs : List (Vec LoggedChange)) (g : Vec LoggedChange) (position : ℕ)
+      → slice_get gs (e.position % GROUPS) ≡ Some g → h.items ≡ g.items ++ e ∷ [] → AreGrouped 0 gs
+      → logged (set gs (e.position % GROUPS) h) position
+      ≡ (if e.position == position then logged gs position ++ e ∷ [] else logged gs position)
   logged_with gs g position at more are = elim (cases_Bool (e.position == position)) [
     | inl same ↦
-        subst (λ p. logged (set gs (e.position % GROUPS) h) p ≡ logged gs p ++ e ∷ []) (eqb-true e.position position same) (here_with 0 gs (e.position % GROUPS) g at more (omega arith) are)
+        subst (λ p. logged (set gs (e.position % GROUPS) h) p ≡ logged gs p ++ e ∷ [])
+        (eqb-true e.position position same) (here_with 0 gs (e.position % GROUPS) g at more (omega arith) are)
         ∙ ap (λ b. if b then logged gs position ++ e ∷ [] else logged gs position) (sym same)
     | inr other ↦
         there_with gs (e.position % GROUPS) g position at more other
@@ -88,15 +110,19 @@ module _ (e : LoggedChange) (h : Vec LoggedChange) where
 
   all_more : (P : LoggedChange → Type 0) (es : List LoggedChange) → All P es → P e → All P (es ++ e ∷ [])
   all_more P [] all is = All-cons P e [] is (All-nil P)
-  all_more P (x ∷ es) all is = All-cons P x (es ++ e ∷ []) (All-head P x es all) (all_more P es (All-tail P x es all) is)
+  all_more P (x ∷ es) all is =
+      All-cons P x (es ++ e ∷ []) (All-head P x es all) (all_more P es (All-tail P x es all) is)
 
-  pub grouped_with : (index : ℕ) (gs : List (Vec LoggedChange)) (i : ℕ) (g : Vec LoggedChange) → slice_get gs i ≡ Some g → h.items ≡ g.items ++ e ∷ []
+  pub grouped_with : (index : ℕ) (gs : List (Vec LoggedChange)) (i : ℕ) (g : Vec LoggedChange) → slice_get gs i ≡ Some g
+      → h.items ≡ g.items ++ e ∷ []
       → e.position % GROUPS ≡ index + i → AreGrouped index gs → AreGrouped index (set gs i h)
   grouped_with index [] i g at more of are = tt
   grouped_with index (x ∷ gs) zero g at more of (here, are) =
       let is : x ≡ g = same_Some x g at in (
-        subst (All (λ (x : LoggedChange). x.position % GROUPS ≡ index)) (ap (λ (v : Vec LoggedChange). v.items ++ e ∷ []) is ∙ sym more)
+        subst (All (λ (x : LoggedChange). x.position % GROUPS ≡ index))
+            (ap (λ (v : Vec LoggedChange). v.items ++ e ∷ []) is ∙ sym more)
             (all_more (λ (x : LoggedChange). x.position % GROUPS ≡ index) x.items here (of ∙ omega arith)),
         are,
       )
-  grouped_with index (x ∷ gs) (suc i) g at more of (here, are) = (here, grouped_with (index + 1) gs i g at more (omega (arith, of)) are)
+  grouped_with index (x ∷ gs) (suc i) g at more of (here, are) =
+      (here, grouped_with (index + 1) gs i g at more (omega (arith, of)) are)

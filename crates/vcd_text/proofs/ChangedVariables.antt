@@ -1,5 +1,7 @@
 -- A change of a variable that is kept.
-use Rattle.std.proofs.Common.{◌≡◌, ◌≢◌, ◌⊎◌, ℕ, zero, suc, ◌<◌, ◌≤◌, ◌==◌, All, option_map, true, false, ◌&&◌, ◌||◌, if◌then◌else◌, nat_le, List, [], ◌∷◌, ◌++◌, length, map, set, get_or, None, Some, Result, Ok, Err, OnOk, IfErr, inl, inr, refl, sym, ap, subst, ◌∙◌, arith}
+use Rattle.std.proofs.Common.{◌≡◌, ◌≢◌, ◌⊎◌, ℕ, zero, suc, ◌<◌, ◌≤◌, ◌==◌, All, option_map, true, false, ◌&&◌, ◌||◌}
+use Rattle.std.proofs.Common.{if◌then◌else◌, nat_le, List, [], ◌∷◌, ◌++◌, length, map, set, get_or, None, Some, Result}
+use Rattle.std.proofs.Common.{Ok, Err, OnOk, IfErr, inl, inr, refl, sym, ap, subst, ◌∙◌, arith}
 use Rattle.std.specs.Prelude.{bytes_eq, slice_get, IsSomeAnd, IsTrue}
 use Rattle.std.specs.Global.{Vec}
 use Rattle.std.proofs.lemmas.Bool.{cases_Bool, cases_eq, le-leb, eqb-true}
@@ -13,11 +15,14 @@ use Rattle.vcd_core.specs.Wave.{value_at}
 use Rattle.vcd_text.specs.declared.fault.Fault.{Fault}
 use Rattle.vcd_text.specs.declared.fault.Fault.TheVariants as faults
 use Rattle.vcd_text.specs.Letters.{letters_of_digits, extension}
-use Rattle.vcd_text.specs.Grammar.{VariableDeclaration, ValueChange, ParseState, is_skipped, variable_of, is_binary_number, takes_binary_number, value_changes_after, with_value_change}
+use Rattle.vcd_text.specs.Grammar.{VariableDeclaration, ValueChange, ParseState, is_skipped, variable_of}
+use Rattle.vcd_text.specs.Grammar.{is_binary_number, takes_binary_number, value_changes_after, with_value_change}
 use Rattle.vcd_text.specs.Meaning.{latest_value}
 use Rattle.vcd_text.specs.inside.ChangeLog.{logged_letters, GivesLoggedValues, logged, AreGrouped}
 use Rattle.vcd_text.specs.inside.ValueDigits.{WritesValue}
-use Rattle.vcd_text.specs.inside.Variables.{declaration, target_of, HasWave, TargetMatches, HasFirst, HasLogs, VariablesMatch, Sets, RefusesBinaryNumber, BinaryNumberFault, no_value, too_long, ChangeResult}
+use Rattle.vcd_text.specs.inside.Variables.{declaration, target_of, HasWave, TargetMatches, HasFirst, HasLogs}
+use Rattle.vcd_text.specs.inside.Variables.{VariablesMatch, Sets, RefusesBinaryNumber, BinaryNumberFault, no_value}
+use Rattle.vcd_text.specs.inside.Variables.{too_long, ChangeResult}
 use Rattle.vcd_text.specs.declared.reading.change_log.LoggedChange.{LoggedChange}
 use Rattle.vcd_text.specs.declared.reading.change_log.ChangeLog.{ChangeLog}
 use Rattle.vcd_text.specs.declared.reading.variables.CodeTarget.{CodeTarget}
@@ -31,7 +36,8 @@ same_number : (n : ℕ) → (n == n) ≡ true
 same_number n = grind arith
 
 other_number : (m n : ℕ) → m ≢ n → (m == n) ≡ false
-other_number m n apart = elim (cases_Bool (m == n)) [ inl same ↦ absurd (apart (eqb-true m n same)) | inr other ↦ other ]
+other_number m n apart =
+    elim (cases_Bool (m == n)) [ inl same ↦ absurd (apart (eqb-true m n same)) | inr other ↦ other ]
 
 abbrev position_of : CodeTarget → ℕ
 position_of Skipped = 0
@@ -39,7 +45,8 @@ position_of (Kept position) = position
 
 -- ---- a list with another item at one position
 
-pub set_here : (vs : List Variable) (i : ℕ) (v w : Variable) → slice_get vs i ≡ Some v → slice_get (set vs i w) i ≡ Some w
+pub set_here : (vs : List Variable) (i : ℕ) (v w : Variable) → slice_get vs i ≡ Some v
+    → slice_get (set vs i w) i ≡ Some w
 set_here [] i v w at = let never : None ≡ Some v = at in absurd (cc)
 set_here (u ∷ vs) zero v w at = refl
 set_here (u ∷ vs) (suc i) v w at = set_here vs i v w at
@@ -52,7 +59,8 @@ set_there (u ∷ vs) (suc i) zero w apart = refl
 set_there (u ∷ vs) (suc i) (suc j) w apart = set_there vs i j w (λ same. apart (ap suc same))
 
 -- what the two variables have alike stays
-same_map : {B : Type 0} (f : Variable → B) (vs : List Variable) (i : ℕ) (v w : Variable) → slice_get vs i ≡ Some v → f w ≡ f v → map f (set vs i w) ≡ map f vs
+same_map : {B : Type 0} (f : Variable → B) (vs : List Variable) (i : ℕ) (v w : Variable) → slice_get vs i ≡ Some v
+    → f w ≡ f v → map f (set vs i w) ≡ map f vs
 same_map f [] i v w at same = refl
 same_map f (u ∷ vs) zero v w at same = let is : u ≡ v = same_Some u v at in λ k. (same ∙ ap f (sym is)) k ∷ map f vs
 same_map f (u ∷ vs) (suc i) v w at same = ap (λ ds. f u ∷ ds) (same_map f vs i v w at same)
@@ -70,32 +78,45 @@ same_length (u ∷ vs) (suc i) w = ap suc (same_length vs i w)
 -- ---- a value change more
 
 value_with : (width : ℕ) (code : List ℕ) (t : ℕ) (before : List Bit) (rs : List ValueChange) (r : ValueChange)
-    → latest_value width code t before (rs ++ r ∷ []) ≡ (if bytes_eq r.code code && nat_le r.tick t then extension width r.letters else latest_value width code t before rs)
+    → latest_value width code t before (rs ++ r ∷ [])
+    ≡ (if bytes_eq r.code code && nat_le r.tick t then extension width r.letters else latest_value width code t
+    before rs)
 unfolding latest_value
 value_with width code t before [] r = refl
-value_with width code t before (s ∷ rs) r = value_with width code t (if bytes_eq s.code code && nat_le s.tick t then extension width s.letters else before) rs r
+value_with width code t before (s ∷ rs) r =
+    value_with width code t (if bytes_eq s.code code && nat_le s.tick t then extension width s.letters else before) rs r
 
 -- ---- the variables after a change
 
 -- the variable of a code
-module _ (old : Variables) (c : ParseState) (code digits : List ℕ) (first : ℕ) (k : VariablesMatch old c) (had : target_of old code ≡ Some (Kept first)) where
-  pub own_wave : (d : VariableDeclaration) × (variable_of c code ≡ Some d) × (is_skipped d ≡ false) × HasWave old.kept.items (logged old.log.groups.items) first code d.size c.value_changes c.tick
+module _ (old : Variables) (c : ParseState) (code digits : List ℕ) (first : ℕ) (k : VariablesMatch old c)
+    (had : target_of old code ≡ Some (Kept first)) where
+  pub own_wave : (d : VariableDeclaration) × (variable_of c code ≡ Some d) × (is_skipped d ≡ false)
+      × HasWave old.kept.items (logged old.log.groups.items) first code d.size c.value_changes c.tick
   own_wave =
       stands_kept old.kept.items (logged old.log.groups.items) c.value_changes c.tick code (variable_of c code) first
-      (subst (λ o. TargetMatches old.kept.items (logged old.log.groups.items) c.value_changes c.tick code o (variable_of c code)) had (k.stand code))
+      (subst (λ o. TargetMatches old.kept.items (logged old.log.groups.items) c.value_changes c.tick code o
+      (variable_of c code)) had (k.stand code))
 
   pub first_within : first < length old.kept.items
   first_within = slice_get_within old.kept.items first own_wave.3.first own_wave.3.stands
 
   pub width_within : first < length old.widths.items
-  width_within = omega (arith, first_within, ap (length {A = ℕ}) k.widths, length-map old.kept.items (λ (v : Variable). v.signal.wave.width))
+  width_within = omega (
+    arith,
+    first_within,
+    ap (length {A = ℕ}) k.widths,
+    length-map old.kept.items (λ (v : Variable). v.signal.wave.width),
+  )
 
   -- its width stands in the row of the widths
   pub width_is : (width : ℕ) → width ≡ get_or old.widths.items first width → own_wave.3.first.signal.wave.width ≡ width
   width_is width read =
       sym (read ∙ ap (λ ws. get_or ws first width) k.widths
-      ∙ get_or_from_slice_get (map (λ (v : Variable). v.signal.wave.width) old.kept.items) first own_wave.3.first.signal.wave.width width
-      (slice_get-map (λ (v : Variable). v.signal.wave.width) old.kept.items first ∙ ap (option_map (λ (v : Variable). v.signal.wave.width)) own_wave.3.stands))
+      ∙ get_or_from_slice_get (map (λ (v : Variable). v.signal.wave.width) old.kept.items) first
+      own_wave.3.first.signal.wave.width width
+      (slice_get-map (λ (v : Variable). v.signal.wave.width) old.kept.items first
+      ∙ ap (option_map (λ (v : Variable). v.signal.wave.width)) own_wave.3.stands))
 
   pub read_is : (v : Variable) → v ≡ get_or old.kept.items first v → v ≡ own_wave.3.first
   read_is v read = read ∙ get_or_from_slice_get old.kept.items first own_wave.3.first v own_wave.3.stands
@@ -104,26 +125,39 @@ module _ (old : Variables) (c : ParseState) (code digits : List ℕ) (first : �
   first_is : own_wave.3.first.first ≡ first
   first_is =
       let owned = (k.firsts first own_wave.3.first own_wave.3.stands).owned in
-      let kept : Kept own_wave.3.first.first ≡ Kept first = same_Some (Kept own_wave.3.first.first) (Kept first) (sym owned ∙ ap (target_of old) own_wave.3.coded ∙ had) in
+      let kept : Kept own_wave.3.first.first ≡ Kept first =
+      same_Some (Kept own_wave.3.first.first) (Kept first) (sym owned ∙ ap (target_of old) own_wave.3.coded
+      ∙ had) in
       ap position_of kept
 
   -- no change of its wave is past the tick
   pub wave_late : All (λ (change : Change). change.tick ≤ c.tick) own_wave.3.first.signal.wave.changes
-  wave_late = gives_late own_wave.0.size c.tick (λ t. latest_value own_wave.0.size code t (all_x own_wave.0.size) c.value_changes) own_wave.3.first.signal.wave.changes
+  wave_late = gives_late own_wave.0.size c.tick
+      (λ t. latest_value own_wave.0.size code t (all_x own_wave.0.size) c.value_changes)
+      own_wave.3.first.signal.wave.changes
       (logged old.log.groups.items first) own_wave.3.gives
 
   -- digits that it does not take are a fault
-  pub refused : (width : ℕ) (fault : Fault) → own_wave.3.first.signal.wave.width ≡ width → RefusesBinaryNumber width digits fault → BinaryNumberFault c code digits fault
+  pub refused : (width : ℕ) (fault : Fault) → own_wave.3.first.signal.wave.width ≡ width
+      → RefusesBinaryNumber width digits fault → BinaryNumberFault c code digits fault
   refused width fault wide (inl (bad, is)) = no_value own_wave.0 own_wave.1 own_wave.2 bad is
-  refused width fault wide (inr (good, long, is)) = too_long own_wave.0 own_wave.1 own_wave.2 good (omega (arith, long, own_wave.3.sized, wide)) is
+  refused width fault wide (inr (good, long, is)) =
+      too_long own_wave.0 own_wave.1 own_wave.2 good (omega (arith, long, own_wave.3.sized, wide)) is
 
-module _ (old : Variables) (list : Vec Variable) (log : ChangeLog) (c : ParseState) (code digits : List ℕ) (first : ℕ) (v w : Variable) (k : VariablesMatch old c)
+module _ (old : Variables) (list : Vec Variable) (log : ChangeLog) (c : ParseState) (code digits : List ℕ) (first : ℕ)
+    (v w : Variable) (k : VariablesMatch old c)
     (had : target_of old code ≡ Some (Kept first)) (is_first : v ≡ (own_wave old c code digits first k had).3.first)
-    (items : list.items ≡ set old.kept.items first w) (same : declaration w ≡ declaration v) (same_first : w.first ≡ v.first)
-    (value : IsTrue (is_binary_number digits)) (short : length digits ≤ v.signal.wave.width) (grouped : AreGrouped 0 log.groups.items)
-    (takes : (f : ℕ → List Bit) → GivesLoggedValues v.signal.wave.width c.tick f v.signal.wave.changes (logged old.log.groups.items first)
-    → GivesLoggedValues v.signal.wave.width c.tick (λ t. if nat_le c.tick t then extension v.signal.wave.width (letters_of_digits digits) else f t) w.signal.wave.changes (logged log.groups.items first))
-    (others : (position : ℕ) → first ≢ position → logged log.groups.items position ≡ logged old.log.groups.items position) where
+    (items : list.items ≡ set old.kept.items first w) (same : declaration w ≡ declaration v)
+    (same_first : w.first ≡ v.first)
+    (value : IsTrue (is_binary_number digits)) (short : length digits ≤ v.signal.wave.width)
+    (grouped : AreGrouped 0 log.groups.items)
+    (takes : (f : ℕ → List Bit)
+    → GivesLoggedValues v.signal.wave.width c.tick f v.signal.wave.changes (logged old.log.groups.items first)
+    → GivesLoggedValues v.signal.wave.width c.tick
+    (λ t. if nat_le c.tick t then extension v.signal.wave.width (letters_of_digits digits) else f t)
+    w.signal.wave.changes (logged log.groups.items first))
+    (others : (position : ℕ) → first ≢ position
+    → logged log.groups.items position ≡ logged old.log.groups.items position) where
   stood : slice_get old.kept.items first ≡ Some v
   stood = (own_wave old c code digits first k had).3.stands ∙ ap Some (sym is_first)
 
@@ -135,13 +169,20 @@ module _ (old : Variables) (list : Vec Variable) (log : ChangeLog) (c : ParseSta
 
   -- what stands in the new list stood in the old one, but for the wave
   following : (position : ℕ) (u : Variable) → slice_get list.items position ≡ Some u
-      → (t : Variable) × (slice_get old.kept.items position ≡ Some t) × (declaration u ≡ declaration t) × (u.first ≡ t.first)
+      → (t : Variable) × (slice_get old.kept.items position ≡ Some t) × (declaration u ≡ declaration t)
+      × (u.first ≡ t.first)
   following position u at =
-      let there : slice_get (set old.kept.items first w) position ≡ Some u = subst (λ vs. slice_get vs position ≡ Some u) items at in
+      let there : slice_get (set old.kept.items first w) position ≡ Some u =
+      subst (λ vs. slice_get vs position ≡ Some u) items at in
       elim (cases_eq first position) [
         | inl equal ↦
-            let is : w ≡ u = same_Some w u (sym (set_here old.kept.items first v w stood) ∙ subst (λ p. slice_get (set old.kept.items first w) p ≡ Some u) (sym equal) there) in
-            (v, subst (λ p. slice_get old.kept.items p ≡ Some v) equal stood, ap declaration (sym is) ∙ same, ap (λ (x : Variable). x.first) (sym is) ∙ same_first)
+            let is : w ≡ u = same_Some w u (sym (set_here old.kept.items first v w stood)
+            ∙ subst (λ p. slice_get (set old.kept.items first w) p ≡ Some u) (sym equal) there) in (
+              v,
+              subst (λ p. slice_get old.kept.items p ≡ Some v) equal stood,
+              ap declaration (sym is) ∙ same,
+              ap (λ (x : Variable). x.first) (sym is) ∙ same_first,
+            )
         | inr apart ↦ (u, sym (set_there old.kept.items first position w apart) ∙ there, refl, refl)
       ]
 
@@ -155,29 +196,44 @@ module _ (old : Variables) (list : Vec Variable) (log : ChangeLog) (c : ParseSta
       → HasWave list.items (logged log.groups.items) position key size (c.value_changes ++ new_value_change ∷ []) c.tick
   unfolding new_value_change
   wave_changed key position size equal owned wave =
-      let kept_at : Kept first ≡ Kept position = same_Some (Kept first) (Kept position) (sym had ∙ ap (target_of old) equal ∙ owned) in
+      let kept_at : Kept first ≡ Kept position =
+      same_Some (Kept first) (Kept position) (sym had ∙ ap (target_of old) equal ∙ owned) in
       let at : first ≡ position = ap position_of kept_at in
       let is : v ≡ wave.first = same_Some v wave.first (sym stood ∙ ap (slice_get old.kept.items) at ∙ wave.stands) in
       let old_size : v.signal.wave.width ≡ size = ap (λ (u : Variable). u.signal.wave.width) is ∙ wave.sized in
       let before : ℕ → List Bit = λ t. latest_value size key t (all_x size) c.value_changes in
-      let had_values : GivesLoggedValues v.signal.wave.width c.tick before v.signal.wave.changes (logged old.log.groups.items first) =
-      subst (λ n. GivesLoggedValues n c.tick before v.signal.wave.changes (logged old.log.groups.items first)) (sym old_size)
+      let had_values : GivesLoggedValues v.signal.wave.width c.tick before v.signal.wave.changes
+      (logged old.log.groups.items first) =
+      subst (λ n. GivesLoggedValues n c.tick before v.signal.wave.changes (logged old.log.groups.items first))
+      (sym old_size)
       (subst (λ p. GivesLoggedValues size c.tick before v.signal.wave.changes (logged old.log.groups.items p)) (sym at)
-      (subst (λ (u : Variable). GivesLoggedValues size c.tick before u.signal.wave.changes (logged old.log.groups.items position)) (sym is) wave.gives)) in
-      let has_values : GivesLoggedValues size c.tick (λ t. if nat_le c.tick t then extension size (letters_of_digits digits) else before t) w.signal.wave.changes (logged log.groups.items position) =
-      subst (λ p. GivesLoggedValues size c.tick (λ t. if nat_le c.tick t then extension size (letters_of_digits digits) else before t) w.signal.wave.changes (logged log.groups.items p)) at
-      (subst (λ n. GivesLoggedValues n c.tick (λ t. if nat_le c.tick t then extension n (letters_of_digits digits) else before t) w.signal.wave.changes (logged log.groups.items first)) old_size (takes before had_values)) in
+      (subst (λ (u : Variable). GivesLoggedValues size c.tick before u.signal.wave.changes
+      (logged old.log.groups.items position)) (sym is) wave.gives)) in
+      let has_values : GivesLoggedValues size c.tick
+      (λ t. if nat_le c.tick t then extension size (letters_of_digits digits) else before t) w.signal.wave.changes
+      (logged log.groups.items position) =
+      subst (λ p. GivesLoggedValues size c.tick
+      (λ t. if nat_le c.tick t then extension size (letters_of_digits digits) else before t) w.signal.wave.changes
+      (logged log.groups.items p)) at
+      (subst (λ n. GivesLoggedValues n c.tick
+      (λ t. if nat_le c.tick t then extension n (letters_of_digits digits) else before t) w.signal.wave.changes
+      (logged log.groups.items first)) old_size (takes before had_values)) in
       record {
         first = w;
-        stands = ap (λ vs. slice_get vs position) items ∙ ap (slice_get (set old.kept.items first w)) (sym at) ∙ set_here old.kept.items first v w stood;
+        stands = ap (λ vs. slice_get vs position) items ∙ ap (slice_get (set old.kept.items first w)) (sym at)
+            ∙ set_here old.kept.items first v w stood;
         coded = ap (λ (d : VariableDeclaration). d.code) same ∙ ap (λ (u : Variable). u.code) is ∙ wave.coded;
         sized = same_width ∙ old_size;
-        gives = gives_as size c.tick (λ t. if nat_le c.tick t then extension size (letters_of_digits digits) else before t) w.signal.wave.changes
-            (λ t. latest_value size key t (all_x size) (c.value_changes ++ record { tick = c.tick; code = code; letters = letters_of_digits digits } ∷ []))
+        gives = gives_as size c.tick
+            (λ t. if nat_le c.tick t then extension size (letters_of_digits digits) else before t) w.signal.wave.changes
+            (λ t. latest_value size key t (all_x size)
+            (c.value_changes ++ record { tick = c.tick; code = code; letters = letters_of_digits digits } ∷ []))
             (logged log.groups.items position)
             (λ t.
-            ap (λ b. if b && nat_le c.tick t then extension size (letters_of_digits digits) else before t) (sym (ap (bytes_eq code) (sym equal) ∙ own_code code))
-            ∙ sym (value_with size key t (all_x size) c.value_changes (record { tick = c.tick; code = code; letters = letters_of_digits digits })))
+            ap (λ b. if b && nat_le c.tick t then extension size (letters_of_digits digits) else before t)
+            (sym (ap (bytes_eq code) (sym equal) ∙ own_code code))
+            ∙ sym (value_with size key t (all_x size) c.value_changes
+            (record { tick = c.tick; code = code; letters = letters_of_digits digits })))
             has_values;
       }
 
@@ -189,7 +245,8 @@ module _ (old : Variables) (list : Vec Variable) (log : ChangeLog) (c : ParseSta
   wave_kept key position size other wave =
       let apart : first ≢ position = λ at.
       let is : v ≡ wave.first = same_Some v wave.first (sym stood ∙ ap (slice_get old.kept.items) at ∙ wave.stands) in
-      let equal : code ≡ key = sym (own_wave old c code digits first k had).3.coded ∙ ap (λ (u : Variable). u.code) (sym is_first ∙ is) ∙ wave.coded in
+      let equal : code ≡ key = sym (own_wave old c code digits first k had).3.coded
+      ∙ ap (λ (u : Variable). u.code) (sym is_first ∙ is) ∙ wave.coded in
       let both : true ≡ false = sym (ap (bytes_eq code) (sym equal) ∙ own_code code) ∙ other in
       absurd (cc) in
       record {
@@ -197,25 +254,38 @@ module _ (old : Variables) (list : Vec Variable) (log : ChangeLog) (c : ParseSta
         stands = ap (λ vs. slice_get vs position) items ∙ set_there old.kept.items first position w apart ∙ wave.stands;
         coded = wave.coded;
         sized = wave.sized;
-        gives = gives_as size c.tick (λ t. latest_value size key t (all_x size) c.value_changes) wave.first.signal.wave.changes
-            (λ t. latest_value size key t (all_x size) (c.value_changes ++ record { tick = c.tick; code = code; letters = letters_of_digits digits } ∷ []))
+        gives = gives_as size c.tick (λ t. latest_value size key t (all_x size) c.value_changes)
+            wave.first.signal.wave.changes
+            (λ t. latest_value size key t (all_x size)
+            (c.value_changes ++ record { tick = c.tick; code = code; letters = letters_of_digits digits } ∷ []))
             (logged log.groups.items position)
             (λ t.
-            ap (λ b. if b && nat_le c.tick t then extension size (letters_of_digits digits) else latest_value size key t (all_x size) c.value_changes) (sym other)
-            ∙ sym (value_with size key t (all_x size) c.value_changes (record { tick = c.tick; code = code; letters = letters_of_digits digits })))
-            (subst (GivesLoggedValues size c.tick (λ t. latest_value size key t (all_x size) c.value_changes) wave.first.signal.wave.changes) (sym (others position apart)) wave.gives);
+            ap (λ b. if b && nat_le c.tick t then extension size (letters_of_digits digits) else latest_value size key t
+            (all_x size) c.value_changes) (sym other)
+            ∙ sym (value_with size key t (all_x size) c.value_changes
+            (record { tick = c.tick; code = code; letters = letters_of_digits digits })))
+            (subst (GivesLoggedValues size c.tick (λ t. latest_value size key t (all_x size) c.value_changes)
+            wave.first.signal.wave.changes) (sym (others position apart)) wave.gives);
       }
 
   changed_variables : Variables
-  changed_variables = record { kept = list; widths = old.widths; code_targets = old.code_targets; skipped = old.skipped; log = log }
+  changed_variables = record {
+    kept = list;
+    widths = old.widths;
+    code_targets = old.code_targets;
+    skipped = old.skipped;
+    log = log;
+  }
 
-  changed_firsts : (position : ℕ) (u : Variable) → slice_get list.items position ≡ Some u → HasFirst changed_variables position u
+  changed_firsts : (position : ℕ) (u : Variable) → slice_get list.items position ≡ Some u
+      → HasFirst changed_variables position u
   unfolding changed_variables
   changed_firsts position u at =
       let t = following position u at in
       let before = k.firsts position t.0 t.1 in
       record {
-        owned = ap (λ (d : VariableDeclaration). target_of old d.code) t.2 ∙ before.owned ∙ ap (λ n. Some (Kept n)) (sym t.3);
+        owned = ap (λ (d : VariableDeclaration). target_of old d.code) t.2 ∙ before.owned
+            ∙ ap (λ n. Some (Kept n)) (sym t.3);
         no_later = omega (arith, t.3, before.no_later);
         same_size = λ x there.
             let y = following u.first x there in
@@ -224,9 +294,12 @@ module _ (old : Variables) (list : Vec Variable) (log : ChangeLog) (c : ParseSta
             ∙ ap (λ (d : VariableDeclaration). d.size) (sym t.2);
       }
 
-  changed_stands : (key : List ℕ) → TargetMatches list.items (logged log.groups.items) (c.value_changes ++ new_value_change ∷ []) c.tick key (target_of old key) (variable_of c key)
+  changed_stands : (key : List ℕ)
+      → TargetMatches list.items (logged log.groups.items) (c.value_changes ++ new_value_change ∷ []) c.tick key
+      (target_of old key) (variable_of c key)
   changed_stands key =
-      stands_moved old.kept.items list.items (logged old.log.groups.items) (logged log.groups.items) c.value_changes (c.value_changes ++ new_value_change ∷ []) c.tick c.tick key (target_of old key) (variable_of c key)
+      stands_moved old.kept.items list.items (logged old.log.groups.items) (logged log.groups.items) c.value_changes
+      (c.value_changes ++ new_value_change ∷ []) c.tick c.tick key (target_of old key) (variable_of c key)
       (λ position size owned wave. elim (cases_Bool (bytes_eq code key)) [
         | inl equal ↦ wave_changed key position size (same_code code key equal) owned wave
         | inr other ↦ wave_kept key position size other wave
@@ -237,14 +310,16 @@ module _ (old : Variables) (list : Vec Variable) (log : ChangeLog) (c : ParseSta
   unfolding new_value_change
   told_are =
       ap (value_changes_after c code (letters_of_digits digits)) (own_wave old c code digits first k had).1
-      ∙ ap (λ b. if b then [] else record { tick = c.tick; code = code; letters = letters_of_digits digits } ∷ []) (own_wave old c code digits first k had).2
+      ∙ ap (λ b. if b then [] else record { tick = c.tick; code = code; letters = letters_of_digits digits } ∷ [])
+      (own_wave old c code digits first k had).2
 
   -- the log has changes of first variables alone
   changed_logs : HasLogs list.items (logged log.groups.items)
   changed_logs position some = elim (cases_eq first position) [
     | inl equal ↦ (
       w,
-      ap (λ vs. slice_get vs position) items ∙ ap (slice_get (set old.kept.items first w)) (sym equal) ∙ set_here old.kept.items first v w stood,
+      ap (λ vs. slice_get vs position) items ∙ ap (slice_get (set old.kept.items first w)) (sym equal)
+          ∙ set_here old.kept.items first v w stood,
       same_first ∙ ap (λ (u : Variable). u.first) is_first ∙ first_is old c code digits first k had ∙ equal,
     )
     | inr apart ↦
@@ -253,15 +328,25 @@ module _ (old : Variables) (list : Vec Variable) (log : ChangeLog) (c : ParseSta
   ]
 
   -- the variables hold the value change
-  changed_knows : VariablesMatch (record { kept = list; widths = old.widths; code_targets = old.code_targets; skipped = old.skipped; log = log }) (with_value_change c code (letters_of_digits digits))
+  changed_knows : VariablesMatch (record {
+    kept = list;
+    widths = old.widths;
+    code_targets = old.code_targets;
+    skipped =
+        old.skipped;
+    log = log;
+  }) (with_value_change c code (letters_of_digits digits))
   unfolding changed_variables
   changed_knows = record {
     kept = k.kept ∙ sym (ap (map declaration) items ∙ same_map declaration old.kept.items first v w stood same);
     skipped = k.skipped;
-    widths = k.widths ∙ sym (ap (map (λ (u : Variable). u.signal.wave.width)) items ∙ same_map (λ (u : Variable). u.signal.wave.width) old.kept.items first v w stood same_width);
-    stand = λ key. subst (λ rs. TargetMatches list.items (logged log.groups.items) (c.value_changes ++ rs) c.tick key (target_of old key) (variable_of c key)) (sym told_are) (changed_stands key);
+    widths = k.widths ∙ sym (ap (map (λ (u : Variable). u.signal.wave.width)) items
+        ∙ same_map (λ (u : Variable). u.signal.wave.width) old.kept.items first v w stood same_width);
+    stand = λ key. subst (λ rs. TargetMatches list.items (logged log.groups.items) (c.value_changes ++ rs) c.tick key
+        (target_of old key) (variable_of c key)) (sym told_are) (changed_stands key);
     firsts = changed_firsts;
-    few = subst (λ n. n ≤ SIGNAL_LIMIT) (sym (ap (length {A = Variable}) items ∙ same_length old.kept.items first w)) k.few;
+    few = subst (λ n. n ≤ SIGNAL_LIMIT) (sym (ap (length {A = Variable}) items ∙ same_length old.kept.items first w))
+        k.few;
     grouped = grouped;
     logs = changed_logs;
   }
@@ -269,50 +354,89 @@ module _ (old : Variables) (list : Vec Variable) (log : ChangeLog) (c : ParseSta
   -- the digits are ones that its variable takes
   changed_takes : IsSomeAnd (variable_of c code) (λ d. IsTrue (takes_binary_number d digits))
   changed_takes =
-      let fits : nat_le (length digits) (own_wave old c code digits first k had).0.size ≡ true = le-leb (length digits) (own_wave old c code digits first k had).0.size (omega (arith, short, sized)) in
-      subst (λ o. IsSomeAnd o (λ d. IsTrue (takes_binary_number d digits))) (sym (own_wave old c code digits first k had).1)
+      let fits : nat_le (length digits) (own_wave old c code digits first k had).0.size ≡ true =
+      le-leb (length digits) (own_wave old c code digits first k had).0.size (omega (arith, short, sized)) in
+      subst (λ o. IsSomeAnd o (λ d. IsTrue (takes_binary_number d digits)))
+      (sym (own_wave old c code digits first k had).1)
       (λ i. (own_wave old c code digits first k had).2 i || (value i && fits i))
 
-  pub changed : (x : Unit {0}) → ChangeResult c code digits (Ok x) (record { kept = list; widths = old.widths; code_targets = old.code_targets; skipped = old.skipped; log = log })
+  pub changed : (x : Unit {0})
+      → ChangeResult c code digits (Ok x) (record {
+        kept = list;
+        widths = old.widths;
+        code_targets = old.code_targets;
+        skipped = old.skipped;
+        log = log;
+      })
   changed x = (changed_takes, changed_knows)
 
 -- what comes of a change of a wide variable
-pub wide_changes : (old : Variables) (list : Vec Variable) (c : ParseState) (code digits : List ℕ) (first width : ℕ) (v w : Variable) (result : Result (Unit {0}) Fault) (k : VariablesMatch old c)
-    (had : target_of old code ≡ Some (Kept first)) → v ≡ get_or old.kept.items first v → width ≡ get_or old.widths.items first width → 64 < width
+pub wide_changes : (old : Variables) (list : Vec Variable) (c : ParseState) (code digits : List ℕ) (first width : ℕ)
+    (v w : Variable) (result : Result (Unit {0}) Fault) (k : VariablesMatch old c)
+    (had : target_of old code ≡ Some (Kept first)) → v ≡ get_or old.kept.items first v
+    → width ≡ get_or old.widths.items first width → 64 < width
     → list.items ≡ set old.kept.items first w → OnOk result (Sets c.tick digits v w)
     → IfErr result (λ fault. (fault ≡ faults.NoMemory) ⊎ RefusesBinaryNumber v.signal.wave.width digits fault)
-    → ChangeResult c code digits result (record { kept = list; widths = old.widths; code_targets = old.code_targets; skipped = old.skipped; log = old.log })
+    → ChangeResult c code digits result (record {
+      kept = list;
+      widths = old.widths;
+      code_targets = old.code_targets;
+      skipped = old.skipped;
+      log = old.log;
+    })
 wide_changes old list c code digits first width v w (Ok x) k had read row wide items sets refuses =
     let is = read_is old c code digits first k had v read in
     let size = ap (λ (u : Variable). u.signal.wave.width) is ∙ width_is old c code digits first k had width row in
-    changed old list old.log c code digits first v w k had is items sets.same sets.same_first sets.value sets.fits k.grouped
-    (λ f g. gives_pushed v.signal.wave.width c.tick f v.signal.wave.changes (extension v.signal.wave.width (letters_of_digits digits)) w.signal.wave.changes (logged old.log.groups.items first)
+    changed old list old.log c code digits first v w k had is items sets.same sets.same_first sets.value sets.fits
+    k.grouped
+    (λ f g. gives_pushed v.signal.wave.width c.tick f v.signal.wave.changes
+    (extension v.signal.wave.width (letters_of_digits digits)) w.signal.wave.changes
+    (logged old.log.groups.items first)
     (omega (arith, wide, size)) sets.ticks
-    (λ t. ap (λ n. value_at n w.signal.wave.changes t) (sym (ap (λ (d : VariableDeclaration). d.size) sets.same)) ∙ sets.values t) g)
+    (λ t. ap (λ n. value_at n w.signal.wave.changes t) (sym (ap (λ (d : VariableDeclaration). d.size) sets.same))
+    ∙ sets.values t) g)
     (λ position _. refl) x
 wide_changes old list c code digits first width v w (Err fault) k had read row wide items sets (inl none) = inl none
 wide_changes old list c code digits first width v w (Err fault) k had read row wide items sets (inr refuses) =
-    inr (refused old c code digits first k had v.signal.wave.width fault (ap (λ (u : Variable). u.signal.wave.width) (sym (read_is old c code digits first k had v read))) refuses)
+    inr (refused old c code digits first k had v.signal.wave.width fault
+    (ap (λ (u : Variable). u.signal.wave.width) (sym (read_is old c code digits first k had v read))) refuses)
 
 -- what comes of one of another variable, which the log has
-pub narrow_changes : (old : Variables) (log : ChangeLog) (c : ParseState) (code digits : List ℕ) (first width : ℕ) (e : LoggedChange) (k : VariablesMatch old c)
+pub narrow_changes : (old : Variables) (log : ChangeLog) (c : ParseState) (code digits : List ℕ) (first width : ℕ)
+    (e : LoggedChange) (k : VariablesMatch old c)
     (had : target_of old code ≡ Some (Kept first)) → width ≡ get_or old.widths.items first width → width ≤ 64
     → e.tick ≡ c.tick → e.position ≡ first → WritesValue width digits (logged_letters width e)
     → AreGrouped 0 log.groups.items
-    → ((position : ℕ) → logged log.groups.items position ≡ (if e.position == position then logged old.log.groups.items position ++ e ∷ [] else logged old.log.groups.items position))
-    → (x : Unit {0}) → ChangeResult c code digits (Ok x) (record { kept = old.kept; widths = old.widths; code_targets = old.code_targets; skipped = old.skipped; log = log })
+    → ((position : ℕ) → logged log.groups.items position
+    ≡ (if e.position == position then logged old.log.groups.items position
+    ++ e ∷ [] else logged old.log.groups.items position))
+    → (x : Unit {0}) → ChangeResult c code digits (Ok x) (record {
+      kept = old.kept;
+      widths = old.widths;
+      code_targets =
+          old.code_targets;
+      skipped = old.skipped;
+      log = log;
+    })
 narrow_changes old log c code digits first width e k had row narrow at_tick at writes grouped more x =
     let v : Variable = (own_wave old c code digits first k had).3.first in
     let size : v.signal.wave.width ≡ width = width_is old c code digits first k had width row in
     let here : (e.position == first) ≡ true = subst (λ p. (p == first) ≡ true) (sym at) (same_number first) in
-    changed old old.kept log c code digits first v v k had refl (same_set old.kept.items first v (own_wave old c code digits first k had).3.stands) refl refl
+    changed old old.kept log c code digits first v v k had refl
+    (same_set old.kept.items first v (own_wave old c code digits first k had).3.stands) refl refl
     writes.0 (omega (arith, writes.1, size)) grouped
     (λ f g.
-    subst (GivesLoggedValues v.signal.wave.width c.tick (λ t. if nat_le c.tick t then extension v.signal.wave.width (letters_of_digits digits) else f t) v.signal.wave.changes)
-    (sym (more first ∙ ap (λ b. if b then logged old.log.groups.items first ++ e ∷ [] else logged old.log.groups.items first) here))
-    (gives_appended v.signal.wave.width c.tick f v.signal.wave.changes (extension v.signal.wave.width (letters_of_digits digits)) (logged old.log.groups.items first) e at_tick
-    (omega (arith, narrow, size)) (subst (λ n. logged_letters n e ≡ extension n (letters_of_digits digits)) (sym size) writes.2) g))
+    subst (GivesLoggedValues v.signal.wave.width c.tick
+    (λ t. if nat_le c.tick t then extension v.signal.wave.width (letters_of_digits digits) else f t)
+    v.signal.wave.changes)
+    (sym (more first ∙ ap (λ b. if b then logged old.log.groups.items first
+    ++ e ∷ [] else logged old.log.groups.items first) here))
+    (gives_appended v.signal.wave.width c.tick f v.signal.wave.changes
+    (extension v.signal.wave.width (letters_of_digits digits)) (logged old.log.groups.items first) e at_tick
+    (omega (arith, narrow, size))
+    (subst (λ n. logged_letters n e ≡ extension n (letters_of_digits digits)) (sym size) writes.2) g))
     (λ position apart.
-    more position ∙ ap (λ b. if b then logged old.log.groups.items position ++ e ∷ [] else logged old.log.groups.items position)
+    more position ∙ ap (λ b. if b then logged old.log.groups.items position
+    ++ e ∷ [] else logged old.log.groups.items position)
     (other_number e.position position (λ equal. apart (sym at ∙ equal))))
     x

@@ -1,21 +1,29 @@
 -- How the words of changes keep to the grammar.
-use Rattle.std.proofs.Common.{◌≡◌, ◌⊎◌, inl, inr, ℕ, ◌<◌, ◌≤◌, Bool, true, false, List, [], ◌∷◌, ◌++◌, ◌&&◌, ◌||◌, not, length, Some, None, IsSome, IsSomeAnd, Option, Result, Ok, Err, is_some, refl, sym, ap, subst, ◌∙◌, arith}
+use Rattle.std.proofs.Common.{◌≡◌, ◌⊎◌, inl, inr, ℕ, ◌<◌, ◌≤◌, Bool, true, false, List, [], ◌∷◌, ◌++◌, ◌&&◌, ◌||◌, not}
+use Rattle.std.proofs.Common.{length, Some, None, IsSome, IsSomeAnd, Option, Result, Ok, Err, is_some, refl, sym, ap}
+use Rattle.std.proofs.Common.{subst, ◌∙◌, arith}
 use Rattle.std.specs.Prelude.{codes, nat_eq, nat_lt, ◌==◌, IsTrue}
 use Rattle.std.proofs.lemmas.List.{nil_from_length}
 use Rattle.std.proofs.lemmas.Bool.{or_parts, or_cases, or_from, or_left, or_right, eqb-false}
 use Rattle.vcd_text.specs.declared.fault.Fault.{Fault}
-use Rattle.vcd_text.specs.declared.fault.Fault.TheVariants.{NoMemory, BadTime, TimeBackwards, BadChange, UnknownCode, UnexpectedWord}
+use Rattle.vcd_text.specs.declared.fault.Fault.TheVariants.{NoMemory, BadTime, TimeBackwards, BadChange, UnknownCode}
+use Rattle.vcd_text.specs.declared.fault.Fault.TheVariants.{UnexpectedWord}
 use Rattle.vcd_text.specs.Words.{PlacedWord, word_on}
 use Rattle.vcd_core.specs.Decimal.{number_of}
 use Rattle.vcd_core.specs.Word.{is_one_of, is_skipped_kind}
 use Rattle.vcd_text.specs.Letters.{is_among, is_binary_digit}
-use Rattle.vcd_text.specs.Items.{Item, stamp, scalar, vector, real_or_string, bracket, spelling, is_command, dump_words, declaring_words, header_words, vector_prefixes, dropped_prefixes}
-use Rattle.vcd_text.specs.Grammar.{ParseState, VariableDeclaration, ValueChange, Allows, state_after_item, word_texts, is_skipped, is_tick, is_binary_number, takes_binary_number, variable_of}
+use Rattle.vcd_text.specs.Items.{Item, stamp, scalar, vector, real_or_string, bracket, spelling, is_command, dump_words}
+use Rattle.vcd_text.specs.Items.{declaring_words, header_words, vector_prefixes, dropped_prefixes}
+use Rattle.vcd_text.specs.Grammar.{ParseState, VariableDeclaration, ValueChange, Allows, state_after_item, word_texts}
+use Rattle.vcd_text.specs.Grammar.{is_skipped, is_tick, is_binary_number, takes_binary_number, variable_of}
 use Rattle.vcd_core.specs.declared.value.TheConstants.{WIDTH_LIMIT}
-use Rattle.vcd_text.specs.Faults.{ChangeFault, no_tick, tick_goes_back, value_alone, value_of_none, pair_of_none, no_value, value_too_long, declaration_late, no_change, among_changes, WordFault, pair_prefixes}
+use Rattle.vcd_text.specs.Faults.{ChangeFault, no_tick, tick_goes_back, value_alone, value_of_none, pair_of_none}
+use Rattle.vcd_text.specs.Faults.{no_value, value_too_long, declaration_late, no_change, among_changes, WordFault}
+use Rattle.vcd_text.specs.Faults.{pair_prefixes}
 use Rattle.vcd_text.specs.inside.Variables.{VariablesMatch, BinaryNumberFault, ChangeResult}
 use Rattle.vcd_text.specs.inside.Variables as variables
-use Rattle.vcd_text.specs.inside.Reading.{ReaderMatches, AwaitsCode, IsBegun, IsAtState, WordStep, goes_on, ends_item, WordResult}
+use Rattle.vcd_text.specs.inside.Reading.{ReaderMatches, AwaitsCode, IsBegun, IsAtState, WordStep, goes_on, ends_item}
+use Rattle.vcd_text.specs.inside.Reading.{WordResult}
 use Rattle.vcd_text.specs.declared.reading.reader.Reader.{Reader}
 use Rattle.vcd_text.specs.declared.reading.reader.OpenItem.{OpenItem}
 use Rattle.vcd_text.specs.declared.reading.reader.OpenItem.TheVariants as items
@@ -33,24 +41,33 @@ pub none_begun : (m : Reader) (begun : List PlacedWord) → m.item ≡ items.Not
 none_begun m begun between taken = subst (IsBegun m begun) between taken
 
 -- a word that is a whole item
-whole_item : (old new : Reader) (w : PlacedWord) (i : Item) → old.item ≡ items.Nothing → new.item ≡ items.Nothing → spelling i ≡ w.text ∷ []
-    → ((c : ParseState) → ReaderMatches old c → Allows c i × ReaderMatches new (state_after_item c i)) → WordResult old w (Ok tt) new
+whole_item : (old new : Reader) (w : PlacedWord) (i : Item) → old.item ≡ items.Nothing → new.item ≡ items.Nothing
+    → spelling i ≡ w.text ∷ []
+    → ((c : ParseState) → ReaderMatches old c → Allows c i × ReaderMatches new (state_after_item c i))
+    → WordResult old w (Ok tt) new
 whole_item old new w i between closed spelled item c begun (agrees, taken) =
     let none = none_begun old begun between taken in
-    ends_item i (spelled ∙ ap (λ bs. word_texts (bs ++ w ∷ [])) (sym none)) (item c agrees).0 ((item c agrees).1, subst (IsBegun new []) (sym closed) refl)
+    ends_item i (spelled ∙ ap (λ bs. word_texts (bs ++ w ∷ [])) (sym none)) (item c agrees).0 (
+      (item c agrees).1,
+      subst (IsBegun new []) (sym closed) refl,
+    )
 
 -- a first word that shows a fault
-shown_at : (m : Reader) (c : ParseState) (begun : List PlacedWord) (w : PlacedWord) (fault : Fault) → m.item ≡ items.Nothing → m.changing ≡ true → IsAtState m c begun
+shown_at : (m : Reader) (c : ParseState) (begun : List PlacedWord) (w : PlacedWord) (fault : Fault)
+    → m.item ≡ items.Nothing → m.changing ≡ true → IsAtState m c begun
     → ChangeFault c [] w.text fault → (fault ≡ NoMemory) ⊎ WordFault c (word_texts begun) w.text fault
 shown_at m c begun w fault between changing (agrees, taken) row =
-    inr (among_changes (sym agrees.changing ∙ changing) (subst (λ bs. ChangeFault c (word_texts bs) w.text fault) (sym (none_begun m begun between taken)) row))
+    inr (among_changes (sym agrees.changing
+    ∙ changing) (subst (λ bs. ChangeFault c (word_texts bs) w.text fault) (sym (none_begun m begun between taken))
+    row))
 
 shows : (old new : Reader) (w : PlacedWord) (fault : Fault) → old.item ≡ items.Nothing → old.changing ≡ true
     → ((c : ParseState) → ReaderMatches old c → ChangeFault c [] w.text fault) → WordResult old w (Err fault) new
 shows old new w fault between changing row c begun at = shown_at old c begun w fault between changing at (row c at.0)
 
 -- what has been told does not depend on the item that is open
-agrees_still : (m : Reader) (c : ParseState) (item : OpenItem) (line : ℕ) → ReaderMatches m c → ReaderMatches (record m { item = item; line = line }) c
+agrees_still : (m : Reader) (c : ParseState) (item : OpenItem) (line : ℕ) → ReaderMatches m c
+    → ReaderMatches (record m { item = item; line = line }) c
 agrees_still m c item line agrees = record {
   header = agrees.header;
   timescale = agrees.timescale;
@@ -62,8 +79,10 @@ agrees_still m c item line agrees = record {
 }
 
 -- one more value change among the changes
-agrees_set : (m : Reader) (c : ParseState) (vs : Variables) (value_changes : List ValueChange) (item : OpenItem) → ReaderMatches m c → m.changing ≡ true
-    → VariablesMatch vs (record c { value_changes = value_changes }) → ReaderMatches (record m { variables = vs; item = item }) (record c { value_changes = value_changes })
+agrees_set : (m : Reader) (c : ParseState) (vs : Variables) (value_changes : List ValueChange) (item : OpenItem)
+    → ReaderMatches m c → m.changing ≡ true
+    → VariablesMatch vs (record c { value_changes = value_changes })
+    → ReaderMatches (record m { variables = vs; item = item }) (record c { value_changes = value_changes })
 agrees_set m c vs value_changes item agrees changing knows = record {
   header = agrees.header;
   timescale = agrees.timescale;
@@ -76,20 +95,25 @@ agrees_set m c vs value_changes item agrees changing knows = record {
 
 -- ---- stamps
 
-pub no_stamp : (m new : Reader) (digits : List ℕ) (line : ℕ) → m.item ≡ items.Nothing → m.changing ≡ true → is_tick digits ≡ false
+pub no_stamp : (m new : Reader) (digits : List ℕ) (line : ℕ) → m.item ≡ items.Nothing → m.changing ≡ true
+    → is_tick digits ≡ false
     → WordResult m (word_on (35 ∷ digits) line) (Err BadTime) new
 no_stamp m new digits line between changing isnt =
     shows m new (word_on (35 ∷ digits) line) BadTime between changing (λ c agrees. no_tick digits refl refl isnt refl)
 
 pub stamp_goes_back : (m new : Reader) (digits : List ℕ) (line tick : ℕ) → m.item ≡ items.Nothing → m.changing ≡ true
-    → is_tick digits ≡ true → tick ≡ number_of digits → tick < m.tick → WordResult m (word_on (35 ∷ digits) line) (Err TimeBackwards) new
+    → is_tick digits ≡ true → tick ≡ number_of digits → tick < m.tick
+    → WordResult m (word_on (35 ∷ digits) line) (Err TimeBackwards) new
 stamp_goes_back m new digits line tick between changing is number back =
-    shows m new (word_on (35 ∷ digits) line) TimeBackwards between changing (λ c agrees. tick_goes_back digits refl refl is (omega (arith, agrees.tick)) refl)
+    shows m new (word_on (35 ∷ digits) line) TimeBackwards between changing
+    (λ c agrees. tick_goes_back digits refl refl is (omega (arith, agrees.tick)) refl)
 
 pub takes_stamp : (m : Reader) (digits : List ℕ) (line tick : ℕ) → m.item ≡ items.Nothing → m.changing ≡ true
-    → is_tick digits ≡ true → tick ≡ number_of digits → m.tick ≤ tick → WordResult m (word_on (35 ∷ digits) line) (Ok tt) (record m { tick = tick })
+    → is_tick digits ≡ true → tick ≡ number_of digits → m.tick ≤ tick
+    → WordResult m (word_on (35 ∷ digits) line) (Ok tt) (record m { tick = tick })
 takes_stamp m digits line tick between changing is number later =
-    whole_item m (record m { tick = tick }) (word_on (35 ∷ digits) line) (stamp digits) between between refl (λ c agrees.
+    whole_item m (record m { tick = tick }) (word_on (35 ∷ digits) line) (stamp digits) between between refl
+    (λ c agrees.
     let after : c.tick ≤ number_of digits = omega (arith, agrees.tick) in (
       (sym agrees.changing ∙ changing, is, after),
       record {
@@ -108,7 +132,8 @@ takes_stamp m digits line tick between changing is number later =
 pub takes_bracket : (m : Reader) (text : List ℕ) (line : ℕ) → m.item ≡ items.Nothing → m.changing ≡ true
     → is_one_of dump_words text ≡ true → WordResult m (word_on text line) (Ok tt) m
 takes_bracket m text line between changing is =
-    whole_item m m (word_on text line) (bracket text) between between refl (λ c agrees. ((sym agrees.changing ∙ changing, is), agrees))
+    whole_item m m (word_on text line) (bracket text) between between refl
+    (λ c agrees. ((sym agrees.changing ∙ changing, is), agrees))
 
 pub declares_late : (m new : Reader) (text : List ℕ) (line : ℕ) → m.item ≡ items.Nothing → m.changing ≡ true
     → is_one_of declaring_words text ≡ true → WordResult m (word_on text line) (Err UnexpectedWord) new
@@ -126,17 +151,20 @@ passes_over m text line between changing command dump declaring c begun (agrees,
         keyword = text;
         words = [];
         spelled = ap (λ bs. word_texts (bs ++ word_on text line ∷ [])) none;
-        other = λ i. (command i && not (dump i)) && not (declaring i) && (changing i || not (is_one_of header_words text));
+        other = λ i. (command i && not (dump i)) && not (declaring i)
+            && (changing i || not (is_one_of header_words text));
         no_end = refl;
       },
     )
 
 -- ---- changes of one word
 
-pub no_code : (m new : Reader) (letter : ℕ) (code : List ℕ) (line : ℕ) → m.item ≡ items.Nothing → m.changing ≡ true → is_binary_digit letter ≡ true
+pub no_code : (m new : Reader) (letter : ℕ) (code : List ℕ) (line : ℕ) → m.item ≡ items.Nothing → m.changing ≡ true
+    → is_binary_digit letter ≡ true
     → length code ≡ 0 → WordResult m (word_on (letter ∷ code) line) (Err BadChange) new
 no_code m new letter code line between changing is none =
-    shows m new (word_on (letter ∷ code) line) BadChange between changing (λ c agrees. value_alone letter refl (ap (λ cs. letter ∷ cs) (nil_from_length code none)) is refl)
+    shows m new (word_on (letter ∷ code) line) BadChange between changing
+    (λ c agrees. value_alone letter refl (ap (λ cs. letter ∷ cs) (nil_from_length code none)) is refl)
 
 among_neither : (xs ys : List ℕ) (b : ℕ) → is_among xs b ≡ false → is_among ys b ≡ false → is_among (xs ++ ys) b ≡ false
 among_neither [] ys b h k = k
@@ -144,15 +172,20 @@ among_neither (x ∷ xs) ys b h k =
     let p = or_parts (nat_eq b x) (is_among xs b) h in
     or_from (nat_eq b x) (is_among (xs ++ ys) b) p.0 (among_neither xs ys b p.1 k)
 
-pub begins_nothing : (m new : Reader) (first : ℕ) (text : List ℕ) (line : ℕ) → m.item ≡ items.Nothing → m.changing ≡ true
-    → is_among (codes "#$") first ≡ false → is_binary_digit first ≡ false → is_among vector_prefixes first ≡ false → is_among dropped_prefixes first ≡ false
+pub begins_nothing : (m new : Reader) (first : ℕ) (text : List ℕ) (line : ℕ) → m.item ≡ items.Nothing
+    → m.changing ≡ true
+    → is_among (codes "#$") first ≡ false → is_binary_digit first ≡ false → is_among vector_prefixes first ≡ false
+    → is_among dropped_prefixes first ≡ false
     → WordResult m (word_on (first ∷ text) line) (Err BadChange) new
 begins_nothing m new first text line between changing no_command no_letter no_vector no_dropped =
-    let other = among_neither (codes "#$") pair_prefixes first no_command (among_neither vector_prefixes dropped_prefixes first no_vector no_dropped) in
-    shows m new (word_on (first ∷ text) line) BadChange between changing (λ c agrees. no_change first text refl refl no_letter other refl)
+    let other = among_neither (codes "#$") pair_prefixes first no_command
+    (among_neither vector_prefixes dropped_prefixes first no_vector no_dropped) in
+    shows m new (word_on (first ∷ text) line) BadChange between changing
+    (λ c agrees. no_change first text refl refl no_letter other refl)
 
 -- some variable takes the digits
-taken_by_some : (o : Option VariableDeclaration) (digits : List ℕ) → IsSomeAnd o (λ d. IsTrue (takes_binary_number d digits)) → IsSome o
+taken_by_some : (o : Option VariableDeclaration) (digits : List ℕ)
+    → IsSomeAnd o (λ d. IsTrue (takes_binary_number d digits)) → IsSome o
 taken_by_some None digits none = absurd none
 taken_by_some (Some d) digits takes = refl
 
@@ -167,18 +200,23 @@ fits_one d keeps small =
     let some : d.size ≡ 0 → ⊥ = eqb-false d.size 0 sized.0 in
     some (omega arith)
 
-bit_shows : (c : ParseState) (letter : ℕ) (code : List ℕ) (fault : Fault) → is_binary_digit letter ≡ true → 0 < length code
+bit_shows : (c : ParseState) (letter : ℕ) (code : List ℕ) (fault : Fault) → is_binary_digit letter ≡ true
+    → 0 < length code
     → BinaryNumberFault c code (letter ∷ []) fault → ChangeFault c [] (letter ∷ code) fault
-bit_shows c letter code fault is some (variables.unknown none which) = value_of_none letter code refl refl is some none which
-bit_shows c letter code fault is some (variables.no_value d found keeps isnt which) = not_both (one_letter letter is) isnt
-bit_shows c letter code fault is some (variables.too_long d found keeps value long which) = absurd (fits_one d keeps long)
+bit_shows c letter code fault is some (variables.unknown none which) =
+    value_of_none letter code refl refl is some none which
+bit_shows c letter code fault is some (variables.no_value d found keeps isnt which) =
+    not_both (one_letter letter is) isnt
+bit_shows c letter code fault is some (variables.too_long d found keeps value long which) =
+    absurd (fits_one d keeps long)
 
 pub sets_bit : (m : Reader) (vs : Variables) (letter : ℕ) (code : List ℕ) (line : ℕ) (r : Result (Unit {0}) Fault)
     → m.item ≡ items.Nothing → m.changing ≡ true → is_binary_digit letter ≡ true → 0 < length code
     → ((c : ParseState) → c.tick ≡ m.tick → VariablesMatch m.variables c → ChangeResult c code (letter ∷ []) r vs)
     → WordResult m (word_on (letter ∷ code) line) r (record m { variables = vs })
 sets_bit m vs letter code line (Ok x) between changing is some takes =
-    whole_item m (record m { variables = vs }) (word_on (letter ∷ code) line) (scalar letter code) between between refl (λ c agrees.
+    whole_item m (record m { variables = vs }) (word_on (letter ∷ code) line) (scalar letter code) between between refl
+    (λ c agrees.
     let change = takes c (sym agrees.tick) agrees.variables in (
       (sym agrees.changing ∙ changing, is, some, taken_by_some (variable_of c code) (letter ∷ []) change.0),
       agrees_set m c vs (state_after_item c (scalar letter code)).value_changes m.item agrees changing change.1,
@@ -186,13 +224,15 @@ sets_bit m vs letter code line (Ok x) between changing is some takes =
 sets_bit m vs letter code line (Err fault) between changing is some takes = λ c begun at.
     elim (takes c (sym at.0.tick) at.0.variables) [
       | inl memory ↦ inl memory
-      | inr row ↦ shown_at m c begun (word_on (letter ∷ code) line) fault between changing at (bit_shows c letter code fault is some row)
+      | inr row ↦ shown_at m c begun (word_on (letter ∷ code) line) fault between changing at
+          (bit_shows c letter code fault is some row)
     ]
 
 -- ---- changes of two words
 
 pub begins_dropped : (m : Reader) (first : ℕ) (text : List ℕ) (line : ℕ) → m.item ≡ items.Nothing → m.changing ≡ true
-    → is_among dropped_prefixes first ≡ true → WordResult m (word_on (first ∷ text) line) (Ok tt) (record m { item = items.Dropped; line = line })
+    → is_among dropped_prefixes first ≡ true
+    → WordResult m (word_on (first ∷ text) line) (Ok tt) (record m { item = items.Dropped; line = line })
 begins_dropped m first text line between changing is c begun (agrees, taken) =
     let none = none_begun m begun between taken in
     goes_on (
@@ -212,31 +252,44 @@ begins_dropped m first text line between changing is c begun (agrees, taken) =
     )
 
 -- the words of a change of two words, of which the first has been taken
-texts_begun : (m : Reader) (begun : List PlacedWord) (letters text : List ℕ) (b : AwaitsCode m begun letters text) → word_texts begun ≡ (b.letter ∷ text) ∷ []
+texts_begun : (m : Reader) (begun : List PlacedWord) (letters text : List ℕ) (b : AwaitsCode m begun letters text)
+    → word_texts begun ≡ (b.letter ∷ text) ∷ []
 texts_begun m begun letters text b = ap word_texts b.is ∙ ap (λ t. t ∷ []) b.spelled
 
-texts_whole : (m : Reader) (begun : List PlacedWord) (letters text code : List ℕ) (line : ℕ) (b : AwaitsCode m begun letters text)
+texts_whole : (m : Reader) (begun : List PlacedWord) (letters text code : List ℕ) (line : ℕ)
+    (b : AwaitsCode m begun letters text)
     → (b.letter ∷ text) ∷ code ∷ [] ≡ word_texts (begun ++ word_on code line ∷ [])
-texts_whole m begun letters text code line b = sym (ap (λ bs. word_texts (bs ++ word_on code line ∷ [])) b.is ∙ ap (λ t. t ∷ code ∷ []) b.spelled)
+texts_whole m begun letters text code line b =
+    sym (ap (λ bs. word_texts (bs ++ word_on code line ∷ [])) b.is ∙ ap (λ t. t ∷ code ∷ []) b.spelled)
 
 among_first : (xs ys : List ℕ) (b : ℕ) → is_among xs b ≡ true → is_among (xs ++ ys) b ≡ true
 among_first [] ys b h = not_both h refl
 among_first (x ∷ xs) ys b h =
-    elim (or_cases (nat_eq b x) (is_among xs b) h) [ inl e ↦ or_left _ _ e | inr e ↦ or_right _ _ (among_first xs ys b e) ]
+    elim (or_cases (nat_eq b x) (is_among xs b) h) [
+      | inl e ↦ or_left _ _ e
+      | inr e ↦
+          or_right _ _ (among_first xs ys b e)
+    ]
 
 among_last : (xs ys : List ℕ) (b : ℕ) → is_among ys b ≡ true → is_among (xs ++ ys) b ≡ true
 among_last [] ys b h = h
 among_last (x ∷ xs) ys b h = or_right _ _ (among_last xs ys b h)
 
-vector_shows : (c : ParseState) (first : ℕ) (digits code : List ℕ) (fault : Fault) → is_among vector_prefixes first ≡ true
+vector_shows : (c : ParseState) (first : ℕ) (digits code : List ℕ) (fault : Fault)
+    → is_among vector_prefixes first ≡ true
     → BinaryNumberFault c code digits fault → ChangeFault c ((first ∷ digits) ∷ []) code fault
-vector_shows c first digits code fault is (variables.unknown none which) = pair_of_none first digits refl (among_first vector_prefixes dropped_prefixes first is) none which
-vector_shows c first digits code fault is (variables.no_value d found keeps isnt which) = no_value first digits d refl is found keeps isnt which
-vector_shows c first digits code fault is (variables.too_long d found keeps value long which) = value_too_long first digits d refl is found keeps value long which
+vector_shows c first digits code fault is (variables.unknown none which) =
+    pair_of_none first digits refl (among_first vector_prefixes dropped_prefixes first is) none which
+vector_shows c first digits code fault is (variables.no_value d found keeps isnt which) =
+    no_value first digits d refl is found keeps isnt which
+vector_shows c first digits code fault is (variables.too_long d found keeps value long which) =
+    value_too_long first digits d refl is found keeps value long which
 
 -- all words of a change of several bits have been taken
-pub whole_vector : (m : Reader) (c : ParseState) (vs : Variables) (item : OpenItem) (words : List PlacedWord) (letter : ℕ) (digits code : List ℕ) → ReaderMatches m c → m.changing ≡ true
-    → item ≡ items.Nothing → is_among vector_prefixes letter ≡ true → (letter ∷ digits) ∷ code ∷ [] ≡ word_texts words → ChangeResult c code digits (Ok tt) vs
+pub whole_vector : (m : Reader) (c : ParseState) (vs : Variables) (item : OpenItem) (words : List PlacedWord)
+    (letter : ℕ) (digits code : List ℕ) → ReaderMatches m c → m.changing ≡ true
+    → item ≡ items.Nothing → is_among vector_prefixes letter ≡ true → (letter ∷ digits) ∷ code ∷ [] ≡ word_texts words
+    → ChangeResult c code digits (Ok tt) vs
     → WordStep c words (record m { variables = vs; item = item })
 whole_vector m c vs item words letter digits code agrees changing closed is spelled change =
     ends_item (vector letter digits code) spelled (sym agrees.changing ∙ changing, is, change.0) (
@@ -245,22 +298,28 @@ whole_vector m c vs item words letter digits code agrees changing closed is spel
     )
 
 -- the code of a change of several bits shows a fault
-pub vector_shown : (m : Reader) (c : ParseState) (letter : ℕ) (digits code : List ℕ) (fault : Fault) → ReaderMatches m c → m.changing ≡ true
-    → is_among vector_prefixes letter ≡ true → BinaryNumberFault c code digits fault → WordFault c ((letter ∷ digits) ∷ []) code fault
-vector_shown m c letter digits code fault agrees changing is row = among_changes (sym agrees.changing ∙ changing) (vector_shows c letter digits code fault is row)
+pub vector_shown : (m : Reader) (c : ParseState) (letter : ℕ) (digits code : List ℕ) (fault : Fault) → ReaderMatches m c
+    → m.changing ≡ true
+    → is_among vector_prefixes letter ≡ true → BinaryNumberFault c code digits fault
+    → WordFault c ((letter ∷ digits) ∷ []) code fault
+vector_shown m c letter digits code fault agrees changing is row =
+    among_changes (sym agrees.changing ∙ changing) (vector_shows c letter digits code fault is row)
 
-pub ends_vector : (m : Reader) (vs : Variables) (code : List ℕ) (line : ℕ) (r : Result (Unit {0}) Fault) → m.item ≡ items.Vector
+pub ends_vector : (m : Reader) (vs : Variables) (code : List ℕ) (line : ℕ) (r : Result (Unit {0}) Fault)
+    → m.item ≡ items.Vector
     → ((c : ParseState) → c.tick ≡ m.tick → VariablesMatch m.variables c → ChangeResult c code m.text.items r vs)
     → WordResult m (word_on code line) r (record m { variables = vs; item = items.Nothing })
 ends_vector m vs code line (Ok x) item takes = λ c begun (agrees, taken).
     let b : AwaitsCode m begun vector_prefixes m.text.items = subst (IsBegun m begun) item taken in
-    whole_vector m c vs items.Nothing (begun ++ word_on code line ∷ []) b.letter m.text.items code agrees b.changes refl b.among
+    whole_vector m c vs items.Nothing (begun ++ word_on code line ∷ []) b.letter m.text.items code agrees b.changes refl
+    b.among
     (texts_whole m begun vector_prefixes m.text.items code line b) (takes c (sym agrees.tick) agrees.variables)
 ends_vector m vs code line (Err fault) item takes = λ c begun (agrees, taken).
     let b : AwaitsCode m begun vector_prefixes m.text.items = subst (IsBegun m begun) item taken in
     elim (takes c (sym agrees.tick) agrees.variables) [
       | inl memory ↦ inl memory
-      | inr row ↦ inr (subst (λ ts. WordFault c ts code fault) (sym (texts_begun m begun vector_prefixes m.text.items b))
+      | inr row ↦ inr (subst (λ ts. WordFault c ts code fault)
+          (sym (texts_begun m begun vector_prefixes m.text.items b))
           (vector_shown m c b.letter m.text.items code fault agrees b.changes b.among row))
     ]
 
@@ -288,5 +347,8 @@ drops_unknown m new code line item unknown c begun (agrees, taken) =
     let at : (text : List ℕ) × AwaitsCode m begun dropped_prefixes text = subst (IsBegun m begun) item taken in
     let text = at.0 in
     let b = at.1 in
-    inr (among_changes (sym agrees.changing ∙ b.changes) (subst (λ ts. ChangeFault c ts code UnknownCode) (sym (texts_begun m begun dropped_prefixes text b))
-    (pair_of_none b.letter text refl (among_last vector_prefixes dropped_prefixes b.letter b.among) (none_is (variable_of c code) (unknown c agrees.variables)) refl)))
+    inr (among_changes (sym agrees.changing
+    ∙ b.changes) (subst (λ ts. ChangeFault c ts code UnknownCode)
+    (sym (texts_begun m begun dropped_prefixes text b))
+    (pair_of_none b.letter text refl (among_last vector_prefixes dropped_prefixes b.letter b.among)
+    (none_is (variable_of c code) (unknown c agrees.variables)) refl)))

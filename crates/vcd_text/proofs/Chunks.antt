@@ -1,5 +1,7 @@
 -- A file in chunks: what one more chunk adds to what has been taken, and what is answered where no more comes.
-use Rattle.std.proofs.Common.{◌≡◌, ◌⊎◌, inl, inr, ℕ, zero, suc, ◌+◌, ◌-◌, ◌<◌, ◌≤◌, Bool, true, false, not, cond, ◌==◌, List, [], ◌∷◌, ◌++◌, length, take, drop, get_or, Option, Some, None, IfSome, refl, sym, ap, subst, ◌∙◌, arith, append_assoc, length-append}
+use Rattle.std.proofs.Common.{◌≡◌, ◌⊎◌, inl, inr, ℕ, zero, suc, ◌+◌, ◌-◌, ◌<◌, ◌≤◌, Bool, true, false, not, cond, ◌==◌}
+use Rattle.std.proofs.Common.{List, [], ◌∷◌, ◌++◌, length, take, drop, get_or, Option, Some, None, IfSome, refl, sym}
+use Rattle.std.proofs.Common.{ap, subst, ◌∙◌, arith, append_assoc, length-append}
 use Rattle.std.specs.Prelude.{IsTrue, IsFalse}
 use Rattle.std.specs.List.{list_all}
 use Rattle.std.specs.Io.KnownBytes.{Consumes, Keeps, IsAtEnd}
@@ -15,10 +17,16 @@ use Rattle.vcd_text.specs.declared.fault.Fault.TheVariants as faults
 use Rattle.vcd_text.specs.declared.fault.ReadError.{ReadError}
 use Rattle.vcd_text.specs.declared.reading.chunks.Progress.{Progress}
 use Rattle.vcd_text.specs.declared.reading.reader.Reader.{Reader}
-use Rattle.vcd_text.specs.Words.{PlacedWord, line_after, ends_before, with_longer_first, with_byte, words_from, words_of, closed_words, last_line}
+use Rattle.vcd_text.specs.Words.{PlacedWord, line_after, ends_before, with_longer_first, with_byte, words_from}
+use Rattle.vcd_text.specs.Words.{words_of, closed_words, last_line}
 use Rattle.vcd_text.specs.Grammar.{ParseState, initial_state, state_after, word_texts}
-use Rattle.vcd_text.specs.Faults.{FileFault, shown as word_shown, too_early, FrontFault, ShowsFault, WordFault, among_declarations, among_changes, DeclarationFault, ChangeFault, no_declaration, no_timescale, no_kind, upscope_at_top, upscope_goes_on, no_size, no_variable, code_mixed, no_room, definitions_go_on, no_tick, tick_goes_back, value_alone, value_of_none, pair_of_none, no_value, value_too_long, declaration_late, no_change}
-use Rattle.vcd_text.specs.Refusals.{IsRefusal, has_fault, too_large, no_memory, IsFrontAnswer, shown, no_fault, memory_error}
+use Rattle.vcd_text.specs.Faults.{FileFault, shown as word_shown, too_early, FrontFault, ShowsFault, WordFault}
+use Rattle.vcd_text.specs.Faults.{among_declarations, among_changes, DeclarationFault, ChangeFault, no_declaration}
+use Rattle.vcd_text.specs.Faults.{no_timescale, no_kind, upscope_at_top, upscope_goes_on, no_size, no_variable}
+use Rattle.vcd_text.specs.Faults.{code_mixed, no_room, definitions_go_on, no_tick, tick_goes_back, value_alone}
+use Rattle.vcd_text.specs.Faults.{value_of_none, pair_of_none, no_value, value_too_long, declaration_late, no_change}
+use Rattle.vcd_text.specs.Refusals.{IsRefusal, has_fault, too_large, no_memory, IsFrontAnswer, shown, no_fault}
+use Rattle.vcd_text.specs.Refusals.{memory_error}
 use Rattle.vcd_text.specs.inside.Spaces.{is_closed}
 use Rattle.vcd_text.specs.inside.Reading.{Reads}
 use Rattle.vcd_text.specs.inside.Chunks.{HasTaken, HasCome}
@@ -38,12 +46,14 @@ line_one b line = by_test (b == 10)
     by_test false = omega arith
 
 line_more : (b line : ℕ) (bs : List ℕ) → line_after b line + feeds bs ≡ line + feeds (b ∷ bs)
-line_more b line bs = let all : feeds (b ∷ bs) ≡ feeds (b ∷ []) + feeds bs = feeds_both (b ∷ []) bs in omega (arith, all, line_one b line)
+line_more b line bs = let all : feeds (b ∷ bs) ≡ feeds (b ∷ []) + feeds bs = feeds_both (b ∷ []) bs in
+    omega (arith, all, line_one b line)
 
 -- ---- text up to white space
 
 -- a text that ends in white space behind its first n bytes
-pub closed_at : (n : ℕ) (bytes : List ℕ) → n < length bytes → is_white_space (get_or bytes n 0) ≡ true → is_closed (take (suc n) bytes) ≡ true
+pub closed_at : (n : ℕ) (bytes : List ℕ) → n < length bytes → is_white_space (get_or bytes n 0) ≡ true
+    → is_closed (take (suc n) bytes) ≡ true
 closed_at zero [] within space = absurd (omega arith)
 closed_at zero (b ∷ bs) within space = space
 closed_at (suc n) [] within space = absurd (omega arith)
@@ -51,23 +61,27 @@ closed_at (suc n) (b ∷ []) within space = absurd (omega arith)
 closed_at (suc n) (b ∷ c ∷ bs) within space = closed_at n (c ∷ bs) (omega arith) space
 
 -- a closed text that begins with a word has a word
-some_word : (line b : ℕ) (bs : List ℕ) → is_closed (b ∷ bs) ≡ true → is_white_space b ≡ false → 0 < length (words_from true line (b ∷ bs))
+some_word : (line b : ℕ) (bs : List ℕ) → is_closed (b ∷ bs) ≡ true → is_white_space b ≡ false
+    → 0 < length (words_from true line (b ∷ bs))
 unfolding words_from
 some_word line b [] closed black = let no : false ≡ true = sym black ∙ closed in absurd (cc)
 some_word line b (c ∷ bs) closed black =
-    subst (λ s. 0 < length (with_byte s (is_white_space c) b line (words_from true (line_after b line) (c ∷ bs)))) (sym black) (by_test (is_white_space c) refl (λ e. some_word (line_after b line) c bs closed e))
+    subst (λ s. 0 < length (with_byte s (is_white_space c) b line (words_from true (line_after b line) (c ∷ bs))))
+    (sym black) (by_test (is_white_space c) refl (λ e. some_word (line_after b line) c bs closed e))
   where
     longer : (ws : List PlacedWord) → 0 < length ws → 0 < length (with_longer_first b line ws)
     longer [] some = absurd (omega arith)
     longer (w ∷ ws) some = omega arith
 
-    by_test : (t : Bool) → is_white_space c ≡ t → (is_white_space c ≡ false → 0 < length (words_from true (line_after b line) (c ∷ bs)))
+    by_test : (t : Bool) → is_white_space c ≡ t
+        → (is_white_space c ≡ false → 0 < length (words_from true (line_after b line) (c ∷ bs)))
         → 0 < length (with_byte false t b line (words_from true (line_after b line) (c ∷ bs)))
     by_test true e some = omega arith
     by_test false e some = longer (words_from true (line_after b line) (c ∷ bs)) (some e)
 
 -- a byte before words and others
-byte_first : (space last : Bool) (b line : ℕ) (ws more : List PlacedWord) → (space ≡ false → last ≡ false → 0 < length ws)
+byte_first : (space last : Bool) (b line : ℕ) (ws more : List PlacedWord)
+    → (space ≡ false → last ≡ false → 0 < length ws)
     → with_byte space last b line (ws ++ more) ≡ with_byte space last b line ws ++ more
 byte_first true last b line ws more some = refl
 byte_first false true b line ws more some = refl
@@ -78,21 +92,26 @@ byte_first false false b line (w ∷ ws) more some = refl
 pub words_closed : (whole : Bool) (line : ℕ) (text rest : List ℕ) → is_closed text ≡ true
     → words_from whole line (text ++ rest) ≡ words_from true line text ++ words_from whole (line + feeds text) rest
 unfolding words_from
-words_closed whole line [] rest closed = let same : line ≡ line + feeds [] = omega arith in ap (λ n. words_from whole n rest) same
+words_closed whole line [] rest closed = let same : line ≡ line + feeds [] = omega arith in
+    ap (λ n. words_from whole n rest) same
 words_closed whole line (b ∷ []) rest closed =
     ap (λ s. with_byte s (ends_before whole rest) b line (words_from whole (line_after b line) rest)) closed
     ∙ ap (λ n. words_from whole n rest) (line_one b line)
     ∙ ap (λ s. with_byte s true b line [] ++ words_from whole (line + feeds (b ∷ [])) rest) (sym closed)
 words_closed whole line (b ∷ c ∷ text) rest closed =
-    ap (with_byte (is_white_space b) (is_white_space c) b line) (words_closed whole (line_after b line) (c ∷ text) rest closed)
-    ∙ byte_first (is_white_space b) (is_white_space c) b line (words_from true (line_after b line) (c ∷ text)) (words_from whole (line_after b line + feeds (c ∷ text)) rest)
+    ap (with_byte (is_white_space b) (is_white_space c) b line)
+    (words_closed whole (line_after b line) (c ∷ text) rest closed)
+    ∙ byte_first (is_white_space b) (is_white_space c) b line (words_from true (line_after b line) (c ∷ text))
+    (words_from whole (line_after b line + feeds (c ∷ text)) rest)
     (λ _ last. some_word (line_after b line) c text closed last)
-    ∙ ap (λ n. with_byte (is_white_space b) (is_white_space c) b line (words_from true (line_after b line) (c ∷ text)) ++ words_from whole n rest) (line_more b line (c ∷ text))
+    ∙ ap (λ n. with_byte (is_white_space b) (is_white_space c) b line (words_from true (line_after b line) (c ∷ text))
+    ++ words_from whole n rest) (line_more b line (c ∷ text))
 
 -- ---- one more chunk
 
 module _ (m : Reader) (word : List ℕ) (passed left : ℕ) (bytes : List ℕ) (taken : HasTaken m word passed left bytes)
-    (chunk : List ℕ) (len : ℕ) (closed : is_closed (take len (word ++ chunk)) ≡ true) (black : list_all (λ b. not (is_white_space b)) (drop len (word ++ chunk)) ≡ true) where
+    (chunk : List ℕ) (len : ℕ) (closed : is_closed (take len (word ++ chunk)) ≡ true)
+    (black : list_all (λ b. not (is_white_space b)) (drop len (word ++ chunk)) ≡ true) where
   -- what of the text is sure, and what stands behind that
   abbrev front : List ℕ
   front = take len (word ++ chunk)
@@ -102,32 +121,47 @@ module _ (m : Reader) (word : List ℕ) (passed left : ℕ) (bytes : List ℕ) (
 
   -- the words of all that has come, and of what follows
   words_now : (whole : Bool) (rest : List ℕ) → words_from whole 1 ((bytes ++ chunk) ++ rest)
-      ≡ closed_words bytes ++ (words_from true (passed + 1) front ++ words_from whole ((passed + feeds front) + 1) (back ++ rest))
+      ≡ closed_words bytes ++ (words_from true (passed + 1) front
+      ++ words_from whole ((passed + feeds front) + 1) (back ++ rest))
   words_now whole rest =
       ap (words_from whole 1) (append_assoc bytes chunk rest)
       ∙ taken.following whole (chunk ++ rest)
       ∙ ap (λ text. closed_words bytes ++ words_from whole (passed + 1) text)
-      (sym (append_assoc word chunk rest) ∙ ap (λ text. text ++ rest) (sym (take-append-drop len (word ++ chunk))) ∙ append_assoc front back rest)
+      (sym (append_assoc word chunk rest) ∙ ap (λ text. text ++ rest) (sym (take-append-drop len (word ++ chunk)))
+      ∙ append_assoc front back rest)
       ∙ ap (λ words. closed_words bytes ++ words) (words_closed whole (passed + 1) front (back ++ rest) closed)
-      ∙ ap (λ line. closed_words bytes ++ (words_from true (passed + 1) front ++ words_from whole line (back ++ rest))) (omega arith)
+      ∙ ap (λ line. closed_words bytes ++ (words_from true (passed + 1) front ++ words_from whole line (back ++ rest)))
+      (omega arith)
 
   closed_now : closed_words (bytes ++ chunk) ≡ closed_words bytes ++ words_from true (passed + 1) front
   closed_now =
       ap (words_from false 1) (sym (append-nil (bytes ++ chunk)))
       ∙ words_now false []
-      ∙ ap (λ text. closed_words bytes ++ (words_from true (passed + 1) front ++ words_from false ((passed + feeds front) + 1) text)) (append-nil back)
-      ∙ ap (λ words. closed_words bytes ++ (words_from true (passed + 1) front ++ words)) (word_part ((passed + feeds front) + 1) back black)
+      ∙ ap (λ text. closed_words bytes
+      ++ (words_from true (passed + 1) front ++ words_from false ((passed + feeds front) + 1) text))
+      (append-nil back)
+      ∙ ap (λ words. closed_words bytes ++ (words_from true (passed + 1) front ++ words))
+      (word_part ((passed + feeds front) + 1) back black)
       ∙ ap (λ words. closed_words bytes ++ words) (append-nil (words_from true (passed + 1) front))
 
   -- the words that are sure have been taken
-  pub taken_now : (new : Reader) (rest : ℕ) → length chunk + rest ≡ left → Reads new (closed_words bytes ++ words_from true (passed + 1) front)
+  pub taken_now : (new : Reader) (rest : ℕ) → length chunk + rest ≡ left
+      → Reads new (closed_words bytes ++ words_from true (passed + 1) front)
       → HasTaken new back (passed + feeds front) rest (bytes ++ chunk)
   taken_now new rest fits reads = record {
     reads = subst (Reads new) (sym closed_now) reads;
-    following = λ whole more. words_now whole more ∙ sym (append_assoc (closed_words bytes) (words_from true (passed + 1) front) (words_from whole ((passed + feeds front) + 1) (back ++ more)))
+    following = λ whole more. words_now whole more
+        ∙ sym (append_assoc (closed_words bytes) (words_from true (passed + 1) front)
+        (words_from whole ((passed + feeds front) + 1) (back ++ more)))
         ∙ ap (λ words. words ++ words_from whole ((passed + feeds front) + 1) (back ++ more)) (sym closed_now);
     black = black;
-    short = omega (arith, length-append bytes chunk, length-append word chunk, length-drop {A = ℕ} len (word ++ chunk), taken.short);
+    short = omega (
+      arith,
+      length-append bytes chunk,
+      length-append word chunk,
+      length-drop {A = ℕ} len (word ++ chunk),
+      taken.short,
+    );
     lines =
         let all = feeds_both bytes chunk in
         let text = feeds_both word chunk in
@@ -140,7 +174,8 @@ module _ (m : Reader) (word : List ℕ) (passed left : ℕ) (bytes : List ℕ) (
   }
 
   -- or one of them shows a fault
-  pub shown_now : (e : ReadError) → (e ≡ memory_error) ⊎ ShowsFault (closed_words bytes ++ words_from true (passed + 1) front) e.line e.fault
+  pub shown_now : (e : ReadError)
+      → (e ≡ memory_error) ⊎ ShowsFault (closed_words bytes ++ words_from true (passed + 1) front) e.line e.fault
       → (e ≡ memory_error) ⊎ FrontFault (bytes ++ chunk) e.line e.fault
   shown_now e (inl none) = inl none
   shown_now e (inr shows) = inr (subst (λ words. ShowsFault words e.line e.fault) (sym closed_now) shows)
@@ -159,20 +194,28 @@ nothing_taken m word none reads = record {
 }
 
 -- the words so far, and the one that nothing follows now
-pub all_words : (m : Reader) (word : List ℕ) (passed left : ℕ) (bytes : List ℕ) → HasTaken m word passed left bytes → closed_words bytes ++ words_from true (passed + 1) word ≡ words_of bytes
+pub all_words : (m : Reader) (word : List ℕ) (passed left : ℕ) (bytes : List ℕ) → HasTaken m word passed left bytes
+    → closed_words bytes ++ words_from true (passed + 1) word ≡ words_of bytes
 all_words m word passed left bytes taken =
-    ap (λ text. closed_words bytes ++ words_from true (passed + 1) text) (sym (append-nil word)) ∙ sym (taken.following true []) ∙ ap (words_from true 1) (append-nil bytes)
+    ap (λ text. closed_words bytes ++ words_from true (passed + 1) text) (sym (append-nil word))
+    ∙ sym (taken.following true []) ∙ ap (words_from true 1) (append-nil bytes)
 
 -- so all words of the bytes have been taken, or one shows a fault
-pub last_taken : (m new : Reader) (word : List ℕ) (passed left : ℕ) (bytes : List ℕ) (words : List PlacedWord) → HasTaken m word passed left bytes → words ≡ words_from true (passed + 1) word
+pub last_taken : (m new : Reader) (word : List ℕ) (passed left : ℕ) (bytes : List ℕ) (words : List PlacedWord)
+    → HasTaken m word passed left bytes → words ≡ words_from true (passed + 1) word
     → Reads new (closed_words bytes ++ words) → Reads new (words_of bytes)
-last_taken m new word passed left bytes words taken is reads = subst (Reads new) (ap (λ words. closed_words bytes ++ words) is ∙ all_words m word passed left bytes taken) reads
+last_taken m new word passed left bytes words taken is reads =
+    subst (Reads new) (ap (λ words. closed_words bytes ++ words) is ∙ all_words m word passed left bytes taken) reads
 
-pub last_shown : (m : Reader) (word : List ℕ) (passed left : ℕ) (bytes : List ℕ) (words : List PlacedWord) (e : ReadError) → HasTaken m word passed left bytes
-    → words ≡ words_from true (passed + 1) word → (e ≡ memory_error) ⊎ ShowsFault (closed_words bytes ++ words) e.line e.fault → (e ≡ memory_error) ⊎ FileFault bytes e.line e.fault
+pub last_shown : (m : Reader) (word : List ℕ) (passed left : ℕ) (bytes : List ℕ) (words : List PlacedWord)
+    (e : ReadError) → HasTaken m word passed left bytes
+    → words ≡ words_from true (passed + 1) word
+    → (e ≡ memory_error) ⊎ ShowsFault (closed_words bytes ++ words) e.line e.fault
+    → (e ≡ memory_error) ⊎ FileFault bytes e.line e.fault
 last_shown m word passed left bytes words e taken is (inl none) = inl none
 last_shown m word passed left bytes words e taken is (inr shows) =
-    inr (word_shown (subst (λ words. ShowsFault words e.line e.fault) (ap (λ words. closed_words bytes ++ words) is ∙ all_words m word passed left bytes taken) shows))
+    inr (word_shown (subst (λ words. ShowsFault words e.line e.fault) (ap (λ words. closed_words bytes ++ words) is
+    ∙ all_words m word passed left bytes taken) shows))
 
 -- ---- answers to a file of which these bytes have come
 
@@ -185,58 +228,84 @@ all_front : (n : ℕ) (xs ys : List ℕ) → length xs ≡ n → take n (xs ++ y
 all_front n xs ys is = ap (λ k. take k (xs ++ ys)) (sym is) ∙ take-append_seam xs ys
 
 -- a word that is sure shows a fault
-pub shown_early : (coming left : Option (List ℕ)) (failed : Bool) (bytes : List ℕ) (e : ReadError) → IsFalse failed → Consumes coming left bytes → length bytes ≤ FILE_LIMIT
+pub shown_early : (coming left : Option (List ℕ)) (failed : Bool) (bytes : List ℕ) (e : ReadError) → IsFalse failed
+    → Consumes coming left bytes → length bytes ≤ FILE_LIMIT
     → (e ≡ memory_error) ⊎ FrontFault bytes e.line e.fault → IfSome coming (λ file. IsRefusal file failed left e)
 shown_early None left failed bytes e ready consumes within answer = tt
 shown_early (Some xs) None failed bytes e ready consumes within answer = absurd consumes
 shown_early (Some xs) (Some ys) failed bytes e ready consumes within (inl none) = no_memory none
 shown_early (Some xs) (Some ys) failed bytes e ready consumes within (inr shows) =
     elim (cases_lt FILE_LIMIT (length xs)) [
-      | inl long ↦ too_large long (subst (λ front. IsFrontAnswer front faults.TooLarge e) (sym (ap (take FILE_LIMIT) consumes ∙ front_of FILE_LIMIT bytes ys within))
+      | inl long ↦ too_large long
+          (subst (λ front. IsFrontAnswer front faults.TooLarge e)
+          (sym (ap (take FILE_LIMIT) consumes ∙ front_of FILE_LIMIT bytes ys within))
           (shown (longer_front_fault bytes (take (FILE_LIMIT - length bytes) ys) e.line e.fault shows)))
-      | inr short ↦ has_fault ready short (subst (λ file. FileFault file e.line e.fault) (sym consumes) (front_fault_stays bytes ys e.line e.fault shows))
+      | inr short ↦ has_fault ready short
+          (subst (λ file. FileFault file e.line e.fault) (sym consumes)
+          (front_fault_stays bytes ys e.line e.fault shows))
     ]
 
 -- there is more than the limit
-pub full : (coming middle left : Option (List ℕ)) (failed : Bool) (m : Reader) (word : List ℕ) (passed : ℕ) (bytes chunk : List ℕ) (e : ReadError) → Consumes coming middle bytes → Consumes middle left chunk
-    → 0 < length chunk → HasTaken m word passed 0 bytes → e ≡ record { line = passed + 1; fault = faults.TooLarge } → IfSome coming (λ file. IsRefusal file failed left e)
+pub full : (coming middle left : Option (List ℕ)) (failed : Bool) (m : Reader) (word : List ℕ) (passed : ℕ)
+    (bytes chunk : List ℕ) (e : ReadError) → Consumes coming middle bytes → Consumes middle left chunk
+    → 0 < length chunk → HasTaken m word passed 0 bytes → e ≡ record { line = passed + 1; fault = faults.TooLarge }
+    → IfSome coming (λ file. IsRefusal file failed left e)
 full coming middle left failed m word passed bytes chunk e first second some taken is =
     larger coming left failed bytes e (over coming left (Consumes-trans coming middle left bytes chunk first second))
-    (inr (no_fault (shows_none m (closed_words bytes) taken.reads) (is ∙ (λ i. record { line = sym taken.lines i; fault = faults.TooLarge }))))
+    (inr (no_fault (shows_none m (closed_words bytes) taken.reads) (is
+    ∙ (λ i. record { line = sym taken.lines i; fault = faults.TooLarge }))))
   where
-    over : (coming left : Option (List ℕ)) → Consumes coming left (bytes ++ chunk) → IfSome coming (λ xs. (FILE_LIMIT < length xs) × (bytes ≡ take FILE_LIMIT xs))
+    over : (coming left : Option (List ℕ)) → Consumes coming left (bytes ++ chunk)
+        → IfSome coming (λ xs. (FILE_LIMIT < length xs) × (bytes ≡ take FILE_LIMIT xs))
     over None left consumes = tt
     over (Some xs) None consumes = absurd consumes
     over (Some xs) (Some ys) consumes = (
-      omega (arith, ap (length {A = ℕ}) consumes, length-append (bytes ++ chunk) ys, length-append bytes chunk, taken.room, some),
-      sym (ap (take FILE_LIMIT) (consumes ∙ append_assoc bytes chunk ys) ∙ all_front FILE_LIMIT bytes (chunk ++ ys) (omega (arith, taken.room))),
+      omega (
+        arith,
+        ap (length {A = ℕ}) consumes,
+        length-append (bytes ++ chunk) ys,
+        length-append bytes chunk,
+        taken.room,
+        some,
+      ),
+      sym (ap (take FILE_LIMIT) (consumes ∙ append_assoc bytes chunk ys)
+          ∙ all_front FILE_LIMIT bytes (chunk ++ ys) (omega (arith, taken.room))),
     )
 
 -- the reader failed
-pub broken : (coming middle left : Option (List ℕ)) (failed : Bool) (m : Reader) (word : List ℕ) (passed rest : ℕ) (bytes : List ℕ) (e : ReadError) → IsTrue failed → Consumes coming middle bytes
-    → Keeps middle left → HasTaken m word passed rest bytes → e ≡ record { line = passed + 1; fault = faults.ReadFault } → IfSome coming (λ file. IsRefusal file failed left e)
+pub broken : (coming middle left : Option (List ℕ)) (failed : Bool) (m : Reader) (word : List ℕ) (passed rest : ℕ)
+    (bytes : List ℕ) (e : ReadError) → IsTrue failed → Consumes coming middle bytes
+    → Keeps middle left → HasTaken m word passed rest bytes → e ≡ record { line = passed + 1; fault = faults.ReadFault }
+    → IfSome coming (λ file. IsRefusal file failed left e)
 broken coming middle left failed m word passed rest bytes e has consumes keeps taken is =
-    failing coming left failed bytes e has (Consumes-kept coming middle left bytes consumes keeps) (omega (arith, taken.room))
-    (inr (no_fault (shows_none m (closed_words bytes) taken.reads) (is ∙ (λ i. record { line = sym taken.lines i; fault = faults.ReadFault }))))
+    failing coming left failed bytes e has (Consumes-kept coming middle left bytes consumes keeps)
+    (omega (arith, taken.room))
+    (inr (no_fault (shows_none m (closed_words bytes) taken.reads) (is
+    ∙ (λ i. record { line = sym taken.lines i; fault = faults.ReadFault }))))
 
 -- all of it came
-pub at_end : (coming left : Option (List ℕ)) (failed : Bool) (bytes : List ℕ) (e : ReadError) → IsFalse failed → Consumes coming left bytes → IsAtEnd left → length bytes ≤ FILE_LIMIT
+pub at_end : (coming left : Option (List ℕ)) (failed : Bool) (bytes : List ℕ) (e : ReadError) → IsFalse failed
+    → Consumes coming left bytes → IsAtEnd left → length bytes ≤ FILE_LIMIT
     → (e ≡ memory_error) ⊎ FileFault bytes e.line e.fault → IfSome coming (λ file. IsRefusal file failed left e)
 at_end None left failed bytes e ready consumes ends within answer = tt
 at_end (Some xs) None failed bytes e ready consumes ends within answer = absurd consumes
 at_end (Some xs) (Some ys) failed bytes e ready consumes ends within (inl none) = no_memory none
 at_end (Some xs) (Some ys) failed bytes e ready consumes ends within (inr fault) =
     let all : bytes ≡ xs = sym (consumes ∙ ap (λ ys. bytes ++ ys) ends ∙ append-nil bytes) in
-    has_fault ready (omega (arith, within, ap (length {A = ℕ}) all)) (subst (λ file. FileFault file e.line e.fault) all fault)
+    has_fault ready (omega (arith, within, ap (length {A = ℕ}) all))
+    (subst (λ file. FileFault file e.line e.fault) all fault)
 
 -- what holds of the bytes holds of the file
-pub of_all : (coming left : Option (List ℕ)) (bytes : List ℕ) (P : List ℕ → Type 0) → Consumes coming left bytes → IsAtEnd left → P bytes → IfSome coming P
+pub of_all : (coming left : Option (List ℕ)) (bytes : List ℕ) (P : List ℕ → Type 0) → Consumes coming left bytes
+    → IsAtEnd left → P bytes → IfSome coming P
 of_all None left bytes P consumes ends holds = tt
 of_all (Some xs) None bytes P consumes ends holds = absurd consumes
-of_all (Some xs) (Some ys) bytes P consumes ends holds = subst P (sym (consumes ∙ ap (λ ys. bytes ++ ys) ends ∙ append-nil bytes)) holds
+of_all (Some xs) (Some ys) bytes P consumes ends holds =
+    subst P (sym (consumes ∙ ap (λ ys. bytes ++ ys) ends ∙ append-nil bytes)) holds
 
 -- no word shows that a reader failed
-by_declaration : (c : ParseState) (begun : List (List ℕ)) (word : List ℕ) (fault : Fault) → fault ≡ faults.ReadFault → DeclarationFault c begun word fault → ⊥
+by_declaration : (c : ParseState) (begun : List (List ℕ)) (word : List ℕ) (fault : Fault) → fault ≡ faults.ReadFault
+    → DeclarationFault c begun word fault → ⊥
 by_declaration c begun word fault is (no_declaration p q r) = absurd (cc)
 by_declaration c begun word fault is (no_timescale words p q s t r) = absurd (cc)
 by_declaration c begun word fault is (no_kind p q r) = absurd (cc)
@@ -248,7 +317,8 @@ by_declaration c begun word fault is (code_mixed words d p q s t u v r) = absurd
 by_declaration c begun word fault is (no_room words d p q s t u v w r) = absurd (cc)
 by_declaration c begun word fault is (definitions_go_on p q r) = absurd (cc)
 
-by_change : (c : ParseState) (begun : List (List ℕ)) (word : List ℕ) (fault : Fault) → fault ≡ faults.ReadFault → ChangeFault c begun word fault → ⊥
+by_change : (c : ParseState) (begun : List (List ℕ)) (word : List ℕ) (fault : Fault) → fault ≡ faults.ReadFault
+    → ChangeFault c begun word fault → ⊥
 by_change c begun word fault is (no_tick digits p q s r) = absurd (cc)
 by_change c begun word fault is (tick_goes_back digits p q s t r) = absurd (cc)
 by_change c begun word fault is (value_alone digit p q s r) = absurd (cc)
@@ -259,24 +329,33 @@ by_change c begun word fault is (value_too_long first digits d p q s t u v r) = 
 by_change c begun word fault is (declaration_late p q r) = absurd (cc)
 by_change c begun word fault is (no_change first text p q s t r) = absurd (cc)
 
-by_word : (c : ParseState) (begun : List (List ℕ)) (word : List ℕ) (fault : Fault) → fault ≡ faults.ReadFault → WordFault c begun word fault → ⊥
+by_word : (c : ParseState) (begun : List (List ℕ)) (word : List ℕ) (fault : Fault) → fault ≡ faults.ReadFault
+    → WordFault c begun word fault → ⊥
 by_word c begun word fault is (among_declarations declares shows) = by_declaration c begun word fault is shows
 by_word c begun word fault is (among_changes changes shows) = by_change c begun word fault is shows
 
-pub is_no_failure : (bytes : List ℕ) (e : ReadError) → (e ≡ memory_error) ⊎ FrontFault bytes e.line e.fault → e.fault ≡ faults.ReadFault → ⊥
-is_no_failure bytes e (inl none) is = let fault : e.fault ≡ faults.NoMemory = ap (λ (e : ReadError). e.fault) none in absurd (cc)
-is_no_failure bytes e (inr shows) is = by_word (state_after initial_state shows.items) (word_texts shows.begun) shows.word.text e.fault is shows.decided
+pub is_no_failure : (bytes : List ℕ) (e : ReadError) → (e ≡ memory_error) ⊎ FrontFault bytes e.line e.fault
+    → e.fault ≡ faults.ReadFault → ⊥
+is_no_failure bytes e (inl none) is = let fault : e.fault ≡ faults.NoMemory = ap (λ (e : ReadError). e.fault) none in
+    absurd (cc)
+is_no_failure bytes e (inr shows) is =
+    by_word (state_after initial_state shows.items) (word_texts shows.begun) shows.word.text e.fault is shows.decided
 
-pub is_no_file_failure : (bytes : List ℕ) (e : ReadError) → (e ≡ memory_error) ⊎ FileFault bytes e.line e.fault → e.fault ≡ faults.ReadFault → ⊥
-is_no_file_failure bytes e (inl none) is = let fault : e.fault ≡ faults.NoMemory = ap (λ (e : ReadError). e.fault) none in absurd (cc)
-is_no_file_failure bytes e (inr (word_shown shows)) is = by_word (state_after initial_state shows.items) (word_texts shows.begun) shows.word.text e.fault is shows.decided
+pub is_no_file_failure : (bytes : List ℕ) (e : ReadError) → (e ≡ memory_error) ⊎ FileFault bytes e.line e.fault
+    → e.fault ≡ faults.ReadFault → ⊥
+is_no_file_failure bytes e (inl none) is = let fault : e.fault ≡ faults.NoMemory =
+    ap (λ (e : ReadError). e.fault) none in absurd (cc)
+is_no_file_failure bytes e (inr (word_shown shows)) is =
+    by_word (state_after initial_state shows.items) (word_texts shows.begun) shows.word.text e.fault is shows.decided
 is_no_file_failure bytes e (inr (too_early stops line fault)) is = absurd (cc)
 
 -- ---- a chunk behind what has been taken
 
 -- it has come behind the word that may go on
-pub has_come : (p now : Progress) (from count : ℕ) (before word chunk : List ℕ) → HasTaken p.reader p.buffer.bytes p.passed p.left before → now.reader ≡ p.reader → now.passed ≡ p.passed
-    → now.buffer.bytes ≡ word ++ chunk → word ≡ p.buffer.bytes → count ≡ length chunk → count ≤ p.left → now.left ≡ p.left - count → from ≡ length word → HasCome now from (before ++ chunk)
+pub has_come : (p now : Progress) (from count : ℕ) (before word chunk : List ℕ)
+    → HasTaken p.reader p.buffer.bytes p.passed p.left before → now.reader ≡ p.reader → now.passed ≡ p.passed
+    → now.buffer.bytes ≡ word ++ chunk → word ≡ p.buffer.bytes → count ≡ length chunk → count ≤ p.left
+    → now.left ≡ p.left - count → from ≡ length word → HasCome now from (before ++ chunk)
 has_come p now from count before word chunk taken reader passed text same many within left len =
     let fits : p.left ≡ now.left + length chunk = omega (arith, left, many, within) in
     record {
@@ -284,46 +363,61 @@ has_come p now from count before word chunk taken reader passed text same many w
       word = p.buffer.bytes;
       chunk = chunk;
       taken = subst (λ m. HasTaken m p.buffer.bytes now.passed (now.left + length chunk) before) (sym reader)
-          (subst (λ n. HasTaken p.reader p.buffer.bytes n (now.left + length chunk) before) (sym passed) (subst (λ left. HasTaken p.reader p.buffer.bytes p.passed left before) fits taken));
+          (subst (λ n. HasTaken p.reader p.buffer.bytes n (now.left + length chunk) before) (sym passed)
+          (subst (λ left. HasTaken p.reader p.buffer.bytes p.passed left before) fits taken));
       text = text ∙ ap (λ word. word ++ chunk) same;
       len = len ∙ ap (length {A = ℕ}) same;
       all = refl;
     }
 
 -- the words that are sure have been taken
-pub now_taken : (p : Progress) (from len : ℕ) (bytes : List ℕ) (new : Reader) (closed : List ℕ) (words : List PlacedWord) → (come : HasCome p from bytes)
-    → is_closed (take len p.buffer.bytes) ≡ true → list_all (λ b. not (is_white_space b)) (drop len p.buffer.bytes) ≡ true → closed ≡ take len p.buffer.bytes → words ≡ words_from true (p.passed + 1) closed
-    → Reads new (closed_words come.before ++ words) → HasTaken new (drop len p.buffer.bytes) (p.passed + feeds closed) p.left bytes
+pub now_taken : (p : Progress) (from len : ℕ) (bytes : List ℕ) (new : Reader) (closed : List ℕ)
+    (words : List PlacedWord) → (come : HasCome p from bytes)
+    → is_closed (take len p.buffer.bytes) ≡ true → list_all (λ b. not (is_white_space b)) (drop len p.buffer.bytes)
+    ≡ true → closed ≡ take len p.buffer.bytes → words ≡ words_from true (p.passed + 1) closed
+    → Reads new (closed_words come.before ++ words)
+    → HasTaken new (drop len p.buffer.bytes) (p.passed + feeds closed) p.left bytes
 now_taken p from len bytes new closed words come ends black front is reads =
     let text = come.text in
     subst (λ bytes. HasTaken new (drop len p.buffer.bytes) (p.passed + feeds closed) p.left bytes) (sym come.all)
-    (subst (λ n. HasTaken new (drop len p.buffer.bytes) n p.left (come.before ++ come.chunk)) (ap (λ l. p.passed + feeds l) (sym (front ∙ ap (take len) text)))
-    (subst (λ l. HasTaken new l (p.passed + feeds (take len (come.word ++ come.chunk))) p.left (come.before ++ come.chunk)) (sym (ap (drop len) text))
-    (taken_now p.reader come.word p.passed (p.left + length come.chunk) come.before come.taken come.chunk len (sym (ap (λ l. is_closed (take len l)) text) ∙ ends)
+    (subst (λ n. HasTaken new (drop len p.buffer.bytes) n p.left (come.before ++ come.chunk))
+    (ap (λ l. p.passed + feeds l) (sym (front ∙ ap (take len) text)))
+    (subst (λ l. HasTaken new l (p.passed + feeds (take len (come.word ++ come.chunk))) p.left
+    (come.before ++ come.chunk)) (sym (ap (drop len) text))
+    (taken_now p.reader come.word p.passed (p.left + length come.chunk) come.before come.taken come.chunk len
+    (sym (ap (λ l. is_closed (take len l)) text) ∙ ends)
     (sym (ap (λ l. list_all (λ b. not (is_white_space b)) (drop len l)) text) ∙ black) new p.left (omega arith)
-    (subst (λ words. Reads new (closed_words come.before ++ words)) (is ∙ ap (words_from true (p.passed + 1)) (front ∙ ap (take len) text)) reads))))
+    (subst (λ words. Reads new (closed_words come.before ++ words)) (is
+    ∙ ap (words_from true (p.passed + 1)) (front ∙ ap (take len) text)) reads))))
 
 -- or one of them shows a fault
-pub now_shown : (p : Progress) (from len : ℕ) (bytes : List ℕ) (e : ReadError) (closed : List ℕ) (words : List PlacedWord) → (come : HasCome p from bytes)
-    → is_closed (take len p.buffer.bytes) ≡ true → list_all (λ b. not (is_white_space b)) (drop len p.buffer.bytes) ≡ true → closed ≡ take len p.buffer.bytes → words ≡ words_from true (p.passed + 1) closed
-    → (e ≡ memory_error) ⊎ ShowsFault (closed_words come.before ++ words) e.line e.fault → (e ≡ memory_error) ⊎ FrontFault bytes e.line e.fault
+pub now_shown : (p : Progress) (from len : ℕ) (bytes : List ℕ) (e : ReadError) (closed : List ℕ)
+    (words : List PlacedWord) → (come : HasCome p from bytes)
+    → is_closed (take len p.buffer.bytes) ≡ true → list_all (λ b. not (is_white_space b)) (drop len p.buffer.bytes)
+    ≡ true → closed ≡ take len p.buffer.bytes → words ≡ words_from true (p.passed + 1) closed
+    → (e ≡ memory_error) ⊎ ShowsFault (closed_words come.before ++ words) e.line e.fault
+    → (e ≡ memory_error) ⊎ FrontFault bytes e.line e.fault
 now_shown p from len bytes e closed words come ends black front is shows =
     let text = come.text in
     subst (λ bytes. (e ≡ memory_error) ⊎ FrontFault bytes e.line e.fault) (sym come.all)
-    (shown_now p.reader come.word p.passed (p.left + length come.chunk) come.before come.taken come.chunk len (sym (ap (λ l. is_closed (take len l)) text) ∙ ends)
+    (shown_now p.reader come.word p.passed (p.left + length come.chunk) come.before come.taken come.chunk len
+    (sym (ap (λ l. is_closed (take len l)) text) ∙ ends)
     (sym (ap (λ l. list_all (λ b. not (is_white_space b)) (drop len l)) text) ∙ black) e
-    (subst (λ words. (e ≡ memory_error) ⊎ ShowsFault (closed_words come.before ++ words) e.line e.fault) (is ∙ ap (words_from true (p.passed + 1)) (front ∙ ap (take len) text)) shows))
+    (subst (λ words. (e ≡ memory_error) ⊎ ShowsFault (closed_words come.before ++ words) e.line e.fault) (is
+    ∙ ap (words_from true (p.passed + 1)) (front ∙ ap (take len) text)) shows))
 
 -- the first bytes of the text are those of the word that may go on
 pub word_is_first : (p : Progress) (from : ℕ) (bytes : List ℕ) → HasCome p from bytes
-    → (from ≤ length p.buffer.bytes) × (list_all (λ b. not (is_white_space b)) (take from p.buffer.bytes) ≡ true) × (length bytes + p.left ≡ FILE_LIMIT) × (length p.buffer.bytes ≤ length bytes) × (p.passed ≤ length bytes)
+    → (from ≤ length p.buffer.bytes) × (list_all (λ b. not (is_white_space b)) (take from p.buffer.bytes) ≡ true)
+    × (length bytes + p.left ≡ FILE_LIMIT) × (length p.buffer.bytes ≤ length bytes) × (p.passed ≤ length bytes)
 word_is_first p from bytes come =
     let long = ap (length {A = ℕ}) come.text ∙ length-append come.word come.chunk in
     let all = ap (length {A = ℕ}) come.all ∙ length-append come.before come.chunk in
     let lines : last_line come.before ≡ p.passed + 1 = come.taken.lines in
     let few : feeds come.before ≤ length come.before = count_by-le-length (λ b. b == 10) come.before in (
       omega (arith, come.len, long),
-      ap (list_all (λ b. not (is_white_space b))) ((λ i. take (come.len i) (come.text i)) ∙ take-append_seam come.word come.chunk) ∙ come.taken.black,
+      ap (list_all (λ b. not (is_white_space b))) ((λ i. take (come.len i) (come.text i))
+          ∙ take-append_seam come.word come.chunk) ∙ come.taken.black,
       omega (arith, all, come.taken.room),
       omega (arith, all, long, come.taken.short),
       omega (arith, all, lines, few),

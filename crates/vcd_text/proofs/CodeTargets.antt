@@ -1,5 +1,6 @@
 -- What codes stand for.
-use Rattle.std.proofs.Common.{◌≡◌, ℕ, Bool, true, false, if◌then◌else◌, List, [], ◌∷◌, ◌++◌, find, Option, None, Some, refl, sym, subst, ◌∙◌}
+use Rattle.std.proofs.Common.{◌≡◌, ℕ, Bool, true, false, if◌then◌else◌, List, [], ◌∷◌, ◌++◌, find, Option, None, Some}
+use Rattle.std.proofs.Common.{refl, sym, subst, ◌∙◌}
 use Rattle.std.specs.Prelude.{bytes_eq}
 use Rattle.std.specs.Option.{option_or}
 use Rattle.std.specs.Global.{Vec}
@@ -24,7 +25,8 @@ pub own_code : (a : List ℕ) → bytes_eq a a ≡ true
 own_code a = (bytes_eq-Decides a a).1 refl
 
 -- a code is another one, or the same
-pub by_code : (P : Bool → Type 0) (a b : List ℕ) → (a ≡ b → P true) → (bytes_eq a b ≡ false → P false) → P (bytes_eq a b)
+pub by_code : (P : Bool → Type 0) (a b : List ℕ) → (a ≡ b → P true) → (bytes_eq a b ≡ false → P false)
+    → P (bytes_eq a b)
 by_code P a b same other = choose (bytes_eq a b) refl
   where
     choose : (e : Bool) → bytes_eq a b ≡ e → P e
@@ -33,41 +35,54 @@ by_code P a b same other = choose (bytes_eq a b) refl
 
 -- ---- a code that is put into the map
 
-module _ {S : Type 0} (old new : IndexMap (Vec ℕ) CodeTarget S) (k : Vec ℕ) (w : CodeTarget) (puts : Updates (λ (x : Vec ℕ) (y : Vec ℕ). bytes_eq x.items y.items) old new k (Some w)) where
-  put_elsewhere : (key : List ℕ) → bytes_eq key k.items ≡ false → get_by (λ v. bytes_eq key v.items) new ≡ get_by (λ v. bytes_eq key v.items) old
+module _ {S : Type 0} (old new : IndexMap (Vec ℕ) CodeTarget S) (k : Vec ℕ) (w : CodeTarget)
+    (puts : Updates (λ (x : Vec ℕ) (y : Vec ℕ). bytes_eq x.items y.items) old new k (Some w)) where
+  put_elsewhere : (key : List ℕ) → bytes_eq key k.items ≡ false
+      → get_by (λ v. bytes_eq key v.items) new ≡ get_by (λ v. bytes_eq key v.items) old
   unfolding KeepsOthers
   put_elsewhere key apart =
       puts.3 (λ v. bytes_eq key v.items) (λ x y. nat_list_eq_equiv.congr key x.items y.items)
-      (λ v at. nat_list_eq_equiv.symm key v.items ∙ sym (nat_list_eq_equiv.congr k.items v.items key at) ∙ nat_list_eq_equiv.symm k.items key ∙ apart)
+      (λ v at. nat_list_eq_equiv.symm key v.items ∙ sym (nat_list_eq_equiv.congr k.items v.items key at)
+      ∙ nat_list_eq_equiv.symm k.items key ∙ apart)
 
   -- then it stands for what was put, and the others stand for what they stood for
-  pub target_put : (key : List ℕ) → get_by (λ v. bytes_eq key v.items) new ≡ (if bytes_eq key k.items then Some w else get_by (λ v. bytes_eq key v.items) old)
+  pub target_put : (key : List ℕ)
+      → get_by (λ v. bytes_eq key v.items) new
+      ≡ (if bytes_eq key k.items then Some w else get_by (λ v. bytes_eq key v.items) old)
   target_put key =
-      by_code (λ b. get_by (λ v. bytes_eq key v.items) new ≡ (if b then Some w else get_by (λ v. bytes_eq key v.items) old)) key k.items
+      by_code (λ b. get_by (λ v. bytes_eq key v.items) new
+      ≡ (if b then Some w else get_by (λ v. bytes_eq key v.items) old)) key k.items
       (λ same. subst (λ code. get_by (λ v. bytes_eq code v.items) new ≡ Some w) (sym same) puts.1)
       (put_elsewhere key)
 
 -- ---- a code against the variables that were declared
 
-module _ (vs : List Variable) (log : ℕ → List LoggedChange) (value_changes : List ValueChange) (tick : ℕ) (code : List ℕ) where
+module _ (vs : List Variable) (log : ℕ → List LoggedChange) (value_changes : List ValueChange) (tick : ℕ)
+    (code : List ℕ) where
   -- that of a variable that is kept has its wave
-  pub stands_kept : (declared : Option VariableDeclaration) (position : ℕ) → TargetMatches vs log value_changes tick code (Some (Kept position)) declared
-      → (d : VariableDeclaration) × (declared ≡ Some d) × (is_skipped d ≡ false) × HasWave vs log position code d.size value_changes tick
+  pub stands_kept : (declared : Option VariableDeclaration) (position : ℕ)
+      → TargetMatches vs log value_changes tick code (Some (Kept position)) declared
+      → (d : VariableDeclaration) × (declared ≡ Some d) × (is_skipped d ≡ false)
+      × HasWave vs log position code d.size value_changes tick
   stands_kept None position s = absurd s
   stands_kept (Some d) position s = (d, refl, s.0, s.1)
 
 -- what holds of the waves in one list holds in another
-pub stands_moved : (vs ws : List Variable) (log rest : ℕ → List LoggedChange) (rs ss : List ValueChange) (early late : ℕ) (code : List ℕ) (target : Option CodeTarget) (declared : Option VariableDeclaration)
-    → ((position size : ℕ) → target ≡ Some (Kept position) → HasWave vs log position code size rs early → HasWave ws rest position code size ss late)
+pub stands_moved : (vs ws : List Variable) (log rest : ℕ → List LoggedChange) (rs ss : List ValueChange)
+    (early late : ℕ) (code : List ℕ) (target : Option CodeTarget) (declared : Option VariableDeclaration)
+    → ((position size : ℕ) → target ≡ Some (Kept position) → HasWave vs log position code size rs early
+    → HasWave ws rest position code size ss late)
     → TargetMatches vs log rs early code target declared → TargetMatches ws rest ss late code target declared
 stands_moved vs ws log rest rs ss early late code None None transitions s = s
 stands_moved vs ws log rest rs ss early late code None (Some d) transitions s = s
 stands_moved vs ws log rest rs ss early late code (Some Skipped) None transitions s = s
 stands_moved vs ws log rest rs ss early late code (Some Skipped) (Some d) transitions s = s
 stands_moved vs ws log rest rs ss early late code (Some (Kept position)) None transitions s = s
-stands_moved vs ws log rest rs ss early late code (Some (Kept position)) (Some d) transitions s = (s.0, transitions position d.size refl s.1)
+stands_moved vs ws log rest rs ss early late code (Some (Kept position)) (Some d) transitions s =
+    (s.0, transitions position d.size refl s.1)
 
 -- the first variable of a code, with one more declared
 pub found_with : (code : List ℕ) (ds : List VariableDeclaration) (d : VariableDeclaration)
-    → find (λ e. bytes_eq code e.code) (ds ++ d ∷ []) ≡ option_or (find (λ e. bytes_eq code e.code) ds) (if bytes_eq code d.code then Some d else None)
+    → find (λ e. bytes_eq code e.code) (ds ++ d ∷ [])
+    ≡ option_or (find (λ e. bytes_eq code e.code) ds) (if bytes_eq code d.code then Some d else None)
 found_with code ds d = find-append (λ (e : VariableDeclaration). bytes_eq code e.code) ds (d ∷ [])

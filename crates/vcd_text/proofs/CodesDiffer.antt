@@ -1,7 +1,9 @@
 -- Codes of two positions differ, and a code is a word of at most three bytes.
-use Rattle.std.proofs.Common.{◌≡◌, ◌<◌, ◌≤◌, ◌+◌, ◌/◌, ◌%◌, ◌&&◌, ◌==◌, ℕ, zero, suc, Bool, true, false, not, List, [], ◌∷◌, length, refl, ap, arith, nat_le, ◌*◌, add-one}
+use Rattle.std.proofs.Common.{◌≡◌, ◌<◌, ◌≤◌, ◌+◌, ◌/◌, ◌%◌, ◌&&◌, ◌==◌, ℕ, zero, suc, Bool, true, false, not, List, []}
+use Rattle.std.proofs.Common.{◌∷◌, length, refl, ap, arith, nat_le, ◌*◌, add-one}
 use Rattle.std.specs.List.{list_all}
-use Rattle.std.proofs.lemmas.Bool.{and_from, and_parts, and_right, or_from, not_from_false, false_from_ne_true, le-leb, lt-leb, leb-true, ne_eqb}
+use Rattle.std.proofs.lemmas.Bool.{and_from, and_parts, and_right, or_from, not_from_false, false_from_ne_true, le-leb}
+use Rattle.std.proofs.lemmas.Bool.{lt-leb, leb-true, ne_eqb}
 use Rattle.std.proofs.lemmas.Slice.Eq.{bytes_eq-Decides}
 use Rattle.vcd_core.specs.declared.capture.TheConstants.{SIGNAL_LIMIT}
 use Rattle.vcd_core.specs.Word.{is_white_space}
@@ -54,7 +56,8 @@ digits_printable a zero = refl
 digits_printable zero (suc n) = refl
 digits_printable (suc a) (suc n) =
     and_from (is_code_byte (33 + n % 94)) (list_all is_code_byte (code_digits a (n / 94)))
-    (and_from (nat_le 33 (33 + n % 94)) (nat_le (33 + n % 94) 126) (le-leb 33 (33 + n % 94) (omega arith)) (le-leb (33 + n % 94) 126 (omega arith)))
+    (and_from (nat_le 33 (33 + n % 94)) (nat_le (33 + n % 94) 126) (le-leb 33 (33 + n % 94) (omega arith))
+    (le-leb (33 + n % 94) 126 (omega arith)))
     (digits_printable a (n / 94))
 
 -- each byte of a code is printable
@@ -68,7 +71,9 @@ code_not_empty k = let from_one : k + 1 ≡ suc k = add-one k in rw from_one (om
 
 -- one digit more than the number without its lowest digit
 one_more_digit : (n l : ℕ) → length (code_digits (n / 94) (n / 94)) ≤ l → length (code_digits (suc n) (suc n)) ≤ suc l
-one_more_digit n l short = let same : length (code_digits (suc n) (suc n)) ≡ suc (length (code_digits (n / 94) (n / 94))) = ap length (next_digit n) in omega arith
+one_more_digit n l short =
+    let same : length (code_digits (suc n) (suc n)) ≡ suc (length (code_digits (n / 94) (n / 94))) =
+    ap length (next_digit n) in omega arith
 
 -- how many digits a number has at most
 digits_few : (l n : ℕ) → n ≤ greatest l → length (code_digits n n) ≤ l
@@ -87,7 +92,8 @@ printable_is_black b printable =
     let bounds : (nat_le 33 b ≡ true) × (nat_le b 126 ≡ true) = and_parts (nat_le 33 b) (nat_le b 126) printable in
     let above : 33 ≤ b = leb-true 33 b bounds.0 in
     not_from_false (is_white_space b)
-    (or_from (nat_le 9 b && nat_le b 13) (b == 32) (and_right (nat_le 9 b) (nat_le b 13) (lt-leb b 13 (omega arith))) (ne_eqb b 32 (λ e. omega arith)))
+    (or_from (nat_le 9 b && nat_le b 13) (b == 32) (and_right (nat_le 9 b) (nat_le b 13) (lt-leb b 13 (omega arith)))
+    (ne_eqb b 32 (λ e. omega arith)))
 
 -- a code has no white space
 pub code_black : (k : ℕ) → list_all (λ b. not (is_white_space b)) (code_of k) ≡ true

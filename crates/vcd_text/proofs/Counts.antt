@@ -1,5 +1,7 @@
 -- The changes of all waves are, by tick, the signals that differ from the tick before.
-use Rattle.std.proofs.Common.{◌≡◌, ◌≢◌, ◌⊎◌, inl, inr, ◌<◌, ◌≤◌, ◌+◌, ◌-◌, ℕ, zero, suc, Bool, true, false, cond, not, ◌&&◌, ◌==◌, nat_le, nat_lt, List, [], ◌∷◌, ◌++◌, length, map, All, refl, sym, ap, subst, ◌∙◌, arith, append_assoc, eq-eqb}
+use Rattle.std.proofs.Common.{◌≡◌, ◌≢◌, ◌⊎◌, inl, inr, ◌<◌, ◌≤◌, ◌+◌, ◌-◌, ℕ, zero, suc, Bool, true, false, cond, not}
+use Rattle.std.proofs.Common.{◌&&◌, ◌==◌, nat_le, nat_lt, List, [], ◌∷◌, ◌++◌, length, map, All, refl, sym, ap, subst}
+use Rattle.std.proofs.Common.{◌∙◌, arith, append_assoc, eq-eqb}
 use Rattle.std.specs.List.{filter, enumerate_from}
 use Rattle.std.proofs.lemmas.Bool.{cases_lt, cases_eq, ne_eqb, le-leb, lt-leb, lt-ltb, le-ltb}
 use Rattle.std.proofs.lemmas.List.{length-append}
@@ -12,7 +14,8 @@ use Rattle.vcd_core.specs.Wave.{value_from, AreChangesFrom}
 use Rattle.vcd_core.specs.Contents.{SignalContents, signal_value}
 use Rattle.vcd_core.specs.Sound.{IsSoundSignal}
 use Rattle.vcd_core.proofs.Waves.{value_past, value_skip, value_early}
-use Rattle.vcd_text.specs.inside.Transitions.{Transition, transition_of, transitions_at, transitions_from, is_in_window, window_of_signal, unsorted_window}
+use Rattle.vcd_text.specs.inside.Transitions.{Transition, transition_of, transitions_at, transitions_from, is_in_window}
+use Rattle.vcd_text.specs.inside.Transitions.{window_of_signal, unsorted_window}
 use Rattle.vcd_text.specs.Text.{differs_at}
 use Rattle.vcd_text.proofs.Sorting.{counted, once, times, times-append, RisesFrom}
 
@@ -39,17 +42,21 @@ once_here t k j = ap (λ b. counted (b && (j == k))) (eq-eqb t t refl) ∙ by (j
     by true = refl
     by false = refl
 
-times_here : (t k j : ℕ) (ss : List SignalContents) → times t k (transitions_at t (enumerate_from j ss)) ≡ marks t k j ss
+times_here : (t k j : ℕ) (ss : List SignalContents)
+    → times t k (transitions_at t (enumerate_from j ss)) ≡ marks t k j ss
 times_here t k j [] = refl
 times_here t k j (s ∷ ss) = step (differs_at t s) (times_here t k (j + 1) ss)
   where
     step : (b : Bool) → times t k (transitions_at t (enumerate_from (j + 1) ss)) ≡ marks t k (j + 1) ss
-        → times t k (map (λ p. transition_of t p.0) (cond b ((j, s) ∷ filter (λ p. differs_at t p.1) (enumerate_from (j + 1) ss)) (filter (λ p. differs_at t p.1) (enumerate_from (j + 1) ss))))
+        → times t k (map (λ p. transition_of t p.0)
+        (cond b ((j, s) ∷ filter (λ p. differs_at t p.1) (enumerate_from (j + 1) ss))
+        (filter (λ p. differs_at t p.1) (enumerate_from (j + 1) ss))))
         ≡ if_so (j == k) (counted b) + marks t k (j + 1) ss
     step true rest = omega (arith, once_here t k j, rest)
     step false rest = omega (arith, if_zero (j == k), rest)
 
-elsewhere : (u t k : ℕ) (placed : List (ℕ × SignalContents)) → t ≢ u → times u k (map (λ p. transition_of t p.0) placed) ≡ 0
+elsewhere : (u t k : ℕ) (placed : List (ℕ × SignalContents)) → t ≢ u
+    → times u k (map (λ p. transition_of t p.0) placed) ≡ 0
 elsewhere u t k [] other = refl
 elsewhere u t k (p ∷ ps) other =
     let here : once u k (transition_of t p.0) ≡ 0 = ap (λ b. counted (b && (p.0 == k))) (ne_eqb t u other) in
@@ -60,16 +67,25 @@ unfolding transitions_from
 earlier signals a zero t k early = refl
 earlier signals a (suc n) t k early =
     times-append t k (transitions_at a (enumerate_from 0 signals)) (transitions_from signals (suc a) n)
-    ∙ omega (arith, elsewhere t a k (filter (λ p. differs_at a p.1) (enumerate_from 0 signals)) (omega arith), earlier signals (suc a) n t k (omega arith))
+    ∙ omega (
+      arith,
+      elsewhere t a k (filter (λ p. differs_at a p.1) (enumerate_from 0 signals)) (omega arith),
+      earlier signals (suc a) n t k (omega arith),
+    )
 
 later : (signals : List SignalContents) (a n t k : ℕ) → a + n ≤ t → times t k (transitions_from signals a n) ≡ 0
 unfolding transitions_from
 later signals a zero t k late = refl
 later signals a (suc n) t k late =
     times-append t k (transitions_at a (enumerate_from 0 signals)) (transitions_from signals (suc a) n)
-    ∙ omega (arith, elsewhere t a k (filter (λ p. differs_at a p.1) (enumerate_from 0 signals)) (omega arith), later signals (suc a) n t k (omega arith))
+    ∙ omega (
+      arith,
+      elsewhere t a k (filter (λ p. differs_at a p.1) (enumerate_from 0 signals)) (omega arith),
+      later signals (suc a) n t k (omega arith),
+    )
 
-within : (signals : List SignalContents) (a n t k : ℕ) → a ≤ t → t < a + n → times t k (transitions_from signals a n) ≡ marks t k 0 signals
+within : (signals : List SignalContents) (a n t k : ℕ) → a ≤ t → t < a + n
+    → times t k (transitions_from signals a n) ≡ marks t k 0 signals
 unfolding transitions_from
 within signals a zero t k low high = absurd (omega arith)
 within signals a (suc n) t k low high =
@@ -77,10 +93,15 @@ within signals a (suc n) t k low high =
     ∙ elim (cases_eq a t) [
       | inl same ↦
           let here : times t k (transitions_at a (enumerate_from 0 signals)) ≡ marks t k 0 signals =
-          subst (λ u. times u k (transitions_at a (enumerate_from 0 signals)) ≡ marks u k 0 signals) same (times_here a k 0 signals) in
+          subst (λ u. times u k (transitions_at a (enumerate_from 0 signals)) ≡ marks u k 0 signals) same
+          (times_here a k 0 signals) in
           omega (arith, here, earlier signals (suc a) n t k (omega arith))
       | inr apart ↦
-          omega (arith, elsewhere t a k (filter (λ p. differs_at a p.1) (enumerate_from 0 signals)) apart, within signals (suc a) n t k (omega arith) (omega arith))
+          omega (
+            arith,
+            elsewhere t a k (filter (λ p. differs_at a p.1) (enumerate_from 0 signals)) apart,
+            within signals (suc a) n t k (omega arith) (omega arith),
+          )
     ]
 
 -- a place is not behind another
@@ -98,20 +119,27 @@ further : (f g t j : ℕ) → Reaches f g t j → Reaches f g t (j + 1)
 further f g t j (inl a) = inl a
 further f g t j (inr (a, h)) = inr (a, omega arith)
 
-rises_at : (f g t j : ℕ) (ss : List SignalContents) (ys : List Transition) → Reaches f g t j → RisesFrom (suc t) 0 ys → RisesFrom f g (transitions_at t (enumerate_from j ss) ++ ys)
+rises_at : (f g t j : ℕ) (ss : List SignalContents) (ys : List Transition) → Reaches f g t j → RisesFrom (suc t) 0 ys
+    → RisesFrom f g (transitions_at t (enumerate_from j ss) ++ ys)
 rises_at f g t j [] ys reach rise = from_next f g t j ys reach rise
 rises_at f g t j (s ∷ ss) ys reach rise =
-    step (differs_at t s) (rises_at t j t (j + 1) ss ys (inr (refl, omega arith)) rise) (rises_at f g t (j + 1) ss ys (further f g t j reach) rise)
+    step (differs_at t s) (rises_at t j t (j + 1) ss ys (inr (refl, omega arith)) rise)
+    (rises_at f g t (j + 1) ss ys (further f g t j reach) rise)
   where
-    step : (b : Bool) → RisesFrom t j (transitions_at t (enumerate_from (j + 1) ss) ++ ys) → RisesFrom f g (transitions_at t (enumerate_from (j + 1) ss) ++ ys)
-        → RisesFrom f g (map (λ p. transition_of t p.0) (cond b ((j, s) ∷ filter (λ p. differs_at t p.1) (enumerate_from (j + 1) ss)) (filter (λ p. differs_at t p.1) (enumerate_from (j + 1) ss))) ++ ys)
+    step : (b : Bool) → RisesFrom t j (transitions_at t (enumerate_from (j + 1) ss) ++ ys)
+        → RisesFrom f g (transitions_at t (enumerate_from (j + 1) ss) ++ ys)
+        → RisesFrom f g (map (λ p. transition_of t p.0)
+        (cond b ((j, s) ∷ filter (λ p. differs_at t p.1) (enumerate_from (j + 1) ss))
+        (filter (λ p. differs_at t p.1) (enumerate_from (j + 1) ss))) ++ ys)
     step true put left = (reach, put)
     step false put left = left
 
 pub rises_from : (signals : List SignalContents) (t n : ℕ) → RisesFrom t 0 (transitions_from signals t n)
 unfolding transitions_from
 rises_from signals t zero = tt
-rises_from signals t (suc n) = rises_at t 0 t 0 signals (transitions_from signals (suc t) n) (inr (refl, omega arith)) (rises_from signals (suc t) n)
+rises_from signals t (suc n) =
+    rises_at t 0 t 0 signals (transitions_from signals (suc t) n) (inr (refl, omega arith))
+    (rises_from signals (suc t) n)
 
 -- ---- windows
 
@@ -152,33 +180,45 @@ joint true false n = refl
 joint false false n = refl
 
 -- a tick in the window
-times_inside : (from to t k j : ℕ) (cs : List Change) → from ≤ t → t < to → times t k (window_of_signal from to j cs) ≡ if_so (j == k) (count_at t cs)
+times_inside : (from to t k j : ℕ) (cs : List Change) → from ≤ t → t < to
+    → times t k (window_of_signal from to j cs) ≡ if_so (j == k) (count_at t cs)
 times_inside from to t k j [] low high = sym (if_zero (j == k))
-times_inside from to t k j (c ∷ cs) low high = step (is_in_window from to c.tick) refl (times_inside from to t k j cs low high)
+times_inside from to t k j (c ∷ cs) low high =
+    step (is_in_window from to c.tick) refl (times_inside from to t k j cs low high)
   where
-    step : (b : Bool) → is_in_window from to c.tick ≡ b → times t k (window_of_signal from to j cs) ≡ if_so (j == k) (count_at t cs)
-        → times t k (map (λ c. transition_of c.tick j) (cond b (c ∷ filter (λ c. is_in_window from to c.tick) cs) (filter (λ c. is_in_window from to c.tick) cs)))
+    step : (b : Bool) → is_in_window from to c.tick ≡ b
+        → times t k (window_of_signal from to j cs) ≡ if_so (j == k) (count_at t cs)
+        → times t k (map (λ c. transition_of c.tick j)
+        (cond b (c ∷ filter (λ c. is_in_window from to c.tick) cs) (filter (λ c. is_in_window from to c.tick) cs)))
         ≡ if_so (j == k) (counted (c.tick == t) + count_at t cs)
-    step true is rest = ap (λ n. counted ((c.tick == t) && (j == k)) + n) rest ∙ joint (c.tick == t) (j == k) (count_at t cs)
+    step true is rest = ap (λ n. counted ((c.tick == t) && (j == k)) + n) rest
+        ∙ joint (c.tick == t) (j == k) (count_at t cs)
     step false is rest =
-        let apart : c.tick ≢ t = λ same. let wrong : true ≡ false = sym (in_window from to t low high) ∙ ap (is_in_window from to) (sym same) ∙ is in absurd (cc) in
-        let same : counted (c.tick == t) + count_at t cs ≡ count_at t cs = omega (arith, ap counted (ne_eqb c.tick t apart)) in
+        let apart : c.tick ≢ t = λ same. let wrong : true ≡ false = sym (in_window from to t low high)
+        ∙ ap (is_in_window from to) (sym same) ∙ is in absurd (cc) in
+        let same : counted (c.tick == t) + count_at t cs ≡ count_at t cs =
+        omega (arith, ap counted (ne_eqb c.tick t apart)) in
         rest ∙ ap (if_so (j == k)) (sym same)
 
 -- a tick outside of it
-times_outside : (from to t k j : ℕ) (cs : List Change) → is_in_window from to t ≡ false → times t k (window_of_signal from to j cs) ≡ 0
+times_outside : (from to t k j : ℕ) (cs : List Change) → is_in_window from to t ≡ false
+    → times t k (window_of_signal from to j cs) ≡ 0
 times_outside from to t k j [] out = refl
 times_outside from to t k j (c ∷ cs) out = step (is_in_window from to c.tick) refl (times_outside from to t k j cs out)
   where
     step : (b : Bool) → is_in_window from to c.tick ≡ b → times t k (window_of_signal from to j cs) ≡ 0
-        → times t k (map (λ c. transition_of c.tick j) (cond b (c ∷ filter (λ c. is_in_window from to c.tick) cs) (filter (λ c. is_in_window from to c.tick) cs))) ≡ 0
+        → times t k (map (λ c. transition_of c.tick j)
+        (cond b (c ∷ filter (λ c. is_in_window from to c.tick) cs) (filter (λ c. is_in_window from to c.tick) cs)))
+        ≡ 0
     step true is rest =
-        let apart : c.tick ≢ t = λ same. let wrong : true ≡ false = sym is ∙ ap (is_in_window from to) same ∙ out in absurd (cc) in
+        let apart : c.tick ≢ t = λ same. let wrong : true ≡ false = sym is ∙ ap (is_in_window from to) same ∙ out in
+        absurd (cc) in
         let here : once t k (transition_of c.tick j) ≡ 0 = ap (λ b. counted (b && (j == k))) (ne_eqb c.tick t apart) in
         omega (arith, here, rest)
     step false is rest = rest
 
-none_at : (floor t : ℕ) (before : List Bit) (cs : List Change) → AreChangesFrom floor before cs → t < floor → count_at t cs ≡ 0
+none_at : (floor t : ℕ) (before : List Bit) (cs : List Change) → AreChangesFrom floor before cs → t < floor
+    → count_at t cs ≡ 0
 none_at floor t before [] rise early = refl
 none_at floor t before (c ∷ cs) (from, other, wide, rest) early =
     omega (arith, ap counted (ne_eqb c.tick t (omega arith)), none_at (c.tick + 1) t c.value cs rest (omega arith))
@@ -204,57 +244,89 @@ differs_where floor t before [] rise = sym (same_is before before refl)
 differs_where floor t before (c ∷ cs) (from, other, wide, rest) =
     elim (cases_lt c.tick (suc t)) [
       | inl passed ↦
-          let values : differ (value_from before (c ∷ cs) (suc t)) (value_from before (c ∷ cs) t) ≡ differ (value_from c.value cs (suc t)) (value_from c.value cs t) =
+          let values : differ (value_from before (c ∷ cs) (suc t)) (value_from before (c ∷ cs) t)
+          ≡ differ (value_from c.value cs (suc t)) (value_from c.value cs t) =
           ap (λ v. differ v (value_from before (c ∷ cs) t)) (value_past before c cs (suc t) (omega arith))
           ∙ ap (λ v. differ (value_from c.value cs (suc t)) v) (value_past before c cs t (omega arith)) in
-          omega (arith, ap counted (ne_eqb c.tick (suc t) (omega arith)), differs_where (c.tick + 1) t c.value cs rest, values)
+          omega (
+            arith,
+            ap counted (ne_eqb c.tick (suc t) (omega arith)),
+            differs_where (c.tick + 1) t c.value cs rest,
+            values,
+          )
       | inr not_passed ↦
           let still : value_from before (c ∷ cs) t ≡ before =
           value_skip before c cs t (omega arith) ∙ value_early before c.value cs (c.tick + 1) t rest (omega arith) in
           elim (cases_eq c.tick (suc t)) [
             | inl at ↦
                 let now : value_from before (c ∷ cs) (suc t) ≡ c.value =
-                value_past before c cs (suc t) (omega arith) ∙ value_early c.value c.value cs (c.tick + 1) (suc t) rest (omega arith) in
+                value_past before c cs (suc t) (omega arith)
+                ∙ value_early c.value c.value cs (c.tick + 1) (suc t) rest (omega arith) in
                 let values : differ (value_from before (c ∷ cs) (suc t)) (value_from before (c ∷ cs) t) ≡ 1 =
-                ap (λ v. differ v (value_from before (c ∷ cs) t)) now ∙ ap (λ v. differ c.value v) still ∙ other_is c.value before other in
-                omega (arith, ap counted (eq-eqb c.tick (suc t) at), none_at (c.tick + 1) (suc t) c.value cs rest (omega arith), values)
+                ap (λ v. differ v (value_from before (c ∷ cs) t)) now ∙ ap (λ v. differ c.value v) still
+                ∙ other_is c.value before other in
+                omega (
+                  arith,
+                  ap counted (eq-eqb c.tick (suc t) at),
+                  none_at (c.tick + 1) (suc t) c.value cs rest (omega arith),
+                  values,
+                )
             | inr apart ↦
                 let now : value_from before (c ∷ cs) (suc t) ≡ before =
-                value_skip before c cs (suc t) (omega arith) ∙ value_early before c.value cs (c.tick + 1) (suc t) rest (omega arith) in
-                let values : differ (value_from before (c ∷ cs) (suc t)) (value_from before (c ∷ cs) t) ≡ 0 = same_is _ _ (now ∙ sym still) in
-                omega (arith, ap counted (ne_eqb c.tick (suc t) apart), none_at (c.tick + 1) (suc t) c.value cs rest (omega arith), values)
+                value_skip before c cs (suc t) (omega arith)
+                ∙ value_early before c.value cs (c.tick + 1) (suc t) rest (omega arith) in
+                let values : differ (value_from before (c ∷ cs) (suc t)) (value_from before (c ∷ cs) t) ≡ 0 =
+                same_is _ _ (now ∙ sym still) in
+                omega (
+                  arith,
+                  ap counted (ne_eqb c.tick (suc t) apart),
+                  none_at (c.tick + 1) (suc t) c.value cs rest (omega arith),
+                  values,
+                )
           ]
     ]
 
-signal_differs : (end t : ℕ) (s : SignalContents) → IsSoundSignal end s → count_at (suc t) s.changes ≡ counted (differs_at (suc t) s)
+signal_differs : (end t : ℕ) (s : SignalContents) → IsSoundSignal end s
+    → count_at (suc t) s.changes ≡ counted (differs_at (suc t) s)
 signal_differs end t s sound =
     let before : suc t - 1 ≡ t = omega arith in
-    differs_where 0 t (all_x s.width) s.changes sound.wave.rise ∙ ap (λ u. differ (signal_value s (suc t)) (signal_value s u)) (sym before)
+    differs_where 0 t (all_x s.width) s.changes sound.wave.rise
+    ∙ ap (λ u. differ (signal_value s (suc t)) (signal_value s u)) (sym before)
 
-listed_inside : (end from to t k j : ℕ) (ss : List SignalContents) → from ≤ suc t → suc t < to → All (IsSoundSignal end) ss → times (suc t) k (unsorted_window from to j ss) ≡ marks (suc t) k j ss
+listed_inside : (end from to t k j : ℕ) (ss : List SignalContents) → from ≤ suc t → suc t < to
+    → All (IsSoundSignal end) ss → times (suc t) k (unsorted_window from to j ss) ≡ marks (suc t) k j ss
 unfolding unsorted_window
 listed_inside end from to t k j [] low high sound = refl
 listed_inside end from to t k j (s ∷ ss) low high sound =
     times-append (suc t) k (window_of_signal from to j s.changes) (unsorted_window from to (j + 1) ss)
     ∙ ap (λ n. n + times (suc t) k (unsorted_window from to (j + 1) ss))
-    (times_inside from to (suc t) k j s.changes low high ∙ ap (if_so (j == k)) (signal_differs end t s (All-head (IsSoundSignal end) s ss sound)))
-    ∙ ap (λ n. if_so (j == k) (counted (differs_at (suc t) s)) + n) (listed_inside end from to t k (j + 1) ss low high (All-tail (IsSoundSignal end) s ss sound))
+    (times_inside from to (suc t) k j s.changes low high
+    ∙ ap (if_so (j == k)) (signal_differs end t s (All-head (IsSoundSignal end) s ss sound)))
+    ∙ ap (λ n. if_so (j == k) (counted (differs_at (suc t) s)) + n)
+    (listed_inside end from to t k (j + 1) ss low high (All-tail (IsSoundSignal end) s ss sound))
 
-listed_outside : (from to t k j : ℕ) (ss : List SignalContents) → is_in_window from to t ≡ false → times t k (unsorted_window from to j ss) ≡ 0
+listed_outside : (from to t k j : ℕ) (ss : List SignalContents) → is_in_window from to t ≡ false
+    → times t k (unsorted_window from to j ss) ≡ 0
 unfolding unsorted_window
 listed_outside from to t k j [] out = refl
 listed_outside from to t k j (s ∷ ss) out =
     times-append t k (window_of_signal from to j s.changes) (unsorted_window from to (j + 1) ss)
     ∙ omega (arith, times_outside from to t k j s.changes out, listed_outside from to t k (j + 1) ss out)
 
-pub same_times : (end from n : ℕ) (ss : List SignalContents) → 1 ≤ from → All (IsSoundSignal end) ss → (t k : ℕ) → times t k (unsorted_window from (from + n) 0 ss) ≡ times t k (transitions_from ss from n)
-same_times end from n ss some sound zero k = listed_outside from (from + n) 0 k 0 ss (before_window from (from + n) 0 (omega arith)) ∙ sym (earlier ss from n 0 k (omega arith))
+pub same_times : (end from n : ℕ) (ss : List SignalContents) → 1 ≤ from → All (IsSoundSignal end) ss → (t k : ℕ)
+    → times t k (unsorted_window from (from + n) 0 ss) ≡ times t k (transitions_from ss from n)
+same_times end from n ss some sound zero k =
+    listed_outside from (from + n) 0 k 0 ss (before_window from (from + n) 0 (omega arith))
+    ∙ sym (earlier ss from n 0 k (omega arith))
 same_times end from n ss some sound (suc t) k =
     elim (cases_lt (suc t) from) [
-      | inl early ↦ listed_outside from (from + n) (suc t) k 0 ss (before_window from (from + n) (suc t) early) ∙ sym (earlier ss from n (suc t) k early)
+      | inl early ↦ listed_outside from (from + n) (suc t) k 0 ss (before_window from (from + n) (suc t) early)
+          ∙ sym (earlier ss from n (suc t) k early)
       | inr not_early ↦ elim (cases_lt (suc t) (from + n)) [
-        | inl inside ↦ listed_inside end from (from + n) t k 0 ss not_early inside sound ∙ sym (within ss from n (suc t) k not_early inside)
-        | inr late ↦ listed_outside from (from + n) (suc t) k 0 ss (after_window from (from + n) (suc t) late) ∙ sym (later ss from n (suc t) k late)
+        | inl inside ↦ listed_inside end from (from + n) t k 0 ss not_early inside sound
+            ∙ sym (within ss from n (suc t) k not_early inside)
+        | inr late ↦ listed_outside from (from + n) (suc t) k 0 ss (after_window from (from + n) (suc t) late)
+            ∙ sym (later ss from n (suc t) k late)
       ]
     ]
 
@@ -272,7 +344,9 @@ one_of_signal t j [] = omega arith
 one_of_signal t j (c ∷ cs) = step (is_in_window t (t + 1) c.tick) refl (one_of_signal t j cs)
   where
     step : (b : Bool) → is_in_window t (t + 1) c.tick ≡ b → length (window_of_signal t (t + 1) j cs) ≤ count_at t cs
-        → length (map (λ c. transition_of c.tick j) (cond b (c ∷ filter (λ c. is_in_window t (t + 1) c.tick) cs) (filter (λ c. is_in_window t (t + 1) c.tick) cs))) ≤ counted (c.tick == t) + count_at t cs
+        → length (map (λ c. transition_of c.tick j)
+        (cond b (c ∷ filter (λ c. is_in_window t (t + 1) c.tick) cs)
+        (filter (λ c. is_in_window t (t + 1) c.tick) cs))) ≤ counted (c.tick == t) + count_at t cs
     step true is rest =
         let bounds = window_bounds t (t + 1) c.tick is in
         let here : counted (c.tick == t) ≡ 1 = ap counted (eq-eqb c.tick t (omega (arith, bounds.0, bounds.1))) in
@@ -280,7 +354,8 @@ one_of_signal t j (c ∷ cs) = step (is_in_window t (t + 1) c.tick) refl (one_of
     step false is rest = omega (arith, rest)
 
 -- at one tick each signal changes once at most
-pub one_tick_within : (end t j : ℕ) (ss : List SignalContents) → 1 ≤ t → All (IsSoundSignal end) ss → length (unsorted_window t (t + 1) j ss) ≤ length ss
+pub one_tick_within : (end t j : ℕ) (ss : List SignalContents) → 1 ≤ t → All (IsSoundSignal end) ss
+    → length (unsorted_window t (t + 1) j ss) ≤ length ss
 unfolding unsorted_window
 one_tick_within end t j [] some sound = omega arith
 one_tick_within end zero j (s ∷ ss) some sound = absurd (omega arith)
@@ -295,7 +370,8 @@ one_tick_within end (suc t) j (s ∷ ss) some sound =
 
 -- ---- windows one after another
 
-pub transitions_split : (signals : List SignalContents) (t n m : ℕ) → transitions_from signals t (n + m) ≡ transitions_from signals t n ++ transitions_from signals (t + n) m
+pub transitions_split : (signals : List SignalContents) (t n m : ℕ)
+    → transitions_from signals t (n + m) ≡ transitions_from signals t n ++ transitions_from signals (t + n) m
 unfolding transitions_from
 transitions_split signals t zero m =
     let here : t ≡ t + 0 = omega arith in
@@ -303,5 +379,7 @@ transitions_split signals t zero m =
 transitions_split signals t (suc n) m =
     let there : suc t + n ≡ t + suc n = omega arith in
     ap (transitions_from signals t) (let e : suc n + m ≡ suc (n + m) = omega arith in e)
-    ∙ ap (λ l. transitions_at t (enumerate_from 0 signals) ++ l) (transitions_split signals (suc t) n m ∙ ap (λ u. transitions_from signals (suc t) n ++ transitions_from signals u m) there)
-    ∙ sym (append_assoc (transitions_at t (enumerate_from 0 signals)) (transitions_from signals (suc t) n) (transitions_from signals (t + suc n) m))
+    ∙ ap (λ l. transitions_at t (enumerate_from 0 signals) ++ l) (transitions_split signals (suc t) n m
+    ∙ ap (λ u. transitions_from signals (suc t) n ++ transitions_from signals u m) there)
+    ∙ sym (append_assoc (transitions_at t (enumerate_from 0 signals)) (transitions_from signals (suc t) n)
+    (transitions_from signals (t + suc n) m))

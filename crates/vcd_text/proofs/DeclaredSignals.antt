@@ -1,5 +1,6 @@
 -- A sound signal is declared as a variable that is kept, and its code finds it.
-use Rattle.std.proofs.Common.{◌≡◌, ◌≢◌, ℕ, zero, suc, ◌+◌, ◌<◌, true, false, not, cond, ◌||◌, ◌==◌, nat_lt, List, [], ◌∷◌, length, get_or, Some, All, refl, ap, ◌∙◌, arith}
+use Rattle.std.proofs.Common.{◌≡◌, ◌≢◌, ℕ, zero, suc, ◌+◌, ◌<◌, true, false, not, cond, ◌||◌, ◌==◌, nat_lt, List, []}
+use Rattle.std.proofs.Common.{◌∷◌, length, get_or, Some, All, refl, ap, ◌∙◌, arith}
 use Rattle.std.specs.Prelude.{find, bytes_eq, count_by}
 use Rattle.std.proofs.lemmas.Bool.{false_from_ne_true, le-ltb, ne_eqb, not-true}
 use Rattle.std.proofs.lemmas.List.Elements.{All-head, All-tail}
@@ -42,19 +43,23 @@ sound_is_kept end k s sound =
     λ i. kind i || (some i || few i)
 
 -- all are kept, and none is skipped
-pub all_sound_kept : (end k : ℕ) (ss : List SignalContents) → All (IsSoundSignal end) ss → kept_variables (declared_of k ss) ≡ declared_of k ss
+pub all_sound_kept : (end k : ℕ) (ss : List SignalContents) → All (IsSoundSignal end) ss
+    → kept_variables (declared_of k ss) ≡ declared_of k ss
 unfolding declared_of
 all_sound_kept end k [] all = refl
 all_sound_kept end k (s ∷ ss) all =
-    ap (λ b. cond (not b) (declared_as k s ∷ kept_variables (declared_of (suc k) ss)) (kept_variables (declared_of (suc k) ss))) (sound_is_kept end k s (All-head (IsSoundSignal end) s ss all))
+    ap (λ b. cond (not b) (declared_as k s ∷ kept_variables (declared_of (suc k) ss))
+    (kept_variables (declared_of (suc k) ss))) (sound_is_kept end k s (All-head (IsSoundSignal end) s ss all))
     ∙ ap (λ ds. declared_as k s ∷ ds) (all_sound_kept end (suc k) ss (All-tail (IsSoundSignal end) s ss all))
 
-pub none_skipped : (end k : ℕ) (ss : List SignalContents) → All (IsSoundSignal end) ss → count_by is_skipped (declared_of k ss) ≡ 0
+pub none_skipped : (end k : ℕ) (ss : List SignalContents) → All (IsSoundSignal end) ss
+    → count_by is_skipped (declared_of k ss) ≡ 0
 unfolding declared_of
 none_skipped end k [] all = refl
 none_skipped end k (s ∷ ss) all =
     sum_by-cons (λ d. cond (is_skipped d) 1 0) (declared_as k s) (declared_of (suc k) ss)
-    ∙ (λ i. cond (sound_is_kept end k s (All-head (IsSoundSignal end) s ss all) i) 1 0 + none_skipped end (suc k) ss (All-tail (IsSoundSignal end) s ss all) i)
+    ∙ (λ i. cond (sound_is_kept end k s (All-head (IsSoundSignal end) s ss all) i) 1 0
+    + none_skipped end (suc k) ss (All-tail (IsSoundSignal end) s ss all) i)
 
 -- ---- codes
 
@@ -62,7 +67,9 @@ pub same_code : (k : ℕ) → bytes_eq (code_of k) (code_of k) ≡ true
 same_code k = (bytes_eq-Decides (code_of k) (code_of k)).1 refl
 
 pub other_code : (j k : ℕ) → j ≢ k → bytes_eq (code_of j) (code_of k) ≡ false
-other_code j k other = false_from_ne_true (bytes_eq (code_of j) (code_of k)) (λ same. other (codes_differ j k ((bytes_eq-Decides (code_of j) (code_of k)).0 same)))
+other_code j k other =
+    false_from_ne_true (bytes_eq (code_of j) (code_of k))
+    (λ same. other (codes_differ j k ((bytes_eq-Decides (code_of j) (code_of k)).0 same)))
 
 -- the variable of the code of a position is the signal there
 pub found_by_code : (ss : List SignalContents) (i j k : ℕ) (d : SignalContents) → j + i ≡ k → i < length ss
@@ -71,8 +78,11 @@ unfolding declared_of
 found_by_code [] i j k d at within = absurd (omega arith)
 found_by_code (s ∷ ss) zero j k d at within =
     let here : j ≡ k = omega arith in
-    ap (λ n. cond (bytes_eq (code_of k) (code_of n)) (Some (declared_as n s)) (find (λ v. bytes_eq (code_of k) v.code) (declared_of (suc j) ss))) here
-    ∙ ap (λ b. cond b (Some (declared_as k s)) (find (λ v. bytes_eq (code_of k) v.code) (declared_of (suc j) ss))) (same_code k)
+    ap (λ n. cond (bytes_eq (code_of k) (code_of n)) (Some (declared_as n s))
+    (find (λ v. bytes_eq (code_of k) v.code) (declared_of (suc j) ss))) here
+    ∙ ap (λ b. cond b (Some (declared_as k s)) (find (λ v. bytes_eq (code_of k) v.code) (declared_of (suc j) ss)))
+    (same_code k)
 found_by_code (s ∷ ss) (suc i) j k d at within =
-    ap (λ b. cond b (Some (declared_as j s)) (find (λ v. bytes_eq (code_of k) v.code) (declared_of (suc j) ss))) (other_code k j (λ e. omega arith))
+    ap (λ b. cond b (Some (declared_as j s)) (find (λ v. bytes_eq (code_of k) v.code) (declared_of (suc j) ss)))
+    (other_code k j (λ e. omega arith))
     ∙ found_by_code ss i (suc j) k d (omega arith) (omega arith)

@@ -1,5 +1,7 @@
 -- A variable that is declared, skipped or kept.
-use Rattle.std.proofs.Common.{◌≡◌, ◌⊎◌, ℕ, zero, suc, ◌+◌, ◌<◌, ◌≤◌, min, Bool, true, false, not, ◌&&◌, ◌||◌, ◌==◌, cond, if◌then◌else◌, nat_lt, List, [], ◌∷◌, ◌++◌, length, map, get_or, drop, Option, None, Some, Result, Ok, Err, OnOk, IfErr, inl, inr, refl, sym, ap, subst, ◌∙◌, arith}
+use Rattle.std.proofs.Common.{◌≡◌, ◌⊎◌, ℕ, zero, suc, ◌+◌, ◌<◌, ◌≤◌, min, Bool, true, false, not, ◌&&◌, ◌||◌, ◌==◌}
+use Rattle.std.proofs.Common.{cond, if◌then◌else◌, nat_lt, List, [], ◌∷◌, ◌++◌, length, map, get_or, drop, Option, None}
+use Rattle.std.proofs.Common.{Some, Result, Ok, Err, OnOk, IfErr, inl, inr, refl, sym, ap, subst, ◌∙◌, arith}
 use Rattle.std.specs.Prelude.{bytes_eq, slice_get, count_by}
 use Rattle.std.specs.Option.{option_or, option_map_or}
 use Rattle.std.proofs.lemmas.List.{append-nil, nil_from_length, map-append, length-map, length_push}
@@ -18,13 +20,16 @@ use Rattle.vcd_text.specs.declared.fault.Fault.TheVariants as faults
 use Rattle.vcd_core.specs.declared.value.TheConstants.{WIDTH_LIMIT}
 use Rattle.vcd_core.specs.Decimal.{number_of}
 use Rattle.vcd_core.specs.Word.{is_skipped_kind}
-use Rattle.vcd_text.specs.Grammar.{VariableDeclaration, ValueChange, ParseState, is_skipped, kept_variables, variable_of, may_have_code, has_room}
+use Rattle.vcd_text.specs.Grammar.{VariableDeclaration, ValueChange, ParseState, is_skipped, kept_variables}
+use Rattle.vcd_text.specs.Grammar.{variable_of, may_have_code, has_room}
 use Rattle.vcd_text.specs.Meaning.{latest_value}
 use Rattle.vcd_text.specs.inside.ChangeLog.{GivesLoggedValues, logged, AreGrouped}
 use Rattle.vcd_text.specs.declared.reading.change_log.LoggedChange.{LoggedChange}
 use Rattle.vcd_text.specs.declared.reading.change_log.ChangeLog.{ChangeLog}
 use Rattle.vcd_text.proofs.LoggedValues.{gives_as, gives_nothing}
-use Rattle.vcd_text.specs.inside.Variables.{declaration, declaration_in, without_scopes, target_of, HasWave, TargetMatches, HasFirst, HasLogs, VariablesMatch, with_declaration, mixed, many, DeclaresAs, code_mixed, no_room, Declares}
+use Rattle.vcd_text.specs.inside.Variables.{declaration, declaration_in, without_scopes, target_of, HasWave}
+use Rattle.vcd_text.specs.inside.Variables.{TargetMatches, HasFirst, HasLogs, VariablesMatch, with_declaration, mixed}
+use Rattle.vcd_text.specs.inside.Variables.{many, DeclaresAs, code_mixed, no_room, Declares}
 use Rattle.vcd_text.specs.declared.reading.code_targets.CodeTargets.{CodeTargets}
 use Rattle.vcd_text.specs.declared.reading.variables.CodeTarget.{CodeTarget}
 use Rattle.vcd_text.specs.declared.reading.variables.CodeTarget.TheVariants.{Skipped, Kept}
@@ -34,31 +39,37 @@ use Rattle.vcd_text.proofs.CodeTargets.{own_code, by_code, stands_kept, stands_m
 
 -- ---- lists with one item more
 
-kept_skipped : (ds : List VariableDeclaration) (d : VariableDeclaration) → is_skipped d ≡ true → kept_variables (ds ++ d ∷ []) ≡ kept_variables ds
+kept_skipped : (ds : List VariableDeclaration) (d : VariableDeclaration) → is_skipped d ≡ true
+    → kept_variables (ds ++ d ∷ []) ≡ kept_variables ds
 kept_skipped ds d skipped =
     filter-append (λ (e : VariableDeclaration). not (is_skipped e)) ds (d ∷ [])
     ∙ ap (λ b. kept_variables ds ++ cond (not b) (d ∷ []) []) skipped
     ∙ append-nil (kept_variables ds)
 
-kept_kept : (ds : List VariableDeclaration) (d : VariableDeclaration) → is_skipped d ≡ false → kept_variables (ds ++ d ∷ []) ≡ kept_variables ds ++ d ∷ []
+kept_kept : (ds : List VariableDeclaration) (d : VariableDeclaration) → is_skipped d ≡ false
+    → kept_variables (ds ++ d ∷ []) ≡ kept_variables ds ++ d ∷ []
 kept_kept ds d keeps =
     filter-append (λ (e : VariableDeclaration). not (is_skipped e)) ds (d ∷ [])
     ∙ ap (λ b. kept_variables ds ++ cond (not b) (d ∷ []) []) keeps
 
-count_with : (ds : List VariableDeclaration) (d : VariableDeclaration) (b : Bool) → is_skipped d ≡ b → count_by is_skipped (ds ++ d ∷ []) ≡ count_by is_skipped ds + cond b 1 0
+count_with : (ds : List VariableDeclaration) (d : VariableDeclaration) (b : Bool) → is_skipped d ≡ b
+    → count_by is_skipped (ds ++ d ∷ []) ≡ count_by is_skipped ds + cond b 1 0
 count_with ds d b is =
     sum_by-append (λ (e : VariableDeclaration). cond (is_skipped e) 1 0) ds (d ∷ [])
-    ∙ ap (λ (n : ℕ). count_by is_skipped ds + n) (sum_by-cons (λ (e : VariableDeclaration). cond (is_skipped e) 1 0) d [])
+    ∙ ap (λ (n : ℕ). count_by is_skipped ds + n)
+    (sum_by-cons (λ (e : VariableDeclaration). cond (is_skipped e) 1 0) d [])
     ∙ ap (λ x. count_by is_skipped ds + (cond x 1 0 + 0)) is
     ∙ omega arith
 
-pub stays : (vs more : List Variable) (position : ℕ) (v : Variable) → slice_get vs position ≡ Some v → slice_get (vs ++ more) position ≡ Some v
+pub stays : (vs more : List Variable) (position : ℕ) (v : Variable) → slice_get vs position ≡ Some v
+    → slice_get (vs ++ more) position ≡ Some v
 stays [] more position v at = let no : None ≡ Some v = at in absurd (cc)
 stays (w ∷ vs) more zero v at = at
 stays (w ∷ vs) more (suc n) v at = stays vs more n v at
 
 -- what stands in a list with one more stands in it, or is the one
-either_of : (vs : List Variable) (w : Variable) (position : ℕ) (v : Variable) → slice_get (vs ++ w ∷ []) position ≡ Some v
+either_of : (vs : List Variable) (w : Variable) (position : ℕ) (v : Variable)
+    → slice_get (vs ++ w ∷ []) position ≡ Some v
     → (slice_get vs position ≡ Some v) ⊎ ((position ≡ length vs) × (w ≡ v))
 either_of [] w zero v at = inr (refl, same_Some w v at)
 either_of [] w (suc n) v at = let no : None ≡ Some v = at in absurd (cc)
@@ -76,100 +87,136 @@ same_number : (n : ℕ) → (n == n) ≡ true
 same_number n = grind arith
 
 -- as many variables are kept as were declared to be
-pub kept_long : (vs : Variables) (c : ParseState) → VariablesMatch vs c → length (kept_variables c.declared) ≡ length vs.kept.items
-kept_long vs c k = sym (length-map (kept_variables c.declared) without_scopes) ∙ ap (length {A = VariableDeclaration}) k.kept ∙ length-map vs.kept.items declaration
+pub kept_long : (vs : Variables) (c : ParseState) → VariablesMatch vs c
+    → length (kept_variables c.declared) ≡ length vs.kept.items
+kept_long vs c k = sym (length-map (kept_variables c.declared) without_scopes)
+    ∙ ap (length {A = VariableDeclaration}) k.kept ∙ length-map vs.kept.items declaration
 
 -- ---- what codes stand for, with one variable more
 
 module _ (log : ℕ → List LoggedChange) (value_changes : List ValueChange) (tick : ℕ) where
   -- a variable behind the others takes nothing from a code
-  stands_longer : (vs more : List Variable) (code : List ℕ) (target : Option CodeTarget) (declared : Option VariableDeclaration)
-      → TargetMatches vs log value_changes tick code target declared → TargetMatches (vs ++ more) log value_changes tick code target declared
+  stands_longer : (vs more : List Variable) (code : List ℕ) (target : Option CodeTarget)
+      (declared : Option VariableDeclaration)
+      → TargetMatches vs log value_changes tick code target declared
+      → TargetMatches (vs ++ more) log value_changes tick code target declared
   stands_longer vs more code target declared s =
       stands_moved vs (vs ++ more) log log value_changes value_changes tick tick code target declared
-      (λ position size _ w. record { first = w.first; stands = stays vs more position w.first w.stands; coded = w.coded; sized = w.sized; gives = w.gives }) s
+      (λ position size _ w. record {
+        first = w.first;
+        stands = stays vs more position w.first w.stands;
+        coded = w.coded;
+        sized = w.sized;
+        gives = w.gives;
+      }) s
 
   -- a later declaration of another code takes nothing from a code
-  stands_still : (vs : List Variable) (code : List ℕ) (target : Option CodeTarget) (declared : Option VariableDeclaration)
-      → TargetMatches vs log value_changes tick code target declared → TargetMatches vs log value_changes tick code target (option_or declared None)
+  stands_still : (vs : List Variable) (code : List ℕ) (target : Option CodeTarget)
+      (declared : Option VariableDeclaration)
+      → TargetMatches vs log value_changes tick code target declared
+      → TargetMatches vs log value_changes tick code target (option_or declared None)
   stands_still vs code target None s = s
   stands_still vs code target (Some d) s = s
 
 -- the code of a declaration stands for this from now on, and the others for what they stood for
 abbrev pub Puts : (old new : Variables) → List ℕ → CodeTarget → Type 0
-Puts old new code target = (key : List ℕ) → target_of new key ≡ (if bytes_eq key code then Some target else target_of old key)
+Puts old new code target = (key : List ℕ)
+    → target_of new key ≡ (if bytes_eq key code then Some target else target_of old key)
 
 -- so it is where the code stands for it already
-pub puts_same : (old new : Variables) (code : List ℕ) (target : CodeTarget) → new.code_targets ≡ old.code_targets → target_of old code ≡ Some target → Puts old new code target
+pub puts_same : (old new : Variables) (code : List ℕ) (target : CodeTarget) → new.code_targets ≡ old.code_targets
+    → target_of old code ≡ Some target → Puts old new code target
 puts_same old new code target same had = λ key.
-    let here : target_of new key ≡ target_of old key = ap (λ (m : CodeTargets). get_by (λ v. bytes_eq key v.items) m.codes) same in
+    let here : target_of new key ≡ target_of old key =
+    ap (λ (m : CodeTargets). get_by (λ v. bytes_eq key v.items) m.codes) same in
     by_code (λ b. target_of new key ≡ (if b then Some target else target_of old key)) key code
     (λ is. here ∙ ap (target_of old) is ∙ had) (λ _. here)
 
 -- ---- a variable that is skipped
 
-module _ (old new : Variables) (c : ParseState) (d : VariableDeclaration) (k : VariablesMatch old c) (items : new.kept.items ≡ old.kept.items) (skipped : is_skipped d ≡ true)
+module _ (old new : Variables) (c : ParseState) (d : VariableDeclaration) (k : VariablesMatch old c)
+    (items : new.kept.items ≡ old.kept.items) (skipped : is_skipped d ≡ true)
     (widths : new.widths.items ≡ old.widths.items) (log : new.log ≡ old.log)
-    (free : (target_of old d.code ≡ None) ⊎ (target_of old d.code ≡ Some Skipped)) (puts : Puts old new d.code Skipped) where
-  skip_here : (v : Option VariableDeclaration) → TargetMatches old.kept.items (logged old.log.groups.items) c.value_changes c.tick d.code (target_of old d.code) v
-      → TargetMatches old.kept.items (logged old.log.groups.items) c.value_changes c.tick d.code (Some Skipped) (option_or v (Some d))
-  skip_here None s = skipped
-  skip_here (Some e) s = elim free [
-    | inl none ↦ absurd (subst (λ o. TargetMatches old.kept.items (logged old.log.groups.items) c.value_changes c.tick d.code o (Some e)) none s)
-    | inr had ↦ subst (λ o. TargetMatches old.kept.items (logged old.log.groups.items) c.value_changes c.tick d.code o (Some e)) had s
-  ]
+    (free : (target_of old d.code ≡ None) ⊎ (target_of old d.code ≡ Some Skipped)) (puts : Puts old new d.code Skipped)
+  where
+    skip_here : (v : Option VariableDeclaration)
+        → TargetMatches old.kept.items (logged old.log.groups.items) c.value_changes c.tick d.code (target_of old d.code)
+        v
+        → TargetMatches old.kept.items (logged old.log.groups.items) c.value_changes c.tick d.code (Some Skipped)
+        (option_or v (Some d))
+    skip_here None s = skipped
+    skip_here (Some e) s = elim free [
+      | inl none ↦ absurd (subst
+          (λ o. TargetMatches old.kept.items (logged old.log.groups.items) c.value_changes c.tick d.code o (Some e)) none
+          s)
+      | inr had ↦ subst (λ o. TargetMatches old.kept.items (logged old.log.groups.items) c.value_changes c.tick d.code o
+          (Some e)) had s
+    ]
 
-  skip_stands : (key : List ℕ) → TargetMatches new.kept.items (logged new.log.groups.items) c.value_changes c.tick key (target_of new key) (variable_of (with_declaration c d) key)
-  skip_stands key =
-      let both =
-      by_code (λ b. TargetMatches old.kept.items (logged old.log.groups.items) c.value_changes c.tick key (if b then Some Skipped else target_of old key) (option_or (variable_of c key) (if b then Some d else None))) key d.code
-      (λ is. subst (λ code. TargetMatches old.kept.items (logged old.log.groups.items) c.value_changes c.tick code (Some Skipped) (option_or (variable_of c code) (Some d))) (sym is) (skip_here (variable_of c d.code) (k.stand d.code)))
-      (λ _. stands_still (logged old.log.groups.items) c.value_changes c.tick old.kept.items key (target_of old key) (variable_of c key) (k.stand key)) in
-      subst (λ (l : ChangeLog). TargetMatches new.kept.items (logged l.groups.items) c.value_changes c.tick key (target_of new key) (variable_of (with_declaration c d) key)) (sym log)
-      (subst (λ (vs : List Variable). TargetMatches vs (logged old.log.groups.items) c.value_changes c.tick key (target_of new key) (variable_of (with_declaration c d) key)) (sym items)
-      (subst (λ o. TargetMatches old.kept.items (logged old.log.groups.items) c.value_changes c.tick key o (variable_of (with_declaration c d) key)) (sym (puts key))
-      (subst (TargetMatches old.kept.items (logged old.log.groups.items) c.value_changes c.tick key (if bytes_eq key d.code then Some Skipped else target_of old key)) (sym (found_with key c.declared d)) both)))
+    skip_stands : (key : List ℕ)
+        → TargetMatches new.kept.items (logged new.log.groups.items) c.value_changes c.tick key (target_of new key)
+        (variable_of (with_declaration c d) key)
+    skip_stands key =
+        let both =
+        by_code (λ b. TargetMatches old.kept.items (logged old.log.groups.items) c.value_changes c.tick key
+        (if b then Some Skipped else target_of old key) (option_or (variable_of c key) (if b then Some d else None)))
+        key d.code
+        (λ is. subst (λ code. TargetMatches old.kept.items (logged old.log.groups.items) c.value_changes c.tick code
+        (Some Skipped) (option_or (variable_of c code) (Some d))) (sym is)
+        (skip_here (variable_of c d.code) (k.stand d.code)))
+        (λ _. stands_still (logged old.log.groups.items) c.value_changes c.tick old.kept.items key (target_of old key)
+        (variable_of c key) (k.stand key)) in
+        subst (λ (l : ChangeLog). TargetMatches new.kept.items (logged l.groups.items) c.value_changes c.tick key
+        (target_of new key) (variable_of (with_declaration c d) key)) (sym log)
+        (subst (λ (vs : List Variable). TargetMatches vs (logged old.log.groups.items) c.value_changes c.tick key
+        (target_of new key) (variable_of (with_declaration c d) key)) (sym items)
+        (subst (λ o. TargetMatches old.kept.items (logged old.log.groups.items) c.value_changes c.tick key o
+        (variable_of (with_declaration c d) key)) (sym (puts key))
+        (subst (TargetMatches old.kept.items (logged old.log.groups.items) c.value_changes c.tick key
+        (if bytes_eq key d.code then Some Skipped else target_of old key)) (sym (found_with key c.declared d)) both)))
 
-  not_kept : (first : ℕ) → target_of old d.code ≡ Some (Kept first) → ⊥
-  not_kept first had = elim free [
-    | inl none ↦ let no : None ≡ Some (Kept first) = sym none ∙ had in absurd (cc)
-    | inr other ↦ let no : Some Skipped ≡ Some (Kept first) = sym other ∙ had in absurd (cc)
-  ]
+    not_kept : (first : ℕ) → target_of old d.code ≡ Some (Kept first) → ⊥
+    not_kept first had = elim free [
+      | inl none ↦ let no : None ≡ Some (Kept first) = sym none ∙ had in absurd (cc)
+      | inr other ↦ let no : Some Skipped ≡ Some (Kept first) = sym other ∙ had in absurd (cc)
+    ]
 
-  skip_firsts : (position : ℕ) (v : Variable) → slice_get new.kept.items position ≡ Some v → HasFirst new position v
-  skip_firsts position v at =
-      let before = k.firsts position v (subst (λ vs. slice_get vs position ≡ Some v) items at) in
+    skip_firsts : (position : ℕ) (v : Variable) → slice_get new.kept.items position ≡ Some v → HasFirst new position v
+    skip_firsts position v at =
+        let before = k.firsts position v (subst (λ vs. slice_get vs position ≡ Some v) items at) in
+        record {
+          owned = puts v.code
+              ∙ by_code (λ b. (if b then Some Skipped else target_of old v.code) ≡ Some (Kept v.first)) v.code d.code
+              (λ is. absurd (not_kept v.first (ap (target_of old) (sym is) ∙ before.owned))) (λ _. before.owned);
+          no_later = before.no_later;
+          same_size = λ w there. before.same_size w (subst (λ vs. slice_get vs v.first ≡ Some w) items there);
+        }
+
+    skip_may : (v : Option VariableDeclaration)
+        → TargetMatches old.kept.items (logged old.log.groups.items) c.value_changes c.tick d.code (target_of old d.code)
+        v → may_have_code v d ≡ true
+    skip_may None s = refl
+    skip_may (Some e) s =
+        let also : is_skipped e ≡ true = skip_here (Some e) s in
+        λ i. (also i && skipped i) || (not (also i) && not (skipped i) && (e.size == d.size))
+
+    -- it is declared
+    pub skip_declares : new.skipped ≡ old.skipped + 1 → (x : Unit {0}) → DeclaresAs c d (Ok x) new
+    skip_declares more x = (
+      skip_may (variable_of c d.code) (k.stand d.code),
+      (λ i. skipped i || nat_lt (length (kept_variables c.declared)) SIGNAL_LIMIT),
       record {
-        owned = puts v.code
-            ∙ by_code (λ b. (if b then Some Skipped else target_of old v.code) ≡ Some (Kept v.first)) v.code d.code
-            (λ is. absurd (not_kept v.first (ap (target_of old) (sym is) ∙ before.owned))) (λ _. before.owned);
-        no_later = before.no_later;
-        same_size = λ w there. before.same_size w (subst (λ vs. slice_get vs v.first ≡ Some w) items there);
-      }
-
-  skip_may : (v : Option VariableDeclaration) → TargetMatches old.kept.items (logged old.log.groups.items) c.value_changes c.tick d.code (target_of old d.code) v → may_have_code v d ≡ true
-  skip_may None s = refl
-  skip_may (Some e) s =
-      let also : is_skipped e ≡ true = skip_here (Some e) s in
-      λ i. (also i && skipped i) || (not (also i) && not (skipped i) && (e.size == d.size))
-
-  -- it is declared
-  pub skip_declares : new.skipped ≡ old.skipped + 1 → (x : Unit {0}) → DeclaresAs c d (Ok x) new
-  skip_declares more x = (
-    skip_may (variable_of c d.code) (k.stand d.code),
-    (λ i. skipped i || nat_lt (length (kept_variables c.declared)) SIGNAL_LIMIT),
-    record {
-      kept = ap (map without_scopes) (kept_skipped c.declared d skipped) ∙ k.kept ∙ ap (map declaration) (sym items);
-      skipped = more ∙ ap (λ n. n + 1) k.skipped ∙ sym (count_with c.declared d true skipped);
-      widths = widths ∙ k.widths ∙ ap (map (λ (v : Variable). v.signal.wave.width)) (sym items);
-      stand = skip_stands;
-      firsts = skip_firsts;
-      few = subst (λ vs. length vs ≤ SIGNAL_LIMIT) (sym items) k.few;
-      grouped = subst (λ (l : ChangeLog). AreGrouped 0 l.groups.items) (sym log) k.grouped;
-      logs = subst (λ (l : ChangeLog). HasLogs new.kept.items (logged l.groups.items)) (sym log)
-          (subst (λ (vs : List Variable). HasLogs vs (logged old.log.groups.items)) (sym items) k.logs);
-    },
-  )
+        kept = ap (map without_scopes) (kept_skipped c.declared d skipped) ∙ k.kept ∙ ap (map declaration) (sym items);
+        skipped = more ∙ ap (λ n. n + 1) k.skipped ∙ sym (count_with c.declared d true skipped);
+        widths = widths ∙ k.widths ∙ ap (map (λ (v : Variable). v.signal.wave.width)) (sym items);
+        stand = skip_stands;
+        firsts = skip_firsts;
+        few = subst (λ vs. length vs ≤ SIGNAL_LIMIT) (sym items) k.few;
+        grouped = subst (λ (l : ChangeLog). AreGrouped 0 l.groups.items) (sym log) k.grouped;
+        logs = subst (λ (l : ChangeLog). HasLogs new.kept.items (logged l.groups.items)) (sym log)
+            (subst (λ (vs : List Variable). HasLogs vs (logged old.log.groups.items)) (sym items) k.logs);
+      },
+    )
 
 -- ---- a variable that is kept
 
@@ -181,30 +228,46 @@ variable_at code s first = record { code = code; signal = s; first = first }
 abbrev pub IsFree : Variables → (code : List ℕ) → Signal → (first : ℕ) → Type 0
 IsFree old code s first =
     ((target_of old code ≡ None) × (first ≡ length old.kept.items))
-    ⊎ ((target_of old code ≡ Some (Kept first)) × ((w : Variable) → slice_get old.kept.items first ≡ Some w → w.signal.wave.width ≡ s.wave.width))
+    ⊎ ((target_of old code ≡ Some (Kept first))
+    × ((w : Variable) → slice_get old.kept.items first ≡ Some w → w.signal.wave.width ≡ s.wave.width))
 
-module _ (old : Variables) (c : ParseState) (scopes : List ScopeName) (code : List ℕ) (s : Signal) (first : ℕ) (k : VariablesMatch old c)
+module _ (old : Variables) (c : ParseState) (scopes : List ScopeName) (code : List ℕ) (s : Signal) (first : ℕ)
+    (k : VariablesMatch old c)
     (keeps : is_skipped (declaration_in scopes code s) ≡ false) (free : IsFree old code s first) where
-  keep_may : (v : Option VariableDeclaration) → TargetMatches old.kept.items (logged old.log.groups.items) c.value_changes c.tick code (target_of old code) v → may_have_code v (declaration_in scopes code s) ≡ true
+  keep_may : (v : Option VariableDeclaration)
+      → TargetMatches old.kept.items (logged old.log.groups.items) c.value_changes c.tick code (target_of old code) v
+      → may_have_code v (declaration_in scopes code s) ≡ true
   keep_may None stands = refl
   keep_may (Some e) stands = elim free [
-    | inl (none, end) ↦ absurd (subst (λ o. TargetMatches old.kept.items (logged old.log.groups.items) c.value_changes c.tick code o (Some e)) none stands)
+    | inl (none, end) ↦ absurd
+        (subst (λ o. TargetMatches old.kept.items (logged old.log.groups.items) c.value_changes c.tick code o (Some e))
+        none stands)
     | inr (had, width) ↦
-        let there = subst (λ o. TargetMatches old.kept.items (logged old.log.groups.items) c.value_changes c.tick code o (Some e)) had stands in
+        let there = subst (λ o. TargetMatches old.kept.items (logged old.log.groups.items) c.value_changes c.tick code o
+        (Some e)) had stands in
         let size : e.size ≡ s.wave.width = sym there.1.sized ∙ width there.1.first there.1.stands in
         let also : is_skipped e ≡ false = there.0 in
-        (λ i. (also i && keeps i) || (not (also i) && not (keeps i) && (size i == s.wave.width))) ∙ same_number s.wave.width
+        (λ i. (also i && keeps i) || (not (also i) && not (keeps i) && (size i == s.wave.width)))
+        ∙ same_number s.wave.width
   ]
 
-  has_room_is : (b : Bool) → nat_lt (length old.kept.items) SIGNAL_LIMIT ≡ b → has_room c.declared (declaration_in scopes code s) ≡ b
-  has_room_is b test = (λ i. keeps i || nat_lt (length (kept_variables c.declared)) SIGNAL_LIMIT) ∙ ap (λ n. nat_lt n SIGNAL_LIMIT) (kept_long old c k) ∙ test
+  has_room_is : (b : Bool) → nat_lt (length old.kept.items) SIGNAL_LIMIT ≡ b
+      → has_room c.declared (declaration_in scopes code s) ≡ b
+  has_room_is b test = (λ i. keeps i || nat_lt (length (kept_variables c.declared)) SIGNAL_LIMIT)
+      ∙ ap (λ n. nat_lt n SIGNAL_LIMIT) (kept_long old c k) ∙ test
 
   -- it may not stand here where there are too many
-  keep_full : (new : Variables) → SIGNAL_LIMIT ≤ length old.kept.items → DeclaresAs c (declaration_in scopes code s) (Err faults.TooManySignals) new
-  keep_full new full = inr (many (keep_may (variable_of c code) (k.stand code)) (has_room_is false (le-ltb (length old.kept.items) SIGNAL_LIMIT full)) refl)
+  keep_full : (new : Variables) → SIGNAL_LIMIT ≤ length old.kept.items
+      → DeclaresAs c (declaration_in scopes code s) (Err faults.TooManySignals) new
+  keep_full new full = inr
+      (many (keep_may (variable_of c code) (k.stand code))
+      (has_room_is false (le-ltb (length old.kept.items) SIGNAL_LIMIT full)) refl)
 
-module _ (old new : Variables) (c : ParseState) (scopes : List ScopeName) (code : List ℕ) (s : Signal) (first : ℕ) (k : VariablesMatch old c) (value_changes : c.value_changes ≡ []) (silent : s.wave.changes ≡ []) (bare : s.scopes ≡ [])
-    (keeps : is_skipped (declaration_in scopes code s) ≡ false) (items : new.kept.items ≡ old.kept.items ++ variable_at code s first ∷ [])
+module _ (old new : Variables) (c : ParseState) (scopes : List ScopeName) (code : List ℕ) (s : Signal) (first : ℕ)
+    (k : VariablesMatch old c) (value_changes : c.value_changes ≡ []) (silent : s.wave.changes ≡ [])
+    (bare : s.scopes ≡ [])
+    (keeps : is_skipped (declaration_in scopes code s) ≡ false) (items : new.kept.items ≡ old.kept.items
+    ++ variable_at code s first ∷ [])
     (widths : new.widths.items ≡ old.widths.items ++ s.wave.width ∷ []) (log : new.log ≡ old.log)
     (free : IsFree old code s first)
     (puts : Puts old new code (Kept first)) where
@@ -217,46 +280,75 @@ module _ (old new : Variables) (c : ParseState) (scopes : List ScopeName) (code 
     | inr none ↦ nil_from_length (logged old.log.groups.items (length old.kept.items)) (omega (arith, none))
   ]
 
-  silent_wave : HasWave (old.kept.items ++ variable_at code s first ∷ []) (logged old.log.groups.items) (length old.kept.items) code s.wave.width c.value_changes c.tick
+  silent_wave : HasWave (old.kept.items ++ variable_at code s first ∷ []) (logged old.log.groups.items)
+      (length old.kept.items) code s.wave.width c.value_changes c.tick
   unfolding latest_value value_from
   silent_wave = record {
     first = variable_at code s first;
     stands = last_of old.kept.items (variable_at code s first);
     coded = refl;
     sized = refl;
-    gives = subst (GivesLoggedValues s.wave.width c.tick (λ t. latest_value s.wave.width code t (all_x s.wave.width) c.value_changes) s.wave.changes) (sym log_silent)
-        (subst (λ cs. GivesLoggedValues s.wave.width c.tick (λ t. latest_value s.wave.width code t (all_x s.wave.width) c.value_changes) cs []) (sym silent)
-        (gives_as s.wave.width c.tick (λ t. all_x s.wave.width) [] (λ t. latest_value s.wave.width code t (all_x s.wave.width) c.value_changes) []
-        (λ t. sym (ap (latest_value s.wave.width code t (all_x s.wave.width)) value_changes)) (gives_nothing s.wave.width c.tick)));
+    gives = subst (GivesLoggedValues s.wave.width c.tick
+        (λ t. latest_value s.wave.width code t (all_x s.wave.width) c.value_changes) s.wave.changes) (sym log_silent)
+        (subst (λ cs. GivesLoggedValues s.wave.width c.tick
+        (λ t. latest_value s.wave.width code t (all_x s.wave.width) c.value_changes) cs []) (sym silent)
+        (gives_as s.wave.width c.tick (λ t. all_x s.wave.width) []
+        (λ t. latest_value s.wave.width code t (all_x s.wave.width) c.value_changes) []
+        (λ t. sym (ap (latest_value s.wave.width code t (all_x s.wave.width)) value_changes))
+        (gives_nothing s.wave.width c.tick)));
   }
 
-  keep_here : (v : Option VariableDeclaration) → TargetMatches old.kept.items (logged old.log.groups.items) c.value_changes c.tick code (target_of old code) v
-      → TargetMatches (old.kept.items ++ variable_at code s first ∷ []) (logged old.log.groups.items) c.value_changes c.tick code (Some (Kept first)) (option_or v (Some (declaration_in scopes code s)))
+  keep_here : (v : Option VariableDeclaration)
+      → TargetMatches old.kept.items (logged old.log.groups.items) c.value_changes c.tick code (target_of old code) v
+      → TargetMatches (old.kept.items ++ variable_at code s first ∷ []) (logged old.log.groups.items) c.value_changes
+      c.tick code (Some (Kept first)) (option_or v (Some (declaration_in scopes code s)))
   keep_here None stands = elim free [
-    | inl (none, end) ↦
-        (keeps, subst (λ n. HasWave (old.kept.items ++ variable_at code s first ∷ []) (logged old.log.groups.items) n code s.wave.width c.value_changes c.tick) (sym end) silent_wave)
-    | inr (had, width) ↦ absurd (subst (λ o. TargetMatches old.kept.items (logged old.log.groups.items) c.value_changes c.tick code o None) had stands)
+    | inl (none, end) ↦ (
+      keeps,
+      subst (λ n. HasWave (old.kept.items ++ variable_at code s first ∷ []) (logged old.log.groups.items) n
+          code s.wave.width c.value_changes c.tick) (sym end) silent_wave,
+    )
+    | inr (had, width) ↦ absurd
+        (subst (λ o. TargetMatches old.kept.items (logged old.log.groups.items) c.value_changes c.tick code o None) had
+        stands)
   ]
   keep_here (Some e) stands = elim free [
-    | inl (none, end) ↦ absurd (subst (λ o. TargetMatches old.kept.items (logged old.log.groups.items) c.value_changes c.tick code o (Some e)) none stands)
+    | inl (none, end) ↦ absurd
+        (subst (λ o. TargetMatches old.kept.items (logged old.log.groups.items) c.value_changes c.tick code o (Some e))
+        none stands)
     | inr (had, width) ↦
-        stands_longer (logged old.log.groups.items) c.value_changes c.tick old.kept.items (variable_at code s first ∷ []) code (Some (Kept first)) (Some e)
-        (subst (λ o. TargetMatches old.kept.items (logged old.log.groups.items) c.value_changes c.tick code o (Some e)) had stands)
+        stands_longer (logged old.log.groups.items) c.value_changes c.tick old.kept.items
+        (variable_at code s first ∷ []) code (Some (Kept first)) (Some e)
+        (subst (λ o. TargetMatches old.kept.items (logged old.log.groups.items) c.value_changes c.tick code o (Some e))
+        had stands)
   ]
 
-  keep_stands : (key : List ℕ) → TargetMatches new.kept.items (logged new.log.groups.items) c.value_changes c.tick key (target_of new key) (variable_of (with_declaration c (declaration_in scopes code s)) key)
+  keep_stands : (key : List ℕ)
+      → TargetMatches new.kept.items (logged new.log.groups.items) c.value_changes c.tick key (target_of new key)
+      (variable_of (with_declaration c (declaration_in scopes code s)) key)
   keep_stands key =
       let all = old.kept.items ++ variable_at code s first ∷ [] in
       let d = declaration_in scopes code s in
       let both =
-      by_code (λ b. TargetMatches all (logged old.log.groups.items) c.value_changes c.tick key (if b then Some (Kept first) else target_of old key) (option_or (variable_of c key) (if b then Some d else None))) key code
-      (λ is. subst (λ name. TargetMatches all (logged old.log.groups.items) c.value_changes c.tick name (Some (Kept first)) (option_or (variable_of c name) (Some d))) (sym is) (keep_here (variable_of c code) (k.stand code)))
-      (λ _. stands_still (logged old.log.groups.items) c.value_changes c.tick all key (target_of old key) (variable_of c key)
-      (stands_longer (logged old.log.groups.items) c.value_changes c.tick old.kept.items (variable_at code s first ∷ []) key (target_of old key) (variable_of c key) (k.stand key))) in
-      subst (λ (l : ChangeLog). TargetMatches new.kept.items (logged l.groups.items) c.value_changes c.tick key (target_of new key) (variable_of (with_declaration c d) key)) (sym log)
-      (subst (λ (vs : List Variable). TargetMatches vs (logged old.log.groups.items) c.value_changes c.tick key (target_of new key) (variable_of (with_declaration c d) key)) (sym items)
-      (subst (λ o. TargetMatches all (logged old.log.groups.items) c.value_changes c.tick key o (variable_of (with_declaration c d) key)) (sym (puts key))
-      (subst (TargetMatches all (logged old.log.groups.items) c.value_changes c.tick key (if bytes_eq key code then Some (Kept first) else target_of old key)) (sym (found_with key c.declared d)) both)))
+      by_code (λ b. TargetMatches all (logged old.log.groups.items) c.value_changes c.tick key
+      (if b then Some (Kept first) else target_of old key)
+      (option_or (variable_of c key) (if b then Some d else None))) key code
+      (λ is. subst (λ name. TargetMatches all (logged old.log.groups.items) c.value_changes c.tick name
+      (Some (Kept first)) (option_or (variable_of c name) (Some d))) (sym is)
+      (keep_here (variable_of c code) (k.stand code)))
+      (λ _. stands_still (logged old.log.groups.items) c.value_changes c.tick all key (target_of old key)
+      (variable_of c key)
+      (stands_longer (logged old.log.groups.items) c.value_changes c.tick old.kept.items (variable_at code s first ∷ [])
+      key (target_of old key) (variable_of c key) (k.stand key))) in
+      subst (λ (l : ChangeLog). TargetMatches new.kept.items (logged l.groups.items) c.value_changes c.tick key
+      (target_of new key) (variable_of (with_declaration c d) key)) (sym log)
+      (subst (λ (vs : List Variable). TargetMatches vs (logged old.log.groups.items) c.value_changes c.tick key
+      (target_of new key) (variable_of (with_declaration c d) key)) (sym items)
+      (subst (λ o. TargetMatches all (logged old.log.groups.items) c.value_changes c.tick key o
+      (variable_of (with_declaration c d) key)) (sym (puts key))
+      (subst (TargetMatches all (logged old.log.groups.items) c.value_changes c.tick key
+      (if bytes_eq key code then Some (Kept first) else target_of old key)) (sym (found_with key c.declared d))
+      both)))
 
   -- the variables before it know their first ones
   keep_earlier : (position : ℕ) (v : Variable) → slice_get old.kept.items position ≡ Some v → HasFirst new position v
@@ -267,27 +359,33 @@ module _ (old new : Variables) (c : ParseState) (scopes : List ScopeName) (code 
         owned = puts v.code
             ∙ by_code (λ b. (if b then Some (Kept first) else target_of old v.code) ≡ Some (Kept v.first)) v.code code
             (λ is. elim free [
-              | inl (none, end) ↦ let no : None ≡ Some (Kept v.first) = sym none ∙ ap (target_of old) (sym is) ∙ before.owned in absurd (cc)
+              | inl (none, end) ↦ let no : None ≡ Some (Kept v.first) = sym none ∙ ap (target_of old) (sym is)
+                  ∙ before.owned in absurd (cc)
               | inr (had, width) ↦ sym had ∙ ap (target_of old) (sym is) ∙ before.owned
             ])
             (λ _. before.owned);
         no_later = before.no_later;
-        same_size = λ w there. elim (either_of old.kept.items (variable_at code s first) v.first w (subst (λ vs. slice_get vs v.first ≡ Some w) items there)) [
-          | inl stood ↦ before.same_size w stood
-          | inr (end, is) ↦ absurd (omega (arith, end, within, before.no_later))
-        ];
+        same_size = λ w there. elim
+            (either_of old.kept.items (variable_at code s first) v.first w
+            (subst (λ vs. slice_get vs v.first ≡ Some w) items there)) [
+              | inl stood ↦ before.same_size w stood
+              | inr (end, is) ↦ absurd (omega (arith, end, within, before.no_later))
+            ];
       }
 
   first_within : first ≤ length old.kept.items
   first_within = elim free [
     | inl (none, end) ↦ omega (arith, end)
     | inr (had, width) ↦
-        let e = stands_kept old.kept.items (logged old.log.groups.items) c.value_changes c.tick code (variable_of c code) first
-        (subst (λ o. TargetMatches old.kept.items (logged old.log.groups.items) c.value_changes c.tick code o (variable_of c code)) had (k.stand code)) in
+        let e = stands_kept old.kept.items (logged old.log.groups.items) c.value_changes c.tick code
+        (variable_of c code) first
+        (subst (λ o. TargetMatches old.kept.items (logged old.log.groups.items) c.value_changes c.tick code o
+        (variable_of c code)) had (k.stand code)) in
         omega (arith, slice_get_within old.kept.items first e.3.first e.3.stands)
   ]
 
-  first_width : (w : Variable) → slice_get (old.kept.items ++ variable_at code s first ∷ []) first ≡ Some w → w.signal.wave.width ≡ s.wave.width
+  first_width : (w : Variable) → slice_get (old.kept.items ++ variable_at code s first ∷ []) first ≡ Some w
+      → w.signal.wave.width ≡ s.wave.width
   first_width w there = elim (either_of old.kept.items (variable_at code s first) first w there) [
     | inl stood ↦ elim free [
       | inl (none, end) ↦ absurd (omega (arith, end, slice_get_within old.kept.items first w stood))
@@ -297,52 +395,74 @@ module _ (old new : Variables) (c : ParseState) (scopes : List ScopeName) (code 
   ]
 
   keep_firsts : (position : ℕ) (v : Variable) → slice_get new.kept.items position ≡ Some v → HasFirst new position v
-  keep_firsts position v at = elim (either_of old.kept.items (variable_at code s first) position v (subst (λ vs. slice_get vs position ≡ Some v) items at)) [
-    | inl stood ↦ keep_earlier position v stood
-    | inr (end, is) ↦ subst (HasFirst new position) is (record {
-      owned = puts code ∙ ap (λ b. if b then Some (Kept first) else target_of old code) (own_code code);
-      no_later = omega (arith, end, first_within);
-      same_size = λ w there. first_width w (subst (λ vs. slice_get vs first ≡ Some w) items there);
-    })
-  ]
+  keep_firsts position v at =
+      elim (either_of old.kept.items (variable_at code s first) position v
+      (subst (λ vs. slice_get vs position ≡ Some v) items at)) [
+        | inl stood ↦ keep_earlier position v stood
+        | inr (end, is) ↦ subst (HasFirst new position) is (record {
+          owned = puts code ∙ ap (λ b. if b then Some (Kept first) else target_of old code) (own_code code);
+          no_later = omega (arith, end, first_within);
+          same_size = λ w there. first_width w (subst (λ vs. slice_get vs first ≡ Some w) items there);
+        })
+      ]
 
   -- it is declared
-  pub keep_declares : length old.kept.items < SIGNAL_LIMIT → new.skipped ≡ old.skipped → (x : Unit {0}) → DeclaresAs c (declaration_in scopes code s) (Ok x) new
+  pub keep_declares : length old.kept.items < SIGNAL_LIMIT → new.skipped ≡ old.skipped → (x : Unit {0})
+      → DeclaresAs c (declaration_in scopes code s) (Ok x) new
   keep_declares room same x =
       let d = declaration_in scopes code s in (
         keep_may old c scopes code s first k keeps free (variable_of c code) (k.stand code),
         has_room_is old c scopes code s first k keeps free true (lt-ltb (length old.kept.items) SIGNAL_LIMIT room),
         record {
-          kept = ap (map without_scopes) (kept_kept c.declared d keeps) ∙ map-append without_scopes (kept_variables c.declared) (d ∷ [])
-              ∙ (λ i. k.kept i ++ record { scopes = sym bare i; kind = s.kind; size = s.wave.width; code = code; words = s.words } ∷ [])
-              ∙ sym (map-append declaration old.kept.items (variable_at code s first ∷ [])) ∙ ap (map declaration) (sym items);
+          kept = ap (map without_scopes) (kept_kept c.declared d keeps)
+              ∙ map-append without_scopes (kept_variables c.declared) (d ∷ [])
+              ∙ (λ i. k.kept i ++ record {
+                scopes = sym bare i;
+                kind = s.kind;
+                size = s.wave.width;
+                code = code;
+                words =
+                    s.words;
+              } ∷ [])
+              ∙ sym (map-append declaration old.kept.items (variable_at code s first ∷ []))
+              ∙ ap (map declaration) (sym items);
           skipped = same ∙ k.skipped ∙ omega arith ∙ sym (count_with c.declared d false keeps);
           widths = widths ∙ ap (λ ws. ws ++ s.wave.width ∷ []) k.widths
-              ∙ sym (map-append (λ (v : Variable). v.signal.wave.width) old.kept.items (variable_at code s first ∷ [])) ∙ ap (map (λ (v : Variable). v.signal.wave.width)) (sym items);
+              ∙ sym (map-append (λ (v : Variable). v.signal.wave.width) old.kept.items (variable_at code s first ∷ []))
+              ∙ ap (map (λ (v : Variable). v.signal.wave.width)) (sym items);
           stand = keep_stands;
           firsts = keep_firsts;
-          few = subst (λ vs. length vs ≤ SIGNAL_LIMIT) (sym items) (omega (arith, room, length_push old.kept.items (variable_at code s first)));
+          few = subst (λ vs. length vs ≤ SIGNAL_LIMIT) (sym items)
+              (omega (arith, room, length_push old.kept.items (variable_at code s first)));
           grouped = subst (λ (l : ChangeLog). AreGrouped 0 l.groups.items) (sym log) k.grouped;
           logs = subst (λ (l : ChangeLog). HasLogs new.kept.items (logged l.groups.items)) (sym log)
               (subst (λ (vs : List Variable). HasLogs vs (logged old.log.groups.items)) (sym items)
-              (λ position some. let v = k.logs position some in (v.0, stays old.kept.items (variable_at code s first ∷ []) position v.0 v.1, v.2)));
+              (λ position some. let v = k.logs position some in
+              (v.0, stays old.kept.items (variable_at code s first ∷ []) position v.0 v.1, v.2)));
         },
       )
 
 -- what comes of a variable that is put behind the others
-pub push_declares : (old new : Variables) (c : ParseState) (scopes : List ScopeName) (code : List ℕ) (s : Signal) (first : ℕ) (result : Result (Unit {0}) Fault)
-    → VariablesMatch old c → c.value_changes ≡ [] → s.wave.changes ≡ [] → s.scopes ≡ [] → is_skipped (declaration_in scopes code s) ≡ false → IsFree old code s first
-    → OnOk result (length old.kept.items < SIGNAL_LIMIT) → OnOk result (new.kept.items ≡ old.kept.items ++ variable_at code s first ∷ [])
+pub push_declares : (old new : Variables) (c : ParseState) (scopes : List ScopeName) (code : List ℕ) (s : Signal)
+    (first : ℕ) (result : Result (Unit {0}) Fault)
+    → VariablesMatch old c → c.value_changes ≡ [] → s.wave.changes ≡ [] → s.scopes ≡ []
+    → is_skipped (declaration_in scopes code s) ≡ false → IsFree old code s first
+    → OnOk result (length old.kept.items < SIGNAL_LIMIT)
+    → OnOk result (new.kept.items ≡ old.kept.items ++ variable_at code s first ∷ [])
     → OnOk result (new.widths.items ≡ old.widths.items ++ s.wave.width ∷ []) → new.log ≡ old.log
     → OnOk result (Puts old new code (Kept first)) → new.skipped ≡ old.skipped
-    → IfErr result (λ fault. (fault ≡ faults.NoMemory) ⊎ ((fault ≡ faults.TooManySignals) × (SIGNAL_LIMIT ≤ length old.kept.items)))
+    → IfErr result (λ fault. (fault ≡ faults.NoMemory)
+    ⊎ ((fault ≡ faults.TooManySignals) × (SIGNAL_LIMIT ≤ length old.kept.items)))
     → DeclaresAs c (declaration_in scopes code s) result new
-push_declares old new c scopes code s first (Ok x) k value_changes silent bare keeps free room items widths log puts same refuses =
+push_declares old new c scopes code s first (Ok x) k value_changes silent bare keeps free room items widths log puts
+    same refuses =
     keep_declares old new c scopes code s first k value_changes silent bare keeps items widths log free puts room same x
-push_declares old new c scopes code s first (Err fault) k value_changes silent bare keeps free room items widths log puts same refuses = elim refuses [
-  | inl none ↦ inl none
-  | inr (why, full) ↦ subst (λ f. DeclaresAs c (declaration_in scopes code s) (Err f) new) (sym why) (keep_full old c scopes code s first k keeps free new full)
-]
+push_declares old new c scopes code s first (Err fault) k value_changes silent bare keeps free room items widths log
+    puts same refuses = elim refuses [
+      | inl none ↦ inl none
+      | inr (why, full) ↦ subst (λ f. DeclaresAs c (declaration_in scopes code s) (Err f) new) (sym why)
+          (keep_full old c scopes code s first k keeps free new full)
+    ]
 
 pub when_ok : (result : Result (Unit {0}) Fault) (P : Type 0) → P → OnOk result P
 when_ok (Ok x) P p = p
@@ -351,19 +471,24 @@ when_ok (Err fault) P p = tt
 -- ---- a code that may not be shared
 
 -- what a test of the width tells of a variable
-pub same_width : (o : Option Variable) (width : ℕ) → option_map_or (λ (v : Variable). v.signal.wave.width == width) o false ≡ true
+pub same_width : (o : Option Variable) (width : ℕ)
+    → option_map_or (λ (v : Variable). v.signal.wave.width == width) o false ≡ true
     → (w : Variable) → o ≡ Some w → w.signal.wave.width ≡ width
 same_width None width test w is = let never : None ≡ Some w = is in absurd (cc)
-same_width (Some v) width test w is = ap (λ (u : Variable). u.signal.wave.width) (sym (same_Some v w is)) ∙ eqb-true v.signal.wave.width width test
+same_width (Some v) width test w is = ap (λ (u : Variable). u.signal.wave.width) (sym (same_Some v w is))
+    ∙ eqb-true v.signal.wave.width width test
 
 -- ---- the words of a declaration
 
 -- what the words of a `$var` declare
 abbrev pub worded_declaration : ParseState → (kind size code : List ℕ) → (names : List (List ℕ)) → VariableDeclaration
-worded_declaration c kind size code names = record { scopes = c.scopes; kind = kind; size = number_of size; code = code; words = names }
+worded_declaration c kind size code names =
+    record { scopes = c.scopes; kind = kind; size = number_of size; code = code; words = names }
 
-declares_names : (c : ParseState) (kind size code : List ℕ) (names : List (List ℕ)) (result : Result (Unit {0}) Fault) (new : Variables) → 0 < length names
-    → DeclaresAs c (worded_declaration c kind size code names) result new → Declares c (kind ∷ size ∷ code ∷ names) result new
+declares_names : (c : ParseState) (kind size code : List ℕ) (names : List (List ℕ)) (result : Result (Unit {0}) Fault)
+    (new : Variables) → 0 < length names
+    → DeclaresAs c (worded_declaration c kind size code names) result new
+    → Declares c (kind ∷ size ∷ code ∷ names) result new
 declares_names c kind size code [] result new some as_one = absurd (omega (arith, some))
 declares_names c kind size code (name ∷ names) (Ok x) new some (may, room, knows) = ((may, room), knows)
 declares_names c kind size code (name ∷ names) (Err fault) new some as_one = elim as_one [
@@ -373,13 +498,16 @@ declares_names c kind size code (name ∷ names) (Err fault) new some as_one = e
 ]
 
 -- so what comes of the words is what comes of what they declare
-pub declares_words : (c : ParseState) (words : List (List ℕ)) (kind size code : List ℕ) (names : List (List ℕ)) (result : Result (Unit {0}) Fault) (new : Variables)
-    → words ≡ kind ∷ size ∷ code ∷ names → 0 < length names → DeclaresAs c (worded_declaration c kind size code names) result new → Declares c words result new
+pub declares_words : (c : ParseState) (words : List (List ℕ)) (kind size code : List ℕ) (names : List (List ℕ))
+    (result : Result (Unit {0}) Fault) (new : Variables)
+    → words ≡ kind ∷ size ∷ code ∷ names → 0 < length names
+    → DeclaresAs c (worded_declaration c kind size code names) result new → Declares c words result new
 declares_words c words kind size code names result new are some as_one =
     subst (λ ws. Declares c ws result new) (sym are) (declares_names c kind size code names result new some as_one)
 
 -- three words, and those behind them
-pub words_in_front : (words : List (List ℕ)) (kind size code : List ℕ) → 3 ≤ length words → kind ≡ get_or words 0 kind → size ≡ get_or words 1 size → code ≡ get_or words 2 code
+pub words_in_front : (words : List (List ℕ)) (kind size code : List ℕ) → 3 ≤ length words → kind ≡ get_or words 0 kind
+    → size ≡ get_or words 1 size → code ≡ get_or words 2 code
     → words ≡ kind ∷ size ∷ code ∷ drop 3 words
 words_in_front [] kind size code enough a b c = absurd (omega (arith, enough))
 words_in_front (x ∷ []) kind size code enough a b c = absurd (omega (arith, enough))
@@ -396,7 +524,8 @@ or_true : (a b : Bool) → b ≡ true → (a || b) ≡ true
 or_true true b is = refl
 or_true false b is = is
 
-same_bounds : (n size : ℕ) → size ≡ min n (WIDTH_LIMIT + 1) → (size == 0 || nat_lt WIDTH_LIMIT size) ≡ (n == 0 || nat_lt WIDTH_LIMIT n)
+same_bounds : (n size : ℕ) → size ≡ min n (WIDTH_LIMIT + 1)
+    → (size == 0 || nat_lt WIDTH_LIMIT size) ≡ (n == 0 || nat_lt WIDTH_LIMIT n)
 same_bounds n size is = elim (cases_lt WIDTH_LIMIT n) [
   | inr fits ↦ let same : size ≡ n = omega (arith, is, fits) in ap (λ m. m == 0 || nat_lt WIDTH_LIMIT m) same
   | inl past ↦
@@ -406,12 +535,19 @@ same_bounds n size is = elim (cases_lt WIDTH_LIMIT n) [
 ]
 
 -- a variable is skipped for its kind, or for the size that is read
-pub left_out : (c : ParseState) (kind word code : List ℕ) (names : List (List ℕ)) (size : ℕ) → size ≡ min (number_of word) (WIDTH_LIMIT + 1)
-    → is_skipped (worded_declaration c kind word code names) ≡ (is_skipped_kind kind || (size == 0 || nat_lt WIDTH_LIMIT size))
-left_out c kind word code names size is = ap (λ b. is_skipped_kind kind || b) (sym (same_bounds (number_of word) size is))
+pub left_out : (c : ParseState) (kind word code : List ℕ) (names : List (List ℕ)) (size : ℕ)
+    → size ≡ min (number_of word) (WIDTH_LIMIT + 1)
+    → is_skipped (worded_declaration c kind word code names)
+    ≡ (is_skipped_kind kind || (size == 0 || nat_lt WIDTH_LIMIT size))
+left_out c kind word code names size is =
+    ap (λ b. is_skipped_kind kind || b) (sym (same_bounds (number_of word) size is))
 
 -- the size that is read is that of a variable that is kept
-pub kept_size : (by_kind : Bool) (n size : ℕ) → size ≡ min n (WIDTH_LIMIT + 1) → (by_kind || (size == 0 || nat_lt WIDTH_LIMIT size)) ≡ false → size ≡ n
+pub kept_size : (by_kind : Bool) (n size : ℕ) → size ≡ min n (WIDTH_LIMIT + 1)
+    → (by_kind || (size == 0 || nat_lt WIDTH_LIMIT size)) ≡ false → size ≡ n
 kept_size by_kind n size is keeps =
-    let fits : size ≤ WIDTH_LIMIT = ltb-false WIDTH_LIMIT size (or_false (size == 0) (nat_lt WIDTH_LIMIT size) (or_false by_kind (size == 0 || nat_lt WIDTH_LIMIT size) keeps)) in
+    let fits : size ≤ WIDTH_LIMIT =
+    ltb-false WIDTH_LIMIT size
+    (or_false (size == 0) (nat_lt WIDTH_LIMIT size)
+    (or_false by_kind (size == 0 || nat_lt WIDTH_LIMIT size) keeps)) in
     omega (arith, is, fits)

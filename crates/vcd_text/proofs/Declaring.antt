@@ -1,5 +1,7 @@
 -- What becomes of a declaration at the next of its words.
-use Rattle.std.proofs.Common.{◌≡◌, ℕ, ◌-◌, ◌<◌, Bool, true, false, not, ◌&&◌, List, [], ◌∷◌, ◌++◌, length, take, Option, Some, None, IsSome, IsTrue, IsFalse, Result, Ok, Err, IsErrAnd, slice_index_or, is_some, MatchOption, ◌⊎◌, codes, refl, sym, ap, subst, ◌∙◌, arith, inl, inr}
+use Rattle.std.proofs.Common.{◌≡◌, ℕ, ◌-◌, ◌<◌, Bool, true, false, not, ◌&&◌, List, [], ◌∷◌, ◌++◌, length, take, Option}
+use Rattle.std.proofs.Common.{Some, None, IsSome, IsTrue, IsFalse, Result, Ok, Err, IsErrAnd, slice_index_or, is_some}
+use Rattle.std.proofs.Common.{MatchOption, ◌⊎◌, codes, refl, sym, ap, subst, ◌∙◌, arith, inl, inr}
 use Rattle.std.specs.List.{remove}
 use Rattle.std.proofs.lemmas.List.{map-append}
 use Rattle.std.proofs.lemmas.List.Folds.{list_all-append}
@@ -11,12 +13,14 @@ use Rattle.vcd_text.specs.declared.fault.Fault.{Fault}
 use Rattle.vcd_text.specs.declared.fault.Fault.TheVariants as faults
 use Rattle.vcd_text.specs.Words.{PlacedWord, word_on}
 use Rattle.vcd_core.specs.Decimal.{is_number}
-use Rattle.vcd_text.specs.Items.{Item, entry, timescale, scope, upscope, variable, end_definitions, other, spelling, end_word, is_end_word, has_no_end_word, header_word, is_other, timescale_of}
+use Rattle.vcd_text.specs.Items.{Item, entry, timescale, scope, upscope, variable, end_definitions, other, spelling}
+use Rattle.vcd_text.specs.Items.{end_word, is_end_word, has_no_end_word, header_word, is_other, timescale_of}
 use Rattle.vcd_text.specs.Grammar.{ParseState, Allows, state_after_item, kept_variables, word_texts, has_good_size}
 use Rattle.vcd_text.specs.Faults.{WordFault, DeclarationFault, no_timescale, no_size, among_declarations}
 use Rattle.vcd_text.specs.inside.Scopes.{HoldsScopes}
 use Rattle.vcd_text.specs.inside.Variables.{VariablesMatch, Declares, VariableFault}
-use Rattle.vcd_text.specs.inside.Reading.{ReaderMatches, Collects, PassesOver, IsBegun, IsAtState, WordStep, goes_on, ends_item, WordResult}
+use Rattle.vcd_text.specs.inside.Reading.{ReaderMatches, Collects, PassesOver, IsBegun, IsAtState, WordStep, goes_on}
+use Rattle.vcd_text.specs.inside.Reading.{ends_item, WordResult}
 use Rattle.vcd_text.specs.declared.reading.code_targets.CodeTargets.{CodeTargets}
 use Rattle.vcd_text.specs.declared.reading.reader.Reader.{Reader}
 use Rattle.vcd_text.specs.declared.reading.reader.OpenItem.TheVariants as items
@@ -33,25 +37,31 @@ texts_more : (begun : List PlacedWord) (w : PlacedWord) → word_texts (begun ++
 texts_more begun w = map-append (λ (v : PlacedWord). v.text) begun (w ∷ [])
 
 -- the words of an item with its `$end`
-spelled_whole : (begun : List PlacedWord) (line : ℕ) (words : List (List ℕ)) → word_texts begun ≡ words → words ++ end_word ∷ [] ≡ word_texts (begun ++ word_on end_word line ∷ [])
-spelled_whole begun line words spelled = sym (texts_more begun (word_on end_word line) ∙ ap (λ ts. ts ++ end_word ∷ []) spelled)
+spelled_whole : (begun : List PlacedWord) (line : ℕ) (words : List (List ℕ)) → word_texts begun ≡ words
+    → words ++ end_word ∷ [] ≡ word_texts (begun ++ word_on end_word line ∷ [])
+spelled_whole begun line words spelled =
+    sym (texts_more begun (word_on end_word line) ∙ ap (λ ts. ts ++ end_word ∷ []) spelled)
 
 -- one word more, which is no `$end`
-no_end_more : (words : List (List ℕ)) (text : List ℕ) → IsTrue (has_no_end_word words) → IsFalse (is_end_word text) → IsTrue (has_no_end_word (words ++ text ∷ []))
+no_end_more : (words : List (List ℕ)) (text : List ℕ) → IsTrue (has_no_end_word words) → IsFalse (is_end_word text)
+    → IsTrue (has_no_end_word (words ++ text ∷ []))
 no_end_more words text none isnt =
     list_all-append (λ w. not (is_end_word w)) words (text ∷ []) ∙ (λ i. none i && (not (isnt i) && true))
 
 -- ---- what is told stays known
 
 -- the variables hold what a context tells that differs in other things alone
-same_known : (vs : Variables) (c d : ParseState) → c.declared ≡ d.declared → c.value_changes ≡ d.value_changes → c.tick ≡ d.tick → VariablesMatch vs c → VariablesMatch vs d
-same_known vs c d declared value_changes tick known = knows_further vs c d declared value_changes (omega (arith, tick)) known
+same_known : (vs : Variables) (c d : ParseState) → c.declared ≡ d.declared → c.value_changes ≡ d.value_changes
+    → c.tick ≡ d.tick → VariablesMatch vs c → VariablesMatch vs d
+same_known vs c d declared value_changes tick known =
+    knows_further vs c d declared value_changes (omega (arith, tick)) known
 
 -- ---- the end of an item
 
 -- where the item that is open asks for no more, its `$end` ends it
 ends_here : (new : Reader) (c : ParseState) (begun : List PlacedWord) (line : ℕ) (i : Item) (words : List (List ℕ))
-    → word_texts begun ≡ words → spelling i ≡ words ++ end_word ∷ [] → Allows c i → ReaderMatches new (state_after_item c i) → new.item ≡ items.Nothing
+    → word_texts begun ≡ words → spelling i ≡ words ++ end_word ∷ [] → Allows c i
+    → ReaderMatches new (state_after_item c i) → new.item ≡ items.Nothing
     → WordStep c (begun ++ word_on end_word line ∷ []) new
 ends_here new c begun line i words spelled whole allows agrees closed =
     ends_item i (whole ∙ spelled_whole begun line words spelled) allows
@@ -61,13 +71,15 @@ ends_here new c begun line i words spelled whole allows agrees closed =
 pub closes_entry : (m new : Reader) (kind : HeaderKind) → m.item ≡ items.Entry kind
     → new.header.items ≡ m.header.items ++ record { kind = kind; words = m.words.items } ∷ []
     → new ≡ record m { header = new.header; words = new.words; item = items.Nothing }
-    → (line : ℕ) (c : ParseState) (begun : List PlacedWord) → IsAtState m c begun → WordStep c (begun ++ word_on end_word line ∷ []) new
+    → (line : ℕ) (c : ParseState) (begun : List PlacedWord) → IsAtState m c begun
+    → WordStep c (begun ++ word_on end_word line ∷ []) new
 closes_entry m new kind is pushed others line c begun at =
     let a = at.0 in
     let b : Collects m begun (header_word kind) = subst (IsBegun m begun) is at.1 in
     let i : Item = entry kind m.words.items in
     subst (WordStep c (begun ++ word_on end_word line ∷ [])) (sym others)
-    (ends_here (record m { header = new.header; words = new.words; item = items.Nothing }) c begun line i (header_word kind ∷ m.words.items)
+    (ends_here (record m { header = new.header; words = new.words; item = items.Nothing }) c begun line i
+    (header_word kind ∷ m.words.items)
     b.spelled refl (sym a.changing ∙ b.declares, b.no_end)
     (record {
       header = pushed ∙ ap (λ h. h ++ record { kind = kind; words = m.words.items } ∷ []) a.header;
@@ -80,14 +92,16 @@ closes_entry m new kind is pushed others line c begun at =
     }) refl)
 
 -- a timescale takes the place of the one before
-pub closes_timescale : (m : Reader) (found : Timescale) → m.item ≡ items.Timescale → timescale_of m.words.items ≡ Some found
+pub closes_timescale : (m : Reader) (found : Timescale) → m.item ≡ items.Timescale
+    → timescale_of m.words.items ≡ Some found
     → (line : ℕ) (c : ParseState) (begun : List PlacedWord) → IsAtState m c begun
     → WordStep c (begun ++ word_on end_word line ∷ []) (record m { timescale = Some found; item = items.Nothing })
 closes_timescale m found is some line c begun at =
     let a = at.0 in
     let b : Collects m begun (codes "$timescale") = subst (IsBegun m begun) is at.1 in
     let i : Item = timescale m.words.items in
-    ends_here (record m { timescale = Some found; item = items.Nothing }) c begun line i (codes "$timescale" ∷ m.words.items)
+    ends_here (record m { timescale = Some found; item = items.Nothing }) c begun line i
+    (codes "$timescale" ∷ m.words.items)
     b.spelled refl (sym a.changing ∙ b.declares, b.no_end, subst IsSome (sym some) refl)
     (record {
       header = a.header;
@@ -101,22 +115,31 @@ closes_timescale m found is some line c begun at =
 
 -- the words spell no timescale
 pub shows_no_timescale : (m : Reader) → m.item ≡ items.Timescale → timescale_of m.words.items ≡ None
-    → (c : ParseState) (begun : List PlacedWord) → IsAtState m c begun → WordFault c (word_texts begun) end_word faults.BadTimescale
+    → (c : ParseState) (begun : List PlacedWord) → IsAtState m c begun
+    → WordFault c (word_texts begun) end_word faults.BadTimescale
 shows_no_timescale m is none c begun at =
     let b : Collects m begun (codes "$timescale") = subst (IsBegun m begun) is at.1 in
     among_declarations (sym at.0.changing ∙ b.declares) (no_timescale m.words.items b.spelled refl b.no_end none refl)
 
 -- a scope is the innermost
-pub closes_scope : (m new : Reader) (s : ScopeName) → m.item ≡ items.Scope → m.words.items ≡ s.kind ∷ s.words → ((c : ParseState) → HoldsScopes m.scopes c.scopes c.declared → HoldsScopes new.scopes (c.scopes ++ s ∷ []) c.declared)
+pub closes_scope : (m new : Reader) (s : ScopeName) → m.item ≡ items.Scope → m.words.items ≡ s.kind ∷ s.words
+    → ((c : ParseState) → HoldsScopes m.scopes c.scopes c.declared
+    → HoldsScopes new.scopes (c.scopes ++ s ∷ []) c.declared)
     → new ≡ record m { scopes = new.scopes; words = new.words; item = items.Nothing }
-    → (line : ℕ) (c : ParseState) (begun : List PlacedWord) → IsAtState m c begun → WordStep c (begun ++ word_on end_word line ∷ []) new
+    → (line : ℕ) (c : ParseState) (begun : List PlacedWord) → IsAtState m c begun
+    → WordStep c (begun ++ word_on end_word line ∷ []) new
 closes_scope m new s is words pushed others line c begun at =
     let a = at.0 in
     let b : Collects m begun (codes "$scope") = subst (IsBegun m begun) is at.1 in
     let i : Item = scope s.kind s.words in
     subst (WordStep c (begun ++ word_on end_word line ∷ [])) (sym others)
-    (ends_here (record m { scopes = new.scopes; words = new.words; item = items.Nothing }) c begun line i (codes "$scope" ∷ s.kind ∷ s.words)
-    (b.spelled ∙ ap (λ ws. codes "$scope" ∷ ws) words) refl (sym a.changing ∙ b.declares, ap has_no_end_word (sym words) ∙ b.no_end)
+    (ends_here (record m { scopes = new.scopes; words = new.words; item = items.Nothing }) c begun line i
+    (codes "$scope" ∷ s.kind ∷ s.words)
+    (b.spelled ∙ ap (λ ws. codes "$scope" ∷ ws) words) refl (
+      sym a.changing ∙ b.declares,
+      ap has_no_end_word (sym words)
+          ∙ b.no_end,
+    )
     (record {
       header = a.header;
       timescale = a.timescale;
@@ -128,17 +151,22 @@ closes_scope m new s is words pushed others line c begun at =
     }) refl)
 
 -- the front of a list, and what is left behind it
-pub front_removed : (xs ys : List (List ℕ)) (x : List ℕ) → 0 < length xs → x ≡ slice_index_or xs 0 x → ys ≡ remove xs 0 → xs ≡ x ∷ ys
+pub front_removed : (xs ys : List (List ℕ)) (x : List ℕ) → 0 < length xs → x ≡ slice_index_or xs 0 x → ys ≡ remove xs 0
+    → xs ≡ x ∷ ys
 front_removed [] ys x some front rest = absurd (omega arith)
 front_removed (x' ∷ xs) ys x some front rest = (λ i. sym front i ∷ sym rest i)
 
 -- the innermost scope is closed
-pub closes_upscope : (m new : Reader) → m.item ≡ items.Upscope → ((c : ParseState) → HoldsScopes m.scopes c.scopes c.declared → HoldsScopes new.scopes (take (length c.scopes - 1) c.scopes) c.declared)
+pub closes_upscope : (m new : Reader) → m.item ≡ items.Upscope
+    → ((c : ParseState) → HoldsScopes m.scopes c.scopes c.declared
+    → HoldsScopes new.scopes (take (length c.scopes - 1) c.scopes) c.declared)
     → new ≡ record m { scopes = new.scopes; item = items.Nothing }
-    → (line : ℕ) (c : ParseState) (begun : List PlacedWord) → IsAtState m c begun → WordStep c (begun ++ word_on end_word line ∷ []) new
+    → (line : ℕ) (c : ParseState) (begun : List PlacedWord) → IsAtState m c begun
+    → WordStep c (begun ++ word_on end_word line ∷ []) new
 closes_upscope m new is popped others line c begun at =
     let a = at.0 in
-    let b : IsFalse m.changing × (word_texts begun ≡ codes "$upscope" ∷ []) × (0 < m.scopes.depth) = subst (IsBegun m begun) is at.1 in
+    let b : IsFalse m.changing × (word_texts begun ≡ codes "$upscope" ∷ []) × (0 < m.scopes.depth) =
+    subst (IsBegun m begun) is at.1 in
     subst (WordStep c (begun ++ word_on end_word line ∷ [])) (sym others)
     (ends_here (record m { scopes = new.scopes; item = items.Nothing }) c begun line upscope (codes "$upscope" ∷ [])
     b.1 refl (sym a.changing ∙ b.0, omega (arith, so_deep m.scopes c a.scopes, b.2))
@@ -153,13 +181,25 @@ closes_upscope m new is popped others line c begun at =
     }) refl)
 
 -- the changes begin
-pub closes_definitions : (m : Reader) (code_targets : CodeTargets) → code_targets.codes ≡ m.variables.code_targets.codes → m.item ≡ items.EndDefinitions
+pub closes_definitions : (m : Reader) (code_targets : CodeTargets) → code_targets.codes ≡ m.variables.code_targets.codes
+    → m.item ≡ items.EndDefinitions
     → (line : ℕ) (c : ParseState) (begun : List PlacedWord) → IsAtState m c begun
-    → WordStep c (begun ++ word_on end_word line ∷ []) (record m { variables = record m.variables { code_targets = code_targets }; changing = true; item = items.Nothing })
+    → WordStep c (begun ++ word_on end_word line ∷ [])
+    (record m {
+      variables = record m.variables { code_targets = code_targets };
+      changing = true;
+      item =
+          items.Nothing;
+    })
 closes_definitions m code_targets same is line c begun at =
     let a = at.0 in
     let b : IsFalse m.changing × (word_texts begun ≡ codes "$enddefinitions" ∷ []) = subst (IsBegun m begun) is at.1 in
-    ends_here (record m { variables = record m.variables { code_targets = code_targets }; changing = true; item = items.Nothing }) c begun line end_definitions (codes "$enddefinitions" ∷ [])
+    ends_here (record m {
+      variables = record m.variables { code_targets = code_targets };
+      changing = true;
+      item =
+          items.Nothing;
+    }) c begun line end_definitions (codes "$enddefinitions" ∷ [])
     b.1 refl (sym a.changing ∙ b.0)
     (record {
       header = a.header;
@@ -167,13 +207,15 @@ closes_definitions m code_targets same is line c begun at =
       scopes = a.scopes;
       changing = refl;
       tick = a.tick;
-      variables = same_codes m.variables code_targets (state_after_item c end_definitions) same (same_known m.variables c (state_after_item c end_definitions) refl refl refl a.variables);
+      variables = same_codes m.variables code_targets (state_after_item c end_definitions) same
+          (same_known m.variables c (state_after_item c end_definitions) refl refl refl a.variables);
       silent = λ _. a.silent (sym a.changing ∙ b.0);
     }) refl
 
 -- another command leaves nothing
 pub closes_other : (m : Reader) → m.item ≡ items.Other
-    → (line : ℕ) (c : ParseState) (begun : List PlacedWord) → IsAtState m c begun → WordStep c (begun ++ word_on end_word line ∷ []) (record m { item = items.Nothing })
+    → (line : ℕ) (c : ParseState) (begun : List PlacedWord) → IsAtState m c begun
+    → WordStep c (begun ++ word_on end_word line ∷ []) (record m { item = items.Nothing })
 closes_other m is line c begun at =
     let a = at.0 in
     let b : PassesOver m begun = subst (IsBegun m begun) is at.1 in
@@ -192,23 +234,30 @@ closes_other m is line c begun at =
 -- ---- variables
 
 -- the variables have taken the declaration
-pub closes_variable : (m : Reader) (variables : Variables) (scopes : Scopes) (words : List (List ℕ)) → words ≡ m.words.items
-    → ((c : ParseState) (ws : List (List ℕ)) → HoldsScopes m.scopes c.scopes c.declared → length variables.kept.items ≡ length (kept_variables (state_after_item c (variable ws)).declared)
+pub closes_variable : (m : Reader) (variables : Variables) (scopes : Scopes) (words : List (List ℕ))
+    → words ≡ m.words.items
+    → ((c : ParseState) (ws : List (List ℕ)) → HoldsScopes m.scopes c.scopes c.declared
+    → length variables.kept.items ≡ length (kept_variables (state_after_item c (variable ws)).declared)
     → HoldsScopes scopes c.scopes (state_after_item c (variable ws)).declared)
-    → ((c : ParseState) → c.value_changes ≡ [] → VariablesMatch m.variables c → Declares c words (Ok tt) variables) → m.item ≡ items.Variable
+    → ((c : ParseState) → c.value_changes ≡ [] → VariablesMatch m.variables c → Declares c words (Ok tt) variables)
+    → m.item ≡ items.Variable
     → (line : ℕ) (c : ParseState) (begun : List PlacedWord) → IsAtState m c begun
-    → WordStep c (begun ++ word_on end_word line ∷ []) (record m { scopes = scopes; variables = variables; item = items.Nothing })
+    → WordStep c (begun ++ word_on end_word line ∷ [])
+    (record m { scopes = scopes; variables = variables; item = items.Nothing })
 closes_variable m variables scopes words spelled note declare is line c begun at =
     let a = at.0 in
     let b : Collects m begun (codes "$var") × IsTrue (has_good_size m.words.items) = subst (IsBegun m begun) is at.1 in
     let declares : IsFalse c.changing = sym a.changing ∙ b.0.declares in
-    let d : Declares c m.words.items (Ok tt) variables = subst (λ ws. Declares c ws (Ok tt) variables) spelled (declare c (a.silent declares) a.variables) in
-    ends_here (record m { scopes = scopes; variables = variables; item = items.Nothing }) c begun line (variable m.words.items) (codes "$var" ∷ m.words.items)
+    let d : Declares c m.words.items (Ok tt) variables =
+    subst (λ ws. Declares c ws (Ok tt) variables) spelled (declare c (a.silent declares) a.variables) in
+    ends_here (record m { scopes = scopes; variables = variables; item = items.Nothing }) c begun line
+    (variable m.words.items) (codes "$var" ∷ m.words.items)
     b.0.spelled refl (declares, b.0.no_end, b.1, d.0)
     (record {
       header = a.header;
       timescale = a.timescale;
-      scopes = note c m.words.items a.scopes (sym (kept_long variables (state_after_item c (variable m.words.items)) d.1));
+      scopes = note c m.words.items a.scopes
+          (sym (kept_long variables (state_after_item c (variable m.words.items)) d.1));
       changing = a.changing;
       tick = a.tick;
       variables = d.1;
@@ -217,7 +266,8 @@ closes_variable m variables scopes words spelled note declare is line c begun at
 
 -- what the variables answer is what the grammar says
 variable_fault : (m : Reader) (c : ParseState) (begun : List PlacedWord) (fault : Fault) → IsFalse c.changing
-    → Collects m begun (codes "$var") → IsTrue (has_good_size m.words.items) → VariableFault c m.words.items fault → WordFault c (word_texts begun) end_word fault
+    → Collects m begun (codes "$var") → IsTrue (has_good_size m.words.items) → VariableFault c m.words.items fault
+    → WordFault c (word_texts begun) end_word fault
 variable_fault m c begun fault declares b good (VariableFault.no_variable none is) =
     among_declarations declares (DeclarationFault.no_variable m.words.items b.spelled refl b.no_end good none is)
 variable_fault m c begun fault declares b good (VariableFault.code_mixed d some mixed is) =
@@ -228,14 +278,17 @@ variable_fault m c begun fault declares b good (VariableFault.no_room d some may
 -- the same, or memory runs out
 fault_shown : (m : Reader) (c : ParseState) (begun : List PlacedWord) (fault : Fault) → IsFalse c.changing
     → Collects m begun (codes "$var") → IsTrue (has_good_size m.words.items)
-    → (fault ≡ faults.NoMemory) ⊎ VariableFault c m.words.items fault → (fault ≡ faults.NoMemory) ⊎ WordFault c (word_texts begun) end_word fault
+    → (fault ≡ faults.NoMemory) ⊎ VariableFault c m.words.items fault → (fault ≡ faults.NoMemory)
+    ⊎ WordFault c (word_texts begun) end_word fault
 fault_shown m c begun fault declares b good (inl memory) = inl memory
 fault_shown m c begun fault declares b good (inr shown) = inr (variable_fault m c begun fault declares b good shown)
 
 -- the words declare no variable that may stand here
-pub shows_no_variable : (m new : Reader) (result : Result (Unit {0}) Fault) (fault : Fault) (variables : Variables) (words : List (List ℕ))
+pub shows_no_variable : (m new : Reader) (result : Result (Unit {0}) Fault) (fault : Fault) (variables : Variables)
+    (words : List (List ℕ))
     → words ≡ m.words.items
-    → ((c : ParseState) → c.value_changes ≡ [] → VariablesMatch m.variables c → Declares c words (Err fault) variables) → m.item ≡ items.Variable
+    → ((c : ParseState) → c.value_changes ≡ [] → VariablesMatch m.variables c → Declares c words (Err fault) variables)
+    → m.item ≡ items.Variable
     → IsErrAnd result (λ e. e ≡ fault) → (line : ℕ) → WordResult m (word_on end_word line) result new
 shows_no_variable m new (Ok x) fault variables words spelled declare is failed line = absurd failed
 shows_no_variable m new (Err e) fault variables words spelled declare is failed line =
@@ -243,11 +296,14 @@ shows_no_variable m new (Err e) fault variables words spelled declare is failed 
     let a = at.0 in
     let b : Collects m begun (codes "$var") × IsTrue (has_good_size m.words.items) = subst (IsBegun m begun) is at.1 in
     let declares : IsFalse c.changing = sym a.changing ∙ b.0.declares in
-    let d : Declares c m.words.items (Err fault) variables = subst (λ ws. Declares c ws (Err fault) variables) spelled (declare c (a.silent declares) a.variables) in
-    subst (λ f. (f ≡ faults.NoMemory) ⊎ WordFault c (word_texts begun) end_word f) (sym failed) (fault_shown m c begun fault declares b.0 b.1 d)
+    let d : Declares c m.words.items (Err fault) variables =
+    subst (λ ws. Declares c ws (Err fault) variables) spelled (declare c (a.silent declares) a.variables) in
+    subst (λ f. (f ≡ faults.NoMemory) ⊎ WordFault c (word_texts begun) end_word f) (sym failed)
+    (fault_shown m c begun fault declares b.0 b.1 d)
 
 -- the kind of a variable, where it is all that stands there
-one_word : (words : List (List ℕ)) → length words ≡ 1 → IsTrue (has_no_end_word words) → (kind : List ℕ) × (words ≡ kind ∷ []) × IsFalse (is_end_word kind)
+one_word : (words : List (List ℕ)) → length words ≡ 1 → IsTrue (has_no_end_word words)
+    → (kind : List ℕ) × (words ≡ kind ∷ []) × IsFalse (is_end_word kind)
 one_word [] one none = absurd (omega arith)
 one_word (kind ∷ []) one none = (kind, refl, not_true (is_end_word kind) (and_parts _ _ none).0)
   where
@@ -257,23 +313,28 @@ one_word (kind ∷ []) one none = (kind, refl, not_true (is_end_word kind) (and_
 one_word (kind ∷ size ∷ words) one none = absurd (omega arith)
 
 -- a size is given to each decimal number
-pub no_number : (size : Option ℕ) (text : List ℕ) (Q : ℕ → Type 0) → MatchOption size (is_number text ≡ false) Q → is_some size ≡ false → is_number text ≡ false
+pub no_number : (size : Option ℕ) (text : List ℕ) (Q : ℕ → Type 0) → MatchOption size (is_number text ≡ false) Q
+    → is_some size ≡ false → is_number text ≡ false
 no_number None text Q said none = said
 no_number (Some n) text Q said none = let some : true ≡ false = none in absurd (cc)
 
 -- a size that is no number
-pub shows_no_size : (m : Reader) (text : List ℕ) → m.item ≡ items.Variable → length m.words.items ≡ 1 → is_number text ≡ false
-    → (c : ParseState) (begun : List PlacedWord) → IsAtState m c begun → WordFault c (word_texts begun) text faults.BadVar
+pub shows_no_size : (m : Reader) (text : List ℕ) → m.item ≡ items.Variable → length m.words.items ≡ 1
+    → is_number text ≡ false
+    → (c : ParseState) (begun : List PlacedWord) → IsAtState m c begun
+    → WordFault c (word_texts begun) text faults.BadVar
 shows_no_size m text is one isnt c begun at =
     let b : Collects m begun (codes "$var") × IsTrue (has_good_size m.words.items) = subst (IsBegun m begun) is at.1 in
     let k = one_word m.words.items one b.0.no_end in
-    among_declarations (sym at.0.changing ∙ b.0.declares) (no_size k.0 (b.0.spelled ∙ ap (λ ws. codes "$var" ∷ ws) k.1) k.2 isnt refl)
+    among_declarations (sym at.0.changing
+    ∙ b.0.declares) (no_size k.0 (b.0.spelled ∙ ap (λ ws. codes "$var" ∷ ws) k.1) k.2 isnt refl)
 
 -- ---- a word that goes on
 
 -- a word of another command
 pub passes_over : (m : Reader) (text : List ℕ) → m.item ≡ items.Other → IsFalse (is_end_word text)
-    → (line : ℕ) (c : ParseState) (begun : List PlacedWord) → IsAtState m c begun → WordStep c (begun ++ word_on text line ∷ []) m
+    → (line : ℕ) (c : ParseState) (begun : List PlacedWord) → IsAtState m c begun
+    → WordStep c (begun ++ word_on text line ∷ []) m
 passes_over m text is isnt line c begun at =
     let b : PassesOver m begun = subst (IsBegun m begun) is at.1 in
     goes_on (

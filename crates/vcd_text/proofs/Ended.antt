@@ -1,5 +1,6 @@
 -- What is so where no word is left.
-use Rattle.std.proofs.Common.{◌≡◌, inl, inr, ℕ, Bool, true, false, ◌&&◌, List, [], ◌∷◌, ◌++◌, refl, sym, ap, subst, ◌∙◌, arith}
+use Rattle.std.proofs.Common.{◌≡◌, inl, inr, ℕ, Bool, true, false, ◌&&◌, List, [], ◌∷◌, ◌++◌, refl, sym, ap, subst, ◌∙◌}
+use Rattle.std.proofs.Common.{arith}
 use Rattle.std.specs.Prelude.{IsTrue, IsFalse, codes, nat_eq}
 use Rattle.std.proofs.lemmas.List.{append-nil, map-append}
 use Rattle.std.proofs.lemmas.Bool.{and_parts, false≢true, or_cases, or_left, or_right}
@@ -11,7 +12,8 @@ use Rattle.vcd_text.specs.Letters.{is_among}
 use Rattle.vcd_core.specs.Word.{is_one_of}
 use Rattle.vcd_text.specs.Items.{spellings, header_word, header_words, is_other, vector_prefixes, dropped_prefixes}
 use Rattle.vcd_text.specs.Grammar.{ParseState, Accepts, word_texts}
-use Rattle.vcd_text.specs.Faults.{ShowsFault, Stops, IsUnfinished, declaration_due, words_due, upscope_due, variable_due, definitions_due, code_due, other_due, pair_prefixes}
+use Rattle.vcd_text.specs.Faults.{ShowsFault, Stops, IsUnfinished, declaration_due, words_due, upscope_due}
+use Rattle.vcd_text.specs.Faults.{variable_due, definitions_due, code_due, other_due, pair_prefixes}
 use Rattle.vcd_text.specs.inside.OpenItems.{is_nothing}
 use Rattle.vcd_text.specs.inside.Reading.{Reads, ReaderMatches, IsBegun, Collects, AwaitsCode, is_complete}
 use Rattle.vcd_text.specs.declared.reading.reader.Reader.{Reader}
@@ -21,14 +23,18 @@ use Rattle.vcd_text.proofs.HeldScopes.{so_deep}
 use Rattle.vcd_text.proofs.OneAnswer.{accepted-not_refused, stopped-not_refused}
 
 -- the kind of a header entry is one of three
-is_header : (kind : HeaderKind) → IsTrue (is_one_of (codes "$timescale" ∷ codes "$scope" ∷ header_words) (header_word kind))
+is_header : (kind : HeaderKind)
+    → IsTrue (is_one_of (codes "$timescale" ∷ codes "$scope" ∷ header_words) (header_word kind))
 is_header Date = refl
 is_header Version = refl
 is_header Comment = refl
 
-collecting : (m : Reader) (c : ParseState) (begun : List PlacedWord) (keyword : List ℕ) → ReaderMatches m c → Collects m begun keyword
-    → IsTrue (is_one_of (codes "$timescale" ∷ codes "$scope" ∷ header_words) keyword) → IsUnfinished c (word_texts begun)
-collecting m c begun keyword agrees is among = words_due keyword m.words.items (sym agrees.changing ∙ is.declares) is.spelled among is.no_end
+collecting : (m : Reader) (c : ParseState) (begun : List PlacedWord) (keyword : List ℕ) → ReaderMatches m c
+    → Collects m begun keyword
+    → IsTrue (is_one_of (codes "$timescale" ∷ codes "$scope" ∷ header_words) keyword)
+    → IsUnfinished c (word_texts begun)
+collecting m c begun keyword agrees is among =
+    words_due keyword m.words.items (sym agrees.changing ∙ is.declares) is.spelled among is.no_end
 
 among_more : (letters more : List ℕ) (b : ℕ) → is_among letters b ≡ true → is_among (letters ++ more) b ≡ true
 among_more [] more b h = absurd (false≢true h)
@@ -46,26 +52,39 @@ not_nothing : (b : Bool) → (b && true) ≡ false → b ≡ false
 not_nothing false h = refl
 not_nothing true h = absurd (false≢true (sym h))
 
-awaiting : (m : Reader) (c : ParseState) (begun : List PlacedWord) (letters text : List ℕ) → ReaderMatches m c → AwaitsCode m begun letters text
+awaiting : (m : Reader) (c : ParseState) (begun : List PlacedWord) (letters text : List ℕ) → ReaderMatches m c
+    → AwaitsCode m begun letters text
     → ((b : ℕ) → IsTrue (is_among letters b) → IsTrue (is_among pair_prefixes b)) → IsUnfinished c (word_texts begun)
 awaiting m c begun letters text agrees is more =
-    code_due is.letter text (sym agrees.changing ∙ is.changes) (ap word_texts is.is ∙ ap (λ t. t ∷ []) is.spelled) (more is.letter is.among)
+    code_due is.letter text (sym agrees.changing ∙ is.changes) (ap word_texts is.is ∙ ap (λ t. t ∷ []) is.spelled)
+    (more is.letter is.among)
 
 -- something is due behind words that are no whole file
-unfinished : (m : Reader) (c : ParseState) (begun : List PlacedWord) (item : OpenItem) → ReaderMatches m c → IsBegun m begun item → IsFalse (m.changing && is_nothing item) → IsUnfinished c (word_texts begun)
-unfinished m c begun items.Nothing agrees none no_end = declaration_due (sym agrees.changing ∙ not_nothing m.changing no_end) (ap word_texts none)
-unfinished m c begun (items.Entry kind) agrees is no_end = collecting m c begun (header_word kind) agrees is (is_header kind)
+unfinished : (m : Reader) (c : ParseState) (begun : List PlacedWord) (item : OpenItem) → ReaderMatches m c
+    → IsBegun m begun item → IsFalse (m.changing && is_nothing item) → IsUnfinished c (word_texts begun)
+unfinished m c begun items.Nothing agrees none no_end =
+    declaration_due (sym agrees.changing ∙ not_nothing m.changing no_end) (ap word_texts none)
+unfinished m c begun (items.Entry kind) agrees is no_end =
+    collecting m c begun (header_word kind) agrees is (is_header kind)
 unfinished m c begun items.Timescale agrees is no_end = collecting m c begun (codes "$timescale") agrees is refl
 unfinished m c begun items.Scope agrees is no_end = collecting m c begun (codes "$scope") agrees is refl
-unfinished m c begun items.Upscope agrees is no_end = upscope_due (sym agrees.changing ∙ is.0) is.1 (omega (arith, so_deep m.scopes c agrees.scopes, is.2))
-unfinished m c begun items.Variable agrees is no_end = variable_due m.words.items (sym agrees.changing ∙ is.0.declares) is.0.spelled is.0.no_end is.1
+unfinished m c begun items.Upscope agrees is no_end =
+    upscope_due (sym agrees.changing ∙ is.0) is.1 (omega (arith, so_deep m.scopes c agrees.scopes, is.2))
+unfinished m c begun items.Variable agrees is no_end =
+    variable_due m.words.items (sym agrees.changing ∙ is.0.declares) is.0.spelled is.0.no_end is.1
 unfinished m c begun items.EndDefinitions agrees is no_end = definitions_due (sym agrees.changing ∙ is.0) is.1
-unfinished m c begun items.Other agrees is no_end = other_due is.keyword is.words is.spelled (subst (λ b. IsTrue (is_other b is.keyword)) agrees.changing is.other) is.no_end
-unfinished m c begun items.Vector agrees is no_end = awaiting m c begun vector_prefixes m.text.items agrees is (among_more vector_prefixes dropped_prefixes)
-unfinished m c begun items.Dropped agrees (text, is) no_end = awaiting m c begun dropped_prefixes text agrees is (among_after dropped_prefixes vector_prefixes)
+unfinished m c begun items.Other agrees is no_end =
+    other_due is.keyword is.words is.spelled (subst (λ b. IsTrue (is_other b is.keyword)) agrees.changing is.other)
+    is.no_end
+unfinished m c begun items.Vector agrees is no_end =
+    awaiting m c begun vector_prefixes m.text.items agrees is (among_more vector_prefixes dropped_prefixes)
+unfinished m c begun items.Dropped agrees (text, is) no_end =
+    awaiting m c begun dropped_prefixes text agrees is (among_after dropped_prefixes vector_prefixes)
 
-texts_are : (m : Reader) (words : List PlacedWord) (r : Reads m words) → word_texts words ≡ spellings r.items ++ word_texts r.begun
-texts_are m words r = ap word_texts r.parts ∙ map-append (λ (w : PlacedWord). w.text) r.whole r.begun ∙ ap (λ ws. ws ++ word_texts r.begun) r.spelled
+texts_are : (m : Reader) (words : List PlacedWord) (r : Reads m words)
+    → word_texts words ≡ spellings r.items ++ word_texts r.begun
+texts_are m words r = ap word_texts r.parts ∙ map-append (λ (w : PlacedWord). w.text) r.whole r.begun
+    ∙ ap (λ ws. ws ++ word_texts r.begun) r.spelled
 
 -- words that are no whole file end too early
 pub stops : (m : Reader) (words : List PlacedWord) → Reads m words → is_complete m ≡ false → Stops words
@@ -74,10 +93,12 @@ stops m words r incomplete = record {
   begun = word_texts r.begun;
   spelled = texts_are m words r;
   allowed = r.allowed;
-  unfinished = subst (λ c. IsUnfinished c (word_texts r.begun)) (sym r.tells) (unfinished m r.told r.begun m.item r.at.0 r.at.1 incomplete);
+  unfinished = subst (λ c. IsUnfinished c (word_texts r.begun)) (sym r.tells)
+      (unfinished m r.told r.begun m.item r.at.0 r.at.1 incomplete);
 }
 
-nothing_begun : (m : Reader) (begun : List PlacedWord) (item : OpenItem) → IsBegun m begun item → is_nothing item ≡ true → begun ≡ []
+nothing_begun : (m : Reader) (begun : List PlacedWord) (item : OpenItem) → IsBegun m begun item → is_nothing item ≡ true
+    → begun ≡ []
 nothing_begun m begun items.Nothing is none = is
 nothing_begun m begun (items.Entry kind) is none = absurd (false≢true none)
 nothing_begun m begun items.Timescale is none = absurd (false≢true none)
@@ -95,14 +116,17 @@ accepts m words r complete =
     let parts = and_parts m.changing (is_nothing m.item) complete in
     record {
       items = r.items;
-      spelled = texts_are m words r ∙ ap (λ ws. spellings r.items ++ word_texts ws) (nothing_begun m r.begun m.item r.at.1 parts.1) ∙ append-nil (spellings r.items);
+      spelled = texts_are m words r
+          ∙ ap (λ ws. spellings r.items ++ word_texts ws) (nothing_begun m r.begun m.item r.at.1 parts.1)
+          ∙ append-nil (spellings r.items);
       allowed = r.allowed;
       tells = r.tells;
       definitions_ended = sym r.at.0.changing ∙ parts.0;
     }
 
 -- words that have been taken show no fault
-pub no_fault : (m : Reader) (words : List PlacedWord) → Reads m words → (line : ℕ) (fault : Fault) → ShowsFault words line fault → ⊥
+pub no_fault : (m : Reader) (words : List PlacedWord) → Reads m words → (line : ℕ) (fault : Fault)
+    → ShowsFault words line fault → ⊥
 no_fault m words r line fault refuses = by_test (is_complete m) refl
   where
     by_test : (b : Bool) → is_complete m ≡ b → ⊥

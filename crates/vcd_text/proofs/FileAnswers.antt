@@ -1,5 +1,6 @@
 -- Every file has an answer: its words are accepted, or one shows a fault, or they end too early.
-use Rattle.std.proofs.Common.{◌≡◌, ◌⊎◌, inl, inr, ℕ, true, List, [], ◌∷◌, ◌++◌, refl, sym, ap, subst, ◌∙◌, append_assoc, IsTrue}
+use Rattle.std.proofs.Common.{◌≡◌, ◌⊎◌, inl, inr, ℕ, true, List, [], ◌∷◌, ◌++◌, refl, sym, ap, subst, ◌∙◌, append_assoc}
+use Rattle.std.proofs.Common.{IsTrue}
 use Rattle.std.specs.List.{All}
 use Rattle.std.proofs.lemmas.List.{append-nil, map-append}
 use Rattle.std.proofs.lemmas.List.Elements.{All-head, All-tail}
@@ -10,7 +11,8 @@ use Rattle.vcd_text.specs.declared.fault.Fault.TheVariants.{Truncated}
 use Rattle.vcd_text.specs.Words.{PlacedWord, words_of, last_line}
 use Rattle.vcd_text.specs.Items.{Item, spelling, spellings}
 use Rattle.vcd_text.specs.Grammar.{ParseState, Allows, Accepts, state_after_item, initial_state, word_texts}
-use Rattle.vcd_text.specs.Faults.{WordFault, IsUnfinished, declaration_due, fault_line, ShowsFault, Stops, FileFault, shown, too_early}
+use Rattle.vcd_text.specs.Faults.{WordFault, IsUnfinished, declaration_due, fault_line, ShowsFault, Stops, FileFault}
+use Rattle.vcd_text.specs.Faults.{shown, too_early}
 use Rattle.vcd_text.specs.Meaning.{FileMeans, meaning, skipped_count}
 use Rattle.vcd_text.proofs.ItemsInTurn.{Leads, leads_none, leads_one, leads_both}
 use Rattle.vcd_text.proofs.WordLaws.{is_run, words_are_words}
@@ -44,10 +46,12 @@ texts_more begun w = map-append (λ (v : PlacedWord). v.text) begun (w ∷ [])
 
 spelled_more : (items : List Item) (i : Item) → spellings (items ++ i ∷ []) ≡ spellings items ++ spelling i
 spelled_more [] i = append-nil (spelling i)
-spelled_more (j ∷ items) i = ap (λ ws. spelling j ++ ws) (spelled_more items i) ∙ sym (append_assoc (spelling j) (spellings items) (spelling i))
+spelled_more (j ∷ items) i = ap (λ ws. spelling j ++ ws) (spelled_more items i)
+    ∙ sym (append_assoc (spelling j) (spellings items) (spelling i))
 
 -- the word goes on with the item that is open
-with_word : (words rest : List PlacedWord) (w : PlacedWord) (u : WordsSoFar words (w ∷ rest)) → IsUnfinished u.told (word_texts u.begun ++ w.text ∷ []) → WordsSoFar words rest
+with_word : (words rest : List PlacedWord) (w : PlacedWord) (u : WordsSoFar words (w ∷ rest))
+    → IsUnfinished u.told (word_texts u.begun ++ w.text ∷ []) → WordsSoFar words rest
 with_word words rest w u due = record {
   items = u.items;
   whole = u.whole;
@@ -60,22 +64,27 @@ with_word words rest w u due = record {
 }
 
 -- the word ends the item
-with_item : (words rest : List PlacedWord) (w : PlacedWord) (u : WordsSoFar words (w ∷ rest)) (i : Item) → spelling i ≡ word_texts u.begun ++ w.text ∷ [] → Allows u.told i → WordsSoFar words rest
+with_item : (words rest : List PlacedWord) (w : PlacedWord) (u : WordsSoFar words (w ∷ rest)) (i : Item)
+    → spelling i ≡ word_texts u.begun ++ w.text ∷ [] → Allows u.told i → WordsSoFar words rest
 with_item words rest w u i spelled allows = record {
   items = u.items ++ i ∷ [];
   whole = u.whole ++ (u.begun ++ w ∷ []);
   begun = [];
   told = state_after_item u.told i;
-  parts = u.parts ∙ ap (λ ws. u.whole ++ ws) (word_after u.begun rest w) ∙ sym (append_assoc u.whole (u.begun ++ w ∷ []) rest);
+  parts = u.parts ∙ ap (λ ws. u.whole ++ ws) (word_after u.begun rest w)
+      ∙ sym (append_assoc u.whole (u.begun ++ w ∷ []) rest);
   spelled =
-      map-append (λ (v : PlacedWord). v.text) u.whole (u.begun ++ w ∷ []) ∙ ap (λ ws. ws ++ word_texts (u.begun ++ w ∷ [])) u.spelled
+      map-append (λ (v : PlacedWord). v.text) u.whole (u.begun ++ w ∷ [])
+      ∙ ap (λ ws. ws ++ word_texts (u.begun ++ w ∷ [])) u.spelled
       ∙ ap (λ ws. spellings u.items ++ ws) (texts_more u.begun w ∙ sym spelled) ∙ sym (spelled_more u.items i);
-  leads = leads_both initial_state u.told (state_after_item u.told i) u.items (i ∷ []) u.leads (leads_one u.told (state_after_item u.told i) i allows refl);
+  leads = leads_both initial_state u.told (state_after_item u.told i) u.items (i ∷ []) u.leads
+      (leads_one u.told (state_after_item u.told i) i allows refl);
   open_item = between refl;
 }
 
 -- the word shows a fault
-shows_here : (words rest : List PlacedWord) (w : PlacedWord) (u : WordsSoFar words (w ∷ rest)) (fault : Fault) → WordFault u.told (word_texts u.begun) w.text fault
+shows_here : (words rest : List PlacedWord) (w : PlacedWord) (u : WordsSoFar words (w ∷ rest)) (fault : Fault)
+    → WordFault u.told (word_texts u.begun) w.text fault
     → ShowsFault words (fault_line u.told.changing u.begun w) fault
 shows_here words rest w u fault decided = record {
   items = u.items;
@@ -93,13 +102,16 @@ shows_here words rest w u fault decided = record {
 -- ---- the end
 
 -- the texts of all words, where none is to come
-texts_are : (words : List PlacedWord) (u : WordsSoFar words []) → word_texts words ≡ spellings u.items ++ word_texts u.begun
+texts_are : (words : List PlacedWord) (u : WordsSoFar words [])
+    → word_texts words ≡ spellings u.items ++ word_texts u.begun
 texts_are words u =
-    ap word_texts (u.parts ∙ ap (λ ws. u.whole ++ ws) (append-nil u.begun)) ∙ map-append (λ (v : PlacedWord). v.text) u.whole u.begun
+    ap word_texts (u.parts ∙ ap (λ ws. u.whole ++ ws) (append-nil u.begun))
+    ∙ map-append (λ (v : PlacedWord). v.text) u.whole u.begun
     ∙ ap (λ ws. ws ++ word_texts u.begun) u.spelled
 
 -- something is due behind the last word
-stops_here : (words : List PlacedWord) (u : WordsSoFar words []) → IsUnfinished u.told (word_texts u.begun) → AnswerTo words
+stops_here : (words : List PlacedWord) (u : WordsSoFar words []) → IsUnfinished u.told (word_texts u.begun)
+    → AnswerTo words
 stops_here words u due = stops_early (record {
   items = u.items;
   begun = word_texts u.begun;
@@ -109,7 +121,8 @@ stops_here words u due = stops_early (record {
 })
 
 -- nothing is open behind the last word, and `$enddefinitions $end` has come
-accepts_here : (words : List PlacedWord) (u : WordsSoFar words []) → word_texts u.begun ≡ [] → IsTrue u.told.changing → AnswerTo words
+accepts_here : (words : List PlacedWord) (u : WordsSoFar words []) → word_texts u.begun ≡ [] → IsTrue u.told.changing
+    → AnswerTo words
 accepts_here words u none changing = is_accepted u.told (record {
   items = u.items;
   spelled = texts_are words u ∙ ap (λ ws. spellings u.items ++ ws) none ∙ append-nil (spellings u.items);
@@ -121,27 +134,53 @@ accepts_here words u none changing = is_accepted u.told (record {
 at_end : (words : List PlacedWord) (u : WordsSoFar words []) → IsOpen u.told (word_texts u.begun) → AnswerTo words
 at_end words u (inside due) = stops_here words u due
 at_end words u (between none) =
-    elim (cases_Bool u.told.changing) [ inl changing ↦ accepts_here words u none changing | inr declares ↦ stops_here words u (declaration_due declares none) ]
+    elim (cases_Bool u.told.changing) [
+      | inl changing ↦ accepts_here words u none changing
+      | inr declares ↦
+          stops_here words u (declaration_due declares none)
+    ]
 
 -- ---- all words
 
-answer_after : (words rest : List PlacedWord) → All (λ (w : PlacedWord). is_run w.text) rest → WordsSoFar words rest → AnswerTo words
+answer_after : (words rest : List PlacedWord) → All (λ (w : PlacedWord). is_run w.text) rest → WordsSoFar words rest
+    → AnswerTo words
 answer_after words [] runs u = at_end words u u.open_item
 answer_after words (w ∷ rest) runs u =
-    elim (word_outcome u.told (word_texts u.begun) w.text (All-head (λ (v : PlacedWord). is_run v.text) w rest runs).0 u.open_item) [
-      | shows_fault fault decided ↦ is_refused (fault_line u.told.changing u.begun w) fault (shows_here words rest w u fault decided)
-      | ends_item i spelled allows ↦ answer_after words rest (All-tail (λ (v : PlacedWord). is_run v.text) w rest runs) (with_item words rest w u i spelled allows)
-      | goes_on due ↦ answer_after words rest (All-tail (λ (v : PlacedWord). is_run v.text) w rest runs) (with_word words rest w u due)
+    elim (word_outcome u.told (word_texts u.begun) w.text (All-head (λ (v : PlacedWord). is_run v.text) w rest runs).0
+    u.open_item) [
+      | shows_fault fault decided ↦
+          is_refused (fault_line u.told.changing u.begun w) fault (shows_here words rest w u fault decided)
+      | ends_item i spelled allows ↦
+          answer_after words rest (All-tail (λ (v : PlacedWord). is_run v.text) w rest runs)
+          (with_item words rest w u i spelled allows)
+      | goes_on due ↦ answer_after words rest (All-tail (λ (v : PlacedWord). is_run v.text) w rest runs)
+          (with_word words rest w u due)
     ]
 
 -- before the first word
 nothing_taken : (words : List PlacedWord) → WordsSoFar words words
-nothing_taken words = record { items = []; whole = []; begun = []; told = initial_state; parts = refl; spelled = refl; leads = leads_none initial_state; open_item = between refl }
+nothing_taken words = record {
+  items = [];
+  whole = [];
+  begun = [];
+  told = initial_state;
+  parts = refl;
+  spelled = refl;
+  leads = leads_none initial_state;
+  open_item = between refl;
+}
 
-pub an_answer : (bytes : List ℕ) → ((c : Contents) × (n : ℕ) × FileMeans bytes c n) ⊎ ((line : ℕ) × (fault : Fault) × FileFault bytes line fault)
+pub an_answer : (bytes : List ℕ) → ((c : Contents) × (n : ℕ) × FileMeans bytes c n)
+    ⊎ ((line : ℕ) × (fault : Fault) × FileFault bytes line fault)
 an_answer bytes =
-    elim (answer_after (words_of bytes) (words_of bytes) (words_are_words true 1 bytes) (nothing_taken (words_of bytes))) [
-      | is_accepted told accepts ↦ inl (meaning told, skipped_count told, record { told = told; accepted = accepts; means = refl; left_out = refl })
+    elim (answer_after (words_of bytes) (words_of bytes) (words_are_words true 1 bytes)
+    (nothing_taken (words_of bytes))) [
+      | is_accepted told accepts ↦
+          inl (
+            meaning told,
+            skipped_count told,
+            record { told = told; accepted = accepts; means = refl; left_out = refl },
+          )
       | stops_early stops ↦ inr (last_line bytes, Truncated, too_early stops refl refl)
       | is_refused line fault s ↦ inr (line, fault, shown s)
     ]

@@ -1,5 +1,6 @@
 -- The answers to a file of which a front is known.
-use Rattle.std.proofs.Common.{◌≡◌, ◌⊎◌, inl, inr, ℕ, ◌<◌, ◌≤◌, Bool, List, take, length, Option, Some, None, IsTrue, IfSome, refl, subst}
+use Rattle.std.proofs.Common.{◌≡◌, ◌⊎◌, inl, inr, ℕ, ◌<◌, ◌≤◌, Bool, List, take, length, Option, Some, None, IsTrue}
+use Rattle.std.proofs.Common.{IfSome, refl, subst}
 use Rattle.std.specs.Io.KnownBytes.{Consumes}
 use Rattle.vcd_text.specs.declared.reading.TheConstants.{FILE_LIMIT}
 use Rattle.vcd_text.specs.declared.fault.Fault.TheVariants as faults
@@ -7,16 +8,20 @@ use Rattle.vcd_text.specs.declared.fault.ReadError.{ReadError}
 use Rattle.vcd_text.specs.Refusals.{IsRefusal, IsFrontAnswer, too_large, reader_failed, no_memory, memory_error}
 
 -- there is more than the limit
-pub larger : (coming left : Option (List ℕ)) (failed : Bool) (bytes : List ℕ) (e : ReadError) → IfSome coming (λ xs. (FILE_LIMIT < length xs) × (bytes ≡ take FILE_LIMIT xs))
+pub larger : (coming left : Option (List ℕ)) (failed : Bool) (bytes : List ℕ) (e : ReadError)
+    → IfSome coming (λ xs. (FILE_LIMIT < length xs) × (bytes ≡ take FILE_LIMIT xs))
     → (e ≡ memory_error) ⊎ IsFrontAnswer bytes faults.TooLarge e → IfSome coming (λ file. IsRefusal file failed left e)
 larger None left failed bytes e some answer = tt
 larger (Some xs) left failed bytes e some (inl none) = no_memory none
-larger (Some xs) left failed bytes e some (inr answer) = too_large some.0 (subst (λ front. IsFrontAnswer front faults.TooLarge e) some.1 answer)
+larger (Some xs) left failed bytes e some (inr answer) =
+    too_large some.0 (subst (λ front. IsFrontAnswer front faults.TooLarge e) some.1 answer)
 
 -- the reader failed
-pub failing : (coming left : Option (List ℕ)) (failed : Bool) (bytes : List ℕ) (e : ReadError) → IsTrue failed → Consumes coming left bytes → length bytes ≤ FILE_LIMIT
+pub failing : (coming left : Option (List ℕ)) (failed : Bool) (bytes : List ℕ) (e : ReadError) → IsTrue failed
+    → Consumes coming left bytes → length bytes ≤ FILE_LIMIT
     → (e ≡ memory_error) ⊎ IsFrontAnswer bytes faults.ReadFault e → IfSome coming (λ file. IsRefusal file failed left e)
 failing None left failed bytes e has consumes within answer = tt
 failing (Some xs) None failed bytes e has consumes within answer = absurd consumes
 failing (Some xs) (Some ys) failed bytes e has consumes within (inl none) = no_memory none
-failing (Some xs) (Some ys) failed bytes e has consumes within (inr answer) = reader_failed bytes ys has refl consumes within answer
+failing (Some xs) (Some ys) failed bytes e has consumes within (inr answer) =
+    reader_failed bytes ys has refl consumes within answer

@@ -1,8 +1,10 @@
--- The closed words of a front are the first words of every file with this front, so a fault that they show is the file's.
+-- The closed words of a front are the first words of every file with this front, so a fault that they show is the
+-- file's.
 use Rattle.std.proofs.Common.{◌≡◌, ℕ, Bool, true, false, List, [], ◌∷◌, ◌++◌, refl, ap, ◌∙◌, append_assoc}
 use Rattle.vcd_core.specs.Word.{is_white_space}
 use Rattle.vcd_text.specs.declared.fault.Fault.{Fault}
-use Rattle.vcd_text.specs.Words.{PlacedWord, word_on, line_after, ends_before, with_longer_first, with_byte, words_from, words_of, closed_words}
+use Rattle.vcd_text.specs.Words.{PlacedWord, word_on, line_after, ends_before, with_longer_first, with_byte, words_from}
+use Rattle.vcd_text.specs.Words.{words_of, closed_words}
 use Rattle.vcd_text.specs.Faults.{FileFault, FrontFault, ShowsFault, shown}
 
 -- the first words of a list of words
@@ -10,30 +12,38 @@ abbrev IsFront : List PlacedWord → List PlacedWord → Type 0
 IsFront first all = (more : List PlacedWord) × (all ≡ first ++ more)
 
 -- the byte goes into the first word of both lists, or the shorter one has none
-longer_front : (b line : ℕ) (first all : List PlacedWord) → IsFront first all → IsFront (with_longer_first b line first) (with_longer_first b line all)
+longer_front : (b line : ℕ) (first all : List PlacedWord) → IsFront first all
+    → IsFront (with_longer_first b line first) (with_longer_first b line all)
 longer_front b line [] all front = (with_longer_first b line all, refl)
 longer_front b line (w ∷ ws) all front = (front.0, ap (with_longer_first b line) front.1)
 
-front_with_byte : (space last : Bool) (b line : ℕ) (first all : List PlacedWord) → IsFront first all → IsFront (with_byte space last b line first) (with_byte space last b line all)
+front_with_byte : (space last : Bool) (b line : ℕ) (first all : List PlacedWord) → IsFront first all
+    → IsFront (with_byte space last b line first) (with_byte space last b line all)
 front_with_byte true last b line first all front = front
 front_with_byte false true b line first all front = (front.0, ap (λ ws. word_on (b ∷ []) line ∷ ws) front.1)
 front_with_byte false false b line first all front = longer_front b line first all front
 
 -- the last byte of a front ends no closed word
-front_with_last : (space last : Bool) (b line : ℕ) (all : List PlacedWord) → IsFront (with_byte space false b line []) (with_byte space last b line all)
+front_with_last : (space last : Bool) (b line : ℕ) (all : List PlacedWord)
+    → IsFront (with_byte space false b line []) (with_byte space last b line all)
 front_with_last true last b line all = (all, refl)
 front_with_last false last b line all = (with_byte false last b line all, refl)
 
-closed_in_front : (whole : Bool) (line : ℕ) (front rest : List ℕ) → IsFront (words_from false line front) (words_from whole line (front ++ rest))
+closed_in_front : (whole : Bool) (line : ℕ) (front rest : List ℕ)
+    → IsFront (words_from false line front) (words_from whole line (front ++ rest))
 unfolding words_from
 closed_in_front whole line [] rest = (words_from whole line rest, refl)
-closed_in_front whole line (b ∷ []) rest = front_with_last (is_white_space b) (ends_before whole rest) b line (words_from whole (line_after b line) rest)
+closed_in_front whole line (b ∷ []) rest =
+    front_with_last (is_white_space b) (ends_before whole rest) b line (words_from whole (line_after b line) rest)
 closed_in_front whole line (b ∷ next ∷ front) rest =
-    front_with_byte (is_white_space b) (is_white_space next) b line (words_from false (line_after b line) (next ∷ front)) (words_from whole (line_after b line) (next ∷ front ++ rest))
+    front_with_byte (is_white_space b) (is_white_space next) b line
+    (words_from false (line_after b line) (next ∷ front))
+    (words_from whole (line_after b line) (next ∷ front ++ rest))
     (closed_in_front whole (line_after b line) (next ∷ front) rest)
 
 -- a fault that words show is shown whatever words follow
-shown_further : (words all : List PlacedWord) (line : ℕ) (fault : Fault) → IsFront words all → ShowsFault words line fault → ShowsFault all line fault
+shown_further : (words all : List PlacedWord) (line : ℕ) (fault : Fault) → IsFront words all
+    → ShowsFault words line fault → ShowsFault all line fault
 shown_further words all line fault front s = record {
   items = s.items;
   whole = s.whole;
@@ -49,9 +59,14 @@ shown_further words all line fault front s = record {
   at = s.at;
 }
 
-pub front_fault_stays : (front rest : List ℕ) (line : ℕ) (fault : Fault) → FrontFault front line fault → FileFault (front ++ rest) line fault
-front_fault_stays front rest line fault s = shown (shown_further (closed_words front) (words_of (front ++ rest)) line fault (closed_in_front true 1 front rest) s)
+pub front_fault_stays : (front rest : List ℕ) (line : ℕ) (fault : Fault) → FrontFault front line fault
+    → FileFault (front ++ rest) line fault
+front_fault_stays front rest line fault s =
+    shown (shown_further (closed_words front) (words_of (front ++ rest)) line fault (closed_in_front true 1 front rest)
+    s)
 
 -- it is that of a longer front as well
-pub longer_front_fault : (front rest : List ℕ) (line : ℕ) (fault : Fault) → FrontFault front line fault → FrontFault (front ++ rest) line fault
-longer_front_fault front rest line fault s = shown_further (closed_words front) (closed_words (front ++ rest)) line fault (closed_in_front false 1 front rest) s
+pub longer_front_fault : (front rest : List ℕ) (line : ℕ) (fault : Fault) → FrontFault front line fault
+    → FrontFault (front ++ rest) line fault
+longer_front_fault front rest line fault s =
+    shown_further (closed_words front) (closed_words (front ++ rest)) line fault (closed_in_front false 1 front rest) s

@@ -1,20 +1,35 @@
--- What stands at the front of some words: a whole item, a fault, the begin of an item, or nothing. It is a function of the words, so the grammar gives one answer.
-use Rattle.std.proofs.Common.{◌≡◌, ℕ, suc, ◌<◌, ◌≤◌, Bool, true, false, cond, not, ◌&&◌, ◌||◌, List, [], ◌∷◌, ◌++◌, length, Option, Some, None, IsSome, IsSomeAnd, IsTrue, IsFalse, nat_lt, codes, bytes_eq, refl, sym, ap, subst, ◌∙◌, append_assoc, arith, inl, inr}
+-- What stands at the front of some words: a whole item, a fault, the begin of an item, or nothing. It is a function of
+-- the words, so the grammar gives one answer.
+use Rattle.std.proofs.Common.{◌≡◌, ℕ, suc, ◌<◌, ◌≤◌, Bool, true, false, cond, not, ◌&&◌, ◌||◌, List, [], ◌∷◌, ◌++◌}
+use Rattle.std.proofs.Common.{length, Option, Some, None, IsSome, IsSomeAnd, IsTrue, IsFalse, nat_lt, codes, bytes_eq}
+use Rattle.std.proofs.Common.{refl, sym, ap, subst, ◌∙◌, append_assoc, arith, inl, inr}
 use Rattle.std.specs.Prelude.{nat_eq, nat_le, ◌==◌}
 use Rattle.std.specs.List.{AllByRecursion}
 use Rattle.std.proofs.lemmas.Slice.Eq.{bytes_eq-Decides}
-use Rattle.std.proofs.lemmas.Bool.{and_parts, or_parts, or_cases, or_from, not-true, cases_Bool, false≢true, eqb-true, leb-true, le-ltb, lt-ltb}
+use Rattle.std.proofs.lemmas.Bool.{and_parts, or_parts, or_cases, or_from, not-true, cases_Bool, false≢true, eqb-true}
+use Rattle.std.proofs.lemmas.Bool.{leb-true, le-ltb, lt-ltb}
 use Rattle.vcd_core.specs.declared.capture.HeaderKind.TheVariants.{Date, Version, Comment}
 use Rattle.vcd_core.specs.declared.capture.Timescale.{Timescale}
 use Rattle.vcd_core.specs.declared.capture.ScopeName.{ScopeName}
 use Rattle.vcd_text.specs.declared.fault.Fault.{Fault}
-use Rattle.vcd_text.specs.declared.fault.Fault.TheVariants.{UnexpectedWord, BadTimescale, BadScope, UpscopeAtTop, BadVar, MixedCode, BadTime, TimeBackwards, BadChange, UnknownCode, ValueTooLong, TooManySignals}
+use Rattle.vcd_text.specs.declared.fault.Fault.TheVariants.{UnexpectedWord, BadTimescale, BadScope, UpscopeAtTop}
+use Rattle.vcd_text.specs.declared.fault.Fault.TheVariants.{BadVar, MixedCode, BadTime, TimeBackwards, BadChange}
+use Rattle.vcd_text.specs.declared.fault.Fault.TheVariants.{UnknownCode, ValueTooLong, TooManySignals}
 use Rattle.vcd_core.specs.Decimal.{is_number, number_of}
 use Rattle.vcd_core.specs.Word.{is_one_of}
 use Rattle.vcd_text.specs.Letters.{is_among, is_binary_digit}
-use Rattle.vcd_text.specs.Items.{Item, entry, timescale, scope, upscope, variable, end_definitions, stamp, scalar, vector, real_or_string, bracket, other, spelling, end_word, is_end_word, has_no_end_word, dump_words, declaring_words, header_words, begins_declaration, is_other, timescale_of, vector_prefixes, dropped_prefixes}
-use Rattle.vcd_text.specs.Grammar.{ParseState, VariableDeclaration, Allows, is_skipped, has_good_size, declaration_of, variable_of, may_have_code, has_room, is_tick, is_binary_number, takes_binary_number}
-use Rattle.vcd_text.specs.Faults.{DeclarationFault, ChangeFault, WordFault, IsUnfinished, pair_prefixes, no_declaration, no_timescale, no_kind, upscope_at_top, upscope_goes_on, no_size, no_variable, code_mixed, no_room, definitions_go_on, no_tick, tick_goes_back, value_alone, value_of_none, pair_of_none, no_value, value_too_long, declaration_late, no_change, among_declarations, among_changes, declaration_due, words_due, upscope_due, variable_due, definitions_due, code_due, other_due}
+use Rattle.vcd_text.specs.Items.{Item, entry, timescale, scope, upscope, variable, end_definitions, stamp, scalar}
+use Rattle.vcd_text.specs.Items.{vector, real_or_string, bracket, other, spelling, end_word, is_end_word}
+use Rattle.vcd_text.specs.Items.{has_no_end_word, dump_words, declaring_words, header_words, begins_declaration}
+use Rattle.vcd_text.specs.Items.{is_other, timescale_of, vector_prefixes, dropped_prefixes}
+use Rattle.vcd_text.specs.Grammar.{ParseState, VariableDeclaration, Allows, is_skipped, has_good_size, declaration_of}
+use Rattle.vcd_text.specs.Grammar.{variable_of, may_have_code, has_room, is_tick, is_binary_number, takes_binary_number}
+use Rattle.vcd_text.specs.Faults.{DeclarationFault, ChangeFault, WordFault, IsUnfinished, pair_prefixes, no_declaration}
+use Rattle.vcd_text.specs.Faults.{no_timescale, no_kind, upscope_at_top, upscope_goes_on, no_size, no_variable}
+use Rattle.vcd_text.specs.Faults.{code_mixed, no_room, definitions_go_on, no_tick, tick_goes_back, value_alone}
+use Rattle.vcd_text.specs.Faults.{value_of_none, pair_of_none, no_value, value_too_long, declaration_late, no_change}
+use Rattle.vcd_text.specs.Faults.{among_declarations, among_changes, declaration_due, words_due, upscope_due}
+use Rattle.vcd_text.specs.Faults.{variable_due, definitions_due, code_due, other_due}
 
 -- a fault stands at a place, counted from the front
 pub data Front : Type 0 where
@@ -29,19 +44,22 @@ abbrev pub closing : (List (List ℕ) → List (List ℕ) → Front) → List (L
 closing f [] = unfinished
 closing f (w ∷ ws) = cond (is_end_word w) (f [] ws) (closing (λ words. f (w ∷ words)) ws)
 
-closing_end : (f : List (List ℕ) → List (List ℕ) → Front) (words rest : List (List ℕ)) → IsTrue (has_no_end_word words) → closing f (words ++ end_word ∷ rest) ≡ f words rest
+closing_end : (f : List (List ℕ) → List (List ℕ) → Front) (words rest : List (List ℕ)) → IsTrue (has_no_end_word words)
+    → closing f (words ++ end_word ∷ rest) ≡ f words rest
 closing_end f [] rest h = refl
 closing_end f (w ∷ words) rest h =
     let p = and_parts _ _ h in
     rw (not-true (is_end_word w) p.0) (closing_end (λ ws. f (w ∷ ws)) words rest p.1)
 
-closing_none : (f : List (List ℕ) → List (List ℕ) → Front) (words : List (List ℕ)) → IsTrue (has_no_end_word words) → closing f words ≡ unfinished
+closing_none : (f : List (List ℕ) → List (List ℕ) → Front) (words : List (List ℕ)) → IsTrue (has_no_end_word words)
+    → closing f words ≡ unfinished
 closing_none f [] h = refl
 closing_none f (w ∷ words) h =
     let p = and_parts _ _ h in
     rw (not-true (is_end_word w) p.0) (closing_none (λ ws. f (w ∷ ws)) words p.1)
 
-closing_at : (f : List (List ℕ) → List (List ℕ) → Front) (words rest : List (List ℕ)) → IsTrue (has_no_end_word words) → closing f ((words ++ end_word ∷ []) ++ rest) ≡ f words rest
+closing_at : (f : List (List ℕ) → List (List ℕ) → Front) (words rest : List (List ℕ)) → IsTrue (has_no_end_word words)
+    → closing f ((words ++ end_word ∷ []) ++ rest) ≡ f words rest
 closing_at f words rest h = ap (closing f) (append_assoc words (end_word ∷ []) rest) ∙ closing_end f words rest h
 
 -- ---- declarations
@@ -65,14 +83,18 @@ upscope_front (s ∷ scopes) ws = closing_next upscope ws
 abbrev pub variable_state : ParseState → Option VariableDeclaration → List (List ℕ) → List (List ℕ) → Front
 variable_state c None words rest = faulty (suc (length words)) BadVar
 variable_state c (Some d) words rest =
-    cond (may_have_code (variable_of c d.code) d) (cond (has_room c.declared d) (whole (variable words) rest) (faulty (suc (length words)) TooManySignals)) (faulty (suc (length words)) MixedCode)
+    cond (may_have_code (variable_of c d.code) d)
+    (cond (has_room c.declared d) (whole (variable words) rest) (faulty (suc (length words)) TooManySignals))
+    (faulty (suc (length words)) MixedCode)
 
 abbrev pub variable_front : ParseState → List (List ℕ) → Front
 variable_front c [] = unfinished
 variable_front c (kind ∷ []) = cond (is_end_word kind) (faulty 1 BadVar) unfinished
 variable_front c (kind ∷ size ∷ ws) =
     cond (is_end_word kind) (faulty 1 BadVar)
-    (cond (is_number size) (closing (λ words rest. variable_state c (declaration_of c words) words rest) (kind ∷ size ∷ ws)) (faulty 2 BadVar))
+    (cond (is_number size)
+    (closing (λ words rest. variable_state c (declaration_of c words) words rest) (kind ∷ size ∷ ws))
+    (faulty 2 BadVar))
 
 -- the front of some words among the declarations, their first word apart
 abbrev pub declaration_front : ParseState → List ℕ → List (List ℕ) → Front
@@ -94,7 +116,9 @@ declaration_front c w ws =
 -- ---- changes
 
 abbrev pub stamp_front : ParseState → List ℕ → List (List ℕ) → Front
-stamp_front c digits ws = cond (is_tick digits) (cond (nat_lt (number_of digits) c.tick) (faulty 0 TimeBackwards) (whole (stamp digits) ws)) (faulty 0 BadTime)
+stamp_front c digits ws =
+    cond (is_tick digits) (cond (nat_lt (number_of digits) c.tick) (faulty 0 TimeBackwards) (whole (stamp digits) ws))
+    (faulty 0 BadTime)
 
 abbrev pub known : Option VariableDeclaration → (VariableDeclaration → Front) → Front
 known None f = faulty 0 UnknownCode
@@ -107,7 +131,9 @@ scalar_front c letter (b ∷ code) ws = known (variable_of c (b ∷ code)) (λ d
 abbrev pub vector_fits : ParseState → ℕ → List ℕ → List ℕ → List (List ℕ) → VariableDeclaration → Front
 vector_fits c first digits code ws d =
     cond (is_skipped d) (whole (vector first digits code) ws)
-    (cond (is_binary_number digits) (cond (nat_lt d.size (length digits)) (faulty 0 ValueTooLong) (whole (vector first digits code) ws)) (faulty 0 BadChange))
+    (cond (is_binary_number digits)
+    (cond (nat_lt d.size (length digits)) (faulty 0 ValueTooLong) (whole (vector first digits code) ws))
+    (faulty 0 BadChange))
 
 abbrev pub vector_front : ParseState → ℕ → List ℕ → List (List ℕ) → Front
 vector_front c first digits [] = unfinished
@@ -120,7 +146,8 @@ dropped_front c first text (code ∷ ws) = known (variable_of c code) (λ d. who
 abbrev pub command_front : List ℕ → List (List ℕ) → Front
 command_front w ws =
     cond (is_one_of dump_words w) (whole (bracket w) ws)
-    (cond (is_one_of declaring_words w) (faulty 0 UnexpectedWord) (closing (λ words rest. whole (other w words) rest) ws))
+    (cond (is_one_of declaring_words w) (faulty 0 UnexpectedWord)
+    (closing (λ words rest. whole (other w words) rest) ws))
 
 abbrev pub change_front : ParseState → List ℕ → List (List ℕ) → Front
 change_front c [] ws = unfinished
@@ -153,22 +180,36 @@ on_false b x y h = ap (λ t. cond t x y) h
 
 by_among : (P : ℕ → Type 0) (bytes : List ℕ) (b : ℕ) → IsTrue (is_among bytes b) → AllByRecursion P bytes → P b
 by_among P [] b h all = absurd (false≢true h)
-by_among P (x ∷ xs) b h all = elim (or_cases (nat_eq b x) (is_among xs b) h) [ inl e ↦ subst P (sym (eqb-true b x e)) all.0 | inr e ↦ by_among P xs b e all.1 ]
+by_among P (x ∷ xs) b h all =
+    elim (or_cases (nat_eq b x) (is_among xs b) h) [
+      | inl e ↦ subst P (sym (eqb-true b x e)) all.0
+      | inr e ↦
+          by_among P xs b e all.1
+    ]
 
-by_one_of : (P : List ℕ → Type 0) (words : List (List ℕ)) (w : List ℕ) → IsTrue (is_one_of words w) → AllByRecursion P words → P w
+by_one_of : (P : List ℕ → Type 0) (words : List (List ℕ)) (w : List ℕ) → IsTrue (is_one_of words w)
+    → AllByRecursion P words → P w
 by_one_of P [] w h all = absurd (false≢true h)
-by_one_of P (x ∷ xs) w h all = elim (or_cases (bytes_eq w x) (is_one_of xs w) h) [ inl e ↦ subst P (sym ((bytes_eq-Decides w x).0 e)) all.0 | inr e ↦ by_one_of P xs w e all.1 ]
+by_one_of P (x ∷ xs) w h all =
+    elim (or_cases (bytes_eq w x) (is_one_of xs w) h) [
+      | inl e ↦
+          subst P (sym ((bytes_eq-Decides w x).0 e)) all.0
+      | inr e ↦ by_one_of P xs w e all.1
+    ]
 
-pub front_at : (b : Bool) (c : ParseState) (words : List (List ℕ)) (f : Front) → c.changing ≡ b → front b c words ≡ f → front_of c words ≡ f
+pub front_at : (b : Bool) (c : ParseState) (words : List (List ℕ)) (f : Front) → c.changing ≡ b → front b c words ≡ f
+    → front_of c words ≡ f
 front_at b c words f h e = ap (λ t. front t c words) h ∙ e
 
 -- ---- whole items
 
-timescale_some : (o : Option Timescale) (words rest : List (List ℕ)) → IsSome o → timescale_front o words rest ≡ whole (timescale words) rest
+timescale_some : (o : Option Timescale) (words rest : List (List ℕ)) → IsSome o
+    → timescale_front o words rest ≡ whole (timescale words) rest
 timescale_some None words rest h = absurd (false≢true h)
 timescale_some (Some t) words rest h = refl
 
-upscope_some : (scopes : List ScopeName) (ws : List (List ℕ)) → 0 < length scopes → upscope_front scopes ws ≡ closing_next upscope ws
+upscope_some : (scopes : List ScopeName) (ws : List (List ℕ)) → 0 < length scopes
+    → upscope_front scopes ws ≡ closing_next upscope ws
 upscope_some [] ws h = absurd (omega (arith, h))
 upscope_some (s ∷ scopes) ws h = refl
 
@@ -177,54 +218,73 @@ known_some None f h = absurd (false≢true h)
 known_some (Some d) f h = refl
 
 sized : (c : ParseState) (kind size : List ℕ) (ws : List (List ℕ)) → is_end_word kind ≡ false → is_number size ≡ true
-    → variable_front c (kind ∷ size ∷ ws) ≡ closing (λ words rest. variable_state c (declaration_of c words) words rest) (kind ∷ size ∷ ws)
+    → variable_front c (kind ∷ size ∷ ws) ≡ closing (λ words rest. variable_state c (declaration_of c words) words rest)
+    (kind ∷ size ∷ ws)
 sized c kind size ws k s = on_false (is_end_word kind) _ _ k ∙ on_true (is_number size) _ _ s
 
-told_whole : (c : ParseState) (d : VariableDeclaration) (words rest : List (List ℕ)) → may_have_code (variable_of c d.code) d ≡ true → has_room c.declared d ≡ true
+told_whole : (c : ParseState) (d : VariableDeclaration) (words rest : List (List ℕ))
+    → may_have_code (variable_of c d.code) d ≡ true → has_room c.declared d ≡ true
     → variable_state c (Some d) words rest ≡ whole (variable words) rest
-told_whole c d words rest m r = on_true (may_have_code (variable_of c d.code) d) _ _ m ∙ on_true (has_room c.declared d) _ _ r
+told_whole c d words rest m r = on_true (may_have_code (variable_of c d.code) d) _ _ m
+    ∙ on_true (has_room c.declared d) _ _ r
 
-told_some : (c : ParseState) (o : Option VariableDeclaration) (words rest : List (List ℕ)) → IsSomeAnd o (λ d. IsTrue (may_have_code (variable_of c d.code) d) × IsTrue (has_room c.declared d))
+told_some : (c : ParseState) (o : Option VariableDeclaration) (words rest : List (List ℕ))
+    → IsSomeAnd o (λ d. IsTrue (may_have_code (variable_of c d.code) d) × IsTrue (has_room c.declared d))
     → variable_state c o words rest ≡ whole (variable words) rest
 told_some c None words rest h = absurd h
 told_some c (Some d) words rest h = told_whole c d words rest h.0 h.1
 
-variable_closing : (c : ParseState) (words rest : List (List ℕ)) → IsTrue (has_no_end_word words) → IsTrue (has_good_size words)
+variable_closing : (c : ParseState) (words rest : List (List ℕ)) → IsTrue (has_no_end_word words)
+    → IsTrue (has_good_size words)
     → variable_front c (words ++ end_word ∷ rest) ≡ variable_state c (declaration_of c words) words rest
 variable_closing c [] [] n g = refl
 variable_closing c [] (r ∷ rest) n g = refl
-variable_closing c (kind ∷ []) rest n g = on_false (is_end_word kind) _ _ (not-true (is_end_word kind) (and_parts _ _ n).0)
+variable_closing c (kind ∷ []) rest n g =
+    on_false (is_end_word kind) _ _ (not-true (is_end_word kind) (and_parts _ _ n).0)
 variable_closing c (kind ∷ size ∷ words) rest n g =
     sized c kind size (words ++ end_word ∷ rest) (not-true (is_end_word kind) (and_parts _ _ n).0) g
     ∙ closing_end (λ words rest. variable_state c (declaration_of c words) words rest) (kind ∷ size ∷ words) rest n
 
-stamp_whole : (c : ParseState) (digits : List ℕ) (ws : List (List ℕ)) → is_tick digits ≡ true → c.tick ≤ number_of digits → stamp_front c digits ws ≡ whole (stamp digits) ws
-stamp_whole c digits ws t le = on_true (is_tick digits) _ _ t ∙ on_false (nat_lt (number_of digits) c.tick) _ _ (le-ltb (number_of digits) c.tick le)
+stamp_whole : (c : ParseState) (digits : List ℕ) (ws : List (List ℕ)) → is_tick digits ≡ true
+    → c.tick ≤ number_of digits → stamp_front c digits ws ≡ whole (stamp digits) ws
+stamp_whole c digits ws t le = on_true (is_tick digits) _ _ t
+    ∙ on_false (nat_lt (number_of digits) c.tick) _ _ (le-ltb (number_of digits) c.tick le)
 
 vector_taken : (d : VariableDeclaration) (digits : List ℕ) (w : Front) → takes_binary_number d digits ≡ true
-    → cond (is_skipped d) w (cond (is_binary_number digits) (cond (nat_lt d.size (length digits)) (faulty 0 ValueTooLong) w) (faulty 0 BadChange)) ≡ w
+    → cond (is_skipped d) w
+    (cond (is_binary_number digits) (cond (nat_lt d.size (length digits)) (faulty 0 ValueTooLong) w)
+    (faulty 0 BadChange)) ≡ w
 vector_taken d digits w h =
     elim (or_cases (is_skipped d) (is_binary_number digits && nat_le (length digits) d.size) h) [
       | inl e ↦ on_true (is_skipped d) _ _ e
       | inr e ↦ elim (cases_Bool (is_skipped d)) [
         | inl s ↦ on_true (is_skipped d) _ _ s
         | inr s ↦ let p = and_parts (is_binary_number digits) (nat_le (length digits) d.size) e in
-            on_false (is_skipped d) _ _ s ∙ on_true (is_binary_number digits) _ _ p.0 ∙ on_false (nat_lt d.size (length digits)) _ _ (le-ltb d.size (length digits) (leb-true (length digits) d.size p.1))
+            on_false (is_skipped d) _ _ s ∙ on_true (is_binary_number digits) _ _ p.0
+            ∙ on_false (nat_lt d.size (length digits)) _ _
+            (le-ltb d.size (length digits) (leb-true (length digits) d.size p.1))
       ]
     ]
 
-vector_known : (o : Option VariableDeclaration) (digits : List ℕ) (w : Front) → IsSomeAnd o (λ d. IsTrue (takes_binary_number d digits))
-    → known o (λ d. cond (is_skipped d) w (cond (is_binary_number digits) (cond (nat_lt d.size (length digits)) (faulty 0 ValueTooLong) w) (faulty 0 BadChange))) ≡ w
+vector_known : (o : Option VariableDeclaration) (digits : List ℕ) (w : Front)
+    → IsSomeAnd o (λ d. IsTrue (takes_binary_number d digits))
+    → known o (λ d. cond (is_skipped d) w
+    (cond (is_binary_number digits) (cond (nat_lt d.size (length digits)) (faulty 0 ValueTooLong) w)
+    (faulty 0 BadChange))) ≡ w
 vector_known None digits w h = absurd h
 vector_known (Some d) digits w h = vector_taken d digits w h
 
-other_declared : (c : ParseState) (w : List ℕ) (ws : List (List ℕ)) → IsTrue (is_other false w) → declaration_front c w ws ≡ closing (λ words rest. whole (other w words) rest) ws
+other_declared : (c : ParseState) (w : List ℕ) (ws : List (List ℕ)) → IsTrue (is_other false w)
+    → declaration_front c w ws ≡ closing (λ words rest. whole (other w words) rest) ws
 other_declared c w ws h =
-    let p = and_parts (begins_declaration w && not (is_one_of declaring_words w)) (false || not (is_one_of header_words w)) h in
+    let p = and_parts (begins_declaration w && not (is_one_of declaring_words w))
+    (false || not (is_one_of header_words w)) h in
     let q = and_parts (begins_declaration w) (not (is_one_of declaring_words w)) p.0 in
-    on_true (begins_declaration w) _ _ q.0 ∙ on_false (is_one_of declaring_words w) _ _ (not-true _ q.1) ∙ on_false (is_one_of header_words w) _ _ (not-true _ p.1)
+    on_true (begins_declaration w) _ _ q.0 ∙ on_false (is_one_of declaring_words w) _ _ (not-true _ q.1)
+    ∙ on_false (is_one_of header_words w) _ _ (not-true _ p.1)
 
-other_changed : (c : ParseState) (w : List ℕ) (ws : List (List ℕ)) → IsTrue (is_other true w) → change_front c w ws ≡ closing (λ words rest. whole (other w words) rest) ws
+other_changed : (c : ParseState) (w : List ℕ) (ws : List (List ℕ)) → IsTrue (is_other true w)
+    → change_front c w ws ≡ closing (λ words rest. whole (other w words) rest) ws
 other_changed c [] ws h = absurd (false≢true h)
 other_changed c (first ∷ text) ws h =
     let p = and_parts (begins_declaration (first ∷ text) && not (is_one_of declaring_words (first ∷ text))) true h in
@@ -232,116 +292,166 @@ other_changed c (first ∷ text) ws h =
     let r = and_parts (first == 36) (not (is_one_of dump_words (first ∷ text))) q.0 in
     let here : change_front c (36 ∷ text) ws ≡ command_front (36 ∷ text) ws = refl in
     subst (λ b. change_front c (b ∷ text) ws ≡ command_front (b ∷ text) ws) (sym (eqb-true first 36 r.0)) here
-    ∙ on_false (is_one_of dump_words (first ∷ text)) _ _ (not-true _ r.1) ∙ on_false (is_one_of declaring_words (first ∷ text)) _ _ (not-true _ q.1)
+    ∙ on_false (is_one_of dump_words (first ∷ text)) _ _ (not-true _ r.1)
+    ∙ on_false (is_one_of declaring_words (first ∷ text)) _ _ (not-true _ q.1)
 
-other_front : (b : Bool) (c : ParseState) (w : List ℕ) (ws : List (List ℕ)) → IsTrue (is_other b w) → front b c (w ∷ ws) ≡ closing (λ words rest. whole (other w words) rest) ws
+other_front : (b : Bool) (c : ParseState) (w : List ℕ) (ws : List (List ℕ)) → IsTrue (is_other b w)
+    → front b c (w ∷ ws) ≡ closing (λ words rest. whole (other w words) rest) ws
 other_front true c w ws h = other_changed c w ws h
 other_front false c w ws h = other_declared c w ws h
 
-pub whole_front : (c : ParseState) (i : Item) (rest : List (List ℕ)) → Allows c i → front_of c (spelling i ++ rest) ≡ whole i rest
+pub whole_front : (c : ParseState) (i : Item) (rest : List (List ℕ)) → Allows c i
+    → front_of c (spelling i ++ rest) ≡ whole i rest
 whole_front c (entry Date words) rest a = front_at false c _ _ a.0 (closing_at _ words rest a.1)
 whole_front c (entry Version words) rest a = front_at false c _ _ a.0 (closing_at _ words rest a.1)
 whole_front c (entry Comment words) rest a = front_at false c _ _ a.0 (closing_at _ words rest a.1)
-whole_front c (timescale words) rest a = front_at false c _ _ a.0 (closing_at _ words rest a.1 ∙ timescale_some (timescale_of words) words rest a.2)
+whole_front c (timescale words) rest a =
+    front_at false c _ _ a.0 (closing_at _ words rest a.1 ∙ timescale_some (timescale_of words) words rest a.2)
 whole_front c (scope kind words) rest a = front_at false c _ _ a.0 (closing_at scope_front (kind ∷ words) rest a.1)
 whole_front c upscope rest a = front_at false c _ _ a.0 (upscope_some c.scopes (end_word ∷ rest) a.1)
-whole_front c (variable words) rest a = front_at false c _ _ a.0 (ap (variable_front c) (append_assoc words (end_word ∷ []) rest) ∙ variable_closing c words rest a.1 a.2 ∙ told_some c (declaration_of c words) words rest a.3)
+whole_front c (variable words) rest a =
+    front_at false c _ _ a.0 (ap (variable_front c) (append_assoc words (end_word ∷ []) rest)
+    ∙ variable_closing c words rest a.1 a.2 ∙ told_some c (declaration_of c words) words rest a.3)
 whole_front c end_definitions rest a = front_at false c _ _ a refl
 whole_front c (stamp digits) rest a = front_at true c _ _ a.0 (stamp_whole c digits rest a.1 a.2)
 whole_front c (scalar letter []) rest a = absurd (omega (arith, a.2))
-whole_front c (scalar letter (b ∷ code)) rest a = front_at true c _ _ a.0 (on_true (is_binary_digit letter) _ _ a.1 ∙ known_some (variable_of c (b ∷ code)) _ a.3)
+whole_front c (scalar letter (b ∷ code)) rest a =
+    front_at true c _ _ a.0 (on_true (is_binary_digit letter) _ _ a.1 ∙ known_some (variable_of c (b ∷ code)) _ a.3)
 whole_front c (vector first digits code) rest a =
-    front_at true c _ _ a.0 (by_among (λ b. change_front c (b ∷ digits) (code ∷ rest) ≡ vector_front c b digits (code ∷ rest)) vector_prefixes first a.1 (refl, (refl, tt)) ∙ vector_known (variable_of c code) digits _ a.2)
+    front_at true c _ _ a.0
+    (by_among (λ b. change_front c (b ∷ digits) (code ∷ rest) ≡ vector_front c b digits (code ∷ rest))
+    vector_prefixes first a.1 (refl, (refl, tt)) ∙ vector_known (variable_of c code) digits _ a.2)
 whole_front c (real_or_string first text code) rest a =
-    front_at true c _ _ a.0 (by_among (λ b. change_front c (b ∷ text) (code ∷ rest) ≡ dropped_front c b text (code ∷ rest)) dropped_prefixes first a.1 (refl, (refl, (refl, (refl, tt)))) ∙ known_some (variable_of c code) _ a.2)
+    front_at true c _ _ a.0
+    (by_among (λ b. change_front c (b ∷ text) (code ∷ rest) ≡ dropped_front c b text (code ∷ rest)) dropped_prefixes
+    first a.1 (refl, (refl, (refl, (refl, tt)))) ∙ known_some (variable_of c code) _ a.2)
 whole_front c (bracket word) rest a =
-    front_at true c _ _ a.0 (by_one_of (λ w. change_front c w rest ≡ whole (bracket w) rest) dump_words word a.1 (refl, (refl, (refl, (refl, (refl, tt))))))
+    front_at true c _ _ a.0 (by_one_of (λ w. change_front c w rest ≡ whole (bracket w) rest) dump_words word a.1 (
+      refl,
+      (refl, (refl, (refl, (refl, tt)))),
+    ))
 whole_front c (other word words) rest a = other_front c.changing c word _ a.0 ∙ closing_at _ words rest a.1
 
 -- ---- faults
 
-not_among : (xs ys : List ℕ) (b : ℕ) → IsFalse (is_among (xs ++ ys) b) → IsFalse (is_among xs b) × IsFalse (is_among ys b)
+not_among : (xs ys : List ℕ) (b : ℕ) → IsFalse (is_among (xs ++ ys) b) → IsFalse (is_among xs b)
+    × IsFalse (is_among ys b)
 not_among [] ys b h = (refl, h)
 not_among (x ∷ xs) ys b h =
     let p = or_parts (nat_eq b x) (is_among (xs ++ ys) b) h in
     let q = not_among xs ys b p.1 in
     (or_from (nat_eq b x) (is_among xs b) p.0 q.0, q.1)
 
-change_none : (c : ParseState) (first : ℕ) (text : List ℕ) (ws : List (List ℕ)) → IsFalse (is_binary_digit first) → IsFalse (is_among (codes "#$" ++ pair_prefixes) first)
+change_none : (c : ParseState) (first : ℕ) (text : List ℕ) (ws : List (List ℕ)) → IsFalse (is_binary_digit first)
+    → IsFalse (is_among (codes "#$" ++ pair_prefixes) first)
     → change_front c (first ∷ text) ws ≡ faulty 0 BadChange
 change_none c first text ws l n =
     let a = not_among (codes "#") (codes "$" ++ pair_prefixes) first n in
     let b = not_among (codes "$") pair_prefixes first a.1 in
     let d = not_among vector_prefixes dropped_prefixes first b.1 in
-    on_false (is_binary_digit first) _ _ l ∙ on_false (is_among (codes "#") first) _ _ a.0 ∙ on_false (is_among (codes "$") first) _ _ b.0
+    on_false (is_binary_digit first) _ _ l ∙ on_false (is_among (codes "#") first) _ _ a.0
+    ∙ on_false (is_among (codes "$") first) _ _ b.0
     ∙ on_false (is_among vector_prefixes first) _ _ d.0 ∙ on_false (is_among dropped_prefixes first) _ _ d.1
 
-variable_open : (c : ParseState) (words : List (List ℕ)) → IsTrue (has_no_end_word words) → IsTrue (has_good_size words) → variable_front c words ≡ unfinished
+variable_open : (c : ParseState) (words : List (List ℕ)) → IsTrue (has_no_end_word words) → IsTrue (has_good_size words)
+    → variable_front c words ≡ unfinished
 variable_open c [] n g = refl
 variable_open c (kind ∷ []) n g = on_false (is_end_word kind) _ _ (not-true (is_end_word kind) (and_parts _ _ n).0)
 variable_open c (kind ∷ size ∷ words) n g =
-    sized c kind size words (not-true (is_end_word kind) (and_parts _ _ n).0) g ∙ closing_none (λ words rest. variable_state c (declaration_of c words) words rest) (kind ∷ size ∷ words) n
+    sized c kind size words (not-true (is_end_word kind) (and_parts _ _ n).0) g
+    ∙ closing_none (λ words rest. variable_state c (declaration_of c words) words rest) (kind ∷ size ∷ words) n
 
 -- how far behind the first word of its item a fault is told
 abbrev pub place_of : Bool → List (List ℕ) → ℕ
 place_of false begun = length begun
 place_of true begun = 0
 
-declaration_faulty : (c : ParseState) (begun : List (List ℕ)) (word : List ℕ) (fault : Fault) (more : List (List ℕ)) → DeclarationFault c begun word fault
+declaration_faulty : (c : ParseState) (begun : List (List ℕ)) (word : List ℕ) (fault : Fault) (more : List (List ℕ))
+    → DeclarationFault c begun word fault
     → front false c (begun ++ word ∷ more) ≡ faulty (length begun) fault
 declaration_faulty c begun word fault more (no_declaration b n f) = rw (b, f) (on_false (begins_declaration word) _ _ n)
 declaration_faulty c begun word fault more (no_timescale words b w n t f) =
     rw (b, w, f) (closing_end _ words more n ∙ ap (λ o. timescale_front o words more) t)
 declaration_faulty c begun word fault more (no_kind b w f) = rw (b, w, f) refl
 declaration_faulty c begun word fault more (upscope_at_top b w s f) = rw (b, w, f) (ap (λ x. upscope_front x more) s)
-declaration_faulty c begun word fault more (upscope_goes_on b w s f) = rw (b, f) (upscope_some c.scopes (word ∷ more) s ∙ on_false (is_end_word word) _ _ w)
-declaration_faulty c begun word fault more (no_size kind b k n f) = rw (b, f) (on_false (is_end_word kind) _ _ k ∙ on_false (is_number word) _ _ n)
+declaration_faulty c begun word fault more (upscope_goes_on b w s f) =
+    rw (b, f) (upscope_some c.scopes (word ∷ more) s ∙ on_false (is_end_word word) _ _ w)
+declaration_faulty c begun word fault more (no_size kind b k n f) =
+    rw (b, f) (on_false (is_end_word kind) _ _ k ∙ on_false (is_number word) _ _ n)
 declaration_faulty c begun word fault more (no_variable words b w n g o f) =
     rw (b, w, f) (variable_closing c words more n g ∙ ap (λ p. variable_state c p words more) o)
 declaration_faulty c begun word fault more (code_mixed words d b w n g o m f) =
-    rw (b, w, f) (variable_closing c words more n g ∙ ap (λ p. variable_state c p words more) o ∙ on_false (may_have_code (variable_of c d.code) d) _ _ m)
+    rw (b, w, f) (variable_closing c words more n g ∙ ap (λ p. variable_state c p words more) o
+    ∙ on_false (may_have_code (variable_of c d.code) d) _ _ m)
 declaration_faulty c begun word fault more (no_room words d b w n g o m r f) =
-    rw (b, w, f) (variable_closing c words more n g ∙ ap (λ p. variable_state c p words more) o ∙ on_true (may_have_code (variable_of c d.code) d) _ _ m ∙ on_false (has_room c.declared d) _ _ r)
+    rw (b, w, f) (variable_closing c words more n g ∙ ap (λ p. variable_state c p words more) o
+    ∙ on_true (may_have_code (variable_of c d.code) d) _ _ m ∙ on_false (has_room c.declared d) _ _ r)
 declaration_faulty c begun word fault more (definitions_go_on b w f) = rw (b, f) (on_false (is_end_word word) _ _ w)
 
-change_faulty : (c : ParseState) (begun : List (List ℕ)) (word : List ℕ) (fault : Fault) (more : List (List ℕ)) → ChangeFault c begun word fault
+change_faulty : (c : ParseState) (begun : List (List ℕ)) (word : List ℕ) (fault : Fault) (more : List (List ℕ))
+    → ChangeFault c begun word fault
     → front true c (begun ++ word ∷ more) ≡ faulty 0 fault
 change_faulty c begun word fault more (no_tick digits b w t f) = rw (b, w, f) (on_false (is_tick digits) _ _ t)
 change_faulty c begun word fault more (tick_goes_back digits b w t l f) =
-    rw (b, w, f) (on_true (is_tick digits) _ _ t ∙ on_true (nat_lt (number_of digits) c.tick) _ _ (lt-ltb (number_of digits) c.tick l))
-change_faulty c begun word fault more (value_alone letter b w h f) = rw (b, w, f) (on_true (is_binary_digit letter) _ _ h)
+    rw (b, w, f) (on_true (is_tick digits) _ _ t
+    ∙ on_true (nat_lt (number_of digits) c.tick) _ _ (lt-ltb (number_of digits) c.tick l))
+change_faulty c begun word fault more (value_alone letter b w h f) =
+    rw (b, w, f) (on_true (is_binary_digit letter) _ _ h)
 change_faulty c begun word fault more (value_of_none letter [] b w h l n f) = absurd (omega (arith, l))
 change_faulty c begun word fault more (value_of_none letter (x ∷ code) b w h l n f) =
-    rw (b, w, f) (on_true (is_binary_digit letter) _ _ h ∙ ap (λ o. known o (λ d. whole (scalar letter (x ∷ code)) more)) n)
+    rw (b, w, f) (on_true (is_binary_digit letter) _ _ h
+    ∙ ap (λ o. known o (λ d. whole (scalar letter (x ∷ code)) more)) n)
 change_faulty c begun word fault more (pair_of_none first text b h n f) =
-    let step : (g : VariableDeclaration → Front) → known (variable_of c word) g ≡ faulty 0 UnknownCode = λ g. ap (λ o. known o g) n in
-    rw (b, f) (by_among (λ x. change_front c (x ∷ text) (word ∷ more) ≡ faulty 0 UnknownCode) pair_prefixes first h (step _, (step _, (step _, (step _, (step _, (step _, tt)))))))
+    let step : (g : VariableDeclaration → Front) → known (variable_of c word) g ≡ faulty 0 UnknownCode =
+    λ g. ap (λ o. known o g) n in
+    rw (b, f) (by_among (λ x. change_front c (x ∷ text) (word ∷ more) ≡ faulty 0 UnknownCode) pair_prefixes first h
+    (step _, (step _, (step _, (step _, (step _, (step _, tt)))))))
 change_faulty c begun word fault more (no_value first digits d b h v s n f) =
-    rw (b, f) (by_among (λ x. change_front c (x ∷ digits) (word ∷ more) ≡ vector_front c x digits (word ∷ more)) vector_prefixes first h (refl, (refl, tt))
-    ∙ ap (λ o. known o (λ d. vector_fits c first digits word more d)) v ∙ on_false (is_skipped d) _ _ s ∙ on_false (is_binary_number digits) _ _ n)
+    rw (b, f) (by_among (λ x. change_front c (x ∷ digits) (word ∷ more) ≡ vector_front c x digits (word ∷ more))
+    vector_prefixes first h (refl, (refl, tt))
+    ∙ ap (λ o. known o (λ d. vector_fits c first digits word more d)) v ∙ on_false (is_skipped d) _ _ s
+    ∙ on_false (is_binary_number digits) _ _ n)
 change_faulty c begun word fault more (value_too_long first digits d b h v s n l f) =
-    rw (b, f) (by_among (λ x. change_front c (x ∷ digits) (word ∷ more) ≡ vector_front c x digits (word ∷ more)) vector_prefixes first h (refl, (refl, tt))
-    ∙ ap (λ o. known o (λ d. vector_fits c first digits word more d)) v ∙ on_false (is_skipped d) _ _ s ∙ on_true (is_binary_number digits) _ _ n
+    rw (b, f) (by_among (λ x. change_front c (x ∷ digits) (word ∷ more) ≡ vector_front c x digits (word ∷ more))
+    vector_prefixes first h (refl, (refl, tt))
+    ∙ ap (λ o. known o (λ d. vector_fits c first digits word more d)) v ∙ on_false (is_skipped d) _ _ s
+    ∙ on_true (is_binary_number digits) _ _ n
     ∙ on_true (nat_lt d.size (length digits)) _ _ (lt-ltb d.size (length digits) l))
 change_faulty c begun word fault more (declaration_late b w f) =
-    rw (b, f) (by_one_of (λ x. change_front c x more ≡ faulty 0 UnexpectedWord) declaring_words word w (refl, (refl, (refl, (refl, (refl, tt))))))
-change_faulty c begun word fault more (no_change first text b w l n f) = rw (b, w, f) (change_none c first text more l n)
+    rw (b, f) (by_one_of (λ x. change_front c x more ≡ faulty 0 UnexpectedWord) declaring_words word w (
+      refl,
+      (refl, (refl, (refl, (refl, tt)))),
+    ))
+change_faulty c begun word fault more (no_change first text b w l n f) =
+    rw (b, w, f) (change_none c first text more l n)
 
-pub fault_front : (c : ParseState) (begun : List (List ℕ)) (word : List ℕ) (fault : Fault) (more : List (List ℕ)) → WordFault c begun word fault
+pub fault_front : (c : ParseState) (begun : List (List ℕ)) (word : List ℕ) (fault : Fault) (more : List (List ℕ))
+    → WordFault c begun word fault
     → front_of c (begun ++ word ∷ more) ≡ faulty (place_of c.changing begun) fault
-fault_front c begun word fault more (among_declarations h d) = front_at false c _ _ h (declaration_faulty c begun word fault more d) ∙ ap (λ b. faulty (place_of b begun) fault) (sym h)
-fault_front c begun word fault more (among_changes h d) = front_at true c _ _ h (change_faulty c begun word fault more d) ∙ ap (λ b. faulty (place_of b begun) fault) (sym h)
+fault_front c begun word fault more (among_declarations h d) =
+    front_at false c _ _ h (declaration_faulty c begun word fault more d)
+    ∙ ap (λ b. faulty (place_of b begun) fault) (sym h)
+fault_front c begun word fault more (among_changes h d) =
+    front_at true c _ _ h (change_faulty c begun word fault more d) ∙ ap (λ b. faulty (place_of b begun) fault) (sym h)
 
 -- ---- items that are not whole
 
 pub unfinished_front : (c : ParseState) (begun : List (List ℕ)) → IsUnfinished c begun → front_of c begun ≡ unfinished
 unfinished_front c begun (declaration_due h b) = rw b (front_at false c _ _ h refl)
 unfinished_front c begun (words_due word words h b k n) =
-    rw b (front_at false c _ _ h (by_one_of (λ w. declaration_front c w words ≡ unfinished) (codes "$timescale" ∷ codes "$scope" ∷ header_words) word k
-    (closing_none _ words n, (closing_none _ words n, (closing_none _ words n, (closing_none _ words n, (closing_none _ words n, tt)))))))
+    rw b (front_at false c _ _ h
+    (by_one_of (λ w. declaration_front c w words ≡ unfinished) (codes "$timescale" ∷ codes "$scope" ∷ header_words)
+    word k (
+      closing_none _ words n,
+      (closing_none _ words n, (closing_none _ words n, (closing_none _ words n, (closing_none _ words n, tt)))),
+    )))
 unfinished_front c begun (upscope_due h b s) = rw b (front_at false c _ _ h (upscope_some c.scopes [] s))
 unfinished_front c begun (variable_due words h b n g) = rw b (front_at false c _ _ h (variable_open c words n g))
 unfinished_front c begun (definitions_due h b) = rw b (front_at false c _ _ h refl)
 unfinished_front c begun (code_due first text h b k) =
-    rw b (front_at true c _ _ h (by_among (λ x. change_front c (x ∷ text) [] ≡ unfinished) pair_prefixes first k (refl, (refl, (refl, (refl, (refl, (refl, tt))))))))
-unfinished_front c begun (other_due word words b k n) = rw b (other_front c.changing c word words k ∙ closing_none _ words n)
+    rw b (front_at true c _ _ h (by_among (λ x. change_front c (x ∷ text) [] ≡ unfinished) pair_prefixes first k (
+      refl,
+      (refl, (refl, (refl, (refl, (refl, tt))))),
+    )))
+unfinished_front c begun (other_due word words b k n) =
+    rw b (other_front c.changing c word words k ∙ closing_none _ words n)

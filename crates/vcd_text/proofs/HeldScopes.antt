@@ -1,14 +1,17 @@
 -- The scopes that the reader holds, as scopes are opened and closed and variables declared.
-use Rattle.std.proofs.Common.{inl, inr, ◌≡◌, ℕ, zero, suc, ◌+◌, ◌-◌, ◌<◌, ◌≤◌, Bool, true, false, not, cond, List, [], ◌∷◌, ◌++◌, length, take, map, Option, None, Some, refl, sym, ap, subst, ◌∙◌, arith}
+use Rattle.std.proofs.Common.{inl, inr, ◌≡◌, ℕ, zero, suc, ◌+◌, ◌-◌, ◌<◌, ◌≤◌, Bool, true, false, not, cond, List, []}
+use Rattle.std.proofs.Common.{◌∷◌, ◌++◌, length, take, map, Option, None, Some, refl, sym, ap, subst, ◌∙◌, arith}
 use Rattle.std.specs.Prelude.{option_to_list}
 use Rattle.std.proofs.lemmas.Bool.{cases_lt}
-use Rattle.std.proofs.lemmas.List.{append-nil, map-append, length-map, length-append, length_push, take_all, take-append-le, length-take-le, get_or_append_left}
+use Rattle.std.proofs.lemmas.List.{append-nil, map-append, length-map, length-append, length_push, take_all}
+use Rattle.std.proofs.lemmas.List.{take-append-le, length-take-le, get_or_append_left}
 use Rattle.std.proofs.Math.Seq.{get_or-append_seam}
 use Rattle.std.proofs.lemmas.List.Elements.{filter-append}
 use Rattle.std.proofs.lemmas.Option.{same_Some}
 use Rattle.vcd_core.specs.declared.capture.ScopeName.{ScopeName}
 use Rattle.vcd_text.specs.Items.{variable}
-use Rattle.vcd_text.specs.Grammar.{VariableDeclaration, ParseState, kept_variables, declaration_of, state_after_item, is_skipped}
+use Rattle.vcd_text.specs.Grammar.{VariableDeclaration, ParseState, kept_variables, declaration_of, state_after_item}
+use Rattle.vcd_text.specs.Grammar.{is_skipped}
 use Rattle.vcd_text.specs.inside.Scopes.{chains_of, chain_at, scopes_at, AreWithin, AreReached, HoldsScopes}
 use Rattle.vcd_text.specs.declared.reading.scopes.ScopePlace.{ScopePlace}
 use Rattle.vcd_text.specs.declared.reading.scopes.Scopes.{Scopes}
@@ -17,24 +20,31 @@ use Rattle.vcd_text.specs.declared.reading.scopes.Scopes.{Scopes}
 
 -- each chain stands among the others too, with more behind it
 abbrev Grows : List (List ScopeName) → List (List ScopeName) → Type 0
-Grows cs ds = (k : ℕ) → k < length cs → (k < length ds) × ((more : List ScopeName) × (chain_at ds k ≡ chain_at cs k ++ more))
+Grows cs ds = (k : ℕ) → k < length cs
+    → (k < length ds) × ((more : List ScopeName) × (chain_at ds k ≡ chain_at cs k ++ more))
 
 -- so a place has the scopes that it had
-places_stay : (cs ds : List (List ScopeName)) (ps : List ScopePlace) → Grows cs ds → AreWithin cs ps → AreWithin ds ps × (map (scopes_at ds) ps ≡ map (scopes_at cs) ps)
+places_stay : (cs ds : List (List ScopeName)) (ps : List ScopePlace) → Grows cs ds → AreWithin cs ps
+    → AreWithin ds ps × (map (scopes_at ds) ps ≡ map (scopes_at cs) ps)
 places_stay cs ds [] grows within = (tt, refl)
 places_stay cs ds (p ∷ ps) grows (here, count, later) =
     let g = grows p.chain here in
     let is : chain_at ds p.chain ≡ chain_at cs p.chain ++ g.1.0 = g.1.1 in
-    let long : p.count ≤ length (chain_at ds p.chain) = omega (arith, count, ap (length {A = ScopeName}) is, length-append (chain_at cs p.chain) g.1.0) in
-    let same : scopes_at ds p ≡ scopes_at cs p = ap (take p.count) is ∙ take-append-le p.count (chain_at cs p.chain) g.1.0 count in
+    let long : p.count ≤ length (chain_at ds p.chain) =
+    omega (arith, count, ap (length {A = ScopeName}) is, length-append (chain_at cs p.chain) g.1.0) in
+    let same : scopes_at ds p ≡ scopes_at cs p = ap (take p.count) is
+    ∙ take-append-le p.count (chain_at cs p.chain) g.1.0 count in
     let rest = places_stay cs ds ps grows later in
     ((g.0, long, rest.0), λ i. same i ∷ rest.1 i)
 
 grows_by_chain : (cs : List (List ScopeName)) (chain : List ScopeName) → Grows cs (cs ++ chain ∷ [])
-grows_by_chain cs chain k within =
-    (omega (arith, within, length_push cs chain), ([], get_or_append_left cs (chain ∷ []) [] k within ∙ sym (append-nil (chain_at cs k))))
+grows_by_chain cs chain k within = (
+  omega (arith, within, length_push cs chain),
+  ([], get_or_append_left cs (chain ∷ []) [] k within ∙ sym (append-nil (chain_at cs k))),
+)
 
-grows_by_scope : (cs : List (List ScopeName)) (chain : List ScopeName) (s : ScopeName) → Grows (cs ++ chain ∷ []) (cs ++ (chain ++ s ∷ []) ∷ [])
+grows_by_scope : (cs : List (List ScopeName)) (chain : List ScopeName) (s : ScopeName)
+    → Grows (cs ++ chain ∷ []) (cs ++ (chain ++ s ∷ []) ∷ [])
 grows_by_scope [] chain s zero within = (omega arith, (s ∷ [], refl))
 grows_by_scope [] chain s (suc k) within = absurd (omega (arith, within))
 grows_by_scope (c ∷ cs) chain s zero within = (omega arith, ([], sym (append-nil c)))
@@ -45,53 +55,71 @@ grows_by_scope (c ∷ cs) chain s (suc k) within =
 -- ---- how far places reach
 
 -- no place is in a chain that begins behind those of the places
-reached_by_none : (cs : List (List ScopeName)) (ps : List ScopePlace) (n reach : ℕ) → length cs ≤ n → AreWithin cs ps → AreReached n reach ps
+reached_by_none : (cs : List (List ScopeName)) (ps : List ScopePlace) (n reach : ℕ) → length cs ≤ n → AreWithin cs ps
+    → AreReached n reach ps
 reached_by_none cs [] n reach following within = tt
 reached_by_none cs (p ∷ ps) n reach following (here, count, later) =
     (λ is. absurd (omega (arith, is, here, following)), reached_by_none cs ps n reach following later)
 
 -- one place more
-reached_more : (n reach further : ℕ) (ps : List ScopePlace) (p : ScopePlace) → reach ≤ further → p.count ≤ further → AreReached n reach ps → AreReached n further (ps ++ p ∷ [])
+reached_more : (n reach further : ℕ) (ps : List ScopePlace) (p : ScopePlace) → reach ≤ further → p.count ≤ further
+    → AreReached n reach ps → AreReached n further (ps ++ p ∷ [])
 reached_more n reach further [] p far count tt = (λ _. count, tt)
-reached_more n reach further (q ∷ ps) p far count (one, others) = (λ is. let low = one is in omega (arith, low, far), reached_more n reach further ps p far count others)
+reached_more n reach further (q ∷ ps) p far count (one, others) =
+    (λ is. let low = one is in omega (arith, low, far), reached_more n reach further ps p far count others)
 
 -- ---- what the reader holds
 
 -- the chains, the reach and the places stay
-reach_kept : (old new : Scopes) → new.chains.items ≡ old.chains.items → new.reach ≡ old.reach → new.places.items ≡ old.places.items
-    → AreReached (length old.chains.items) old.reach old.places.items → AreReached (length new.chains.items) new.reach new.places.items
+reach_kept : (old new : Scopes) → new.chains.items ≡ old.chains.items → new.reach ≡ old.reach
+    → new.places.items ≡ old.places.items
+    → AreReached (length old.chains.items) old.reach old.places.items
+    → AreReached (length new.chains.items) new.reach new.places.items
 reach_kept old new chains reach places reached =
     subst (λ (cs : List (List ScopeName)). AreReached (length cs) new.reach new.places.items) (sym chains)
-    (subst (λ r. AreReached (length old.chains.items) r new.places.items) (sym reach) (subst (AreReached (length old.chains.items) old.reach) (sym places) reached))
+    (subst (λ r. AreReached (length old.chains.items) r new.places.items) (sym reach)
+    (subst (AreReached (length old.chains.items) old.reach) (sym places) reached))
 
 -- another chain begins, with the scopes that are open
-pub chain_begins : (old new : Scopes) (c : ParseState) → new.chains.items ≡ old.chains.items ++ old.chain.items ∷ [] → new.chain.items ≡ take old.depth old.chain.items
-    → new.depth ≡ old.depth → new.places.items ≡ old.places.items → HoldsScopes old c.scopes c.declared → HoldsScopes new c.scopes c.declared
+pub chain_begins : (old new : Scopes) (c : ParseState) → new.chains.items ≡ old.chains.items ++ old.chain.items ∷ []
+    → new.chain.items ≡ take old.depth old.chain.items
+    → new.depth ≡ old.depth → new.places.items ≡ old.places.items → HoldsScopes old c.scopes c.declared
+    → HoldsScopes new c.scopes c.declared
 chain_begins old new c chains chain depth places h =
     let all : chains_of new ≡ chains_of old ++ new.chain.items ∷ [] = ap (λ cs. cs ++ new.chain.items ∷ []) chains in
-    let stay = places_stay (chains_of old) (chains_of old ++ new.chain.items ∷ []) old.places.items (grows_by_chain (chains_of old) new.chain.items) h.places in
-    let long : length new.chain.items ≡ old.depth = ap (length {A = ScopeName}) chain ∙ length-take-le old.depth old.chain.items h.within in
+    let stay = places_stay (chains_of old) (chains_of old ++ new.chain.items ∷ []) old.places.items
+    (grows_by_chain (chains_of old) new.chain.items) h.places in
+    let long : length new.chain.items ≡ old.depth = ap (length {A = ScopeName}) chain
+    ∙ length-take-le old.depth old.chain.items h.within in
     record {
       within = omega (arith, long, depth);
       inner = take_all new.depth new.chain.items (omega (arith, long, depth)) ∙ chain ∙ h.inner;
-      places = subst (λ cs. AreWithin cs new.places.items) (sym all) (subst (AreWithin (chains_of old ++ new.chain.items ∷ [])) (sym places) stay.0);
+      places = subst (λ cs. AreWithin cs new.places.items) (sym all)
+          (subst (AreWithin (chains_of old ++ new.chain.items ∷ [])) (sym places) stay.0);
       reached = subst (AreReached (length new.chains.items) new.reach) (sym places)
-          (reached_by_none (chains_of old) old.places.items (length new.chains.items) new.reach (omega (arith, ap (length {A = List ScopeName}) chains)) h.places);
+          (reached_by_none (chains_of old) old.places.items (length new.chains.items) new.reach
+          (omega (arith, ap (length {A = List ScopeName}) chains)) h.places);
       paths = (λ i. map (scopes_at (all i)) (places i)) ∙ stay.1 ∙ h.paths;
     }
 
 -- a scope is opened at the end of the chain
-pub scope_entered : (old new : Scopes) (c : ParseState) (s : ScopeName) → old.depth ≡ length old.chain.items → new.chains.items ≡ old.chains.items
-    → new.chain.items ≡ old.chain.items ++ s ∷ [] → new.depth ≡ old.depth + 1 → new.reach ≡ old.reach → new.places.items ≡ old.places.items → HoldsScopes old c.scopes c.declared → HoldsScopes new (c.scopes ++ s ∷ []) c.declared
+pub scope_entered : (old new : Scopes) (c : ParseState) (s : ScopeName) → old.depth ≡ length old.chain.items
+    → new.chains.items ≡ old.chains.items
+    → new.chain.items ≡ old.chain.items ++ s ∷ [] → new.depth ≡ old.depth + 1 → new.reach ≡ old.reach
+    → new.places.items ≡ old.places.items → HoldsScopes old c.scopes c.declared
+    → HoldsScopes new (c.scopes ++ s ∷ []) c.declared
 scope_entered old new c s end chains chain depth reach places h =
     let all : chains_of new ≡ old.chains.items ++ (old.chain.items ++ s ∷ []) ∷ [] = λ i. chains i ++ chain i ∷ [] in
-    let stay = places_stay (chains_of old) (old.chains.items ++ (old.chain.items ++ s ∷ []) ∷ []) old.places.items (grows_by_scope old.chains.items old.chain.items s) h.places in
-    let long : length new.chain.items ≡ new.depth = ap (length {A = ScopeName}) chain ∙ length_push old.chain.items s ∙ omega (arith, end, depth) in
+    let stay = places_stay (chains_of old) (old.chains.items ++ (old.chain.items ++ s ∷ []) ∷ []) old.places.items
+    (grows_by_scope old.chains.items old.chain.items s) h.places in
+    let long : length new.chain.items ≡ new.depth = ap (length {A = ScopeName}) chain ∙ length_push old.chain.items s
+    ∙ omega (arith, end, depth) in
     let were : old.chain.items ≡ c.scopes = sym (take_all old.depth old.chain.items (omega (arith, end))) ∙ h.inner in
     record {
       within = omega (arith, long);
       inner = take_all new.depth new.chain.items (omega (arith, long)) ∙ chain ∙ ap (λ ss. ss ++ s ∷ []) were;
-      places = subst (λ cs. AreWithin cs new.places.items) (sym all) (subst (AreWithin (old.chains.items ++ (old.chain.items ++ s ∷ []) ∷ [])) (sym places) stay.0);
+      places = subst (λ cs. AreWithin cs new.places.items) (sym all)
+          (subst (AreWithin (old.chains.items ++ (old.chain.items ++ s ∷ []) ∷ [])) (sym places) stay.0);
       reached = reach_kept old new chains reach places h.reached;
       paths = (λ i. map (scopes_at (all i)) (places i)) ∙ stay.1 ∙ h.paths;
     }
@@ -107,8 +135,10 @@ take_fewer (suc n) (suc m) [] fewer = refl
 take_fewer (suc n) (suc m) (s ∷ ss) fewer = ap (λ l. s ∷ l) (take_fewer n m ss (omega (arith, fewer)))
 
 -- the innermost scope is closed
-pub scope_left : (old new : Scopes) (c : ParseState) → new.chains.items ≡ old.chains.items → new.chain.items ≡ old.chain.items → new.depth ≡ old.depth - 1
-    → new.reach ≡ old.reach → new.places.items ≡ old.places.items → HoldsScopes old c.scopes c.declared → HoldsScopes new (take (length c.scopes - 1) c.scopes) c.declared
+pub scope_left : (old new : Scopes) (c : ParseState) → new.chains.items ≡ old.chains.items
+    → new.chain.items ≡ old.chain.items → new.depth ≡ old.depth - 1
+    → new.reach ≡ old.reach → new.places.items ≡ old.places.items → HoldsScopes old c.scopes c.declared
+    → HoldsScopes new (take (length c.scopes - 1) c.scopes) c.declared
 scope_left old new c chains chain depth reach places h =
     let all : chains_of new ≡ chains_of old = λ i. chains i ++ chain i ∷ [] in
     record {
@@ -117,22 +147,29 @@ scope_left old new c chains chain depth reach places h =
           (λ i. take (depth i) (chain i))
           ∙ sym (take_fewer old.depth (old.depth - 1) old.chain.items (omega arith))
           ∙ (λ i. take (sym (so_deep old c h) i - 1) (h.inner i));
-      places = subst (λ cs. AreWithin cs new.places.items) (sym all) (subst (AreWithin (chains_of old)) (sym places) h.places);
+      places = subst (λ cs. AreWithin cs new.places.items) (sym all)
+          (subst (AreWithin (chains_of old)) (sym places) h.places);
       reached = reach_kept old new chains reach places h.reached;
       paths = (λ i. map (scopes_at (all i)) (places i)) ∙ h.paths;
     }
 
 -- places that do not reach further have the scopes that they had, where the last chain is cut
-places_cut : (cs : List (List ScopeName)) (chain : List ScopeName) (depth reach : ℕ) (ps : List ScopePlace) → reach ≤ depth → depth ≤ length chain → AreReached (length cs) reach ps
-    → AreWithin (cs ++ chain ∷ []) ps → AreWithin (cs ++ take depth chain ∷ []) ps × (map (scopes_at (cs ++ take depth chain ∷ [])) ps ≡ map (scopes_at (cs ++ chain ∷ [])) ps)
+places_cut : (cs : List (List ScopeName)) (chain : List ScopeName) (depth reach : ℕ) (ps : List ScopePlace)
+    → reach ≤ depth → depth ≤ length chain → AreReached (length cs) reach ps
+    → AreWithin (cs ++ chain ∷ []) ps → AreWithin (cs ++ take depth chain ∷ []) ps
+    × (map (scopes_at (cs ++ take depth chain ∷ [])) ps ≡ map (scopes_at (cs ++ chain ∷ [])) ps)
 places_cut cs chain depth reach [] low within reached places = (tt, refl)
 places_cut cs chain depth reach (p ∷ ps) low within (one, others) (here, count, later) =
     let rest = places_cut cs chain depth reach ps low within others later in
-    let placed : (p.chain < length (cs ++ take depth chain ∷ [])) × (p.count ≤ length (chain_at (cs ++ take depth chain ∷ []) p.chain)) × (scopes_at (cs ++ take depth chain ∷ []) p ≡ scopes_at (cs ++ chain ∷ []) p) =
+    let placed : (p.chain < length (cs ++ take depth chain ∷ []))
+    × (p.count ≤ length (chain_at (cs ++ take depth chain ∷ []) p.chain))
+    × (scopes_at (cs ++ take depth chain ∷ []) p ≡ scopes_at (cs ++ chain ∷ []) p) =
     elim (cases_lt p.chain (length cs)) [
       | inl before ↦
-          let new_at : chain_at (cs ++ take depth chain ∷ []) p.chain ≡ chain_at cs p.chain = get_or_append_left cs (take depth chain ∷ []) [] p.chain before in
-          let old_at : chain_at (cs ++ chain ∷ []) p.chain ≡ chain_at cs p.chain = get_or_append_left cs (chain ∷ []) [] p.chain before in (
+          let new_at : chain_at (cs ++ take depth chain ∷ []) p.chain ≡ chain_at cs p.chain =
+          get_or_append_left cs (take depth chain ∷ []) [] p.chain before in
+          let old_at : chain_at (cs ++ chain ∷ []) p.chain ≡ chain_at cs p.chain =
+          get_or_append_left cs (chain ∷ []) [] p.chain before in (
             omega (arith, before, length_push cs (take depth chain)),
             omega (arith, count, ap (length {A = ScopeName}) new_at, ap (length {A = ScopeName}) old_at),
             ap (take p.count) (new_at ∙ sym old_at),
@@ -140,39 +177,49 @@ places_cut cs chain depth reach (p ∷ ps) low within (one, others) (here, count
       | inr last ↦
           let is : p.chain ≡ length cs = omega (arith, last, here, length_push cs chain) in
           let few : p.count ≤ reach = one is in
-          let new_at : chain_at (cs ++ take depth chain ∷ []) p.chain ≡ take depth chain = ap (chain_at (cs ++ take depth chain ∷ [])) is ∙ get_or-append_seam cs (take depth chain) [] [] in
-          let old_at : chain_at (cs ++ chain ∷ []) p.chain ≡ chain = ap (chain_at (cs ++ chain ∷ [])) is ∙ get_or-append_seam cs chain [] [] in
+          let new_at : chain_at (cs ++ take depth chain ∷ []) p.chain ≡ take depth chain =
+          ap (chain_at (cs ++ take depth chain ∷ [])) is ∙ get_or-append_seam cs (take depth chain) [] [] in
+          let old_at : chain_at (cs ++ chain ∷ []) p.chain ≡ chain = ap (chain_at (cs ++ chain ∷ [])) is
+          ∙ get_or-append_seam cs chain [] [] in
           let long : length (take depth chain) ≡ depth = length-take-le depth chain within in (
             omega (arith, is, length_push cs (take depth chain)),
             omega (arith, few, low, long, ap (length {A = ScopeName}) new_at),
-            ap (take p.count) new_at ∙ take_fewer depth p.count chain (omega (arith, few, low)) ∙ ap (take p.count) (sym old_at),
+            ap (take p.count) new_at ∙ take_fewer depth p.count chain (omega (arith, few, low))
+                ∙ ap (take p.count) (sym old_at),
           )
     ] in
     ((placed.0, placed.1, rest.0), λ i. placed.2 i ∷ rest.1 i)
 
 -- the chain is cut back to the scopes that are open
-pub chain_cut : (old new : Scopes) (c : ParseState) → new.chains.items ≡ old.chains.items → new.chain.items ≡ take old.depth old.chain.items → new.depth ≡ old.depth
-    → new.reach ≡ old.reach → new.places.items ≡ old.places.items → old.reach ≤ old.depth → HoldsScopes old c.scopes c.declared → HoldsScopes new c.scopes c.declared
+pub chain_cut : (old new : Scopes) (c : ParseState) → new.chains.items ≡ old.chains.items
+    → new.chain.items ≡ take old.depth old.chain.items → new.depth ≡ old.depth
+    → new.reach ≡ old.reach → new.places.items ≡ old.places.items → old.reach ≤ old.depth
+    → HoldsScopes old c.scopes c.declared → HoldsScopes new c.scopes c.declared
 chain_cut old new c chains chain depth reach places low h =
     let all : chains_of new ≡ old.chains.items ++ take old.depth old.chain.items ∷ [] = λ i. chains i ++ chain i ∷ [] in
-    let stay = places_cut old.chains.items old.chain.items old.depth old.reach old.places.items low h.within h.reached h.places in
-    let long : length new.chain.items ≡ old.depth = ap (length {A = ScopeName}) chain ∙ length-take-le old.depth old.chain.items h.within in
+    let stay = places_cut old.chains.items old.chain.items old.depth old.reach old.places.items low h.within h.reached
+    h.places in
+    let long : length new.chain.items ≡ old.depth = ap (length {A = ScopeName}) chain
+    ∙ length-take-le old.depth old.chain.items h.within in
     record {
       within = omega (arith, long, depth);
       inner = take_all new.depth new.chain.items (omega (arith, long, depth)) ∙ chain ∙ h.inner;
-      places = subst (λ cs. AreWithin cs new.places.items) (sym all) (subst (AreWithin (old.chains.items ++ take old.depth old.chain.items ∷ [])) (sym places) stay.0);
+      places = subst (λ cs. AreWithin cs new.places.items) (sym all)
+          (subst (AreWithin (old.chains.items ++ take old.depth old.chain.items ∷ [])) (sym places) stay.0);
       reached = reach_kept old new chains reach places h.reached;
       paths = (λ i. map (scopes_at (all i)) (places i)) ∙ stay.1 ∙ h.paths;
     }
 
 -- ---- variables
 
-within_more : (cs : List (List ScopeName)) (ps : List ScopePlace) (p : ScopePlace) → AreWithin cs ps → p.chain < length cs → p.count ≤ length (chain_at cs p.chain) → AreWithin cs (ps ++ p ∷ [])
+within_more : (cs : List (List ScopeName)) (ps : List ScopePlace) (p : ScopePlace) → AreWithin cs ps
+    → p.chain < length cs → p.count ≤ length (chain_at cs p.chain) → AreWithin cs (ps ++ p ∷ [])
 within_more cs [] p within here count = (here, count, tt)
 within_more cs (q ∷ ps) p (at, long, later) here count = (at, long, within_more cs ps p later here count)
 
 -- the variables are as many as the places
-pub as_many : (s : Scopes) (c : ParseState) → HoldsScopes s c.scopes c.declared → length s.places.items ≡ length (kept_variables c.declared)
+pub as_many : (s : Scopes) (c : ParseState) → HoldsScopes s c.scopes c.declared
+    → length s.places.items ≡ length (kept_variables c.declared)
 as_many s c h =
     sym (length-map s.places.items (scopes_at (chains_of s))) ∙ ap (length {A = List ScopeName}) h.paths
     ∙ length-map (kept_variables c.declared) (λ (d : VariableDeclaration). d.scopes)
@@ -181,51 +228,73 @@ as_many s c h =
 abbrev and_then : ParseState → Option VariableDeclaration → ParseState
 and_then c o = record c { declared = c.declared ++ option_to_list o }
 
-one_more : (ds : List VariableDeclaration) (d : VariableDeclaration) → kept_variables (ds ++ d ∷ []) ≡ kept_variables ds ++ cond (not (is_skipped d)) (d ∷ []) []
+one_more : (ds : List VariableDeclaration) (d : VariableDeclaration)
+    → kept_variables (ds ++ d ∷ []) ≡ kept_variables ds ++ cond (not (is_skipped d)) (d ∷ []) []
 one_more ds d = filter-append (λ (e : VariableDeclaration). not (is_skipped e)) ds (d ∷ [])
 
 -- no variable more is kept
-passed : (s new : Scopes) (c : ParseState) (o : Option VariableDeclaration) → new.chains.items ≡ s.chains.items → new.chain.items ≡ s.chain.items → new.depth ≡ s.depth → new.reach ≡ s.reach
-    → new.places.items ≡ s.places.items → length (kept_variables (and_then c o).declared) ≤ length s.places.items → HoldsScopes s c.scopes c.declared → HoldsScopes new c.scopes (and_then c o).declared
+passed : (s new : Scopes) (c : ParseState) (o : Option VariableDeclaration) → new.chains.items ≡ s.chains.items
+    → new.chain.items ≡ s.chain.items → new.depth ≡ s.depth → new.reach ≡ s.reach
+    → new.places.items ≡ s.places.items → length (kept_variables (and_then c o).declared) ≤ length s.places.items
+    → HoldsScopes s c.scopes c.declared → HoldsScopes new c.scopes (and_then c o).declared
 passed s new c o chains chain depth reach places few h =
     let all : chains_of new ≡ chains_of s = λ i. chains i ++ chain i ∷ [] in
     record {
       within = omega (arith, ap (length {A = ScopeName}) chain, depth, h.within);
       inner = (λ i. take (depth i) (chain i)) ∙ h.inner;
-      places = subst (λ cs. AreWithin cs new.places.items) (sym all) (subst (AreWithin (chains_of s)) (sym places) h.places);
+      places = subst (λ cs. AreWithin cs new.places.items) (sym all)
+          (subst (AreWithin (chains_of s)) (sym places) h.places);
       reached = reach_kept s new chains reach places h.reached;
-      paths = (λ i. map (scopes_at (all i)) (places i)) ∙ h.paths ∙ ap (map (λ (d : VariableDeclaration). d.scopes)) (still o few);
+      paths = (λ i. map (scopes_at (all i)) (places i)) ∙ h.paths
+          ∙ ap (map (λ (d : VariableDeclaration). d.scopes)) (still o few);
     }
   where
-    by_test : (d : VariableDeclaration) (b : Bool) → is_skipped d ≡ b → length (kept_variables (c.declared ++ d ∷ [])) ≤ length s.places.items → kept_variables c.declared ≡ kept_variables (c.declared ++ d ∷ [])
-    by_test d true is few = sym (one_more c.declared d ∙ ap (λ b. kept_variables c.declared ++ cond (not b) (d ∷ []) []) is ∙ append-nil (kept_variables c.declared))
+    by_test : (d : VariableDeclaration) (b : Bool) → is_skipped d ≡ b
+        → length (kept_variables (c.declared ++ d ∷ [])) ≤ length s.places.items
+        → kept_variables c.declared ≡ kept_variables (c.declared ++ d ∷ [])
+    by_test d true is few =
+        sym (one_more c.declared d ∙ ap (λ b. kept_variables c.declared ++ cond (not b) (d ∷ []) []) is
+        ∙ append-nil (kept_variables c.declared))
     by_test d false is few =
         let more = one_more c.declared d ∙ ap (λ b. kept_variables c.declared ++ cond (not b) (d ∷ []) []) is in
-        absurd (omega (arith, few, ap (length {A = VariableDeclaration}) more, length_push (kept_variables c.declared) d, as_many s c h))
+        absurd (omega (
+          arith,
+          few,
+          ap (length {A = VariableDeclaration}) more,
+          length_push (kept_variables c.declared) d,
+          as_many s c h,
+        ))
 
-    still : (o : Option VariableDeclaration) → length (kept_variables (c.declared ++ option_to_list o)) ≤ length s.places.items → kept_variables c.declared ≡ kept_variables (c.declared ++ option_to_list o)
+    still : (o : Option VariableDeclaration)
+        → length (kept_variables (c.declared ++ option_to_list o)) ≤ length s.places.items
+        → kept_variables c.declared ≡ kept_variables (c.declared ++ option_to_list o)
     still None few = ap kept_variables (sym (append-nil c.declared))
     still (Some d) few = by_test d (is_skipped d) refl few
 
 -- one variable more is kept, in the scopes that are open
-noted : (s new : Scopes) (c : ParseState) (o : Option VariableDeclaration) → new.chains.items ≡ s.chains.items → new.chain.items ≡ s.chain.items → new.depth ≡ s.depth → s.reach ≤ new.reach → s.depth ≤ new.reach
+noted : (s new : Scopes) (c : ParseState) (o : Option VariableDeclaration) → new.chains.items ≡ s.chains.items
+    → new.chain.items ≡ s.chain.items → new.depth ≡ s.depth → s.reach ≤ new.reach → s.depth ≤ new.reach
     → new.places.items ≡ s.places.items ++ record { chain = length s.chains.items; count = s.depth } ∷ []
-    → length s.places.items < length (kept_variables (and_then c o).declared) → ((d : VariableDeclaration) → o ≡ Some d → d.scopes ≡ c.scopes)
+    → length s.places.items < length (kept_variables (and_then c o).declared)
+    → ((d : VariableDeclaration) → o ≡ Some d → d.scopes ≡ c.scopes)
     → HoldsScopes s c.scopes c.declared → HoldsScopes new c.scopes (and_then c o).declared
 noted s new c None chains chain depth far reach places more inside h =
     absurd (omega (arith, more, as_many s c h, ap (λ ds. length (kept_variables ds)) (append-nil c.declared)))
 noted s new c (Some d) chains chain depth far reach places more inside h =
     let all : chains_of new ≡ chains_of s = λ i. chains i ++ chain i ∷ [] in
     let p : ScopePlace = record { chain = length s.chains.items; count = s.depth } in
-    let here : chain_at (chains_of s) (length s.chains.items) ≡ s.chain.items = get_or-append_seam s.chains.items s.chain.items [] [] in
+    let here : chain_at (chains_of s) (length s.chains.items) ≡ s.chain.items =
+    get_or-append_seam s.chains.items s.chain.items [] [] in
     let at : scopes_at (chains_of s) p ≡ d.scopes = ap (take s.depth) here ∙ h.inner ∙ sym (inside d refl) in
     record {
       within = omega (arith, ap (length {A = ScopeName}) chain, depth, h.within);
       inner = (λ i. take (depth i) (chain i)) ∙ h.inner;
       places = subst (λ cs. AreWithin cs new.places.items) (sym all) (subst (AreWithin (chains_of s)) (sym places)
-          (within_more (chains_of s) s.places.items p h.places (omega (arith, length_push s.chains.items s.chain.items)) (omega (arith, h.within, ap (length {A = ScopeName}) here))));
+          (within_more (chains_of s) s.places.items p h.places (omega (arith, length_push s.chains.items s.chain.items))
+          (omega (arith, h.within, ap (length {A = ScopeName}) here))));
       reached = subst (λ (cs : List (List ScopeName)). AreReached (length cs) new.reach new.places.items) (sym chains)
-          (subst (AreReached (length s.chains.items) new.reach) (sym places) (reached_more (length s.chains.items) s.reach new.reach s.places.items p far reach h.reached));
+          (subst (AreReached (length s.chains.items) new.reach) (sym places)
+          (reached_more (length s.chains.items) s.reach new.reach s.places.items p far reach h.reached));
       paths =
           (λ i. map (scopes_at (all i)) (places i))
           ∙ map-append (scopes_at (chains_of s)) s.places.items (p ∷ [])
@@ -234,28 +303,35 @@ noted s new c (Some d) chains chain depth far reach places more inside h =
           ∙ ap (map (λ (e : VariableDeclaration). e.scopes)) (sym (kept_also (is_skipped d) refl));
     }
   where
-    kept_also : (b : Bool) → is_skipped d ≡ b → kept_variables (c.declared ++ d ∷ []) ≡ kept_variables c.declared ++ d ∷ []
+    kept_also : (b : Bool) → is_skipped d ≡ b → kept_variables (c.declared ++ d ∷ []) ≡ kept_variables c.declared
+        ++ d ∷ []
     kept_also false is = one_more c.declared d ∙ ap (λ b. kept_variables c.declared ++ cond (not b) (d ∷ []) []) is
     kept_also true is =
-        let same = one_more c.declared d ∙ ap (λ b. kept_variables c.declared ++ cond (not b) (d ∷ []) []) is ∙ append-nil (kept_variables c.declared) in
+        let same = one_more c.declared d ∙ ap (λ b. kept_variables c.declared ++ cond (not b) (d ∷ []) []) is
+        ∙ append-nil (kept_variables c.declared) in
         absurd (omega (arith, more, as_many s c h, ap (length {A = VariableDeclaration}) same))
 
 -- what words declare stands in the scopes that are open
-declared_inside : (c : ParseState) (words : List (List ℕ)) (d : VariableDeclaration) → declaration_of c words ≡ Some d → d.scopes ≡ c.scopes
+declared_inside : (c : ParseState) (words : List (List ℕ)) (d : VariableDeclaration) → declaration_of c words ≡ Some d
+    → d.scopes ≡ c.scopes
 declared_inside c [] d is = let never : None ≡ Some d = is in absurd (cc)
 declared_inside c (kind ∷ []) d is = let never : None ≡ Some d = is in absurd (cc)
 declared_inside c (kind ∷ size ∷ []) d is = let never : None ≡ Some d = is in absurd (cc)
 declared_inside c (kind ∷ size ∷ code ∷ []) d is = let never : None ≡ Some d = is in absurd (cc)
-declared_inside c (kind ∷ size ∷ code ∷ name ∷ names) d is = ap (λ (e : VariableDeclaration). e.scopes) (sym (same_Some _ d is))
+declared_inside c (kind ∷ size ∷ code ∷ name ∷ names) d is =
+    ap (λ (e : VariableDeclaration). e.scopes) (sym (same_Some _ d is))
 
 -- a place more is noted where a variable more is kept
-pub place_noted : (s new : Scopes) (c : ParseState) (words : List (List ℕ)) → new.chains.items ≡ s.chains.items → new.chain.items ≡ s.chain.items → new.depth ≡ s.depth → s.reach ≤ new.reach → s.depth ≤ new.reach
+pub place_noted : (s new : Scopes) (c : ParseState) (words : List (List ℕ)) → new.chains.items ≡ s.chains.items
+    → new.chain.items ≡ s.chain.items → new.depth ≡ s.depth → s.reach ≤ new.reach → s.depth ≤ new.reach
     → new.places.items ≡ s.places.items ++ record { chain = length s.chains.items; count = s.depth } ∷ []
     → length s.places.items < length (kept_variables (state_after_item c (variable words)).declared)
     → HoldsScopes s c.scopes c.declared → HoldsScopes new c.scopes (state_after_item c (variable words)).declared
-place_noted s new c words chains chain depth far reach places more h = noted s new c (declaration_of c words) chains chain depth far reach places more (declared_inside c words) h
+place_noted s new c words chains chain depth far reach places more h =
+    noted s new c (declaration_of c words) chains chain depth far reach places more (declared_inside c words) h
 
 -- and none where none is
-pub no_place : (s : Scopes) (c : ParseState) (words : List (List ℕ)) → length (kept_variables (state_after_item c (variable words)).declared) ≤ length s.places.items
+pub no_place : (s : Scopes) (c : ParseState) (words : List (List ℕ))
+    → length (kept_variables (state_after_item c (variable words)).declared) ≤ length s.places.items
     → HoldsScopes s c.scopes c.declared → HoldsScopes s c.scopes (state_after_item c (variable words)).declared
 no_place s c words few h = passed s s c (declaration_of c words) refl refl refl refl refl few h

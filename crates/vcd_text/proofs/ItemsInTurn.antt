@@ -13,7 +13,8 @@ pub leads_none : (c : ParseState) → Leads c [] c
 leads_none c = record { allowed = tt; tells = refl }
 
 -- one item in front
-pub leads_first : (c d : ParseState) (i : Item) (is : List Item) → Allows c i → Leads (state_after_item c i) is d → Leads c (i ∷ is) d
+pub leads_first : (c d : ParseState) (i : Item) (is : List Item) → Allows c i → Leads (state_after_item c i) is d
+    → Leads c (i ∷ is) d
 leads_first c d i is allowed rest = record { allowed = (allowed, rest.allowed); tells = rest.tells }
 
 -- one item
@@ -24,7 +25,8 @@ leads_one c d i allowed tells = record { allowed = (allowed, tt); tells = tells 
 pub leads_both : (c d e : ParseState) (xs ys : List Item) → Leads c xs d → Leads d ys e → Leads c (xs ++ ys) e
 leads_both c d e [] ys front back = subst (λ x. Leads x ys e) (sym front.tells) back
 leads_both c d e (x ∷ xs) ys front back =
-    leads_first c e x (xs ++ ys) front.allowed.0 (leads_both (state_after_item c x) d e xs ys (record { allowed = front.allowed.1; tells = front.tells }) back)
+    leads_first c e x (xs ++ ys) front.allowed.0
+    (leads_both (state_after_item c x) d e xs ys (record { allowed = front.allowed.1; tells = front.tells }) back)
 
 -- the same items between the same contexts
 pub leads_same : (c d e : ParseState) (is : List Item) → Leads c is d → d ≡ e → Leads c is e

@@ -1,5 +1,7 @@
 -- The value changes of a capture's text give each signal its value at every tick.
-use Rattle.std.proofs.Common.{◌≡◌, ◌≢◌, ℕ, zero, suc, ◌+◌, ◌-◌, ◌<◌, ◌≤◌, Bool, true, false, not, cond, if◌then◌else◌, ◌&&◌, nat_le, List, [], ◌∷◌, ◌++◌, length, map, get_or, refl, sym, ap, subst, ◌∙◌, inl, inr, arith}
+use Rattle.std.proofs.Common.{◌≡◌, ◌≢◌, ℕ, zero, suc, ◌+◌, ◌-◌, ◌<◌, ◌≤◌, Bool, true, false, not, cond, if◌then◌else◌}
+use Rattle.std.proofs.Common.{◌&&◌, nat_le, List, [], ◌∷◌, ◌++◌, length, map, get_or, refl, sym, ap, subst, ◌∙◌, inl}
+use Rattle.std.proofs.Common.{inr, arith}
 use Rattle.std.specs.Prelude.{bytes_eq}
 use Rattle.std.specs.List.{filter, enumerate_from}
 use Rattle.std.proofs.lemmas.Bool.{and_right, cases_lt, le-leb, lt-leb}
@@ -19,7 +21,9 @@ latest_value-append : (width : ℕ) (code : List ℕ) (t : ℕ) (before : List B
     → latest_value width code t before (rs ++ qs) ≡ latest_value width code t (latest_value width code t before rs) qs
 unfolding latest_value
 latest_value-append width code t before [] qs = refl
-latest_value-append width code t before (r ∷ rs) qs = latest_value-append width code t (if bytes_eq r.code code && nat_le r.tick t then extension width r.letters else before) rs qs
+latest_value-append width code t before (r ∷ rs) qs =
+    latest_value-append width code t
+    (if bytes_eq r.code code && nat_le r.tick t then extension width r.letters else before) rs qs
 
 -- of one signal, at the position k, at the tick t
 module _ (width k t : ℕ) where
@@ -28,20 +32,26 @@ module _ (width k t : ℕ) where
   after_value_changes before rs = latest_value width (code_of k) t before rs
 
   -- value changes past the tick say nothing
-  past_value_changes : (u : ℕ) (before : List Bit) (placed : List (ℕ × SignalContents)) → t < u → after_value_changes before (map (value_change_of u) placed) ≡ before
+  past_value_changes : (u : ℕ) (before : List Bit) (placed : List (ℕ × SignalContents)) → t < u
+      → after_value_changes before (map (value_change_of u) placed) ≡ before
   unfolding latest_value
   past_value_changes u before [] past = refl
   past_value_changes u before (p ∷ ps) past =
-      let not_yet : (bytes_eq (code_of p.0) (code_of k) && nat_le u t) ≡ false = and_right (bytes_eq (code_of p.0) (code_of k)) (nat_le u t) (lt-leb u t past) in
-      ap (λ b. after_value_changes (if b then extension width (short_form (signal_value p.1 u)) else before) (map (value_change_of u) ps)) not_yet
+      let not_yet : (bytes_eq (code_of p.0) (code_of k) && nat_le u t) ≡ false =
+      and_right (bytes_eq (code_of p.0) (code_of k)) (nat_le u t) (lt-leb u t past) in
+      ap (λ b. after_value_changes (if b then extension width (short_form (signal_value p.1 u)) else before)
+      (map (value_change_of u) ps)) not_yet
       ∙ past_value_changes u before ps past
 
-  past_ticks : (signals : List SignalContents) (u n : ℕ) (before : List Bit) → t < u → after_value_changes before (tick_value_changes signals u n) ≡ before
+  past_ticks : (signals : List SignalContents) (u n : ℕ) (before : List Bit) → t < u
+      → after_value_changes before (tick_value_changes signals u n) ≡ before
   unfolding latest_value tick_value_changes
   past_ticks signals u zero before past = refl
   past_ticks signals u (suc n) before past =
-      latest_value-append width (code_of k) t before (map (value_change_of u) (differing signals u)) (tick_value_changes signals (suc u) n)
-      ∙ ap (λ v. after_value_changes v (tick_value_changes signals (suc u) n)) (past_value_changes u before (differing signals u) past)
+      latest_value-append width (code_of k) t before (map (value_change_of u) (differing signals u))
+      (tick_value_changes signals (suc u) n)
+      ∙ ap (λ v. after_value_changes v (tick_value_changes signals (suc u) n))
+      (past_value_changes u before (differing signals u) past)
       ∙ past_ticks signals (suc u) n before (omega arith)
 
   -- at a tick that has come, for signals that pass a test
@@ -52,36 +62,54 @@ module _ (width k t : ℕ) where
 
     -- a signal at another position says nothing
     other_signal : (j : ℕ) (s : SignalContents) (ss : List SignalContents) (before : List Bit) → j ≢ k
-        → after_value_changes before (value_changes_from j (s ∷ ss)) ≡ after_value_changes before (value_changes_from (j + 1) ss)
+        → after_value_changes before (value_changes_from j (s ∷ ss))
+        ≡ after_value_changes before (value_changes_from (j + 1) ss)
     unfolding latest_value
     other_signal j s ss before other = choose (test (j, s))
       where
-        choose : (b : Bool) → after_value_changes before (map (value_change_of u) (cond b ((j, s) ∷ filter test (enumerate_from (j + 1) ss)) (filter test (enumerate_from (j + 1) ss)))) ≡ after_value_changes before (value_changes_from (j + 1) ss)
-        choose true = ap (λ b. after_value_changes (if b && nat_le u t then extension width (short_form (signal_value s u)) else before) (value_changes_from (j + 1) ss)) (other_code j k other)
+        choose : (b : Bool) → after_value_changes before
+            (map (value_change_of u)
+            (cond b ((j, s) ∷ filter test (enumerate_from (j + 1) ss)) (filter test (enumerate_from (j + 1) ss))))
+            ≡ after_value_changes before (value_changes_from (j + 1) ss)
+        choose true = ap (λ b. after_value_changes
+            (if b && nat_le u t then extension width (short_form (signal_value s u)) else before)
+            (value_changes_from (j + 1) ss)) (other_code j k other)
         choose false = refl
 
-    later_signals : (j : ℕ) (ss : List SignalContents) (before : List Bit) → k < j → after_value_changes before (value_changes_from j ss) ≡ before
+    later_signals : (j : ℕ) (ss : List SignalContents) (before : List Bit) → k < j
+        → after_value_changes before (value_changes_from j ss) ≡ before
     unfolding latest_value
     later_signals j [] before later = refl
-    later_signals j (s ∷ ss) before later = other_signal j s ss before (λ e. omega arith) ∙ later_signals (j + 1) ss before (omega arith)
+    later_signals j (s ∷ ss) before later = other_signal j s ss before (λ e. omega arith)
+        ∙ later_signals (j + 1) ss before (omega arith)
 
     -- the signal itself, where it passes
-    own_value_change : (ss : List SignalContents) (i j : ℕ) (d : SignalContents) (before : List Bit) → j + i ≡ k → i < length ss → u ≤ t
-        → after_value_changes before (value_changes_from j ss) ≡ (if test (k, get_or ss i d) then extension width (short_form (signal_value (get_or ss i d) u)) else before)
+    own_value_change : (ss : List SignalContents) (i j : ℕ) (d : SignalContents) (before : List Bit) → j + i ≡ k
+        → i < length ss → u ≤ t
+        → after_value_changes before (value_changes_from j ss)
+        ≡ (if test (k, get_or ss i d) then extension width (short_form (signal_value (get_or ss i d) u)) else
+        before)
     unfolding latest_value
     own_value_change [] i j d before at within come = absurd (omega arith)
     own_value_change (s ∷ ss) zero j d before at within come =
         let here : j ≡ k = omega arith in
-        subst (λ n. after_value_changes before (value_changes_from n (s ∷ ss)) ≡ (if test (k, s) then extension width (short_form (signal_value s u)) else before)) (sym here)
+        subst (λ n. after_value_changes before (value_changes_from n (s ∷ ss))
+        ≡ (if test (k, s) then extension width (short_form (signal_value s u)) else before)) (sym here)
         (choose (test (k, s)))
       where
-        choose : (b : Bool) → after_value_changes before (map (value_change_of u) (cond b ((k, s) ∷ filter test (enumerate_from (k + 1) ss)) (filter test (enumerate_from (k + 1) ss)))) ≡ (if b then extension width (short_form (signal_value s u)) else before)
+        choose : (b : Bool) → after_value_changes before
+            (map (value_change_of u)
+            (cond b ((k, s) ∷ filter test (enumerate_from (k + 1) ss)) (filter test (enumerate_from (k + 1) ss))))
+            ≡ (if b then extension width (short_form (signal_value s u)) else before)
         choose true =
-            (λ i. after_value_changes (if same_code k i && le-leb u t come i then extension width (short_form (signal_value s u)) else before) (value_changes_from (k + 1) ss))
+            (λ i. after_value_changes
+            (if same_code k i && le-leb u t come i then extension width (short_form (signal_value s u)) else before)
+            (value_changes_from (k + 1) ss))
             ∙ later_signals (k + 1) ss (extension width (short_form (signal_value s u))) (omega arith)
         choose false = later_signals (k + 1) ss before (omega arith)
     own_value_change (s ∷ ss) (suc i) j d before at within come =
-        other_signal j s ss before (λ e. omega arith) ∙ own_value_change ss i (j + 1) d before (omega arith) (omega arith) come
+        other_signal j s ss before (λ e. omega arith)
+        ∙ own_value_change ss i (j + 1) d before (omega arith) (omega arith) come
 
 -- ---- one signal
 
@@ -89,53 +117,68 @@ filter_all : {A : Type 0} (xs : List A) → filter (λ x. true) xs ≡ xs
 filter_all [] = refl
 filter_all (x ∷ xs) = ap (λ l. x ∷ l) (filter_all xs)
 
-module _ (signals : List SignalContents) (k t : ℕ) (d : SignalContents) (inside : k < length signals) (wide : (u : ℕ) → length (signal_value (get_or signals k d) u) ≡ (get_or signals k d).width) where
+module _ (signals : List SignalContents) (k t : ℕ) (d : SignalContents) (inside : k < length signals) (wide : (u : ℕ)
+    → length (signal_value (get_or signals k d) u) ≡ (get_or signals k d).width) where
   abbrev signal : SignalContents
   signal = get_or signals k d
 
   whole : (u : ℕ) → extension signal.width (short_form (signal_value signal u)) ≡ signal_value signal u
-  whole u = ap (λ w. extension w (short_form (signal_value signal u))) (sym (wide u)) ∙ ext-short (signal_value signal u)
+  whole u = ap (λ w. extension w (short_form (signal_value signal u))) (sym (wide u))
+      ∙ ext-short (signal_value signal u)
 
   -- a value that differs is told, and one that does not stays
   at_tick : (u : ℕ) → u ≤ t
-      → latest_value signal.width (code_of k) t (signal_value signal (u - 1)) (map (value_change_of u) (differing signals u)) ≡ signal_value signal u
+      → latest_value signal.width (code_of k) t (signal_value signal (u - 1))
+      (map (value_change_of u) (differing signals u)) ≡ signal_value signal u
   at_tick u come =
-      own_value_change signal.width k t u (λ p. differs_at u p.1) signals k 0 d (signal_value signal (u - 1)) (omega arith) inside come
+      own_value_change signal.width k t u (λ p. differs_at u p.1) signals k 0 d (signal_value signal (u - 1))
+      (omega arith) inside come
       ∙ choose (same_letters (signal_value signal u) (signal_value signal (u - 1))) refl
     where
       choose : (b : Bool) → same_letters (signal_value signal u) (signal_value signal (u - 1)) ≡ b
-          → (if not b then extension signal.width (short_form (signal_value signal u)) else signal_value signal (u - 1)) ≡ signal_value signal u
+          → (if not b then extension signal.width (short_form (signal_value signal u)) else signal_value signal (u - 1))
+          ≡ signal_value signal u
       choose true same = sym ((same_letters-Decides (signal_value signal u) (signal_value signal (u - 1))).0 same)
       choose false other = whole u
 
   -- the ticks from u on, where the value at the tick before is known
   from_tick : (u n : ℕ) → u ≤ t + 1 → t < u + n
-      → latest_value signal.width (code_of k) t (signal_value signal (u - 1)) (tick_value_changes signals u n) ≡ signal_value signal t
+      → latest_value signal.width (code_of k) t (signal_value signal (u - 1)) (tick_value_changes signals u n)
+      ≡ signal_value signal t
   unfolding latest_value tick_value_changes
   from_tick u zero low high = let same : u - 1 ≡ t = omega arith in ap (signal_value signal) same
   from_tick u (suc n) low high =
       elim (cases_lt t u) [
         | inl past ↦
             let same : u - 1 ≡ t = omega arith in
-            past_ticks signal.width k t signals u (suc n) (signal_value signal (u - 1)) past ∙ ap (signal_value signal) same
+            past_ticks signal.width k t signals u (suc n) (signal_value signal (u - 1)) past
+            ∙ ap (signal_value signal) same
         | inr come ↦
-            latest_value-append signal.width (code_of k) t (signal_value signal (u - 1)) (map (value_change_of u) (differing signals u)) (tick_value_changes signals (suc u) n)
-            ∙ ap (λ v. latest_value signal.width (code_of k) t v (tick_value_changes signals (suc u) n)) (at_tick u come)
-            ∙ ap (λ v. latest_value signal.width (code_of k) t (signal_value signal v) (tick_value_changes signals (suc u) n)) (let same : u ≡ suc u - 1 = omega arith in same)
+            latest_value-append signal.width (code_of k) t (signal_value signal (u - 1))
+            (map (value_change_of u) (differing signals u)) (tick_value_changes signals (suc u) n)
+            ∙ ap (λ v. latest_value signal.width (code_of k) t v (tick_value_changes signals (suc u) n))
+            (at_tick u come)
+            ∙ ap (λ v. latest_value signal.width (code_of k) t (signal_value signal v)
+            (tick_value_changes signals (suc u) n)) (let same : u ≡ suc u - 1 = omega arith in same)
             ∙ from_tick (suc u) n (omega arith) (omega arith)
       ]
 
   -- the values at tick 0
-  at_start : latest_value signal.width (code_of k) t (all_x signal.width) (map (value_change_of 0) (enumerate_from 0 signals)) ≡ signal_value signal 0
+  at_start : latest_value signal.width (code_of k) t (all_x signal.width)
+      (map (value_change_of 0) (enumerate_from 0 signals)) ≡ signal_value signal 0
   at_start =
-      ap (λ l. latest_value signal.width (code_of k) t (all_x signal.width) (map (value_change_of 0) l)) (sym (filter_all (enumerate_from 0 signals)))
-      ∙ own_value_change signal.width k t 0 (λ p. true) signals k 0 d (all_x signal.width) (omega arith) inside (omega arith)
+      ap (λ l. latest_value signal.width (code_of k) t (all_x signal.width) (map (value_change_of 0) l))
+      (sym (filter_all (enumerate_from 0 signals)))
+      ∙ own_value_change signal.width k t 0 (λ p. true) signals k 0 d (all_x signal.width) (omega arith) inside
+      (omega arith)
       ∙ whole 0
 
   -- at each tick up to the end the value changes give the value
   pub latest_is : (end : ℕ) → t ≤ end
-      → latest_value signal.width (code_of k) t (all_x signal.width) (map (value_change_of 0) (enumerate_from 0 signals) ++ tick_value_changes signals 1 end) ≡ signal_value signal t
+      → latest_value signal.width (code_of k) t (all_x signal.width) (map (value_change_of 0) (enumerate_from 0 signals)
+      ++ tick_value_changes signals 1 end) ≡ signal_value signal t
   latest_is end within =
-      latest_value-append signal.width (code_of k) t (all_x signal.width) (map (value_change_of 0) (enumerate_from 0 signals)) (tick_value_changes signals 1 end)
+      latest_value-append signal.width (code_of k) t (all_x signal.width)
+      (map (value_change_of 0) (enumerate_from 0 signals)) (tick_value_changes signals 1 end)
       ∙ ap (λ v. latest_value signal.width (code_of k) t v (tick_value_changes signals 1 end)) at_start
       ∙ from_tick 1 end (omega arith) (omega arith)

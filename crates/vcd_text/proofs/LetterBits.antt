@@ -1,15 +1,19 @@
 -- Letters by the bits of two words, and which of them the extension puts on the left of the next.
-use Rattle.std.proofs.Common.{◌≡◌, ℕ, zero, suc, ◌+◌, ◌-◌, ◌*◌, ◌/◌, ◌%◌, ◌^◌, ◌<◌, ◌≤◌, min, max, Bool, true, false, List, [], ◌∷◌, ◌++◌, length, drop, get_or, slice_range, if◌then◌else◌, pow-suc, refl, sym, ap, ◌∙◌, arith, inl, inr}
+use Rattle.std.proofs.Common.{◌≡◌, ℕ, zero, suc, ◌+◌, ◌-◌, ◌*◌, ◌/◌, ◌%◌, ◌^◌, ◌<◌, ◌≤◌, min, max, Bool, true, false}
+use Rattle.std.proofs.Common.{List, [], ◌∷◌, ◌++◌, length, drop, get_or, slice_range, if◌then◌else◌, pow-suc, refl, sym}
+use Rattle.std.proofs.Common.{ap, ◌∙◌, arith, inl, inr}
 use Rattle.std.specs.Int.{bit_at, bit_not}
 use lib.Bits.{and_le_r}
 use Rattle.std.specs.Int.Bits.{bit_and, bit_or, bit_xor}
 use Rattle.std.specs.Int.Count.{count_leading_zeros}
 use Rattle.std.proofs.Math.ListN.{set}
 use Rattle.std.proofs.lemmas.Bool.{cases_eq, cases_lt, lt-ltb}
-use Rattle.std.proofs.lemmas.List.{ext_get_or, get_or-drop, get_or-map, get_or-set_other, get_or-set_same, get_or-take, length-drop, length-map, length-set, length-take-le, map-append, take_all}
+use Rattle.std.proofs.lemmas.List.{ext_get_or, get_or-drop, get_or-map, get_or-set_other, get_or-set_same, get_or-take}
+use Rattle.std.proofs.lemmas.List.{length-drop, length-map, length-set, length-take-le, map-append, take_all}
 use Rattle.std.proofs.lemmas.List.Folds.{drop_split}
 use Rattle.std.proofs.lemmas.Nat.{leading_length}
-use Rattle.std.proofs.lemmas.Nat.Bits.{bit_at-lt, bit_at-suc, bit_at_above, bit_at_and, bit_at_cat_high, bit_at_not, bit_at_ones, bit_at_ones_above, bit_at_or, bit_at_xor}
+use Rattle.std.proofs.lemmas.Nat.Bits.{bit_at-lt, bit_at-suc, bit_at_above, bit_at_and, bit_at_cat_high, bit_at_not}
+use Rattle.std.proofs.lemmas.Nat.Bits.{bit_at_ones, bit_at_ones_above, bit_at_or, bit_at_xor}
 use Rattle.std.proofs.Common.{w64}
 use Rattle.vcd_core.specs.declared.bit.Bit.{Bit}
 use Rattle.vcd_core.specs.declared.bit.Bit.TheVariants.{X}
@@ -24,8 +28,10 @@ use Rattle.vcd_text.specs.inside.ValueFronts.{is_spare_above, word_letter}
 -- the letter that has the two bits at a place
 letter_by_bits : (v : List Bit) (k : ℕ) → k < length v → letter_of (low_bit v k) (high_bit v k) ≡ letter_at v k
 letter_by_bits v k inside =
-    ap (λ n. letter_of n (high_bit v k)) (ap (λ b. if b then low_of (letter_at v k) else 0) (lt-ltb k (length v) inside))
-    ∙ ap (λ n. letter_of (low_of (letter_at v k)) n) (ap (λ b. if b then high_of (letter_at v k) else 0) (lt-ltb k (length v) inside))
+    ap (λ n. letter_of n (high_bit v k))
+    (ap (λ b. if b then low_of (letter_at v k) else 0) (lt-ltb k (length v) inside))
+    ∙ ap (λ n. letter_of (low_of (letter_at v k)) n)
+    (ap (λ b. if b then high_of (letter_at v k) else 0) (lt-ltb k (length v) inside))
     ∙ letter_of-letter (letter_at v k)
 
 -- two words hold the letters of a value from a bit on
@@ -33,12 +39,14 @@ pub record HoldsFrom (v : List Bit) (from low high : ℕ) : Type 0 where
   pub lows : (i : ℕ) → i < 64 → bit_at low i ≡ low_bit v (from + i)
   pub highs : (i : ℕ) → i < 64 → bit_at high i ≡ high_bit v (from + i)
 
-pub held_letter : (v : List Bit) (from low high i : ℕ) → HoldsFrom v from low high → i < 64 → from + i < length v → word_letter low high i ≡ letter_at v (from + i)
+pub held_letter : (v : List Bit) (from low high i : ℕ) → HoldsFrom v from low high → i < 64 → from + i < length v
+    → word_letter low high i ≡ letter_at v (from + i)
 held_letter v from low high i holds inside within =
     (λ p. letter_of (holds.lows i inside p) (holds.highs i inside p)) ∙ letter_by_bits v (from + i) within
 
 -- a letter of the value that two words give
-pub given_letter : (width low high k : ℕ) → width ≤ 64 → k < width → letter_at (letters_of width (low ∷ []) (high ∷ [])) k ≡ word_letter low high k
+pub given_letter : (width low high k : ℕ) → width ≤ 64 → k < width
+    → letter_at (letters_of width (low ∷ []) (high ∷ [])) k ≡ word_letter low high k
 unfolding row_bit
 given_letter width low high k narrow within =
     let none : k / 64 ≡ 0 = omega arith in
@@ -47,13 +55,15 @@ given_letter width low high k narrow within =
     letter_at-letters_of width (low ∷ []) (high ∷ []) k within ∙ (λ p. letter_of (bit low p) (bit high p))
 
 -- words that hold a whole value give it
-pub given_whole : (v : List Bit) (low high : ℕ) → length v ≤ 64 → HoldsFrom v 0 low high → letters_of (length v) (low ∷ []) (high ∷ []) ≡ v
+pub given_whole : (v : List Bit) (low high : ℕ) → length v ≤ 64 → HoldsFrom v 0 low high
+    → letters_of (length v) (low ∷ []) (high ∷ []) ≡ v
 given_whole v low high narrow holds =
     let long = length-letters_of (length v) (low ∷ []) (high ∷ []) in
     same_letter_at _ v long (λ k below.
     let within : k < length v = omega (arith, below, long) in
     let place : 0 + k ≡ k = omega arith in
-    given_letter (length v) low high k narrow within ∙ held_letter v 0 low high k holds (omega arith) (omega arith) ∙ ap (letter_at v) place)
+    given_letter (length v) low high k narrow within ∙ held_letter v 0 low high k holds (omega arith) (omega arith)
+    ∙ ap (letter_at v) place)
 
 -- ---- the lowest letters
 
@@ -66,11 +76,13 @@ length-lowest n v within = length-drop (length v - n) v ∙ omega arith
 
 pub letter_at-lowest : (n : ℕ) (v : List Bit) (k : ℕ) → n ≤ length v → k < n → letter_at (lowest n v) k ≡ letter_at v k
 letter_at-lowest n v k within below =
-    let place : length v - n + (length (lowest n v) - 1 - k) ≡ length v - 1 - k = omega (arith, length-lowest n v within) in
+    let place : length v - n + (length (lowest n v) - 1 - k) ≡ length v - 1 - k =
+    omega (arith, length-lowest n v within) in
     get_or-drop (length v - n) v (length (lowest n v) - 1 - k) X ∙ ap (λ i. get_or v i X) place
 
 -- the lowest letters of words
-pub lowest_given : (width count low high : ℕ) → width ≤ 64 → count ≤ width → lowest count (letters_of width (low ∷ []) (high ∷ [])) ≡ letters_of count (low ∷ []) (high ∷ [])
+pub lowest_given : (width count low high : ℕ) → width ≤ 64 → count ≤ width
+    → lowest count (letters_of width (low ∷ []) (high ∷ [])) ≡ letters_of count (low ∷ []) (high ∷ [])
 lowest_given width count low high narrow within =
     let v = letters_of width (low ∷ []) (high ∷ []) in
     let long = length-letters_of width (low ∷ []) (high ∷ []) in
@@ -84,20 +96,24 @@ lowest_given width count low high narrow within =
 -- ---- letters in a row
 
 -- two letters more, before those at the end of a row
-pub pair_written : (f : ℕ → ℕ) (row : List ℕ) (k a b : ℕ) → length row ≡ 64 → k < 32 → ((i : ℕ) → i < 2 * k → get_or row (63 - i) 0 ≡ f i)
-    → a ≡ f (2 * k + 1) → b ≡ f (2 * k + 0) → (i : ℕ) → i < 2 * (k + 1) → get_or (set (set row (62 - 2 * k) a) (63 - 2 * k) b) (63 - i) 0 ≡ f i
+pub pair_written : (f : ℕ → ℕ) (row : List ℕ) (k a b : ℕ) → length row ≡ 64 → k < 32
+    → ((i : ℕ) → i < 2 * k → get_or row (63 - i) 0 ≡ f i)
+    → a ≡ f (2 * k + 1) → b ≡ f (2 * k + 0) → (i : ℕ) → i < 2 * (k + 1)
+    → get_or (set (set row (62 - 2 * k) a) (63 - 2 * k) b) (63 - i) 0 ≡ f i
 pair_written f row k a b long inside written upper lower i within =
     let second = set row (62 - 2 * k) a in
     let long' : length second ≡ 64 = length-set row (62 - 2 * k) a ∙ long in
     elim (cases_lt i (2 * k)) [
       | inl before ↦
-          get_or-set_other second (63 - 2 * k) (63 - i) b 0 (omega arith) ∙ get_or-set_other row (62 - 2 * k) (63 - i) a 0 (omega arith)
+          get_or-set_other second (63 - 2 * k) (63 - i) b 0 (omega arith)
+          ∙ get_or-set_other row (62 - 2 * k) (63 - i) a 0 (omega arith)
           ∙ written i before
       | inr from ↦ elim (cases_eq i (2 * k)) [
         | inl last ↦
             let place : 63 - i ≡ 63 - 2 * k = omega arith in
             let at : 2 * k + 0 ≡ i = omega arith in
-            ap (λ n. get_or (set second (63 - 2 * k) b) n 0) place ∙ get_or-set_same second (63 - 2 * k) b 0 (omega (arith, long')) ∙ lower ∙ ap f at
+            ap (λ n. get_or (set second (63 - 2 * k) b) n 0) place
+            ∙ get_or-set_same second (63 - 2 * k) b 0 (omega (arith, long')) ∙ lower ∙ ap f at
         | inr other ↦
             let place : 63 - i ≡ 62 - 2 * k = omega arith in
             let at : 2 * k + 1 ≡ i = omega arith in
@@ -107,7 +123,8 @@ pair_written f row k a b long inside written upper lower i within =
     ]
 
 -- the end of a row of letters
-pub row_end : (row : List ℕ) (count low high : ℕ) → length row ≡ 64 → count ≤ 64 → ((i : ℕ) → i < count → get_or row (63 - i) 0 ≡ printed_letter (word_letter low high i))
+pub row_end : (row : List ℕ) (count low high : ℕ) → length row ≡ 64 → count ≤ 64
+    → ((i : ℕ) → i < count → get_or row (63 - i) 0 ≡ printed_letter (word_letter low high i))
     → slice_range row (64 - count) 64 ≡ printed_letters (letters_of count (low ∷ []) (high ∷ []))
 row_end row count low high long fits written =
     let v = letters_of count (low ∷ []) (high ∷ []) in
@@ -124,22 +141,29 @@ row_end row count low high long fits written =
     ∙ sym (get_or-map printed_letter v i X 0 (omega (arith, inside, few))))
 
 -- the letters of a word of a value stand before the lower ones
-pub word_and_rest : (v : List Bit) (left from low high : ℕ) → from ≤ left → left ≤ from + 64 → left ≤ length v → HoldsFrom v from low high
-    → printed_letters (lowest left v) ≡ printed_letters (letters_of (left - from) (low ∷ []) (high ∷ [])) ++ printed_letters (lowest from v)
+pub word_and_rest : (v : List Bit) (left from low high : ℕ) → from ≤ left → left ≤ from + 64 → left ≤ length v
+    → HoldsFrom v from low high
+    → printed_letters (lowest left v) ≡ printed_letters (letters_of (left - from) (low ∷ []) (high ∷ []))
+    ++ printed_letters (lowest from v)
 word_and_rest v left from low high most fits within holds =
     let count : ℕ = left - from in
     let start : ℕ = length v - left in
     let end : ℕ = length v - from in
     let part = slice_range v start end in
-    let few : length (letters_of count (low ∷ []) (high ∷ [])) ≡ count = length-letters_of count (low ∷ []) (high ∷ []) in
-    let long : length part ≡ count = length-take-le (end - start) (drop start v) (omega (arith, length-drop start v)) ∙ omega (arith, most, within) in
+    let few : length (letters_of count (low ∷ []) (high ∷ [])) ≡ count =
+    length-letters_of count (low ∷ []) (high ∷ []) in
+    let long : length part ≡ count = length-take-le (end - start) (drop start v) (omega (arith, length-drop start v))
+    ∙ omega (arith, most, within) in
     let same : part ≡ letters_of count (low ∷ []) (high ∷ []) = same_letter_at part _ (long ∙ sym few) (λ k below.
     let inside : k < count = omega (arith, below, long) in
     let place : start + (length part - 1 - k) ≡ length v - 1 - (from + k) = omega (arith, inside, long, within) in
-    get_or-take (end - start) (drop start v) (length part - 1 - k) X (omega (arith, inside, long)) ∙ get_or-drop start v (length part - 1 - k) X
-    ∙ ap (λ i. get_or v i X) place ∙ sym (held_letter v from low high k holds (omega (arith, inside)) (omega (arith, inside)))
+    get_or-take (end - start) (drop start v) (length part - 1 - k) X (omega (arith, inside, long))
+    ∙ get_or-drop start v (length part - 1 - k) X
+    ∙ ap (λ i. get_or v i X) place
+    ∙ sym (held_letter v from low high k holds (omega (arith, inside)) (omega (arith, inside)))
     ∙ sym (given_letter count low high k (omega arith) inside)) in
-    ap printed_letters (drop_split v start end (omega arith) ∙ ap (λ l. l ++ drop end v) same) ∙ map-append printed_letter (letters_of count (low ∷ []) (high ∷ [])) (drop end v)
+    ap printed_letters (drop_split v start end (omega arith) ∙ ap (λ l. l ++ drop end v) same)
+    ∙ map-append printed_letter (letters_of count (low ∷ []) (high ∷ [])) (drop end v)
 
 -- ---- spare letters
 
@@ -147,14 +171,17 @@ word_and_rest v left from low high most fits within holds =
 abbrev pub is_spare_in : List Bit → ℕ → Bool
 is_spare_in v i = same_letter (pad_letter (letter_at v i ∷ [])) (letter_at v (i + 1))
 
-pub spare_held : (v : List Bit) (from low high i : ℕ) → HoldsFrom v from low high → i + 1 < 64 → from + i + 1 < length v → is_spare_above low high i ≡ is_spare_in v (from + i)
+pub spare_held : (v : List Bit) (from low high i : ℕ) → HoldsFrom v from low high → i + 1 < 64 → from + i + 1 < length v
+    → is_spare_above low high i ≡ is_spare_in v (from + i)
 spare_held v from low high i holds inside within =
     let next : from + (i + 1) ≡ from + i + 1 = omega arith in
     let one = held_letter v from low high i holds (omega arith) (omega arith) in
-    let two : word_letter low high (i + 1) ≡ letter_at v (from + i + 1) = held_letter v from low high (i + 1) holds inside (omega arith) ∙ ap (letter_at v) next in
+    let two : word_letter low high (i + 1) ≡ letter_at v (from + i + 1) =
+    held_letter v from low high (i + 1) holds inside (omega arith) ∙ ap (letter_at v) next in
     (λ p. same_letter (pad_letter (one p ∷ [])) (two p))
 
-pub spare_given : (width low high i : ℕ) → width ≤ 64 → i + 1 < width → is_spare_above low high i ≡ is_spare_in (letters_of width (low ∷ []) (high ∷ [])) i
+pub spare_given : (width low high i : ℕ) → width ≤ 64 → i + 1 < width
+    → is_spare_above low high i ≡ is_spare_in (letters_of width (low ∷ []) (high ∷ [])) i
 spare_given width low high i narrow within =
     let one = sym (given_letter width low high i narrow (omega arith)) in
     let two = sym (given_letter width low high (i + 1) narrow within) in
@@ -173,7 +200,9 @@ bit_again (suc (suc _)) small = absurd (omega arith)
 abbrev mark : ℕ → ℕ → ℕ → ℕ → ℕ
 mark h' h l' l = max (max ((h' + h) % 2) (min l' (1 - h'))) (min h' ((l' + l) % 2))
 
-mark_tells : (h' h l' l : Bool) → mark (bit h') (bit h) (bit l') (bit l) ≡ (if same_letter (pad_letter (letter_of (bit l) (bit h) ∷ [])) (letter_of (bit l') (bit h')) then 0 else 1)
+mark_tells : (h' h l' l : Bool)
+    → mark (bit h') (bit h) (bit l') (bit l)
+    ≡ (if same_letter (pad_letter (letter_of (bit l) (bit h) ∷ [])) (letter_of (bit l') (bit h')) then 0 else 1)
 mark_tells false false false false = refl
 mark_tells false false false true = refl
 mark_tells false false true false = refl
@@ -191,7 +220,8 @@ mark_tells true true false true = refl
 mark_tells true true true false = refl
 mark_tells true true true true = refl
 
-mark_is : (h' h l' l : ℕ) → h' < 2 → h < 2 → l' < 2 → l < 2 → mark h' h l' l ≡ (if same_letter (pad_letter (letter_of l h ∷ [])) (letter_of l' h') then 0 else 1)
+mark_is : (h' h l' l : ℕ) → h' < 2 → h < 2 → l' < 2 → l < 2
+    → mark h' h l' l ≡ (if same_letter (pad_letter (letter_of l h ∷ [])) (letter_of l' h') then 0 else 1)
 mark_is h' h l' l small_h' small_h small_l' small_l =
     let a = bit_again h' small_h' in
     let b = bit_again h small_h in
@@ -212,22 +242,30 @@ later_pair w i =
     ap (λ n. bit_at n i) twice ∙ halved (w / 2) i ∙ halved w (i + 1) ∙ ap (bit_at w) next
 
 pub needed_bit : (low high i : ℕ) → low < 2 ^ 64 → high < 2 ^ 64 → i < 64
-    → bit_at (bit_or (bit_or (bit_xor (high / 2) high) (bit_and (low / 2) (bit_not w64 (high / 2)))) (bit_and (high / 2) (bit_xor (low / 2) low))) i
+    → bit_at (bit_or (bit_or (bit_xor (high / 2) high) (bit_and (low / 2) (bit_not w64 (high / 2))))
+    (bit_and (high / 2) (bit_xor (low / 2) low))) i
     ≡ (if is_spare_above low high i then 0 else 1)
 needed_bit low high i small_low small_high inside =
     let h = halved high i in
     let l = halved low i in
-    let other : bit_at (bit_xor (high / 2) high) i ≡ (bit_at high (i + 1) + bit_at high i) % 2 = bit_at_xor (high / 2) high i ∙ ap (λ n. (n + bit_at high i) % 2) h in
-    let one : bit_at (bit_and (low / 2) (bit_not w64 (high / 2))) i ≡ min (bit_at low (i + 1)) (1 - bit_at high (i + 1)) =
+    let other : bit_at (bit_xor (high / 2) high) i ≡ (bit_at high (i + 1) + bit_at high i) % 2 =
+    bit_at_xor (high / 2) high i ∙ ap (λ n. (n + bit_at high i) % 2) h in
+    let one : bit_at (bit_and (low / 2) (bit_not w64 (high / 2))) i
+    ≡ min (bit_at low (i + 1)) (1 - bit_at high (i + 1)) =
     bit_at_and (low / 2) (bit_not w64 (high / 2)) i ∙ ap (λ n. min n (bit_at (bit_not w64 (high / 2)) i)) l
-    ∙ ap (min (bit_at low (i + 1))) (bit_at_not w64 (high / 2) i (omega (arith, small_high)) inside ∙ ap (λ n. 1 - n) h) in
-    let both : bit_at (bit_and (high / 2) (bit_xor (low / 2) low)) i ≡ min (bit_at high (i + 1)) ((bit_at low (i + 1) + bit_at low i) % 2) =
+    ∙ ap (min (bit_at low (i + 1))) (bit_at_not w64 (high / 2) i (omega (arith, small_high)) inside
+    ∙ ap (λ n. 1 - n) h) in
+    let both : bit_at (bit_and (high / 2) (bit_xor (low / 2) low)) i
+    ≡ min (bit_at high (i + 1)) ((bit_at low (i + 1) + bit_at low i) % 2) =
     bit_at_and (high / 2) (bit_xor (low / 2) low) i ∙ ap (λ n. min n (bit_at (bit_xor (low / 2) low) i)) h
     ∙ ap (min (bit_at high (i + 1))) (bit_at_xor (low / 2) low i ∙ ap (λ n. (n + bit_at low i) % 2) l) in
-    bit_at_or (bit_or (bit_xor (high / 2) high) (bit_and (low / 2) (bit_not w64 (high / 2)))) (bit_and (high / 2) (bit_xor (low / 2) low)) i
-    ∙ ap (λ n. max n (bit_at (bit_and (high / 2) (bit_xor (low / 2) low)) i)) (bit_at_or (bit_xor (high / 2) high) (bit_and (low / 2) (bit_not w64 (high / 2))) i)
+    bit_at_or (bit_or (bit_xor (high / 2) high) (bit_and (low / 2) (bit_not w64 (high / 2))))
+    (bit_and (high / 2) (bit_xor (low / 2) low)) i
+    ∙ ap (λ n. max n (bit_at (bit_and (high / 2) (bit_xor (low / 2) low)) i))
+    (bit_at_or (bit_xor (high / 2) high) (bit_and (low / 2) (bit_not w64 (high / 2))) i)
     ∙ (λ p. max (max (other p) (one p)) (both p))
-    ∙ mark_is (bit_at high (i + 1)) (bit_at high i) (bit_at low (i + 1)) (bit_at low i) (bit_at-lt _ _) (bit_at-lt _ _) (bit_at-lt _ _) (bit_at-lt _ _)
+    ∙ mark_is (bit_at high (i + 1)) (bit_at high i) (bit_at low (i + 1)) (bit_at low i) (bit_at-lt _ _) (bit_at-lt _ _)
+    (bit_at-lt _ _) (bit_at-lt _ _)
 
 -- ---- the highest set bit
 
@@ -239,8 +277,15 @@ record HasLength (m n : ℕ) : Type 0 where
 
 has_length : (m : ℕ) → m < 2 ^ 64 → (n : ℕ) × HasLength m n
 has_length m small =
-    let length = leading_length 64 m small in
-    (length.0, record { counted = length.1; top = by length.0 length.2 length.3; above = λ i past. bit_at_above m length.0 i length.2 past })
+    let length = leading_length 64 m small in (
+      length.0,
+      record {
+        counted = length.1;
+        top = by length.0 length.2 length.3;
+        above =
+            λ i past. bit_at_above m length.0 i length.2 past;
+      },
+    )
   where
     by : (n : ℕ) → m < 2 ^ n → 2 ^ n ≤ 2 * m + 1 → 1 ≤ n → bit_at m (n - 1) ≡ 1
     by zero below from some = absurd (omega arith)
@@ -250,7 +295,8 @@ has_length m small =
         let parts : m ≡ 1 * 2 ^ j + rest = omega (arith, half) in
         let last : suc j - 1 ≡ j = omega arith in
         let none : j - j ≡ 0 = omega arith in
-        ap (bit_at m) last ∙ ap (λ n. bit_at n j) parts ∙ bit_at_cat_high 1 j rest j (omega (arith, half)) (omega arith) ∙ ap (bit_at 1) none
+        ap (bit_at m) last ∙ ap (λ n. bit_at n j) parts ∙ bit_at_cat_high 1 j rest j (omega (arith, half)) (omega arith)
+        ∙ ap (bit_at 1) none
 
 -- what the leading zeros tell of the letters that are left
 pub record IsKept (count low high kept : ℕ) : Type 0 where
@@ -279,8 +325,20 @@ kept_is count low high marks mask least most fits is_mask tells =
     let masked : (i : ℕ) → bit_at m i ≡ min (bit_at marks i) (bit_at (2 ^ (count - 1) - 1) i) = λ i.
     bit_at_and marks mask i ∙ ap (λ w. min (bit_at marks i) (bit_at w i)) is_mask in
     let both : 1 ≤ n → (bit_at marks (n - 1) ≡ 1) × (bit_at (2 ^ (count - 1) - 1) (n - 1) ≡ 1) = λ some. (
-      omega (arith, masked (n - 1), length.1.top some, bit_at-lt marks (n - 1), bit_at-lt (2 ^ (count - 1) - 1) (n - 1)),
-      omega (arith, masked (n - 1), length.1.top some, bit_at-lt marks (n - 1), bit_at-lt (2 ^ (count - 1) - 1) (n - 1)),
+      omega (
+        arith,
+        masked (n - 1),
+        length.1.top some,
+        bit_at-lt marks (n - 1),
+        bit_at-lt (2 ^ (count - 1) - 1) (n - 1),
+      ),
+      omega (
+        arith,
+        masked (n - 1),
+        length.1.top some,
+        bit_at-lt marks (n - 1),
+        bit_at-lt (2 ^ (count - 1) - 1) (n - 1),
+      ),
     ) in
     record {
       least = omega (arith, kept);
@@ -298,5 +356,6 @@ kept_is count low high marks mask least most fits is_mask tells =
       needed = λ some.
           let place : 65 - count_leading_zeros 64 m - 2 ≡ n - 1 = omega (arith, kept) in
           let one = (both (omega (arith, kept))).0 in
-          ap (is_spare_above low high) place ∙ needed_where_one _ _ (tells (n - 1) (omega (arith, length.1.counted))) one;
+          ap (is_spare_above low high) place
+          ∙ needed_where_one _ _ (tells (n - 1) (omega (arith, length.1.counted))) one;
     }

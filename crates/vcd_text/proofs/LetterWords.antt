@@ -1,5 +1,8 @@
--- Letters that are read 64 at a time, from the last: what one letter more makes of a word, and eight more, and one word more of a row.
-use Rattle.std.proofs.Common.{◌≡◌, ◌≢◌, ℕ, zero, suc, ◌+◌, ◌-◌, ◌*◌, ◌/◌, ◌%◌, ◌<◌, ◌≤◌, Bool, true, false, if◌then◌else◌, ◌&&◌, List, [], ◌∷◌, ◌++◌, length, take, drop, replicate, get_or, refl, sym, ap, subst, ◌∙◌, arith, inl, inr, add-one}
+-- Letters that are read 64 at a time, from the last: what one letter more makes of a word, and eight more, and one word
+-- more of a row.
+use Rattle.std.proofs.Common.{◌≡◌, ◌≢◌, ℕ, zero, suc, ◌+◌, ◌-◌, ◌*◌, ◌/◌, ◌%◌, ◌<◌, ◌≤◌, Bool, true, false}
+use Rattle.std.proofs.Common.{if◌then◌else◌, ◌&&◌, List, [], ◌∷◌, ◌++◌, length, take, drop, replicate, get_or, refl}
+use Rattle.std.proofs.Common.{sym, ap, subst, ◌∙◌, arith, inl, inr, add-one}
 use Rattle.std.specs.Prelude.{unwrap_or}
 use Rattle.std.specs.List.{list_all}
 use Rattle.std.specs.Int.{bit_at}
@@ -7,7 +10,10 @@ use Rattle.std.specs.Simd.{first_chunks}
 use Rattle.std.proofs.Math.Seq.{take-add}
 use Rattle.std.proofs.Math.ListN.{set}
 use Rattle.std.proofs.lemmas.Bool.{cases_lt, cases_eq, lt-ltb, le-ltb, and_from}
-use Rattle.std.proofs.lemmas.List.{get_or-take, get_or-drop, get_or_append_left, get_or-append_right, get_or-replicate, get_or-set_same, get_or-set_other, length-append, length-take-le, length-drop, length-map, length-replicate, take-map, drop-map, map-append, take-append-drop, drop-drop}
+use Rattle.std.proofs.lemmas.List.{get_or-take, get_or-drop, get_or_append_left, get_or-append_right, get_or-replicate}
+use Rattle.std.proofs.lemmas.List.{get_or-set_same, get_or-set_other, length-append, length-take-le, length-drop}
+use Rattle.std.proofs.lemmas.List.{length-map, length-replicate, take-map, drop-map, map-append, take-append-drop}
+use Rattle.std.proofs.lemmas.List.{drop-drop}
 use Rattle.std.proofs.lemmas.List.Folds.{drop_split, list_all-append}
 use Rattle.vcd_core.specs.declared.bit.Bit.{Bit}
 use Rattle.vcd_core.specs.declared.bit.Bit.TheVariants.{X}
@@ -45,7 +51,8 @@ other_letter pad s b i =
     ]
 
 -- words of one letter hold no others
-pub none_held : (pad : Bit) (low high : ℕ) → ((i : ℕ) → i < 64 → bit_at low i ≡ low_of pad) → ((i : ℕ) → i < 64 → bit_at high i ≡ high_of pad)
+pub none_held : (pad : Bit) (low high : ℕ) → ((i : ℕ) → i < 64 → bit_at low i ≡ low_of pad)
+    → ((i : ℕ) → i < 64 → bit_at high i ≡ high_of pad)
     → HoldsLetters pad [] low high
 none_held pad low high lows highs = record {
   low = λ i inside. lows i inside ∙ sym (ap low_of (past_text pad [] i (omega arith)));
@@ -79,18 +86,22 @@ pub adds_one : (b : Bit) (low high low' high' : ℕ)
     → bit_at low' 0 ≡ low_of b → ((i : ℕ) → i + 1 < 64 → bit_at low' (i + 1) ≡ bit_at low i)
     → bit_at high' 0 ≡ high_of b → ((i : ℕ) → i + 1 < 64 → bit_at high' (i + 1) ≡ bit_at high i)
     → AddsLetters (b ∷ []) low high low' high'
-adds_one b low high low' high' first rest first' rest' = λ pad s holds. holds_more pad s b low high low' high' holds first rest first' rest'
+adds_one b low high low' high' first rest first' rest' =
+    λ pad s holds. holds_more pad s b low high low' high' holds first rest first' rest'
 
 -- eight digits of those in eights
-pub eight_at : (count i : ℕ) (digits : List ℕ) → i < count → get_or (first_chunks 8 count digits) i [] ≡ take 8 (drop (8 * i) digits)
+pub eight_at : (count i : ℕ) (digits : List ℕ) → i < count
+    → get_or (first_chunks 8 count digits) i [] ≡ take 8 (drop (8 * i) digits)
 eight_at zero i digits within = absurd (omega arith)
 eight_at (suc count) zero digits within = refl
 eight_at (suc count) (suc i) digits within =
     let place : 8 + 8 * i ≡ 8 * suc i = omega arith in
-    eight_at count i (drop 8 digits) (omega arith) ∙ ap (take 8) (drop-drop (8 * i) 8 digits ∙ ap (λ n. drop n digits) place)
+    eight_at count i (drop 8 digits) (omega arith)
+    ∙ ap (take 8) (drop-drop (8 * i) 8 digits ∙ ap (λ n. drop n digits) place)
 
 -- the digits up to eight, and these
-pub eight_more : (digits : List ℕ) (i : ℕ) → take (8 * i) digits ++ take 8 (drop (8 * i) digits) ≡ take (8 * (i + 1)) digits
+pub eight_more : (digits : List ℕ) (i : ℕ)
+    → take (8 * i) digits ++ take 8 (drop (8 * i) digits) ≡ take (8 * (i + 1)) digits
 eight_more digits i =
     let place : 8 * i + 8 ≡ 8 * (i + 1) = omega arith in
     sym (take-add (8 * i) 8 digits) ∙ ap (λ n. take n digits) place
@@ -100,10 +111,12 @@ pub holds_both : (pad : Bit) (front back all : List ℕ) (low high low' high' : 
     → HoldsLetters pad (letters_of_digits front) low high → AddsLetters (letters_of_digits back) low high low' high'
     → HoldsLetters pad (letters_of_digits all) low' high'
 holds_both pad front back all low high low' high' whole holds adds =
-    subst (λ t. HoldsLetters pad t low' high') (sym (map-append (λ b. unwrap_or (letter_of_digit b) X) front back) ∙ ap letters_of_digits whole)
+    subst (λ t. HoldsLetters pad t low' high') (sym (map-append (λ b. unwrap_or (letter_of_digit b) X) front back)
+    ∙ ap letters_of_digits whole)
     (adds pad (letters_of_digits front) holds)
 
-pub both_are_digits : (front back all : List ℕ) → front ++ back ≡ all → list_all is_binary_digit front ≡ true → list_all is_binary_digit back ≡ true
+pub both_are_digits : (front back all : List ℕ) → front ++ back ≡ all → list_all is_binary_digit front ≡ true
+    → list_all is_binary_digit back ≡ true
     → list_all is_binary_digit all ≡ true
 both_are_digits front back all whole first second =
     ap (list_all is_binary_digit) (sym whole) ∙ list_all-append is_binary_digit front back ∙ and_from _ _ first second
@@ -116,29 +129,36 @@ pub record RowsHold (pad : Bit) (s : List Bit) (count : ℕ) (lows highs : List 
   pub high : (i : ℕ) → i < 64 * count → row_bit highs i ≡ high_of (letter_or pad s i)
 
 -- the letters of a word are those of the text
-part_letter : (pad : Bit) (digits : List ℕ) (k i : ℕ) → i < 64 → letter_or pad (letters_of_digits (digits_of digits k)) i ≡ letter_or pad (letters_of_digits digits) (64 * k + i)
+part_letter : (pad : Bit) (digits : List ℕ) (k i : ℕ) → i < 64
+    → letter_or pad (letters_of_digits (digits_of digits k)) i ≡ letter_or pad (letters_of_digits digits) (64 * k + i)
 part_letter pad digits k i inside =
     let end : ℕ = length digits - 64 * k in
     let from : ℕ = end - 64 in
     let s = letters_of_digits digits in
     let all : length s ≡ length digits = length-map digits (λ b. unwrap_or (letter_of_digit b) X) in
     let part : letters_of_digits (digits_of digits k) ≡ take (end - from) (drop from s) =
-    sym (ap (take (end - from)) (drop-map (λ b. unwrap_or (letter_of_digit b) X) from digits) ∙ take-map (λ b. unwrap_or (letter_of_digit b) X) (end - from) (drop from digits)) in
-    let long : length (take (end - from) (drop from s)) ≡ end - from = length-take-le (end - from) (drop from s) (omega (arith, all, length-drop from s)) in
+    sym (ap (take (end - from)) (drop-map (λ b. unwrap_or (letter_of_digit b) X) from digits)
+    ∙ take-map (λ b. unwrap_or (letter_of_digit b) X) (end - from) (drop from digits)) in
+    let long : length (take (end - from) (drop from s)) ≡ end - from =
+    length-take-le (end - from) (drop from s) (omega (arith, all, length-drop from s)) in
     ap (λ l. letter_or pad l i) part ∙ elim (cases_lt i (end - from)) [
       | inl within ↦
           let place : length (take (end - from) (drop from s)) - 1 - i ≡ end - from - 1 - i = omega (arith, long) in
           let at : from + (end - from - 1 - i) ≡ length s - 1 - (64 * k + i) = omega (arith, all) in
-          in_text pad (take (end - from) (drop from s)) i (omega (arith, long)) ∙ ap (λ n. get_or (take (end - from) (drop from s)) n X) place
-          ∙ get_or-take (end - from) (drop from s) (end - from - 1 - i) X (omega arith) ∙ get_or-drop from s (end - from - 1 - i) X
+          in_text pad (take (end - from) (drop from s)) i (omega (arith, long))
+          ∙ ap (λ n. get_or (take (end - from) (drop from s)) n X) place
+          ∙ get_or-take (end - from) (drop from s) (end - from - 1 - i) X (omega arith)
+          ∙ get_or-drop from s (end - from - 1 - i) X
           ∙ ap (λ n. get_or s n X) at ∙ sym (in_text pad s (64 * k + i) (omega (arith, all)))
-      | inr past ↦ past_text pad (take (end - from) (drop from s)) i (omega (arith, long)) ∙ sym (past_text pad s (64 * k + i) (omega (arith, all)))
+      | inr past ↦ past_text pad (take (end - from) (drop from s)) i (omega (arith, long))
+          ∙ sym (past_text pad s (64 * k + i) (omega (arith, all)))
     ]
 
 -- a row with a word written
 row_with : (words : List ℕ) (k w i : ℕ) → k < length words → i / 64 ≡ k → row_bit (set words k w) i ≡ bit_at w (i % 64)
 unfolding row_bit
-row_with words k w i within here = ap (λ n. bit_at (get_or (set words k w) n 0) (i % 64)) here ∙ ap (λ n. bit_at n (i % 64)) (get_or-set_same words k w 0 within)
+row_with words k w i within here = ap (λ n. bit_at (get_or (set words k w) n 0) (i % 64)) here
+    ∙ ap (λ n. bit_at n (i % 64)) (get_or-set_same words k w 0 within)
 
 row_without : (words : List ℕ) (k w i : ℕ) → i / 64 ≢ k → row_bit (set words k w) i ≡ row_bit words i
 unfolding row_bit
@@ -158,7 +178,8 @@ one_row f pad digits words k w within before word i below =
     ]
 
 pub rows_more : (pad : Bit) (digits lows highs : List ℕ) (k low high : ℕ) → k < length lows → k < length highs
-    → RowsHold pad (letters_of_digits digits) k lows highs → HoldsLetters pad (letters_of_digits (digits_of digits k)) low high
+    → RowsHold pad (letters_of_digits digits) k lows highs
+    → HoldsLetters pad (letters_of_digits (digits_of digits k)) low high
     → RowsHold pad (letters_of_digits digits) (k + 1) (set lows k low) (set highs k high)
 rows_more pad digits lows highs k low high within within' rows word = record {
   low = one_row low_of pad digits lows k low within rows.low word.low;
@@ -169,30 +190,37 @@ rows_more pad digits lows highs k low high within within' rows word = record {
 
 -- those of one word more
 pub letters_more : (digits : List ℕ) (k : ℕ) → list_all is_binary_digit (drop (length digits - 64 * k) digits) ≡ true
-    → list_all is_binary_digit (digits_of digits k) ≡ true → list_all is_binary_digit (drop (length digits - 64 * (k + 1)) digits) ≡ true
+    → list_all is_binary_digit (digits_of digits k) ≡ true
+    → list_all is_binary_digit (drop (length digits - 64 * (k + 1)) digits) ≡ true
 letters_more digits k following here =
     let end : ℕ = length digits - 64 * k in
     let start : length digits - 64 * (k + 1) ≡ end - 64 = omega arith in
-    ap (λ n. list_all is_binary_digit (drop n digits)) start ∙ ap (list_all is_binary_digit) (drop_split digits (end - 64) end (omega arith))
+    ap (λ n. list_all is_binary_digit (drop n digits)) start
+    ∙ ap (list_all is_binary_digit) (drop_split digits (end - 64) end (omega arith))
     ∙ list_all-append is_binary_digit (digits_of digits k) (drop end digits) ∙ and_from _ _ here following
 
 -- where not all behind a place, or before it, are, not all are
-pub not_all_after : (n : ℕ) (digits : List ℕ) → list_all is_binary_digit (drop n digits) ≡ false → list_all is_binary_digit digits ≡ false
+pub not_all_after : (n : ℕ) (digits : List ℕ) → list_all is_binary_digit (drop n digits) ≡ false
+    → list_all is_binary_digit digits ≡ false
 not_all_after n digits none =
-    ap (list_all is_binary_digit) (sym (take-append-drop n digits)) ∙ list_all-append is_binary_digit (take n digits) (drop n digits)
+    ap (list_all is_binary_digit) (sym (take-append-drop n digits))
+    ∙ list_all-append is_binary_digit (take n digits) (drop n digits)
     ∙ ap (λ b. list_all is_binary_digit (take n digits) && b) none ∙ no_both (list_all is_binary_digit (take n digits))
   where
     no_both : (b : Bool) → (b && false) ≡ false
     no_both true = refl
     no_both false = refl
 
-pub not_all_before : (n : ℕ) (digits : List ℕ) → list_all is_binary_digit (take n digits) ≡ false → list_all is_binary_digit digits ≡ false
+pub not_all_before : (n : ℕ) (digits : List ℕ) → list_all is_binary_digit (take n digits) ≡ false
+    → list_all is_binary_digit digits ≡ false
 not_all_before n digits none =
-    ap (list_all is_binary_digit) (sym (take-append-drop n digits)) ∙ list_all-append is_binary_digit (take n digits) (drop n digits)
+    ap (list_all is_binary_digit) (sym (take-append-drop n digits))
+    ∙ list_all-append is_binary_digit (take n digits) (drop n digits)
     ∙ ap (λ b. b && list_all is_binary_digit (drop n digits)) none
 
 -- where one of a word is none, not all are
-pub no_letter : (digits : List ℕ) (k : ℕ) → list_all is_binary_digit (digits_of digits k) ≡ false → list_all is_binary_digit digits ≡ false
+pub no_letter : (digits : List ℕ) (k : ℕ) → list_all is_binary_digit (digits_of digits k) ≡ false
+    → list_all is_binary_digit digits ≡ false
 no_letter digits k none =
     let end : ℕ = length digits - 64 * k in
     not_all_after (end - 64) digits (not_all_before (end - (end - 64)) (drop (end - 64) digits) none)
@@ -200,7 +228,8 @@ no_letter digits k none =
 -- ---- all words
 
 -- the letter at a bit of an extension
-extension_letter : (width : ℕ) (s : List Bit) (i : ℕ) → length s ≤ width → i < width → letter_at (extension width s) i ≡ letter_or (pad_letter s) s i
+extension_letter : (width : ℕ) (s : List Bit) (i : ℕ) → length s ≤ width → i < width
+    → letter_at (extension width s) i ≡ letter_or (pad_letter s) s i
 extension_letter width s i fits inside =
     let pad = pad_letter s in
     let pads = replicate (width - length s) pad in
@@ -210,9 +239,11 @@ extension_letter width s i fits inside =
     ap (λ n. get_or (pads ++ s) n X) place ∙ elim (cases_lt i (length s)) [
       | inl within ↦
           let at : width - 1 - i - (width - length s) ≡ length s - 1 - i = omega arith in
-          get_or-append_right pads s (width - length s) (width - 1 - i) X front (omega arith) ∙ ap (λ n. get_or s n X) at ∙ sym (in_text pad s i within)
+          get_or-append_right pads s (width - length s) (width - 1 - i) X front (omega arith)
+          ∙ ap (λ n. get_or s n X) at ∙ sym (in_text pad s i within)
       | inr past ↦
-          get_or_append_left pads s X (width - 1 - i) (omega (arith, front)) ∙ get_or-replicate (width - length s) (width - 1 - i) pad X (omega arith)
+          get_or_append_left pads s X (width - 1 - i) (omega (arith, front))
+          ∙ get_or-replicate (width - length s) (width - 1 - i) pad X (omega arith)
           ∙ sym (past_text pad s i past)
     ]
 

@@ -9,17 +9,21 @@ use Rattle.vcd_text.specs.inside.ChangeLog.{logged_letters, value_after_changes,
 use Rattle.vcd_text.specs.declared.reading.change_log.LoggedChange.{LoggedChange}
 
 value_after_changes-more : (width t : ℕ) (before : List Bit) (es : List LoggedChange) (e : LoggedChange)
-    → value_after_changes width t before (es ++ e ∷ []) ≡ (if nat_le e.tick t then logged_letters width e else value_after_changes width t before es)
+    → value_after_changes width t before (es ++ e ∷ [])
+    ≡ (if nat_le e.tick t then logged_letters width e else value_after_changes width t before es)
 value_after_changes-more width t before [] e = refl
-value_after_changes-more width t before (d ∷ es) e = value_after_changes-more width t (if nat_le d.tick t then logged_letters width d else before) es e
+value_after_changes-more width t before (d ∷ es) e =
+    value_after_changes-more width t (if nat_le d.tick t then logged_letters width d else before) es e
 
 -- ---- ticks
 
-rises_further : (floor early late : ℕ) (es : List LoggedChange) → early ≤ late → RisesTo floor early es → RisesTo floor late es
+rises_further : (floor early late : ℕ) (es : List LoggedChange) → early ≤ late → RisesTo floor early es
+    → RisesTo floor late es
 rises_further floor early late [] later rises = omega (arith, later, rises)
 rises_further floor early late (e ∷ es) later (from, rises) = (from, rises_further e.tick early late es later rises)
 
-rises_more : (floor tick : ℕ) (es : List LoggedChange) (e : LoggedChange) → e.tick ≡ tick → RisesTo floor tick es → RisesTo floor tick (es ++ e ∷ [])
+rises_more : (floor tick : ℕ) (es : List LoggedChange) (e : LoggedChange) → e.tick ≡ tick → RisesTo floor tick es
+    → RisesTo floor tick (es ++ e ∷ [])
 rises_more floor tick [] e at rises = (omega (arith, at, rises), omega (arith, at))
 rises_more floor tick (d ∷ es) e at (from, rises) = (from, rises_more d.tick tick es e at rises)
 
@@ -27,39 +31,58 @@ rises_past : (floor tick : ℕ) (es : List LoggedChange) → RisesTo floor tick 
 rises_past floor tick [] rises = rises
 rises_past floor tick (e ∷ es) (from, rises) = omega (arith, from, rises_past e.tick tick es rises)
 
-ends_later : (cs : List Change) (early late : ℕ) → early ≤ late → All (λ (c : Change). c.tick ≤ early) cs → All (λ (c : Change). c.tick ≤ late) cs
-ends_later cs early late later ended = All-weaker (λ (c : Change). c.tick ≤ early) (λ (c : Change). c.tick ≤ late) (λ c le. omega (arith, le, later)) cs ended
+ends_later : (cs : List Change) (early late : ℕ) → early ≤ late → All (λ (c : Change). c.tick ≤ early) cs
+    → All (λ (c : Change). c.tick ≤ late) cs
+ends_later cs early late later ended =
+    All-weaker (λ (c : Change). c.tick ≤ early) (λ (c : Change). c.tick ≤ late) (λ c le. omega (arith, le, later)) cs
+    ended
 
 module _ (width tick : ℕ) (f : ℕ → List Bit) (cs : List Change) where
   -- ---- a wave with what stands behind it
 
   -- no change of the wave is past the tick
-  pub gives_late : (es : List LoggedChange) → GivesLoggedValues width tick f cs es → All (λ (c : Change). c.tick ≤ tick) cs
+  pub gives_late : (es : List LoggedChange) → GivesLoggedValues width tick f cs es
+      → All (λ (c : Change). c.tick ≤ tick) cs
   gives_late es g = ends_later cs g.floor tick (rises_past g.floor tick es g.rises) g.ticks
 
   -- the tick may be a later one
-  pub gives_further : (late : ℕ) (es : List LoggedChange) → tick ≤ late → GivesLoggedValues width tick f cs es → GivesLoggedValues width late f cs es
-  gives_further late es later g = record { floor = g.floor; ticks = g.ticks; rises = rises_further g.floor tick late es later g.rises; narrow = g.narrow; values = g.values }
+  pub gives_further : (late : ℕ) (es : List LoggedChange) → tick ≤ late → GivesLoggedValues width tick f cs es
+      → GivesLoggedValues width late f cs es
+  gives_further late es later g =
+      record {
+        floor = g.floor;
+        ticks = g.ticks;
+        rises = rises_further g.floor tick late es later g.rises;
+        narrow =
+            g.narrow;
+        values = g.values;
+      }
 
-  pub gives_as : (g : ℕ → List Bit) (es : List LoggedChange) → ((t : ℕ) → f t ≡ g t) → GivesLoggedValues width tick f cs es → GivesLoggedValues width tick g cs es
-  gives_as g es same h = record { floor = h.floor; ticks = h.ticks; rises = h.rises; narrow = h.narrow; values = λ t. h.values t ∙ same t }
+  pub gives_as : (g : ℕ → List Bit) (es : List LoggedChange) → ((t : ℕ) → f t ≡ g t)
+      → GivesLoggedValues width tick f cs es → GivesLoggedValues width tick g cs es
+  gives_as g es same h =
+      record { floor = h.floor; ticks = h.ticks; rises = h.rises; narrow = h.narrow; values = λ t. h.values t ∙ same t }
 
   -- ---- a change more
 
   -- one that is put behind the others in the log
-  pub gives_appended : (v : List Bit) (es : List LoggedChange) (e : LoggedChange) → e.tick ≡ tick → width ≤ 64 → logged_letters width e ≡ v → GivesLoggedValues width tick f cs es
+  pub gives_appended : (v : List Bit) (es : List LoggedChange) (e : LoggedChange) → e.tick ≡ tick → width ≤ 64
+      → logged_letters width e ≡ v → GivesLoggedValues width tick f cs es
       → GivesLoggedValues width tick (λ t. if nat_le tick t then v else f t) cs (es ++ e ∷ [])
   gives_appended v es e at narrow letters g = record {
     floor = g.floor;
     ticks = g.ticks;
     rises = rises_more g.floor tick es e at g.rises;
     narrow = λ _. narrow;
-    values = λ t. value_after_changes-more width t (value_at width cs t) es e ∙ (λ i. if nat_le (at i) t then letters i else g.values t i);
+    values = λ t. value_after_changes-more width t (value_at width cs t) es e
+        ∙ (λ i. if nat_le (at i) t then letters i else g.values t i);
   }
 
   -- one that a wide wave takes
-  pub gives_pushed : (v : List Bit) (ds : List Change) (es : List LoggedChange) → 64 < width → All (λ (c : Change). c.tick ≤ tick) ds
-      → ((t : ℕ) → value_at width ds t ≡ (if nat_le tick t then v else value_at width cs t)) → GivesLoggedValues width tick f cs es
+  pub gives_pushed : (v : List Bit) (ds : List Change) (es : List LoggedChange) → 64 < width
+      → All (λ (c : Change). c.tick ≤ tick) ds
+      → ((t : ℕ) → value_at width ds t ≡ (if nat_le tick t then v else value_at width cs t))
+      → GivesLoggedValues width tick f cs es
       → GivesLoggedValues width tick (λ t. if nat_le tick t then v else f t) ds es
   gives_pushed v ds [] wide ended values g = record {
     floor = tick;
@@ -68,19 +91,23 @@ module _ (width tick : ℕ) (f : ℕ → List Bit) (cs : List Change) where
     narrow = λ some. absurd (omega (arith, some));
     values = λ t. values t ∙ ap (λ b. if nat_le tick t then v else b) (g.values t);
   }
-  gives_pushed v ds (e ∷ es) wide ended values g = let narrow : width ≤ 64 = g.narrow (omega arith) in absurd (omega (arith, wide, narrow))
+  gives_pushed v ds (e ∷ es) wide ended values g = let narrow : width ≤ 64 = g.narrow (omega arith) in
+      absurd (omega (arith, wide, narrow))
 
   -- ---- a change of the log less
 
   -- the wave can take the first change of the log
-  pub gives_narrow : (e : LoggedChange) (es : List LoggedChange) → GivesLoggedValues width tick f cs (e ∷ es) → width ≤ 64
+  pub gives_narrow : (e : LoggedChange) (es : List LoggedChange) → GivesLoggedValues width tick f cs (e ∷ es)
+      → width ≤ 64
   gives_narrow e es g = g.narrow (omega arith)
 
-  pub gives_first : (e : LoggedChange) (es : List LoggedChange) → GivesLoggedValues width tick f cs (e ∷ es) → All (λ (c : Change). c.tick ≤ e.tick) cs
+  pub gives_first : (e : LoggedChange) (es : List LoggedChange) → GivesLoggedValues width tick f cs (e ∷ es)
+      → All (λ (c : Change). c.tick ≤ e.tick) cs
   gives_first e es g = ends_later cs g.floor e.tick g.rises.0 g.ticks
 
   -- and has it then
-  pub gives_flushed : (ds : List Change) (e : LoggedChange) (es : List LoggedChange) → All (λ (c : Change). c.tick ≤ e.tick) ds
+  pub gives_flushed : (ds : List Change) (e : LoggedChange) (es : List LoggedChange)
+      → All (λ (c : Change). c.tick ≤ e.tick) ds
       → ((t : ℕ) → value_at width ds t ≡ (if nat_le e.tick t then logged_letters width e else value_at width cs t))
       → GivesLoggedValues width tick f cs (e ∷ es) → GivesLoggedValues width tick f ds es
   gives_flushed ds e es ended values g = record {

@@ -6,14 +6,16 @@ use Rattle.vcd_core.specs.Wave.{value_from, AreChangesFrom}
 use Rattle.vcd_core.proofs.Waves.{value_past, value_early}
 
 -- a change is at the floor or past it
-pub from_floor : (floor : ℕ) (before : List Bit) (cs : List Change) (k : ℕ) (d : Change) → AreChangesFrom floor before cs → k < length cs → floor ≤ (get_or cs k d).tick
+pub from_floor : (floor : ℕ) (before : List Bit) (cs : List Change) (k : ℕ) (d : Change)
+    → AreChangesFrom floor before cs → k < length cs → floor ≤ (get_or cs k d).tick
 from_floor floor before [] k d rise inside = absurd (omega arith)
 from_floor floor before (c ∷ cs) zero d (from, other, wide, rest) inside = from
 from_floor floor before (c ∷ cs) (suc k) d (from, other, wide, rest) inside =
     let later = from_floor (c.tick + 1) c.value cs k d rest (omega arith) in
     omega arith
 
-pub value_standing : (floor : ℕ) (before : List Bit) (cs : List Change) (k t : ℕ) (d : Change) → AreChangesFrom floor before cs → k < length cs → (get_or cs k d).tick ≡ t
+pub value_standing : (floor : ℕ) (before : List Bit) (cs : List Change) (k t : ℕ) (d : Change)
+    → AreChangesFrom floor before cs → k < length cs → (get_or cs k d).tick ≡ t
     → value_from before cs t ≡ (get_or cs k d).value
 value_standing floor before [] k t d rise inside at = absurd (omega arith)
 value_standing floor before (c ∷ cs) zero t d (from, other, wide, rest) inside at =

@@ -1,5 +1,6 @@
 -- Decimal numbers up to a greatest one.
-use Rattle.std.proofs.Common.{◌≡◌, ℕ, cond, min, Bool, true, false, List, Option, Some, None, MatchOption, refl, sym, subst}
+use Rattle.std.proofs.Common.{◌≡◌, ℕ, cond, min, Bool, true, false, List, Option, Some, None, MatchOption, refl, sym}
+use Rattle.std.proofs.Common.{subst}
 use Rattle.vcd_core.specs.Decimal.{is_number, number_of, number_up_to}
 
 cases_of_test : (b : Bool) (n : ℕ) → MatchOption (cond b (Some n) None) (b ≡ false) (λ m. (b ≡ true) × (m ≡ n))
@@ -10,5 +11,6 @@ cases_of_test false n = refl
 pub number_cases : (text : List ℕ) (most : ℕ) (r : Option ℕ) → r ≡ number_up_to text most
     → MatchOption r (is_number text ≡ false) (λ n. (is_number text ≡ true) × (n ≡ min (number_of text) most))
 number_cases text most r is =
-    subst (λ o. MatchOption o (is_number text ≡ false) (λ n. (is_number text ≡ true) × (n ≡ min (number_of text) most))) (sym is)
+    subst (λ o. MatchOption o (is_number text ≡ false) (λ n. (is_number text ≡ true) × (n ≡ min (number_of text) most)))
+    (sym is)
     (cases_of_test (is_number text) (min (number_of text) most))

@@ -1,15 +1,18 @@
 -- A file has one answer: what it means, or its one fault with the line.
-use Rattle.std.proofs.Common.{◌≡◌, ℕ, zero, suc, Bool, true, false, List, [], ◌∷◌, ◌++◌, length, drop, refl, sym, ap, subst, ◌∙◌, append_assoc, arith}
+use Rattle.std.proofs.Common.{◌≡◌, ℕ, zero, suc, Bool, true, false, List, [], ◌∷◌, ◌++◌, length, drop, refl, sym, ap}
+use Rattle.std.proofs.Common.{subst, ◌∙◌, append_assoc, arith}
 use Rattle.std.proofs.lemmas.List.{append-nil, drop_at, length-append, length-map, map-append}
 use Rattle.std.proofs.lemmas.Bool.{true≢false}
 use Rattle.vcd_core.specs.Contents.{Contents}
 use Rattle.vcd_text.specs.declared.fault.Fault.{Fault}
 use Rattle.vcd_text.specs.Words.{PlacedWord, words_of}
 use Rattle.vcd_text.specs.Items.{Item, spelling, spellings}
-use Rattle.vcd_text.specs.Grammar.{ParseState, AllowsAll, Accepts, state_after, state_after_item, initial_state, word_texts}
+use Rattle.vcd_text.specs.Grammar.{ParseState, AllowsAll, Accepts, state_after, state_after_item, initial_state}
+use Rattle.vcd_text.specs.Grammar.{word_texts}
 use Rattle.vcd_text.specs.Faults.{ShowsFault, Stops, FileFault, shown, too_early, fault_line}
 use Rattle.vcd_text.specs.Meaning.{FileMeans, meaning, skipped_count}
-use Rattle.vcd_text.proofs.FrontItem.{Front, whole, faulty, unfinished, ended, front_of, front_at, whole_front, fault_front, unfinished_front, place_of}
+use Rattle.vcd_text.proofs.FrontItem.{Front, whole, faulty, unfinished, ended, front_of, front_at, whole_front}
+use Rattle.vcd_text.proofs.FrontItem.{fault_front, unfinished_front, place_of}
 
 abbrev IsLast : Front → Type 0
 IsLast (whole i rest) = ⊥
@@ -30,19 +33,25 @@ rest_of unfinished = []
 rest_of ended = []
 
 -- two readings of the same words have the same items and end at the same word
-same_end : (c : ParseState) (is js : List Item) (r s : List (List ℕ)) → spellings is ++ r ≡ spellings js ++ s → AllowsAll c is → AllowsAll c js
+same_end : (c : ParseState) (is js : List Item) (r s : List (List ℕ)) → spellings is ++ r ≡ spellings js ++ s
+    → AllowsAll c is → AllowsAll c js
     → IsLast (front_of (state_after c is) r) → IsLast (front_of (state_after c js) s) → (is ≡ js) × (r ≡ s)
 same_end c [] [] r s e a b p q = (refl, e)
 same_end c [] (j ∷ js) r s e a b p q =
-    absurd (subst IsLast (ap (front_of c) (e ∙ append_assoc (spelling j) (spellings js) s) ∙ whole_front c j (spellings js ++ s) b.0) p)
+    absurd (subst IsLast (ap (front_of c) (e ∙ append_assoc (spelling j) (spellings js) s)
+    ∙ whole_front c j (spellings js ++ s) b.0) p)
 same_end c (i ∷ is) [] r s e a b p q =
-    absurd (subst IsLast (ap (front_of c) (sym e ∙ append_assoc (spelling i) (spellings is) r) ∙ whole_front c i (spellings is ++ r) a.0) q)
+    absurd (subst IsLast (ap (front_of c) (sym e ∙ append_assoc (spelling i) (spellings is) r)
+    ∙ whole_front c i (spellings is ++ r) a.0) q)
 same_end c (i ∷ is) (j ∷ js) r s e a b p q =
     let f : whole i (spellings is ++ r) ≡ whole j (spellings js ++ s) =
-    sym (whole_front c i (spellings is ++ r) a.0) ∙ ap (front_of c) (sym (append_assoc (spelling i) (spellings is) r) ∙ e ∙ append_assoc (spelling j) (spellings js) s)
+    sym (whole_front c i (spellings is ++ r) a.0)
+    ∙ ap (front_of c) (sym (append_assoc (spelling i) (spellings is) r) ∙ e
+    ∙ append_assoc (spelling j) (spellings js) s)
     ∙ whole_front c j (spellings js ++ s) b.0 in
     let same : i ≡ j = ap (item_of i) f in
-    let further = same_end (state_after_item c i) is js r s (ap rest_of f) a.1 (subst (λ x. AllowsAll (state_after_item c x) js) (sym same) b.1) p
+    let further = same_end (state_after_item c i) is js r s (ap rest_of f) a.1
+    (subst (λ x. AllowsAll (state_after_item c x) js) (sym same) b.1) p
     (subst (λ x. IsLast (front_of (state_after (state_after_item c x) js) s)) (sym same) q) in
     (ap (λ x. x ∷ is) same ∙ ap (λ x. j ∷ x) further.0, further.1)
 
@@ -55,14 +64,17 @@ record Ends (words : List (List ℕ)) (told : ParseState) (rest : List (List ℕ
   shows : front_of told rest ≡ last
   is_last : IsLast last
 
-one_end : (words : List (List ℕ)) (c d : ParseState) (r s : List (List ℕ)) (f g : Front) → Ends words c r f → Ends words d s g → (c ≡ d) × (r ≡ s) × (f ≡ g)
+one_end : (words : List (List ℕ)) (c d : ParseState) (r s : List (List ℕ)) (f g : Front) → Ends words c r f
+    → Ends words d s g → (c ≡ d) × (r ≡ s) × (f ≡ g)
 one_end words c d r s f g a b =
     let p = same_end initial_state a.items b.items r s (sym a.spelled ∙ b.spelled) a.allowed b.allowed
-    (subst IsLast (sym (ap (λ x. front_of x r) a.tells ∙ a.shows)) a.is_last) (subst IsLast (sym (ap (λ x. front_of x s) b.tells ∙ b.shows)) b.is_last) in
+    (subst IsLast (sym (ap (λ x. front_of x r) a.tells ∙ a.shows)) a.is_last)
+    (subst IsLast (sym (ap (λ x. front_of x s) b.tells ∙ b.shows)) b.is_last) in
     let told : c ≡ d = sym a.tells ∙ ap (state_after initial_state) p.0 ∙ b.tells in
     (told, p.1, sym a.shows ∙ ap (λ x. front_of x r) told ∙ ap (front_of d) p.1 ∙ b.shows)
 
-accepts_ends : (words : List PlacedWord) (told : ParseState) → Accepts words told → Ends (word_texts words) told [] ended
+accepts_ends : (words : List PlacedWord) (told : ParseState) → Accepts words told
+    → Ends (word_texts words) told [] ended
 accepts_ends words told a = record {
   items = a.items;
   spelled = a.spelled ∙ sym (append-nil (spellings a.items));
@@ -72,7 +84,8 @@ accepts_ends words told a = record {
   is_last = tt;
 }
 
-stops_ends : (words : List PlacedWord) (s : Stops words) → Ends (word_texts words) (state_after initial_state s.items) s.begun unfinished
+stops_ends : (words : List PlacedWord) (s : Stops words)
+    → Ends (word_texts words) (state_after initial_state s.items) s.begun unfinished
 stops_ends words s = record {
   items = s.items;
   spelled = s.spelled;
@@ -83,13 +96,17 @@ stops_ends words s = record {
 }
 
 refuses_ends : (words : List PlacedWord) (line : ℕ) (fault : Fault) (r : ShowsFault words line fault)
-    → Ends (word_texts words) (state_after initial_state r.items) (word_texts (r.begun ++ r.word ∷ r.more)) (faulty (place_of (state_after initial_state r.items).changing (word_texts r.begun)) fault)
+    → Ends (word_texts words) (state_after initial_state r.items) (word_texts (r.begun ++ r.word ∷ r.more))
+    (faulty (place_of (state_after initial_state r.items).changing (word_texts r.begun)) fault)
 refuses_ends words line fault r = record {
   items = r.items;
-  spelled = ap word_texts r.parts ∙ map-append _ r.whole (r.begun ++ r.word ∷ r.more) ∙ ap (λ x. x ++ word_texts (r.begun ++ r.word ∷ r.more)) r.spelled;
+  spelled = ap word_texts r.parts ∙ map-append _ r.whole (r.begun ++ r.word ∷ r.more)
+      ∙ ap (λ x. x ++ word_texts (r.begun ++ r.word ∷ r.more)) r.spelled;
   allowed = r.allowed;
   tells = refl;
-  shows = ap (front_of (state_after initial_state r.items)) (map-append _ r.begun (r.word ∷ r.more)) ∙ fault_front (state_after initial_state r.items) (word_texts r.begun) r.word.text fault (word_texts r.more) r.decided;
+  shows = ap (front_of (state_after initial_state r.items)) (map-append _ r.begun (r.word ∷ r.more))
+      ∙ fault_front (state_after initial_state r.items) (word_texts r.begun) r.word.text fault (word_texts r.more)
+      r.decided;
   is_last = tt;
 }
 
@@ -101,11 +118,13 @@ line_at [] place = 0
 line_at (w ∷ ws) zero = w.line
 line_at (w ∷ ws) (suc place) = line_at ws place
 
-line_after_begun : (begun : List PlacedWord) (word : PlacedWord) (more : List PlacedWord) → line_at (begun ++ word ∷ more) (length (word_texts begun)) ≡ word.line
+line_after_begun : (begun : List PlacedWord) (word : PlacedWord) (more : List PlacedWord)
+    → line_at (begun ++ word ∷ more) (length (word_texts begun)) ≡ word.line
 line_after_begun [] word more = refl
 line_after_begun (w ∷ begun) word more = line_after_begun begun word more
 
-line_replied : (changing : Bool) (begun : List PlacedWord) (word : PlacedWord) (more : List PlacedWord) → line_at (begun ++ word ∷ more) (place_of changing (word_texts begun)) ≡ fault_line changing begun word
+line_replied : (changing : Bool) (begun : List PlacedWord) (word : PlacedWord) (more : List PlacedWord)
+    → line_at (begun ++ word ∷ more) (place_of changing (word_texts begun)) ≡ fault_line changing begun word
 line_replied false begun word more = line_after_begun begun word more
 line_replied true [] word more = refl
 line_replied true (w ∷ begun) word more = refl
@@ -131,17 +150,24 @@ fault_in d ended = d
 -- ---- one answer for the words
 
 pub one_telling : (words : List PlacedWord) (a b : ParseState) → Accepts words a → Accepts words b → a ≡ b
-one_telling words a b p q = (one_end (word_texts words) a b [] [] ended ended (accepts_ends words a p) (accepts_ends words b q)).0
+one_telling words a b p q =
+    (one_end (word_texts words) a b [] [] ended ended (accepts_ends words a p) (accepts_ends words b q)).0
 
-pub one_fault : (words : List PlacedWord) (line other_line : ℕ) (fault other_fault : Fault) → ShowsFault words line fault → ShowsFault words other_line other_fault
+pub one_fault : (words : List PlacedWord) (line other_line : ℕ) (fault other_fault : Fault)
+    → ShowsFault words line fault → ShowsFault words other_line other_fault
     → (line ≡ other_line) × (fault ≡ other_fault)
 one_fault words line other_line fault other_fault p q =
-    let e = one_end (word_texts words) _ _ _ _ _ _ (refuses_ends words line fault p) (refuses_ends words other_line other_fault q) in
+    let e = one_end (word_texts words) _ _ _ _ _ _ (refuses_ends words line fault p)
+    (refuses_ends words other_line other_fault q) in
     let long : length (p.begun ++ p.word ∷ p.more) ≡ length (q.begun ++ q.word ∷ q.more) =
-    sym (length-map (p.begun ++ p.word ∷ p.more) (λ (w : PlacedWord). w.text)) ∙ ap length e.1 ∙ length-map (q.begun ++ q.word ∷ q.more) (λ (w : PlacedWord). w.text) in
-    let rests : p.begun ++ p.word ∷ p.more ≡ q.begun ++ q.word ∷ q.more = same_rest words p.whole q.whole _ _ p.parts q.parts long in (
-      p.at ∙ sym (line_replied _ p.begun p.word p.more) ∙ ap (λ x. line_at x (place_of (state_after initial_state p.items).changing (word_texts p.begun))) rests
-          ∙ ap (λ f. line_at (q.begun ++ q.word ∷ q.more) (place_in f)) e.2 ∙ line_replied _ q.begun q.word q.more ∙ sym q.at,
+    sym (length-map (p.begun ++ p.word ∷ p.more) (λ (w : PlacedWord). w.text)) ∙ ap length e.1
+    ∙ length-map (q.begun ++ q.word ∷ q.more) (λ (w : PlacedWord). w.text) in
+    let rests : p.begun ++ p.word ∷ p.more ≡ q.begun ++ q.word ∷ q.more =
+    same_rest words p.whole q.whole _ _ p.parts q.parts long in (
+      p.at ∙ sym (line_replied _ p.begun p.word p.more)
+          ∙ ap (λ x. line_at x (place_of (state_after initial_state p.items).changing (word_texts p.begun))) rests
+          ∙ ap (λ f. line_at (q.begun ++ q.word ∷ q.more) (place_in f)) e.2 ∙ line_replied _ q.begun q.word q.more
+          ∙ sym q.at,
       ap (fault_in fault) e.2,
     )
 
@@ -157,31 +183,42 @@ is_unfinished (faulty place fault) = false
 is_unfinished unfinished = true
 is_unfinished ended = false
 
-pub accepted-not_refused : (words : List PlacedWord) (told : ParseState) (line : ℕ) (fault : Fault) → Accepts words told → ShowsFault words line fault → ⊥
+pub accepted-not_refused : (words : List PlacedWord) (told : ParseState) (line : ℕ) (fault : Fault) → Accepts words told
+    → ShowsFault words line fault → ⊥
 accepted-not_refused words told line fault p q =
-    true≢false (ap is_ended (one_end (word_texts words) _ _ _ _ _ _ (accepts_ends words told p) (refuses_ends words line fault q)).2)
+    true≢false (ap is_ended
+    (one_end (word_texts words) _ _ _ _ _ _ (accepts_ends words told p) (refuses_ends words line fault q)).2)
 
 pub accepted-not_stopped : (words : List PlacedWord) (told : ParseState) → Accepts words told → Stops words → ⊥
-accepted-not_stopped words told p q = true≢false (ap is_ended (one_end (word_texts words) _ _ _ _ _ _ (accepts_ends words told p) (stops_ends words q)).2)
+accepted-not_stopped words told p q =
+    true≢false (ap is_ended (one_end (word_texts words) _ _ _ _ _ _ (accepts_ends words told p) (stops_ends words q)).2)
 
-pub stopped-not_refused : (words : List PlacedWord) (line : ℕ) (fault : Fault) → Stops words → ShowsFault words line fault → ⊥
+pub stopped-not_refused : (words : List PlacedWord) (line : ℕ) (fault : Fault) → Stops words
+    → ShowsFault words line fault → ⊥
 stopped-not_refused words line fault p q =
-    true≢false (ap is_unfinished (one_end (word_texts words) _ _ _ _ _ _ (stops_ends words p) (refuses_ends words line fault q)).2)
+    true≢false (ap is_unfinished
+    (one_end (word_texts words) _ _ _ _ _ _ (stops_ends words p) (refuses_ends words line fault q)).2)
 
 -- ---- one answer for a file
 
-pub one_meaning : (bytes : List ℕ) (c d : Contents) (m n : ℕ) → FileMeans bytes c m → FileMeans bytes d n → (c ≡ d) × (m ≡ n)
+pub one_meaning : (bytes : List ℕ) (c d : Contents) (m n : ℕ) → FileMeans bytes c m → FileMeans bytes d n
+    → (c ≡ d) × (m ≡ n)
 one_meaning bytes c d m n p q =
     let e = one_telling (words_of bytes) p.told q.told p.accepted q.accepted in
     (p.means ∙ ap meaning e ∙ sym q.means, p.left_out ∙ ap skipped_count e ∙ sym q.left_out)
 
-pub one_file_fault : (bytes : List ℕ) (line other_line : ℕ) (fault other_fault : Fault) → FileFault bytes line fault → FileFault bytes other_line other_fault
+pub one_file_fault : (bytes : List ℕ) (line other_line : ℕ) (fault other_fault : Fault) → FileFault bytes line fault
+    → FileFault bytes other_line other_fault
     → (line ≡ other_line) × (fault ≡ other_fault)
-one_file_fault bytes line other_line fault other_fault (shown p) (shown q) = one_fault (words_of bytes) line other_line fault other_fault p q
-one_file_fault bytes line other_line fault other_fault (shown p) (too_early q l f) = absurd (stopped-not_refused (words_of bytes) line fault q p)
-one_file_fault bytes line other_line fault other_fault (too_early p l f) (shown q) = absurd (stopped-not_refused (words_of bytes) other_line other_fault p q)
+one_file_fault bytes line other_line fault other_fault (shown p) (shown q) =
+    one_fault (words_of bytes) line other_line fault other_fault p q
+one_file_fault bytes line other_line fault other_fault (shown p) (too_early q l f) =
+    absurd (stopped-not_refused (words_of bytes) line fault q p)
+one_file_fault bytes line other_line fault other_fault (too_early p l f) (shown q) =
+    absurd (stopped-not_refused (words_of bytes) other_line other_fault p q)
 one_file_fault bytes line other_line fault other_fault (too_early p l f) (too_early q m g) = (l ∙ sym m, f ∙ sym g)
 
-pub meaning-no_fault : (bytes : List ℕ) (c : Contents) (n line : ℕ) (fault : Fault) → FileMeans bytes c n → FileFault bytes line fault → ⊥
+pub meaning-no_fault : (bytes : List ℕ) (c : Contents) (n line : ℕ) (fault : Fault) → FileMeans bytes c n
+    → FileFault bytes line fault → ⊥
 meaning-no_fault bytes c n line fault p (shown q) = accepted-not_refused (words_of bytes) p.told line fault p.accepted q
 meaning-no_fault bytes c n line fault p (too_early q l f) = accepted-not_stopped (words_of bytes) p.told p.accepted q

@@ -1,5 +1,6 @@
 -- Signals that get the scopes of their places.
-use Rattle.std.proofs.Common.{◌≡◌, ℕ, zero, suc, ◌+◌, ◌<◌, List, [], ◌∷◌, ◌++◌, length, take, drop, map, set, get_or, refl, sym, ap, ◌∙◌, arith}
+use Rattle.std.proofs.Common.{◌≡◌, ℕ, zero, suc, ◌+◌, ◌<◌, List, [], ◌∷◌, ◌++◌, length, take, drop, map, set, get_or}
+use Rattle.std.proofs.Common.{refl, sym, ap, ◌∙◌, arith}
 use Rattle.std.specs.Prelude.{slice_get}
 use Rattle.std.proofs.lemmas.List.{length-map, map-set, get_or-map, take-append-le, take_all}
 use Rattle.vcd_core.specs.declared.capture.ScopeName.{ScopeName}
@@ -22,18 +23,24 @@ module _ (chains : List (List ScopeName)) where
 
   -- and gets the scopes of its place
   one_placed : (ss : List SignalContents) (ps : List ScopePlace) (k : ℕ) (d : SignalContents) → k < length ss
-      → set (with_places chains (take k ss) ps ++ drop k ss) k (record (get_or ss k d) { scopes = scopes_of chains (slice_get ps k) })
+      → set (with_places chains (take k ss) ps ++ drop k ss) k
+      (record (get_or ss k d) { scopes = scopes_of chains (slice_get ps k) })
       ≡ with_places chains (take (suc k) ss) ps ++ drop (suc k) ss
   one_placed [] ps k d within = absurd (omega (arith, within))
   one_placed (s ∷ ss) [] zero d within = refl
   one_placed (s ∷ ss) (p ∷ ps) zero d within = refl
-  one_placed (s ∷ ss) [] (suc k) d within = ap (λ l. record s { scopes = [] } ∷ l) (one_placed ss [] k d (omega (arith, within)))
-  one_placed (s ∷ ss) (p ∷ ps) (suc k) d within = ap (λ l. record s { scopes = scopes_at chains p } ∷ l) (one_placed ss ps k d (omega (arith, within)))
+  one_placed (s ∷ ss) [] (suc k) d within =
+      ap (λ l. record s { scopes = [] } ∷ l) (one_placed ss [] k d (omega (arith, within)))
+  one_placed (s ∷ ss) (p ∷ ps) (suc k) d within =
+      ap (λ l. record s { scopes = scopes_at chains p } ∷ l) (one_placed ss ps k d (omega (arith, within)))
 
-  pub next_placed : (ps : List ScopePlace) (old now : List Signal) (k : ℕ) (item : Signal) (path : List ScopeName) → k < length old → k < length now
-      → map signal_contents now ≡ with_places chains (take k (map signal_contents old)) ps ++ drop k (map signal_contents old)
+  pub next_placed : (ps : List ScopePlace) (old now : List Signal) (k : ℕ) (item : Signal) (path : List ScopeName)
+      → k < length old → k < length now
+      → map signal_contents now ≡ with_places chains (take k (map signal_contents old)) ps
+      ++ drop k (map signal_contents old)
       → path ≡ scopes_of chains (slice_get ps k)
-      → map signal_contents (set now k (record (get_or now k item) { scopes = path })) ≡ with_places chains (take (k + 1) (map signal_contents old)) ps ++ drop (k + 1) (map signal_contents old)
+      → map signal_contents (set now k (record (get_or now k item) { scopes = path }))
+      ≡ with_places chains (take (k + 1) (map signal_contents old)) ps ++ drop (k + 1) (map signal_contents old)
   next_placed ps old now k item path within inside told given =
       let ss : List SignalContents = map signal_contents old in
       let d : SignalContents = signal_contents item in
@@ -49,7 +56,8 @@ module _ (chains : List (List ScopeName)) where
   -- so they are the signals that are declared
   pub as_declared : (value_changes : List ValueChange) (tick : ℕ) (ps : List ScopePlace) (ds : List VariableDeclaration)
       → map (scopes_at chains) ps ≡ map (λ (d : VariableDeclaration). d.scopes) ds
-      → with_places chains (map (declared_signal value_changes tick) (map without_scopes ds)) ps ≡ map (declared_signal value_changes tick) ds
+      → with_places chains (map (declared_signal value_changes tick) (map without_scopes ds)) ps
+      ≡ map (declared_signal value_changes tick) ds
   as_declared value_changes tick ps [] same = refl
   as_declared value_changes tick [] (d ∷ ds) same = absurd (omega (arith, ap (length {A = List ScopeName}) same))
   as_declared value_changes tick (p ∷ ps) (d ∷ ds) same =
@@ -59,4 +67,5 @@ module _ (chains : List (List ScopeName)) where
 
 -- what a slice leaves in its list, where it is the whole list
 pub all_signals : (n : ℕ) (new old : List Signal) → n ≡ length new → take n (new ++ drop (length new) old) ≡ new
-all_signals n new old all = take-append-le n new (drop (length new) old) (omega (arith, all)) ∙ take_all n new (omega (arith, all))
+all_signals n new old all = take-append-le n new (drop (length new) old) (omega (arith, all))
+    ∙ take_all n new (omega (arith, all))

@@ -1,5 +1,6 @@
 -- A printed value is read as the value that was written.
-use Rattle.std.proofs.Common.{◌≡◌, ℕ, ◌+◌, ◌-◌, ◌<◌, ◌≤◌, Bool, true, false, not, cond, if◌then◌else◌, ◌&&◌, nat_le, List, [], ◌∷◌, ◌++◌, length, replicate, All, refl, ap, ◌∙◌, arith, Some, None}
+use Rattle.std.proofs.Common.{◌≡◌, ℕ, ◌+◌, ◌-◌, ◌<◌, ◌≤◌, Bool, true, false, not, cond, if◌then◌else◌, ◌&&◌, nat_le}
+use Rattle.std.proofs.Common.{List, [], ◌∷◌, ◌++◌, length, replicate, All, refl, ap, ◌∙◌, arith, Some, None}
 use Rattle.std.specs.Prelude.{find, unwrap_or, is_some}
 use Rattle.std.specs.List.{list_all}
 use Rattle.std.proofs.lemmas.Bool.{ne_eqb}
@@ -11,7 +12,8 @@ use Rattle.vcd_core.specs.declared.wave.Change.{Change}
 use Rattle.vcd_core.specs.Value.{all_x, same_letters, printed_letter}
 use Rattle.vcd_core.specs.Wave.{value_from, value_at, AreChangesFrom, IsWave}
 use Rattle.vcd_core.specs.inside.ValueLaws.{same_letters-Decides}
-use Rattle.vcd_text.specs.Letters.{is_binary_digit, letter_of_digit, letters_of_digits, printed_letters, pad_letter, extension, suffixes, short_form}
+use Rattle.vcd_text.specs.Letters.{is_binary_digit, letter_of_digit, letters_of_digits, printed_letters, pad_letter}
+use Rattle.vcd_text.specs.Letters.{extension, suffixes, short_form}
 use Rattle.vcd_text.specs.Grammar.{is_binary_number}
 
 -- ---- letters
@@ -31,7 +33,8 @@ all_letters [] = refl
 all_letters (b ∷ s) = λ i. is_some (letter_back b i) && all_letters s i
 
 pub printed_is_value : (s : List Bit) → 0 < length s → is_binary_number (printed_letters s) ≡ true
-printed_is_value s some = λ i. not (ne_eqb (length (printed_letters s)) 0 (omega (arith, length-map s printed_letter)) i) && all_letters s i
+printed_is_value s some =
+    λ i. not (ne_eqb (length (printed_letters s)) 0 (omega (arith, length-map s printed_letter)) i) && all_letters s i
 
 -- ---- the short form
 
@@ -40,12 +43,14 @@ found_passes : {A : Type 0} (p : A → Bool) (ys : List A) (x : A) → p x ≡ t
 found_passes p [] x passes = passes
 found_passes p (y ∷ ys) x passes = choose (p y) refl (found_passes p ys x passes)
   where
-    choose : (b : Bool) → p y ≡ b → p (unwrap_or (find p ys) x) ≡ true → p (unwrap_or (cond b (Some y) (find p ys)) x) ≡ true
+    choose : (b : Bool) → p y ≡ b → p (unwrap_or (find p ys) x) ≡ true
+        → p (unwrap_or (cond b (Some y) (find p ys)) x) ≡ true
     choose true here following = here
     choose false here following = following
 
 -- what is found has what all have, or the other has it
-found_has : {A : Type 0} (P : A → Type 0) (p : A → Bool) (ys : List A) (x : A) → All P ys → P x → P (unwrap_or (find p ys) x)
+found_has : {A : Type 0} (P : A → Type 0) (p : A → Bool) (ys : List A) (x : A) → All P ys → P x
+    → P (unwrap_or (find p ys) x)
 found_has P p [] x all has = has
 found_has P p (y ∷ ys) x all has = choose (p y) (found_has P p ys x (All-tail P y ys all) has)
   where
@@ -59,7 +64,8 @@ IsWithin width s = (0 < length s) × (length s ≤ width)
 
 suffixes_within : (width : ℕ) (v : List Bit) → length v ≤ width → All (IsWithin width) (suffixes v)
 suffixes_within width [] le = All-nil (IsWithin width)
-suffixes_within width (b ∷ s) le = All-push (IsWithin width) (suffixes s) (b ∷ s) (suffixes_within width s (omega arith)) (omega arith, le)
+suffixes_within width (b ∷ s) le =
+    All-push (IsWithin width) (suffixes s) (b ∷ s) (suffixes_within width s (omega arith)) (omega arith, le)
 
 -- a value is its own extension
 ext_itself : (v : List Bit) → extension (length v) v ≡ v
@@ -70,12 +76,15 @@ pub ext-short : (v : List Bit) → extension (length v) (short_form v) ≡ v
 unfolding short_form
 ext-short v =
     (same_letters-Decides (extension (length v) (short_form v)) v).0
-    (found_passes (λ s. same_letters (extension (length v) s) v) (suffixes v) v ((same_letters-Decides (extension (length v) v) v).1 (ext_itself v)))
+    (found_passes (λ s. same_letters (extension (length v) s) v) (suffixes v) v
+    ((same_letters-Decides (extension (length v) v) v).1 (ext_itself v)))
 
 -- the short form of a value has a letter, and no more than the value
 pub short_within : (v : List Bit) → 0 < length v → (0 < length (short_form v)) × (length (short_form v) ≤ length v)
 unfolding short_form
-short_within v some = found_has (IsWithin (length v)) (λ s. same_letters (extension (length v) s) v) (suffixes v) v (suffixes_within (length v) v (omega arith)) (some, omega arith)
+short_within v some =
+    found_has (IsWithin (length v)) (λ s. same_letters (extension (length v) s) v) (suffixes v) v
+    (suffixes_within (length v) v (omega arith)) (some, omega arith)
 
 -- that of one letter is itself
 pub short_one : (b : Bit) → short_form (b ∷ []) ≡ b ∷ []
@@ -89,16 +98,19 @@ short_one b = one (same_letters (extension 1 (b ∷ [])) (b ∷ []))
 -- ---- the width
 
 -- each value of a wave has its width
-wide_from : (width floor t : ℕ) (kept before : List Bit) (cs : List Change) → AreChangesFrom floor kept cs → length kept ≡ width → length before ≡ width
+wide_from : (width floor t : ℕ) (kept before : List Bit) (cs : List Change) → AreChangesFrom floor kept cs
+    → length kept ≡ width → length before ≡ width
     → length (value_from before cs t) ≡ width
 unfolding value_from
 wide_from width floor t kept before [] rise long wide = wide
 wide_from width floor t kept before (c ∷ cs) (from, other, same, rest) long wide =
-    wide_from width (c.tick + 1) t c.value (if nat_le c.tick t then c.value else before) cs rest (same ∙ long) (choose (nat_le c.tick t))
+    wide_from width (c.tick + 1) t c.value (if nat_le c.tick t then c.value else before) cs rest (same
+    ∙ long) (choose (nat_le c.tick t))
   where
     choose : (b : Bool) → length (if b then c.value else before) ≡ width
     choose true = same ∙ long
     choose false = wide
 
 pub length-value_at : (width t : ℕ) (cs : List Change) → IsWave width cs → length (value_at width cs t) ≡ width
-length-value_at width t cs is = wide_from width 0 t (all_x width) (all_x width) cs is.rise (length-replicate width X) (length-replicate width X)
+length-value_at width t cs is =
+    wide_from width 0 t (all_x width) (all_x width) cs is.rise (length-replicate width X) (length-replicate width X)

@@ -1,5 +1,7 @@
 -- From one path of scopes to another: the scopes past the shared front are closed, and the further ones opened.
-use Rattle.std.proofs.Common.{◌≡◌, ◌≤◌, ◌+◌, ◌-◌, ◌∙◌, ℕ, zero, suc, true, false, not, List, [], ◌∷◌, ◌++◌, map, length, take, drop, replicate, refl, sym, ap, ap₂, subst, arith, one-add, append_assoc, append-nil, Option}
+use Rattle.std.proofs.Common.{◌≡◌, ◌≤◌, ◌+◌, ◌-◌, ◌∙◌, ℕ, zero, suc, true, false, not, List, [], ◌∷◌, ◌++◌, map, length}
+use Rattle.std.proofs.Common.{take, drop, replicate, refl, sym, ap, ap₂, subst, arith, one-add, append_assoc}
+use Rattle.std.proofs.Common.{append-nil, Option}
 use Rattle.std.specs.List.{list_all, common_prefix_len}
 use Rattle.std.specs.Cmp.Lexicographic.{pointwise, pointwise_decides}
 use Rattle.std.specs.Str.{bytes_eq}
@@ -22,73 +24,102 @@ use Rattle.vcd_text.proofs.ItemsInTurn.{Leads, leads_none, leads_first, leads_bo
 -- what has been told in the middle of the declarations
 abbrev pub declaring : List Header → Option Timescale → List ScopeName → List VariableDeclaration → ParseState
 declaring header timescale scopes declared =
-    record { header = header; timescale = timescale; scopes = scopes; declared = declared; changing = false; value_changes = []; tick = 0 }
+    record {
+      header = header;
+      timescale = timescale;
+      scopes = scopes;
+      declared = declared;
+      changing = false;
+      value_changes = [];
+      tick = 0;
+    }
 
 -- scopes that compare as the same are one
 same_scope_is : (a b : ScopeName) → same_scope a b ≡ true → a ≡ b
 same_scope_is a b same =
-    let parts : (bytes_eq a.kind b.kind ≡ true) × (pointwise bytes_eq a.words b.words ≡ true) = and_parts (bytes_eq a.kind b.kind) (pointwise bytes_eq a.words b.words) same in
+    let parts : (bytes_eq a.kind b.kind ≡ true) × (pointwise bytes_eq a.words b.words ≡ true) =
+    and_parts (bytes_eq a.kind b.kind) (pointwise bytes_eq a.words b.words) same in
     let kind : a.kind ≡ b.kind = (bytes_eq-Decides a.kind b.kind).0 parts.0 in
     let words : a.words ≡ b.words = (pointwise_decides bytes_eq-Decides a.words b.words).0 parts.1 in
     λ i. record { kind = kind i; words = words i }
 
 -- the front that two paths share is a front of both
-shared_front : (xs ys : List ScopeName) → take (common_prefix_len same_scope xs ys) xs ≡ take (common_prefix_len same_scope xs ys) ys
+shared_front : (xs ys : List ScopeName)
+    → take (common_prefix_len same_scope xs ys) xs ≡ take (common_prefix_len same_scope xs ys) ys
 shared_front [] [] = refl
 shared_front [] (y ∷ ys) = refl
 shared_front (x ∷ xs) [] = refl
 shared_front (x ∷ xs) (y ∷ ys) =
     cond_both (same_scope x y) (1 + common_prefix_len same_scope xs ys) 0 (λ n. take n (x ∷ xs) ≡ take n (y ∷ ys))
-    (λ same. subst (λ n. take n (x ∷ xs) ≡ take n (y ∷ ys)) (sym (one-add (common_prefix_len same_scope xs ys))) (ap₂ (λ s l. s ∷ l) (same_scope_is x y same) (shared_front xs ys)))
+    (λ same. subst (λ n. take n (x ∷ xs) ≡ take n (y ∷ ys)) (sym (one-add (common_prefix_len same_scope xs ys)))
+    (ap₂ (λ s l. s ∷ l) (same_scope_is x y same) (shared_front xs ys)))
     (λ other. refl)
 
 -- the scopes from a place on are sound
-later_scopes : (n : ℕ) (path : List ScopeName) → list_all is_sound_scope path ≡ true → list_all is_sound_scope (drop n path) ≡ true
+later_scopes : (n : ℕ) (path : List ScopeName) → list_all is_sound_scope path ≡ true
+    → list_all is_sound_scope (drop n path) ≡ true
 later_scopes zero [] sound = refl
 later_scopes (suc n) [] sound = refl
 later_scopes zero (s ∷ path) sound = sound
-later_scopes (suc n) (s ∷ path) sound = later_scopes n path (and_parts (is_sound_scope s) (list_all is_sound_scope path) sound).1
+later_scopes (suc n) (s ∷ path) sound =
+    later_scopes n path (and_parts (is_sound_scope s) (list_all is_sound_scope path) sound).1
 
 -- words are not `$end`
 pub words_have_no_end : (ws : List (List ℕ)) → list_all is_word ws ≡ true → has_no_end_word ws ≡ true
-words_have_no_end ws words = all_weaker is_word (λ word. not (is_end_word word)) (λ w word. (and_parts _ (not (is_end_word w)) word).1) ws words
+words_have_no_end ws words =
+    all_weaker is_word (λ word. not (is_end_word word)) (λ w word. (and_parts _ (not (is_end_word w)) word).1) ws words
 
 -- the scopes past the front of a path are closed, the innermost first
-scopes_closed : (h : List Header) (t : Option Timescale) (opened : List ScopeName) (ds : List VariableDeclaration) (n : ℕ) → n ≤ length opened
+scopes_closed : (h : List Header) (t : Option Timescale) (opened : List ScopeName) (ds : List VariableDeclaration)
+    (n : ℕ) → n ≤ length opened
     → Leads (declaring h t opened ds) (replicate n upscope) (declaring h t (take (length opened - n) opened) ds)
 scopes_closed h t opened ds zero within =
     let all : length opened - 0 ≡ length opened = omega arith in
-    leads_same _ _ _ [] (leads_none (declaring h t opened ds)) (ap (λ s. declaring h t s ds) (sym (ap (λ m. take m opened) all ∙ take_all (length opened) opened (omega arith))))
+    leads_same _ _ _ [] (leads_none (declaring h t opened ds))
+    (ap (λ s. declaring h t s ds)
+    (sym (ap (λ m. take m opened) all ∙ take_all (length opened) opened (omega arith))))
 scopes_closed h t opened ds (suc n) within =
     let outer : List ScopeName = take (length opened - 1) opened in
     let one_less : length outer ≡ length opened - 1 = length-take-le (length opened - 1) opened (omega arith) in
     let left : length outer - n ≡ length opened - suc n = omega arith in
-    leads_first (declaring h t opened ds) (declaring h t (take (length opened - suc n) opened) ds) upscope (replicate n upscope) (refl, omega arith)
+    leads_first (declaring h t opened ds) (declaring h t (take (length opened - suc n) opened) ds) upscope
+    (replicate n upscope) (refl, omega arith)
     (leads_same (declaring h t outer ds) _ _ (replicate n upscope) (scopes_closed h t outer ds n (omega arith))
-    (ap (λ s. declaring h t s ds) (ap (λ m. take m outer) left ∙ take-take (length opened - suc n) (length opened - 1) opened (omega arith))))
+    (ap (λ s. declaring h t s ds) (ap (λ m. take m outer) left
+    ∙ take-take (length opened - suc n) (length opened - 1) opened (omega arith))))
 
 -- scopes are opened, the outermost first
-scopes_opened : (h : List Header) (t : Option Timescale) (front path : List ScopeName) (ds : List VariableDeclaration) → list_all is_sound_scope path ≡ true
+scopes_opened : (h : List Header) (t : Option Timescale) (front path : List ScopeName) (ds : List VariableDeclaration)
+    → list_all is_sound_scope path ≡ true
     → Leads (declaring h t front ds) (map (λ s. scope s.kind s.words) path) (declaring h t (front ++ path) ds)
-scopes_opened h t front [] ds sound = leads_same _ _ _ [] (leads_none (declaring h t front ds)) (ap (λ s. declaring h t s ds) (sym (append-nil front)))
+scopes_opened h t front [] ds sound =
+    leads_same _ _ _ [] (leads_none (declaring h t front ds)) (ap (λ s. declaring h t s ds) (sym (append-nil front)))
 scopes_opened h t front (s ∷ path) ds sound =
-    let parts : (is_sound_scope s ≡ true) × (list_all is_sound_scope path ≡ true) = and_parts (is_sound_scope s) (list_all is_sound_scope path) sound in
-    leads_first (declaring h t front ds) (declaring h t (front ++ (s ∷ path)) ds) (scope s.kind s.words) (map (λ s. scope s.kind s.words) path) (refl, words_have_no_end (s.kind ∷ s.words) parts.0)
-    (leads_same (declaring h t (front ++ s ∷ []) ds) _ _ (map (λ s. scope s.kind s.words) path) (scopes_opened h t (front ++ s ∷ []) path ds parts.1)
+    let parts : (is_sound_scope s ≡ true) × (list_all is_sound_scope path ≡ true) =
+    and_parts (is_sound_scope s) (list_all is_sound_scope path) sound in
+    leads_first (declaring h t front ds) (declaring h t (front ++ (s ∷ path)) ds) (scope s.kind s.words)
+    (map (λ s. scope s.kind s.words) path) (refl, words_have_no_end (s.kind ∷ s.words) parts.0)
+    (leads_same (declaring h t (front ++ s ∷ []) ds) _ _ (map (λ s. scope s.kind s.words) path)
+    (scopes_opened h t (front ++ s ∷ []) path ds parts.1)
     (ap (λ s. declaring h t s ds) (append_assoc front (s ∷ []) path)))
 
 -- from one path to another
-pub scopes_lead : (h : List Header) (t : Option Timescale) (opened path : List ScopeName) (ds : List VariableDeclaration) → list_all is_sound_scope path ≡ true
+pub scopes_lead : (h : List Header) (t : Option Timescale) (opened path : List ScopeName)
+    (ds : List VariableDeclaration) → list_all is_sound_scope path ≡ true
     → Leads (declaring h t opened ds) (scope_items opened path) (declaring h t path ds)
 scopes_lead h t opened path ds sound =
     let shared : ℕ = common_prefix_len same_scope opened path in
     let within : shared ≤ length opened = (common_prefix_len-le same_scope opened path).0 in
     let kept : length opened - (length opened - shared) ≡ shared = omega arith in
     let front : List ScopeName = take shared path in
-    let reached : take (length opened - (length opened - shared)) opened ≡ front = ap (λ m. take m opened) kept ∙ shared_front opened path in
-    leads_both (declaring h t opened ds) (declaring h t front ds) (declaring h t path ds) (replicate (length opened - shared) upscope) (map (λ s. scope s.kind s.words) (drop shared path))
-    (leads_same _ _ _ _ (scopes_closed h t opened ds (length opened - shared) (omega arith)) (ap (λ s. declaring h t s ds) reached))
-    (leads_same _ _ _ _ (scopes_opened h t front (drop shared path) ds (later_scopes shared path sound)) (ap (λ s. declaring h t s ds) (take-append-drop shared path)))
+    let reached : take (length opened - (length opened - shared)) opened ≡ front = ap (λ m. take m opened) kept
+    ∙ shared_front opened path in
+    leads_both (declaring h t opened ds) (declaring h t front ds) (declaring h t path ds)
+    (replicate (length opened - shared) upscope) (map (λ s. scope s.kind s.words) (drop shared path))
+    (leads_same _ _ _ _ (scopes_closed h t opened ds (length opened - shared) (omega arith))
+    (ap (λ s. declaring h t s ds) reached))
+    (leads_same _ _ _ _ (scopes_opened h t front (drop shared path) ds (later_scopes shared path sound))
+    (ap (λ s. declaring h t s ds) (take-append-drop shared path)))
 
 -- all scopes are closed
 pub scopes_end : (h : List Header) (t : Option Timescale) (opened : List ScopeName) (ds : List VariableDeclaration)
@@ -96,4 +127,5 @@ pub scopes_end : (h : List Header) (t : Option Timescale) (opened : List ScopeNa
 scopes_end h t opened ds =
     let none : length opened - length opened ≡ 0 = omega arith in
     subst (λ is. Leads (declaring h t opened ds) is (declaring h t [] ds)) (sym (all_closed opened))
-    (leads_same _ _ _ _ (scopes_closed h t opened ds (length opened) (omega arith)) (ap (λ m. declaring h t (take m opened) ds) none))
+    (leads_same _ _ _ _ (scopes_closed h t opened ds (length opened) (omega arith))
+    (ap (λ m. declaring h t (take m opened) ds) none))

@@ -1,5 +1,6 @@
 -- Each place in a table is that of one code.
-use Rattle.std.proofs.Common.{◌≡◌, ◌⊎◌, inl, inr, ℕ, ◌+◌, ◌-◌, ◌*◌, ◌<◌, ◌≤◌, List, [], ◌∷◌, length, get_or, Option, Some, refl, ap, subst, ◌∙◌, arith}
+use Rattle.std.proofs.Common.{◌≡◌, ◌⊎◌, inl, inr, ℕ, ◌+◌, ◌-◌, ◌*◌, ◌<◌, ◌≤◌, List, [], ◌∷◌, length, get_or, Option}
+use Rattle.std.proofs.Common.{Some, refl, ap, subst, ◌∙◌, arith}
 use Rattle.std.specs.Prelude.{slice_get, codes}
 use Rattle.vcd_text.specs.declared.reading.variables.CodeTarget.{CodeTarget}
 use Rattle.vcd_text.specs.declared.reading.variables.CodeTarget.TheVariants.{Kept}
@@ -16,8 +17,10 @@ one_code (a ∷ xs) (b ∷ bs) place (some, few, (rest, following, is)) (some_b,
     λ i. first i ∷ others i
 
 -- the place of a code of three bytes
-pub place_of_three : (code : List ℕ) → 3 ≤ length code → length code < 4 → (x y z : ℕ) → x ≡ get_or code 0 0 → y ≡ get_or code 1 0 → z ≡ get_or code 2 0
-    → 0 < get_or code 0 0 → get_or code 0 0 < 128 → 0 < get_or code 1 0 → get_or code 1 0 < 128 → 0 < get_or code 2 0 → get_or code 2 0 < 128 → HasPlace code (x + 128 * (y + 128 * z))
+pub place_of_three : (code : List ℕ) → 3 ≤ length code → length code < 4 → (x y z : ℕ) → x ≡ get_or code 0 0
+    → y ≡ get_or code 1 0 → z ≡ get_or code 2 0
+    → 0 < get_or code 0 0 → get_or code 0 0 < 128 → 0 < get_or code 1 0 → get_or code 1 0 < 128 → 0 < get_or code 2 0
+    → get_or code 2 0 < 128 → HasPlace code (x + 128 * (y + 128 * z))
 place_of_three [] long short x y z p q r a b c d e f = absurd (omega arith)
 place_of_three (k ∷ []) long short x y z p q r a b c d e f = absurd (omega arith)
 place_of_three (k ∷ l ∷ []) long short x y z p q r a b c d e f = absurd (omega arith)
@@ -26,8 +29,10 @@ place_of_three (k ∷ l ∷ m ∷ []) long short x y z p q r a b c d e f =
 place_of_three (k ∷ l ∷ m ∷ n ∷ ns) long short x y z p q r a b c d e f = absurd (omega arith)
 
 -- a table that agrees still does with one more number
-pub agrees_more : (target : List ℕ → Option CodeTarget) (old new : List ℕ) (code : List ℕ) (place position : ℕ) → TableAgrees target old → HasPlace code place → target code ≡ Some (Kept position)
-    → ((i n : ℕ) → slice_get new i ≡ Some n → 0 < n → ((i ≡ place) × (n ≡ position + 1)) ⊎ (slice_get old i ≡ Some n)) → TableAgrees target new
+pub agrees_more : (target : List ℕ → Option CodeTarget) (old new : List ℕ) (code : List ℕ) (place position : ℕ)
+    → TableAgrees target old → HasPlace code place → target code ≡ Some (Kept position)
+    → ((i n : ℕ) → slice_get new i ≡ Some n → 0 < n → ((i ≡ place) × (n ≡ position + 1)) ⊎ (slice_get old i ≡ Some n))
+    → TableAgrees target new
 agrees_more target old new code place position agrees has owned puts other i n there at some =
     elim (puts i n at some) [
       | inl (same, number) ↦

@@ -1,5 +1,7 @@
 -- The short form of a value: a letter at the front is left out where it is what the extension puts there.
-use Rattle.std.proofs.Common.{◌≡◌, ℕ, zero, suc, ◌+◌, ◌-◌, ◌<◌, ◌≤◌, Bool, true, false, cond, ◌&&◌, List, [], ◌∷◌, ◌++◌, length, replicate, drop, get_or, refl, sym, ap, ◌∙◌, arith, Option, Some, None, ◌⊎◌, inl, inr}
+use Rattle.std.proofs.Common.{◌≡◌, ℕ, zero, suc, ◌+◌, ◌-◌, ◌<◌, ◌≤◌, Bool, true, false, cond, ◌&&◌, List, [], ◌∷◌, ◌++◌}
+use Rattle.std.proofs.Common.{length, replicate, drop, get_or, refl, sym, ap, ◌∙◌, arith, Option, Some, None, ◌⊎◌, inl}
+use Rattle.std.proofs.Common.{inr}
 use Rattle.std.specs.Prelude.{find, unwrap_or}
 use Rattle.std.specs.Option.{option_or}
 use Rattle.std.proofs.lemmas.Bool.{cases_lt}
@@ -49,7 +51,8 @@ same_pad b s t is = by (length (b ∷ s) - length t) ((same_letters-Decides (ext
         sym (pad_of_pad t) ∙ ap (λ a. pad_letter (a ∷ [])) first
 
 -- one letter more in front
-fits_more : (a b : Bit) (s t : List Bit) → length t ≤ length (b ∷ s) → fits (a ∷ b ∷ s) t ≡ (same_letter (pad_letter (b ∷ [])) a && fits (b ∷ s) t)
+fits_more : (a b : Bit) (s t : List Bit) → length t ≤ length (b ∷ s)
+    → fits (a ∷ b ∷ s) t ≡ (same_letter (pad_letter (b ∷ [])) a && fits (b ∷ s) t)
 fits_more a b s t within =
     let longer : suc (length (b ∷ s)) - length t ≡ suc (length (b ∷ s) - length t) = omega arith in
     ap (λ k. same_letters (replicate k (pad_letter t) ++ t) (a ∷ b ∷ s)) longer ∙ by (fits (b ∷ s) t) refl
@@ -58,22 +61,26 @@ fits_more a b s t within =
     never true = refl
     never false = refl
 
-    by : (r : Bool) → fits (b ∷ s) t ≡ r → (same_letter (pad_letter t) a && fits (b ∷ s) t) ≡ (same_letter (pad_letter (b ∷ [])) a && fits (b ∷ s) t)
+    by : (r : Bool) → fits (b ∷ s) t ≡ r
+        → (same_letter (pad_letter t) a && fits (b ∷ s) t) ≡ (same_letter (pad_letter (b ∷ [])) a && fits (b ∷ s) t)
     by true e = ap (λ p. same_letter p a && fits (b ∷ s) t) (same_pad b s t e)
-    by false e = ap (λ r. same_letter (pad_letter t) a && r) e ∙ never _ ∙ sym (ap (λ r. same_letter (pad_letter (b ∷ [])) a && r) e ∙ never _)
+    by false e = ap (λ r. same_letter (pad_letter t) a && r) e ∙ never _
+        ∙ sym (ap (λ r. same_letter (pad_letter (b ∷ [])) a && r) e ∙ never _)
 
 -- no text is longer than this
 abbrev NoLonger : ℕ → List (List Bit) → Type 0
 NoLonger n [] = Unit {0}
 NoLonger n (t ∷ ts) = (length t ≤ n) × NoLonger n ts
 
-one_more : (n m : ℕ) (ts : List (List Bit)) (t : List Bit) → n ≤ m → NoLonger n ts → length t ≤ m → NoLonger m (ts ++ t ∷ [])
+one_more : (n m : ℕ) (ts : List (List Bit)) (t : List Bit) → n ≤ m → NoLonger n ts → length t ≤ m
+    → NoLonger m (ts ++ t ∷ [])
 one_more n m [] t le all last = (last, tt)
 one_more n m (u ∷ ts) t le (first, rest) last = (omega arith, one_more n m ts t le rest last)
 
 no_suffix_longer : (w : List Bit) → NoLonger (length w) (suffixes w)
 no_suffix_longer [] = tt
-no_suffix_longer (b ∷ s) = one_more (length s) (suc (length s)) (suffixes s) (b ∷ s) (omega arith) (no_suffix_longer s) (omega arith)
+no_suffix_longer (b ∷ s) =
+    one_more (length s) (suc (length s)) (suffixes s) (b ∷ s) (omega arith) (no_suffix_longer s) (omega arith)
 
 -- the first text that fits behind one letter more: the same one where the letter is spare, else none
 find_more : (a b : Bit) (s : List Bit) (ts : List (List Bit)) → NoLonger (length (b ∷ s)) ts
@@ -88,7 +95,8 @@ find_more a b s (t ∷ ts) (first, rest) =
     ∙ ap (λ r. cond (same_letter (pad_letter (b ∷ [])) a && fits (b ∷ s) t) (Some t) r) (find_more a b s ts rest)
     ∙ by (same_letter (pad_letter (b ∷ [])) a)
   where
-    by : (r : Bool) → cond (r && fits (b ∷ s) t) (Some t) (cond r (find (fits (b ∷ s)) ts) None) ≡ cond r (cond (fits (b ∷ s) t) (Some t) (find (fits (b ∷ s)) ts)) None
+    by : (r : Bool) → cond (r && fits (b ∷ s) t) (Some t) (cond r (find (fits (b ∷ s)) ts) None)
+        ≡ cond r (cond (fits (b ∷ s) t) (Some t) (find (fits (b ∷ s)) ts)) None
     by true = refl
     by false = refl
 
@@ -96,7 +104,8 @@ find_more a b s (t ∷ ts) (first, rest) =
 fits_itself : (b : Bit) (s : List Bit) → fits (b ∷ s) (b ∷ s) ≡ true
 fits_itself b s =
     let none : length (b ∷ s) - length (b ∷ s) ≡ 0 = omega arith in
-    ap (λ k. same_letters (replicate k (pad_letter (b ∷ s)) ++ (b ∷ s)) (b ∷ s)) none ∙ (same_letters-Decides (b ∷ s) (b ∷ s)).1 refl
+    ap (λ k. same_letters (replicate k (pad_letter (b ∷ s)) ++ (b ∷ s)) (b ∷ s)) none
+    ∙ (same_letters-Decides (b ∷ s) (b ∷ s)).1 refl
 
 found : (b : Bit) (s : List Bit) → find (fits (b ∷ s)) (suffixes (b ∷ s)) ≡ Some (shortened (b ∷ s))
 unfolding shortened
@@ -104,11 +113,14 @@ found b [] = ap (λ r. cond r (Some (b ∷ [])) None) (fits_itself b [])
 found a (b ∷ s) =
     find-append (fits (a ∷ b ∷ s)) (suffixes (b ∷ s)) ((a ∷ b ∷ s) ∷ [])
     ∙ ap (λ o. option_or o (cond (fits (a ∷ b ∷ s) (a ∷ b ∷ s)) (Some (a ∷ b ∷ s)) None))
-    (find_more a b s (suffixes (b ∷ s)) (no_suffix_longer (b ∷ s)) ∙ ap (λ o. cond (same_letter (pad_letter (b ∷ [])) a) o None) (found b s))
-    ∙ ap (λ r. option_or (cond (same_letter (pad_letter (b ∷ [])) a) (Some (shortened (b ∷ s))) None) (cond r (Some (a ∷ b ∷ s)) None)) (fits_itself a (b ∷ s))
+    (find_more a b s (suffixes (b ∷ s)) (no_suffix_longer (b ∷ s))
+    ∙ ap (λ o. cond (same_letter (pad_letter (b ∷ [])) a) o None) (found b s))
+    ∙ ap (λ r. option_or (cond (same_letter (pad_letter (b ∷ [])) a) (Some (shortened (b ∷ s))) None)
+    (cond r (Some (a ∷ b ∷ s)) None)) (fits_itself a (b ∷ s))
     ∙ by (same_letter (pad_letter (b ∷ [])) a)
   where
-    by : (r : Bool) → option_or (cond r (Some (shortened (b ∷ s))) None) (Some (a ∷ b ∷ s)) ≡ Some (cond r (shortened (b ∷ s)) (a ∷ b ∷ s))
+    by : (r : Bool) → option_or (cond r (Some (shortened (b ∷ s))) None) (Some (a ∷ b ∷ s))
+        ≡ Some (cond r (shortened (b ∷ s)) (a ∷ b ∷ s))
     by true = refl
     by false = refl
 
@@ -121,31 +133,39 @@ short_is (b ∷ s) = ap (λ o. unwrap_or o (b ∷ s)) (found b s)
 -- the two letters from k on, and what follows
 two_letters : (v : List Bit) (k : ℕ) → k + 1 < length v → drop k v ≡ get_or v k X ∷ get_or v (k + 1) X ∷ drop (k + 2) v
 two_letters v k within =
-    drop_more v k X (omega arith) ∙ ap (λ l. get_or v k X ∷ l) (drop_more v (k + 1) X within ∙ ap (λ n. get_or v (k + 1) X ∷ drop n v) (let e : k + 1 + 1 ≡ k + 2 = omega arith in e))
+    drop_more v k X (omega arith)
+    ∙ ap (λ l. get_or v k X ∷ l) (drop_more v (k + 1) X within
+    ∙ ap (λ n. get_or v (k + 1) X ∷ drop n v) (let e : k + 1 + 1 ≡ k + 2 = omega arith in e))
 
 -- the letter at k is spare
-spare_at : (v : List Bit) (k : ℕ) → k + 1 < length v → same_letter (pad_letter (get_or v (k + 1) X ∷ [])) (get_or v k X) ≡ true
+spare_at : (v : List Bit) (k : ℕ) → k + 1 < length v → same_letter (pad_letter (get_or v (k + 1) X ∷ [])) (get_or v k X)
+    ≡ true
     → shortened (drop k v) ≡ shortened (drop (k + 1) v)
 unfolding shortened
 spare_at v k within spare =
     ap shortened (two_letters v k within)
-    ∙ ap (λ r. cond r (shortened (get_or v (k + 1) X ∷ drop (k + 2) v)) (get_or v k X ∷ get_or v (k + 1) X ∷ drop (k + 2) v)) spare
-    ∙ sym (ap shortened (drop_more v (k + 1) X within ∙ ap (λ n. get_or v (k + 1) X ∷ drop n v) (let e : k + 1 + 1 ≡ k + 2 = omega arith in e)))
+    ∙ ap (λ r. cond r (shortened (get_or v (k + 1) X ∷ drop (k + 2) v))
+    (get_or v k X ∷ get_or v (k + 1) X ∷ drop (k + 2) v)) spare
+    ∙ sym (ap shortened (drop_more v (k + 1) X within
+    ∙ ap (λ n. get_or v (k + 1) X ∷ drop n v) (let e : k + 1 + 1 ≡ k + 2 = omega arith in e)))
 
 -- the letter at k is not
-kept_at : (v : List Bit) (k : ℕ) → k + 1 < length v → same_letter (pad_letter (get_or v (k + 1) X ∷ [])) (get_or v k X) ≡ false
+kept_at : (v : List Bit) (k : ℕ) → k + 1 < length v → same_letter (pad_letter (get_or v (k + 1) X ∷ [])) (get_or v k X)
+    ≡ false
     → shortened (drop k v) ≡ drop k v
 unfolding shortened
 kept_at v k within kept =
     ap shortened (two_letters v k within)
-    ∙ ap (λ r. cond r (shortened (get_or v (k + 1) X ∷ drop (k + 2) v)) (get_or v k X ∷ get_or v (k + 1) X ∷ drop (k + 2) v)) kept
+    ∙ ap (λ r. cond r (shortened (get_or v (k + 1) X ∷ drop (k + 2) v))
+    (get_or v k X ∷ get_or v (k + 1) X ∷ drop (k + 2) v)) kept
     ∙ sym (two_letters v k within)
 
 -- the last letter is never left out
 last_kept : (v : List Bit) (k : ℕ) → k + 1 ≡ length v → shortened (drop k v) ≡ drop k v
 unfolding shortened
 last_kept v k last =
-    let one : drop k v ≡ get_or v k X ∷ [] = drop_more v k X (omega arith) ∙ ap (λ l. get_or v k X ∷ l) (none v (k + 1) (omega arith)) in
+    let one : drop k v ≡ get_or v k X ∷ [] = drop_more v k X (omega arith)
+    ∙ ap (λ l. get_or v k X ∷ l) (none v (k + 1) (omega arith)) in
     ap shortened one ∙ sym one
   where
     none : (xs : List Bit) (n : ℕ) → length xs ≤ n → drop n xs ≡ []
@@ -157,11 +177,13 @@ last_kept v k last =
 -- ---- letters counted from the other end
 
 -- letters that are spare, from that below bit `left` on
-pub left_out : (v : List Bit) (left kept : ℕ) → 1 ≤ kept → kept ≤ left → left ≤ length v → ((i : ℕ) → kept ≤ i + 1 → i + 1 < left → is_spare_in v i ≡ true)
+pub left_out : (v : List Bit) (left kept : ℕ) → 1 ≤ kept → kept ≤ left → left ≤ length v
+    → ((i : ℕ) → kept ≤ i + 1 → i + 1 < left → is_spare_in v i ≡ true)
     → shortened (lowest left v) ≡ shortened (lowest kept v)
 left_out v left kept least most within spare = by (left - kept) left (omega arith) within spare
   where
-    by : (more left : ℕ) → left ≡ kept + more → left ≤ length v → ((i : ℕ) → kept ≤ i + 1 → i + 1 < left → is_spare_in v i ≡ true)
+    by : (more left : ℕ) → left ≡ kept + more → left ≤ length v
+        → ((i : ℕ) → kept ≤ i + 1 → i + 1 < left → is_spare_in v i ≡ true)
         → shortened (lowest left v) ≡ shortened (lowest kept v)
     by zero left is within spare = ap (λ n. shortened (lowest n v)) (let e : left ≡ kept = omega arith in e)
     by (suc more) left is within spare =
@@ -170,18 +192,21 @@ left_out v left kept least most within spare = by (left - kept) left (omega arit
         let there : length v - 1 - (left - 2) ≡ k + 1 = omega arith in
         let further : k + 1 ≡ length v - (left - 1) = omega arith in
         let told : same_letter (pad_letter (get_or v (k + 1) X ∷ [])) (get_or v k X) ≡ true =
-        (λ p. same_letter (pad_letter (get_or v (sym there p) X ∷ [])) (get_or v (sym here p) X)) ∙ spare (left - 2) (omega arith) (omega arith) in
+        (λ p. same_letter (pad_letter (get_or v (sym there p) X ∷ [])) (get_or v (sym here p) X))
+        ∙ spare (left - 2) (omega arith) (omega arith) in
         spare_at v k (omega arith) told ∙ ap (λ n. shortened (drop n v)) further
         ∙ by more (left - 1) (omega arith) (omega arith) (λ i past below. spare i past (omega arith))
 
 -- the letter below bit `kept` stays: it is the last, or not spare
-pub stays : (v : List Bit) (kept : ℕ) → 1 ≤ kept → kept ≤ length v → (1 < kept → is_spare_in v (kept - 2) ≡ false) → shortened (lowest kept v) ≡ lowest kept v
+pub stays : (v : List Bit) (kept : ℕ) → 1 ≤ kept → kept ≤ length v → (1 < kept → is_spare_in v (kept - 2) ≡ false)
+    → shortened (lowest kept v) ≡ lowest kept v
 stays v kept least within needed = elim (cases_lt 1 kept) [
   | inl more ↦
       let k : ℕ = length v - kept in
       let here : length v - 1 - (kept - 2 + 1) ≡ k = omega arith in
       let there : length v - 1 - (kept - 2) ≡ k + 1 = omega arith in
-      kept_at v k (omega arith) ((λ p. same_letter (pad_letter (get_or v (sym there p) X ∷ [])) (get_or v (sym here p) X)) ∙ needed more)
+      kept_at v k (omega arith)
+      ((λ p. same_letter (pad_letter (get_or v (sym there p) X ∷ [])) (get_or v (sym here p) X)) ∙ needed more)
   | inr one ↦ last_kept v (length v - kept) (omega arith)
 ]
 
@@ -193,31 +218,40 @@ short_given width low high kept narrow is =
     let long : length v ≡ width = length-letters_of width (low ∷ []) (high ∷ []) in
     let all : length v - width ≡ 0 = omega (arith, long) in
     sym (lowest_given width kept low high narrow is.most)
-    ∙ sym (stays v kept is.least (omega (arith, is.most, long)) (λ more. sym (spare_given width low high (kept - 2) narrow (omega (arith, is.most))) ∙ is.needed more))
-    ∙ sym (left_out v width kept is.least is.most (omega (arith, long)) (λ i past below. sym (spare_given width low high i narrow below) ∙ is.spare i past below))
+    ∙ sym (stays v kept is.least (omega (arith, is.most, long))
+    (λ more. sym (spare_given width low high (kept - 2) narrow (omega (arith, is.most))) ∙ is.needed more))
+    ∙ sym (left_out v width kept is.least is.most (omega (arith, long))
+    (λ i past below. sym (spare_given width low high i narrow below) ∙ is.spare i past below))
     ∙ ap (λ n. shortened (drop n v)) all ∙ sym (short_is v)
 
 -- the letters of a word are left out, or stay
-pub word_left_out : (v : List Bit) (from low high left kept : ℕ) → HoldsFrom v from low high → from < left → left ≤ from + 64 → left ≤ length v
+pub word_left_out : (v : List Bit) (from low high left kept : ℕ) → HoldsFrom v from low high → from < left
+    → left ≤ from + 64 → left ≤ length v
     → IsKept (left - from) low high kept → shortened (lowest left v) ≡ shortened (lowest (from + kept) v)
 word_left_out v from low high left kept holds some fits within is =
     left_out v left (from + kept) (omega (arith, is.least)) (omega (arith, is.most)) within (λ i past below.
     let j : ℕ = i - from in
     let place : from + j ≡ i = omega (arith, is.least) in
-    ap (is_spare_in v) (sym place) ∙ sym (spare_held v from low high j holds (omega (arith, is.least)) (omega (arith, is.least)))
+    ap (is_spare_in v) (sym place)
+    ∙ sym (spare_held v from low high j holds (omega (arith, is.least)) (omega (arith, is.least)))
     ∙ is.spare j (omega (arith, is.least)) (omega (arith, is.least)))
 
-pub word_stays : (v : List Bit) (from low high left kept : ℕ) → HoldsFrom v from low high → from < left → left ≤ from + 64 → left ≤ length v
-    → IsKept (left - from) low high kept → (from ≡ 0) ⊎ (1 < kept) → shortened (lowest (from + kept) v) ≡ lowest (from + kept) v
+pub word_stays : (v : List Bit) (from low high left kept : ℕ) → HoldsFrom v from low high → from < left
+    → left ≤ from + 64 → left ≤ length v
+    → IsKept (left - from) low high kept → (from ≡ 0) ⊎ (1 < kept)
+    → shortened (lowest (from + kept) v) ≡ lowest (from + kept) v
 word_stays v from low high left kept holds some fits within is last =
     stays v (from + kept) (omega (arith, is.least)) (omega (arith, is.most)) (λ more.
     let enough : 1 < kept = elim last [ inl first ↦ omega (arith, first, more) | inr enough ↦ enough ] in
     let place : from + (kept - 2) ≡ from + kept - 2 = omega (arith, enough) in
-    ap (is_spare_in v) (sym place) ∙ sym (spare_held v from low high (kept - 2) holds (omega (arith, is.most, enough)) (omega (arith, is.most, enough)))
+    ap (is_spare_in v) (sym place)
+    ∙ sym (spare_held v from low high (kept - 2) holds (omega (arith, is.most, enough))
+    (omega (arith, is.most, enough)))
     ∙ is.needed enough)
 
 -- what two letters told
-pub state_at : (v : List Bit) (k : ℕ) (letter next : Bit) (r b : Bool) → 1 ≤ k → letter ≡ letter_at v k → next ≡ letter_at v (k - 1)
+pub state_at : (v : List Bit) (k : ℕ) (letter next : Bit) (r b : Bool) → 1 ≤ k → letter ≡ letter_at v k
+    → next ≡ letter_at v (k - 1)
     → r ≡ same_letter (pad_letter (next ∷ [])) letter → r ≡ b → is_spare_in v (k - 1) ≡ b
 state_at v k letter next r b some at_k at_next told is =
     let here : k - 1 + 1 ≡ k = omega arith in

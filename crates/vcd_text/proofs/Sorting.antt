@@ -1,5 +1,6 @@
 -- Two lists of transitions that rise, with each move equally often, are the same.
-use Rattle.std.proofs.Common.{◌≡◌, ◌≢◌, ◌⊎◌, inl, inr, ◌<◌, ◌≤◌, ◌+◌, ℕ, Bool, true, false, ◌&&◌, ◌==◌, List, [], ◌∷◌, ◌++◌, refl, sym, ap, ◌∙◌, arith, eq-eqb}
+use Rattle.std.proofs.Common.{◌≡◌, ◌≢◌, ◌⊎◌, inl, inr, ◌<◌, ◌≤◌, ◌+◌, ℕ, Bool, true, false, ◌&&◌, ◌==◌, List, [], ◌∷◌}
+use Rattle.std.proofs.Common.{◌++◌, refl, sym, ap, ◌∙◌, arith, eq-eqb}
 use Rattle.std.specs.List.{sum_by}
 use Rattle.std.specs.List.Sorted.{IsPermutation}
 use Rattle.std.proofs.lemmas.Bool.{cases_lt, ne_eqb}
@@ -30,10 +31,12 @@ times_is_sum t k (m ∷ ms) = ap (λ n. once t k m + n) (times_is_sum t k ms) �
 
 -- a permutation keeps it
 pub times_permuted : (t k : ℕ) (xs ys : List Transition) → IsPermutation xs ys → times t k ys ≡ times t k xs
-times_permuted t k xs ys moved = times_is_sum t k ys ∙ sum_by-IsPermutation (once t k) xs ys moved ∙ sym (times_is_sum t k xs)
+times_permuted t k xs ys moved = times_is_sum t k ys ∙ sum_by-IsPermutation (once t k) xs ys moved
+    ∙ sym (times_is_sum t k xs)
 
 once_itself : (m : Transition) → once m.tick m.position m ≡ 1
-once_itself m = ap (λ b. counted (b && (m.position == m.position))) (eq-eqb m.tick m.tick refl) ∙ ap (λ b. counted (true && b)) (eq-eqb m.position m.position refl)
+once_itself m = ap (λ b. counted (b && (m.position == m.position))) (eq-eqb m.tick m.tick refl)
+    ∙ ap (λ b. counted (true && b)) (eq-eqb m.position m.position refl)
 
 -- a move is at a place or behind it, and a place before a place
 abbrev pub AtLeast : ℕ → ℕ → Transition → Type 0
@@ -59,7 +62,8 @@ not_both false = refl
 
 not_before : (u j : ℕ) (m : Transition) → Before u j m.tick m.position → once u j m ≡ 0
 not_before u j m (inl a) = ap (λ b. counted (b && (m.position == j))) (ne_eqb m.tick u (omega arith))
-not_before u j m (inr (a, d)) = ap (λ b. counted ((m.tick == u) && b)) (ne_eqb m.position j (omega arith)) ∙ not_both (m.tick == u)
+not_before u j m (inr (a, d)) = ap (λ b. counted ((m.tick == u) && b)) (ne_eqb m.position j (omega arith))
+    ∙ not_both (m.tick == u)
 
 -- what stands before the first is not in the list
 none_before : (u j t k : ℕ) (ms : List Transition) → RisesFrom t k ms → Before u j t k → times u j ms ≡ 0
@@ -68,15 +72,25 @@ none_before u j t k (m ∷ ms) (first, rest) before =
     let further = before_move u j t k m before first in
     omega (arith, not_before u j m further, none_before u j m.tick m.position ms rest further)
 
-first_differs : (x y : Transition) (xs ys : List Transition) → RisesFrom y.tick y.position ys → Before x.tick x.position y.tick y.position
+first_differs : (x y : Transition) (xs ys : List Transition) → RisesFrom y.tick y.position ys
+    → Before x.tick x.position y.tick y.position
     → times x.tick x.position (x ∷ xs) ≢ times x.tick x.position (y ∷ ys)
 first_differs x y xs ys rise before same =
-    omega (arith, once_itself x, same, not_before x.tick x.position y before, none_before x.tick x.position y.tick y.position ys rise before)
+    omega (
+      arith,
+      once_itself x,
+      same,
+      not_before x.tick x.position y before,
+      none_before x.tick x.position y.tick y.position ys rise before,
+    )
 
-compared : (x y : Transition) → (Before x.tick x.position y.tick y.position ⊎ Before y.tick y.position x.tick x.position) ⊎ (x ≡ y)
-compared x y = ticks (cases_lt x.tick y.tick) (cases_lt y.tick x.tick) (cases_lt x.position y.position) (cases_lt y.position x.position)
+compared : (x y : Transition)
+    → (Before x.tick x.position y.tick y.position ⊎ Before y.tick y.position x.tick x.position) ⊎ (x ≡ y)
+compared x y = ticks (cases_lt x.tick y.tick) (cases_lt y.tick x.tick) (cases_lt x.position y.position)
+    (cases_lt y.position x.position)
   where
-    ticks : (x.tick < y.tick) ⊎ (y.tick ≤ x.tick) → (y.tick < x.tick) ⊎ (x.tick ≤ y.tick) → (x.position < y.position) ⊎ (y.position ≤ x.position) → (y.position < x.position) ⊎ (x.position ≤ y.position)
+    ticks : (x.tick < y.tick) ⊎ (y.tick ≤ x.tick) → (y.tick < x.tick) ⊎ (x.tick ≤ y.tick) → (x.position < y.position)
+        ⊎ (y.position ≤ x.position) → (y.position < x.position) ⊎ (x.position ≤ y.position)
         → (Before x.tick x.position y.tick y.position ⊎ Before y.tick y.position x.tick x.position) ⊎ (x ≡ y)
     ticks (inl a) b c d = inl (inl (inl a))
     ticks (inr a) (inl b) c d = inl (inr (inl b))
@@ -87,7 +101,8 @@ compared x y = ticks (cases_lt x.tick y.tick) (cases_lt y.tick x.tick) (cases_lt
         let same_position : x.position ≡ y.position = omega arith in
         inr (λ i. record { tick = same_tick i; position = same_position i })
 
-pub same_transitions : (xs ys : List Transition) (a b t k : ℕ) → RisesFrom a b xs → RisesFrom t k ys → ((u j : ℕ) → times u j xs ≡ times u j ys) → xs ≡ ys
+pub same_transitions : (xs ys : List Transition) (a b t k : ℕ) → RisesFrom a b xs → RisesFrom t k ys
+    → ((u j : ℕ) → times u j xs ≡ times u j ys) → xs ≡ ys
 same_transitions [] [] a b t k rise_x rise_y same = refl
 same_transitions [] (y ∷ ys) a b t k rise_x rise_y same = absurd (omega (arith, once_itself y, same y.tick y.position))
 same_transitions (x ∷ xs) [] a b t k rise_x rise_y same = absurd (omega (arith, once_itself x, same x.tick x.position))

@@ -1,12 +1,16 @@
 -- What an accepted file means is sound.
-use Rattle.std.proofs.Common.{◌≡◌, ℕ, zero, suc, ◌+◌, ◌-◌, ◌<◌, ◌≤◌, Bool, true, false, cond, not, ◌&&◌, ◌||◌, List, [], ◌∷◌, ◌++◌, length, take, drop, replicate, Option, Some, None, IsTrue, IsFalse, IsSome, IsSomeAnd, IfSome, All, refl, sym, ap, subst, ◌∙◌, arith, eq-eqb}
+use Rattle.std.proofs.Common.{◌≡◌, ℕ, zero, suc, ◌+◌, ◌-◌, ◌<◌, ◌≤◌, Bool, true, false, cond, not, ◌&&◌, ◌||◌, List, []}
+use Rattle.std.proofs.Common.{◌∷◌, ◌++◌, length, take, drop, replicate, Option, Some, None, IsTrue, IsFalse, IsSome}
+use Rattle.std.proofs.Common.{IsSomeAnd, IfSome, All, refl, sym, ap, subst, ◌∙◌, arith, eq-eqb}
 use Rattle.std.specs.Prelude.{find, bytes_eq, nat_eq, ◌==◌, nat_le, nat_lt}
 use Rattle.std.specs.List.{list_all, concat}
 use Rattle.std.specs.Fmt.{decimal}
-use Rattle.std.proofs.lemmas.Bool.{and_parts, and_from, or_parts, false≢true, not-true, eqb-true, eqb-false, leb-true, ltb-true, ltb-false}
+use Rattle.std.proofs.lemmas.Bool.{and_parts, and_from, or_parts, false≢true, not-true, eqb-true, eqb-false, leb-true}
+use Rattle.std.proofs.lemmas.Bool.{ltb-true, ltb-false}
 use Rattle.std.proofs.lemmas.Slice.Eq.{bytes_eq-Decides}
 use Rattle.std.proofs.lemmas.List.{append-nil, length-append, length-map, length-replicate, take-append-drop}
-use Rattle.std.proofs.lemmas.List.Elements.{All-nil, All-head, All-tail, All-push, All-map, All-weaker, All-filter, filter_passes, filter-append}
+use Rattle.std.proofs.lemmas.List.Elements.{All-nil, All-head, All-tail, All-push, All-map, All-weaker, All-filter}
+use Rattle.std.proofs.lemmas.List.Elements.{filter_passes, filter-append}
 use Rattle.std.proofs.lemmas.List.Folds.{list_all-append}
 use Rattle.vcd_core.specs.declared.bit.Bit.{Bit}
 use Rattle.vcd_core.specs.declared.bit.Bit.TheVariants.{X}
@@ -22,21 +26,28 @@ use Rattle.vcd_core.proofs.Waves.{changes_rise, changes_end}
 use Rattle.vcd_text.specs.Words.{words_of, word_on}
 use Rattle.vcd_core.specs.Decimal.{is_number, number_of}
 use Rattle.vcd_text.specs.Letters.{extension, pad_letter, letters_of_digits}
-use Rattle.vcd_text.specs.Items.{Item, entry, timescale, scope, upscope, variable, end_definitions, stamp, scalar, vector, real_or_string, bracket, other, spelling, spellings, header_word, end_word, is_end_word, has_no_end_word, timescales}
+use Rattle.vcd_text.specs.Items.{Item, entry, timescale, scope, upscope, variable, end_definitions, stamp, scalar}
+use Rattle.vcd_text.specs.Items.{vector, real_or_string, bracket, other, spelling, spellings, header_word, end_word}
+use Rattle.vcd_text.specs.Items.{is_end_word, has_no_end_word, timescales}
 use Rattle.vcd_core.specs.TimeUnits.{unit_text}
-use Rattle.vcd_text.specs.Grammar.{ParseState, VariableDeclaration, ValueChange, Accepts, Allows, AllowsAll, state_after, state_after_item, initial_state, is_skipped, kept_variables, variable_of, may_have_code, has_room, value_changes_after, with_value_change, takes_binary_number, is_binary_number}
+use Rattle.vcd_text.specs.Grammar.{ParseState, VariableDeclaration, ValueChange, Accepts, Allows, AllowsAll}
+use Rattle.vcd_text.specs.Grammar.{state_after, state_after_item, initial_state, is_skipped, kept_variables}
+use Rattle.vcd_text.specs.Grammar.{variable_of, may_have_code, has_room, value_changes_after, with_value_change}
+use Rattle.vcd_text.specs.Grammar.{takes_binary_number, is_binary_number}
 use Rattle.vcd_text.proofs.WordLaws.{is_run_text, texts_are_runs, run_is_word}
 use Rattle.vcd_text.specs.Meaning.{meaning, declared_signal, latest_value}
 
 -- ---- words
 
 -- words in front of an `$end` are words of names
-clean_words : (ws rest : List (List ℕ)) → list_all is_run_text (ws ++ rest) ≡ true → has_no_end_word ws ≡ true → list_all is_word ws ≡ true
+clean_words : (ws rest : List (List ℕ)) → list_all is_run_text (ws ++ rest) ≡ true → has_no_end_word ws ≡ true
+    → list_all is_word ws ≡ true
 clean_words [] rest all none = refl
 clean_words (w ∷ ws) rest all none =
     let p = and_parts (is_run_text w) (list_all is_run_text (ws ++ rest)) all in
     let q = and_parts (not (is_end_word w)) (has_no_end_word ws) none in
-    and_from (is_word w) (list_all is_word ws) (run_is_word w p.0 (not-true (is_end_word w) q.0)) (clean_words ws rest p.1 q.1)
+    and_from (is_word w) (list_all is_word ws) (run_is_word w p.0 (not-true (is_end_word w) q.0))
+    (clean_words ws rest p.1 q.1)
 
 -- ---- lists
 
@@ -49,22 +60,29 @@ found_passes : {A : Type 0} (p q : A → Bool) (xs : List A) → list_all q xs �
 found_passes p q [] all = tt
 found_passes p q (x ∷ xs) all =
     let parts = and_parts (q x) (list_all q xs) all in
-    by_test (λ b. IfSome (cond b (Some x) (find p xs)) (λ x. q x ≡ true)) (p x) (λ _. parts.0) (λ _. found_passes p q xs parts.1)
+    by_test (λ b. IfSome (cond b (Some x) (find p xs)) (λ x. q x ≡ true)) (p x) (λ _. parts.0)
+    (λ _. found_passes p q xs parts.1)
 
 -- what a search finds it finds in a longer list
-found_further : {A : Type 0} (P : A → Type 0) (p : A → Bool) (xs : List A) (y : A) → IsSomeAnd (find p xs) P → IsSomeAnd (find p (xs ++ y ∷ [])) P
+found_further : {A : Type 0} (P : A → Type 0) (p : A → Bool) (xs : List A) (y : A) → IsSomeAnd (find p xs) P
+    → IsSomeAnd (find p (xs ++ y ∷ [])) P
 found_further P p [] y some = absurd some
 found_further P p (x ∷ xs) y some =
-    by_test (λ b. IsSomeAnd (cond b (Some x) (find p xs)) P → IsSomeAnd (cond b (Some x) (find p (xs ++ y ∷ []))) P) (p x) (λ _ h. h) (λ _ h. found_further P p xs y h) some
+    by_test (λ b. IsSomeAnd (cond b (Some x) (find p xs)) P → IsSomeAnd (cond b (Some x) (find p (xs ++ y ∷ []))) P)
+    (p x) (λ _ h. h) (λ _ h. found_further P p xs y h) some
 
 -- what comes last is found where nothing before it is
-found_last : {A : Type 0} (p : A → Bool) (xs : List A) (y : A) → find p xs ≡ None → p y ≡ true → find p (xs ++ y ∷ []) ≡ Some y
+found_last : {A : Type 0} (p : A → Bool) (xs : List A) (y : A) → find p xs ≡ None → p y ≡ true
+    → find p (xs ++ y ∷ []) ≡ Some y
 found_last p [] y none here = ap (λ b. cond b (Some y) None) here
 found_last p (x ∷ xs) y none here =
-    by_test (λ b. cond b (Some x) (find p xs) ≡ None → cond b (Some x) (find p (xs ++ y ∷ [])) ≡ Some y) (p x) (λ _ h. absurd (cc h)) (λ _ h. found_last p xs y h here) none
+    by_test (λ b. cond b (Some x) (find p xs) ≡ None → cond b (Some x) (find p (xs ++ y ∷ [])) ≡ Some y) (p x)
+    (λ _ h. absurd (cc h)) (λ _ h. found_last p xs y h here) none
 
 all_taken : {A : Type 0} (p : A → Bool) (n : ℕ) (xs : List A) → list_all p xs ≡ true → list_all p (take n xs) ≡ true
-all_taken p n xs all = (and_parts (list_all p (take n xs)) (list_all p (drop n xs)) (sym (list_all-append p (take n xs) (drop n xs)) ∙ ap (list_all p) (take-append-drop n xs) ∙ all)).0
+all_taken p n xs all =
+    (and_parts (list_all p (take n xs)) (list_all p (drop n xs)) (sym (list_all-append p (take n xs) (drop n xs))
+    ∙ ap (list_all p) (take-append-drop n xs) ∙ all)).0
 
 same_bytes : (bytes : List ℕ) → bytes_eq bytes bytes ≡ true
 same_bytes [] = refl
@@ -100,7 +118,8 @@ record IsClean (c : ParseState) : Type 0 where
 -- ---- sizes
 
 -- a variable that is kept has a kind with four-state letters and a width within the limit
-kept_is : (d : VariableDeclaration) → is_skipped d ≡ false → (is_skipped_kind d.kind ≡ false) × (1 ≤ d.size) × (d.size ≤ WIDTH_LIMIT)
+kept_is : (d : VariableDeclaration) → is_skipped d ≡ false → (is_skipped_kind d.kind ≡ false) × (1 ≤ d.size)
+    × (d.size ≤ WIDTH_LIMIT)
 kept_is d keeps =
     let p = or_parts (is_skipped_kind d.kind) (d.size == 0 || nat_lt WIDTH_LIMIT d.size) keeps in
     let q = or_parts (d.size == 0) (nat_lt WIDTH_LIMIT d.size) p.1 in
@@ -117,16 +136,21 @@ some_kept None some = absurd (false≢true some)
 some_kept (Some e) some = λ keeps. (kept_is e keeps).1
 
 -- a variable takes digits that are no more than its bits
-some_taken : (digits : List ℕ) (o : Option VariableDeclaration) → IsSomeAnd o (λ e. IsTrue (takes_binary_number e digits)) → IsSomeAnd o (λ e. is_skipped e ≡ false → length (letters_of_digits digits) ≤ e.size)
+some_taken : (digits : List ℕ) (o : Option VariableDeclaration)
+    → IsSomeAnd o (λ e. IsTrue (takes_binary_number e digits))
+    → IsSomeAnd o (λ e. is_skipped e ≡ false → length (letters_of_digits digits) ≤ e.size)
 some_taken digits None some = absurd some
 some_taken digits (Some e) takes = λ keeps.
-    let here : (is_binary_number digits && nat_le (length digits) e.size) ≡ true = ap (λ b. b || (is_binary_number digits && nat_le (length digits) e.size)) (sym keeps) ∙ takes in
-    subst (λ n. n ≤ e.size) (sym (length-map digits _)) (leb-true (length digits) e.size (and_parts (is_binary_number digits) _ here).1)
+    let here : (is_binary_number digits && nat_le (length digits) e.size) ≡ true =
+    ap (λ b. b || (is_binary_number digits && nat_le (length digits) e.size)) (sym keeps) ∙ takes in
+    subst (λ n. n ≤ e.size) (sym (length-map digits _))
+    (leb-true (length digits) e.size (and_parts (is_binary_number digits) _ here).1)
 
 -- ---- one item
 
 -- one more value change
-clean_value_change : (c : ParseState) (code : List ℕ) (letters : List Bit) → IsClean c → IsTrue c.changing → IsSomeAnd (variable_of c code) (λ e. is_skipped e ≡ false → length letters ≤ e.size)
+clean_value_change : (c : ParseState) (code : List ℕ) (letters : List Bit) → IsClean c → IsTrue c.changing
+    → IsSomeAnd (variable_of c code) (λ e. is_skipped e ≡ false → length letters ≤ e.size)
     → IsClean (with_value_change c code letters)
 clean_value_change c code letters clean changing fits = record {
   header = clean.header;
@@ -140,19 +164,24 @@ clean_value_change c code letters clean changing fits = record {
   tick = clean.tick;
 }
   where
-    more : (o : Option VariableDeclaration) → variable_of c code ≡ o → IsSomeAnd o (λ e. is_skipped e ≡ false → length letters ≤ e.size) → All (Fits c) (c.value_changes ++ value_changes_after c code letters o)
+    more : (o : Option VariableDeclaration) → variable_of c code ≡ o
+        → IsSomeAnd o (λ e. is_skipped e ≡ false → length letters ≤ e.size)
+        → All (Fits c) (c.value_changes ++ value_changes_after c code letters o)
     more None is some = absurd some
     more (Some e) is some =
         let r : ValueChange = record { tick = c.tick; code = code; letters = letters } in
-        by_test (λ b. All (Fits c) (c.value_changes ++ cond b [] (r ∷ []))) (is_skipped e) (λ _. subst (All (Fits c)) (sym (append-nil c.value_changes)) clean.fit)
-        (λ keeps. All-push (Fits c) c.value_changes r clean.fit (subst (λ o. IsSomeAnd o (λ e. length letters ≤ e.size)) (sym is) (some keeps)))
+        by_test (λ b. All (Fits c) (c.value_changes ++ cond b [] (r ∷ []))) (is_skipped e)
+        (λ _. subst (All (Fits c)) (sym (append-nil c.value_changes)) clean.fit)
+        (λ keeps. All-push (Fits c) c.value_changes r clean.fit
+        (subst (λ o. IsSomeAnd o (λ e. length letters ≤ e.size)) (sym is) (some keeps)))
 
 both_kept : (s e : Bool) → ((s && false) || (not s && true && e)) ≡ true → (e ≡ true) × (s ≡ false)
 both_kept true e h = absurd (false≢true h)
 both_kept false e h = (h, refl)
 
 -- one more variable
-clean_declared : (c : ParseState) (d : VariableDeclaration) → IsClean c → IsFalse c.changing → IsCleanDeclaration d → IsTrue (may_have_code (variable_of c d.code) d) → IsTrue (has_room c.declared d)
+clean_declared : (c : ParseState) (d : VariableDeclaration) → IsClean c → IsFalse c.changing → IsCleanDeclaration d
+    → IsTrue (may_have_code (variable_of c d.code) d) → IsTrue (has_room c.declared d)
     → IsClean (record c { declared = c.declared ++ d ∷ [] })
 clean_declared c d clean declaring is shares room =
     let e : ParseState = record c { declared = c.declared ++ d ∷ [] } in
@@ -162,7 +191,10 @@ clean_declared c d clean declaring is shares room =
       scopes = clean.scopes;
       declared = All-push IsCleanDeclaration c.declared d clean.declared is;
       agree =
-          All-push (IsAgreed e) c.declared d (All-weaker (IsAgreed c) (IsAgreed e) (λ x agrees keeps. found_further _ (λ y. bytes_eq x.code y.code) c.declared d (agrees keeps)) c.declared clean.agree)
+          All-push (IsAgreed e) c.declared d
+          (All-weaker (IsAgreed c) (IsAgreed e)
+          (λ x agrees keeps. found_further _ (λ y. bytes_eq x.code y.code) c.declared d (agrees keeps)) c.declared
+          clean.agree)
           (λ keeps. first_or_same (variable_of c d.code) refl shares keeps);
       few = counted;
       fit = subst (All (Fits e)) (sym (clean.silent declaring)) (All-nil (Fits e));
@@ -170,21 +202,34 @@ clean_declared c d clean declaring is shares room =
       tick = clean.tick;
     }
   where
-    first_or_same : (o : Option VariableDeclaration) → variable_of c d.code ≡ o → IsTrue (may_have_code o d) → is_skipped d ≡ false
-        → IsSomeAnd (find (λ y. bytes_eq d.code y.code) (c.declared ++ d ∷ [])) (λ e. (e.size ≡ d.size) × (is_skipped e ≡ false))
+    first_or_same : (o : Option VariableDeclaration) → variable_of c d.code ≡ o → IsTrue (may_have_code o d)
+        → is_skipped d ≡ false
+        → IsSomeAnd (find (λ y. bytes_eq d.code y.code) (c.declared ++ d ∷ [])) (λ e. (e.size ≡ d.size)
+        × (is_skipped e ≡ false))
     first_or_same None none shares keeps =
-        subst (λ o. IsSomeAnd o (λ e. (e.size ≡ d.size) × (is_skipped e ≡ false))) (sym (found_last (λ y. bytes_eq d.code y.code) c.declared d none (same_bytes d.code))) (refl, keeps)
+        subst (λ o. IsSomeAnd o (λ e. (e.size ≡ d.size) × (is_skipped e ≡ false)))
+        (sym (found_last (λ y. bytes_eq d.code y.code) c.declared d none (same_bytes d.code))) (refl, keeps)
     first_or_same (Some x) some shares keeps =
-        let here : ((is_skipped x && false) || (not (is_skipped x) && true && (x.size == d.size))) ≡ true = (λ i. (is_skipped x && sym keeps i) || (not (is_skipped x) && not (sym keeps i) && (x.size == d.size))) ∙ shares in
+        let here : ((is_skipped x && false) || (not (is_skipped x) && true && (x.size == d.size))) ≡ true =
+        (λ i. (is_skipped x && sym keeps i) || (not (is_skipped x) && not (sym keeps i) && (x.size == d.size)))
+        ∙ shares in
         let same = both_kept (is_skipped x) (x.size == d.size) here in
-        found_further _ (λ y. bytes_eq d.code y.code) c.declared d (subst (λ o. IsSomeAnd o (λ e. (e.size ≡ d.size) × (is_skipped e ≡ false))) (sym some) (eqb-true x.size d.size same.0, same.1))
+        found_further _ (λ y. bytes_eq d.code y.code) c.declared d
+        (subst (λ o. IsSomeAnd o (λ e. (e.size ≡ d.size) × (is_skipped e ≡ false))) (sym some)
+        (eqb-true x.size d.size same.0, same.1))
 
     counted : length (kept_variables (c.declared ++ d ∷ [])) ≤ SIGNAL_LIMIT
-    counted = subst (λ n. n ≤ SIGNAL_LIMIT) (sym (ap length (filter-append (λ x. not (is_skipped x)) c.declared (d ∷ [])) ∙ length-append (kept_variables c.declared) _))
-        (by_test (λ b. (b || nat_lt (length (kept_variables c.declared)) SIGNAL_LIMIT) ≡ true → length (kept_variables c.declared) + length (cond (not b) (d ∷ []) []) ≤ SIGNAL_LIMIT) (is_skipped d)
-        (λ _ _. omega (arith, clean.few)) (λ _ room. let less = ltb-true (length (kept_variables c.declared)) SIGNAL_LIMIT room in omega arith) room)
+    counted = subst (λ n. n ≤ SIGNAL_LIMIT)
+        (sym (ap length (filter-append (λ x. not (is_skipped x)) c.declared (d ∷ []))
+        ∙ length-append (kept_variables c.declared) _))
+        (by_test (λ b. (b || nat_lt (length (kept_variables c.declared)) SIGNAL_LIMIT) ≡ true
+        → length (kept_variables c.declared) + length (cond (not b) (d ∷ []) []) ≤ SIGNAL_LIMIT) (is_skipped d)
+        (λ _ _. omega (arith, clean.few)) (λ _ room. let less =
+        ltb-true (length (kept_variables c.declared)) SIGNAL_LIMIT room in omega arith) room)
 
-clean_variable : (c : ParseState) (words : List (List ℕ)) → IsClean c → list_all is_run_text (spelling (variable words)) ≡ true → Allows c (variable words) → IsClean (state_after_item c (variable words))
+clean_variable : (c : ParseState) (words : List (List ℕ)) → IsClean c
+    → list_all is_run_text (spelling (variable words)) ≡ true → Allows c (variable words)
+    → IsClean (state_after_item c (variable words))
 clean_variable c [] clean all allows = absurd allows.3
 clean_variable c (kind ∷ []) clean all allows = absurd allows.3
 clean_variable c (kind ∷ size ∷ []) clean all allows = absurd allows.3
@@ -194,56 +239,95 @@ clean_variable c (kind ∷ size ∷ code ∷ name ∷ names) clean all allows =
     let p = and_parts (is_word kind) (list_all is_word (size ∷ code ∷ name ∷ names)) words in
     let q = and_parts (is_word size) (list_all is_word (code ∷ name ∷ names)) p.1 in
     let r = and_parts (is_word code) (list_all is_word (name ∷ names)) q.1 in
-    clean_declared c (record { scopes = c.scopes; kind = kind; size = number_of size; code = code; words = name ∷ names }) clean allows.0
+    clean_declared c (record {
+      scopes = c.scopes;
+      kind = kind;
+      size = number_of size;
+      code = code;
+      words =
+          name ∷ names;
+    }) clean allows.0
     (record { scopes = clean.scopes; kind = p.0; named = omega arith; words = r.1 }) allows.3.0 allows.3.1
 
 -- what stays clean where neither variables nor value changes come
-clean_beside : (c : ParseState) (header : List Header) (time : Option Timescale) (scopes : List ScopeName) (changing : Bool) (tick : ℕ) → IsClean c
-    → list_all is_sound_header header ≡ true → IfSome time (λ t. is_sound_timescale t ≡ true) → list_all is_sound_scope scopes ≡ true
+clean_beside : (c : ParseState) (header : List Header) (time : Option Timescale) (scopes : List ScopeName)
+    (changing : Bool) (tick : ℕ) → IsClean c
+    → list_all is_sound_header header ≡ true → IfSome time (λ t. is_sound_timescale t ≡ true)
+    → list_all is_sound_scope scopes ≡ true
     → (changing ≡ false → c.value_changes ≡ []) → tick ≤ END_LIMIT
-    → IsClean (record { header = header; timescale = time; scopes = scopes; declared = c.declared; changing = changing; value_changes = c.value_changes; tick = tick })
+    → IsClean (record {
+      header = header;
+      timescale = time;
+      scopes = scopes;
+      declared = c.declared;
+      changing = changing;
+      value_changes = c.value_changes;
+      tick = tick;
+    })
 clean_beside c header time scopes changing tick clean sound_header sound_timescale sound_scopes silent within =
-    record { header = sound_header; timescale = sound_timescale; scopes = sound_scopes; declared = clean.declared; agree = clean.agree; few = clean.few; fit = clean.fit; silent = silent; tick = within }
+    record {
+      header = sound_header;
+      timescale = sound_timescale;
+      scopes = sound_scopes;
+      declared = clean.declared;
+      agree = clean.agree;
+      few = clean.few;
+      fit = clean.fit;
+      silent = silent;
+      tick = within;
+    }
 
-clean_item : (c : ParseState) (i : Item) → IsClean c → list_all is_run_text (spelling i) ≡ true → Allows c i → IsClean (state_after_item c i)
+clean_item : (c : ParseState) (i : Item) → IsClean c → list_all is_run_text (spelling i) ≡ true → Allows c i
+    → IsClean (state_after_item c i)
 clean_item c (entry kind words) clean all allows = clean_beside c _ _ _ _ _ clean
     (list_all-append is_sound_header c.header _
     ∙ and_from (list_all is_sound_header c.header) (list_all is_word words && true) clean.header
-    (and_from (list_all is_word words) true (clean_words words (end_word ∷ []) (and_parts (is_run_text (header_word kind)) (list_all is_run_text (words ++ end_word ∷ [])) all).1 allows.1) refl))
+    (and_from (list_all is_word words) true
+    (clean_words words (end_word ∷ [])
+    (and_parts (is_run_text (header_word kind)) (list_all is_run_text (words ++ end_word ∷ [])) all).1 allows.1)
+    refl))
     clean.timescale clean.scopes clean.silent clean.tick
 clean_item c (timescale words) clean all allows = clean_beside c _ _ _ _ _ clean
-    clean.header (found_passes (λ t. bytes_eq (concat words) (decimal t.count ++ unit_text t.unit)) is_sound_timescale timescales refl) clean.scopes clean.silent clean.tick
+    clean.header (found_passes (λ t. bytes_eq (concat words) (decimal t.count ++ unit_text t.unit)) is_sound_timescale
+    timescales refl) clean.scopes clean.silent clean.tick
 clean_item c (scope kind words) clean all allows = clean_beside c _ _ _ _ _ clean clean.header clean.timescale
     (list_all-append is_sound_scope c.scopes _
     ∙ and_from (list_all is_sound_scope c.scopes) (list_all is_word (kind ∷ words) && true) clean.scopes
     (and_from (list_all is_word (kind ∷ words)) true (clean_words (kind ∷ words) (end_word ∷ []) all allows.1) refl))
     clean.silent clean.tick
 clean_item c upscope clean all allows = clean_beside c _ _ _ _ _ clean
-    clean.header clean.timescale (all_taken is_sound_scope (length c.scopes - 1) c.scopes clean.scopes) clean.silent clean.tick
+    clean.header clean.timescale (all_taken is_sound_scope (length c.scopes - 1) c.scopes clean.scopes) clean.silent
+    clean.tick
 clean_item c (variable words) clean all allows = clean_variable c words clean all allows
 clean_item c end_definitions clean all allows = clean_beside c _ _ _ _ _ clean
     clean.header clean.timescale clean.scopes (λ no_more. absurd (false≢true (sym no_more))) clean.tick
 clean_item c (stamp digits) clean all allows = clean_beside c _ _ _ _ _ clean
-    clean.header clean.timescale clean.scopes clean.silent (leb-true (number_of digits) END_LIMIT (and_parts (is_number digits) (nat_le (number_of digits) END_LIMIT) allows.1).1)
+    clean.header clean.timescale clean.scopes clean.silent
+    (leb-true (number_of digits) END_LIMIT
+    (and_parts (is_number digits) (nat_le (number_of digits) END_LIMIT) allows.1).1)
 clean_item c (scalar letter code) clean all allows =
     clean_value_change c code (letters_of_digits (letter ∷ [])) clean allows.0 (some_kept (variable_of c code) allows.3)
 clean_item c (vector first digits code) clean all allows =
-    clean_value_change c code (letters_of_digits digits) clean allows.0 (some_taken digits (variable_of c code) allows.2)
+    clean_value_change c code (letters_of_digits digits) clean allows.0
+    (some_taken digits (variable_of c code) allows.2)
 clean_item c (real_or_string first text code) clean all allows = clean
 clean_item c (bracket word_on) clean all allows = clean
 clean_item c (other word_on words) clean all allows = clean
 
-clean_items : (c : ParseState) (is : List Item) → IsClean c → list_all is_run_text (spellings is) ≡ true → AllowsAll c is → IsClean (state_after c is)
+clean_items : (c : ParseState) (is : List Item) → IsClean c → list_all is_run_text (spellings is) ≡ true
+    → AllowsAll c is → IsClean (state_after c is)
 clean_items c [] clean all allows = clean
 clean_items c (i ∷ is) clean all allows =
-    let p = and_parts (list_all is_run_text (spelling i)) (list_all is_run_text (spellings is)) (sym (list_all-append is_run_text (spelling i) (spellings is)) ∙ all) in
+    let p = and_parts (list_all is_run_text (spelling i)) (list_all is_run_text (spellings is))
+    (sym (list_all-append is_run_text (spelling i) (spellings is)) ∙ all) in
     clean_items (state_after_item c i) is (clean_item c i clean p.0 allows.0) p.1 allows.1
 
 -- ---- waves
 
 length-ext : (width : ℕ) (s : List Bit) → length s ≤ width → length (extension width s) ≡ width
 length-ext width s fits =
-    length-append (replicate (width - length s) (pad_letter s)) s ∙ ap (λ n. n + length s) (length-replicate (width - length s) (pad_letter s)) ∙ omega arith
+    length-append (replicate (width - length s) (pad_letter s)) s
+    ∙ ap (λ n. n + length s) (length-replicate (width - length s) (pad_letter s)) ∙ omega arith
 
 -- a value change of this code has letters for so many bits
 abbrev FitsWidth : ℕ → List ℕ → ValueChange → Type 0
@@ -256,23 +340,31 @@ latest_length width code t before [] long all = long
 latest_length width code t before (r ∷ rs) long all =
     latest_length width code t (cond (bytes_eq r.code code && nat_le r.tick t) (extension width r.letters) before) rs
     (by_test (λ b. length (cond b (extension width r.letters) before) ≡ width) (bytes_eq r.code code && nat_le r.tick t)
-    (λ here. length-ext width r.letters (All-head (FitsWidth width code) r rs all (and_parts (bytes_eq r.code code) (nat_le r.tick t) here).0)) (λ _. long)) (All-tail (FitsWidth width code) r rs all)
+    (λ here. length-ext width r.letters
+    (All-head (FitsWidth width code) r rs all (and_parts (bytes_eq r.code code) (nat_le r.tick t) here).0))
+    (λ _. long)) (All-tail (FitsWidth width code) r rs all)
 
 -- the value changes of a code that is kept fit its width
-value_changes_fit : (c : ParseState) (d : VariableDeclaration) → IsAgreed c d → is_skipped d ≡ false → All (Fits c) c.value_changes → All (FitsWidth d.size d.code) c.value_changes
+value_changes_fit : (c : ParseState) (d : VariableDeclaration) → IsAgreed c d → is_skipped d ≡ false
+    → All (Fits c) c.value_changes → All (FitsWidth d.size d.code) c.value_changes
 value_changes_fit c d agrees keeps fit = All-weaker (Fits c) (FitsWidth d.size d.code)
     (λ r fits same. let code : r.code ≡ d.code = (bytes_eq-Decides r.code d.code).0 same in
-    joined r (variable_of c d.code) (subst (λ k. IsSomeAnd (variable_of c k) (λ e. length r.letters ≤ e.size)) code fits) (agrees keeps)) c.value_changes fit
+    joined r (variable_of c d.code)
+    (subst (λ k. IsSomeAnd (variable_of c k) (λ e. length r.letters ≤ e.size)) code fits) (agrees keeps))
+    c.value_changes fit
   where
-    joined : (r : ValueChange) (o : Option VariableDeclaration) → IsSomeAnd o (λ e. length r.letters ≤ e.size) → IsSomeAnd o (λ e. (e.size ≡ d.size) × (is_skipped e ≡ false)) → length r.letters ≤ d.size
+    joined : (r : ValueChange) (o : Option VariableDeclaration) → IsSomeAnd o (λ e. length r.letters ≤ e.size)
+        → IsSomeAnd o (λ e. (e.size ≡ d.size) × (is_skipped e ≡ false)) → length r.letters ≤ d.size
     joined r None some same = absurd some
     joined r (Some e) fits same = subst (λ n. length r.letters ≤ n) same.0 fits
 
-sound_signal : (c : ParseState) (d : VariableDeclaration) → IsClean c → IsCleanDeclaration d → IsAgreed c d → is_skipped d ≡ false → IsSoundSignal c.tick (declared_signal c.value_changes c.tick d)
+sound_signal : (c : ParseState) (d : VariableDeclaration) → IsClean c → IsCleanDeclaration d → IsAgreed c d
+    → is_skipped d ≡ false → IsSoundSignal c.tick (declared_signal c.value_changes c.tick d)
 sound_signal c d clean is agrees keeps =
     let width = kept_is d keeps in
     let values : (t : ℕ) → length (latest_value d.size d.code t (all_x d.size) c.value_changes) ≡ d.size = λ t.
-    latest_length d.size d.code t (all_x d.size) c.value_changes (length-replicate d.size X) (value_changes_fit c d agrees keeps clean.fit) in
+    latest_length d.size d.code t (all_x d.size) c.value_changes (length-replicate d.size X)
+    (value_changes_fit c d agrees keeps clean.fit) in
     record {
       scopes = is.scopes;
       kind = is.kind;
@@ -300,7 +392,10 @@ clean_start = record {
 
 pub meaning_is_sound : (bytes : List ℕ) (told : ParseState) → Accepts (words_of bytes) told → IsSound (meaning told)
 meaning_is_sound bytes told accepted =
-    let clean : IsClean told = subst IsClean accepted.tells (clean_items initial_state accepted.items clean_start (ap (list_all is_run_text) (sym accepted.spelled) ∙ texts_are_runs true 1 bytes) accepted.allowed) in
+    let clean : IsClean told =
+    subst IsClean accepted.tells
+    (clean_items initial_state accepted.items clean_start (ap (list_all is_run_text) (sym accepted.spelled)
+    ∙ texts_are_runs true 1 bytes) accepted.allowed) in
     let declared = All-filter (λ d. not (is_skipped d)) IsCleanDeclaration told.declared clean.declared in
     let agree = All-filter (λ d. not (is_skipped d)) (IsAgreed told) told.declared clean.agree in
     let keeps = filter_passes (λ d. not (is_skipped d)) told.declared in
@@ -308,7 +403,10 @@ meaning_is_sound bytes told accepted =
       header = clean.header;
       timescale = clean.timescale;
       end = clean.tick;
-      few = subst (λ n. n ≤ SIGNAL_LIMIT) (sym (length-map (kept_variables told.declared) (declared_signal told.value_changes told.tick))) clean.few;
-      signals = All-map (IsSoundSignal told.tick) (declared_signal told.value_changes told.tick) (kept_variables told.declared)
-          (λ k d within. sound_signal told _ clean (declared k d within) (agree k d within) (not-true _ (keeps k d within)));
+      few = subst (λ n. n ≤ SIGNAL_LIMIT)
+          (sym (length-map (kept_variables told.declared) (declared_signal told.value_changes told.tick))) clean.few;
+      signals = All-map (IsSoundSignal told.tick) (declared_signal told.value_changes told.tick)
+          (kept_variables told.declared)
+          (λ k d within. sound_signal told _ clean (declared k d within) (agree k d within)
+          (not-true _ (keeps k d within)));
     }

@@ -1,11 +1,13 @@
 -- The timescale of a sound capture is read back.
-use Rattle.std.proofs.Common.{◌≡◌, ◌⊎◌, ◌==◌, ◌||◌, ◌++◌, ◌<◌, ◌^◌, ℕ, List, true, [], ◌∷◌, Some, inl, inr, refl, sym, ap, subst, arith, decimal, append-nil}
+use Rattle.std.proofs.Common.{◌≡◌, ◌⊎◌, ◌==◌, ◌||◌, ◌++◌, ◌<◌, ◌^◌, ℕ, List, true, [], ◌∷◌, Some, inl, inr, refl, sym}
+use Rattle.std.proofs.Common.{ap, subst, arith, decimal, append-nil}
 use Rattle.std.specs.Prelude.{find, bytes_eq}
 use Rattle.std.specs.Fmt.{digits}
 use Rattle.std.proofs.lemmas.Bool.{or_cases, eqb-true}
 use Rattle.vcd_core.specs.declared.capture.Timescale.{Timescale}
 use Rattle.vcd_core.specs.declared.capture.TimeUnit.{TimeUnit}
-use Rattle.vcd_core.specs.declared.capture.TimeUnit.TheVariants.{Second, Millisecond, Microsecond, Nanosecond, Picosecond, Femtosecond}
+use Rattle.vcd_core.specs.declared.capture.TimeUnit.TheVariants.{Second, Millisecond, Microsecond, Nanosecond}
+use Rattle.vcd_core.specs.declared.capture.TimeUnit.TheVariants.{Picosecond, Femtosecond}
 use Rattle.vcd_core.specs.Sound.{is_sound_timescale}
 use Rattle.vcd_core.specs.TimeUnits.{unit_text}
 use Rattle.vcd_text.specs.Items.{timescales, timescale_of}
@@ -16,7 +18,11 @@ IsCount n = (n ≡ 1) ⊎ ((n ≡ 10) ⊎ (n ≡ 100))
 
 pub sound_count : (t : Timescale) → is_sound_timescale t ≡ true → IsCount t.count
 sound_count t sound = elim (or_cases (t.count == 1 || t.count == 10) (t.count == 100) sound) [
-  | inl few ↦ elim (or_cases (t.count == 1) (t.count == 10) few) [ inl one ↦ inl (eqb-true t.count 1 one) | inr ten ↦ inr (inl (eqb-true t.count 10 ten)) ]
+  | inl few ↦ elim (or_cases (t.count == 1) (t.count == 10) few) [
+    | inl one ↦ inl (eqb-true t.count 1 one)
+    | inr ten ↦
+        inr (inl (eqb-true t.count 10 ten))
+  ]
   | inr hundred ↦ inr (inr (eqb-true t.count 100 hundred))
 ]
 
@@ -56,12 +62,18 @@ hundred Nanosecond = refl
 hundred Picosecond = refl
 hundred Femtosecond = refl
 
-counted : (n : ℕ) (unit : TimeUnit) → IsCount n → found_in (decimal n ++ unit_text unit) (record { count = n; unit = unit })
-counted n unit (inl e) = subst (λ m. found_in (decimal m ++ unit_text unit) (record { count = m; unit = unit })) (sym e) (one unit)
-counted n unit (inr (inl e)) = subst (λ m. found_in (decimal m ++ unit_text unit) (record { count = m; unit = unit })) (sym e) (ten unit)
-counted n unit (inr (inr e)) = subst (λ m. found_in (decimal m ++ unit_text unit) (record { count = m; unit = unit })) (sym e) (hundred unit)
+counted : (n : ℕ) (unit : TimeUnit) → IsCount n
+    → found_in (decimal n ++ unit_text unit) (record { count = n; unit = unit })
+counted n unit (inl e) =
+    subst (λ m. found_in (decimal m ++ unit_text unit) (record { count = m; unit = unit })) (sym e) (one unit)
+counted n unit (inr (inl e)) =
+    subst (λ m. found_in (decimal m ++ unit_text unit) (record { count = m; unit = unit })) (sym e) (ten unit)
+counted n unit (inr (inr e)) =
+    subst (λ m. found_in (decimal m ++ unit_text unit) (record { count = m; unit = unit })) (sym e) (hundred unit)
 
 -- its number and its unit, as two words, are read as it
-pub timescale_read : (t : Timescale) → is_sound_timescale t ≡ true → timescale_of (decimal t.count ∷ unit_text t.unit ∷ []) ≡ Some t
+pub timescale_read : (t : Timescale) → is_sound_timescale t ≡ true
+    → timescale_of (decimal t.count ∷ unit_text t.unit ∷ []) ≡ Some t
 timescale_read t sound =
-    subst (λ text. found_in text t) (ap (λ l. decimal t.count ++ l) (sym (append-nil (unit_text t.unit)))) (counted t.count t.unit (sound_count t sound))
+    subst (λ text. found_in text t) (ap (λ l. decimal t.count ++ l) (sym (append-nil (unit_text t.unit))))
+    (counted t.count t.unit (sound_count t sound))

@@ -1,7 +1,10 @@
 -- Every word of a capture's text has a byte and no white space.
-use Rattle.std.proofs.Common.{◌≡◌, ◌<◌, ◌≤◌, ◌+◌, ◌-◌, ◌^◌, ◌∙◌, ◌&&◌, ◌==◌, ℕ, zero, suc, Bool, true, not, List, [], ◌∷◌, ◌++◌, map, length, drop, replicate, Option, Some, None, IfSome, IsTrue, refl, arith, nat_le, nat_lt, decimal, codes}
+use Rattle.std.proofs.Common.{◌≡◌, ◌<◌, ◌≤◌, ◌+◌, ◌-◌, ◌^◌, ◌∙◌, ◌&&◌, ◌==◌, ℕ, zero, suc, Bool, true, not, List, []}
+use Rattle.std.proofs.Common.{◌∷◌, ◌++◌, map, length, drop, replicate, Option, Some, None, IfSome, IsTrue, refl, arith}
+use Rattle.std.proofs.Common.{nat_le, nat_lt, decimal, codes}
 use Rattle.std.specs.List.{list_all, AllByRecursion, filter, enumerate_from, common_prefix_len}
-use Rattle.std.proofs.lemmas.Bool.{and_from, and_parts, cond_both, and_right, or_from, not_from_false, lt-leb, leb-true, ne_eqb}
+use Rattle.std.proofs.lemmas.Bool.{and_from, and_parts, cond_both, and_right, or_from, not_from_false, lt-leb, leb-true}
+use Rattle.std.proofs.lemmas.Bool.{ne_eqb}
 use Rattle.std.proofs.lemmas.List.Elements.{recursion_from_All}
 use Rattle.std.proofs.lemmas.List.Folds.{list_all-append}
 use Rattle.vcd_core.specs.declared.bit.Bit.{Bit}
@@ -9,7 +12,8 @@ use Rattle.vcd_core.specs.declared.bit.Bit.TheVariants.{Zero, One, X, Z}
 use Rattle.vcd_core.specs.declared.capture.HeaderKind.{HeaderKind}
 use Rattle.vcd_core.specs.declared.capture.HeaderKind.TheVariants.{Date, Version, Comment}
 use Rattle.vcd_core.specs.declared.capture.TimeUnit.{TimeUnit}
-use Rattle.vcd_core.specs.declared.capture.TimeUnit.TheVariants.{Second, Millisecond, Microsecond, Nanosecond, Picosecond, Femtosecond}
+use Rattle.vcd_core.specs.declared.capture.TimeUnit.TheVariants.{Second, Millisecond, Microsecond, Nanosecond}
+use Rattle.vcd_core.specs.declared.capture.TimeUnit.TheVariants.{Picosecond, Femtosecond}
 use Rattle.vcd_core.specs.declared.capture.Header.{Header}
 use Rattle.vcd_core.specs.declared.capture.Timescale.{Timescale}
 use Rattle.vcd_core.specs.declared.capture.ScopeName.{ScopeName}
@@ -22,10 +26,13 @@ use Rattle.vcd_text.specs.Words.{words_of}
 use Rattle.std.specs.Char.{is_ascii_digit}
 use Rattle.vcd_core.specs.Value.{printed_letter}
 use Rattle.vcd_text.specs.Letters.{printed_letters, short_form}
-use Rattle.vcd_text.specs.Items.{Item, entry, timescale, scope, upscope, vector, bracket, end_definitions, header_word, end_word, spellings}
+use Rattle.vcd_text.specs.Items.{Item, entry, timescale, scope, upscope, vector, bracket, end_definitions, header_word}
+use Rattle.vcd_text.specs.Items.{end_word, spellings}
 use Rattle.vcd_core.specs.TimeUnits.{unit_text}
 use Rattle.vcd_text.specs.Grammar.{word_texts}
-use Rattle.vcd_text.specs.Text.{header_items, timescale_items, same_scope, scope_items, code_of, variable_item, signal_items, value_item, differs_at, value_items, all_values, new_values, stamp_of, with_stamp, first_items, tick_items, end_items, items_of, text}
+use Rattle.vcd_text.specs.Text.{header_items, timescale_items, same_scope, scope_items, code_of, variable_item}
+use Rattle.vcd_text.specs.Text.{signal_items, value_item, differs_at, value_items, all_values, new_values, stamp_of}
+use Rattle.vcd_text.specs.Text.{with_stamp, first_items, tick_items, end_items, items_of, text}
 use Rattle.vcd_text.proofs.CodesDiffer.{code_black, code_not_empty}
 use Rattle.vcd_text.proofs.Decimals.{decimal_digits, decimal_not_empty}
 use Rattle.vcd_text.proofs.SoundTimescales.{sound_count, count_small}
@@ -53,7 +60,8 @@ digit_is_black : (b : ℕ) → is_ascii_digit b ≡ true → has_no_space b ≡ 
 digit_is_black b digit =
     let above : 48 ≤ b = leb-true 48 b (and_parts (nat_le 48 b) (nat_le b 57) digit).0 in
     not_from_false (is_white_space b)
-    (or_from (nat_le 9 b && nat_le b 13) (b == 32) (and_right (nat_le 9 b) (nat_le b 13) (lt-leb b 13 (omega arith))) (ne_eqb b 32 (λ e. omega arith)))
+    (or_from (nat_le 9 b && nat_le b 13) (b == 32) (and_right (nat_le 9 b) (nat_le b 13) (lt-leb b 13 (omega arith)))
+    (ne_eqb b 32 (λ e. omega arith)))
 
 decimal_black : (n : ℕ) → n < 2 ^ 64 → list_all has_no_space (decimal n) ≡ true
 decimal_black n small = all_weaker is_ascii_digit has_no_space digit_is_black (decimal n) (decimal_digits n small)
@@ -72,10 +80,13 @@ printed_letter_black Z = refl
 
 printed_black : (v : List Bit) → list_all has_no_space (printed_letters v) ≡ true
 printed_black [] = refl
-printed_black (b ∷ v) = and_from (has_no_space (printed_letter b)) (list_all has_no_space (printed_letters v)) (printed_letter_black b) (printed_black v)
+printed_black (b ∷ v) =
+    and_from (has_no_space (printed_letter b)) (list_all has_no_space (printed_letters v)) (printed_letter_black b)
+    (printed_black v)
 
 -- a word with another byte in front
-longer_unbroken : (b : ℕ) (w : List ℕ) → has_no_space b ≡ true → list_all has_no_space w ≡ true → is_unbroken (b ∷ w) ≡ true
+longer_unbroken : (b : ℕ) (w : List ℕ) → has_no_space b ≡ true → list_all has_no_space w ≡ true
+    → is_unbroken (b ∷ w) ≡ true
 longer_unbroken b w first rest = and_from (has_no_space b) (list_all has_no_space w) first rest
 
 unit_unbroken : (unit : TimeUnit) → is_unbroken (unit_text unit) ≡ true
@@ -94,23 +105,31 @@ header_word_unbroken Comment = refl
 -- ---- items
 
 -- words up to `$end`
-with_end_unbroken : (ws : List (List ℕ)) → list_all is_unbroken ws ≡ true → list_all is_unbroken (ws ++ end_word ∷ []) ≡ true
-with_end_unbroken ws words = list_all-append is_unbroken ws (end_word ∷ []) ∙ and_from (list_all is_unbroken ws) true words refl
+with_end_unbroken : (ws : List (List ℕ)) → list_all is_unbroken ws ≡ true
+    → list_all is_unbroken (ws ++ end_word ∷ []) ≡ true
+with_end_unbroken ws words = list_all-append is_unbroken ws (end_word ∷ [])
+    ∙ and_from (list_all is_unbroken ws) true words refl
 
 -- items in front and items behind
-both_spelled : (xs ys : List Item) → list_all is_spelled xs ≡ true → list_all is_spelled ys ≡ true → list_all is_spelled (xs ++ ys) ≡ true
-both_spelled xs ys front back = list_all-append is_spelled xs ys ∙ and_from (list_all is_spelled xs) (list_all is_spelled ys) front back
+both_spelled : (xs ys : List Item) → list_all is_spelled xs ≡ true → list_all is_spelled ys ≡ true
+    → list_all is_spelled (xs ++ ys) ≡ true
+both_spelled xs ys front back = list_all-append is_spelled xs ys
+    ∙ and_from (list_all is_spelled xs) (list_all is_spelled ys) front back
 
 one_word : (w : List ℕ) → is_unbroken w ≡ true → list_all is_unbroken (w ∷ []) ≡ true
 one_word w unbroken = and_from (is_unbroken w) true unbroken refl
 
 vector_spelled : (k : ℕ) (v : List Bit) → is_spelled (vector 98 (printed_letters (short_form v)) (code_of k)) ≡ true
 vector_spelled k v =
-    and_from (is_unbroken (98 ∷ printed_letters (short_form v))) (list_all is_unbroken (code_of k ∷ [])) (longer_unbroken 98 (printed_letters (short_form v)) refl (printed_black (short_form v))) (one_word (code_of k) (code_unbroken k))
+    and_from (is_unbroken (98 ∷ printed_letters (short_form v))) (list_all is_unbroken (code_of k ∷ []))
+    (longer_unbroken 98 (printed_letters (short_form v)) refl (printed_black (short_form v)))
+    (one_word (code_of k) (code_unbroken k))
 
 value_spelled : (k : ℕ) (v : List Bit) → is_spelled (value_item (code_of k) v) ≡ true
 value_spelled k [] = vector_spelled k []
-value_spelled k (b ∷ []) = one_word (printed_letter b ∷ code_of k) (longer_unbroken (printed_letter b) (code_of k) (printed_letter_black b) (code_black k))
+value_spelled k (b ∷ []) =
+    one_word (printed_letter b ∷ code_of k)
+    (longer_unbroken (printed_letter b) (code_of k) (printed_letter_black b) (code_black k))
 value_spelled k (b ∷ c ∷ v) = vector_spelled k (b ∷ c ∷ v)
 
 values_spelled : (t : ℕ) (placed : List (ℕ × SignalContents)) → list_all is_spelled (value_items t placed) ≡ true
@@ -122,9 +141,11 @@ values_spelled t (p ∷ ps) =
 stamp_spelled : (t : ℕ) → t < 2 ^ 64 → is_spelled (stamp_of t) ≡ true
 stamp_spelled t small = one_word (35 ∷ decimal t) (longer_unbroken 35 (decimal t) refl (decimal_black t small))
 
-stamped_spelled : (t : ℕ) (items : List Item) → t < 2 ^ 64 → list_all is_spelled items ≡ true → list_all is_spelled (with_stamp t items) ≡ true
+stamped_spelled : (t : ℕ) (items : List Item) → t < 2 ^ 64 → list_all is_spelled items ≡ true
+    → list_all is_spelled (with_stamp t items) ≡ true
 stamped_spelled t [] small spelled = refl
-stamped_spelled t (v ∷ vs) small spelled = and_from (is_spelled (stamp_of t)) (list_all is_spelled (v ∷ vs)) (stamp_spelled t small) spelled
+stamped_spelled t (v ∷ vs) small spelled =
+    and_from (is_spelled (stamp_of t)) (list_all is_spelled (v ∷ vs)) (stamp_spelled t small) spelled
 
 first_spelled : (signals : List SignalContents) → list_all is_spelled (first_items signals) ≡ true
 first_spelled signals =
@@ -132,32 +153,42 @@ first_spelled signals =
     (and_from (is_spelled (stamp_of 0)) true (stamp_spelled 0 (omega arith)) refl)
     (both_spelled (all_values signals 0) (bracket end_word ∷ []) (values_spelled 0 (enumerate_from 0 signals)) refl)
 
-ticks_spelled : (signals : List SignalContents) (t n : ℕ) → t + n ≤ 2 ^ 64 → list_all is_spelled (tick_items signals t n) ≡ true
+ticks_spelled : (signals : List SignalContents) (t n : ℕ) → t + n ≤ 2 ^ 64
+    → list_all is_spelled (tick_items signals t n) ≡ true
 unfolding tick_items
 ticks_spelled signals t zero small = refl
 ticks_spelled signals t (suc n) small =
     both_spelled (with_stamp t (new_values signals t)) (tick_items signals (suc t) n)
-    (stamped_spelled t (new_values signals t) (omega arith) (values_spelled t (filter (λ p. differs_at t p.1) (enumerate_from 0 signals))))
+    (stamped_spelled t (new_values signals t) (omega arith)
+    (values_spelled t (filter (λ p. differs_at t p.1) (enumerate_from 0 signals))))
     (ticks_spelled signals (suc t) n (omega arith))
 
-end_spelled : (signals : List SignalContents) (end : ℕ) → end < 2 ^ 64 → list_all is_spelled (end_items signals end) ≡ true
+end_spelled : (signals : List SignalContents) (end : ℕ) → end < 2 ^ 64
+    → list_all is_spelled (end_items signals end) ≡ true
 end_spelled signals end small =
-    cond_both (nat_lt 0 end && (length (new_values signals end) == 0)) (stamp_of end ∷ []) [] (λ items. list_all is_spelled items ≡ true)
+    cond_both (nat_lt 0 end && (length (new_values signals end) == 0)) (stamp_of end ∷ []) []
+    (λ items. list_all is_spelled items ≡ true)
     (λ e. and_from (is_spelled (stamp_of end)) true (stamp_spelled end small) refl) (λ e. refl)
 
-header_spelled : (header : List Header) → list_all is_sound_header header ≡ true → list_all is_spelled (header_items header) ≡ true
+header_spelled : (header : List Header) → list_all is_sound_header header ≡ true
+    → list_all is_spelled (header_items header) ≡ true
 header_spelled [] sound = refl
 header_spelled (h ∷ hs) sound =
-    let parts : (is_sound_header h ≡ true) × (list_all is_sound_header hs ≡ true) = and_parts (is_sound_header h) (list_all is_sound_header hs) sound in
+    let parts : (is_sound_header h ≡ true) × (list_all is_sound_header hs ≡ true) =
+    and_parts (is_sound_header h) (list_all is_sound_header hs) sound in
     and_from (is_spelled (entry h.kind h.words)) (list_all is_spelled (header_items hs))
-    (and_from (is_unbroken (header_word h.kind)) (list_all is_unbroken (h.words ++ end_word ∷ [])) (header_word_unbroken h.kind) (with_end_unbroken h.words (words_are_unbroken h.words parts.0)))
+    (and_from (is_unbroken (header_word h.kind)) (list_all is_unbroken (h.words ++ end_word ∷ []))
+    (header_word_unbroken h.kind) (with_end_unbroken h.words (words_are_unbroken h.words parts.0)))
     (header_spelled hs parts.1)
 
-timescale_is_spelled : (t : Option Timescale) → IfSome t (λ t. IsTrue (is_sound_timescale t)) → list_all is_spelled (timescale_items t) ≡ true
+timescale_is_spelled : (t : Option Timescale) → IfSome t (λ t. IsTrue (is_sound_timescale t))
+    → list_all is_spelled (timescale_items t) ≡ true
 timescale_is_spelled None sound = refl
 timescale_is_spelled (Some t) sound =
     and_from (is_spelled (timescale (decimal t.count ∷ unit_text t.unit ∷ []))) true
-    (and_from (is_unbroken (decimal t.count)) (is_unbroken (unit_text t.unit) && true) (decimal_unbroken t.count (count_small t.count (sound_count t sound))) (one_word (unit_text t.unit) (unit_unbroken t.unit)))
+    (and_from (is_unbroken (decimal t.count)) (is_unbroken (unit_text t.unit) && true)
+    (decimal_unbroken t.count (count_small t.count (sound_count t sound)))
+    (one_word (unit_text t.unit) (unit_unbroken t.unit)))
     refl
 
 upscopes_spelled : (n : ℕ) → list_all is_spelled (replicate n upscope) ≡ true
@@ -168,33 +199,44 @@ all_upscopes_spelled : (opened : List ScopeName) → list_all is_spelled (map (�
 all_upscopes_spelled [] = refl
 all_upscopes_spelled (s ∷ opened) = all_upscopes_spelled opened
 
-scopes_spelled : (n : ℕ) (path : List ScopeName) → list_all is_sound_scope path ≡ true → list_all is_spelled (map (λ s. scope s.kind s.words) (drop n path)) ≡ true
+scopes_spelled : (n : ℕ) (path : List ScopeName) → list_all is_sound_scope path ≡ true
+    → list_all is_spelled (map (λ s. scope s.kind s.words) (drop n path)) ≡ true
 scopes_spelled zero [] sound = refl
 scopes_spelled (suc n) [] sound = refl
 scopes_spelled zero (s ∷ path) sound =
-    let parts : (is_sound_scope s ≡ true) × (list_all is_sound_scope path ≡ true) = and_parts (is_sound_scope s) (list_all is_sound_scope path) sound in
-    let words : (is_word s.kind ≡ true) × (list_all is_word s.words ≡ true) = and_parts (is_word s.kind) (list_all is_word s.words) parts.0 in
+    let parts : (is_sound_scope s ≡ true) × (list_all is_sound_scope path ≡ true) =
+    and_parts (is_sound_scope s) (list_all is_sound_scope path) sound in
+    let words : (is_word s.kind ≡ true) × (list_all is_word s.words ≡ true) =
+    and_parts (is_word s.kind) (list_all is_word s.words) parts.0 in
     and_from (is_spelled (scope s.kind s.words)) (list_all is_spelled (map (λ s. scope s.kind s.words) path))
-    (and_from (is_unbroken s.kind) (list_all is_unbroken (s.words ++ end_word ∷ [])) (word_is_unbroken s.kind words.0) (with_end_unbroken s.words (words_are_unbroken s.words words.1)))
+    (and_from (is_unbroken s.kind) (list_all is_unbroken (s.words ++ end_word ∷ [])) (word_is_unbroken s.kind words.0)
+    (with_end_unbroken s.words (words_are_unbroken s.words words.1)))
     (scopes_spelled zero path parts.1)
-scopes_spelled (suc n) (s ∷ path) sound = scopes_spelled n path (and_parts (is_sound_scope s) (list_all is_sound_scope path) sound).1
+scopes_spelled (suc n) (s ∷ path) sound =
+    scopes_spelled n path (and_parts (is_sound_scope s) (list_all is_sound_scope path) sound).1
 
 variable_spelled : (end k : ℕ) (s : SignalContents) → IsSoundSignal end s → is_spelled (variable_item k s) ≡ true
 variable_spelled end k s sound =
     let most : s.width ≤ WIDTH_LIMIT = sound.most in
     with_end_unbroken (s.kind ∷ decimal s.width ∷ code_of k ∷ s.words)
-    (and_from (is_unbroken s.kind) (list_all is_unbroken (decimal s.width ∷ code_of k ∷ s.words)) (word_is_unbroken s.kind sound.kind)
-    (and_from (is_unbroken (decimal s.width)) (list_all is_unbroken (code_of k ∷ s.words)) (decimal_unbroken s.width (omega arith))
-    (and_from (is_unbroken (code_of k)) (list_all is_unbroken s.words) (code_unbroken k) (words_are_unbroken s.words sound.words))))
+    (and_from (is_unbroken s.kind) (list_all is_unbroken (decimal s.width ∷ code_of k ∷ s.words))
+    (word_is_unbroken s.kind sound.kind)
+    (and_from (is_unbroken (decimal s.width)) (list_all is_unbroken (code_of k ∷ s.words))
+    (decimal_unbroken s.width (omega arith))
+    (and_from (is_unbroken (code_of k)) (list_all is_unbroken s.words) (code_unbroken k)
+    (words_are_unbroken s.words sound.words))))
 
-signals_spelled : (end : ℕ) (opened : List ScopeName) (k : ℕ) (signals : List SignalContents) → AllByRecursion (IsSoundSignal end) signals → list_all is_spelled (signal_items opened k signals) ≡ true
+signals_spelled : (end : ℕ) (opened : List ScopeName) (k : ℕ) (signals : List SignalContents)
+    → AllByRecursion (IsSoundSignal end) signals → list_all is_spelled (signal_items opened k signals) ≡ true
 unfolding signal_items
 signals_spelled end opened k [] sound = all_upscopes_spelled opened
 signals_spelled end opened k (s ∷ ss) sound =
     let shared : ℕ = common_prefix_len same_scope opened s.scopes in
     both_spelled (scope_items opened s.scopes) (variable_item k s ∷ signal_items s.scopes (suc k) ss)
-    (both_spelled (replicate (length opened - shared) upscope) (map (λ s. scope s.kind s.words) (drop shared s.scopes)) (upscopes_spelled (length opened - shared)) (scopes_spelled shared s.scopes sound.0.scopes))
-    (and_from (is_spelled (variable_item k s)) (list_all is_spelled (signal_items s.scopes (suc k) ss)) (variable_spelled end k s sound.0) (signals_spelled end s.scopes (suc k) ss sound.1))
+    (both_spelled (replicate (length opened - shared) upscope) (map (λ s. scope s.kind s.words) (drop shared s.scopes))
+    (upscopes_spelled (length opened - shared)) (scopes_spelled shared s.scopes sound.0.scopes))
+    (and_from (is_spelled (variable_item k s)) (list_all is_spelled (signal_items s.scopes (suc k) ss))
+    (variable_spelled end k s sound.0) (signals_spelled end s.scopes (suc k) ss sound.1))
 
 -- every word of a sound capture's items
 pub items_spelled : (c : Contents) → IsSound c → list_all is_spelled (items_of c) ≡ true
@@ -208,9 +250,11 @@ items_spelled c sound =
     (both_spelled first (tick_items c.signals 1 c.end)
     (both_spelled declared (end_definitions ∷ first_items c.signals)
     (both_spelled front (signal_items [] 0 c.signals)
-    (both_spelled (header_items c.header) (timescale_items c.timescale) (header_spelled c.header sound.header) (timescale_is_spelled c.timescale sound.timescale))
+    (both_spelled (header_items c.header) (timescale_items c.timescale) (header_spelled c.header sound.header)
+    (timescale_is_spelled c.timescale sound.timescale))
     (signals_spelled c.end [] 0 c.signals (recursion_from_All (IsSoundSignal c.end) c.signals sound.signals)))
-    (and_from (is_spelled end_definitions) (list_all is_spelled (first_items c.signals)) refl (first_spelled c.signals)))
+    (and_from (is_spelled end_definitions) (list_all is_spelled (first_items c.signals)) refl
+    (first_spelled c.signals)))
     (ticks_spelled c.signals 1 c.end (omega arith)))
     (end_spelled c.signals c.end (omega arith))
 

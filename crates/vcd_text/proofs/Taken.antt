@@ -1,6 +1,7 @@
 -- One more word, or both of a change of several bits, from the first word of the file on.
 use Rattle.std.specs.Prelude.{Bool, true, false, IsTrue, IsFalse, ◌==◌, ◌&&◌, not}
-use Rattle.std.proofs.Common.{◌≡◌, ◌⊎◌, inl, inr, cond, Ok, Err, List, [], ◌∷◌, ◌++◌, refl, sym, ap, subst, ◌∙◌, append_assoc}
+use Rattle.std.proofs.Common.{◌≡◌, ◌⊎◌, inl, inr, cond, Ok, Err, List, [], ◌∷◌, ◌++◌, refl, sym, ap, subst, ◌∙◌}
+use Rattle.std.proofs.Common.{append_assoc}
 use Rattle.std.proofs.lemmas.List.{append-nil, map-append}
 use Rattle.std.proofs.lemmas.Bool.{and_parts, eqb-true, false≢true}
 use Rattle.std.specs.Prelude.{ℕ}
@@ -9,11 +10,16 @@ use Rattle.vcd_text.specs.declared.fault.ReadError.{ReadError}
 use Rattle.vcd_text.specs.Words.{PlacedWord, word_on}
 use Rattle.vcd_text.specs.Letters.{is_among}
 use Rattle.vcd_core.specs.Word.{is_one_of}
-use Rattle.vcd_text.specs.Items.{Item, spelling, spellings, is_other, begins_declaration, declaring_words, dump_words, vector_prefixes}
-use Rattle.vcd_text.specs.Grammar.{ParseState, Allows, AllowsAll, state_after, state_after_item, initial_state, word_texts}
-use Rattle.vcd_text.specs.Faults.{WordFault, among_declarations, among_changes, ChangeFault, no_tick, tick_goes_back, value_alone, value_of_none, pair_of_none, no_value, value_too_long, declaration_late, no_change, pair_prefixes, ShowsFault, fault_line}
+use Rattle.vcd_text.specs.Items.{Item, spelling, spellings, is_other, begins_declaration, declaring_words, dump_words}
+use Rattle.vcd_text.specs.Items.{vector_prefixes}
+use Rattle.vcd_text.specs.Grammar.{ParseState, Allows, AllowsAll, state_after, state_after_item, initial_state}
+use Rattle.vcd_text.specs.Grammar.{word_texts}
+use Rattle.vcd_text.specs.Faults.{WordFault, among_declarations, among_changes, ChangeFault, no_tick, tick_goes_back}
+use Rattle.vcd_text.specs.Faults.{value_alone, value_of_none, pair_of_none, no_value, value_too_long, declaration_late}
+use Rattle.vcd_text.specs.Faults.{no_change, pair_prefixes, ShowsFault, fault_line}
 use Rattle.vcd_text.specs.inside.OpenItems.{shown_line}
-use Rattle.vcd_text.specs.inside.Reading.{Reads, WordStep, goes_on, ends_item, ReaderMatches, IsBegun, is_want_of_memory, error_at, BeginsVector, WordsResult}
+use Rattle.vcd_text.specs.inside.Reading.{Reads, WordStep, goes_on, ends_item, ReaderMatches, IsBegun}
+use Rattle.vcd_text.specs.inside.Reading.{is_want_of_memory, error_at, BeginsVector, WordsResult}
 use Rattle.vcd_text.specs.inside.Variables.{VariablesMatch, BinaryNumberFault, ChangeResult}
 use Rattle.vcd_text.specs.Refusals.{memory_error}
 use Rattle.vcd_text.specs.declared.fault.Fault.TheVariants.{NoMemory}
@@ -23,20 +29,24 @@ use Rattle.vcd_text.specs.declared.reading.reader.Reader.{Reader}
 use Rattle.vcd_text.specs.declared.reading.variables.Variables.{Variables}
 use Rattle.vcd_text.proofs.Changing.{none_begun, whole_vector, vector_shown}
 
-allowed_more : (c : ParseState) (is : List Item) (i : Item) → AllowsAll c is → Allows (state_after c is) i → AllowsAll c (is ++ i ∷ [])
+allowed_more : (c : ParseState) (is : List Item) (i : Item) → AllowsAll c is → Allows (state_after c is) i
+    → AllowsAll c (is ++ i ∷ [])
 allowed_more c [] i all here = (here, tt)
 allowed_more c (j ∷ is) i (first, rest) here = (first, allowed_more (state_after_item c j) is i rest here)
 
-after_more : (c : ParseState) (is : List Item) (i : Item) → state_after c (is ++ i ∷ []) ≡ state_after_item (state_after c is) i
+after_more : (c : ParseState) (is : List Item) (i : Item)
+    → state_after c (is ++ i ∷ []) ≡ state_after_item (state_after c is) i
 after_more c [] i = refl
 after_more c (j ∷ is) i = after_more (state_after_item c j) is i
 
 spelled_more : (is : List Item) (i : Item) → spellings (is ++ i ∷ []) ≡ spellings is ++ spelling i
 spelled_more [] i = append-nil (spelling i)
-spelled_more (j ∷ is) i = ap (λ ws. spelling j ++ ws) (spelled_more is i) ∙ sym (append_assoc (spelling j) (spellings is) (spelling i))
+spelled_more (j ∷ is) i = ap (λ ws. spelling j ++ ws) (spelled_more is i)
+    ∙ sym (append_assoc (spelling j) (spellings is) (spelling i))
 
 -- words that go on with the open item, or end it
-pub words_taken : (old new : Reader) (taken words : List PlacedWord) (r : Reads old taken) → WordStep r.told (r.begun ++ words) new → Reads new (taken ++ words)
+pub words_taken : (old new : Reader) (taken words : List PlacedWord) (r : Reads old taken)
+    → WordStep r.told (r.begun ++ words) new → Reads new (taken ++ words)
 words_taken old new taken words r (goes_on at) = record {
   items = r.items;
   whole = r.whole;
@@ -66,8 +76,10 @@ words_taken old new taken words r (ends_item i spelled allows at) = record {
 }
 
 -- behind the whole items a word shows a fault, whatever follows it
-shown_after : (old : Reader) (taken words begun more : List PlacedWord) (w : PlacedWord) (r : Reads old taken) (line : ℕ) (fault : Fault) → words ≡ r.whole ++ (begun ++ w ∷ more)
-    → WordFault r.told (word_texts begun) w.text fault → line ≡ fault_line r.told.changing begun w → ShowsFault words line fault
+shown_after : (old : Reader) (taken words begun more : List PlacedWord) (w : PlacedWord) (r : Reads old taken)
+    (line : ℕ) (fault : Fault) → words ≡ r.whole ++ (begun ++ w ∷ more)
+    → WordFault r.told (word_texts begun) w.text fault → line ≡ fault_line r.told.changing begun w
+    → ShowsFault words line fault
 shown_after old taken words begun more w r line fault parts decided at = record {
   items = r.items;
   whole = r.whole;
@@ -86,7 +98,8 @@ error_shown : (words : List PlacedWord) (line : ℕ) (fault : Fault) → (fault 
     → (error_at line fault ≡ memory_error) ⊎ ShowsFault words (error_at line fault).line (error_at line fault).fault
 error_shown words line fault (inl none) = inl (ap (error_at line) none)
 error_shown words line fault (inr shows) =
-    by_test (λ b. let e : ReadError = cond b memory_error (record { line = line; fault = fault }) in (e ≡ memory_error) ⊎ ShowsFault words e.line e.fault)
+    by_test (λ b. let e : ReadError = cond b memory_error (record { line = line; fault = fault }) in
+    (e ≡ memory_error) ⊎ ShowsFault words e.line e.fault)
     (is_want_of_memory fault) (inl refl) (inr shows)
   where
     by_test : (P : Bool → Type 0) (b : Bool) → P true → P false → P b
@@ -96,7 +109,8 @@ error_shown words line fault (inr shows) =
 -- ---- lines
 
 -- a word that begins another command begins no change of two words
-no_pair : (letters : List ℕ) (changing : Bool) (keyword : List ℕ) (words : List (List ℕ)) (first : ℕ) (text : List ℕ) → is_among letters 36 ≡ false
+no_pair : (letters : List ℕ) (changing : Bool) (keyword : List ℕ) (words : List (List ℕ)) (first : ℕ) (text : List ℕ)
+    → is_among letters 36 ≡ false
     → IsTrue (is_other changing keyword) → keyword ∷ words ≡ (first ∷ text) ∷ [] → IsTrue (is_among letters first) → ⊥
 no_pair letters changing [] words first text none is same among = absurd (cc)
 no_pair letters changing (b ∷ bs) words first text none is same among =
@@ -107,14 +121,18 @@ no_pair letters changing (b ∷ bs) words first text none is same among =
     false≢true (sym none ∙ ap (is_among letters) (sym (eqb-true b 36 r.0) ∙ first_is) ∙ among)
 
 -- behind another command no word shows a fault
-passed_over : (c : ParseState) (keyword : List ℕ) (words : List (List ℕ)) (word : List ℕ) (fault : Fault) → IsTrue (is_other c.changing keyword) → ChangeFault c (keyword ∷ words) word fault → ⊥
+passed_over : (c : ParseState) (keyword : List ℕ) (words : List (List ℕ)) (word : List ℕ) (fault : Fault)
+    → IsTrue (is_other c.changing keyword) → ChangeFault c (keyword ∷ words) word fault → ⊥
 passed_over c keyword words word fault is (no_tick digits begun p q r) = absurd (cc)
 passed_over c keyword words word fault is (tick_goes_back digits begun p q r s) = absurd (cc)
 passed_over c keyword words word fault is (value_alone letter begun p q r) = absurd (cc)
 passed_over c keyword words word fault is (value_of_none letter code begun p q r s t) = absurd (cc)
-passed_over c keyword words word fault is (pair_of_none first text begun among p q) = no_pair pair_prefixes c.changing keyword words first text refl is begun among
-passed_over c keyword words word fault is (no_value first digits d begun among p q r s) = no_pair vector_prefixes c.changing keyword words first digits refl is begun among
-passed_over c keyword words word fault is (value_too_long first digits d begun among p q r s t) = no_pair vector_prefixes c.changing keyword words first digits refl is begun among
+passed_over c keyword words word fault is (pair_of_none first text begun among p q) =
+    no_pair pair_prefixes c.changing keyword words first text refl is begun among
+passed_over c keyword words word fault is (no_value first digits d begun among p q r s) =
+    no_pair vector_prefixes c.changing keyword words first digits refl is begun among
+passed_over c keyword words word fault is (value_too_long first digits d begun among p q r s t) =
+    no_pair vector_prefixes c.changing keyword words first digits refl is begun among
 passed_over c keyword words word fault is (declaration_late begun p q) = absurd (cc)
 passed_over c keyword words word fault is (no_change first text begun p q r s) = absurd (cc)
 
@@ -122,41 +140,54 @@ line_of_first : (changing : Bool) (w : PlacedWord) → w.line ≡ fault_line cha
 line_of_first false w = refl
 line_of_first true w = refl
 
-declaring : (m : Reader) (c : ParseState) (begun : List PlacedWord) (w : PlacedWord) → ReaderMatches m c → IsFalse m.changing → w.line ≡ fault_line c.changing begun w
+declaring : (m : Reader) (c : ParseState) (begun : List PlacedWord) (w : PlacedWord) → ReaderMatches m c
+    → IsFalse m.changing → w.line ≡ fault_line c.changing begun w
 declaring m c begun w agrees none = sym (ap (λ b. fault_line b begun w) (sym agrees.changing ∙ none))
 
 -- the line that is shown is that of the definition
-pub line_shown : (m : Reader) (c : ParseState) (begun : List PlacedWord) (w : PlacedWord) (fault : Fault) (item : OpenItem) → ReaderMatches m c → IsBegun m begun item → WordFault c (word_texts begun) w.text fault
+pub line_shown : (m : Reader) (c : ParseState) (begun : List PlacedWord) (w : PlacedWord) (fault : Fault)
+    (item : OpenItem) → ReaderMatches m c → IsBegun m begun item → WordFault c (word_texts begun) w.text fault
     → shown_line item m.line w.line ≡ fault_line c.changing begun w
-line_shown m c begun w fault items.Nothing agrees none decided = line_of_first c.changing w ∙ ap (λ ws. fault_line c.changing ws w) (sym none)
+line_shown m c begun w fault items.Nothing agrees none decided = line_of_first c.changing w
+    ∙ ap (λ ws. fault_line c.changing ws w) (sym none)
 line_shown m c begun w fault (items.Entry kind) agrees is decided = declaring m c begun w agrees is.declares
 line_shown m c begun w fault items.Timescale agrees is decided = declaring m c begun w agrees is.declares
 line_shown m c begun w fault items.Scope agrees is decided = declaring m c begun w agrees is.declares
 line_shown m c begun w fault items.Upscope agrees is decided = declaring m c begun w agrees is.0
 line_shown m c begun w fault items.Variable agrees is decided = declaring m c begun w agrees is.0.declares
 line_shown m c begun w fault items.EndDefinitions agrees is decided = declaring m c begun w agrees is.0
-line_shown m c begun w fault items.Other agrees is (among_declarations none shows) = sym (ap (λ b. fault_line b begun w) none)
+line_shown m c begun w fault items.Other agrees is (among_declarations none shows) =
+    sym (ap (λ b. fault_line b begun w) none)
 line_shown m c begun w fault items.Other agrees is (among_changes all shows) =
-    absurd (passed_over c is.keyword is.words w.text fault (subst (λ b. IsTrue (is_other b is.keyword)) agrees.changing is.other) (subst (λ ws. ChangeFault c ws w.text fault) is.spelled shows))
-line_shown m c begun w fault items.Vector agrees is decided = is.line ∙ sym ((λ i. fault_line (sym agrees.changing i) (is.is i) w) ∙ ap (λ b. fault_line b (is.word ∷ []) w) is.changes)
-line_shown m c begun w fault items.Dropped agrees (text, is) decided = is.line ∙ sym ((λ i. fault_line (sym agrees.changing i) (is.is i) w) ∙ ap (λ b. fault_line b (is.word ∷ []) w) is.changes)
+    absurd (passed_over c is.keyword is.words w.text fault
+    (subst (λ b. IsTrue (is_other b is.keyword)) agrees.changing is.other)
+    (subst (λ ws. ChangeFault c ws w.text fault) is.spelled shows))
+line_shown m c begun w fault items.Vector agrees is decided = is.line
+    ∙ sym ((λ i. fault_line (sym agrees.changing i) (is.is i) w) ∙ ap (λ b. fault_line b (is.word ∷ []) w) is.changes)
+line_shown m c begun w fault items.Dropped agrees (text, is) decided = is.line
+    ∙ sym ((λ i. fault_line (sym agrees.changing i) (is.is i) w) ∙ ap (λ b. fault_line b (is.word ∷ []) w) is.changes)
 
 -- the fault of a word is that of the definition, with its line, whatever follows
-pub one_shown : (old : Reader) (taken more : List PlacedWord) (w : PlacedWord) (r : Reads old taken) (fault : Fault) → (fault ≡ NoMemory) ⊎ WordFault r.told (word_texts r.begun) w.text fault
-    → (let e : ReadError = error_at (shown_line old.item old.line w.line) fault in (e ≡ memory_error) ⊎ ShowsFault (taken ++ w ∷ more) e.line e.fault)
+pub one_shown : (old : Reader) (taken more : List PlacedWord) (w : PlacedWord) (r : Reads old taken) (fault : Fault)
+    → (fault ≡ NoMemory) ⊎ WordFault r.told (word_texts r.begun) w.text fault
+    → (let e : ReadError = error_at (shown_line old.item old.line w.line) fault in
+    (e ≡ memory_error) ⊎ ShowsFault (taken ++ w ∷ more) e.line e.fault)
 one_shown old taken more w r fault refused =
     let line = shown_line old.item old.line w.line in
     let words : List PlacedWord = taken ++ w ∷ more in
-    let parts : words ≡ r.whole ++ (r.begun ++ w ∷ more) = ap (λ ws. ws ++ w ∷ more) r.parts ∙ append_assoc r.whole r.begun (w ∷ more) in
+    let parts : words ≡ r.whole ++ (r.begun ++ w ∷ more) = ap (λ ws. ws ++ w ∷ more) r.parts
+    ∙ append_assoc r.whole r.begun (w ∷ more) in
     error_shown words line fault (elim refused [
       | inl memory ↦ inl memory
-      | inr row ↦ inr (shown_after old taken words r.begun more w r line fault parts row (line_shown old r.told r.begun w fault old.item r.at.0 r.at.1 row))
+      | inr row ↦ inr (shown_after old taken words r.begun more w r line fault parts row
+          (line_shown old r.told r.begun w fault old.item r.at.0 r.at.1 row))
     ])
 
 -- ---- both words of a change of several bits
 
 -- they are taken at once
-pub whole_vector_taken : (m : Reader) (vs : Variables) (text digits code : List ℕ) (line code_line : ℕ) → BeginsVector m text digits
+pub whole_vector_taken : (m : Reader) (vs : Variables) (text digits code : List ℕ) (line code_line : ℕ)
+    → BeginsVector m text digits
     → ((c : ParseState) → c.tick ≡ m.tick → VariablesMatch m.variables c → ChangeResult c code digits (Ok tt) vs)
     → WordsResult m (word_on text line ∷ word_on code code_line ∷ []) (Ok tt) (record m { variables = vs })
 whole_vector_taken m vs text digits code line code_line b takes taken r =
@@ -164,20 +195,27 @@ whole_vector_taken m vs text digits code line code_line b takes taken r =
     let none = none_begun m r.begun b.between r.at.1 in
     words_taken m (record m { variables = vs }) taken words r
     (whole_vector m r.told vs m.item (r.begun ++ words) b.letter digits code r.at.0 b.changes b.between b.among
-    (sym (ap (λ bs. word_texts (bs ++ words)) none ∙ ap (λ t. t ∷ code ∷ []) b.spelled)) (takes r.told (sym r.at.0.tick) r.at.0.variables))
+    (sym (ap (λ bs. word_texts (bs ++ words)) none ∙ ap (λ t. t ∷ code ∷ []) b.spelled))
+    (takes r.told (sym r.at.0.tick) r.at.0.variables))
 
 -- the code shows a fault, with the line of the first
-pub whole_vector_refused : (m new : Reader) (text digits code : List ℕ) (line code_line : ℕ) (fault : Fault) → BeginsVector m text digits
-    → ((c : ParseState) → c.tick ≡ m.tick → VariablesMatch m.variables c → (fault ≡ NoMemory) ⊎ BinaryNumberFault c code digits fault)
+pub whole_vector_refused : (m new : Reader) (text digits code : List ℕ) (line code_line : ℕ) (fault : Fault)
+    → BeginsVector m text digits
+    → ((c : ParseState) → c.tick ≡ m.tick → VariablesMatch m.variables c
+    → (fault ≡ NoMemory) ⊎ BinaryNumberFault c code digits fault)
     → WordsResult m (word_on text line ∷ word_on code code_line ∷ []) (Err (error_at line fault)) new
 whole_vector_refused m new text digits code line code_line fault b refuses taken more r =
     let first = word_on text line in
     let words : List PlacedWord = taken ++ first ∷ word_on code code_line ∷ more in
     let none = none_begun m r.begun b.between r.at.1 in
-    let parts : words ≡ r.whole ++ first ∷ word_on code code_line ∷ more = ap (λ ws. ws ++ first ∷ word_on code code_line ∷ more) (r.parts ∙ ap (λ bs. r.whole ++ bs) none ∙ append-nil r.whole) in
+    let parts : words ≡ r.whole ++ first ∷ word_on code code_line ∷ more =
+    ap (λ ws. ws ++ first ∷ word_on code code_line ∷ more) (r.parts ∙ ap (λ bs. r.whole ++ bs) none
+    ∙ append-nil r.whole) in
     error_shown words line fault (elim (refuses r.told (sym r.at.0.tick) r.at.0.variables) [
       | inl memory ↦ inl memory
       | inr row ↦ inr (shown_after m taken words (first ∷ []) more (word_on code code_line) r line fault parts
-          (subst (λ t. WordFault r.told (t ∷ []) code fault) (sym b.spelled) (vector_shown m r.told b.letter digits code fault r.at.0 b.changes b.among row))
-          (ap (λ changing. fault_line changing (first ∷ []) (word_on code code_line)) (sym b.changes ∙ r.at.0.changing)))
+          (subst (λ t. WordFault r.told (t ∷ []) code fault) (sym b.spelled)
+          (vector_shown m r.told b.letter digits code fault r.at.0 b.changes b.among row))
+          (ap (λ changing. fault_line changing (first ∷ []) (word_on code code_line)) (sym b.changes
+          ∙ r.at.0.changing)))
     ])

@@ -1,5 +1,8 @@
 -- The declarations of a capture's text are allowed, and tell what the capture declares.
-use Rattle.std.proofs.Common.{◌≡◌, ◌<◌, ◌≤◌, ◌+◌, ◌^◌, ◌∙◌, ◌&&◌, cond, ℕ, suc, true, false, not, List, [], ◌∷◌, ◌++◌, find, length, Option, Some, None, IsSome, IsSomeAnd, IfSome, IsTrue, refl, sym, ap, subst, arith, le_of_lt, le_refl, lt_of_le_of_lt, append_assoc, append-nil, decimal, nat_lt, option_to_list}
+use Rattle.std.proofs.Common.{◌≡◌, ◌<◌, ◌≤◌, ◌+◌, ◌^◌, ◌∙◌, ◌&&◌, cond, ℕ, suc, true, false, not, List, [], ◌∷◌, ◌++◌}
+use Rattle.std.proofs.Common.{find, length, Option, Some, None, IsSome, IsSomeAnd, IfSome, IsTrue, refl, sym, ap, subst}
+use Rattle.std.proofs.Common.{arith, le_of_lt, le_refl, lt_of_le_of_lt, append_assoc, append-nil, decimal, nat_lt}
+use Rattle.std.proofs.Common.{option_to_list}
 use Rattle.std.specs.List.{list_all, AllByRecursion}
 use Rattle.std.specs.Option.{option_or}
 use Rattle.std.specs.Str.{bytes_eq}
@@ -13,7 +16,8 @@ use Rattle.vcd_core.specs.declared.capture.Header.{Header}
 use Rattle.vcd_core.specs.declared.capture.Timescale.{Timescale}
 use Rattle.vcd_core.specs.declared.capture.ScopeName.{ScopeName}
 use Rattle.vcd_core.specs.declared.capture.TimeUnit.{TimeUnit}
-use Rattle.vcd_core.specs.declared.capture.TimeUnit.TheVariants.{Second, Millisecond, Microsecond, Nanosecond, Picosecond, Femtosecond}
+use Rattle.vcd_core.specs.declared.capture.TimeUnit.TheVariants.{Second, Millisecond, Microsecond, Nanosecond}
+use Rattle.vcd_core.specs.declared.capture.TimeUnit.TheVariants.{Picosecond, Femtosecond}
 use Rattle.vcd_core.specs.declared.value.TheConstants.{WIDTH_LIMIT}
 use Rattle.vcd_core.specs.declared.capture.TheConstants.{SIGNAL_LIMIT}
 use Rattle.vcd_core.specs.Contents.{Contents, SignalContents}
@@ -21,10 +25,13 @@ use Rattle.vcd_core.specs.Word.{is_word}
 use Rattle.vcd_core.specs.Sound.{is_sound_header, is_sound_timescale, IsSoundSignal, IsSound}
 use Rattle.std.specs.Char.{is_ascii_digit}
 use Rattle.vcd_core.specs.Decimal.{number_of}
-use Rattle.vcd_text.specs.Items.{Item, entry, timescale, variable, end_definitions, end_word, is_end_word, has_no_end_word, timescale_of}
+use Rattle.vcd_text.specs.Items.{Item, entry, timescale, variable, end_definitions, end_word, is_end_word}
+use Rattle.vcd_text.specs.Items.{has_no_end_word, timescale_of}
 use Rattle.vcd_core.specs.TimeUnits.{unit_text}
-use Rattle.vcd_text.specs.Grammar.{ParseState, VariableDeclaration, initial_state, declaration_of, variable_of, may_have_code, has_room, is_skipped, kept_variables}
-use Rattle.vcd_text.specs.Text.{header_items, timescale_items, scope_items, code_of, variable_item, signal_items, first_items, tick_items, end_items, items_of}
+use Rattle.vcd_text.specs.Grammar.{ParseState, VariableDeclaration, initial_state, declaration_of, variable_of}
+use Rattle.vcd_text.specs.Grammar.{may_have_code, has_room, is_skipped, kept_variables}
+use Rattle.vcd_text.specs.Text.{header_items, timescale_items, scope_items, code_of, variable_item, signal_items}
+use Rattle.vcd_text.specs.Text.{first_items, tick_items, end_items, items_of}
 use Rattle.vcd_text.proofs.CodesDiffer.{codes_differ, code_no_end}
 use Rattle.vcd_text.proofs.Decimals.{decimal_digits, decimal_is_number, number_of-decimal}
 use Rattle.vcd_text.proofs.DeclaredSignals.{declared_as, declared_state, declared_of}
@@ -34,12 +41,18 @@ use Rattle.vcd_text.proofs.SoundTimescales.{sound_count, count_small, timescale_
 
 -- ---- header and timescale
 
-header_leads : (front hs : List Header) → list_all is_sound_header hs ≡ true → Leads (declaring front None [] []) (header_items hs) (declaring (front ++ hs) None [] [])
-header_leads front [] sound = leads_same _ _ _ [] (leads_none (declaring front None [] [])) (ap (λ h. declaring h None [] []) (sym (append-nil front)))
+header_leads : (front hs : List Header) → list_all is_sound_header hs ≡ true
+    → Leads (declaring front None [] []) (header_items hs) (declaring (front ++ hs) None [] [])
+header_leads front [] sound =
+    leads_same _ _ _ [] (leads_none (declaring front None [] []))
+    (ap (λ h. declaring h None [] []) (sym (append-nil front)))
 header_leads front (h ∷ hs) sound =
-    let parts : (is_sound_header h ≡ true) × (list_all is_sound_header hs ≡ true) = and_parts (is_sound_header h) (list_all is_sound_header hs) sound in
-    leads_first (declaring front None [] []) (declaring (front ++ (h ∷ hs)) None [] []) (entry h.kind h.words) (header_items hs) (refl, words_have_no_end h.words parts.0)
-    (leads_same (declaring (front ++ h ∷ []) None [] []) _ _ (header_items hs) (header_leads (front ++ h ∷ []) hs parts.1)
+    let parts : (is_sound_header h ≡ true) × (list_all is_sound_header hs ≡ true) =
+    and_parts (is_sound_header h) (list_all is_sound_header hs) sound in
+    leads_first (declaring front None [] []) (declaring (front ++ (h ∷ hs)) None [] []) (entry h.kind h.words)
+    (header_items hs) (refl, words_have_no_end h.words parts.0)
+    (leads_same (declaring (front ++ h ∷ []) None [] []) _ _ (header_items hs)
+    (header_leads (front ++ h ∷ []) hs parts.1)
     (ap (λ l. declaring l None [] []) (append_assoc front (h ∷ []) hs)))
 
 -- digits are not `$end`
@@ -60,15 +73,21 @@ unit_no_end Nanosecond = refl
 unit_no_end Picosecond = refl
 unit_no_end Femtosecond = refl
 
-timescale_leads : (h : List Header) (t : Option Timescale) → IfSome t (λ t. IsTrue (is_sound_timescale t)) → Leads (declaring h None [] []) (timescale_items t) (declaring h t [] [])
+timescale_leads : (h : List Header) (t : Option Timescale) → IfSome t (λ t. IsTrue (is_sound_timescale t))
+    → Leads (declaring h None [] []) (timescale_items t) (declaring h t [] [])
 timescale_leads h None sound = leads_none (declaring h None [] [])
 timescale_leads h (Some t) sound =
     let words : List (List ℕ) = decimal t.count ∷ unit_text t.unit ∷ [] in
     let read : timescale_of words ≡ Some t = timescale_read t sound in
     let no_end : has_no_end_word words ≡ true =
-    and_from (not (is_end_word (decimal t.count))) (not (is_end_word (unit_text t.unit)) && true) (decimal_no_end t.count (count_small t.count (sound_count t sound)))
+    and_from (not (is_end_word (decimal t.count))) (not (is_end_word (unit_text t.unit)) && true)
+    (decimal_no_end t.count (count_small t.count (sound_count t sound)))
     (and_from (not (is_end_word (unit_text t.unit))) true (unit_no_end t.unit) refl) in
-    leads_one (declaring h None [] []) (declaring h (Some t) [] []) (timescale words) (refl, no_end, subst IsSome (sym read) refl) (ap (λ o. declaring h o [] []) read)
+    leads_one (declaring h None [] []) (declaring h (Some t) [] []) (timescale words) (
+      refl,
+      no_end,
+      subst IsSome (sym read) refl,
+    ) (ap (λ o. declaring h o [] []) read)
 
 -- ---- variables
 
@@ -76,7 +95,8 @@ timescale_leads h (Some t) sound =
 abbrev HasCodesBelow : ℕ → List VariableDeclaration → Type 0
 HasCodesBelow k ds = (j : ℕ) → k ≤ j → find (λ d. bytes_eq (code_of j) d.code) ds ≡ None
 
-codes_below_more : (k : ℕ) (ds : List VariableDeclaration) (d : VariableDeclaration) → HasCodesBelow k ds → d.code ≡ code_of k → HasCodesBelow (suc k) (ds ++ d ∷ [])
+codes_below_more : (k : ℕ) (ds : List VariableDeclaration) (d : VariableDeclaration) → HasCodesBelow k ds
+    → d.code ≡ code_of k → HasCodesBelow (suc k) (ds ++ d ∷ [])
 codes_below_more k ds d below is = λ j from.
     let other : bytes_eq (code_of j) d.code ≡ false =
     false_from_ne_true (bytes_eq (code_of j) d.code) (λ same.
@@ -87,47 +107,63 @@ codes_below_more k ds d below is = λ j from.
     ∙ ap (λ b. cond b (Some d) None) other
 
 -- what the words of a variable declare
-words_declare : (c : ParseState) (kind size code : List ℕ) (n : ℕ) (words : List (List ℕ)) → 0 < length words → number_of size ≡ n
-    → declaration_of c (kind ∷ size ∷ code ∷ words) ≡ Some (record { scopes = c.scopes; kind = kind; size = n; code = code; words = words })
+words_declare : (c : ParseState) (kind size code : List ℕ) (n : ℕ) (words : List (List ℕ)) → 0 < length words
+    → number_of size ≡ n
+    → declaration_of c (kind ∷ size ∷ code ∷ words)
+    ≡ Some (record { scopes = c.scopes; kind = kind; size = n; code = code; words = words })
 words_declare c kind size code n [] named number = absurd (omega arith)
-words_declare c kind size code n (w ∷ ws) named number = ap (λ m. Some (record { scopes = c.scopes; kind = kind; size = m; code = code; words = w ∷ ws })) number
+words_declare c kind size code n (w ∷ ws) named number =
+    ap (λ m. Some (record { scopes = c.scopes; kind = kind; size = m; code = code; words = w ∷ ws })) number
 
 -- no word of a variable is `$end`
-variable_no_end : (end k : ℕ) (s : SignalContents) → IsSoundSignal end s → k < SIGNAL_LIMIT → has_no_end_word (s.kind ∷ decimal s.width ∷ code_of k ∷ s.words) ≡ true
+variable_no_end : (end k : ℕ) (s : SignalContents) → IsSoundSignal end s → k < SIGNAL_LIMIT
+    → has_no_end_word (s.kind ∷ decimal s.width ∷ code_of k ∷ s.words) ≡ true
 variable_no_end end k s sound few =
     let most : s.width ≤ WIDTH_LIMIT = sound.most in
-    let kind : not (is_end_word s.kind) ≡ true = (and_parts (not (is_end_word s.kind)) true (words_have_no_end (s.kind ∷ []) (and_from (is_word s.kind) true sound.kind refl))).0 in
+    let kind : not (is_end_word s.kind) ≡ true =
+    (and_parts (not (is_end_word s.kind)) true
+    (words_have_no_end (s.kind ∷ []) (and_from (is_word s.kind) true sound.kind refl))).0 in
     and_from (not (is_end_word s.kind)) (has_no_end_word (decimal s.width ∷ code_of k ∷ s.words)) kind
-    (and_from (not (is_end_word (decimal s.width))) (has_no_end_word (code_of k ∷ s.words)) (decimal_no_end s.width (omega arith))
-    (and_from (not (is_end_word (code_of k))) (has_no_end_word s.words) (not_from_false (is_end_word (code_of k)) (code_no_end k few)) (words_have_no_end s.words sound.words)))
+    (and_from (not (is_end_word (decimal s.width))) (has_no_end_word (code_of k ∷ s.words))
+    (decimal_no_end s.width (omega arith))
+    (and_from (not (is_end_word (code_of k))) (has_no_end_word s.words)
+    (not_from_false (is_end_word (code_of k)) (code_no_end k few)) (words_have_no_end s.words sound.words)))
 
 -- there is room behind fewer variables than there may be signals
 room_left : (ds : List VariableDeclaration) (d : VariableDeclaration) → length ds < SIGNAL_LIMIT → has_room ds d ≡ true
 room_left ds d few =
-    let kept_few : length (kept_variables ds) ≤ length ds = subst (λ n. n ≤ length ds) (sym (length-filter (λ d. not (is_skipped d)) ds)) (count_by-le-length (λ d. not (is_skipped d)) ds) in
-    or_right (is_skipped d) (nat_lt (length (kept_variables ds)) SIGNAL_LIMIT) (lt-ltb (length (kept_variables ds)) SIGNAL_LIMIT (lt_of_le_of_lt kept_few few))
+    let kept_few : length (kept_variables ds) ≤ length ds =
+    subst (λ n. n ≤ length ds) (sym (length-filter (λ d. not (is_skipped d)) ds))
+    (count_by-le-length (λ d. not (is_skipped d)) ds) in
+    or_right (is_skipped d) (nat_lt (length (kept_variables ds)) SIGNAL_LIMIT)
+    (lt-ltb (length (kept_variables ds)) SIGNAL_LIMIT (lt_of_le_of_lt kept_few few))
 
 -- the variable of the signal at a position
-variable_leads : (h : List Header) (t : Option Timescale) (ds : List VariableDeclaration) (end k : ℕ) (s : SignalContents) → IsSoundSignal end s → k < SIGNAL_LIMIT → length ds ≡ k → HasCodesBelow k ds
+variable_leads : (h : List Header) (t : Option Timescale) (ds : List VariableDeclaration) (end k : ℕ)
+    (s : SignalContents) → IsSoundSignal end s → k < SIGNAL_LIMIT → length ds ≡ k → HasCodesBelow k ds
     → Leads (declaring h t s.scopes ds) (variable_item k s ∷ []) (declaring h t s.scopes (ds ++ declared_as k s ∷ []))
 variable_leads h t ds end k s sound few at below =
     let most : s.width ≤ WIDTH_LIMIT = sound.most in
     let before : ParseState = declaring h t s.scopes ds in
     let words : List (List ℕ) = s.kind ∷ decimal s.width ∷ code_of k ∷ s.words in
     let declares : declaration_of before words ≡ Some (declared_as k s) =
-    words_declare before s.kind (decimal s.width) (code_of k) s.width s.words sound.named (number_of-decimal s.width (omega arith)) in
-    let fresh : may_have_code (variable_of before (code_of k)) (declared_as k s) ≡ true = ap (λ o. may_have_code o (declared_as k s)) (below k (le_refl k)) in
+    words_declare before s.kind (decimal s.width) (code_of k) s.width s.words sound.named
+    (number_of-decimal s.width (omega arith)) in
+    let fresh : may_have_code (variable_of before (code_of k)) (declared_as k s) ≡ true =
+    ap (λ o. may_have_code o (declared_as k s)) (below k (le_refl k)) in
     leads_one before (declaring h t s.scopes (ds ++ declared_as k s ∷ [])) (variable words) (
       refl,
       variable_no_end end k s sound few,
       decimal_is_number s.width (omega arith),
-      subst (λ o. IsSomeAnd o (λ d. IsTrue (may_have_code (variable_of before d.code) d) × IsTrue (has_room ds d))) (sym declares) (fresh, room_left ds (declared_as k s) (omega arith)),
+      subst (λ o. IsSomeAnd o (λ d. IsTrue (may_have_code (variable_of before d.code) d) × IsTrue (has_room ds d)))
+          (sym declares) (fresh, room_left ds (declared_as k s) (omega arith)),
     )
     (ap (λ o. declaring h t s.scopes (ds ++ option_to_list o)) declares)
 
 -- ---- signals
 
-signals_lead : (h : List Header) (t : Option Timescale) (opened : List ScopeName) (ds : List VariableDeclaration) (end k : ℕ) (signals : List SignalContents) → AllByRecursion (IsSoundSignal end) signals
+signals_lead : (h : List Header) (t : Option Timescale) (opened : List ScopeName) (ds : List VariableDeclaration)
+    (end k : ℕ) (signals : List SignalContents) → AllByRecursion (IsSoundSignal end) signals
     → k + length signals ≤ SIGNAL_LIMIT → length ds ≡ k → HasCodesBelow k ds
     → Leads (declaring h t opened ds) (signal_items opened k signals) (declaring h t [] (ds ++ declared_of k signals))
 unfolding signal_items declared_of
@@ -136,20 +172,24 @@ signals_lead h t opened ds end k [] sound few at below =
 signals_lead h t opened ds end k (s ∷ ss) sound few at below =
     let more : List VariableDeclaration = ds ++ declared_as k s ∷ [] in
     let one_more : length more ≡ length ds + 1 = length-append ds (declared_as k s ∷ []) in
-    leads_both (declaring h t opened ds) (declaring h t s.scopes ds) (declaring h t [] (ds ++ (declared_as k s ∷ declared_of (suc k) ss)))
+    leads_both (declaring h t opened ds) (declaring h t s.scopes ds)
+    (declaring h t [] (ds ++ (declared_as k s ∷ declared_of (suc k) ss)))
     (scope_items opened s.scopes) (variable_item k s ∷ signal_items s.scopes (suc k) ss)
     (scopes_lead h t opened s.scopes ds sound.0.scopes)
-    (leads_both (declaring h t s.scopes ds) (declaring h t s.scopes more) (declaring h t [] (ds ++ (declared_as k s ∷ declared_of (suc k) ss)))
+    (leads_both (declaring h t s.scopes ds) (declaring h t s.scopes more)
+    (declaring h t [] (ds ++ (declared_as k s ∷ declared_of (suc k) ss)))
     (variable_item k s ∷ []) (signal_items s.scopes (suc k) ss)
     (variable_leads h t ds end k s sound.0 (omega arith) at below)
-    (leads_same _ _ _ _ (signals_lead h t s.scopes more end (suc k) ss sound.1 (omega arith) (omega arith) (codes_below_more k ds (declared_as k s) below refl))
+    (leads_same _ _ _ _ (signals_lead h t s.scopes more end (suc k) ss sound.1 (omega arith) (omega arith)
+    (codes_below_more k ds (declared_as k s) below refl))
     (ap (λ l. declaring h t [] l) (append_assoc ds (declared_as k s ∷ []) (declared_of (suc k) ss)))))
 
 -- ---- all declarations
 
 -- the items in front of the values
 abbrev pub declaration_items : Contents → List Item
-declaration_items c = header_items c.header ++ timescale_items c.timescale ++ signal_items [] 0 c.signals ++ end_definitions ∷ []
+declaration_items c = header_items c.header ++ timescale_items c.timescale ++ signal_items [] 0 c.signals
+    ++ end_definitions ∷ []
 
 pub declarations_lead : (c : Contents) → IsSound c → Leads initial_state (declaration_items c) (declared_state c)
 declarations_lead c sound =
@@ -157,18 +197,27 @@ declarations_lead c sound =
     let timed : ParseState = declaring c.header c.timescale [] [] in
     let declared : ParseState = declaring c.header c.timescale [] (declared_of 0 c.signals) in
     let few : length c.signals ≤ SIGNAL_LIMIT = sound.few in
-    leads_both initial_state declared (declared_state c) (header_items c.header ++ timescale_items c.timescale ++ signal_items [] 0 c.signals) (end_definitions ∷ [])
-    (leads_both initial_state timed declared (header_items c.header ++ timescale_items c.timescale) (signal_items [] 0 c.signals)
-    (leads_both initial_state header timed (header_items c.header) (timescale_items c.timescale) (header_leads [] c.header sound.header) (timescale_leads c.header c.timescale sound.timescale))
-    (signals_lead c.header c.timescale [] [] c.end 0 c.signals (recursion_from_All (IsSoundSignal c.end) c.signals sound.signals) (omega arith) refl (λ j from. refl)))
+    leads_both initial_state declared (declared_state c) (header_items c.header ++ timescale_items c.timescale
+    ++ signal_items [] 0 c.signals) (end_definitions ∷ [])
+    (leads_both initial_state timed declared (header_items c.header ++ timescale_items c.timescale)
+    (signal_items [] 0 c.signals)
+    (leads_both initial_state header timed (header_items c.header) (timescale_items c.timescale)
+    (header_leads [] c.header sound.header) (timescale_leads c.header c.timescale sound.timescale))
+    (signals_lead c.header c.timescale [] [] c.end 0 c.signals
+    (recursion_from_All (IsSoundSignal c.end) c.signals sound.signals) (omega arith) refl (λ j from. refl)))
     (leads_one declared (declared_state c) end_definitions refl refl)
 
-in_two : (front first ticks end : List Item) (i : Item) → front ++ (i ∷ first) ++ ticks ++ end ≡ (front ++ i ∷ []) ++ (first ++ ticks ++ end)
+in_two : (front first ticks end : List Item) (i : Item)
+    → front ++ (i ∷ first) ++ ticks ++ end ≡ (front ++ i ∷ []) ++ (first ++ ticks ++ end)
 in_two front first ticks end i =
-    ap (λ l. l ++ end) (append_assoc front (i ∷ first) ticks) ∙ append_assoc front (i ∷ (first ++ ticks)) end ∙ sym (append_assoc front (i ∷ []) (first ++ ticks ++ end))
+    ap (λ l. l ++ end) (append_assoc front (i ∷ first) ticks) ∙ append_assoc front (i ∷ (first ++ ticks)) end
+    ∙ sym (append_assoc front (i ∷ []) (first ++ ticks ++ end))
 
 -- the declarations, and what comes behind them
-pub items_in_two : (c : Contents) → items_of c ≡ declaration_items c ++ (first_items c.signals ++ tick_items c.signals 1 c.end ++ end_items c.signals c.end)
+pub items_in_two : (c : Contents)
+    → items_of c ≡ declaration_items c
+    ++ (first_items c.signals ++ tick_items c.signals 1 c.end ++ end_items c.signals c.end)
 unfolding items_of
 items_in_two c =
-    in_two (header_items c.header ++ timescale_items c.timescale ++ signal_items [] 0 c.signals) (first_items c.signals) (tick_items c.signals 1 c.end) (end_items c.signals c.end) end_definitions
+    in_two (header_items c.header ++ timescale_items c.timescale ++ signal_items [] 0 c.signals) (first_items c.signals)
+    (tick_items c.signals 1 c.end) (end_items c.signals c.end) end_definitions

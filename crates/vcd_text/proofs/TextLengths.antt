@@ -1,5 +1,6 @@
 -- The bytes of a text can be counted: each line is short, and the ticks are bounded.
-use Rattle.std.proofs.Common.{◌≡◌, ◌<◌, ◌≤◌, ◌+◌, ◌-◌, ◌*◌, ◌^◌, ◌/◌, ◌==◌, ◌&&◌, ℕ, zero, suc, Bool, true, false, cond, nat_lt, List, [], ◌∷◌, ◌++◌, length, All, ap, ◌∙◌, arith, codes}
+use Rattle.std.proofs.Common.{◌≡◌, ◌<◌, ◌≤◌, ◌+◌, ◌-◌, ◌*◌, ◌^◌, ◌/◌, ◌==◌, ◌&&◌, ℕ, zero, suc, Bool, true, false, cond}
+use Rattle.std.proofs.Common.{nat_lt, List, [], ◌∷◌, ◌++◌, length, All, ap, ◌∙◌, arith, codes}
 use Rattle.std.specs.List.{filter, flat_map, enumerate_from}
 use Rattle.std.specs.Fmt.{decimal}
 use Rattle.std.proofs.Math.Nat.{mul-le-mul, mul-le-mul_right}
@@ -15,7 +16,8 @@ use Rattle.vcd_core.specs.Sound.{IsSound, IsSoundSignal}
 use Rattle.vcd_core.specs.Value.{printed_letter}
 use Rattle.vcd_text.specs.Items.{Item, bracket, end_word}
 use Rattle.vcd_text.specs.Letters.{printed_letters, short_form}
-use Rattle.vcd_text.specs.Text.{all_values, code_of, code_digits, differs_at, end_items, first_items, item_line, new_values, stamp_of, text, tick_items, value_item, value_items, with_stamp}
+use Rattle.vcd_text.specs.Text.{all_values, code_of, code_digits, differs_at, end_items, first_items, item_line}
+use Rattle.vcd_text.specs.Text.{new_values, stamp_of, text, tick_items, value_item, value_items, with_stamp}
 use Rattle.vcd_text.specs.inside.TextParts.{declarations_text}
 use Rattle.vcd_text.specs.inside.ValueFronts.{value_front}
 use Rattle.vcd_text.proofs.ReadValues.{length-value_at, short_within}
@@ -26,7 +28,8 @@ abbrev bytes_of : List Item → ℕ
 bytes_of items = length (flat_map item_line items)
 
 bytes_both : (a b : List Item) → bytes_of (a ++ b) ≡ bytes_of a + bytes_of b
-bytes_both a b = ap (length {A = ℕ}) (flat_map-append item_line a b) ∙ length-append (flat_map item_line a) (flat_map item_line b)
+bytes_both a b = ap (length {A = ℕ}) (flat_map-append item_line a b)
+    ∙ length-append (flat_map item_line a) (flat_map item_line b)
 
 -- ---- one line
 
@@ -45,7 +48,12 @@ front_within : (v : List Bit) → 0 < length v → length (value_front v) ≤ le
 front_within [] some = absurd (omega arith)
 front_within (b ∷ []) some = omega arith
 front_within (b ∷ d ∷ v) some =
-    omega (arith, (short_within (b ∷ d ∷ v) some).1, length-map (short_form (b ∷ d ∷ v)) printed_letter, length-append (printed_letters (short_form (b ∷ d ∷ v))) (32 ∷ []))
+    omega (
+      arith,
+      (short_within (b ∷ d ∷ v) some).1,
+      length-map (short_form (b ∷ d ∷ v)) printed_letter,
+      length-append (printed_letters (short_form (b ∷ d ∷ v))) (32 ∷ []),
+    )
 
 -- a signal at a position, with its width at each tick
 record IsPlacedShort (p : ℕ × SignalContents) : Type 0 where
@@ -54,7 +62,8 @@ record IsPlacedShort (p : ℕ × SignalContents) : Type 0 where
   pub most : p.1.width ≤ WIDTH_LIMIT
   pub wide : (t : ℕ) → length (signal_value p.1 t) ≡ p.1.width
 
-line_within : (t : ℕ) (p : ℕ × SignalContents) → IsPlacedShort p → length (item_line (value_item (code_of p.0) (signal_value p.1 t))) ≤ line_most
+line_within : (t : ℕ) (p : ℕ × SignalContents) → IsPlacedShort p
+    → length (item_line (value_item (code_of p.0) (signal_value p.1 t))) ≤ line_most
 line_within t p short =
     let v : List Bit = signal_value p.1 t in
     let code : List ℕ = code_of p.0 in
@@ -71,7 +80,8 @@ line_within t p short =
     )
 
 stamp_within : (t : ℕ) → t < 2 ^ 64 → length (item_line (stamp_of t)) ≤ 22
-stamp_within t small = omega (arith, length-decimal-le 20 t (omega arith) (omega arith) small, length-append (35 ∷ decimal t) (10 ∷ []))
+stamp_within t small =
+    omega (arith, length-decimal-le 20 t (omega arith) (omega arith) small, length-append (35 ∷ decimal t) (10 ∷ []))
 
 -- ---- one tick
 
@@ -79,23 +89,28 @@ abbrev AllShort : List (ℕ × SignalContents) → Type 0
 AllShort [] = Unit {0}
 AllShort (p ∷ ps) = IsPlacedShort p × AllShort ps
 
-values_within : (t : ℕ) (ps : List (ℕ × SignalContents)) → AllShort ps → bytes_of (value_items t ps) ≤ length ps * line_most
+values_within : (t : ℕ) (ps : List (ℕ × SignalContents)) → AllShort ps
+    → bytes_of (value_items t ps) ≤ length ps * line_most
 values_within t [] all = omega arith
 values_within t (p ∷ ps) (here, rest) =
     let line = line_within t p here in
     let lines = values_within t ps rest in
-    let apart = length-append (item_line (value_item (code_of p.0) (signal_value p.1 t))) (flat_map item_line (value_items t ps)) in
+    let apart = length-append (item_line (value_item (code_of p.0) (signal_value p.1 t)))
+    (flat_map item_line (value_items t ps)) in
     omega arith
 
 -- those that pass a test are no more
-passing_within : (t : ℕ) (test : ℕ × SignalContents → Bool) (ps : List (ℕ × SignalContents)) → AllShort ps → bytes_of (value_items t (filter test ps)) ≤ length ps * line_most
+passing_within : (t : ℕ) (test : ℕ × SignalContents → Bool) (ps : List (ℕ × SignalContents)) → AllShort ps
+    → bytes_of (value_items t (filter test ps)) ≤ length ps * line_most
 passing_within t test [] all = omega arith
 passing_within t test (p ∷ ps) (here, rest) = choose (test p) (passing_within t test ps rest)
   where
-    choose : (b : Bool) → bytes_of (value_items t (filter test ps)) ≤ length ps * line_most → bytes_of (value_items t (cond b (p ∷ filter test ps) (filter test ps))) ≤ length (p ∷ ps) * line_most
+    choose : (b : Bool) → bytes_of (value_items t (filter test ps)) ≤ length ps * line_most
+        → bytes_of (value_items t (cond b (p ∷ filter test ps) (filter test ps))) ≤ length (p ∷ ps) * line_most
     choose true lines =
         let line = line_within t p here in
-        let apart = length-append (item_line (value_item (code_of p.0) (signal_value p.1 t))) (flat_map item_line (value_items t (filter test ps))) in
+        let apart = length-append (item_line (value_item (code_of p.0) (signal_value p.1 t)))
+        (flat_map item_line (value_items t (filter test ps))) in
         omega arith
     choose false lines = omega arith
 
@@ -123,25 +138,35 @@ end_within : (signals : List SignalContents) (end : ℕ) → end < 2 ^ 64 → by
 end_within signals end small = choose (nat_lt 0 end && (length (new_values signals end) == 0))
   where
     choose : (b : Bool) → bytes_of (cond b (stamp_of end ∷ []) []) ≤ 22
-    choose true = let stamp = stamp_within end small in let apart = length-append (item_line (stamp_of end)) [] in omega arith
+    choose true = let stamp = stamp_within end small in let apart = length-append (item_line (stamp_of end)) [] in
+        omega arith
     choose false = omega arith
 
-first_within : (signals : List SignalContents) → AllShort (enumerate_from 0 signals) → bytes_of (first_items signals) ≤ 100 + length (enumerate_from 0 signals) * line_most
+first_within : (signals : List SignalContents) → AllShort (enumerate_from 0 signals)
+    → bytes_of (first_items signals) ≤ 100 + length (enumerate_from 0 signals) * line_most
 first_within signals all =
     let values = values_within 0 (enumerate_from 0 signals) all in
     let stamp = stamp_within 0 (omega arith) in
-    let apart = bytes_both (stamp_of 0 ∷ bracket (codes "$dumpvars") ∷ []) (all_values signals 0 ++ bracket end_word ∷ []) in
+    let apart = bytes_both (stamp_of 0 ∷ bracket (codes "$dumpvars") ∷ [])
+    (all_values signals 0 ++ bracket end_word ∷ []) in
     let further = bytes_both (all_values signals 0) (bracket end_word ∷ []) in
     let stamped = length-append (item_line (stamp_of 0)) (flat_map item_line (bracket (codes "$dumpvars") ∷ [])) in
     omega arith
 
 -- ---- a capture
 
-short_enumerated : (end k : ℕ) (ss : List SignalContents) → k + length ss ≤ SIGNAL_LIMIT → All (IsSoundSignal end) ss → AllShort (enumerate_from k ss)
+short_enumerated : (end k : ℕ) (ss : List SignalContents) → k + length ss ≤ SIGNAL_LIMIT → All (IsSoundSignal end) ss
+    → AllShort (enumerate_from k ss)
 short_enumerated end k [] few all = tt
 short_enumerated end k (s ∷ ss) few all =
     let sound = All-head (IsSoundSignal end) s ss all in (
-      record { few = omega arith; some = sound.least; most = sound.most; wide = λ t. length-value_at s.width t s.changes sound.wave },
+      record {
+        few = omega arith;
+        some = sound.least;
+        most = sound.most;
+        wide =
+            λ t. length-value_at s.width t s.changes sound.wave;
+      },
       short_enumerated end (k + 1) ss (omega arith) (All-tail (IsSoundSignal end) s ss all),
     )
 
@@ -156,12 +181,15 @@ text_countable c sound short =
     let few : n ≤ SIGNAL_LIMIT = omega (arith, length_enumerated 0 c.signals, sound.few) in
     let values : n * line_most ≤ SIGNAL_LIMIT * line_most = mul-le-mul_right line_most few in
     let tick : 22 + n * line_most ≤ 22 + SIGNAL_LIMIT * line_most = omega (arith, values) in
-    let ticks : c.end * (22 + n * line_most) ≤ END_LIMIT * (22 + SIGNAL_LIMIT * line_most) = mul-le-mul sound.end tick in
+    let ticks : c.end * (22 + n * line_most) ≤ END_LIMIT * (22 + SIGNAL_LIMIT * line_most) =
+    mul-le-mul sound.end tick in
     omega (
       arith,
       ap (length {A = ℕ}) (whole_text c),
-      length-append (declarations_text c) (flat_map item_line (first_items c.signals) ++ flat_map item_line (tick_items c.signals 1 c.end ++ end_items c.signals c.end)),
-      length-append (flat_map item_line (first_items c.signals)) (flat_map item_line (tick_items c.signals 1 c.end ++ end_items c.signals c.end)),
+      length-append (declarations_text c) (flat_map item_line (first_items c.signals)
+          ++ flat_map item_line (tick_items c.signals 1 c.end ++ end_items c.signals c.end)),
+      length-append (flat_map item_line (first_items c.signals))
+          (flat_map item_line (tick_items c.signals 1 c.end ++ end_items c.signals c.end)),
       bytes_both (tick_items c.signals 1 c.end) (end_items c.signals c.end),
       first_within c.signals all,
       ticks_within c.signals 1 c.end all (omega (arith, sound.end)),

@@ -18,7 +18,8 @@ signal_means : (c : Contents) → IsSound c → (k : ℕ) (d : SignalContents) �
 signal_means c sound k d inside =
     let s : SignalContents = get_or c.signals k d in
     let is : IsSoundSignal c.end s = sound.signals k d inside in
-    let wave = wave_is s.width c.end s.changes (λ t. latest_value s.width (code_of k) t (all_x s.width) (value_changes_of c)) is.wave is.ticks
+    let wave = wave_is s.width c.end s.changes
+    (λ t. latest_value s.width (code_of k) t (all_x s.width) (value_changes_of c)) is.wave is.ticks
     (λ t to. sym (latest_is c.signals k t d inside (λ u. length-value_at s.width u s.changes is.wave) c.end to)) in
     λ i. record { scopes = s.scopes; kind = s.kind; words = s.words; width = s.width; changes = sym wave i }
 
@@ -33,15 +34,24 @@ signals_back f j (s ∷ ss) each =
     let rest = signals_back f (suc j) ss (λ i k d at within. each (suc i) k d (omega arith) (omega arith)) in
     λ i. first i ∷ rest i
 
-signals_mean : (c : Contents) → IsSound c → map (declared_signal (value_changes_of c) c.end) (kept_variables (declared_of 0 c.signals)) ≡ c.signals
+signals_mean : (c : Contents) → IsSound c
+    → map (declared_signal (value_changes_of c) c.end) (kept_variables (declared_of 0 c.signals)) ≡ c.signals
 signals_mean c sound =
     ap (map (declared_signal (value_changes_of c) c.end)) (all_sound_kept c.end 0 c.signals sound.signals)
     ∙ signals_back (declared_signal (value_changes_of c) c.end) 0 c.signals
-    (λ i k d at within. let here : i ≡ k = omega arith in ap (λ n. declared_signal (value_changes_of c) c.end (declared_as n (get_or c.signals i d))) (sym here) ∙ signal_means c sound i d within)
+    (λ i k d at within. let here : i ≡ k = omega arith in
+    ap (λ n. declared_signal (value_changes_of c) c.end (declared_as n (get_or c.signals i d))) (sym here)
+    ∙ signal_means c sound i d within)
 
 -- the text of a sound capture means the capture
 pub text_means : (c : Contents) → IsSound c → c ≡ meaning (state_at c (value_changes_of c) c.end)
-text_means c sound = λ i. record { header = c.header; timescale = c.timescale; end = c.end; signals = sym (signals_mean c sound) i }
+text_means c sound = λ i. record {
+  header = c.header;
+  timescale = c.timescale;
+  end = c.end;
+  signals =
+      sym (signals_mean c sound) i;
+}
 
 -- and skips nothing
 pub text_skips_nothing : (c : Contents) → IsSound c → 0 ≡ skipped_count (state_at c (value_changes_of c) c.end)

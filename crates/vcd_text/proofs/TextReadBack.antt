@@ -16,7 +16,8 @@ use Rattle.vcd_text.proofs.TextMeaning.{text_means, text_skips_nothing}
 items_lead : (c : Contents) → IsSound c → Leads initial_state (items_of c) (state_at c (value_changes_of c) c.end)
 items_lead c sound =
     subst (λ items. Leads initial_state items (state_at c (value_changes_of c) c.end)) (sym (items_in_two c))
-    (leads_both initial_state (declared_state c) (state_at c (value_changes_of c) c.end) (declaration_items c) (first_items c.signals ++ tick_items c.signals 1 c.end ++ end_items c.signals c.end)
+    (leads_both initial_state (declared_state c) (state_at c (value_changes_of c) c.end) (declaration_items c)
+    (first_items c.signals ++ tick_items c.signals 1 c.end ++ end_items c.signals c.end)
     (declarations_lead c sound) (changes_lead c sound))
 
 -- the text means the capture
@@ -25,7 +26,13 @@ read_back c sound =
     let all = items_lead c sound in
     record {
       told = state_at c (value_changes_of c) c.end;
-      accepted = record { items = items_of c; spelled = words_of_text c sound; allowed = all.allowed; tells = all.tells; definitions_ended = refl };
+      accepted = record {
+        items = items_of c;
+        spelled = words_of_text c sound;
+        allowed = all.allowed;
+        tells = all.tells;
+        definitions_ended = refl;
+      };
       means = text_means c sound;
       left_out = text_skips_nothing c sound;
     }

@@ -1,5 +1,6 @@
 -- The words of a text are those that spell its items.
-use Rattle.std.proofs.Common.{◌≡◌, ◌+◌, ◌∙◌, ℕ, Bool, true, false, not, List, [], ◌∷◌, ◌++◌, refl, ap, arith, append_assoc}
+use Rattle.std.proofs.Common.{◌≡◌, ◌+◌, ◌∙◌, ℕ, Bool, true, false, not, List, [], ◌∷◌, ◌++◌, refl, ap, arith}
+use Rattle.std.proofs.Common.{append_assoc}
 use Rattle.std.specs.List.{list_all, flat_map, join_with_byte}
 use Rattle.std.proofs.lemmas.Bool.{and_parts}
 use Rattle.vcd_core.specs.Word.{is_white_space}
@@ -26,24 +27,29 @@ word_first line b (c ∷ w) rest unbroken space = word_whole true line (c ∷ w)
 
 -- the words of a line, and those of the lines behind it
 words_of_line : (line : ℕ) (ws : List (List ℕ)) (rest : List ℕ) → list_all is_unbroken ws ≡ true
-    → word_texts (words_from true line (join_with_byte 32 ws ++ (10 ∷ rest))) ≡ ws ++ word_texts (words_from true (line + 1) rest)
+    → word_texts (words_from true line (join_with_byte 32 ws ++ (10 ∷ rest))) ≡ ws
+    ++ word_texts (words_from true (line + 1) rest)
 words_of_line line [] rest unbroken = ap word_texts (space_passed true line 10 rest refl)
 words_of_line line (w ∷ []) rest unbroken =
     ap word_texts (word_first line 10 w rest (and_parts (is_unbroken w) true unbroken).0 refl)
     ∙ ap (λ words. w ∷ word_texts words) (space_passed true line 10 rest refl)
 words_of_line line (w ∷ v ∷ ws) rest unbroken =
-    let parts : (is_unbroken w ≡ true) × (list_all is_unbroken (v ∷ ws) ≡ true) = and_parts (is_unbroken w) (list_all is_unbroken (v ∷ ws)) unbroken in
+    let parts : (is_unbroken w ≡ true) × (list_all is_unbroken (v ∷ ws) ≡ true) =
+    and_parts (is_unbroken w) (list_all is_unbroken (v ∷ ws)) unbroken in
     ap (λ l. word_texts (words_from true line l)) (append_assoc w (32 ∷ join_with_byte 32 (v ∷ ws)) (10 ∷ rest))
     ∙ ap word_texts (word_first line 32 w (join_with_byte 32 (v ∷ ws) ++ (10 ∷ rest)) parts.0 refl)
     ∙ ap (λ words. w ∷ word_texts words) (space_passed true line 32 (join_with_byte 32 (v ∷ ws) ++ (10 ∷ rest)) refl)
     ∙ ap (λ l. w ∷ l) (words_of_line line (v ∷ ws) rest parts.1)
 
 -- the words of the lines of items
-pub words_of_lines : (line : ℕ) (items : List Item) → list_all is_spelled items ≡ true → word_texts (words_from true line (flat_map item_line items)) ≡ spellings items
+pub words_of_lines : (line : ℕ) (items : List Item) → list_all is_spelled items ≡ true
+    → word_texts (words_from true line (flat_map item_line items)) ≡ spellings items
 unfolding words_from
 words_of_lines line [] spelled = refl
 words_of_lines line (i ∷ is) spelled =
-    let parts : (is_spelled i ≡ true) × (list_all is_spelled is ≡ true) = and_parts (is_spelled i) (list_all is_spelled is) spelled in
-    ap (λ l. word_texts (words_from true line l)) (append_assoc (join_with_byte 32 (spelling i)) (10 ∷ []) (flat_map item_line is))
+    let parts : (is_spelled i ≡ true) × (list_all is_spelled is ≡ true) =
+    and_parts (is_spelled i) (list_all is_spelled is) spelled in
+    ap (λ l. word_texts (words_from true line l))
+    (append_assoc (join_with_byte 32 (spelling i)) (10 ∷ []) (flat_map item_line is))
     ∙ words_of_line line (spelling i) (flat_map item_line is) parts.0
     ∙ ap (λ l. spelling i ++ l) (words_of_lines (line + 1) is parts.1)

@@ -4,7 +4,8 @@ use Rattle.std.specs.List.{flat_map}
 use Rattle.std.proofs.lemmas.Grind.{flat_map-append}
 use Rattle.vcd_core.specs.Contents.{Contents}
 use Rattle.vcd_text.specs.Items.{Item, end_definitions}
-use Rattle.vcd_text.specs.Text.{end_items, first_items, header_items, items_of, item_line, signal_items, text, tick_items, timescale_items}
+use Rattle.vcd_text.specs.Text.{end_items, first_items, header_items, items_of, item_line, signal_items, text}
+use Rattle.vcd_text.specs.Text.{tick_items, timescale_items}
 use Rattle.vcd_text.specs.inside.TextParts.{declarations_text}
 
 abbrev lines : List Item → List ℕ
@@ -14,7 +15,9 @@ abbrev definitions_end : List ℕ
 definitions_end = codes "$enddefinitions $end\n"
 
 -- six lists of items, with the end of the declarations between the third and the fourth
-in_a_row : (H T S F K N : List Item) → (((lines H ++ lines T) ++ lines S) ++ definitions_end) ++ (lines F ++ lines (K ++ N)) ≡ lines (((((H ++ T) ++ S) ++ (end_definitions ∷ F)) ++ K) ++ N)
+in_a_row : (H T S F K N : List Item)
+    → (((lines H ++ lines T) ++ lines S) ++ definitions_end) ++ (lines F ++ lines (K ++ N))
+    ≡ lines (((((H ++ T) ++ S) ++ (end_definitions ∷ F)) ++ K) ++ N)
 in_a_row H T S F K N =
     let front : List ℕ = (lines H ++ lines T) ++ lines S in
     ap (λ l. (front ++ definitions_end) ++ (lines F ++ l)) (flat_map-append item_line K N)
@@ -24,10 +27,14 @@ in_a_row H T S F K N =
     ∙ sym (flat_map-append item_line ((((H ++ T) ++ S) ++ (end_definitions ∷ F)) ++ K) N
     ∙ ap (λ l. l ++ lines N) (flat_map-append item_line (((H ++ T) ++ S) ++ (end_definitions ∷ F)) K
     ∙ ap (λ l. l ++ lines K) (flat_map-append item_line ((H ++ T) ++ S) (end_definitions ∷ F)
-    ∙ ap (λ l. l ++ (definitions_end ++ lines F)) (flat_map-append item_line (H ++ T) S ∙ ap (λ l. l ++ lines S) (flat_map-append item_line H T)))))
+    ∙ ap (λ l. l ++ (definitions_end ++ lines F)) (flat_map-append item_line (H ++ T) S
+    ∙ ap (λ l. l ++ lines S) (flat_map-append item_line H T)))))
 
 -- the declarations, the values at tick 0, and what comes after it
 pub whole_text : (c : Contents)
-    → declarations_text c ++ (flat_map item_line (first_items c.signals) ++ flat_map item_line (tick_items c.signals 1 c.end ++ end_items c.signals c.end)) ≡ text c
+    → declarations_text c
+    ++ (flat_map item_line (first_items c.signals)
+    ++ flat_map item_line (tick_items c.signals 1 c.end ++ end_items c.signals c.end)) ≡ text c
 unfolding text items_of
-whole_text c = in_a_row (header_items c.header) (timescale_items c.timescale) (signal_items [] 0 c.signals) (first_items c.signals) (tick_items c.signals 1 c.end) (end_items c.signals c.end)
+whole_text c = in_a_row (header_items c.header) (timescale_items c.timescale) (signal_items [] 0 c.signals)
+    (first_items c.signals) (tick_items c.signals 1 c.end) (end_items c.signals c.end)

@@ -1,17 +1,23 @@
 -- A timescale is a count, the longest that fits, and the name of a unit.
-use Rattle.std.proofs.Common.{◌≡◌, ℕ, Bool, true, false, cond, ◌&&◌, ◌==◌, Option, Some, None, List, [], ◌∷◌, take, refl}
+use Rattle.std.proofs.Common.{◌≡◌, ℕ, Bool, true, false, cond, ◌&&◌, ◌==◌, Option, Some, None, List, [], ◌∷◌, take}
+use Rattle.std.proofs.Common.{refl}
 use Rattle.std.specs.Prelude.{bytes_eq}
 use Rattle.std.specs.Fmt.{digits}
 use Rattle.vcd_core.specs.declared.capture.TimeUnit.{TimeUnit}
-use Rattle.vcd_core.specs.declared.capture.TimeUnit.TheVariants.{Second, Millisecond, Microsecond, Nanosecond, Picosecond, Femtosecond}
+use Rattle.vcd_core.specs.declared.capture.TimeUnit.TheVariants.{Second, Millisecond, Microsecond, Nanosecond}
+use Rattle.vcd_core.specs.declared.capture.TimeUnit.TheVariants.{Picosecond, Femtosecond}
 use Rattle.vcd_text.specs.inside.TimescaleText.{timescale_spelled, unit_named, timescale_of_unit}
 
 -- the first of the six units that fits
 abbrev first : {A : Type 0} → (TimeUnit → A) → (s ms us ns ps fs : Bool) → Option A
 first f s ms us ns ps fs =
-    cond s (Some (f Second)) (cond ms (Some (f Millisecond)) (cond us (Some (f Microsecond)) (cond ns (Some (f Nanosecond)) (cond ps (Some (f Picosecond)) (cond fs (Some (f Femtosecond)) None)))))
+    cond s (Some (f Second))
+    (cond ms (Some (f Millisecond))
+    (cond us (Some (f Microsecond))
+    (cond ns (Some (f Nanosecond)) (cond ps (Some (f Picosecond)) (cond fs (Some (f Femtosecond)) None)))))
 
-first_counted : (n : ℕ) (s ms us ns ps fs : Bool) → first (λ u. record { count = n; unit = u }) s ms us ns ps fs ≡ timescale_of_unit n (first (λ u. u) s ms us ns ps fs)
+first_counted : (n : ℕ) (s ms us ns ps fs : Bool) → first (λ u. record { count = n; unit = u }) s ms us ns ps fs
+    ≡ timescale_of_unit n (first (λ u. u) s ms us ns ps fs)
 first_counted n true ms us ns ps fs = refl
 first_counted n false true us ns ps fs = refl
 first_counted n false false true ns ps fs = refl
@@ -28,12 +34,14 @@ pub hundred : (unit : List ℕ) → timescale_spelled (49 ∷ 48 ∷ 48 ∷ unit
 unfolding digits
 hundred unit = first_counted 100 _ _ _ _ _ _
 
-pub ten : (unit : List ℕ) → bytes_eq (take 3 (49 ∷ 48 ∷ unit)) (49 ∷ 48 ∷ 48 ∷ []) ≡ false → timescale_spelled (49 ∷ 48 ∷ unit) ≡ timescale_of_unit 10 (unit_named unit)
+pub ten : (unit : List ℕ) → bytes_eq (take 3 (49 ∷ 48 ∷ unit)) (49 ∷ 48 ∷ 48 ∷ []) ≡ false
+    → timescale_spelled (49 ∷ 48 ∷ unit) ≡ timescale_of_unit 10 (unit_named unit)
 unfolding digits
 ten [] other = refl
 ten (b ∷ bs) other = rw (and_true (b == 48) other) (first_counted 10 _ _ _ _ _ _)
 
-pub one : (unit : List ℕ) → bytes_eq (take 2 (49 ∷ unit)) (49 ∷ 48 ∷ []) ≡ false → timescale_spelled (49 ∷ unit) ≡ timescale_of_unit 1 (unit_named unit)
+pub one : (unit : List ℕ) → bytes_eq (take 2 (49 ∷ unit)) (49 ∷ 48 ∷ []) ≡ false
+    → timescale_spelled (49 ∷ unit) ≡ timescale_of_unit 1 (unit_named unit)
 unfolding digits
 one [] other = refl
 one (b ∷ bs) other = rw (and_true (b == 48) other) (first_counted 1 _ _ _ _ _ _)

@@ -8,15 +8,18 @@ use Rattle.vcd_text.specs.Text.{item_line, value_item}
 use Rattle.vcd_text.specs.inside.ValueFronts.{value_front}
 
 -- digits, a space and a code, behind `b`
-many : (digits code : List ℕ) → ((98 ∷ []) ++ (digits ++ 32 ∷ [])) ++ (code ++ 10 ∷ []) ≡ ((98 ∷ digits) ++ (32 ∷ code)) ++ 10 ∷ []
-many digits code = ap (λ l. 98 ∷ l) (append_assoc digits (32 ∷ []) (code ++ 10 ∷ []) ∙ sym (append_assoc digits (32 ∷ code) (10 ∷ [])))
+many : (digits code : List ℕ) → ((98 ∷ []) ++ (digits ++ 32 ∷ [])) ++ (code ++ 10 ∷ []) ≡ ((98 ∷ digits) ++ (32 ∷ code))
+    ++ 10 ∷ []
+many digits code = ap (λ l. 98 ∷ l) (append_assoc digits (32 ∷ []) (code ++ 10 ∷ [])
+    ∙ sym (append_assoc digits (32 ∷ code) (10 ∷ [])))
 
 pub front_of_bit : (v : List Bit) → length v ≡ 1 → value_front v ≡ printed_letter (get_or v 0 X) ∷ []
 front_of_bit [] one = absurd (omega arith)
 front_of_bit (b ∷ []) one = refl
 front_of_bit (b ∷ c ∷ v) one = absurd (omega arith)
 
-pub front_of_bits : (v : List Bit) → length v ≢ 1 → value_front v ≡ (98 ∷ []) ++ (printed_letters (short_form v) ++ 32 ∷ [])
+pub front_of_bits : (v : List Bit) → length v ≢ 1
+    → value_front v ≡ (98 ∷ []) ++ (printed_letters (short_form v) ++ 32 ∷ [])
 front_of_bits [] more = refl
 front_of_bits (b ∷ []) more = absurd (more refl)
 front_of_bits (b ∷ c ∷ v) more = refl

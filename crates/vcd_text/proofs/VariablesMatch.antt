@@ -9,32 +9,41 @@ use Rattle.vcd_text.specs.Meaning.{latest_value}
 use Rattle.vcd_text.specs.inside.ChangeLog.{logged}
 use Rattle.vcd_text.specs.declared.reading.change_log.LoggedChange.{LoggedChange}
 use Rattle.vcd_text.proofs.LoggedValues.{gives_further}
-use Rattle.vcd_text.specs.inside.Variables.{declaration, without_scopes, target_of, HasWave, TargetMatches, VariablesMatch}
+use Rattle.vcd_text.specs.inside.Variables.{declaration, without_scopes, target_of, HasWave, TargetMatches}
+use Rattle.vcd_text.specs.inside.Variables.{VariablesMatch}
 use Rattle.vcd_text.specs.declared.reading.variables.Variable.{Variable}
 use Rattle.vcd_text.specs.declared.reading.variables.Variables.{Variables}
 use Rattle.vcd_text.proofs.CodeTargets.{stands_moved}
 
-wave_further : (vs : List Variable) (log : ℕ → List LoggedChange) (value_changes : List ValueChange) (early late position : ℕ) (code : List ℕ) (size : ℕ)
-    → early ≤ late → HasWave vs log position code size value_changes early → HasWave vs log position code size value_changes late
+wave_further : (vs : List Variable) (log : ℕ → List LoggedChange) (value_changes : List ValueChange)
+    (early late position : ℕ) (code : List ℕ) (size : ℕ)
+    → early ≤ late → HasWave vs log position code size value_changes early
+    → HasWave vs log position code size value_changes late
 wave_further vs log value_changes early late position code size later w = record {
   first = w.first;
   stands = w.stands;
   coded = w.coded;
   sized = w.sized;
-  gives = gives_further size early (λ t. latest_value size code t (all_x size) value_changes) w.first.signal.wave.changes late (log position) later w.gives;
+  gives = gives_further size early (λ t. latest_value size code t (all_x size) value_changes)
+      w.first.signal.wave.changes late (log position) later w.gives;
 }
 
 -- variables that hold what has been told hold it at a later tick too
-pub knows_further : (vs : Variables) (c d : ParseState) → c.declared ≡ d.declared → c.value_changes ≡ d.value_changes → c.tick ≤ d.tick → VariablesMatch vs c → VariablesMatch vs d
+pub knows_further : (vs : Variables) (c d : ParseState) → c.declared ≡ d.declared → c.value_changes ≡ d.value_changes
+    → c.tick ≤ d.tick → VariablesMatch vs c → VariablesMatch vs d
 knows_further vs c d declared value_changes later k = record {
   kept = subst (λ ds. map without_scopes (kept_variables ds) ≡ map declaration vs.kept.items) declared k.kept;
   skipped = subst (λ ds. vs.skipped ≡ count_by is_skipped ds) declared k.skipped;
   widths = k.widths;
   stand = λ code.
-      stands_moved vs.kept.items vs.kept.items (logged vs.log.groups.items) (logged vs.log.groups.items) d.value_changes d.value_changes c.tick d.tick code (target_of vs code) (find (λ e. bytes_eq code e.code) d.declared)
-      (λ position size _ wave. wave_further vs.kept.items (logged vs.log.groups.items) d.value_changes c.tick d.tick position code size later wave)
-      (subst (λ rs. TargetMatches vs.kept.items (logged vs.log.groups.items) rs c.tick code (target_of vs code) (find (λ e. bytes_eq code e.code) d.declared)) value_changes
-      (subst (λ ds. TargetMatches vs.kept.items (logged vs.log.groups.items) c.value_changes c.tick code (target_of vs code) (find (λ e. bytes_eq code e.code) ds)) declared (k.stand code)));
+      stands_moved vs.kept.items vs.kept.items (logged vs.log.groups.items) (logged vs.log.groups.items) d.value_changes
+      d.value_changes c.tick d.tick code (target_of vs code) (find (λ e. bytes_eq code e.code) d.declared)
+      (λ position size _ wave. wave_further vs.kept.items (logged vs.log.groups.items) d.value_changes c.tick d.tick
+      position code size later wave)
+      (subst (λ rs. TargetMatches vs.kept.items (logged vs.log.groups.items) rs c.tick code (target_of vs code)
+      (find (λ e. bytes_eq code e.code) d.declared)) value_changes
+      (subst (λ ds. TargetMatches vs.kept.items (logged vs.log.groups.items) c.value_changes c.tick code
+      (target_of vs code) (find (λ e. bytes_eq code e.code) ds)) declared (k.stand code)));
   firsts = k.firsts;
   few = k.few;
   grouped = k.grouped;
@@ -42,14 +51,22 @@ knows_further vs c d declared value_changes later k = record {
 }
 
 -- and with another table of the same codes
-pub same_codes : (vs : Variables) (code_targets : CodeTargets) (c : ParseState) → code_targets.codes ≡ vs.code_targets.codes → VariablesMatch vs c → VariablesMatch (record vs { code_targets = code_targets }) c
+pub same_codes : (vs : Variables) (code_targets : CodeTargets) (c : ParseState)
+    → code_targets.codes ≡ vs.code_targets.codes → VariablesMatch vs c
+    → VariablesMatch (record vs { code_targets = code_targets }) c
 same_codes vs code_targets c same k = record {
   kept = k.kept;
   skipped = k.skipped;
   widths = k.widths;
-  stand = λ code. subst (λ m. TargetMatches vs.kept.items (logged vs.log.groups.items) c.value_changes c.tick code (code_target m code) (variable_of c code)) (sym same) (k.stand code);
+  stand = λ code. subst (λ m. TargetMatches vs.kept.items (logged vs.log.groups.items) c.value_changes c.tick code
+      (code_target m code) (variable_of c code)) (sym same) (k.stand code);
   firsts = λ position v at. let first = k.firsts position v at in
-      record { owned = ap (λ m. code_target m v.code) same ∙ first.owned; no_later = first.no_later; same_size = first.same_size };
+      record {
+        owned = ap (λ m. code_target m v.code) same ∙ first.owned;
+        no_later = first.no_later;
+        same_size =
+            first.same_size;
+      };
   few = k.few;
   grouped = k.grouped;
   logs = k.logs;

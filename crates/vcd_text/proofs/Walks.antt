@@ -1,5 +1,7 @@
 -- A walk over the changes in order of ticks writes the text of all ticks.
-use Rattle.std.proofs.Common.{◌≡◌, ◌<◌, ◌≤◌, ◌+◌, ◌-◌, ℕ, zero, suc, Bool, true, false, cond, ◌&&◌, ◌==◌, if◌then◌else◌, nat_lt, List, [], ◌∷◌, ◌++◌, length, map, drop, get_or, refl, sym, ap, subst, ◌∙◌, arith, append_assoc, eq-eqb}
+use Rattle.std.proofs.Common.{◌≡◌, ◌<◌, ◌≤◌, ◌+◌, ◌-◌, ℕ, zero, suc, Bool, true, false, cond, ◌&&◌, ◌==◌, if◌then◌else◌}
+use Rattle.std.proofs.Common.{nat_lt, List, [], ◌∷◌, ◌++◌, length, map, drop, get_or, refl, sym, ap, subst, ◌∙◌, arith}
+use Rattle.std.proofs.Common.{append_assoc, eq-eqb}
 use Rattle.std.specs.List.{filter, flat_map, enumerate_from}
 use Rattle.std.proofs.lemmas.Bool.{lt-ltb, le-ltb, ne_eqb}
 use Rattle.std.proofs.lemmas.Grind.{flat_map-append}
@@ -7,15 +9,18 @@ use Rattle.std.proofs.lemmas.List.{append-nil, drop_all, drop_more, get_or-drop,
 use Rattle.vcd_core.specs.Contents.{SignalContents, no_signal, signal_value}
 use Rattle.vcd_text.proofs.Counts.{transitions_split}
 use Rattle.vcd_text.specs.Items.{Item}
-use Rattle.vcd_text.specs.inside.Transitions.{Transition, transition_of, transition_value, transitions_from, last_tick, transition_items}
-use Rattle.vcd_text.specs.Text.{code_of, differs_at, end_items, item_line, new_values, stamp_of, with_stamp, tick_items, value_item, value_items}
+use Rattle.vcd_text.specs.inside.Transitions.{Transition, transition_of, transition_value, transitions_from, last_tick}
+use Rattle.vcd_text.specs.inside.Transitions.{transition_items}
+use Rattle.vcd_text.specs.Text.{code_of, differs_at, end_items, item_line, new_values, stamp_of, with_stamp, tick_items}
+use Rattle.vcd_text.specs.Text.{value_item, value_items}
 
 -- what is written over transitions, where the last stamp was that of a tick
 unfoldable pub walk : List SignalContents → ℕ → ℕ → List Transition → List Item
 walk signals end last [] = if nat_lt last end then stamp_of end ∷ [] else []
 walk signals end last (m ∷ ms) =
     (if m.tick == last then [] else stamp_of m.tick ∷ [])
-    ++ value_item (code_of m.position) (signal_value (get_or signals m.position no_signal) m.tick) ∷ walk signals end m.tick ms
+    ++ value_item (code_of m.position) (signal_value (get_or signals m.position no_signal) m.tick)
+    ∷ walk signals end m.tick ms
 
 -- each signal stands at its position
 abbrev AllPlaced : List SignalContents → List (ℕ × SignalContents) → Type 0
@@ -27,61 +32,81 @@ abbrev at_tick : ℕ → List (ℕ × SignalContents) → List Transition
 at_tick t placed = map (λ p. transition_of t p.0) placed
 
 -- transitions at the tick of the last stamp
-same_tick : (signals : List SignalContents) (end t : ℕ) (placed : List (ℕ × SignalContents)) (ms : List Transition) → AllPlaced signals placed
+same_tick : (signals : List SignalContents) (end t : ℕ) (placed : List (ℕ × SignalContents)) (ms : List Transition)
+    → AllPlaced signals placed
     → walk signals end t (at_tick t placed ++ ms) ≡ value_items t placed ++ walk signals end t ms
 unfolding walk
 same_tick signals end t [] ms all = refl
 same_tick signals end t (p ∷ ps) ms (at, rest) =
-    ap (λ b. (if b then [] else stamp_of t ∷ []) ++ value_item (code_of p.0) (signal_value (get_or signals p.0 no_signal) t) ∷ walk signals end t (at_tick t ps ++ ms)) (eq-eqb t t refl)
+    ap (λ b. (if b then [] else stamp_of t ∷ [])
+    ++ value_item (code_of p.0) (signal_value (get_or signals p.0 no_signal) t)
+    ∷ walk signals end t (at_tick t ps ++ ms)) (eq-eqb t t refl)
     ∙ ap (λ s. value_item (code_of p.0) (signal_value s t) ∷ walk signals end t (at_tick t ps ++ ms)) at
     ∙ ap (λ l. value_item (code_of p.0) (signal_value p.1 t) ∷ l) (same_tick signals end t ps ms rest)
 
 -- transitions at a later tick, one at least
-later_tick : (signals : List SignalContents) (end last t : ℕ) (p : ℕ × SignalContents) (ps : List (ℕ × SignalContents)) (ms : List Transition) → last < t → AllPlaced signals (p ∷ ps)
+later_tick : (signals : List SignalContents) (end last t : ℕ) (p : ℕ × SignalContents) (ps : List (ℕ × SignalContents))
+    (ms : List Transition) → last < t → AllPlaced signals (p ∷ ps)
     → walk signals end last (at_tick t (p ∷ ps) ++ ms) ≡ with_stamp t (value_items t (p ∷ ps)) ++ walk signals end t ms
 unfolding walk
 later_tick signals end last t p ps ms later (at, rest) =
-    ap (λ b. (if b then [] else stamp_of t ∷ []) ++ value_item (code_of p.0) (signal_value (get_or signals p.0 no_signal) t) ∷ walk signals end t (at_tick t ps ++ ms)) (ne_eqb t last (omega arith))
+    ap (λ b. (if b then [] else stamp_of t ∷ [])
+    ++ value_item (code_of p.0) (signal_value (get_or signals p.0 no_signal) t)
+    ∷ walk signals end t (at_tick t ps ++ ms)) (ne_eqb t last (omega arith))
     ∙ ap (λ s. stamp_of t ∷ value_item (code_of p.0) (signal_value s t) ∷ walk signals end t (at_tick t ps ++ ms)) at
     ∙ ap (λ l. stamp_of t ∷ value_item (code_of p.0) (signal_value p.1 t) ∷ l) (same_tick signals end t ps ms rest)
 
 -- a tick before the end
-one_tick : (signals : List SignalContents) (end last t : ℕ) (placed : List (ℕ × SignalContents)) (ms : List Transition) (rest : List Item) → last < t → AllPlaced signals placed
-    → walk signals end last ms ≡ rest → walk signals end t ms ≡ rest → walk signals end last (at_tick t placed ++ ms) ≡ with_stamp t (value_items t placed) ++ rest
+one_tick : (signals : List SignalContents) (end last t : ℕ) (placed : List (ℕ × SignalContents)) (ms : List Transition)
+    (rest : List Item) → last < t → AllPlaced signals placed
+    → walk signals end last ms ≡ rest → walk signals end t ms ≡ rest
+    → walk signals end last (at_tick t placed ++ ms) ≡ with_stamp t (value_items t placed) ++ rest
 one_tick signals end last t [] ms rest later all still now = still
-one_tick signals end last t (p ∷ ps) ms rest later all still now = later_tick signals end last t p ps ms later all ∙ ap (λ l. with_stamp t (value_items t (p ∷ ps)) ++ l) now
+one_tick signals end last t (p ∷ ps) ms rest later all still now = later_tick signals end last t p ps ms later all
+    ∙ ap (λ l. with_stamp t (value_items t (p ∷ ps)) ++ l) now
 
 -- the last tick, and the stamp of the end where nothing changes at it
-tick_at_end : (signals : List SignalContents) (last t : ℕ) (placed : List (ℕ × SignalContents)) → last < t → AllPlaced signals placed
-    → walk signals t last (at_tick t placed ++ []) ≡ (with_stamp t (value_items t placed) ++ []) ++ (if nat_lt 0 t && (length (value_items t placed) == 0) then stamp_of t ∷ [] else [])
+tick_at_end : (signals : List SignalContents) (last t : ℕ) (placed : List (ℕ × SignalContents)) → last < t
+    → AllPlaced signals placed
+    → walk signals t last (at_tick t placed ++ []) ≡ (with_stamp t (value_items t placed) ++ [])
+    ++ (if nat_lt 0 t && (length (value_items t placed) == 0) then stamp_of t ∷ [] else [])
 unfolding walk
 tick_at_end signals last t [] later all =
-    ap (λ b. if b then stamp_of t ∷ [] else []) (lt-ltb last t later) ∙ sym (ap (λ b. if b && true then stamp_of t ∷ [] else []) (lt-ltb 0 t (omega arith)))
+    ap (λ b. if b then stamp_of t ∷ [] else []) (lt-ltb last t later)
+    ∙ sym (ap (λ b. if b && true then stamp_of t ∷ [] else []) (lt-ltb 0 t (omega arith)))
 tick_at_end signals last t (p ∷ ps) later all =
-    let more : (suc (length (value_items t ps)) == 0) ≡ false = ne_eqb (suc (length (value_items t ps))) 0 (omega arith) in
+    let more : (suc (length (value_items t ps)) == 0) ≡ false =
+    ne_eqb (suc (length (value_items t ps))) 0 (omega arith) in
     later_tick signals t last t p ps [] later all
     ∙ ap (λ b. with_stamp t (value_items t (p ∷ ps)) ++ (if b then stamp_of t ∷ [] else [])) (le-ltb t t (omega arith))
     ∙ append-nil (with_stamp t (value_items t (p ∷ ps)))
-    ∙ sym (ap (λ b. (with_stamp t (value_items t (p ∷ ps)) ++ []) ++ (if nat_lt 0 t && b then stamp_of t ∷ [] else [])) more
-    ∙ ap (λ b. (with_stamp t (value_items t (p ∷ ps)) ++ []) ++ (if b && false then stamp_of t ∷ [] else [])) (lt-ltb 0 t (omega arith))
+    ∙ sym (ap (λ b. (with_stamp t (value_items t (p ∷ ps)) ++ []) ++ (if nat_lt 0 t && b then stamp_of t ∷ [] else []))
+    more
+    ∙ ap (λ b. (with_stamp t (value_items t (p ∷ ps)) ++ []) ++ (if b && false then stamp_of t ∷ [] else []))
+    (lt-ltb 0 t (omega arith))
     ∙ append-nil _ ∙ append-nil (with_stamp t (value_items t (p ∷ ps))))
 
-placed_filter : (signals : List SignalContents) (t : ℕ) (placed : List (ℕ × SignalContents)) → AllPlaced signals placed → AllPlaced signals (filter (λ p. differs_at t p.1) placed)
+placed_filter : (signals : List SignalContents) (t : ℕ) (placed : List (ℕ × SignalContents)) → AllPlaced signals placed
+    → AllPlaced signals (filter (λ p. differs_at t p.1) placed)
 placed_filter signals t [] all = tt
 placed_filter signals t (p ∷ ps) (at, rest) = keep (differs_at t p.1) (placed_filter signals t ps rest)
   where
-    keep : (b : Bool) → AllPlaced signals (filter (λ p. differs_at t p.1) ps) → AllPlaced signals (cond b (p ∷ filter (λ p. differs_at t p.1) ps) (filter (λ p. differs_at t p.1) ps))
+    keep : (b : Bool) → AllPlaced signals (filter (λ p. differs_at t p.1) ps)
+        → AllPlaced signals (cond b (p ∷ filter (λ p. differs_at t p.1) ps) (filter (λ p. differs_at t p.1) ps))
     keep true kept = (at, kept)
     keep false kept = kept
 
-placed_enumerated : (signals : List SignalContents) (k : ℕ) (ss : List SignalContents) → drop k signals ≡ ss → AllPlaced signals (enumerate_from k ss)
+placed_enumerated : (signals : List SignalContents) (k : ℕ) (ss : List SignalContents) → drop k signals ≡ ss
+    → AllPlaced signals (enumerate_from k ss)
 placed_enumerated signals k [] is = tt
 placed_enumerated signals k (s ∷ ss) is =
     let here : get_or signals k no_signal ≡ s =
-    ap (λ n. get_or signals n no_signal) (let e : k ≡ k + 0 = omega arith in e) ∙ sym (get_or-drop k signals 0 no_signal) ∙ ap (λ l. get_or l 0 no_signal) is in
+    ap (λ n. get_or signals n no_signal) (let e : k ≡ k + 0 = omega arith in e)
+    ∙ sym (get_or-drop k signals 0 no_signal) ∙ ap (λ l. get_or l 0 no_signal) is in
     (here, placed_enumerated signals (k + 1) ss (sym (drop-drop 1 k signals) ∙ ap (drop 1) is))
 
-all_placed : (signals : List SignalContents) (t : ℕ) → AllPlaced signals (filter (λ p. differs_at t p.1) (enumerate_from 0 signals))
+all_placed : (signals : List SignalContents) (t : ℕ)
+    → AllPlaced signals (filter (λ p. differs_at t p.1) (enumerate_from 0 signals))
 all_placed signals t = placed_filter signals t (enumerate_from 0 signals) (placed_enumerated signals 0 signals refl)
 
 walk_ticks : (signals : List SignalContents) (n end last t : ℕ) → last < t → t + n ≡ end
@@ -90,103 +115,141 @@ unfolding transitions_from tick_items
 walk_ticks signals zero end last t later all =
     let at : t ≡ end = omega arith in
     subst (λ e. walk signals e last (transitions_from signals t 1) ≡ tick_items signals t 1 ++ end_items signals e) at
-    (tick_at_end signals last t (filter (λ p. differs_at t p.1) (enumerate_from 0 signals)) later (all_placed signals t))
+    (tick_at_end signals last t (filter (λ p. differs_at t p.1) (enumerate_from 0 signals)) later
+    (all_placed signals t))
 walk_ticks signals (suc n) end last t later all =
-    one_tick signals end last t (filter (λ p. differs_at t p.1) (enumerate_from 0 signals)) (transitions_from signals (suc t) (suc n)) (tick_items signals (suc t) (suc n) ++ end_items signals end)
-    later (all_placed signals t) (walk_ticks signals n end last (suc t) (omega arith) (omega arith)) (walk_ticks signals n end t (suc t) (omega arith) (omega arith))
-    ∙ sym (append_assoc (with_stamp t (new_values signals t)) (tick_items signals (suc t) (suc n)) (end_items signals end))
+    one_tick signals end last t (filter (λ p. differs_at t p.1) (enumerate_from 0 signals))
+    (transitions_from signals (suc t) (suc n)) (tick_items signals (suc t) (suc n) ++ end_items signals end)
+    later (all_placed signals t) (walk_ticks signals n end last (suc t) (omega arith) (omega arith))
+    (walk_ticks signals n end t (suc t) (omega arith) (omega arith))
+    ∙ sym (append_assoc (with_stamp t (new_values signals t)) (tick_items signals (suc t) (suc n))
+    (end_items signals end))
 
 -- the walk over the transitions of all ticks
-pub walk_is : (signals : List SignalContents) (end : ℕ) → walk signals end 0 (transitions_from signals 1 end) ≡ tick_items signals 1 end ++ end_items signals end
+pub walk_is : (signals : List SignalContents) (end : ℕ)
+    → walk signals end 0 (transitions_from signals 1 end) ≡ tick_items signals 1 end ++ end_items signals end
 unfolding walk transitions_from tick_items
 walk_is signals zero = refl
 walk_is signals (suc n) = walk_ticks signals n (suc n) 0 1 (omega arith) (omega arith)
 
 -- a part of the transitions, and the walk over the later ones
 pub walk_parts : (signals : List SignalContents) (end last : ℕ) (ms later : List Transition)
-    → walk signals end last (ms ++ later) ≡ transition_items signals last ms ++ walk signals end (last_tick last ms) later
+    → walk signals end last (ms ++ later) ≡ transition_items signals last ms
+    ++ walk signals end (last_tick last ms) later
 unfolding walk transition_items last_tick
 walk_parts signals end last [] later = refl
 walk_parts signals end last (m ∷ ms) later =
-    ap (λ l. (if m.tick == last then [] else stamp_of m.tick ∷ []) ++ value_item (code_of m.position) (transition_value signals m) ∷ l) (walk_parts signals end m.tick ms later)
-    ∙ sym (append_assoc (if m.tick == last then [] else stamp_of m.tick ∷ []) (value_item (code_of m.position) (transition_value signals m) ∷ transition_items signals m.tick ms) (walk signals end (last_tick m.tick ms) later))
+    ap (λ l. (if m.tick == last then [] else stamp_of m.tick ∷ [])
+    ++ value_item (code_of m.position) (transition_value signals m) ∷ l) (walk_parts signals end m.tick ms later)
+    ∙ sym (append_assoc (if m.tick == last then [] else stamp_of m.tick ∷ [])
+    (value_item (code_of m.position) (transition_value signals m) ∷ transition_items signals m.tick ms)
+    (walk signals end (last_tick m.tick ms) later))
 
 -- the lines of all ticks past 0
 pub whole_walk : (signals : List SignalContents) (end : ℕ)
-    → flat_map item_line (walk signals end 0 (transitions_from signals 1 (end + 1 - 1))) ≡ flat_map item_line (tick_items signals 1 end ++ end_items signals end)
+    → flat_map item_line (walk signals end 0 (transitions_from signals 1 (end + 1 - 1)))
+    ≡ flat_map item_line (tick_items signals 1 end ++ end_items signals end)
 whole_walk signals end =
     let count : end + 1 - 1 ≡ end = omega arith in
-    ap (λ n. flat_map item_line (walk signals end 0 (transitions_from signals 1 n))) count ∙ ap (flat_map item_line) (walk_is signals end)
+    ap (λ n. flat_map item_line (walk signals end 0 (transitions_from signals 1 n))) count
+    ∙ ap (flat_map item_line) (walk_is signals end)
 
 -- the lines of a window, and those of the ticks behind it
-pub window_walked : (signals : List SignalContents) (end last next from count : ℕ) (ms : List Transition) → ms ≡ transitions_from signals from count → next ≡ last_tick last ms → from + count ≤ end + 1
+pub window_walked : (signals : List SignalContents) (end last next from count : ℕ) (ms : List Transition)
+    → ms ≡ transitions_from signals from count → next ≡ last_tick last ms → from + count ≤ end + 1
     → flat_map item_line (walk signals end last (transitions_from signals from (end + 1 - from)))
-    ≡ flat_map item_line (transition_items signals last ms) ++ flat_map item_line (walk signals end next (transitions_from signals (from + count) (end + 1 - (from + count))))
+    ≡ flat_map item_line (transition_items signals last ms)
+    ++ flat_map item_line
+    (walk signals end next (transitions_from signals (from + count) (end + 1 - (from + count))))
 window_walked signals end last next from count ms all at within =
     let left = end + 1 - (from + count) in
     let sum : end + 1 - from ≡ count + left = omega arith in
     let later = transitions_from signals (from + count) left in
     ap (λ n. flat_map item_line (walk signals end last (transitions_from signals from n))) sum
-    ∙ ap (λ l. flat_map item_line (walk signals end last l)) (transitions_split signals from count left ∙ ap (λ l. l ++ later) (sym all))
+    ∙ ap (λ l. flat_map item_line (walk signals end last l)) (transitions_split signals from count left
+    ∙ ap (λ l. l ++ later) (sym all))
     ∙ ap (flat_map item_line) (walk_parts signals end last ms later)
     ∙ flat_map-append item_line (transition_items signals last ms) (walk signals end (last_tick last ms) later)
-    ∙ ap (λ t. flat_map item_line (transition_items signals last ms) ++ flat_map item_line (walk signals end t later)) (sym at)
+    ∙ ap (λ t. flat_map item_line (transition_items signals last ms) ++ flat_map item_line (walk signals end t later))
+    (sym at)
 
 -- no tick is left but the end
 pub end_walked : (signals : List SignalContents) (end last from : ℕ) → end < from
-    → flat_map item_line (walk signals end last (transitions_from signals from (end + 1 - from))) ≡ flat_map item_line (if nat_lt last end then stamp_of end ∷ [] else []) ++ []
+    → flat_map item_line (walk signals end last (transitions_from signals from (end + 1 - from)))
+    ≡ flat_map item_line (if nat_lt last end then stamp_of end ∷ [] else []) ++ []
 unfolding walk transitions_from
 end_walked signals end last from past =
     let none : end + 1 - from ≡ 0 = omega arith in
-    ap (λ n. flat_map item_line (walk signals end last (transitions_from signals from n))) none ∙ sym (append-nil (flat_map item_line (if nat_lt last end then stamp_of end ∷ [] else [])))
+    ap (λ n. flat_map item_line (walk signals end last (transitions_from signals from n))) none
+    ∙ sym (append-nil (flat_map item_line (if nat_lt last end then stamp_of end ∷ [] else [])))
 
 -- the lines of one transition, and those of the later ones
-pub one_walked : (signals : List SignalContents) (last : ℕ) (ms : List Transition) (k : ℕ) (m d : Transition) → k < length ms → m ≡ get_or ms k d
+pub one_walked : (signals : List SignalContents) (last : ℕ) (ms : List Transition) (k : ℕ) (m d : Transition)
+    → k < length ms → m ≡ get_or ms k d
     → flat_map item_line (transition_items signals last (drop k ms))
-    ≡ (flat_map item_line (if m.tick == last then [] else stamp_of m.tick ∷ []) ++ item_line (value_item (code_of m.position) (transition_value signals m)))
+    ≡ (flat_map item_line (if m.tick == last then [] else stamp_of m.tick ∷ [])
+    ++ item_line (value_item (code_of m.position) (transition_value signals m)))
     ++ flat_map item_line (transition_items signals m.tick (drop (k + 1) ms))
 unfolding transition_items
 one_walked signals last ms k m d within at =
-    ap (λ l. flat_map item_line (transition_items signals last l)) (drop_more ms k d within ∙ ap (λ x. x ∷ drop (k + 1) ms) (sym at))
+    ap (λ l. flat_map item_line (transition_items signals last l)) (drop_more ms k d within
+    ∙ ap (λ x. x ∷ drop (k + 1) ms) (sym at))
     ∙ flat_map-append item_line (if m.tick == last then [] else stamp_of m.tick ∷ []) _
-    ∙ sym (append_assoc (flat_map item_line (if m.tick == last then [] else stamp_of m.tick ∷ [])) (item_line (value_item (code_of m.position) (transition_value signals m))) _)
+    ∙ sym (append_assoc (flat_map item_line (if m.tick == last then [] else stamp_of m.tick ∷ []))
+    (item_line (value_item (code_of m.position) (transition_value signals m))) _)
 
 -- the last tick stays, one transition on
-pub one_later : (last : ℕ) (ms : List Transition) (k : ℕ) (m d : Transition) (whole : ℕ) → k < length ms → m ≡ get_or ms k d → last_tick last (drop k ms) ≡ whole → last_tick m.tick (drop (k + 1) ms) ≡ whole
+pub one_later : (last : ℕ) (ms : List Transition) (k : ℕ) (m d : Transition) (whole : ℕ) → k < length ms
+    → m ≡ get_or ms k d → last_tick last (drop k ms) ≡ whole → last_tick m.tick (drop (k + 1) ms) ≡ whole
 unfolding last_tick
-one_later last ms k m d whole within at all = sym (ap (last_tick last) (drop_more ms k d within ∙ ap (λ x. x ∷ drop (k + 1) ms) (sym at))) ∙ all
+one_later last ms k m d whole within at all =
+    sym (ap (last_tick last) (drop_more ms k d within ∙ ap (λ x. x ∷ drop (k + 1) ms) (sym at))) ∙ all
 
 -- no transition is left
-pub none_walked : (signals : List SignalContents) (last : ℕ) (ms : List Transition) (k : ℕ) → length ms ≤ k → flat_map item_line (transition_items signals last (drop k ms)) ≡ []
+pub none_walked : (signals : List SignalContents) (last : ℕ) (ms : List Transition) (k : ℕ) → length ms ≤ k
+    → flat_map item_line (transition_items signals last (drop k ms)) ≡ []
 unfolding transition_items
 none_walked signals last ms k past = ap (λ l. flat_map item_line (transition_items signals last l)) (drop_all k ms past)
 
-pub all_later : (last : ℕ) (ms : List Transition) (k whole : ℕ) → length ms ≤ k → last_tick last (drop k ms) ≡ whole → last ≡ whole
+pub all_later : (last : ℕ) (ms : List Transition) (k whole : ℕ) → length ms ≤ k → last_tick last (drop k ms) ≡ whole
+    → last ≡ whole
 unfolding last_tick
 all_later last ms k whole past all = sym (ap (last_tick last) (drop_all k ms past)) ∙ all
 
 -- ---- parts of a window
 
-split_items : (signals : List SignalContents) (t : ℕ) (front later : List Transition) → transition_items signals t (front ++ later) ≡ transition_items signals t front ++ transition_items signals (last_tick t front) later
+split_items : (signals : List SignalContents) (t : ℕ) (front later : List Transition)
+    → transition_items signals t (front ++ later) ≡ transition_items signals t front
+    ++ transition_items signals (last_tick t front) later
 unfolding transition_items last_tick
 split_items signals t [] later = refl
 split_items signals t (m ∷ front) later =
-    ap (λ l. (if m.tick == t then [] else stamp_of m.tick ∷ []) ++ value_item (code_of m.position) (transition_value signals m) ∷ l) (split_items signals m.tick front later)
-    ∙ sym (append_assoc (if m.tick == t then [] else stamp_of m.tick ∷ []) (value_item (code_of m.position) (transition_value signals m) ∷ transition_items signals m.tick front) (transition_items signals (last_tick m.tick front) later))
+    ap (λ l. (if m.tick == t then [] else stamp_of m.tick ∷ [])
+    ++ value_item (code_of m.position) (transition_value signals m) ∷ l) (split_items signals m.tick front later)
+    ∙ sym (append_assoc (if m.tick == t then [] else stamp_of m.tick ∷ [])
+    (value_item (code_of m.position) (transition_value signals m) ∷ transition_items signals m.tick front)
+    (transition_items signals (last_tick m.tick front) later))
 
-split_last : (t : ℕ) (front later : List Transition) → last_tick t (front ++ later) ≡ last_tick (last_tick t front) later
+split_last : (t : ℕ) (front later : List Transition)
+    → last_tick t (front ++ later) ≡ last_tick (last_tick t front) later
 unfolding last_tick
 split_last t [] later = refl
 split_last t (m ∷ front) later = split_last m.tick front later
 
 -- the lines of a part, and those of the later ones
-pub items_split : (signals : List SignalContents) (last next : ℕ) (ms part later : List Transition) → ms ≡ part ++ later → next ≡ last_tick last part
-    → flat_map item_line (transition_items signals last ms) ≡ flat_map item_line (transition_items signals last part) ++ flat_map item_line (transition_items signals next later)
+pub items_split : (signals : List SignalContents) (last next : ℕ) (ms part later : List Transition) → ms ≡ part ++ later
+    → next ≡ last_tick last part
+    → flat_map item_line (transition_items signals last ms) ≡ flat_map item_line (transition_items signals last part)
+    ++ flat_map item_line (transition_items signals next later)
 items_split signals last next ms part later is at =
     ap (λ l. flat_map item_line (transition_items signals last l)) is
     ∙ ap (flat_map item_line) (split_items signals last part later)
-    ∙ flat_map-append item_line (transition_items signals last part) (transition_items signals (last_tick last part) later)
-    ∙ ap (λ t. flat_map item_line (transition_items signals last part) ++ flat_map item_line (transition_items signals t later)) (sym at)
+    ∙ flat_map-append item_line (transition_items signals last part)
+    (transition_items signals (last_tick last part) later)
+    ∙ ap (λ t. flat_map item_line (transition_items signals last part)
+    ++ flat_map item_line (transition_items signals t later)) (sym at)
 
-pub last_split : (last next whole : ℕ) (ms part later : List Transition) → ms ≡ part ++ later → next ≡ last_tick last part → last_tick last ms ≡ whole → last_tick next later ≡ whole
-last_split last next whole ms part later is at all = ap (λ t. last_tick t later) at ∙ sym (split_last last part later) ∙ ap (last_tick last) (sym is) ∙ all
+pub last_split : (last next whole : ℕ) (ms part later : List Transition) → ms ≡ part ++ later
+    → next ≡ last_tick last part → last_tick last ms ≡ whole → last_tick next later ≡ whole
+last_split last next whole ms part later is at all = ap (λ t. last_tick t later) at ∙ sym (split_last last part later)
+    ∙ ap (last_tick last) (sym is) ∙ all

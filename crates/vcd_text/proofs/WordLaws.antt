@@ -1,5 +1,6 @@
 -- The words of a text: the first is at its front, each is a run of bytes other than white space.
-use Rattle.std.proofs.Common.{◌≡◌, ℕ, zero, suc, ◌+◌, ◌<◌, ◌≤◌, Bool, true, false, not, cond, ◌&&◌, ◌==◌, List, [], ◌∷◌, ◌++◌, length, map, take, drop, refl, sym, ap, subst, ◌∙◌, arith}
+use Rattle.std.proofs.Common.{◌≡◌, ℕ, zero, suc, ◌+◌, ◌<◌, ◌≤◌, Bool, true, false, not, cond, ◌&&◌, ◌==◌, List, [], ◌∷◌}
+use Rattle.std.proofs.Common.{◌++◌, length, map, take, drop, refl, sym, ap, subst, ◌∙◌, arith}
 use Rattle.std.specs.List.{All, list_all}
 use Rattle.std.proofs.lemmas.List.{take-append-drop}
 use Rattle.std.proofs.lemmas.List.Sums.{sum_by-append}
@@ -55,8 +56,15 @@ no_feeds (b ∷ bs) black =
     let parts = both (not (is_white_space b)) (list_all (λ b. not (is_white_space b)) bs) black in
     other_first b bs (b ∷ bs) refl (no_space_is_no_feed b (not_true (is_white_space b) parts.0)) ∙ no_feeds bs parts.1
 
-pub feeds_after : (n : ℕ) (text : List ℕ) → list_all (λ b. not (is_white_space b)) (take n text) ≡ true → feeds (drop n text) ≡ feeds text
-feeds_after n text black = omega (arith, ap feeds (take-append-drop n text), feeds_both (take n text) (drop n text), no_feeds (take n text) black)
+pub feeds_after : (n : ℕ) (text : List ℕ) → list_all (λ b. not (is_white_space b)) (take n text) ≡ true
+    → feeds (drop n text) ≡ feeds text
+feeds_after n text black =
+    omega (
+      arith,
+      ap feeds (take-append-drop n text),
+      feeds_both (take n text) (drop n text),
+      no_feeds (take n text) black,
+    )
 
 -- ---- words at the front
 
@@ -64,7 +72,8 @@ pub same_line : (b line : ℕ) → is_white_space b ≡ false → line_after b l
 same_line b line black = ap (λ t. cond t (line + 1) line) (no_space_is_no_feed b black)
 
 -- the words of a text that begins with a word
-pub word_whole : (whole : Bool) (line : ℕ) (w rest : List ℕ) → 0 < length w → list_all (λ b. not (is_white_space b)) w ≡ true → ends_before whole rest ≡ true
+pub word_whole : (whole : Bool) (line : ℕ) (w rest : List ℕ) → 0 < length w
+    → list_all (λ b. not (is_white_space b)) w ≡ true → ends_before whole rest ≡ true
     → words_from whole line (w ++ rest) ≡ word_on w line ∷ words_from whole line rest
 unfolding words_from
 word_whole whole line [] rest some black ends = absurd (omega arith)
@@ -75,26 +84,34 @@ word_whole whole line (b ∷ []) rest some black ends =
     ∙ ap (λ n. word_on (b ∷ []) line ∷ words_from whole n rest) (same_line b line here)
 word_whole whole line (b ∷ c ∷ w) rest some black ends =
     let here : is_white_space b ≡ false = not_true _ (both _ _ black).0 in
-    let following : is_white_space c ≡ false = not_true (is_white_space c) (both (not (is_white_space c)) (list_all (λ b. not (is_white_space b)) w) (both (not (is_white_space b)) (list_all (λ b. not (is_white_space b)) (c ∷ w)) black).1).0 in
+    let following : is_white_space c ≡ false =
+    not_true (is_white_space c)
+    (both (not (is_white_space c)) (list_all (λ b. not (is_white_space b)) w)
+    (both (not (is_white_space b)) (list_all (λ b. not (is_white_space b)) (c ∷ w)) black).1).0 in
     ap (λ s. with_byte s (is_white_space c) b line (words_from whole (line_after b line) (c ∷ w ++ rest))) here
     ∙ ap (λ e. with_byte false e b line (words_from whole (line_after b line) (c ∷ w ++ rest))) following
     ∙ ap (λ n. with_longer_first b line (words_from whole n (c ∷ w ++ rest))) (same_line b line here)
     ∙ ap (with_longer_first b line) (word_whole whole line (c ∷ w) rest (omega arith) (both _ _ black).1 ends)
 
 -- the same at a place in the text
-pub word_split : (whole : Bool) (line n : ℕ) (text : List ℕ) → 0 < length (take n text) → list_all (λ b. not (is_white_space b)) (take n text) ≡ true
-    → ends_before whole (drop n text) ≡ true → words_from whole line text ≡ word_on (take n text) line ∷ words_from whole line (drop n text)
+pub word_split : (whole : Bool) (line n : ℕ) (text : List ℕ) → 0 < length (take n text)
+    → list_all (λ b. not (is_white_space b)) (take n text) ≡ true
+    → ends_before whole (drop n text) ≡ true
+    → words_from whole line text ≡ word_on (take n text) line ∷ words_from whole line (drop n text)
 word_split whole line n text some black ends =
-    ap (words_from whole line) (sym (take-append-drop n text)) ∙ word_whole whole line (take n text) (drop n text) some black ends
+    ap (words_from whole line) (sym (take-append-drop n text))
+    ∙ word_whole whole line (take n text) (drop n text) some black ends
 
 -- white space at the front
-pub space_passed : (whole : Bool) (line b : ℕ) (bs : List ℕ) → is_white_space b ≡ true → words_from whole line (b ∷ bs) ≡ words_from whole (line_after b line) bs
+pub space_passed : (whole : Bool) (line b : ℕ) (bs : List ℕ) → is_white_space b ≡ true
+    → words_from whole line (b ∷ bs) ≡ words_from whole (line_after b line) bs
 unfolding words_from
 space_passed whole line b bs space =
     ap (λ s. with_byte s (ends_before whole bs) b line (words_from whole (line_after b line) bs)) space
 
 -- where a text has no word at its front, and no white space, it is at its end
-pub no_word : (whole : Bool) (line n : ℕ) (text : List ℕ) → length (take n text) ≡ 0 → begins_with_space text ≡ false → ends_before true (drop n text) ≡ true
+pub no_word : (whole : Bool) (line n : ℕ) (text : List ℕ) → length (take n text) ≡ 0 → begins_with_space text ≡ false
+    → ends_before true (drop n text) ≡ true
     → (words_from whole line text ≡ []) × (drop n text ≡ [])
 unfolding words_from
 no_word whole line zero [] none black ends = (refl, refl)
@@ -111,7 +128,10 @@ word_part line (b ∷ []) black =
     ap (λ s. with_byte s false b line []) here
 word_part line (b ∷ c ∷ w) black =
     let here : is_white_space b ≡ false = not_true _ (both _ _ black).0 in
-    let following : is_white_space c ≡ false = not_true (is_white_space c) (both (not (is_white_space c)) (list_all (λ b. not (is_white_space b)) w) (both (not (is_white_space b)) (list_all (λ b. not (is_white_space b)) (c ∷ w)) black).1).0 in
+    let following : is_white_space c ≡ false =
+    not_true (is_white_space c)
+    (both (not (is_white_space c)) (list_all (λ b. not (is_white_space b)) w)
+    (both (not (is_white_space b)) (list_all (λ b. not (is_white_space b)) (c ∷ w)) black).1).0 in
     ap (λ s. with_byte s (is_white_space c) b line (words_from false (line_after b line) (c ∷ w))) here
     ∙ ap (λ e. with_byte false e b line (words_from false (line_after b line) (c ∷ w))) following
     ∙ ap (with_longer_first b line) (word_part (line_after b line) (c ∷ w) (both _ _ black).1)
@@ -122,20 +142,28 @@ word_part line (b ∷ c ∷ w) black =
 abbrev pub is_run : List ℕ → Type 0
 is_run text = (0 < length text) × (list_all (λ b. not (is_white_space b)) text ≡ true)
 
-runs_with_byte : (space last : Bool) (b line : ℕ) (ws : List PlacedWord) → is_white_space b ≡ space → All (λ (w : PlacedWord). is_run w.text) ws → All (λ (w : PlacedWord). is_run w.text) (with_byte space last b line ws)
+runs_with_byte : (space last : Bool) (b line : ℕ) (ws : List PlacedWord) → is_white_space b ≡ space
+    → All (λ (w : PlacedWord). is_run w.text) ws
+    → All (λ (w : PlacedWord). is_run w.text) (with_byte space last b line ws)
 runs_with_byte true last b line ws is runs = runs
-runs_with_byte false true b line ws is runs = All-cons (λ (w : PlacedWord). is_run w.text) (word_on (b ∷ []) line) ws (omega arith, rw is refl) runs
+runs_with_byte false true b line ws is runs =
+    All-cons (λ (w : PlacedWord). is_run w.text) (word_on (b ∷ []) line) ws (omega arith, rw is refl) runs
 runs_with_byte false false b line [] is runs = runs
 runs_with_byte false false b line (w ∷ ws) is runs =
     let head = All-head (λ (w : PlacedWord). is_run w.text) w ws runs in
-    All-cons (λ (w : PlacedWord). is_run w.text) (word_on (b ∷ w.text) line) ws (omega arith, rw is head.1) (All-tail (λ (w : PlacedWord). is_run w.text) w ws runs)
+    All-cons (λ (w : PlacedWord). is_run w.text) (word_on (b ∷ w.text) line) ws (
+      omega arith,
+      rw is head.1,
+    ) (All-tail (λ (w : PlacedWord). is_run w.text) w ws runs)
 
 -- each word is such a run
-pub words_are_words : (whole : Bool) (line : ℕ) (bytes : List ℕ) → All (λ (w : PlacedWord). is_run w.text) (words_from whole line bytes)
+pub words_are_words : (whole : Bool) (line : ℕ) (bytes : List ℕ)
+    → All (λ (w : PlacedWord). is_run w.text) (words_from whole line bytes)
 unfolding words_from
 words_are_words whole line [] = All-nil (λ (w : PlacedWord). is_run w.text)
 words_are_words whole line (b ∷ bs) =
-    runs_with_byte (is_white_space b) (ends_before whole bs) b line (words_from whole (line_after b line) bs) refl (words_are_words whole (line_after b line) bs)
+    runs_with_byte (is_white_space b) (ends_before whole bs) b line (words_from whole (line_after b line) bs) refl
+    (words_are_words whole (line_after b line) bs)
 
 -- as tests: a run of bytes other than white space
 abbrev pub is_run_text : List ℕ → Bool
@@ -144,13 +172,16 @@ is_run_text text = not (length text == 0) && list_all (λ b. not (is_white_space
 run_passes : (text : List ℕ) → is_run text → is_run_text text ≡ true
 run_passes text (some, black) = rw (ne_eqb (length text) 0 (λ none. absurd (omega arith)), black) refl
 
-texts_pass : (ws : List PlacedWord) → All (λ (w : PlacedWord). is_run w.text) ws → list_all is_run_text (map (λ (w : PlacedWord). w.text) ws) ≡ true
+texts_pass : (ws : List PlacedWord) → All (λ (w : PlacedWord). is_run w.text) ws
+    → list_all is_run_text (map (λ (w : PlacedWord). w.text) ws) ≡ true
 texts_pass [] runs = refl
 texts_pass (w ∷ ws) runs =
-    ap (λ t. t && list_all is_run_text (map (λ (w : PlacedWord). w.text) ws)) (run_passes w.text (All-head (λ (w : PlacedWord). is_run w.text) w ws runs))
+    ap (λ t. t && list_all is_run_text (map (λ (w : PlacedWord). w.text) ws))
+    (run_passes w.text (All-head (λ (w : PlacedWord). is_run w.text) w ws runs))
     ∙ texts_pass ws (All-tail (λ (w : PlacedWord). is_run w.text) w ws runs)
 
-pub texts_are_runs : (whole : Bool) (line : ℕ) (bytes : List ℕ) → list_all is_run_text (map (λ (w : PlacedWord). w.text) (words_from whole line bytes)) ≡ true
+pub texts_are_runs : (whole : Bool) (line : ℕ) (bytes : List ℕ)
+    → list_all is_run_text (map (λ (w : PlacedWord). w.text) (words_from whole line bytes)) ≡ true
 texts_are_runs whole line bytes = texts_pass (words_from whole line bytes) (words_are_words whole line bytes)
 
 -- a run that is not `$end` is a word that a header entry, a name or a kind may have
@@ -158,7 +189,8 @@ pub run_is_word : (text : List ℕ) → is_run_text text ≡ true → is_end_wor
 run_is_word text run other = ap (λ t. t && not (is_end_word text)) run ∙ ap not other
 
 -- they are no more than the bytes
-more_with_byte : (space last : Bool) (b line : ℕ) (ws : List PlacedWord) → length (with_byte space last b line ws) ≤ suc (length ws)
+more_with_byte : (space last : Bool) (b line : ℕ) (ws : List PlacedWord)
+    → length (with_byte space last b line ws) ≤ suc (length ws)
 more_with_byte true last b line ws = omega arith
 more_with_byte false true b line ws = omega arith
 more_with_byte false false b line [] = omega arith
@@ -168,9 +200,15 @@ pub words_are_few : (whole : Bool) (line : ℕ) (bytes : List ℕ) → length (w
 unfolding words_from
 words_are_few whole line [] = omega arith
 words_are_few whole line (b ∷ bs) =
-    omega (arith, words_are_few whole (line_after b line) bs, more_with_byte (is_white_space b) (ends_before whole bs) b line (words_from whole (line_after b line) bs))
+    omega (
+      arith,
+      words_are_few whole (line_after b line) bs,
+      more_with_byte (is_white_space b) (ends_before whole bs) b line (words_from whole (line_after b line) bs),
+    )
 
 -- the first word to come is a run
-pub first_is_run : (whole : Bool) (line : ℕ) (bytes : List ℕ) (w : PlacedWord) (ws : List PlacedWord) → words_from whole line bytes ≡ w ∷ ws → is_run w.text
+pub first_is_run : (whole : Bool) (line : ℕ) (bytes : List ℕ) (w : PlacedWord) (ws : List PlacedWord)
+    → words_from whole line bytes ≡ w ∷ ws → is_run w.text
 first_is_run whole line bytes w ws is =
-    All-head (λ (w : PlacedWord). is_run w.text) w ws (subst (λ ws. All (λ (w : PlacedWord). is_run w.text) ws) is (words_are_words whole line bytes))
+    All-head (λ (w : PlacedWord). is_run w.text) w ws
+    (subst (λ ws. All (λ (w : PlacedWord). is_run w.text) ws) is (words_are_words whole line bytes))

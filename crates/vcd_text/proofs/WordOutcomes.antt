@@ -1,18 +1,32 @@
 -- What a word does behind the words of an item that is not whole: it shows a fault, ends the item, or goes on with it.
-use Rattle.std.proofs.Common.{◌≡◌, ◌⊎◌, inl, inr, ℕ, ◌<◌, true, not, ◌&&◌, ◌||◌, List, [], ◌∷◌, ◌++◌, length, Option, Some, None, IsSome, IsSomeAnd, IsTrue, IsFalse, codes, bytes_eq, refl, sym, subst, ◌∙◌, arith}
+use Rattle.std.proofs.Common.{◌≡◌, ◌⊎◌, inl, inr, ℕ, ◌<◌, true, not, ◌&&◌, ◌||◌, List, [], ◌∷◌, ◌++◌, length, Option}
+use Rattle.std.proofs.Common.{Some, None, IsSome, IsSomeAnd, IsTrue, IsFalse, codes, bytes_eq, refl, sym, subst, ◌∙◌}
+use Rattle.std.proofs.Common.{arith}
 use Rattle.std.specs.Prelude.{nat_eq, nat_le}
 use Rattle.std.proofs.lemmas.List.Folds.{list_all-append, list_any-append}
 use Rattle.std.proofs.lemmas.Slice.Eq.{bytes_eq-Decides}
-use Rattle.std.proofs.lemmas.Bool.{cases_Bool, cases_lt, and_parts, or_cases, or_from, or_left, or_right, not-true, le-leb}
+use Rattle.std.proofs.lemmas.Bool.{cases_Bool, cases_lt, and_parts, or_cases, or_from, or_left, or_right, not-true}
+use Rattle.std.proofs.lemmas.Bool.{le-leb}
 use Rattle.vcd_core.specs.declared.capture.HeaderKind.TheVariants.{Date, Version, Comment}
 use Rattle.vcd_core.specs.Word.{is_one_of}
 use Rattle.vcd_core.specs.Decimal.{is_number, number_of}
 use Rattle.vcd_text.specs.declared.fault.Fault.{Fault}
-use Rattle.vcd_text.specs.declared.fault.Fault.TheVariants.{UnexpectedWord, BadTimescale, BadScope, UpscopeAtTop, BadVar, MixedCode, BadTime, TimeBackwards, BadChange, UnknownCode, ValueTooLong, TooManySignals}
+use Rattle.vcd_text.specs.declared.fault.Fault.TheVariants.{UnexpectedWord, BadTimescale, BadScope, UpscopeAtTop}
+use Rattle.vcd_text.specs.declared.fault.Fault.TheVariants.{BadVar, MixedCode, BadTime, TimeBackwards, BadChange}
+use Rattle.vcd_text.specs.declared.fault.Fault.TheVariants.{UnknownCode, ValueTooLong, TooManySignals}
 use Rattle.vcd_text.specs.Letters.{is_among, is_binary_digit}
-use Rattle.vcd_text.specs.Items.{Item, entry, timescale, scope, upscope, variable, end_definitions, stamp, scalar, vector, real_or_string, bracket, other, spelling, end_word, is_end_word, has_no_end_word, dump_words, declaring_words, header_words, begins_declaration, timescale_of, vector_prefixes, dropped_prefixes}
-use Rattle.vcd_text.specs.Grammar.{ParseState, VariableDeclaration, Allows, is_skipped, has_good_size, declaration_of, variable_of, may_have_code, has_room, is_tick, is_binary_number, takes_binary_number}
-use Rattle.vcd_text.specs.Faults.{WordFault, IsUnfinished, pair_prefixes, no_declaration, no_timescale, no_kind, upscope_at_top, upscope_goes_on, no_size, no_variable, code_mixed, no_room, definitions_go_on, no_tick, tick_goes_back, value_alone, value_of_none, pair_of_none, no_value, value_too_long, declaration_late, no_change, among_declarations, among_changes, declaration_due, words_due, upscope_due, variable_due, definitions_due, code_due, other_due}
+use Rattle.vcd_text.specs.Items.{Item, entry, timescale, scope, upscope, variable, end_definitions, stamp, scalar}
+use Rattle.vcd_text.specs.Items.{vector, real_or_string, bracket, other, spelling, end_word, is_end_word}
+use Rattle.vcd_text.specs.Items.{has_no_end_word, dump_words, declaring_words, header_words, begins_declaration}
+use Rattle.vcd_text.specs.Items.{timescale_of, vector_prefixes, dropped_prefixes}
+use Rattle.vcd_text.specs.Grammar.{ParseState, VariableDeclaration, Allows, is_skipped, has_good_size, declaration_of}
+use Rattle.vcd_text.specs.Grammar.{variable_of, may_have_code, has_room, is_tick, is_binary_number, takes_binary_number}
+use Rattle.vcd_text.specs.Faults.{WordFault, IsUnfinished, pair_prefixes, no_declaration, no_timescale, no_kind}
+use Rattle.vcd_text.specs.Faults.{upscope_at_top, upscope_goes_on, no_size, no_variable, code_mixed, no_room}
+use Rattle.vcd_text.specs.Faults.{definitions_go_on, no_tick, tick_goes_back, value_alone, value_of_none, pair_of_none}
+use Rattle.vcd_text.specs.Faults.{no_value, value_too_long, declaration_late, no_change, among_declarations}
+use Rattle.vcd_text.specs.Faults.{among_changes, declaration_due, words_due, upscope_due, variable_due, definitions_due}
+use Rattle.vcd_text.specs.Faults.{code_due, other_due}
 use Rattle.vcd_text.proofs.OneOf.{by_among, by_one_of}
 
 -- no word of an item has come, or something is due behind these
@@ -40,11 +54,18 @@ cases_length (x ∷ xs) = inr (omega arith)
 
 -- a word is `$end` or not
 by_end : (P : List ℕ → Type 0) (word : List ℕ) → P end_word → (IsFalse (is_end_word word) → P word) → P word
-by_end P word closes further = elim (cases_Bool (is_end_word word)) [ inl is ↦ subst P (sym ((bytes_eq-Decides word end_word).0 is)) closes | inr isnt ↦ further isnt ]
+by_end P word closes further =
+    elim (cases_Bool (is_end_word word)) [
+      | inl is ↦
+          subst P (sym ((bytes_eq-Decides word end_word).0 is)) closes
+      | inr isnt ↦ further isnt
+    ]
 
 -- one word more, which is no `$end`
-no_end_more : (words : List (List ℕ)) (word : List ℕ) → IsTrue (has_no_end_word words) → IsFalse (is_end_word word) → IsTrue (has_no_end_word (words ++ word ∷ []))
-no_end_more words word none isnt = list_all-append (λ w. not (is_end_word w)) words (word ∷ []) ∙ (λ i. none i && (not (isnt i) && true))
+no_end_more : (words : List (List ℕ)) (word : List ℕ) → IsTrue (has_no_end_word words) → IsFalse (is_end_word word)
+    → IsTrue (has_no_end_word (words ++ word ∷ []))
+no_end_more words word none isnt = list_all-append (λ w. not (is_end_word w)) words (word ∷ [])
+    ∙ (λ i. none i && (not (isnt i) && true))
 
 -- a value of which something holds
 some_has : {A : Type 0} (o : Option A) (P : A → Type 0) (x : A) → o ≡ Some x → P x → IsSomeAnd o P
@@ -62,7 +83,8 @@ upscope_begins c declares =
       | inr some ↦ goes_on (upscope_due declares refl some)
     ]
 
-declaring_word : (c : ParseState) (word : List ℕ) → IsFalse c.changing → IsTrue (is_one_of declaring_words word) → WordOutcome c [] word
+declaring_word : (c : ParseState) (word : List ℕ) → IsFalse c.changing → IsTrue (is_one_of declaring_words word)
+    → WordOutcome c [] word
 declaring_word c word declares is =
     by_one_of (WordOutcome c []) declaring_words word is (
       goes_on (words_due (codes "$scope") [] declares refl refl refl),
@@ -85,8 +107,12 @@ declaration_begins c word declares =
       | inl is ↦ elim (cases_Bool (is_one_of declaring_words word)) [
         | inl declaring ↦ declaring_word c word declares declaring
         | inr none ↦ elim (cases_Bool (is_one_of header_words word)) [
-          | inl header ↦ goes_on (words_due word [] declares refl (or_right (bytes_eq word (codes "$timescale")) _ (or_right (bytes_eq word (codes "$scope")) _ header)) refl)
-          | inr no_header ↦ goes_on (other_due word [] refl (λ i. is i && not (none i) && (declares i || not (no_header i))) refl)
+          | inl header ↦ goes_on
+              (words_due word [] declares refl
+              (or_right (bytes_eq word (codes "$timescale")) _ (or_right (bytes_eq word (codes "$scope")) _ header))
+              refl)
+          | inr no_header ↦ goes_on
+              (other_due word [] refl (λ i. is i && not (none i) && (declares i || not (no_header i))) refl)
         ]
       ]
     ]
@@ -109,16 +135,25 @@ command_word c text changing =
       | inl dump ↦ ends_item (bracket (36 ∷ text)) refl (changing, dump)
       | inr no_dump ↦ elim (cases_Bool (is_one_of declaring_words (36 ∷ text))) [
         | inl late ↦ shows_fault UnexpectedWord (among_changes changing (declaration_late refl late refl))
-        | inr none ↦ goes_on (other_due (36 ∷ text) [] refl (λ i. not (no_dump i) && not (none i) && (changing i || not (is_one_of header_words (36 ∷ text)))) refl)
+        | inr none ↦ goes_on (other_due (36 ∷ text) [] refl (λ i. not (no_dump i) && not (none i)
+            && (changing i || not (is_one_of header_words (36 ∷ text)))) refl)
       ]
     ]
 
-letter_word : (c : ParseState) (letter : ℕ) (code : List ℕ) → IsTrue c.changing → IsTrue (is_binary_digit letter) → WordOutcome c [] (letter ∷ code)
-letter_word c letter [] changing is = shows_fault BadChange (among_changes changing (value_alone letter refl refl is refl))
+letter_word : (c : ParseState) (letter : ℕ) (code : List ℕ) → IsTrue c.changing → IsTrue (is_binary_digit letter)
+    → WordOutcome c [] (letter ∷ code)
+letter_word c letter [] changing is =
+    shows_fault BadChange (among_changes changing (value_alone letter refl refl is refl))
 letter_word c letter (b ∷ code) changing is =
     elim (cases_Option (variable_of c (b ∷ code))) [
-      | inl none ↦ shows_fault UnknownCode (among_changes changing (value_of_none letter (b ∷ code) refl refl is (omega arith) none refl))
-      | inr (d, found) ↦ ends_item (scalar letter (b ∷ code)) refl (changing, is, omega arith, is_some_by (variable_of c (b ∷ code)) d found)
+      | inl none ↦ shows_fault UnknownCode
+          (among_changes changing (value_of_none letter (b ∷ code) refl refl is (omega arith) none refl))
+      | inr (d, found) ↦ ends_item (scalar letter (b ∷ code)) refl (
+        changing,
+        is,
+        omega arith,
+        is_some_by (variable_of c (b ∷ code)) d found,
+      )
     ]
 
 change_begins : (c : ParseState) (word : List ℕ) → IsTrue c.changing → 0 < length word → WordOutcome c [] word
@@ -127,30 +162,38 @@ change_begins c (first ∷ text) changing some =
     elim (cases_Bool (is_binary_digit first)) [
       | inl letter ↦ letter_word c first text changing letter
       | inr no_letter ↦ elim (cases_Bool (is_among (codes "#$") first)) [
-        | inl sign ↦ by_among (λ b. WordOutcome c [] (b ∷ text)) (codes "#$") first sign (stamp_word c text changing, (command_word c text changing, tt))
+        | inl sign ↦ by_among (λ b. WordOutcome c [] (b ∷ text)) (codes "#$") first sign (
+          stamp_word c text changing,
+          (command_word c text changing, tt),
+        )
         | inr no_sign ↦ elim (cases_Bool (is_among pair_prefixes first)) [
           | inl pair ↦ goes_on (code_due first text changing refl pair)
           | inr no_pair ↦ shows_fault BadChange (among_changes changing (no_change first text refl refl no_letter
-              (list_any-append (nat_eq first) (codes "#$") pair_prefixes ∙ or_from (is_among (codes "#$") first) (is_among pair_prefixes first) no_sign no_pair) refl))
+              (list_any-append (nat_eq first) (codes "#$") pair_prefixes
+              ∙ or_from (is_among (codes "#$") first) (is_among pair_prefixes first) no_sign no_pair) refl))
         ]
       ]
     ]
 
 -- ---- words up to `$end`
 
-timescale_ends : (c : ParseState) (words : List (List ℕ)) → IsFalse c.changing → IsTrue (has_no_end_word words) → WordOutcome c (codes "$timescale" ∷ words) end_word
+timescale_ends : (c : ParseState) (words : List (List ℕ)) → IsFalse c.changing → IsTrue (has_no_end_word words)
+    → WordOutcome c (codes "$timescale" ∷ words) end_word
 timescale_ends c words declares no_end =
     elim (cases_Option (timescale_of words)) [
-      | inl none ↦ shows_fault BadTimescale (among_declarations declares (no_timescale words refl refl no_end none refl))
+      | inl none ↦ shows_fault BadTimescale
+          (among_declarations declares (no_timescale words refl refl no_end none refl))
       | inr (t, found) ↦ ends_item (timescale words) refl (declares, no_end, is_some_by (timescale_of words) t found)
     ]
 
-scope_ends : (c : ParseState) (words : List (List ℕ)) → IsFalse c.changing → IsTrue (has_no_end_word words) → WordOutcome c (codes "$scope" ∷ words) end_word
+scope_ends : (c : ParseState) (words : List (List ℕ)) → IsFalse c.changing → IsTrue (has_no_end_word words)
+    → WordOutcome c (codes "$scope" ∷ words) end_word
 scope_ends c [] declares no_end = shows_fault BadScope (among_declarations declares (no_kind refl refl refl))
 scope_ends c (kind ∷ words) declares no_end = ends_item (scope kind words) refl (declares, no_end)
 
 words_end : (c : ParseState) (keyword : List ℕ) (words : List (List ℕ)) → IsFalse c.changing
-    → IsTrue (is_one_of (codes "$timescale" ∷ codes "$scope" ∷ header_words) keyword) → IsTrue (has_no_end_word words) → WordOutcome c (keyword ∷ words) end_word
+    → IsTrue (is_one_of (codes "$timescale" ∷ codes "$scope" ∷ header_words) keyword) → IsTrue (has_no_end_word words)
+    → WordOutcome c (keyword ∷ words) end_word
 words_end c keyword words declares is no_end =
     by_one_of (λ w. WordOutcome c (w ∷ words) end_word) (codes "$timescale" ∷ codes "$scope" ∷ header_words) keyword is (
       timescale_ends c words declares no_end,
@@ -166,23 +209,28 @@ words_end c keyword words declares is no_end =
       ),
     )
 
-declared_ends : (c : ParseState) (words : List (List ℕ)) (d : VariableDeclaration) → IsFalse c.changing → IsTrue (has_no_end_word words) → IsTrue (has_good_size words)
+declared_ends : (c : ParseState) (words : List (List ℕ)) (d : VariableDeclaration) → IsFalse c.changing
+    → IsTrue (has_no_end_word words) → IsTrue (has_good_size words)
     → declaration_of c words ≡ Some d → WordOutcome c (codes "$var" ∷ words) end_word
 declared_ends c words d declares no_end good told =
     elim (cases_Bool (may_have_code (variable_of c d.code) d)) [
-      | inr mixed ↦ shows_fault MixedCode (among_declarations declares (code_mixed words d refl refl no_end good told mixed refl))
+      | inr mixed ↦ shows_fault MixedCode
+          (among_declarations declares (code_mixed words d refl refl no_end good told mixed refl))
       | inl may ↦ elim (cases_Bool (has_room c.declared d)) [
-        | inr full ↦ shows_fault TooManySignals (among_declarations declares (no_room words d refl refl no_end good told may full refl))
+        | inr full ↦ shows_fault TooManySignals
+            (among_declarations declares (no_room words d refl refl no_end good told may full refl))
         | inl room ↦ ends_item (variable words) refl (
           declares,
           no_end,
           good,
-          some_has (declaration_of c words) (λ d. IsTrue (may_have_code (variable_of c d.code) d) × IsTrue (has_room c.declared d)) d told (may, room),
+          some_has (declaration_of c words) (λ d. IsTrue (may_have_code (variable_of c d.code) d)
+              × IsTrue (has_room c.declared d)) d told (may, room),
         )
       ]
     ]
 
-variable_ends : (c : ParseState) (words : List (List ℕ)) → IsFalse c.changing → IsTrue (has_no_end_word words) → IsTrue (has_good_size words) → WordOutcome c (codes "$var" ∷ words) end_word
+variable_ends : (c : ParseState) (words : List (List ℕ)) → IsFalse c.changing → IsTrue (has_no_end_word words)
+    → IsTrue (has_good_size words) → WordOutcome c (codes "$var" ∷ words) end_word
 variable_ends c words declares no_end good =
     elim (cases_Option (declaration_of c words)) [
       | inl none ↦ shows_fault BadVar (among_declarations declares (no_variable words refl refl no_end good none refl))
@@ -190,50 +238,75 @@ variable_ends c words declares no_end good =
     ]
 
 -- the second word of a variable is its size
-variable_continues : (c : ParseState) (words : List (List ℕ)) (word : List ℕ) → IsFalse c.changing → IsTrue (has_no_end_word words) → IsTrue (has_good_size words) → IsFalse (is_end_word word)
+variable_continues : (c : ParseState) (words : List (List ℕ)) (word : List ℕ) → IsFalse c.changing
+    → IsTrue (has_no_end_word words) → IsTrue (has_good_size words) → IsFalse (is_end_word word)
     → WordOutcome c (codes "$var" ∷ words) word
-variable_continues c [] word declares no_end good isnt = goes_on (variable_due (word ∷ []) declares refl (no_end_more [] word no_end isnt) refl)
+variable_continues c [] word declares no_end good isnt =
+    goes_on (variable_due (word ∷ []) declares refl (no_end_more [] word no_end isnt) refl)
 variable_continues c (kind ∷ []) word declares no_end good isnt =
     elim (cases_Bool (is_number word)) [
-      | inr no_number ↦ shows_fault BadVar (among_declarations declares (no_size kind refl (not-true (is_end_word kind) (and_parts _ _ no_end).0) no_number refl))
-      | inl number ↦ goes_on (variable_due (kind ∷ word ∷ []) declares refl (no_end_more (kind ∷ []) word no_end isnt) number)
+      | inr no_number ↦ shows_fault BadVar
+          (among_declarations declares
+          (no_size kind refl (not-true (is_end_word kind) (and_parts _ _ no_end).0) no_number refl))
+      | inl number ↦ goes_on
+          (variable_due (kind ∷ word ∷ []) declares refl (no_end_more (kind ∷ []) word no_end isnt) number)
     ]
 variable_continues c (kind ∷ size ∷ words) word declares no_end good isnt =
-    goes_on (variable_due (kind ∷ size ∷ words ++ word ∷ []) declares refl (no_end_more (kind ∷ size ∷ words) word no_end isnt) good)
+    goes_on (variable_due (kind ∷ size ∷ words ++ word ∷ []) declares refl
+    (no_end_more (kind ∷ size ∷ words) word no_end isnt) good)
 
 -- ---- the code of a change of two words
 
-vector_ends : (c : ParseState) (first : ℕ) (digits code : List ℕ) (d : VariableDeclaration) → IsTrue c.changing → IsTrue (is_among pair_prefixes first) → IsTrue (is_among vector_prefixes first)
+vector_ends : (c : ParseState) (first : ℕ) (digits code : List ℕ) (d : VariableDeclaration) → IsTrue c.changing
+    → IsTrue (is_among pair_prefixes first) → IsTrue (is_among vector_prefixes first)
     → variable_of c code ≡ Some d → WordOutcome c ((first ∷ digits) ∷ []) code
 vector_ends c first digits code d changing pair is found =
     let taken : IsTrue (takes_binary_number d digits) → WordOutcome c ((first ∷ digits) ∷ []) code =
-    λ takes. ends_item (vector first digits code) refl (changing, is, some_has (variable_of c code) (λ d. IsTrue (takes_binary_number d digits)) d found takes) in
+    λ takes. ends_item (vector first digits code) refl (
+      changing,
+      is,
+      some_has (variable_of c code) (λ d. IsTrue (takes_binary_number d digits)) d found takes,
+    ) in
     elim (cases_Bool (is_skipped d)) [
       | inl skipped ↦ taken (or_left (is_skipped d) _ skipped)
       | inr kept ↦ elim (cases_Bool (is_binary_number digits)) [
-        | inr isnt ↦ shows_fault BadChange (among_changes changing (no_value first digits d refl is found kept isnt refl))
+        | inr isnt ↦ shows_fault BadChange
+            (among_changes changing (no_value first digits d refl is found kept isnt refl))
         | inl value ↦ elim (cases_lt d.size (length digits)) [
-          | inl long ↦ shows_fault ValueTooLong (among_changes changing (value_too_long first digits d refl is found kept value long refl))
+          | inl long ↦ shows_fault ValueTooLong
+              (among_changes changing (value_too_long first digits d refl is found kept value long refl))
           | inr fits ↦ let within : nat_le (length digits) d.size ≡ true = le-leb (length digits) d.size fits in
               taken (or_right (is_skipped d) _ (λ i. value i && within i))
         ]
       ]
     ]
 
-pair_ends : (c : ParseState) (first : ℕ) (text code : List ℕ) → IsTrue c.changing → IsTrue (is_among pair_prefixes first) → WordOutcome c ((first ∷ text) ∷ []) code
+pair_ends : (c : ParseState) (first : ℕ) (text code : List ℕ) → IsTrue c.changing
+    → IsTrue (is_among pair_prefixes first) → WordOutcome c ((first ∷ text) ∷ []) code
 pair_ends c first text code changing pair =
     elim (cases_Option (variable_of c code)) [
       | inl none ↦ shows_fault UnknownCode (among_changes changing (pair_of_none first text refl pair none refl))
-      | inr (d, found) ↦ elim (or_cases (is_among vector_prefixes first) (is_among dropped_prefixes first) (sym (list_any-append (nat_eq first) vector_prefixes dropped_prefixes) ∙ pair)) [
-        | inl letter ↦ vector_ends c first text code d changing pair letter found
-        | inr letter ↦ ends_item (real_or_string first text code) refl (changing, letter, is_some_by (variable_of c code) d found)
-      ]
+      | inr (d, found) ↦ elim
+          (or_cases (is_among vector_prefixes first) (is_among dropped_prefixes first)
+          (sym (list_any-append (nat_eq first) vector_prefixes dropped_prefixes) ∙ pair)) [
+            | inl letter ↦ vector_ends c first text code d changing pair letter found
+            | inr letter ↦ ends_item (real_or_string first text code) refl (
+              changing,
+              letter,
+              is_some_by (variable_of c code) d found,
+            )
+          ]
     ]
 
 -- ---- any word
 
 first_word : (c : ParseState) (word : List ℕ) → 0 < length word → WordOutcome c [] word
-first_word c word some = elim (cases_Bool c.changing) [ inl changing ↦ change_begins c word changing some | inr declares ↦ declaration_begins c word declares ]
+first_word c word some =
+    elim (cases_Bool c.changing) [
+      | inl changing ↦ change_begins c word changing some
+      | inr declares ↦
+          declaration_begins c word declares
+    ]
 
 later_word : (c : ParseState) (begun : List (List ℕ)) (word : List ℕ) → IsUnfinished c begun → WordOutcome c begun word
 later_word c begun word (declaration_due declares b) = rw b (declaration_begins c word declares)
@@ -244,7 +317,8 @@ later_word c begun word (upscope_due declares b some) =
     rw b (by_end (WordOutcome c (codes "$upscope" ∷ [])) word (ends_item upscope refl (declares, some))
     (λ isnt. shows_fault UnexpectedWord (among_declarations declares (upscope_goes_on refl isnt some refl))))
 later_word c begun word (variable_due words declares b no_end good) =
-    rw b (by_end (WordOutcome c (codes "$var" ∷ words)) word (variable_ends c words declares no_end good) (variable_continues c words word declares no_end good))
+    rw b (by_end (WordOutcome c (codes "$var" ∷ words)) word (variable_ends c words declares no_end good)
+    (variable_continues c words word declares no_end good))
 later_word c begun word (definitions_due declares b) =
     rw b (by_end (WordOutcome c (codes "$enddefinitions" ∷ [])) word (ends_item end_definitions refl declares)
     (λ isnt. shows_fault UnexpectedWord (among_declarations declares (definitions_go_on refl isnt refl))))
@@ -253,6 +327,7 @@ later_word c begun word (other_due keyword words b is no_end) =
     rw b (by_end (WordOutcome c (keyword ∷ words)) word (ends_item (other keyword words) refl (is, no_end))
     (λ isnt. goes_on (other_due keyword (words ++ word ∷ []) refl is (no_end_more words word no_end isnt))))
 
-pub word_outcome : (c : ParseState) (begun : List (List ℕ)) (word : List ℕ) → 0 < length word → IsOpen c begun → WordOutcome c begun word
+pub word_outcome : (c : ParseState) (begun : List (List ℕ)) (word : List ℕ) → 0 < length word → IsOpen c begun
+    → WordOutcome c begun word
 word_outcome c begun word some (between none) = rw none (first_word c word some)
 word_outcome c begun word some (inside due) = later_word c begun word due

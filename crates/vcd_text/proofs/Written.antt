@@ -1,16 +1,19 @@
 -- Pieces that are written one behind another, through a buffer.
-use Rattle.std.proofs.Common.{◌≡◌, ◌<◌, ◌≤◌, ◌+◌, ◌-◌, ◌^◌, ℕ, Bool, true, false, List, [], ◌++◌, length, take, drop, min, refl, sym, ap, subst, ◌∙◌, arith, append_assoc, nat_lt, ◌∷◌, get_or}
+use Rattle.std.proofs.Common.{◌≡◌, ◌<◌, ◌≤◌, ◌+◌, ◌-◌, ◌^◌, ℕ, Bool, true, false, List, [], ◌++◌, length, take, drop}
+use Rattle.std.proofs.Common.{min, refl, sym, ap, subst, ◌∙◌, arith, append_assoc, nat_lt, ◌∷◌, get_or}
 use Rattle.std.specs.Prelude.{Option, Some, None}
 use Rattle.std.specs.Io.KnownBytes.{Appends}
 use Rattle.std.proofs.KnownBytes.{Appends-trans}
 use Rattle.std.proofs.lemmas.Bool.{ltb-true, ltb-false}
 use Rattle.std.proofs.Math.Seq.{take-add}
-use Rattle.std.proofs.lemmas.List.{append-nil, length-append, length-drop, take-append-le, drop-append-le, drop_all, drop_more}
+use Rattle.std.proofs.lemmas.List.{append-nil, length-append, length-drop, take-append-le, drop-append-le, drop_all}
+use Rattle.std.proofs.lemmas.List.{drop_more}
 use Rattle.vcd_text.specs.declared.writing.buffer.WriteBuffer.{WriteBuffer}
 use Rattle.vcd_text.specs.inside.Written.{HasEmitted, Emits}
 
 -- a piece from the front of what is left is written
-carried : (out piece rest left whole : List ℕ) → left ≡ piece ++ rest → out ++ left ≡ whole → (out ++ piece) ++ rest ≡ whole
+carried : (out piece rest left whole : List ℕ) → left ≡ piece ++ rest → out ++ left ≡ whole
+    → (out ++ piece) ++ rest ≡ whole
 carried out piece rest left whole split is = append_assoc out piece rest ∙ ap (λ l. out ++ l) (sym split) ∙ is
 
 -- nothing is left
@@ -21,30 +24,38 @@ finished out left whole none is = sym (append-nil out) ∙ ap (λ l. out ++ l) (
 pub writes_both : {o0 o1 o2 : WriteBuffer} {t0 t1 t2 : Option (List ℕ)} {f0 f1 f2 : Bool} {a b : List ℕ}
     → Emits o0 t0 f0 o1 t1 f1 a → Emits o1 t1 f1 o2 t2 f2 b → Emits o0 t0 f0 o2 t2 f2 (a ++ b)
 writes_both {o2 = o2} {t2 = t2} {f2 = f2} {a = a} {b = b} first second = record {
-  following = λ before text stands. subst (HasEmitted before t2 f2 o2) (append_assoc text a b) (second.following before (text ++ a) (first.following before text stands));
+  following = λ before text stands. subst (HasEmitted before t2 f2 o2) (append_assoc text a b)
+      (second.following before (text ++ a) (first.following before text stands));
 }
 
 -- nothing
 pub writes_none : {o : WriteBuffer} {t : Option (List ℕ)} {f : Bool} → Emits o t f o t f []
-writes_none {o = o} {t = t} {f = f} = record { following = λ before text stands. subst (HasEmitted before t f o) (sym (append-nil text)) stands }
+writes_none {o = o} {t = t} {f = f} =
+    record { following = λ before text stands. subst (HasEmitted before t f o) (sym (append-nil text)) stands }
 
 -- the same piece by another name
-pub writes_as : {o0 o1 : WriteBuffer} {t0 t1 : Option (List ℕ)} {f0 f1 : Bool} {a b : List ℕ} → a ≡ b → Emits o0 t0 f0 o1 t1 f1 a → Emits o0 t0 f0 o1 t1 f1 b
-writes_as {o0 = o0} {o1 = o1} {t0 = t0} {t1 = t1} {f0 = f0} {f1 = f1} same writes = subst (Emits o0 t0 f0 o1 t1 f1) same writes
+pub writes_as : {o0 o1 : WriteBuffer} {t0 t1 : Option (List ℕ)} {f0 f1 : Bool} {a b : List ℕ} → a ≡ b
+    → Emits o0 t0 f0 o1 t1 f1 a → Emits o0 t0 f0 o1 t1 f1 b
+writes_as {o0 = o0} {o1 = o1} {t0 = t0} {t1 = t1} {f0 = f0} {f1 = f1} same writes =
+    subst (Emits o0 t0 f0 o1 t1 f1) same writes
 
 -- ---- loops
 
 -- a front of a whole is written, and this is left of it
-pub record WritesFront (o0 : WriteBuffer) (t0 : Option (List ℕ)) (f0 : Bool) (o1 : WriteBuffer) (t1 : Option (List ℕ)) (f1 : Bool) (left whole : List ℕ) : Type 0 where
+pub record WritesFront (o0 : WriteBuffer) (t0 : Option (List ℕ)) (f0 : Bool) (o1 : WriteBuffer) (t1 : Option (List ℕ))
+    (f1 : Bool) (left whole : List ℕ) : Type 0 where
   pub done : List ℕ
   pub writes : Emits o0 t0 f0 o1 t1 f1 done
   pub split : done ++ left ≡ whole
 
-pub front_begun : {o : WriteBuffer} {t : Option (List ℕ)} {f : Bool} {left whole : List ℕ} → left ≡ whole → WritesFront o t f o t f left whole
+pub front_begun : {o : WriteBuffer} {t : Option (List ℕ)} {f : Bool} {left whole : List ℕ} → left ≡ whole
+    → WritesFront o t f o t f left whole
 front_begun same = record { done = []; writes = writes_none; split = same }
 
-pub front_grows : {o0 o1 o2 : WriteBuffer} {t0 t1 t2 : Option (List ℕ)} {f0 f1 f2 : Bool} {piece left whole : List ℕ} (rest : List ℕ)
-    → WritesFront o0 t0 f0 o1 t1 f1 left whole → Emits o1 t1 f1 o2 t2 f2 piece → left ≡ piece ++ rest → WritesFront o0 t0 f0 o2 t2 f2 rest whole
+pub front_grows : {o0 o1 o2 : WriteBuffer} {t0 t1 t2 : Option (List ℕ)} {f0 f1 f2 : Bool} {piece left whole : List ℕ}
+    (rest : List ℕ)
+    → WritesFront o0 t0 f0 o1 t1 f1 left whole → Emits o1 t1 f1 o2 t2 f2 piece → left ≡ piece ++ rest
+    → WritesFront o0 t0 f0 o2 t2 f2 rest whole
 front_grows {piece = piece} {left = left} {whole = whole} rest front more is = record {
   done = front.done ++ piece;
   writes = writes_both front.writes more;
@@ -53,10 +64,12 @@ front_grows {piece = piece} {left = left} {whole = whole} rest front more is = r
 
 pub front_whole : {o0 o1 : WriteBuffer} {t0 t1 : Option (List ℕ)} {f0 f1 : Bool} {left whole : List ℕ}
     → WritesFront o0 t0 f0 o1 t1 f1 left whole → left ≡ [] → Emits o0 t0 f0 o1 t1 f1 whole
-front_whole {left = left} {whole = whole} front none = writes_as (finished front.done left whole none front.split) front.writes
+front_whole {left = left} {whole = whole} front none =
+    writes_as (finished front.done left whole none front.split) front.writes
 
 -- where the writer has failed, what is left changes nothing
-failed_more : (before t : Option (List ℕ)) (f : Bool) (o : WriteBuffer) (text more : List ℕ) → f ≡ true → HasEmitted before t f o text → HasEmitted before t f o (text ++ more)
+failed_more : (before t : Option (List ℕ)) (f : Bool) (o : WriteBuffer) (text more : List ℕ) → f ≡ true
+    → HasEmitted before t f o text → HasEmitted before t f o (text ++ more)
 failed_more before t f o text more failed stands = record {
   within = omega (arith, stands.within, length-append text more);
   front = λ few. subst (Appends before t) (sym (take-append-le o.sent text more stands.within)) (stands.front few);
@@ -67,57 +80,73 @@ pub front_failed : {o0 o1 : WriteBuffer} {t0 t1 : Option (List ℕ)} {f0 f1 : Bo
     → WritesFront o0 t0 f0 o1 t1 f1 left whole → f1 ≡ true → Emits o0 t0 f0 o1 t1 f1 whole
 front_failed {o1 = o1} {t1 = t1} {f1 = f1} {left = left} {whole = whole} front failed = record {
   following = λ before text stands.
-      let same : (text ++ front.done) ++ left ≡ text ++ whole = append_assoc text front.done left ∙ ap (λ l. text ++ l) front.split in
-      subst (HasEmitted before t1 f1 o1) same (failed_more before t1 f1 o1 (text ++ front.done) left failed (front.writes.following before text stands));
+      let same : (text ++ front.done) ++ left ≡ text ++ whole = append_assoc text front.done left
+      ∙ ap (λ l. text ++ l) front.split in
+      subst (HasEmitted before t1 f1 o1) same
+      (failed_more before t1 f1 o1 (text ++ front.done) left failed (front.writes.following before text stands));
 }
 
 -- the items before one of a list are written, and then that item
-pub front_item : {o0 o1 o2 : WriteBuffer} {t0 t1 t2 : Option (List ℕ)} {f0 f1 f2 : Bool} {X : Type 0} (F : List X → List ℕ) (xs : List X) (k : ℕ) (x : X) {piece whole : List ℕ}
-    → WritesFront o0 t0 f0 o1 t1 f1 (F (drop k xs)) whole → Emits o1 t1 f1 o2 t2 f2 piece → k < length xs → x ≡ get_or xs k x → F (x ∷ drop (k + 1) xs) ≡ piece ++ F (drop (k + 1) xs)
+pub front_item : {o0 o1 o2 : WriteBuffer} {t0 t1 t2 : Option (List ℕ)} {f0 f1 f2 : Bool} {X : Type 0} (F : List X
+    → List ℕ) (xs : List X) (k : ℕ) (x : X) {piece whole : List ℕ}
+    → WritesFront o0 t0 f0 o1 t1 f1 (F (drop k xs)) whole → Emits o1 t1 f1 o2 t2 f2 piece → k < length xs
+    → x ≡ get_or xs k x → F (x ∷ drop (k + 1) xs) ≡ piece ++ F (drop (k + 1) xs)
     → WritesFront o0 t0 f0 o2 t2 f2 (F (drop (k + 1) xs)) whole
 front_item F xs k x front more within is split =
-    front_grows (F (drop (k + 1) xs)) front more (ap F (drop_more xs k x within ∙ ap (λ a. a ∷ drop (k + 1) xs) (sym is)) ∙ split)
+    front_grows (F (drop (k + 1) xs)) front more
+    (ap F (drop_more xs k x within ∙ ap (λ a. a ∷ drop (k + 1) xs) (sym is)) ∙ split)
 
 -- all items of a list are written
-pub front_items : {o0 o1 : WriteBuffer} {t0 t1 : Option (List ℕ)} {f0 f1 : Bool} {X : Type 0} (F : List X → List ℕ) (xs : List X) (k : ℕ) {whole : List ℕ}
+pub front_items : {o0 o1 : WriteBuffer} {t0 t1 : Option (List ℕ)} {f0 f1 : Bool} {X : Type 0} (F : List X
+    → List ℕ) (xs : List X) (k : ℕ) {whole : List ℕ}
     → WritesFront o0 t0 f0 o1 t1 f1 (F (drop k xs)) whole → length xs ≤ k → F [] ≡ [] → Emits o0 t0 f0 o1 t1 f1 whole
 front_items F xs k front past none = front_whole front (ap F (drop_all k xs past) ∙ none)
 
 -- ---- the buffer
 
 -- bytes go to the writer: the front of what is left of the text
-sent_more : (before t0 t1 : Option (List ℕ)) (n k : ℕ) (text bytes : List ℕ) → drop n text ≡ bytes → Appends before t0 (take n text) → Appends t0 t1 (take k bytes) → Appends before t1 (take (n + k) text)
+sent_more : (before t0 t1 : Option (List ℕ)) (n k : ℕ) (text bytes : List ℕ) → drop n text ≡ bytes
+    → Appends before t0 (take n text) → Appends t0 t1 (take k bytes) → Appends before t1 (take (n + k) text)
 sent_more before t0 t1 n k text bytes is front more =
-    subst (Appends before t1) (ap (λ l. take n text ++ take k l) (sym is) ∙ sym (take-add n k text)) (Appends-trans before t0 t1 (take n text) (take k bytes) front more)
+    subst (Appends before t1) (ap (λ l. take n text ++ take k l) (sym is)
+    ∙ sym (take-add n k text)) (Appends-trans before t0 t1 (take n text) (take k bytes) front more)
 
 -- a writer that has failed takes nothing
-sent_none : (before t0 t1 : Option (List ℕ)) (k : ℕ) (front bytes : List ℕ) → k ≡ 0 → Appends before t0 front → Appends t0 t1 (take k bytes) → Appends before t1 front
+sent_none : (before t0 t1 : Option (List ℕ)) (k : ℕ) (front bytes : List ℕ) → k ≡ 0 → Appends before t0 front
+    → Appends t0 t1 (take k bytes) → Appends before t1 front
 sent_none before t0 t1 k front bytes none held more =
-    subst (Appends before t1) (append-nil front) (Appends-trans before t0 t1 front [] held (subst (λ n. Appends t0 t1 (take n bytes)) none more))
+    subst (Appends before t1) (append-nil front)
+    (Appends-trans before t0 t1 front [] held (subst (λ n. Appends t0 t1 (take n bytes)) none more))
 
 -- bytes that stand behind what was sent are sent
-sent_bytes : (before t0 t1 : Option (List ℕ)) (f0 : Bool) (n k : ℕ) (text bytes : List ℕ) → (f0 ≡ false → drop n text ≡ bytes) → (f0 ≡ true → k ≡ 0)
+sent_bytes : (before t0 t1 : Option (List ℕ)) (f0 : Bool) (n k : ℕ) (text bytes : List ℕ)
+    → (f0 ≡ false → drop n text ≡ bytes) → (f0 ≡ true → k ≡ 0)
     → Appends before t0 (take n text) → Appends t0 t1 (take k bytes) → Appends before t1 (take (n + k) text)
-sent_bytes before t0 t1 false n k text bytes is none front more = sent_more before t0 t1 n k text bytes (is refl) front more
+sent_bytes before t0 t1 false n k text bytes is none front more =
+    sent_more before t0 t1 n k text bytes (is refl) front more
 sent_bytes before t0 t1 true n k text bytes is none front more =
     let same : n + k ≡ n = omega (arith, none refl) in
-    subst (λ m. Appends before t1 (take m text)) (sym same) (sent_none before t0 t1 k (take n text) bytes (none refl) front more)
+    subst (λ m. Appends before t1 (take m text)) (sym same)
+    (sent_none before t0 t1 k (take n text) bytes (none refl) front more)
 
 -- so many were sent before, and so many are sent now
-within_whole : (f0 : Bool) (n k : ℕ) (text piece bytes : List ℕ) → n ≤ length text → (f0 ≡ false → drop n (text ++ piece) ≡ bytes) → (f0 ≡ true → k ≡ 0) → k ≤ length bytes
+within_whole : (f0 : Bool) (n k : ℕ) (text piece bytes : List ℕ) → n ≤ length text
+    → (f0 ≡ false → drop n (text ++ piece) ≡ bytes) → (f0 ≡ true → k ≡ 0) → k ≤ length bytes
     → n + k ≤ length (text ++ piece)
 within_whole true n k text piece bytes within is none few = omega (arith, none refl, within, length-append text piece)
 within_whole false n k text piece bytes within is none few =
     omega (arith, few, ap (length {A = ℕ}) (is refl), length-drop n (text ++ piece), length-append text piece, within)
 
 -- nothing is left behind what was sent
-none_left : (f0 f1 : Bool) (n k : ℕ) (whole bytes : List ℕ) → (f0 ≡ false → drop n whole ≡ bytes) → (f0 ≡ true → f1 ≡ true) → (f1 ≡ false → k ≡ length bytes) → f1 ≡ false → drop (n + k) whole ≡ []
+none_left : (f0 f1 : Bool) (n k : ℕ) (whole bytes : List ℕ) → (f0 ≡ false → drop n whole ≡ bytes)
+    → (f0 ≡ true → f1 ≡ true) → (f1 ≡ false → k ≡ length bytes) → f1 ≡ false → drop (n + k) whole ≡ []
 none_left true f1 n k whole bytes is stays all ready = absurd (cc (stays refl, ready))
 none_left false f1 n k whole bytes is stays all ready =
     drop_all (n + k) whole (omega (arith, all ready, ap (length {A = ℕ}) (is refl), length-drop n whole))
 
 -- the count of what was sent stays within the text
-count_within : (n k few whole : ℕ) → n ≤ whole → (n < 2 ^ 128 - 1 → n + k ≤ whole) → few ≡ min (n + k) (2 ^ 128 - 1) → few ≤ whole
+count_within : (n k few whole : ℕ) → n ≤ whole → (n < 2 ^ 128 - 1 → n + k ≤ whole) → few ≡ min (n + k) (2 ^ 128 - 1)
+    → few ≤ whole
 count_within n k few whole within fits counted = by (nat_lt n (2 ^ 128 - 1)) refl
   where
     by : (b : Bool) → nat_lt n (2 ^ 128 - 1) ≡ b → few ≤ whole
@@ -126,14 +155,18 @@ count_within n k few whole within fits counted = by (nat_lt n (2 ^ 128 - 1)) ref
 
 -- bytes are sent that are all that is left of the text with the piece
 pub bytes_sent : (o0 o1 : WriteBuffer) (t0 t1 : Option (List ℕ)) (f0 f1 : Bool) (k : ℕ) (piece bytes : List ℕ)
-    → ((text : List ℕ) → o0.sent ≤ length text → drop o0.sent text ≡ o0.waiting.items → drop o0.sent (text ++ piece) ≡ bytes)
-    → Appends t0 t1 (take k bytes) → k ≤ length bytes → (f1 ≡ false → k ≡ length bytes) → (f0 ≡ true → k ≡ 0) → (f0 ≡ true → f1 ≡ true)
+    → ((text : List ℕ) → o0.sent ≤ length text → drop o0.sent text ≡ o0.waiting.items
+    → drop o0.sent (text ++ piece) ≡ bytes)
+    → Appends t0 t1 (take k bytes) → k ≤ length bytes → (f1 ≡ false → k ≡ length bytes) → (f0 ≡ true → k ≡ 0)
+    → (f0 ≡ true → f1 ≡ true)
     → o1.sent ≡ min (o0.sent + k) (2 ^ 128 - 1) → o1.waiting.items ≡ [] → Emits o0 t0 f0 o1 t1 f1 piece
 bytes_sent o0 o1 t0 t1 f0 f1 k piece bytes left more few all none stays counted empty = record {
   following = λ before text stands.
       let n = o0.sent in
-      let is : n < 2 ^ 128 - 1 → f0 ≡ false → drop n (text ++ piece) ≡ bytes = λ early ready. left text stands.within (stands.rest early ready) in
-      let held : n < 2 ^ 128 - 1 → Appends before t0 (take n (text ++ piece)) = λ early. subst (Appends before t0) (sym (take-append-le n text piece stands.within)) (stands.front early) in
+      let is : n < 2 ^ 128 - 1 → f0 ≡ false → drop n (text ++ piece) ≡ bytes =
+      λ early ready. left text stands.within (stands.rest early ready) in
+      let held : n < 2 ^ 128 - 1 → Appends before t0 (take n (text ++ piece)) =
+      λ early. subst (Appends before t0) (sym (take-append-le n text piece stands.within)) (stands.front early) in
       let early : o1.sent < 2 ^ 128 - 1 → n < 2 ^ 128 - 1 = λ small. omega (arith, counted, small) in
       let count : o1.sent < 2 ^ 128 - 1 → o1.sent ≡ n + k = λ small. omega (arith, counted, small) in
       record {
@@ -144,16 +177,19 @@ bytes_sent o0 o1 t0 t1 f0 f1 k piece bytes left more few all none stays counted 
             subst (λ m. Appends before t1 (take m (text ++ piece))) (sym (count small))
             (sent_bytes before t0 t1 f0 n k (text ++ piece) bytes (is (early small)) none (held (early small)) more);
         rest = λ small ready.
-            ap (λ m. drop m (text ++ piece)) (count small) ∙ none_left f0 f1 n k (text ++ piece) bytes (is (early small)) stays all ready ∙ sym empty;
+            ap (λ m. drop m (text ++ piece)) (count small)
+            ∙ none_left f0 f1 n k (text ++ piece) bytes (is (early small)) stays all ready ∙ sym empty;
       };
 }
 
 -- what waits is all that is left
-pub waiting_left : (o : WriteBuffer) (text : List ℕ) → o.sent ≤ length text → drop o.sent text ≡ o.waiting.items → drop o.sent (text ++ []) ≡ o.waiting.items
+pub waiting_left : (o : WriteBuffer) (text : List ℕ) → o.sent ≤ length text → drop o.sent text ≡ o.waiting.items
+    → drop o.sent (text ++ []) ≡ o.waiting.items
 waiting_left o text within is = ap (drop o.sent) (append-nil text) ∙ is
 
 -- where nothing waits, a piece is all that is left
-pub piece_left : (o : WriteBuffer) (piece text : List ℕ) → o.waiting.items ≡ [] → o.sent ≤ length text → drop o.sent text ≡ o.waiting.items → drop o.sent (text ++ piece) ≡ piece
+pub piece_left : (o : WriteBuffer) (piece text : List ℕ) → o.waiting.items ≡ [] → o.sent ≤ length text
+    → drop o.sent text ≡ o.waiting.items → drop o.sent (text ++ piece) ≡ piece
 piece_left o piece text none within is = drop-append-le o.sent text piece within ∙ ap (λ l. l ++ piece) (is ∙ none)
 
 -- ---- the whole
@@ -163,7 +199,8 @@ nothing_taken : (t : Option (List ℕ)) → Appends t t []
 nothing_taken None = tt
 nothing_taken (Some xs) = sym (append-nil xs)
 
-nothing_written : (o : WriteBuffer) (t : Option (List ℕ)) (f : Bool) → o.waiting.items ≡ [] → o.sent ≡ 0 → HasEmitted t t f o []
+nothing_written : (o : WriteBuffer) (t : Option (List ℕ)) (f : Bool) → o.waiting.items ≡ [] → o.sent ≡ 0
+    → HasEmitted t t f o []
 nothing_written o t f empty none = record {
   within = omega (arith, none);
   front = λ few. subst (λ n. Appends t t (take n [])) (sym none) (nothing_taken t);
@@ -171,12 +208,15 @@ nothing_written o t f empty none = record {
 }
 
 -- what was written since the buffer was empty
-pub whole_written : {o0 o1 : WriteBuffer} {t0 t1 : Option (List ℕ)} {f0 f1 : Bool} {whole : List ℕ} → o0.waiting.items ≡ [] → o0.sent ≡ 0
+pub whole_written : {o0 o1 : WriteBuffer} {t0 t1 : Option (List ℕ)} {f0 f1 : Bool} {whole : List ℕ}
+    → o0.waiting.items ≡ [] → o0.sent ≡ 0
     → Emits o0 t0 f0 o1 t1 f1 whole → HasEmitted t0 t1 f1 o1 whole
-whole_written {o0 = o0} {t0 = t0} {f0 = f0} empty none writes = writes.following t0 [] (nothing_written o0 t0 f0 empty none)
+whole_written {o0 = o0} {t0 = t0} {f0 = f0} empty none writes =
+    writes.following t0 [] (nothing_written o0 t0 f0 empty none)
 
 -- how many bytes a text has that was written to a writer that has not failed
-pub length_written : (before after : Option (List ℕ)) (failed : Bool) (o : WriteBuffer) (text : List ℕ) → failed ≡ false → o.sent < 2 ^ 128 - 1 → HasEmitted before after failed o text
+pub length_written : (before after : Option (List ℕ)) (failed : Bool) (o : WriteBuffer) (text : List ℕ) → failed ≡ false
+    → o.sent < 2 ^ 128 - 1 → HasEmitted before after failed o text
     → length text ≡ o.sent + length o.waiting.items
 length_written before after failed o text ready few stands =
     omega (arith, ap (length {A = ℕ}) (stands.rest few ready), length-drop o.sent text, stands.within)

@@ -1,5 +1,6 @@
 -- What a session does is what the machine does, and what is said to it is what the machine answers.
-use Rattle.std.proofs.Common.{◌≡◌, ◌≢◌, ℕ, true, false, List, ◌∷◌, [], take, Option, Some, None, Result, Ok, Err, length, refl, sym, subst, ◌∙◌, ap}
+use Rattle.std.proofs.Common.{◌≡◌, ◌≢◌, ℕ, true, false, List, ◌∷◌, [], take, Option, Some, None, Result, Ok, Err}
+use Rattle.std.proofs.Common.{length, refl, sym, subst, ◌∙◌, ap}
 use Rattle.vcd_core.specs.Contents.{Contents}
 use Rattle.vcd_edit.specs.declared.edit.Edit.{Edit}
 use Rattle.vcd_edit.specs.declared.edit.Edit.TheVariants.{Rename, Remove, Invert, Shift, Cut, Deglitch, Force, Derive}
@@ -54,20 +55,29 @@ fault_without_address (Deglitch k ticks) c = refl
 fault_without_address (Force k from to value) c = refl
 fault_without_address (Derive word rule) c = refl
 
-edit_outcome_without_address : (found : Option EditError) (e : Edit) (m : Machine) → edit_outcome found (edit_without_address e) m ≡ edit_outcome found e m
-edit_outcome_without_address None e m = ap (λ (c : Contents). record { answer = Done; after = record { past = take m.depth (m.now ∷ m.past); now = c; future = []; depth = m.depth } }) (effect_without_address e m.now)
+edit_outcome_without_address : (found : Option EditError) (e : Edit) (m : Machine)
+    → edit_outcome found (edit_without_address e) m ≡ edit_outcome found e m
+edit_outcome_without_address None e m =
+    ap (λ (c : Contents). record {
+      answer = Done;
+      after =
+          record { past = take m.depth (m.now ∷ m.past); now = c; future = []; depth = m.depth };
+    })
+    (effect_without_address e m.now)
 edit_outcome_without_address (Some found) e m = refl
 
 -- nor for what comes of a step
 pub outcome_without_address : (m : Machine) (s : Step) → step_outcome m (step_without_address s) ≡ step_outcome m s
 outcome_without_address m (steps.Edit e) =
-    ap (λ (found : Option EditError). edit_outcome found (edit_without_address e) m) (fault_without_address e m.now) ∙ edit_outcome_without_address (edit_fault e m.now) e m
+    ap (λ (found : Option EditError). edit_outcome found (edit_without_address e) m) (fault_without_address e m.now)
+    ∙ edit_outcome_without_address (edit_fault e m.now) e m
 outcome_without_address m steps.Undo = refl
 outcome_without_address m steps.Redo = refl
 outcome_without_address m (steps.Depth depth) = refl
 
 -- nor for what is said to it
-pub reply_without_address : (s : Step) (c : Contents) (undoable redoable : ℕ) → step_reply (step_without_address s) c undoable redoable ≡ step_reply s c undoable redoable
+pub reply_without_address : (s : Step) (c : Contents) (undoable redoable : ℕ)
+    → step_reply (step_without_address s) c undoable redoable ≡ step_reply s c undoable redoable
 reply_without_address (steps.Edit e) c undoable redoable = ap edit_reply (fault_without_address e c)
 reply_without_address steps.Undo c undoable redoable = refl
 reply_without_address steps.Redo c undoable redoable = refl
@@ -107,16 +117,23 @@ other_not_refused (steps.Depth depth) refusal other same =
 
 -- what is told is said to the step
 told : (number : ℕ) (said : LineReply) (s : Step) (old new : Machine) (reply : Reply) →
-    ((step_outcome old s).after ≡ new) × (step_reply s old.now (length old.past) (length old.future) ≡ said) → IsReplyTo number said reply → AnswersStep number s old new reply
+    ((step_outcome old s).after ≡ new) × (step_reply s old.now (length old.past) (length old.future) ≡ said)
+    → IsReplyTo number said reply → AnswersStep number s old new reply
 told number said s old new reply is tells = (is.0, subst (λ (r : LineReply). IsReplyTo number r reply) (sym is.1) tells)
 
-pub step_accepted : (number : ℕ) (s : Step) (old new : Machine) (reply : Reply) → IsStep old s Done new → IsReplyTo number ok_reply reply → AnswersStep number s old new reply
-step_accepted number s old new reply made tells = told number ok_reply s old new reply (answered s Done old new (outcome_of_step old s Done new made (done_not_refused s))) tells
+pub step_accepted : (number : ℕ) (s : Step) (old new : Machine) (reply : Reply) → IsStep old s Done new
+    → IsReplyTo number ok_reply reply → AnswersStep number s old new reply
+step_accepted number s old new reply made tells =
+    told number ok_reply s old new reply
+    (answered s Done old new (outcome_of_step old s Done new made (done_not_refused s))) tells
 
-pub step_refused : (number : ℕ) (s : Step) (refusal : StepError) (old new : Machine) (reply : Reply) → IsStep old s (Refused refusal) new → is_no_memory refusal ≡ false →
+pub step_refused : (number : ℕ) (s : Step) (refusal : StepError) (old new : Machine) (reply : Reply)
+    → IsStep old s (Refused refusal) new → is_no_memory refusal ≡ false →
     IsReplyTo number (Err (step_error_name refusal)) reply → AnswersStep number s old new reply
 step_refused number s refusal old new reply made other tells =
-    told number (Err (step_error_name refusal)) s old new reply (answered s (Refused refusal) old new (outcome_of_step old s (Refused refusal) new made (other_not_refused s refusal other))) tells
+    told number (Err (step_error_name refusal)) s old new reply
+    (answered s (Refused refusal) old new
+    (outcome_of_step old s (Refused refusal) new made (other_not_refused s refusal other))) tells
 
 -- ---- lines
 
@@ -125,14 +142,17 @@ said_to : (skipped : ℕ) → Machine → Result Command LineError → LineReply
 said_to skipped m asked = command_reply asked m.now skipped (length m.past) (length m.future)
 
 -- what a step does and is told, where its word may lie at any address
-pub command_steps : (skipped number : ℕ) (s : Step) (old new : Machine) (reply : Reply) → AnswersStep number s old new reply → AnswersCommand skipped number (commands.Step s) old new reply
+pub command_steps : (skipped number : ℕ) (s : Step) (old new : Machine) (reply : Reply)
+    → AnswersStep number s old new reply → AnswersCommand skipped number (commands.Step s) old new reply
 command_steps skipped number s old new reply answers = (
   ap (λ (o : StepOutcome). o.after) (outcome_without_address old s) ∙ answers.0,
-  subst (λ (said : LineReply). IsReplyTo number said reply) (sym (reply_without_address s old.now (length old.past) (length old.future))) answers.1,
+  subst (λ (said : LineReply). IsReplyTo number said reply)
+      (sym (reply_without_address s old.now (length old.past) (length old.future))) answers.1,
 )
 
 -- a line that asks for a command
-pub line_asks : (skipped number : ℕ) (line : List ℕ) (command : Command) (old new : Machine) (reply : Reply) → command_of_line old.now line ≡ Ok (command_without_address command) →
+pub line_asks : (skipped number : ℕ) (line : List ℕ) (command : Command) (old new : Machine) (reply : Reply)
+    → command_of_line old.now line ≡ Ok (command_without_address command) →
     AnswersCommand skipped number command old new reply → AnswersLine skipped number line old new reply
 unfolding machine_after_line line_reply said_to
 line_asks skipped number line command old new reply read answers = (
@@ -141,8 +161,10 @@ line_asks skipped number line command old new reply read answers = (
 )
 
 -- a line that leaves the machine as it is
-pub line_stays : (skipped number : ℕ) (line : List ℕ) (asked : Result Command LineError) (old : Machine) (reply : Reply) → command_of_line old.now line ≡ asked → machine_after_command old asked ≡ old →
-    IsReplyTo number (command_reply asked old.now skipped (length old.past) (length old.future)) reply → AnswersLine skipped number line old old reply
+pub line_stays : (skipped number : ℕ) (line : List ℕ) (asked : Result Command LineError) (old : Machine) (reply : Reply)
+    → command_of_line old.now line ≡ asked → machine_after_command old asked ≡ old →
+    IsReplyTo number (command_reply asked old.now skipped (length old.past) (length old.future)) reply
+    → AnswersLine skipped number line old old reply
 unfolding machine_after_line line_reply said_to
 line_stays skipped number line asked old reply read stays tells = (
   ap (machine_after_command old) read ∙ stays,

@@ -1,7 +1,8 @@
 -- The depth that is asked for, of what reading a text as a number gave.
 use Rattle.std.proofs.Common.{◌≡◌, ◌≤◌, ℕ, Bool, true, false, Option, Some, None, refl, sym, subst, ◌∙◌, arith}
 use Rattle.std.specs.Prelude.{Result}
-use Rattle.std.specs.Str.Parse.{ParsesUnsigned, ExplainsUnsignedError, HasUnsignedDigitsIfOk, digits_value, without_leading_plus}
+use Rattle.std.specs.Str.Parse.{ParsesUnsigned, ExplainsUnsignedError, HasUnsignedDigitsIfOk, digits_value}
+use Rattle.std.specs.Str.Parse.{without_leading_plus}
 use Rattle.std.specs.declared.num.ParseIntError.{ParseIntError}
 use Rattle.clap.specs.Words.{Accepts, ReadsOne, Text}
 use Rattle.clap.specs.ValueTests.{is_unsigned_in}
@@ -16,20 +17,29 @@ abbrev pub Reads : Text → Result ℕ ParseIntError → Type 0
 Reads text r = ParsesUnsigned 64 10 text r × ExplainsUnsignedError 10 text r × HasUnsignedDigitsIfOk text r
 
 -- a number from 1 to the limit is asked for
-pub number_asked : (text : Option Text) (r : Option ℕ) (n : ℕ) → (text ≡ None → r ≡ None) → ((t : Text) → text ≡ Some t → ReadsOne Reads t r) → r ≡ Some n → 1 ≤ n → n ≤ DEPTH_LIMIT → n ≡ depth_asked text
+pub number_asked : (text : Option Text) (r : Option ℕ) (n : ℕ) → (text ≡ None → r ≡ None)
+    → ((t : Text) → text ≡ Some t → ReadsOne Reads t r) → r ≡ Some n → 1 ≤ n → n ≤ DEPTH_LIMIT → n ≡ depth_asked text
 number_asked None r n none value is least most = let bad : Some n ≡ None = sym is ∙ none refl in cc
 number_asked (Some t) r n none value is least most =
     let given : ReadsOne Reads t (Some n) = subst (ReadsOne Reads t) is (value t refl) in
     let same : n ≡ digits_value 10 (without_leading_plus t) = given.0.1 in
-    let within : is_unsigned_in 1 DEPTH_LIMIT t ≡ true = Accepts-accepts false (parsers.Unsigned 1 DEPTH_LIMIT) t (given.0.0.0, given.0.0.1, omega (arith, least, same), omega (arith, most, same)) in
+    let within : is_unsigned_in 1 DEPTH_LIMIT t ≡ true =
+    Accepts-accepts false (parsers.Unsigned 1 DEPTH_LIMIT) t (
+      given.0.0.0,
+      given.0.0.1,
+      omega (arith, least, same),
+      omega (arith, most, same),
+    ) in
     rw within same
 
 -- where no number from 1 to the limit was read, the default is
-pub default_asked : (text : Option Text) (r : Option ℕ) → ((t : Text) → text ≡ Some t → ReadsOne Reads t r) → ((n : ℕ) → r ≡ Some n → 1 ≤ n → n ≤ DEPTH_LIMIT → ⊥) → DEFAULT_DEPTH ≡ depth_asked text
+pub default_asked : (text : Option Text) (r : Option ℕ) → ((t : Text) → text ≡ Some t → ReadsOne Reads t r)
+    → ((n : ℕ) → r ≡ Some n → 1 ≤ n → n ≤ DEPTH_LIMIT → ⊥) → DEFAULT_DEPTH ≡ depth_asked text
 default_asked None r value out = refl
 default_asked (Some t) r value out = go (is_unsigned_in 1 DEPTH_LIMIT t) refl
   where
-    absent : (o : Option ℕ) → ReadsOne Reads t o → ((n : ℕ) → o ≡ Some n → 1 ≤ n → n ≤ DEPTH_LIMIT → ⊥) → Accepts false (parsers.Unsigned 1 DEPTH_LIMIT) t → ⊥
+    absent : (o : Option ℕ) → ReadsOne Reads t o → ((n : ℕ) → o ≡ Some n → 1 ≤ n → n ≤ DEPTH_LIMIT → ⊥)
+        → Accepts false (parsers.Unsigned 1 DEPTH_LIMIT) t → ⊥
     absent (Some n) read none within =
         let same : n ≡ digits_value 10 (without_leading_plus t) = read.0.1 in
         let least : 1 ≤ digits_value 10 (without_leading_plus t) = within.2 in

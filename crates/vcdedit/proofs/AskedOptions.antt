@@ -2,7 +2,8 @@
 use Rattle.std.proofs.Common.{◌≡◌, ◌∙◌, ap, ap₂, ℕ, List, Option, refl, true, codes}
 use Rattle.std.specs.Prelude.{option_map}
 use Rattle.std.specs.Borrow.{Bor}
-use Rattle.clap.specs.Words.{Text, first_of, first_value, found_of, is_simple, is_simple_and_free, matches_of, one_of, one_text, rows_of}
+use Rattle.clap.specs.Words.{Text, first_of, first_value, found_of, is_simple, is_simple_and_free, matches_of, one_of}
+use Rattle.clap.specs.Words.{one_text, rows_of}
 use Rattle.clap.specs.declared.parser.matches.ArgMatches.{ArgMatches}
 use Rattle.clap.proofs.WalkLemmas.{first_value-rows, one_text-rows}
 use Rattle.vcdedit.specs.CommandLine.{asked_options, depth_asked, option_app, options_in}
@@ -14,15 +15,35 @@ pub free : is_simple_and_free option_app ≡ true
 free = refl
 
 -- the options that the getters read
-pub read_options : (m : ArgMatches) (words : List Text) (input script output : Option (Bor Text)) (depth : ℕ) → rows_of (found_of m) ≡ matches_of option_app words
+pub read_options : (m : ArgMatches) (words : List Text) (input script output : Option (Bor Text)) (depth : ℕ)
+    → rows_of (found_of m) ≡ matches_of option_app words
     → option_map (λ s. s.now) input ≡ first_value (found_of m) (codes "input-file")
     → option_map (λ s. s.now) script ≡ first_value (found_of m) (codes "script")
     → option_map (λ s. s.now) output ≡ first_value (found_of m) (codes "output-file")
     → depth ≡ depth_asked (one_text (found_of m) (codes "depth"))
     → options_in (record { input = input; script = script; output = output; depth = depth }) ≡ asked_options words
 read_options m words input script output depth rows is_input is_script is_output is_depth =
-    let of_rows : (id : Text) → first_value (found_of m) id ≡ first_of id (matches_of option_app words) = λ id. first_value-rows (found_of m) id ∙ ap (first_of id) rows in
-    let text : one_text (found_of m) (codes "depth") ≡ one_of (codes "depth") (matches_of option_app words) = one_text-rows (found_of m) (codes "depth") ∙ ap (one_of (codes "depth")) rows in
-    ap (λ (o : Option Text). record { input = o; script = option_map (λ s. s.now) script; output = option_map (λ s. s.now) output; depth = depth }) (is_input ∙ of_rows (codes "input-file"))
-    ∙ ap (λ (o : Option Text). record { input = first_of (codes "input-file") (matches_of option_app words); script = o; output = option_map (λ s. s.now) output; depth = depth }) (is_script ∙ of_rows (codes "script"))
-    ∙ ap₂ (λ (o : Option Text) (n : ℕ). record { input = first_of (codes "input-file") (matches_of option_app words); script = first_of (codes "script") (matches_of option_app words); output = o; depth = n }) (is_output ∙ of_rows (codes "output-file")) (is_depth ∙ ap depth_asked text)
+    let of_rows : (id : Text) → first_value (found_of m) id ≡ first_of id (matches_of option_app words) =
+    λ id. first_value-rows (found_of m) id ∙ ap (first_of id) rows in
+    let text : one_text (found_of m) (codes "depth") ≡ one_of (codes "depth") (matches_of option_app words) =
+    one_text-rows (found_of m) (codes "depth") ∙ ap (one_of (codes "depth")) rows in
+    ap (λ (o : Option Text). record {
+      input = o;
+      script = option_map (λ s. s.now) script;
+      output =
+          option_map (λ s. s.now) output;
+      depth = depth;
+    }) (is_input ∙ of_rows (codes "input-file"))
+    ∙ ap (λ (o : Option Text). record {
+      input = first_of (codes "input-file") (matches_of option_app words);
+      script = o;
+      output = option_map (λ s. s.now) output;
+      depth = depth;
+    }) (is_script ∙ of_rows (codes "script"))
+    ∙ ap₂ (λ (o : Option Text) (n : ℕ). record {
+      input = first_of (codes "input-file") (matches_of option_app words);
+      script = first_of (codes "script") (matches_of option_app words);
+      output = o;
+      depth = n;
+    }) (is_output
+    ∙ of_rows (codes "output-file")) (is_depth ∙ ap depth_asked text)

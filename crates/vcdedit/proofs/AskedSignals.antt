@@ -1,5 +1,6 @@
 -- The signals that a line asks about are the capture's, and those that it decodes have one bit.
-use Rattle.std.proofs.Common.{◌≡◌, ◌<◌, ℕ, ◌==◌, Bool, true, false, cond, List, [], ◌∷◌, Option, Some, None, Result, Ok, Err, length, sym, subst, refl, arith}
+use Rattle.std.proofs.Common.{◌≡◌, ◌<◌, ℕ, ◌==◌, Bool, true, false, cond, List, [], ◌∷◌, Option, Some, None, Result, Ok}
+use Rattle.std.proofs.Common.{Err, length, sym, subst, refl, arith}
 use Rattle.std.specs.Prelude.{IfOk, IfSome}
 use Rattle.std.specs.Option.{ok_or}
 use Rattle.std.proofs.lemmas.Bool.Decides.{nat_tests}
@@ -20,11 +21,13 @@ use Rattle.vcdedit.specs.declared.script.line_error.LineError.TheVariants.{Unkno
 use Rattle.vcdedit.specs.ScriptWords.{signal_of_name, number_of_word, distance_of_word, value_of_word}
 use Rattle.vcdedit.specs.LineWords.{◌>>=◌}
 use Rattle.vcdedit.specs.inside.WordCounts.{no_word, one_word, two_words, four_words, five_words, seven_words}
-use Rattle.vcdedit.specs.DecoderWords.{ratio_of_word, parity_of_word, order_of_word, signal_or_absent, one_bit_signal, one_bit_signal_or_absent, faultless_uart, faultless_spi}
+use Rattle.vcdedit.specs.DecoderWords.{ratio_of_word, parity_of_word, order_of_word, signal_or_absent, one_bit_signal}
+use Rattle.vcdedit.specs.DecoderWords.{one_bit_signal_or_absent, faultless_uart, faultless_spi}
 use Rattle.vcdedit.specs.inside.ParsedDecoders.{uart_command, spi_command, i2c_command}
 use Rattle.vcdedit.specs.ScriptCommands.{is_comment}
 use Rattle.vcdedit.proofs.KeywordCommands.{words_are}
-use Rattle.vcdedit.specs.inside.ParsedCommands.{pair_command, rule_command, derive_command, keyword_command, words_command, keyword_in_tables}
+use Rattle.vcdedit.specs.inside.ParsedCommands.{pair_command, rule_command, derive_command, keyword_command}
+use Rattle.vcdedit.specs.inside.ParsedCommands.{words_command, keyword_in_tables}
 use Rattle.vcdedit.specs.CommandSignals.{IsScalarAt, HasItsSignals}
 use Rattle.vcdedit.specs.Addressless.{command_without_address}
 use Rattle.vcdedit.specs.Script.{command_of_line, line_words}
@@ -44,30 +47,36 @@ steps c step = record { has = tt }
 
 -- ---- what is read on
 
-read_on : {A : Type 0} (c : Contents) (r : Result A LineError) (P : A → Type 0) (f : A → Result Command LineError) → IfOk r P → ((x : A) → P x → GivesSignals c (f x)) → GivesSignals c (r >>= f)
+read_on : {A : Type 0} (c : Contents) (r : Result A LineError) (P : A → Type 0) (f : A → Result Command LineError)
+    → IfOk r P → ((x : A) → P x → GivesSignals c (f x)) → GivesSignals c (r >>= f)
 read_on c (Ok x) P f holds gives = gives x holds
 read_on c (Err found) P f holds gives = refused c found
 
-then_any : {A : Type 0} (c : Contents) (r : Result A LineError) (f : A → Result Command LineError) → ((x : A) → GivesSignals c (f x)) → GivesSignals c (r >>= f)
+then_any : {A : Type 0} (c : Contents) (r : Result A LineError) (f : A → Result Command LineError)
+    → ((x : A) → GivesSignals c (f x)) → GivesSignals c (r >>= f)
 then_any c (Ok x) f gives = gives x
 then_any c (Err found) f gives = refused c found
 
-of_none : (c : Contents) (words : List (List ℕ)) (asked : Result Command LineError) → GivesSignals c asked → GivesSignals c (no_word words asked)
+of_none : (c : Contents) (words : List (List ℕ)) (asked : Result Command LineError) → GivesSignals c asked
+    → GivesSignals c (no_word words asked)
 of_none c [] asked gives = gives
 of_none c (word ∷ words) asked gives = refused c _
 
-of_one : (c : Contents) (words : List (List ℕ)) (asked : List ℕ → Result Command LineError) → ((a : List ℕ) → GivesSignals c (asked a)) → GivesSignals c (one_word words asked)
+of_one : (c : Contents) (words : List (List ℕ)) (asked : List ℕ → Result Command LineError)
+    → ((a : List ℕ) → GivesSignals c (asked a)) → GivesSignals c (one_word words asked)
 of_one c [] asked gives = refused c _
 of_one c (a ∷ []) asked gives = gives a
 of_one c (a ∷ b ∷ words) asked gives = refused c _
 
-of_two : (c : Contents) (words : List (List ℕ)) (asked : List ℕ → List ℕ → Result Command LineError) → ((a b : List ℕ) → GivesSignals c (asked a b)) → GivesSignals c (two_words words asked)
+of_two : (c : Contents) (words : List (List ℕ)) (asked : List ℕ → List ℕ → Result Command LineError)
+    → ((a b : List ℕ) → GivesSignals c (asked a b)) → GivesSignals c (two_words words asked)
 of_two c [] asked gives = refused c _
 of_two c (a ∷ []) asked gives = refused c _
 of_two c (a ∷ b ∷ []) asked gives = gives a b
 of_two c (a ∷ b ∷ d ∷ words) asked gives = refused c _
 
-of_four : (c : Contents) (words : List (List ℕ)) (asked : List ℕ → List ℕ → List ℕ → List ℕ → Result Command LineError) → ((w x y z : List ℕ) → GivesSignals c (asked w x y z)) → GivesSignals c (four_words words asked)
+of_four : (c : Contents) (words : List (List ℕ)) (asked : List ℕ → List ℕ → List ℕ → List ℕ → Result Command LineError)
+    → ((w x y z : List ℕ) → GivesSignals c (asked w x y z)) → GivesSignals c (four_words words asked)
 of_four c [] asked gives = refused c _
 of_four c (w ∷ []) asked gives = refused c _
 of_four c (w ∷ x ∷ []) asked gives = refused c _
@@ -75,7 +84,8 @@ of_four c (w ∷ x ∷ y ∷ []) asked gives = refused c _
 of_four c (w ∷ x ∷ y ∷ z ∷ []) asked gives = gives w x y z
 of_four c (w ∷ x ∷ y ∷ z ∷ more ∷ words) asked gives = refused c _
 
-of_five : (c : Contents) (words : List (List ℕ)) (asked : List ℕ → List ℕ → List ℕ → List ℕ → List ℕ → Result Command LineError) →
+of_five : (c : Contents) (words : List (List ℕ)) (asked : List ℕ → List ℕ → List ℕ → List ℕ → List ℕ
+    → Result Command LineError) →
     ((v w x y z : List ℕ) → GivesSignals c (asked v w x y z)) → GivesSignals c (five_words words asked)
 of_five c [] asked gives = refused c _
 of_five c (v ∷ []) asked gives = refused c _
@@ -85,7 +95,8 @@ of_five c (v ∷ w ∷ x ∷ y ∷ []) asked gives = refused c _
 of_five c (v ∷ w ∷ x ∷ y ∷ z ∷ []) asked gives = gives v w x y z
 of_five c (v ∷ w ∷ x ∷ y ∷ z ∷ more ∷ words) asked gives = refused c _
 
-of_seven : (c : Contents) (words : List (List ℕ)) (asked : List ℕ → List ℕ → List ℕ → List ℕ → List ℕ → List ℕ → List ℕ → Result Command LineError) →
+of_seven : (c : Contents) (words : List (List ℕ)) (asked : List ℕ → List ℕ → List ℕ → List ℕ → List ℕ → List ℕ → List ℕ
+    → Result Command LineError) →
     ((t u v w x y z : List ℕ) → GivesSignals c (asked t u v w x y z)) → GivesSignals c (seven_words words asked)
 of_seven c [] asked gives = refused c _
 of_seven c (t ∷ []) asked gives = refused c _
@@ -97,7 +108,8 @@ of_seven c (t ∷ u ∷ v ∷ w ∷ x ∷ y ∷ []) asked gives = refused c _
 of_seven c (t ∷ u ∷ v ∷ w ∷ x ∷ y ∷ z ∷ []) asked gives = gives t u v w x y z
 of_seven c (t ∷ u ∷ v ∷ w ∷ x ∷ y ∷ z ∷ more ∷ words) asked gives = refused c _
 
-either : (c : Contents) (b : Bool) (x y : Result Command LineError) → GivesSignals c x → GivesSignals c y → GivesSignals c (cond b x y)
+either : (c : Contents) (b : Bool) (x y : Result Command LineError) → GivesSignals c x → GivesSignals c y
+    → GivesSignals c (cond b x y)
 either c true x y first second = first
 either c false x y first second = second
 
@@ -105,18 +117,22 @@ either c false x y first second = second
 
 -- a signal of this name stands in the capture
 named : (c : Capture) (name : List ℕ) → IfOk (signal_of_name (contents c) name) (λ k. k < length (contents c).signals)
-named c name = subst (λ (n : ℕ). IfOk (signal_of_name (contents c) name) (λ k. k < n)) (sym (length-map c.signals signal_contents)) (named_within c name (signal_of_name (contents c) name) refl)
+named c name = subst (λ (n : ℕ). IfOk (signal_of_name (contents c) name) (λ k. k < n))
+    (sym (length-map c.signals signal_contents)) (named_within c name (signal_of_name (contents c) name) refl)
 
-some_named : (c : Contents) (r : Result ℕ LineError) → IfOk r (λ k. k < length c.signals) → IfOk (r >>= (λ k. Ok (Some k))) (λ line. IfSome line (λ k. k < length c.signals))
+some_named : (c : Contents) (r : Result ℕ LineError) → IfOk r (λ k. k < length c.signals)
+    → IfOk (r >>= (λ k. Ok (Some k))) (λ line. IfSome line (λ k. k < length c.signals))
 some_named c (Ok k) within = within
 some_named c (Err found) within = tt
 
 absent_or_named : (c : Capture) (b : Bool) (name : List ℕ) →
-    IfOk (cond b (Ok None) (signal_of_name (contents c) name >>= (λ k. Ok (Some k)))) (λ line. IfSome line (λ k. k < length (contents c).signals))
+    IfOk (cond b (Ok None) (signal_of_name (contents c) name >>= (λ k. Ok (Some k))))
+    (λ line. IfSome line (λ k. k < length (contents c).signals))
 absent_or_named c true name = tt
 absent_or_named c false name = some_named (contents c) (signal_of_name (contents c) name) (named c name)
 
-by_width : (c : Contents) (k : ℕ) (b : Bool) → ((signal_at c k).width == 1) ≡ b → k < length c.signals → IfOk (cond b (Ok k) (Err NotScalar)) (IsScalarAt c)
+by_width : (c : Contents) (k : ℕ) (b : Bool) → ((signal_at c k).width == 1) ≡ b → k < length c.signals
+    → IfOk (cond b (Ok k) (Err NotScalar)) (IsScalarAt c)
 by_width c k true is within =
     let one : (signal_at c k).width ≡ 1 = grind (arith, nat_tests) in
     (within, one)
@@ -126,26 +142,34 @@ by_width c k false is within = tt
 one_bit : (c : Contents) (k : ℕ) → k < length c.signals → IfOk (one_bit_signal c k) (IsScalarAt c)
 one_bit c k within = by_width c k ((signal_at c k).width == 1) refl within
 
-some_scalar : (c : Contents) (r : Result ℕ LineError) → IfOk r (IsScalarAt c) → IfOk (r >>= (λ k. Ok (Some k))) (λ line. IfSome line (IsScalarAt c))
+some_scalar : (c : Contents) (r : Result ℕ LineError) → IfOk r (IsScalarAt c)
+    → IfOk (r >>= (λ k. Ok (Some k))) (λ line. IfSome line (IsScalarAt c))
 some_scalar c (Ok k) is = is
 some_scalar c (Err found) is = tt
 
-absent_or_one_bit : (c : Contents) (line : Option ℕ) → IfSome line (λ k. k < length c.signals) → IfOk (one_bit_signal_or_absent c line) (λ l. IfSome l (IsScalarAt c))
+absent_or_one_bit : (c : Contents) (line : Option ℕ) → IfSome line (λ k. k < length c.signals)
+    → IfOk (one_bit_signal_or_absent c line) (λ l. IfSome l (IsScalarAt c))
 absent_or_one_bit c None within = tt
 absent_or_one_bit c (Some k) within = some_scalar c (one_bit_signal c k) (one_bit c k within)
 
 -- ---- the commands
 
-of_pair : (c : Contents) (rule : ℕ → ℕ → Rule) (word : List ℕ) (operands : List (List ℕ)) → GivesSignals c (pair_command c rule word operands)
-of_pair c rule word operands = of_two c operands _ (λ a b. then_any c (signal_of_name c a) _ (λ j. then_any c (signal_of_name c b) _ (λ k. steps _ _)))
+of_pair : (c : Contents) (rule : ℕ → ℕ → Rule) (word : List ℕ) (operands : List (List ℕ))
+    → GivesSignals c (pair_command c rule word operands)
+of_pair c rule word operands =
+    of_two c operands _ (λ a b. then_any c (signal_of_name c a) _
+    (λ j. then_any c (signal_of_name c b) _ (λ k. steps _ _)))
 
-of_rule : (c : Contents) (word rule : List ℕ) (operands : List (List ℕ)) → GivesSignals c (rule_command c word rule operands)
+of_rule : (c : Contents) (word rule : List ℕ) (operands : List (List ℕ))
+    → GivesSignals c (rule_command c word rule operands)
 of_rule c word rule operands =
     either c _ _ _ (of_one c operands _ (λ a. then_any c (signal_of_name c a) _ (λ k. steps _ _)))
     (either c _ _ _ (of_pair c And word operands)
     (either c _ _ _ (of_pair c Or word operands)
     (either c _ _ _ (of_pair c Xor word operands)
-    (either c _ _ _ (of_two c operands _ (λ a bit. then_any c (signal_of_name c a) _ (λ j. then_any c (number_of_word bit) _ (λ k. steps _ _)))) (refused c BadOption)))))
+    (either c _ _ _ (of_two c operands _
+    (λ a bit. then_any c (signal_of_name c a) _ (λ j. then_any c (number_of_word bit) _ (λ k. steps _ _))))
+    (refused c BadOption)))))
 
 of_derive : (c : Contents) (words : List (List ℕ)) → GivesSignals c (derive_command c words)
 of_derive c [] = refused c _
@@ -154,66 +178,103 @@ of_derive c (word ∷ rule ∷ operands) = of_rule c word rule operands
 
 of_uart : (c : Capture) (words : List (List ℕ)) → GivesSignals (contents c) (uart_command (contents c) words)
 of_uart c words = of_five (contents c) words _ (λ name bit count parity stop.
-    read_on (contents c) (signal_of_name (contents c) name) (λ k. k < length (contents c).signals) _ (named c name) (λ k within.
+    read_on (contents c) (signal_of_name (contents c) name) (λ k. k < length (contents c).signals) _ (named c name)
+    (λ k within.
     then_any (contents c) (ratio_of_word bit) _ (λ ratio.
     then_any (contents c) (number_of_word count) _ (λ data_bits.
     then_any (contents c) (parity_of_word parity) _ (λ parity_bit.
     then_any (contents c) (number_of_word stop) _ (λ stop_bits.
-    read_on (contents c) (one_bit_signal (contents c) k) (IsScalarAt (contents c)) _ (one_bit (contents c) k within) (λ line is.
-    then_any (contents c) (faultless_uart (uart_setup ratio.0 ratio.1 data_bits parity_bit stop_bits)) _ (λ setup. record { has = is }))))))))
+    read_on (contents c) (one_bit_signal (contents c) k) (IsScalarAt (contents c)) _ (one_bit (contents c) k within)
+    (λ line is.
+    then_any (contents c) (faultless_uart (uart_setup ratio.0 ratio.1 data_bits parity_bit stop_bits)) _
+    (λ setup. record { has = is }))))))))
 
 of_spi : (c : Capture) (words : List (List ℕ)) → GivesSignals (contents c) (spi_command (contents c) words)
 of_spi c words = of_seven (contents c) words _ (λ clk mosi miso cs mode bits order.
-    read_on (contents c) (signal_of_name (contents c) clk) (λ k. k < length (contents c).signals) _ (named c clk) (λ k clk_within.
-    read_on (contents c) (signal_or_absent (contents c) mosi) (λ line. IfSome line (λ k. k < length (contents c).signals)) _ (absent_or_named c _ mosi) (λ out mosi_within.
-    read_on (contents c) (signal_or_absent (contents c) miso) (λ line. IfSome line (λ k. k < length (contents c).signals)) _ (absent_or_named c _ miso) (λ input miso_within.
-    read_on (contents c) (signal_or_absent (contents c) cs) (λ line. IfSome line (λ k. k < length (contents c).signals)) _ (absent_or_named c _ cs) (λ select cs_within.
+    read_on (contents c) (signal_of_name (contents c) clk) (λ k. k < length (contents c).signals) _ (named c clk)
+    (λ k clk_within.
+    read_on (contents c) (signal_or_absent (contents c) mosi)
+    (λ line. IfSome line (λ k. k < length (contents c).signals)) _ (absent_or_named c _ mosi) (λ out mosi_within.
+    read_on (contents c) (signal_or_absent (contents c) miso)
+    (λ line. IfSome line (λ k. k < length (contents c).signals)) _ (absent_or_named c _ miso) (λ input miso_within.
+    read_on (contents c) (signal_or_absent (contents c) cs) (λ line. IfSome line (λ k. k < length (contents c).signals))
+    _ (absent_or_named c _ cs) (λ select cs_within.
     then_any (contents c) (number_of_word mode) _ (λ number.
     then_any (contents c) (number_of_word bits) _ (λ word_bits.
     then_any (contents c) (order_of_word order) _ (λ bit_order.
-    read_on (contents c) (one_bit_signal (contents c) k) (IsScalarAt (contents c)) _ (one_bit (contents c) k clk_within) (λ clock clk_is.
-    read_on (contents c) (one_bit_signal_or_absent (contents c) out) (λ l. IfSome l (IsScalarAt (contents c))) _ (absent_or_one_bit (contents c) out mosi_within) (λ out_line mosi_is.
-    read_on (contents c) (one_bit_signal_or_absent (contents c) input) (λ l. IfSome l (IsScalarAt (contents c))) _ (absent_or_one_bit (contents c) input miso_within) (λ in_line miso_is.
-    read_on (contents c) (one_bit_signal_or_absent (contents c) select) (λ l. IfSome l (IsScalarAt (contents c))) _ (absent_or_one_bit (contents c) select cs_within) (λ select_line cs_is.
-    then_any (contents c) (faultless_spi (spi_setup number word_bits bit_order)) _ (λ setup. record { has = (clk_is, mosi_is, miso_is, cs_is) })))))))))))))
+    read_on (contents c) (one_bit_signal (contents c) k) (IsScalarAt (contents c)) _ (one_bit (contents c) k clk_within)
+    (λ clock clk_is.
+    read_on (contents c) (one_bit_signal_or_absent (contents c) out) (λ l. IfSome l (IsScalarAt (contents c))) _
+    (absent_or_one_bit (contents c) out mosi_within) (λ out_line mosi_is.
+    read_on (contents c) (one_bit_signal_or_absent (contents c) input) (λ l. IfSome l (IsScalarAt (contents c))) _
+    (absent_or_one_bit (contents c) input miso_within) (λ in_line miso_is.
+    read_on (contents c) (one_bit_signal_or_absent (contents c) select) (λ l. IfSome l (IsScalarAt (contents c))) _
+    (absent_or_one_bit (contents c) select cs_within) (λ select_line cs_is.
+    then_any (contents c) (faultless_spi (spi_setup number word_bits bit_order)) _
+    (λ setup. record { has = (clk_is, mosi_is, miso_is, cs_is) })))))))))))))
 
 of_i2c : (c : Capture) (words : List (List ℕ)) → GivesSignals (contents c) (i2c_command (contents c) words)
 of_i2c c words = of_two (contents c) words _ (λ scl sda.
-    read_on (contents c) (signal_of_name (contents c) scl) (λ k. k < length (contents c).signals) _ (named c scl) (λ j scl_within.
-    read_on (contents c) (signal_of_name (contents c) sda) (λ k. k < length (contents c).signals) _ (named c sda) (λ k sda_within.
-    read_on (contents c) (one_bit_signal (contents c) j) (IsScalarAt (contents c)) _ (one_bit (contents c) j scl_within) (λ clock scl_is.
-    read_on (contents c) (one_bit_signal (contents c) k) (IsScalarAt (contents c)) _ (one_bit (contents c) k sda_within) (λ line sda_is. record { has = (scl_is, sda_is) })))))
+    read_on (contents c) (signal_of_name (contents c) scl) (λ k. k < length (contents c).signals) _ (named c scl)
+    (λ j scl_within.
+    read_on (contents c) (signal_of_name (contents c) sda) (λ k. k < length (contents c).signals) _ (named c sda)
+    (λ k sda_within.
+    read_on (contents c) (one_bit_signal (contents c) j) (IsScalarAt (contents c)) _ (one_bit (contents c) j scl_within)
+    (λ clock scl_is.
+    read_on (contents c) (one_bit_signal (contents c) k) (IsScalarAt (contents c)) _ (one_bit (contents c) k sda_within)
+    (λ line sda_is. record { has = (scl_is, sda_is) })))))
 
-of_keyword : (c : Capture) (keyword : Keyword) (words : List (List ℕ)) → GivesSignals (contents c) (keyword_command (contents c) keyword words)
-of_keyword c keywords.Rename words = of_two _ words _ (λ name word. then_any _ (signal_of_name (contents c) name) _ (λ k. steps _ _))
-of_keyword c keywords.Remove words = of_one _ words _ (λ name. then_any _ (signal_of_name (contents c) name) _ (λ k. steps _ _))
-of_keyword c keywords.Invert words = of_one _ words _ (λ name. then_any _ (signal_of_name (contents c) name) _ (λ k. steps _ _))
-of_keyword c keywords.Shift words = of_two _ words _ (λ name by. then_any _ (signal_of_name (contents c) name) _ (λ k. then_any _ (distance_of_word by) _ (λ d. steps _ _)))
-of_keyword c keywords.Cut words = of_two _ words _ (λ from to. then_any _ (number_of_word from) _ (λ a. then_any _ (number_of_word to) _ (λ b. steps _ _)))
-of_keyword c keywords.Deglitch words = of_two _ words _ (λ name ticks. then_any _ (signal_of_name (contents c) name) _ (λ k. then_any _ (number_of_word ticks) _ (λ count. steps _ _)))
-of_keyword c keywords.Force words = of_four _ words _ (λ name from to value. then_any _ (signal_of_name (contents c) name) _ (λ k. then_any _ (number_of_word from) _ (λ a.
-    then_any _ (number_of_word to) _ (λ b. then_any _ (value_of_word (signal_at (contents c) k).width value) _ (λ v. steps _ _)))))
+of_keyword : (c : Capture) (keyword : Keyword) (words : List (List ℕ))
+    → GivesSignals (contents c) (keyword_command (contents c) keyword words)
+of_keyword c keywords.Rename words =
+    of_two _ words _ (λ name word. then_any _ (signal_of_name (contents c) name) _ (λ k. steps _ _))
+of_keyword c keywords.Remove words =
+    of_one _ words _ (λ name. then_any _ (signal_of_name (contents c) name) _ (λ k. steps _ _))
+of_keyword c keywords.Invert words =
+    of_one _ words _ (λ name. then_any _ (signal_of_name (contents c) name) _ (λ k. steps _ _))
+of_keyword c keywords.Shift words =
+    of_two _ words _ (λ name by. then_any _ (signal_of_name (contents c) name) _
+    (λ k. then_any _ (distance_of_word by) _ (λ d. steps _ _)))
+of_keyword c keywords.Cut words =
+    of_two _ words _ (λ from to. then_any _ (number_of_word from) _
+    (λ a. then_any _ (number_of_word to) _ (λ b. steps _ _)))
+of_keyword c keywords.Deglitch words =
+    of_two _ words _ (λ name ticks. then_any _ (signal_of_name (contents c) name) _
+    (λ k. then_any _ (number_of_word ticks) _ (λ count. steps _ _)))
+of_keyword c keywords.Force words =
+    of_four _ words _ (λ name from to value. then_any _ (signal_of_name (contents c) name) _
+    (λ k. then_any _ (number_of_word from) _ (λ a.
+    then_any _ (number_of_word to) _
+    (λ b. then_any _ (value_of_word (signal_at (contents c) k).width value) _ (λ v. steps _ _)))))
 of_keyword c keywords.Derive words = of_derive (contents c) words
 of_keyword c keywords.Undo words = of_none _ words _ (steps _ _)
 of_keyword c keywords.Redo words = of_none _ words _ (steps _ _)
 of_keyword c keywords.Depth words = of_one _ words _ (λ count. then_any _ (number_of_word count) _ (λ depth. steps _ _))
 of_keyword c keywords.List words = of_none _ words _ (record { has = tt })
-of_keyword c keywords.Value words = of_two _ words _ (λ name tick. read_on _ (signal_of_name (contents c) name) (λ k. k < length (contents c).signals) _ (named c name) (λ k within.
+of_keyword c keywords.Value words =
+    of_two _ words _ (λ name tick. read_on _ (signal_of_name (contents c) name) (λ k. k < length (contents c).signals) _
+    (named c name) (λ k within.
     then_any _ (number_of_word tick) _ (λ t. record { has = within })))
-of_keyword c keywords.Changes words = of_one _ words _ (λ name. read_on _ (signal_of_name (contents c) name) (λ k. k < length (contents c).signals) _ (named c name) (λ k within. record { has = within }))
+of_keyword c keywords.Changes words =
+    of_one _ words _ (λ name. read_on _ (signal_of_name (contents c) name) (λ k. k < length (contents c).signals) _
+    (named c name) (λ k within. record { has = within }))
 of_keyword c keywords.Uart words = of_uart c words
 of_keyword c keywords.Spi words = of_spi c words
 of_keyword c keywords.I2c words = of_i2c c words
 
 of_words : (c : Capture) (words : List (List ℕ)) → GivesSignals (contents c) (words_command (contents c) words)
 of_words c [] = record { has = tt }
-of_words c (first ∷ arguments) = either _ (is_comment first) _ _ (record { has = tt }) (then_any _ (ok_or (keyword_in_tables first) UnknownCommand) _ (λ keyword. of_keyword c keyword arguments))
+of_words c (first ∷ arguments) =
+    either _ (is_comment first) _ _ (record { has = tt })
+    (then_any _ (ok_or (keyword_in_tables first) UnknownCommand) _ (λ keyword. of_keyword c keyword arguments))
 
 of_line : (c : Capture) (line : List ℕ) → GivesSignals (contents c) (command_of_line (contents c) line)
 unfolding command_of_line
-of_line c line = subst (GivesSignals (contents c)) (sym (words_are (contents c) (line_words line))) (of_words c (line_words line))
+of_line c line = subst (GivesSignals (contents c)) (sym (words_are (contents c) (line_words line)))
+    (of_words c (line_words line))
 
-without_address : (c : Contents) (command : Command) → HasItsSignals c (command_without_address command) → HasItsSignals c command
+without_address : (c : Contents) (command : Command) → HasItsSignals c (command_without_address command)
+    → HasItsSignals c command
 without_address c commands.Nothing has = tt
 without_address c (commands.Step step) has = tt
 without_address c commands.List has = tt
@@ -225,7 +286,9 @@ without_address c (commands.I2c scl sda) has = has
 
 -- what is read of a line has its signals
 pub read_has_its_signals : (c : Capture) (line : List ℕ) (read : Result Command LineError) →
-    IfOk read (λ command. command_of_line (contents c) line ≡ Ok (command_without_address command)) → IfOk read (HasItsSignals (contents c))
+    IfOk read (λ command. command_of_line (contents c) line ≡ Ok (command_without_address command))
+    → IfOk read (HasItsSignals (contents c))
 read_has_its_signals c line (Ok command) reads =
-    without_address (contents c) command (subst (λ (r : Result Command LineError). IfOk r (HasItsSignals (contents c))) reads (of_line c line).has)
+    without_address (contents c) command
+    (subst (λ (r : Result Command LineError). IfOk r (HasItsSignals (contents c))) reads (of_line c line).has)
 read_has_its_signals c line (Err found) reads = tt

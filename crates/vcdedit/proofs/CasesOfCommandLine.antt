@@ -15,7 +15,13 @@ abbrev files : List Text
 files = codes "-o" ∷ codes "b.vcd" ∷ codes "--script" ∷ codes "edits" ∷ codes "--input-file" ∷ codes "a.vcd" ∷ []
 
 -- each path is that of its option, in any order
-each_path : asked_options files ≡ record { input = Some (codes "a.vcd"); script = Some (codes "edits"); output = Some (codes "b.vcd"); depth = DEFAULT_DEPTH }
+each_path : asked_options files ≡ record {
+  input = Some (codes "a.vcd");
+  script = Some (codes "edits");
+  output =
+      Some (codes "b.vcd");
+  depth = DEFAULT_DEPTH;
+}
 unfolding clap_on_literals
 each_path = refl
 
@@ -24,11 +30,17 @@ unfolding clap_on_literals
 each_path_is_taken = refl
 
 -- a path in the same word, and `-` as a path
-short_forms : asked_options (codes "-ia.vcd" ∷ codes "--output-file=b.vcd" ∷ codes "--depth=007" ∷ []) ≡ record { input = Some (codes "a.vcd"); script = None; output = Some (codes "b.vcd"); depth = 7 }
+short_forms : asked_options (codes "-ia.vcd" ∷ codes "--output-file=b.vcd" ∷ codes "--depth=007" ∷ [])
+    ≡ record { input = Some (codes "a.vcd"); script = None; output = Some (codes "b.vcd"); depth = 7 }
 unfolding clap_on_literals
 short_forms = refl
 
-dash : asked_options (codes "-i" ∷ codes "-" ∷ []) ≡ record { input = Some (codes "-"); script = None; output = None; depth = DEFAULT_DEPTH }
+dash : asked_options (codes "-i" ∷ codes "-" ∷ []) ≡ record {
+  input = Some (codes "-");
+  script = None;
+  output = None;
+  depth = DEFAULT_DEPTH;
+}
 unfolding clap_on_literals
 dash = refl
 

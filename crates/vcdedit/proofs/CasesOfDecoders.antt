@@ -9,7 +9,8 @@ use Rattle.vcd_decode.specs.declared.annotation.Direction.TheVariants.{Write, Re
 use Rattle.vcd_decode.specs.declared.annotation.Kind.TheVariants as kinds
 use Rattle.vcd_decode.specs.declared.annotation.LineData.TheVariants.{Absent, Unknown, Number}
 use Rattle.vcd_decode.specs.declared.setup_error.SetupError.{SetupError}
-use Rattle.vcd_decode.specs.declared.setup_error.SetupError.TheVariants.{BadRatio, BitTooShort, BadData, BadStop, BadMode, BadBits}
+use Rattle.vcd_decode.specs.declared.setup_error.SetupError.TheVariants.{BadRatio, BitTooShort, BadData, BadStop}
+use Rattle.vcd_decode.specs.declared.setup_error.SetupError.TheVariants.{BadMode, BadBits}
 use Rattle.vcd_decode.specs.declared.spi_setup.BitOrder.TheVariants.{Msb, Lsb}
 use Rattle.vcd_decode.specs.declared.uart_setup.Parity.TheVariants as parities
 use Rattle.vcd_decode.specs.UartSetup.{uart_setup}
@@ -23,7 +24,8 @@ use Rattle.vcd_text.specs.Words.{words_from}
 use Rattle.vcdedit.specs.declared.script.command.Command.{Command}
 use Rattle.vcdedit.specs.declared.script.command.Command.TheVariants as commands
 use Rattle.vcdedit.specs.declared.script.line_error.LineError.{LineError}
-use Rattle.vcdedit.specs.declared.script.line_error.LineError.TheVariants.{WrongCount, BadNumber, NoSuchName, BadOption, NotScalar, Setup}
+use Rattle.vcdedit.specs.declared.script.line_error.LineError.TheVariants.{WrongCount, BadNumber, NoSuchName, BadOption}
+use Rattle.vcdedit.specs.declared.script.line_error.LineError.TheVariants.{NotScalar, Setup}
 use Rattle.vcdedit.specs.DecoderReply.{kind_text, uart_lines, spi_lines, i2c_lines}
 use Rattle.vcdedit.specs.Script.{command_of_line}
 use Rattle.vcdedit.proofs.CasesOfRun.{two_signals}
@@ -105,7 +107,8 @@ kinds_as_text = (refl, refl, refl, refl, refl, refl, refl, refl, refl, refl, ref
 -- 0x41 with eight data bits, and with nine
 letter_a : Contents
 letter_a = capture 130 (wire (top ∷ []) (codes "rx") 1
-    (from 0 (codes "1") ∷ from 20 (codes "0") ∷ from 30 (codes "1") ∷ from 40 (codes "0") ∷ from 90 (codes "1") ∷ from 100 (codes "0") ∷ from 110 (codes "1") ∷ []) ∷ [])
+    (from 0 (codes "1") ∷ from 20 (codes "0") ∷ from 30 (codes "1") ∷ from 40 (codes "0") ∷ from 90 (codes "1")
+    ∷ from 100 (codes "0") ∷ from 110 (codes "1") ∷ []) ∷ [])
 
 frames_told : (uart_lines letter_a 0 (uart_setup 10 1 8 parities.None 1) ≡ codes "20-115 uart byte 0x41" ∷ [])
     × (uart_lines letter_a 0 (uart_setup 10 1 9 parities.None 1) ≡ codes "20-125 uart byte 0x141" ∷ [])
@@ -115,8 +118,10 @@ frames_told = (refl, refl)
 -- four bits of MISO, the least significant first, and then the most
 returned : Contents
 returned = capture 50 (wire (top ∷ []) (codes "clk") 1
-    (from 0 (codes "0") ∷ from 10 (codes "1") ∷ from 15 (codes "0") ∷ from 20 (codes "1") ∷ from 25 (codes "0") ∷ from 30 (codes "1") ∷ from 35 (codes "0") ∷ from 40 (codes "1") ∷ from 45 (codes "0") ∷ [])
-    ∷ wire (top ∷ []) (codes "miso") 1 (from 0 (codes "0") ∷ from 12 (codes "1") ∷ from 22 (codes "0") ∷ from 32 (codes "1") ∷ []) ∷ [])
+    (from 0 (codes "0") ∷ from 10 (codes "1") ∷ from 15 (codes "0") ∷ from 20 (codes "1") ∷ from 25 (codes "0")
+    ∷ from 30 (codes "1") ∷ from 35 (codes "0") ∷ from 40 (codes "1") ∷ from 45 (codes "0") ∷ [])
+    ∷ wire (top ∷ []) (codes "miso") 1 (from 0 (codes "0") ∷ from 12 (codes "1") ∷ from 22 (codes "0")
+    ∷ from 32 (codes "1") ∷ []) ∷ [])
 
 words_told : (spi_lines returned 0 None (Some 1) None (spi_setup 1 4 Lsb) ≡ codes "15-45 spi word miso 0xd" ∷ [])
     × (spi_lines returned 0 None (Some 1) None (spi_setup 1 4 Msb) ≡ codes "15-45 spi word miso 0xb" ∷ [])
@@ -127,9 +132,12 @@ words_told = (refl, refl, refl)
 -- a STOP behind three bits
 cut_short : Contents
 cut_short = capture 50 (wire (top ∷ []) (codes "scl") 1
-    (from 0 (codes "1") ∷ from 15 (codes "0") ∷ from 20 (codes "1") ∷ from 25 (codes "0") ∷ from 30 (codes "1") ∷ from 35 (codes "0") ∷ from 40 (codes "1") ∷ [])
+    (from 0 (codes "1") ∷ from 15 (codes "0") ∷ from 20 (codes "1") ∷ from 25 (codes "0") ∷ from 30 (codes "1")
+    ∷ from 35 (codes "0") ∷ from 40 (codes "1") ∷ [])
     ∷ wire (top ∷ []) (codes "sda") 1 (from 0 (codes "1") ∷ from 10 (codes "0") ∷ from 45 (codes "1") ∷ []) ∷ [])
 
-conditions_told : i2c_lines cut_short 0 1 ≡ codes "10-10 i2c start" ∷ codes "20-40 i2c partial 3" ∷ codes "45-45 i2c stop" ∷ []
-unfolding cut_short value_from bus_events groups_of nines_annotations bits_until has_condition shown_address events_annotations digits
+conditions_told : i2c_lines cut_short 0 1 ≡ codes "10-10 i2c start" ∷ codes "20-40 i2c partial 3"
+    ∷ codes "45-45 i2c stop" ∷ []
+unfolding cut_short value_from bus_events groups_of nines_annotations bits_until has_condition shown_address
+    events_annotations digits
 conditions_told = refl

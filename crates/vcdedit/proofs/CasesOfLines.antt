@@ -10,7 +10,8 @@ use Rattle.vcd_text.specs.Words.{words_from}
 use Rattle.vcdedit.specs.declared.script.command.Command.{Command}
 use Rattle.vcdedit.specs.declared.script.command.Command.TheVariants as commands
 use Rattle.vcdedit.specs.declared.script.line_error.LineError.{LineError}
-use Rattle.vcdedit.specs.declared.script.line_error.LineError.TheVariants.{UnknownCommand, WrongCount, BadNumber, NoSuchName, BadValueText, BadOption}
+use Rattle.vcdedit.specs.declared.script.line_error.LineError.TheVariants.{UnknownCommand, WrongCount, BadNumber}
+use Rattle.vcdedit.specs.declared.script.line_error.LineError.TheVariants.{NoSuchName, BadValueText, BadOption}
 use Rattle.vcdedit.specs.Lent.{lent_bytes}
 use Rattle.vcdedit.specs.ScriptCommands.{edit_command, step_command}
 use Rattle.vcdedit.specs.inside.ParsedCommands.{derive_by}

@@ -21,7 +21,8 @@ use Rattle.vcd_text.proofs.CasesOfText.{capture, wire, top, from}
 
 -- a one_bit_signal that changes, a vector, and a signal in no scope that is x throughout
 abbrev three : Contents
-three = capture 9 (wire (top ∷ []) (codes "a") 1 (from 0 (codes "z") ∷ from 4 (codes "1") ∷ []) ∷ wire (top ∷ []) (codes "v") 4 (from 2 (codes "01xz") ∷ []) ∷ wire [] (codes "n") 2 [] ∷ [])
+three = capture 9 (wire (top ∷ []) (codes "a") 1 (from 0 (codes "z") ∷ from 4 (codes "1") ∷ [])
+    ∷ wire (top ∷ []) (codes "v") 4 (from 2 (codes "01xz") ∷ []) ∷ wire [] (codes "n") 2 [] ∷ [])
 
 -- what the lines ask for, and their first faults
 asked : (command_of_line three (codes "list") ≡ Ok commands.List)
@@ -63,7 +64,11 @@ unfolding digits
 changed = (refl, refl, refl)
 
 -- they tell of the capture that stands at their line, and `skipped` is that of the file
-told : line_replies 2 1 (first_machine three 100) (script_lines (codes "changes n\nremove top.a\nvalue top.a 0\nlist\nundo\nchanges top.a\n"))
-    ≡ [] ∷ codes "ok\n" ∷ codes "line 3: refused: NoSuchName\n" ∷ codes "timescale none\nend 9\nsignals 2\nskipped 2\n@0 4 wire top.v\n@1 2 wire n\n" ∷ codes "ok\n" ∷ codes "0 z\n4 1\n" ∷ []
-unfolding script_lines words_from command_of_line lookup name_in edit_fault effect line_reply machine_after_line line_replies signal_lines value_from digits
+told : line_replies 2 1 (first_machine three 100)
+    (script_lines (codes "changes n\nremove top.a\nvalue top.a 0\nlist\nundo\nchanges top.a\n"))
+    ≡ [] ∷ codes "ok\n" ∷ codes "line 3: refused: NoSuchName\n"
+    ∷ codes "timescale none\nend 9\nsignals 2\nskipped 2\n@0 4 wire top.v\n@1 2 wire n\n" ∷ codes "ok\n"
+    ∷ codes "0 z\n4 1\n" ∷ []
+unfolding script_lines words_from command_of_line lookup name_in edit_fault effect line_reply machine_after_line
+    line_replies signal_lines value_from digits
 told = refl

@@ -31,28 +31,39 @@ lines_of_scripts = (refl, refl, refl, refl)
 -- a rename of the one one_bit_signal
 rename_run : run_outcome (one_scalar (codes "a")) 0 (codes "rename top.a b\n") 100
     ≡ record { replies = codes "ok\n" ∷ []; output = one_scalar_text (codes "b"); refused = 0 }
-unfolding script_lines words_from command_of_line lookup name_in edit_fault effect line_reply machine_after_line machine_after_lines line_replies refusal_count text items_of signal_items code_digits tick_items value_from short_form digits
+unfolding script_lines words_from command_of_line lookup name_in edit_fault effect line_reply machine_after_line
+    machine_after_lines line_replies refusal_count text items_of signal_items code_digits tick_items value_from
+    short_form digits
 rename_run = refl
 
 -- a rename and its undo
 undo_run : run_outcome (one_scalar (codes "a")) 0 (codes "rename top.a b\nundo\n") 100
     ≡ record { replies = codes "ok\n" ∷ codes "ok\n" ∷ []; output = one_scalar_text (codes "a"); refused = 0 }
-unfolding script_lines words_from command_of_line lookup name_in edit_fault effect line_reply machine_after_line machine_after_lines line_replies refusal_count text items_of signal_items code_digits tick_items value_from short_form digits
+unfolding script_lines words_from command_of_line lookup name_in edit_fault effect line_reply machine_after_line
+    machine_after_lines line_replies refusal_count text items_of signal_items code_digits tick_items value_from
+    short_form digits
 undo_run = refl
 
 -- three renames in a history of two, and three undos
-full_history_run : run_outcome (capture 0 (wire (top ∷ []) (codes "a") 1 (from 0 (codes "0") ∷ []) ∷ [])) 0 (codes "rename top.a b\nrename top.b c\nrename top.c d\nundo\nundo\nundo\n") 2
+full_history_run : run_outcome (capture 0 (wire (top ∷ []) (codes "a") 1 (from 0 (codes "0") ∷ []) ∷ [])) 0
+    (codes "rename top.a b\nrename top.b c\nrename top.c d\nundo\nundo\nundo\n") 2
     ≡ record {
-      replies = codes "ok\n" ∷ codes "ok\n" ∷ codes "ok\n" ∷ codes "ok\n" ∷ codes "ok\n" ∷ codes "line 6: refused: NothingToUndo\n" ∷ [];
+      replies = codes "ok\n" ∷ codes "ok\n" ∷ codes "ok\n" ∷ codes "ok\n" ∷ codes "ok\n"
+          ∷ codes "line 6: refused: NothingToUndo\n" ∷ [];
       output = codes "$scope module top $end\n$var wire 1 ! b $end\n$upscope $end\n$enddefinitions $end\n#0\n$dumpvars\n0!\n$end\n";
       refused = 1;
     }
-unfolding script_lines words_from command_of_line lookup name_in edit_fault effect line_reply machine_after_line machine_after_lines line_replies refusal_count text items_of signal_items code_digits tick_items value_from short_form digits
+unfolding script_lines words_from command_of_line lookup name_in edit_fault effect line_reply machine_after_line
+    machine_after_lines line_replies refusal_count text items_of signal_items code_digits tick_items value_from
+    short_form digits
 full_history_run = refl
 
 -- the same from the bytes of the file and the script to those that are written
-rename_of_file : RunWrites one_scalar_file (codes "rename top.a b\n") 100 (record { replies = codes "ok\n" ∷ []; output = one_scalar_text (codes "b"); refused = 0 })
-unfolding script_lines words_from command_of_line lookup name_in edit_fault effect line_reply machine_after_line machine_after_lines line_replies refusal_count text items_of signal_items code_digits tick_items value_from short_form digits
+rename_of_file : RunWrites one_scalar_file (codes "rename top.a b\n") 100
+    (record { replies = codes "ok\n" ∷ []; output = one_scalar_text (codes "b"); refused = 0 })
+unfolding script_lines words_from command_of_line lookup name_in edit_fault effect line_reply machine_after_line
+    machine_after_lines line_replies refusal_count text items_of signal_items code_digits tick_items value_from
+    short_form digits
 rename_of_file = record { contents = one_scalar_contents; skipped = 0; means = one_scalar_means; run = refl }
 
 -- the outcome of a rename and its undo
@@ -60,7 +71,9 @@ undone : RunOutcome
 undone = record { replies = codes "ok\n" ∷ codes "ok\n" ∷ []; output = one_scalar_text (codes "a"); refused = 0 }
 
 undo_of_file : RunWrites one_scalar_file (codes "rename top.a b\nundo\n") 100 undone
-unfolding undone script_lines words_from command_of_line lookup name_in edit_fault effect line_reply machine_after_line machine_after_lines line_replies refusal_count text items_of signal_items code_digits tick_items value_from short_form digits
+unfolding undone script_lines words_from command_of_line lookup name_in edit_fault effect line_reply machine_after_line
+    machine_after_lines line_replies refusal_count text items_of signal_items code_digits tick_items value_from
+    short_form digits
 undo_of_file = record { contents = one_scalar_contents; skipped = 0; means = one_scalar_means; run = refl }
 
 -- a reader that was read to its end
@@ -68,18 +81,24 @@ abbrev read_whole : List ℕ → ReaderEnd
 read_whole bytes = record { coming = Some bytes; left = Some []; has_failed = false }
 
 -- where memory runs out at its second line, the reply to the first was told
-stops_at_second_line : RunEnds (Err (run_errors.NoMemory 2)) 100 (read_whole one_scalar_file) (read_whole (codes "rename top.a b\nundo\n"))
+stops_at_second_line : RunEnds (Err (run_errors.NoMemory 2)) 100 (read_whole one_scalar_file)
+    (read_whole (codes "rename top.a b\nundo\n"))
     (record { before = Some []; after = Some (codes "ok\n"); has_failed = false }) None
 unfolding undone
 stops_at_second_line = (
   ((refl, refl), (search arith, one_scalar_contents, 0, one_scalar_means)),
   ((refl, refl), search arith),
   tt,
-  (undone, run_is_of_replays one_scalar_file (codes "rename top.a b\nundo\n") 100 undone undo_of_file, (search arith, refl)),
+  (
+    undone,
+    run_is_of_replays one_scalar_file (codes "rename top.a b\nundo\n") 100 undone undo_of_file,
+    (search arith, refl),
+  ),
 )
 
 -- where five bytes are taken, these are that and two letters of the second
-stops_in_second_reply : RunEnds (Err (run_errors.ReplyFault 5)) 100 (read_whole one_scalar_file) (read_whole (codes "rename top.a b\nundo\n"))
+stops_in_second_reply : RunEnds (Err (run_errors.ReplyFault 5)) 100 (read_whole one_scalar_file)
+    (read_whole (codes "rename top.a b\nundo\n"))
     (record { before = Some []; after = Some (codes "ok\nok"); has_failed = true }) None
 unfolding undone
 stops_in_second_reply = (
@@ -87,23 +106,36 @@ stops_in_second_reply = (
   ((refl, refl), search arith),
   refl,
   tt,
-  (undone, run_is_of_replays one_scalar_file (codes "rename top.a b\nundo\n") 100 undone undo_of_file, (search arith, refl)),
+  (
+    undone,
+    run_is_of_replays one_scalar_file (codes "rename top.a b\nundo\n") 100 undone undo_of_file,
+    (search arith, refl),
+  ),
 )
 
 -- two signals in one scope
 abbrev pub two_signals : Contents
-two_signals = capture 9 (wire (top ∷ []) (codes "a") 1 (from 0 (codes "0") ∷ []) ∷ wire (top ∷ []) (codes "v") 4 (from 0 (codes "0000") ∷ []) ∷ [])
+two_signals = capture 9
+    (wire (top ∷ []) (codes "a") 1 (from 0 (codes "0") ∷ []) ∷ wire (top ∷ []) (codes "v") 4
+    (from 0 (codes "0000") ∷ []) ∷ [])
 
--- empty lines and comments are numbered and give nothing; each refused line gives its first fault, and the script goes on
-refused_lines : line_replies 0 1 (record { past = []; now = two_signals; future = []; depth = 100 }) (script_lines (codes
+-- empty lines and comments are numbered and give nothing; each refused line gives its first fault, and the script goes
+-- on
+refused_lines : line_replies 0 1 (record { past = []; now = two_signals; future = []; depth = 100 })
+    (script_lines (codes
     "\n# rename\nfrob\nrename top.a\nrename top.a b c\nundo now\nrename top.q $end\nrename top.a $end\nrename top.a v\nundo\n \t#\n  rename\t@1\rb"))
-    ≡ [] ∷ [] ∷ codes "line 3: refused: UnknownCommand\n" ∷ codes "line 4: refused: WrongCount\n" ∷ codes "line 5: refused: WrongCount\n" ∷ codes "line 6: refused: WrongCount\n"
-    ∷ codes "line 7: refused: NoSuchName\n" ∷ codes "line 8: refused: BadWord\n" ∷ codes "line 9: refused: NameTaken\n" ∷ codes "line 10: refused: NothingToUndo\n" ∷ [] ∷ codes "ok\n" ∷ []
-unfolding script_lines words_from command_of_line lookup name_in edit_fault effect line_reply machine_after_line line_replies digits
+    ≡ [] ∷ [] ∷ codes "line 3: refused: UnknownCommand\n" ∷ codes "line 4: refused: WrongCount\n"
+    ∷ codes "line 5: refused: WrongCount\n" ∷ codes "line 6: refused: WrongCount\n"
+    ∷ codes "line 7: refused: NoSuchName\n" ∷ codes "line 8: refused: BadWord\n" ∷ codes "line 9: refused: NameTaken\n"
+    ∷ codes "line 10: refused: NothingToUndo\n" ∷ [] ∷ codes "ok\n" ∷ []
+unfolding script_lines words_from command_of_line lookup name_in edit_fault effect line_reply machine_after_line
+    line_replies digits
 refused_lines = refl
 
 -- how many of those are refused
-count_of_refused_lines : refusal_count 0 (record { past = []; now = two_signals; future = []; depth = 100 }) (script_lines (codes "undo\n#\nfrob\nrename top.a b\nrename top.a b\nundo"))
+count_of_refused_lines : refusal_count 0 (record { past = []; now = two_signals; future = []; depth = 100 })
+    (script_lines (codes "undo\n#\nfrob\nrename top.a b\nrename top.a b\nundo"))
     ≡ 3
-unfolding script_lines words_from command_of_line lookup name_in edit_fault effect line_reply machine_after_line refusal_count digits
+unfolding script_lines words_from command_of_line lookup name_in edit_fault effect line_reply machine_after_line
+    refusal_count digits
 count_of_refused_lines = refl

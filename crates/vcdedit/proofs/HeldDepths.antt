@@ -1,5 +1,6 @@
 -- The depth stays at least 1 in a run, so that an edit that was just made can be undone.
-use Rattle.std.proofs.Common.{◌≡◌, ◌≤◌, ℕ, Bool, true, false, List, [], ◌∷◌, length, Option, Some, None, Result, Ok, Err, refl, arith}
+use Rattle.std.proofs.Common.{◌≡◌, ◌≤◌, ℕ, Bool, true, false, List, [], ◌∷◌, length, Option, Some, None, Result, Ok}
+use Rattle.std.proofs.Common.{Err, refl, arith}
 use Rattle.std.specs.Prelude.{nat_lt, not}
 use Rattle.std.proofs.lemmas.Bool.Decides.{nat_tests}
 use Rattle.vcd_core.specs.Contents.{Contents}
@@ -8,7 +9,8 @@ use Rattle.vcd_edit.specs.declared.fault.EditError.{EditError}
 use Rattle.vcd_edit.specs.Allowed.{edit_fault}
 use Rattle.vcd_journal.specs.declared.step.Step.{Step}
 use Rattle.vcd_journal.specs.declared.step.Step.TheVariants as steps
-use Rattle.vcd_journal.specs.Machine.{Machine, first_machine, step_outcome, edit_outcome, undo_outcome, redo_outcome, is_depth}
+use Rattle.vcd_journal.specs.Machine.{Machine, first_machine, step_outcome, edit_outcome, undo_outcome, redo_outcome}
+use Rattle.vcd_journal.specs.Machine.{is_depth}
 use Rattle.vcd_journal.proofs.Replay.{depth_choice}
 use Rattle.vcdedit.specs.declared.script.command.Command.{Command}
 use Rattle.vcdedit.specs.declared.script.command.Command.TheVariants as commands
@@ -30,7 +32,8 @@ redo_deep : (m : Machine) (future : List Contents) → 1 ≤ m.depth → 1 ≤ (
 redo_deep m [] least = least
 redo_deep m (next ∷ later) least = least
 
-depth_deep : (m : Machine) (depth : ℕ) (bad small : Bool) → not (is_depth depth) ≡ bad → 1 ≤ m.depth → 1 ≤ (depth_choice depth m bad small).after.depth
+depth_deep : (m : Machine) (depth : ℕ) (bad small : Bool) → not (is_depth depth) ≡ bad → 1 ≤ m.depth
+    → 1 ≤ (depth_choice depth m bad small).after.depth
 depth_deep m depth true small is least = least
 depth_deep m depth false true is least = least
 depth_deep m depth false false is least = grind (arith, nat_tests, is)
@@ -39,9 +42,11 @@ step_deep : (m : Machine) (s : Step) → 1 ≤ m.depth → 1 ≤ (step_outcome m
 step_deep m (steps.Edit e) least = edit_deep m e (edit_fault e m.now) least
 step_deep m steps.Undo least = undo_deep m m.past least
 step_deep m steps.Redo least = redo_deep m m.future least
-step_deep m (steps.Depth depth) least = depth_deep m depth (not (is_depth depth)) (nat_lt depth (length m.future)) refl least
+step_deep m (steps.Depth depth) least =
+    depth_deep m depth (not (is_depth depth)) (nat_lt depth (length m.future)) refl least
 
-command_deep : (m : Machine) (asked : Result Command LineError) → 1 ≤ m.depth → 1 ≤ (machine_after_command m asked).depth
+command_deep : (m : Machine) (asked : Result Command LineError) → 1 ≤ m.depth
+    → 1 ≤ (machine_after_command m asked).depth
 command_deep m (Err fault) least = least
 command_deep m (Ok commands.Nothing) least = least
 command_deep m (Ok (commands.Step step)) least = step_deep m step least
@@ -55,8 +60,10 @@ command_deep m (Ok (commands.I2c scl sda)) least = least
 lines_deep : (m : Machine) (lines : List (List ℕ)) → 1 ≤ m.depth → 1 ≤ (machine_after_lines m lines).depth
 unfolding machine_after_line machine_after_lines
 lines_deep m [] least = least
-lines_deep m (line ∷ lines) least = lines_deep (machine_after_line m line) lines (command_deep m (command_of_line m.now line) least)
+lines_deep m (line ∷ lines) least =
+    lines_deep (machine_after_line m line) lines (command_deep m (command_of_line m.now line) least)
 
 pub undo_in_run_gives_back : UndoInRunGivesBack
 undo_in_run_gives_back c depth lines e line undo_line least =
-    undo_gives_back (machine_after_lines (first_machine c depth) lines) e line undo_line (lines_deep (first_machine c depth) lines least)
+    undo_gives_back (machine_after_lines (first_machine c depth) lines) e line undo_line
+    (lines_deep (first_machine c depth) lines least)

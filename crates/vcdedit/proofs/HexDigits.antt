@@ -1,9 +1,11 @@
 -- The last hexadecimal digit of a number, and those before it.
-use Rattle.std.proofs.Common.{◌≡◌, ◌≢◌, ℕ, zero, suc, ◌-◌, ◌/◌, ◌%◌, ◌∷◌, ◌++◌, [], List, false, refl, sym, ◌∙◌, ap, append_assoc, arith}
+use Rattle.std.proofs.Common.{◌≡◌, ◌≢◌, ℕ, zero, suc, ◌-◌, ◌/◌, ◌%◌, ◌∷◌, ◌++◌, [], List, false, refl, sym, ◌∙◌, ap}
+use Rattle.std.proofs.Common.{append_assoc, arith}
 use Rattle.std.specs.Fmt.{digit_glyph}
 use Rattle.vcdedit.specs.DecoderReply.{hex_digits}
 
-last_digit : (count n : ℕ) → count ≢ 0 → hex_digits count n ≡ hex_digits (count - 1) (n / 16) ++ digit_glyph false (n % 16) ∷ []
+last_digit : (count n : ℕ) → count ≢ 0
+    → hex_digits count n ≡ hex_digits (count - 1) (n / 16) ++ digit_glyph false (n % 16) ∷ []
 last_digit zero n more = absurd (more refl)
 last_digit (suc count) n more =
     let same : suc count - 1 ≡ count = omega arith in

@@ -1,5 +1,6 @@
 -- What the words of a line ask for, keyword by keyword, is what the parsers of the keywords read.
-use Rattle.std.proofs.Common.{◌≡◌, ℕ, Bool, true, false, cond, List, [], ◌∷◌, ◌++◌, Option, Some, Result, Ok, Err, refl, sym, subst, ◌∙◌, ap}
+use Rattle.std.proofs.Common.{◌≡◌, ℕ, Bool, true, false, cond, List, [], ◌∷◌, ◌++◌, Option, Some, Result, Ok, Err, refl}
+use Rattle.std.proofs.Common.{sym, subst, ◌∙◌, ap}
 use Rattle.std.specs.Prelude.{find, option_map, codes}
 use Rattle.std.specs.Option.{ok_or, option_or}
 use Rattle.std.specs.Str.{bytes_eq}
@@ -16,30 +17,39 @@ use Rattle.vcdedit.specs.declared.script.line_error.LineError.TheVariants.{Unkno
 use Rattle.vcdedit.specs.Lent.{lent_bytes}
 use Rattle.vcdedit.specs.LineWords.{◌>>=◌}
 use Rattle.vcdedit.specs.ScriptWords.{signal_of_name, number_of_word}
-use Rattle.vcdedit.specs.ScriptCommands.{keyword_of, is_comment, edit_command, pair_rule, not_rule, bit_rule, rule_of, command_of, command_of_words}
+use Rattle.vcdedit.specs.ScriptCommands.{keyword_of, is_comment, edit_command, pair_rule, not_rule, bit_rule, rule_of}
+use Rattle.vcdedit.specs.ScriptCommands.{command_of, command_of_words}
 use Rattle.vcdedit.specs.inside.Commands.{ReadsAs}
-use Rattle.vcdedit.specs.inside.ParsedCommands.{keyword_in, edit_keywords, history_keywords, query_keywords, decoder_keywords, keyword_in_tables, not_command, pair_command, bit_command, rule_command, keyword_command, words_command}
+use Rattle.vcdedit.specs.inside.ParsedCommands.{keyword_in, edit_keywords, history_keywords, query_keywords}
+use Rattle.vcdedit.specs.inside.ParsedCommands.{decoder_keywords, keyword_in_tables, not_command, pair_command}
+use Rattle.vcdedit.specs.inside.ParsedCommands.{bit_command, rule_command, keyword_command, words_command}
 
 -- ---- the keyword
 
 -- a look-up in two tables, one after the other, is one in both
-either_found : (found : Bool) (row : List ℕ × Keyword) (here other : Option (List ℕ × Keyword)) (keyword : Option Keyword) →
-    option_map (λ (r : List ℕ × Keyword). r.1) other ≡ option_or (option_map (λ (r : List ℕ × Keyword). r.1) here) keyword →
-    option_map (λ (r : List ℕ × Keyword). r.1) (cond found (Some row) other) ≡ option_or (option_map (λ (r : List ℕ × Keyword). r.1) (cond found (Some row) here)) keyword
+either_found : (found : Bool) (row : List ℕ × Keyword) (here other : Option (List ℕ × Keyword))
+    (keyword : Option Keyword) →
+    option_map (λ (r : List ℕ × Keyword). r.1) other ≡ option_or (option_map (λ (r : List ℕ × Keyword). r.1) here)
+    keyword →
+    option_map (λ (r : List ℕ × Keyword). r.1) (cond found (Some row) other)
+    ≡ option_or (option_map (λ (r : List ℕ × Keyword). r.1) (cond found (Some row) here)) keyword
 either_found true row here other keyword same = refl
 either_found false row here other keyword same = same
 
-one_table : (xs ys : List (List ℕ × Keyword)) (word : List ℕ) → keyword_in (xs ++ ys) word ≡ option_or (keyword_in xs word) (keyword_in ys word)
+one_table : (xs ys : List (List ℕ × Keyword)) (word : List ℕ)
+    → keyword_in (xs ++ ys) word ≡ option_or (keyword_in xs word) (keyword_in ys word)
 one_table [] ys word = refl
 one_table (row ∷ xs) ys word =
-    either_found (bytes_eq word row.0) row (find (λ r. bytes_eq word r.0) xs) (find (λ r. bytes_eq word r.0) (xs ++ ys)) (keyword_in ys word) (one_table xs ys word)
+    either_found (bytes_eq word row.0) row (find (λ r. bytes_eq word r.0) xs) (find (λ r. bytes_eq word r.0) (xs ++ ys))
+    (keyword_in ys word) (one_table xs ys word)
 
 keyword_is : (word : List ℕ) → keyword_of word ≡ keyword_in_tables word
 keyword_is word =
     one_table (edit_keywords ++ history_keywords ++ query_keywords) decoder_keywords word
     ∙ ap (λ (k : Option Keyword). option_or k (keyword_in decoder_keywords word))
     (one_table (edit_keywords ++ history_keywords) query_keywords word
-    ∙ ap (λ (k : Option Keyword). option_or k (keyword_in query_keywords word)) (one_table edit_keywords history_keywords word))
+    ∙ ap (λ (k : Option Keyword). option_or k (keyword_in query_keywords word))
+    (one_table edit_keywords history_keywords word))
 
 -- ---- rules
 
@@ -47,21 +57,25 @@ keyword_is word =
 abbrev derived : (word : List ℕ) → Result Rule LineError → Result Command LineError
 derived word r = r >>= λ rule. edit_command (Derive (lent_bytes word) rule)
 
-derived_bind : {A : Type 0} (word : List ℕ) (r : Result A LineError) (f : A → Result Rule LineError) → derived word (r >>= f) ≡ (r >>= λ a. derived word (f a))
+derived_bind : {A : Type 0} (word : List ℕ) (r : Result A LineError) (f : A → Result Rule LineError)
+    → derived word (r >>= f) ≡ (r >>= λ a. derived word (f a))
 derived_bind word (Ok a) f = refl
 derived_bind word (Err fault) f = refl
 
 -- two readings that go on alike
-bind_same : {A B : Type 0} (r : Result A LineError) (f g : A → Result B LineError) → ((a : A) → f a ≡ g a) → (r >>= f) ≡ (r >>= g)
+bind_same : {A B : Type 0} (r : Result A LineError) (f g : A → Result B LineError) → ((a : A) → f a ≡ g a)
+    → (r >>= f) ≡ (r >>= g)
 bind_same (Ok a) f g same = same a
 bind_same (Err fault) f g same = refl
 
-not_is : (c : Contents) (word : List ℕ) (operands : List (List ℕ)) → derived word (not_rule c operands) ≡ not_command c word operands
+not_is : (c : Contents) (word : List ℕ) (operands : List (List ℕ))
+    → derived word (not_rule c operands) ≡ not_command c word operands
 not_is c word [] = refl
 not_is c word (a ∷ []) = derived_bind word (signal_of_name c a) (λ k. Ok (Not k))
 not_is c word (a ∷ b ∷ operands) = refl
 
-pair_is : (c : Contents) (rule : ℕ → ℕ → Rule) (word : List ℕ) (operands : List (List ℕ)) → derived word (pair_rule c rule operands) ≡ pair_command c rule word operands
+pair_is : (c : Contents) (rule : ℕ → ℕ → Rule) (word : List ℕ) (operands : List (List ℕ))
+    → derived word (pair_rule c rule operands) ≡ pair_command c rule word operands
 pair_is c rule word [] = refl
 pair_is c rule word (a ∷ []) = refl
 pair_is c rule word (a ∷ b ∷ []) =
@@ -69,7 +83,8 @@ pair_is c rule word (a ∷ b ∷ []) =
     ∙ bind_same (signal_of_name c a) _ _ (λ j. derived_bind word (signal_of_name c b) (λ k. Ok (rule j k)))
 pair_is c rule word (a ∷ b ∷ d ∷ operands) = refl
 
-bit_is : (c : Contents) (word : List ℕ) (operands : List (List ℕ)) → derived word (bit_rule c operands) ≡ bit_command c word operands
+bit_is : (c : Contents) (word : List ℕ) (operands : List (List ℕ))
+    → derived word (bit_rule c operands) ≡ bit_command c word operands
 bit_is c word [] = refl
 bit_is c word (a ∷ []) = refl
 bit_is c word (a ∷ bit ∷ []) =
@@ -78,8 +93,12 @@ bit_is c word (a ∷ bit ∷ []) =
 bit_is c word (a ∷ b ∷ d ∷ operands) = refl
 
 rule_choice : (c : Contents) (word : List ℕ) (operands : List (List ℕ)) (is_not is_and is_or is_xor is_bit : Bool) →
-    derived word (cond is_not (not_rule c operands) (cond is_and (pair_rule c And operands) (cond is_or (pair_rule c Or operands) (cond is_xor (pair_rule c Xor operands) (cond is_bit (bit_rule c operands) (Err BadOption))))))
-    ≡ cond is_not (not_command c word operands) (cond is_and (pair_command c And word operands) (cond is_or (pair_command c Or word operands)
+    derived word (cond is_not (not_rule c operands)
+    (cond is_and (pair_rule c And operands)
+    (cond is_or (pair_rule c Or operands)
+    (cond is_xor (pair_rule c Xor operands) (cond is_bit (bit_rule c operands) (Err BadOption))))))
+    ≡ cond is_not (not_command c word operands)
+    (cond is_and (pair_command c And word operands) (cond is_or (pair_command c Or word operands)
     (cond is_xor (pair_command c Xor word operands) (cond is_bit (bit_command c word operands) (Err BadOption)))))
 rule_choice c word operands true is_and is_or is_xor is_bit = not_is c word operands
 rule_choice c word operands false true is_or is_xor is_bit = pair_is c And word operands
@@ -88,13 +107,16 @@ rule_choice c word operands false false false true is_bit = pair_is c Xor word o
 rule_choice c word operands false false false false true = bit_is c word operands
 rule_choice c word operands false false false false false = refl
 
-rule_is : (c : Contents) (word rule : List ℕ) (operands : List (List ℕ)) → derived word (rule_of c rule operands) ≡ rule_command c word rule operands
+rule_is : (c : Contents) (word rule : List ℕ) (operands : List (List ℕ))
+    → derived word (rule_of c rule operands) ≡ rule_command c word rule operands
 rule_is c word rule operands =
-    rule_choice c word operands (bytes_eq rule (codes "not")) (bytes_eq rule (codes "and")) (bytes_eq rule (codes "or")) (bytes_eq rule (codes "xor")) (bytes_eq rule (codes "bit"))
+    rule_choice c word operands (bytes_eq rule (codes "not")) (bytes_eq rule (codes "and")) (bytes_eq rule (codes "or"))
+    (bytes_eq rule (codes "xor")) (bytes_eq rule (codes "bit"))
 
 -- ---- commands
 
-pub command_is : (c : Contents) (keyword : Keyword) (words : List (List ℕ)) → command_of c keyword words ≡ keyword_command c keyword words
+pub command_is : (c : Contents) (keyword : Keyword) (words : List (List ℕ))
+    → command_of c keyword words ≡ keyword_command c keyword words
 command_is c keywords.Rename [] = refl
 command_is c keywords.Rename (w1 ∷ []) = refl
 command_is c keywords.Rename (w1 ∷ w2 ∷ []) = refl
@@ -170,5 +192,7 @@ words_are c (first ∷ words) =
     (ap (λ (k : Option Keyword). ok_or k UnknownCommand >>= λ keyword. command_of c keyword words) (keyword_is first)
     ∙ bind_same (ok_or (keyword_in_tables first) UnknownCommand) _ _ (λ keyword. command_is c keyword words))
 
-pub words_read : (c : Contents) (words : List (List ℕ)) (read : Result Command LineError) → ReadsAs (words_command c words) read → ReadsAs (command_of_words c words) read
-words_read c words read reads = subst (λ (asked : Result Command LineError). ReadsAs asked read) (sym (words_are c words)) reads
+pub words_read : (c : Contents) (words : List (List ℕ)) (read : Result Command LineError)
+    → ReadsAs (words_command c words) read → ReadsAs (command_of_words c words) read
+words_read c words read reads =
+    subst (λ (asked : Result Command LineError). ReadsAs asked read) (sym (words_are c words)) reads

@@ -1,5 +1,6 @@
 -- A run of lines, seen from a line in it.
-use Rattle.std.proofs.Common.{◌≡◌, ℕ, ◌+◌, cond, List, [], ◌∷◌, ◌++◌, Option, length, refl, sym, subst, ◌∙◌, ap, append_assoc, arith, add_assoc}
+use Rattle.std.proofs.Common.{◌≡◌, ℕ, ◌+◌, cond, List, [], ◌∷◌, ◌++◌, Option, length, refl, sym, subst, ◌∙◌, ap}
+use Rattle.std.proofs.Common.{append_assoc, arith, add_assoc}
 use Rattle.std.specs.List.{concat}
 use Rattle.std.proofs.lemmas.List.{append-nil, length-append}
 use Rattle.std.proofs.lemmas.List.Folds.{concat-append}
@@ -13,13 +14,15 @@ use Rattle.vcdedit.specs.Script.{script_lines}
 use Rattle.vcdedit.specs.inside.RunLines.{LineStep, RunsLines}
 
 -- of all lines, after so many, these are left on this machine; the replies so far are told, and so many lines refused
-pub record AreLeft (skipped : ℕ) (lines : List (List ℕ)) (old : Machine) (number : ℕ) (left : List (List ℕ)) (now : Machine) (told : List (List ℕ)) (count : ℕ) : Type 0 where
+pub record AreLeft (skipped : ℕ) (lines : List (List ℕ)) (old : Machine) (number : ℕ) (left : List (List ℕ))
+    (now : Machine) (told : List (List ℕ)) (count : ℕ) : Type 0 where
   pub after : machine_after_lines old lines ≡ machine_after_lines now left
   pub replies : line_replies skipped 1 old lines ≡ told ++ line_replies skipped (number + 1) now left
   pub refused : refusal_count skipped old lines ≡ count + refusal_count skipped now left
 
 -- what the loop keeps: the replies told so far, of so many lines and of so many bytes
-pub record RepliesSoFar (skipped : ℕ) (lines : List (List ℕ)) (old : Machine) (number : ℕ) (left : List (List ℕ)) (now : Machine) (refused bytes : ℕ) (before after : Option (List ℕ)) : Type 0 where
+pub record RepliesSoFar (skipped : ℕ) (lines : List (List ℕ)) (old : Machine) (number : ℕ) (left : List (List ℕ))
+    (now : Machine) (refused bytes : ℕ) (before after : Option (List ℕ)) : Type 0 where
   pub told : List (List ℕ)
   pub one_each : length told ≡ number
   pub counted : length (concat told) ≡ bytes
@@ -27,7 +30,8 @@ pub record RepliesSoFar (skipped : ℕ) (lines : List (List ℕ)) (old : Machine
   pub are_left : AreLeft skipped lines old number left now told refused
 
 -- at the beginning all are left
-pub all_left : (skipped : ℕ) (lines : List (List ℕ)) (old : Machine) (before : Option (List ℕ)) → RepliesSoFar skipped lines old 0 lines old 0 0 before before
+pub all_left : (skipped : ℕ) (lines : List (List ℕ)) (old : Machine) (before : Option (List ℕ))
+    → RepliesSoFar skipped lines old 0 lines old 0 0 before before
 all_left skipped lines old before = record {
   told = [];
   one_each = refl;
@@ -44,15 +48,19 @@ abbrev refused_at : (skipped : ℕ) → List ℕ → Machine → ℕ
 refused_at skipped line m = cond (is_line_refused line m.now skipped (length m.past) (length m.future)) 1 0
 
 -- a line more
-line_more : (skipped : ℕ) (lines : List (List ℕ)) (old : Machine) (number : ℕ) (line : List ℕ) (left : List (List ℕ)) (now new : Machine) (told : List (List ℕ)) (refused : ℕ) →
+line_more : (skipped : ℕ) (lines : List (List ℕ)) (old : Machine) (number : ℕ) (line : List ℕ) (left : List (List ℕ))
+    (now new : Machine) (told : List (List ℕ)) (refused : ℕ) →
     AreLeft skipped lines old number (line ∷ left) now told refused → machine_after_line now line ≡ new →
-    AreLeft skipped lines old (number + 1) left new (told ++ replied_to skipped (number + 1) line now ∷ []) (refused + refused_at skipped line now)
+    AreLeft skipped lines old (number + 1) left new (told ++ replied_to skipped (number + 1) line now ∷ [])
+    (refused + refused_at skipped line now)
 unfolding machine_after_lines line_replies refusal_count
 line_more skipped lines old number line left now new told refused so after = record {
   after = so.after ∙ ap (λ (m : Machine). machine_after_lines m left) after;
   replies = so.replies
-      ∙ ap (λ (m : Machine). told ++ replied_to skipped (number + 1) line now ∷ line_replies skipped (number + 1 + 1) m left) after
-      ∙ sym (append_assoc told (replied_to skipped (number + 1) line now ∷ []) (line_replies skipped (number + 1 + 1) new left));
+      ∙ ap (λ (m : Machine). told ++ replied_to skipped (number + 1) line now ∷ line_replies skipped (number + 1 + 1) m
+      left) after
+      ∙ sym (append_assoc told (replied_to skipped (number + 1) line now ∷ [])
+      (line_replies skipped (number + 1 + 1) new left));
   refused = so.refused
       ∙ ap (λ (m : Machine). refused + (refused_at skipped line now + refusal_count skipped m left)) after
       ∙ sym (add_assoc refused (refused_at skipped line now) (refusal_count skipped new left));
@@ -61,30 +69,47 @@ line_more skipped lines old number line left now new told refused so after = rec
 concat_more : (told : List (List ℕ)) (text : List ℕ) → concat (told ++ text ∷ []) ≡ concat told ++ text
 concat_more told text = concat-append told (text ∷ []) ∙ ap (λ l. concat told ++ l) (append-nil text)
 
-pub told_more : (skipped : ℕ) (lines : List (List ℕ)) (old : Machine) (number : ℕ) (line : List ℕ) (all left : List (List ℕ)) (now new : Machine) (refused more bytes written : ℕ) (before between after : Option (List ℕ)) →
-    all ≡ line ∷ left → RepliesSoFar skipped lines old number all now refused bytes before between → LineStep skipped (number + 1) line now new more written between after →
+pub told_more : (skipped : ℕ) (lines : List (List ℕ)) (old : Machine) (number : ℕ) (line : List ℕ)
+    (all left : List (List ℕ)) (now new : Machine) (refused more bytes written : ℕ)
+    (before between after : Option (List ℕ)) →
+    all ≡ line ∷ left → RepliesSoFar skipped lines old number all now refused bytes before between
+    → LineStep skipped (number + 1) line now new more written between after →
     RepliesSoFar skipped lines old (number + 1) left new (refused + more) (bytes + written) before after
-told_more skipped lines old number line all left now new refused more bytes written before between after parts so tells =
+told_more skipped lines old number line all left now new refused more bytes written before between after parts so
+    tells =
     let text : List ℕ = replied_to skipped (number + 1) line now in
     let joined : concat (so.told ++ text ∷ []) ≡ concat so.told ++ text = concat_more so.told text in
-    let len : length (concat (so.told ++ text ∷ [])) ≡ length (concat so.told) + length text = ap length joined ∙ length-append (concat so.told) text in
+    let len : length (concat (so.told ++ text ∷ [])) ≡ length (concat so.told) + length text = ap length joined
+    ∙ length-append (concat so.told) text in
     let one_more : length (so.told ++ text ∷ []) ≡ length so.told + 1 = length-append so.told (text ∷ []) in
     record {
       told = so.told ++ text ∷ [];
       one_each = one_more ∙ ap (λ n. n + 1) so.one_each;
       counted = omega (arith, len, so.counted, tells.3);
-      took = subst (Appends before after) (sym joined) (Appends-trans before between after (concat so.told) text so.took tells.2);
-      are_left = rw (tells.1) (line_more skipped lines old number line left now new so.told refused (rw parts at so.are_left) tells.0);
+      took = subst (Appends before after) (sym joined)
+          (Appends-trans before between after (concat so.told) text so.took tells.2);
+      are_left = rw (tells.1)
+          (line_more skipped lines old number line left now new so.told refused (rw parts at so.are_left) tells.0);
     }
 
 -- where no line is left
-pub none_left : (skipped : ℕ) (lines : List (List ℕ)) (old : Machine) (number : ℕ) (left : List (List ℕ)) (now : Machine) (refused bytes : ℕ) (before after : Option (List ℕ)) →
-    left ≡ [] → RepliesSoFar skipped lines old number left now refused bytes before after → RunsLines skipped lines old now refused before after
+pub none_left : (skipped : ℕ) (lines : List (List ℕ)) (old : Machine) (number : ℕ) (left : List (List ℕ))
+    (now : Machine) (refused bytes : ℕ) (before after : Option (List ℕ)) →
+    left ≡ [] → RepliesSoFar skipped lines old number left now refused bytes before after
+    → RunsLines skipped lines old now refused before after
 unfolding machine_after_lines line_replies refusal_count
 none_left skipped lines old number left now refused bytes before after none so =
     let last = rw none at so.are_left in
-    let sum : refused + 0 ≡ refused = omega arith in
-    (so.told, so.took, record { after = last.after; replies = last.replies ∙ append-nil so.told; refused = last.refused ∙ sum })
+    let sum : refused + 0 ≡ refused = omega arith in (
+      so.told,
+      so.took,
+      record {
+        after = last.after;
+        replies = last.replies ∙ append-nil so.told;
+        refused = last.refused
+            ∙ sum;
+      },
+    )
 
 -- an empty script has no line
 pub no_lines : (script : List ℕ) → script ≡ [] → script_lines script ≡ []

@@ -1,5 +1,6 @@
 -- The parts of a run, put together.
-use Rattle.std.proofs.Common.{◌≡◌, ◌⊎◌, inl, inr, Result, Ok, Err, ℕ, zero, suc, ◌-◌, List, Option, Some, None, refl, sym, subst, ap, true, false, arith, take}
+use Rattle.std.proofs.Common.{◌≡◌, ◌⊎◌, inl, inr, Result, Ok, Err, ℕ, zero, suc, ◌-◌, List, Option, Some, None, refl}
+use Rattle.std.proofs.Common.{sym, subst, ap, true, false, arith, take}
 use Rattle.std.specs.Prelude.{IfSome, IfErr, IsErrAnd}
 use Rattle.std.specs.List.{concat}
 use Rattle.std.specs.Io.KnownBytes.{Appends}
@@ -28,8 +29,10 @@ use Rattle.vcdedit.proofs.RunReplays.{run_is_of_replays}
 -- ---- what the script gives
 
 -- the lines of the script, run from the capture that the file means
-script_gives : (file script : List ℕ) (depth skipped : ℕ) (c : Contents) (new : Machine) (count : ℕ) (before after : Option (List ℕ)) →
-    FileMeans file c skipped → RunsLines skipped (script_lines script) (first_machine c depth) new count before after → ScriptGives file script depth count (Appends before after) new.now
+script_gives : (file script : List ℕ) (depth skipped : ℕ) (c : Contents) (new : Machine) (count : ℕ)
+    (before after : Option (List ℕ)) →
+    FileMeans file c skipped → RunsLines skipped (script_lines script) (first_machine c depth) new count before after
+    → ScriptGives file script depth count (Appends before after) new.now
 script_gives file script depth skipped c new count before after means ran =
     let here = ran.2 in
     record {
@@ -42,8 +45,10 @@ script_gives file script depth skipped c new count before after means ran =
     }
 
 -- the same where a device may not tell its bytes
-pub script_gives_where_told : (coming script_coming : Option (List ℕ)) (script : List ℕ) (depth skipped : ℕ) (c : Contents) (new : Machine) (count : ℕ) (before after : Option (List ℕ)) →
-    IfSome coming (λ f. FileMeans f c skipped) → IfSome script_coming (λ s. script ≡ s) → RunsLines skipped (script_lines script) (first_machine c depth) new count before after →
+pub script_gives_where_told : (coming script_coming : Option (List ℕ)) (script : List ℕ) (depth skipped : ℕ)
+    (c : Contents) (new : Machine) (count : ℕ) (before after : Option (List ℕ)) →
+    IfSome coming (λ f. FileMeans f c skipped) → IfSome script_coming (λ s. script ≡ s)
+    → RunsLines skipped (script_lines script) (first_machine c depth) new count before after →
     IfSome coming (λ f. IfSome script_coming (λ s. ScriptGives f s depth count (Appends before after) new.now))
 script_gives_where_told None script_coming script depth skipped c new count before after means is ran = tt
 script_gives_where_told (Some f) None script depth skipped c new count before after means is ran = tt
@@ -51,83 +56,148 @@ script_gives_where_told (Some f) (Some s) script depth skipped c new count befor
     script_gives f s depth skipped c new count before after means (rw is at ran)
 
 -- what holds of the outcome of the script on what the capture file means is said of what the run writes
-where_told : (coming script_coming : Option (List ℕ)) (script : List ℕ) (depth skipped : ℕ) (c : Contents) (said : RunOutcome → Type 0) →
-    IfSome coming (λ f. FileMeans f c skipped) → IfSome script_coming (λ s. script ≡ s) → said (run_outcome c skipped script depth) →
-    IfSome coming (λ f. IfSome script_coming (λ s. (written : RunOutcome) × IsRunOfReplays f s depth written × said written))
+where_told : (coming script_coming : Option (List ℕ)) (script : List ℕ) (depth skipped : ℕ) (c : Contents)
+    (said : RunOutcome → Type 0) →
+    IfSome coming (λ f. FileMeans f c skipped) → IfSome script_coming (λ s. script ≡ s)
+    → said (run_outcome c skipped script depth) →
+    IfSome coming (λ f. IfSome script_coming (λ s. (written : RunOutcome) × IsRunOfReplays f s depth written
+    × said written))
 where_told None script_coming script depth skipped c said means is holds = tt
 where_told (Some f) None script depth skipped c said means is holds = tt
 where_told (Some f) (Some s) script depth skipped c said means is holds = (
   run_outcome c skipped s depth,
-  run_is_of_replays f s depth (run_outcome c skipped s depth) (record { contents = c; skipped = skipped; means = means; run = refl }),
+  run_is_of_replays f s depth (run_outcome c skipped s depth)
+      (record { contents = c; skipped = skipped; means = means; run = refl }),
   subst (λ (bytes : List ℕ). said (run_outcome c skipped bytes depth)) is holds,
 )
 
 -- what follows from the replies, the output and the count of refused lines is said of what the run writes
-if_run_writes : (file script : Option (List ℕ)) (depth count : ℕ) (took_replies : List ℕ → Type 0) (now : Contents) (said : RunOutcome → Type 0) →
+if_run_writes : (file script : Option (List ℕ)) (depth count : ℕ) (took_replies : List ℕ
+    → Type 0) (now : Contents) (said : RunOutcome → Type 0) →
     IfSome file (λ f. IfSome script (λ s. ScriptGives f s depth count took_replies now)) →
-    ((written : RunOutcome) → took_replies (concat written.replies) → written.output ≡ text now → count ≡ written.refused → said written) →
+    ((written : RunOutcome) → took_replies (concat written.replies) → written.output ≡ text now
+    → count ≡ written.refused → said written) →
     IfSome file (λ f. IfSome script (λ s. (written : RunOutcome) × IsRunOfReplays f s depth written × said written))
 if_run_writes None script depth count took_replies now said ran follows = tt
 if_run_writes (Some f) None depth count took_replies now said ran follows = tt
 if_run_writes (Some f) (Some s) depth count took_replies now said ran follows =
     let written = run_outcome ran.contents ran.skipped s depth in (
       written,
-      run_is_of_replays f s depth written (record { contents = ran.contents; skipped = ran.skipped; means = ran.means; run = refl }),
+      run_is_of_replays f s depth written (record {
+        contents = ran.contents;
+        skipped = ran.skipped;
+        means = ran.means;
+        run = refl;
+      }),
       follows written ran.replies (ap text ran.after) (sym ran.refused),
     )
 
 -- ---- ends before the output
 
 -- at a fault of the capture
-pub capture_ends : (capture script : ReaderEnd) (e : ReadError) → IfSome capture.coming (λ file. IsRefusal file capture.has_failed capture.left e) →
-    (e.fault ≡ faults.ReadFault → capture.has_failed ≡ true) → IsUnread script → EndsBeforeReplies capture script (run_errors.Capture e)
-capture_ends capture script e refused failed unread depth replies untouched output kept = (refused, failed, unread, untouched, kept)
+pub capture_ends : (capture script : ReaderEnd) (e : ReadError)
+    → IfSome capture.coming (λ file. IsRefusal file capture.has_failed capture.left e) →
+    (e.fault ≡ faults.ReadFault → capture.has_failed ≡ true) → IsUnread script
+    → EndsBeforeReplies capture script (run_errors.Capture e)
+capture_ends capture script e refused failed unread depth replies untouched output kept =
+    (refused, failed, unread, untouched, kept)
 
 -- in the lines
-pub lines_end : (capture script : ReaderEnd) (replies : WriterEnd) (bytes : List ℕ) (depth skipped : ℕ) (c : Contents) (e : RunError) →
-    IsAccepted capture → IsWholeScript script → IfSome capture.coming (λ f. FileMeans f c skipped) → IfSome script.coming (λ s. bytes ≡ s) →
-    IfReplyFault e (λ _. replies.has_failed ≡ true) → StopsInLines skipped (script_lines bytes) (first_machine c depth) replies.before replies.after e →
+pub lines_end : (capture script : ReaderEnd) (replies : WriterEnd) (bytes : List ℕ) (depth skipped : ℕ) (c : Contents)
+    (e : RunError) →
+    IsAccepted capture → IsWholeScript script → IfSome capture.coming (λ f. FileMeans f c skipped)
+    → IfSome script.coming (λ s. bytes ≡ s) →
+    IfReplyFault e (λ _. replies.has_failed ≡ true)
+    → StopsInLines skipped (script_lines bytes) (first_machine c depth) replies.before replies.after e →
     EndsBeforeOutput depth capture script replies e
-lines_end capture script replies bytes depth skipped c (run_errors.NoMemory zero) accepted whole means is failed stops output kept = absurd (omega (arith, stops.0))
-lines_end capture script replies bytes depth skipped c (run_errors.NoMemory (suc before)) accepted whole means is failed stops output kept =
+lines_end capture script replies bytes depth skipped c (run_errors.NoMemory zero) accepted whole means is failed stops
+    output kept = absurd (omega (arith, stops.0))
+lines_end capture script replies bytes depth skipped c (run_errors.NoMemory (suc before)) accepted whole means is failed
+    stops output kept =
     let one_less : suc before - 1 ≡ before = omega arith in
-    let took = subst (λ n. Appends replies.before replies.after (concat (take n (run_outcome c skipped bytes depth).replies))) one_less stops.2 in
-    (accepted, whole, kept, where_told capture.coming script.coming bytes depth skipped c _ means is (omega (arith, stops.1), took))
-lines_end capture script replies bytes depth skipped c (run_errors.ReplyFault written) accepted whole means is failed stops output kept =
+    let took = subst (λ n. Appends replies.before replies.after
+    (concat (take n (run_outcome c skipped bytes depth).replies))) one_less stops.2 in (
+      accepted,
+      whole,
+      kept,
+      where_told capture.coming script.coming bytes depth skipped c _ means is (omega (arith, stops.1), took),
+    )
+lines_end capture script replies bytes depth skipped c (run_errors.ReplyFault written) accepted whole means is failed
+    stops output kept =
     (accepted, whole, failed, kept, where_told capture.coming script.coming bytes depth skipped c _ means is stops)
-lines_end capture script replies bytes depth skipped c (run_errors.Capture fault) accepted whole means is failed stops output kept = absurd stops
-lines_end capture script replies bytes depth skipped c run_errors.ScriptTooLarge accepted whole means is failed stops output kept = absurd stops
-lines_end capture script replies bytes depth skipped c run_errors.ScriptReadFault accepted whole means is failed stops output kept = absurd stops
-lines_end capture script replies bytes depth skipped c (run_errors.Write fault) accepted whole means is failed stops output kept = absurd stops
+lines_end capture script replies bytes depth skipped c (run_errors.Capture fault) accepted whole means is failed stops
+    output kept = absurd stops
+lines_end capture script replies bytes depth skipped c run_errors.ScriptTooLarge accepted whole means is failed stops
+    output kept = absurd stops
+lines_end capture script replies bytes depth skipped c run_errors.ScriptReadFault accepted whole means is failed stops
+    output kept = absurd stops
+lines_end capture script replies bytes depth skipped c (run_errors.Write fault) accepted whole means is failed stops
+    output kept = absurd stops
 
 -- ---- the output
 
 -- the run reaches its end, with an output or without
-pub run_reaches_end : (capture script : ReaderEnd) (replies : WriterEnd) (output : Option WriterEnd) (depth : ℕ) (summary : Summary) (now : Contents) →
+pub run_reaches_end : (capture script : ReaderEnd) (replies : WriterEnd) (output : Option WriterEnd) (depth : ℕ)
+    (summary : Summary) (now : Contents) →
     IsAccepted capture → IsWholeScript script → replies.has_failed ≡ false →
-    IfSome capture.coming (λ f. IfSome script.coming (λ s. ScriptGives f s depth summary.refused (Appends replies.before replies.after) now)) →
-    IfSome output (λ out. (out.has_failed ≡ false) × HasText out (text now)) → RunEnds (Ok summary) depth capture script replies output
-run_reaches_end capture script replies None depth summary now accepted whole ready ran wrote =
-    (accepted, whole, ready, tt, if_run_writes capture.coming script.coming depth summary.refused _ now _ ran (λ written told output refused. (told, tt, refused)))
-run_reaches_end capture script replies (Some out) depth summary now accepted whole ready ran wrote =
-    (accepted, whole, ready, wrote.0, if_run_writes capture.coming script.coming depth summary.refused _ now _ ran (λ written told output refused. (told, rw output wrote.1, refused)))
+    IfSome capture.coming
+    (λ f. IfSome script.coming
+    (λ s. ScriptGives f s depth summary.refused (Appends replies.before replies.after) now)) →
+    IfSome output (λ out. (out.has_failed ≡ false) × HasText out (text now))
+    → RunEnds (Ok summary) depth capture script replies output
+run_reaches_end capture script replies None depth summary now accepted whole ready ran wrote = (
+  accepted,
+  whole,
+  ready,
+  tt,
+  if_run_writes capture.coming script.coming depth summary.refused _ now _ ran
+      (λ written told output refused. (told, tt, refused)),
+)
+run_reaches_end capture script replies (Some out) depth summary now accepted whole ready ran wrote = (
+  accepted,
+  whole,
+  ready,
+  wrote.0,
+  if_run_writes capture.coming script.coming depth summary.refused _ now _ ran
+      (λ written told output refused. (told, rw output wrote.1, refused)),
+)
 
-pub run_reaches_end_with : (capture script : ReaderEnd) (replies out : WriterEnd) (depth : ℕ) (summary : Summary) (now : Contents) →
+pub run_reaches_end_with : (capture script : ReaderEnd) (replies out : WriterEnd) (depth : ℕ) (summary : Summary)
+    (now : Contents) →
     IsAccepted capture → IsWholeScript script → replies.has_failed ≡ false →
-    IfSome capture.coming (λ f. IfSome script.coming (λ s. ScriptGives f s depth summary.refused (Appends replies.before replies.after) now)) →
+    IfSome capture.coming
+    (λ f. IfSome script.coming
+    (λ s. ScriptGives f s depth summary.refused (Appends replies.before replies.after) now)) →
     out.has_failed ≡ false → HasText out (text now) → RunEnds (Ok summary) depth capture script replies (Some out)
 run_reaches_end_with capture script replies out depth summary now accepted whole ready ran out_ready wrote =
     run_reaches_end capture script replies (Some out) depth summary now accepted whole ready ran (out_ready, wrote)
 
 -- or stops at its output
-pub run_stops_at_output : (capture script : ReaderEnd) (replies out : WriterEnd) (depth count : ℕ) (now : Contents) (fault : WriteError) →
+pub run_stops_at_output : (capture script : ReaderEnd) (replies out : WriterEnd) (depth count : ℕ) (now : Contents)
+    (fault : WriteError) →
     IsAccepted capture → IsWholeScript script → replies.has_failed ≡ false →
-    IfSome capture.coming (λ f. IfSome script.coming (λ s. ScriptGives f s depth count (Appends replies.before replies.after) now)) →
-    TookBefore (text now) out.before out.after out.has_failed fault → RunEnds (Err (run_errors.Write fault)) depth capture script replies (Some out)
-run_stops_at_output capture script replies out depth count now write_errors.NoMemory accepted whole ready ran took =
-    (accepted, whole, ready, took, if_run_writes capture.coming script.coming depth count _ now _ ran (λ written told output refused. told))
-run_stops_at_output capture script replies out depth count now (write_errors.WriteFault written) accepted whole ready ran took =
-    (accepted, whole, ready, (took.2, if_run_writes capture.coming script.coming depth count _ now _ ran (λ outcome told output refused. (told, rw output (took.1, took.0)))))
+    IfSome capture.coming
+    (λ f. IfSome script.coming (λ s. ScriptGives f s depth count (Appends replies.before replies.after) now)) →
+    TookBefore (text now) out.before out.after out.has_failed fault
+    → RunEnds (Err (run_errors.Write fault)) depth capture script replies (Some out)
+run_stops_at_output capture script replies out depth count now write_errors.NoMemory accepted whole ready ran took = (
+  accepted,
+  whole,
+  ready,
+  took,
+  if_run_writes capture.coming script.coming depth count _ now _ ran (λ written told output refused. told),
+)
+run_stops_at_output capture script replies out depth count now (write_errors.WriteFault written) accepted whole ready
+    ran took = (
+      accepted,
+      whole,
+      ready,
+      (
+        took.2,
+        if_run_writes capture.coming script.coming depth count _ now _ ran
+            (λ outcome told output refused. (told, rw output (took.1, took.0))),
+      ),
+    )
 
 -- ---- errors handed on
 
@@ -137,12 +207,15 @@ given_or_none None = inl refl
 given_or_none (Some x) = inr (x, refl)
 
 -- what holds of one error is said where it is handed on
-pub at_error : {A E : Type 0} (r : Result A E) (error : E) (P : E → Type 0) → IsErrAnd r (λ e. e ≡ error) → P error → IfErr r P
+pub at_error : {A E : Type 0} (r : Result A E) (error : E) (P : E → Type 0) → IsErrAnd r (λ e. e ≡ error) → P error
+    → IfErr r P
 at_error (Ok v) error P gives holds = tt
 at_error (Err e) error P gives holds = rw gives holds
 
 -- a run that an error ended
-pub ends_with : (r : Result Summary RunError) (error : RunError) (depth : ℕ) (capture script : ReaderEnd) (replies : WriterEnd) (output : Option WriterEnd) →
-    IsErrAnd r (λ e. e ≡ error) → RunEnds (Err error) depth capture script replies output → RunEnds r depth capture script replies output
+pub ends_with : (r : Result Summary RunError) (error : RunError) (depth : ℕ) (capture script : ReaderEnd)
+    (replies : WriterEnd) (output : Option WriterEnd) →
+    IsErrAnd r (λ e. e ≡ error) → RunEnds (Err error) depth capture script replies output
+    → RunEnds r depth capture script replies output
 ends_with (Ok summary) error depth capture script replies output gives ends = absurd gives
 ends_with (Err e) error depth capture script replies output gives ends = rw gives ends

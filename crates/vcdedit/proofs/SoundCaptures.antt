@@ -1,5 +1,6 @@
 -- The captures of a run are sound: the one that stands, and those to which undo and redo lead.
-use Rattle.std.proofs.Common.{◌≡◌, ◌-◌, ℕ, zero, suc, Bool, true, false, List, [], ◌∷◌, length, take, Option, Some, None, Result, Ok, Err, refl}
+use Rattle.std.proofs.Common.{◌≡◌, ◌-◌, ℕ, zero, suc, Bool, true, false, List, [], ◌∷◌, length, take, Option, Some}
+use Rattle.std.proofs.Common.{None, Result, Ok, Err, refl}
 use Rattle.std.specs.Prelude.{nat_lt, not}
 use Rattle.std.specs.List.{AllByRecursion}
 use Rattle.vcd_core.specs.Contents.{Contents}
@@ -10,7 +11,8 @@ use Rattle.vcd_edit.specs.Allowed.{edit_fault}
 use Rattle.vcd_edit.proofs.SoundEffects.{effect_is_sound}
 use Rattle.vcd_journal.specs.declared.step.Step.{Step}
 use Rattle.vcd_journal.specs.declared.step.Step.TheVariants as steps
-use Rattle.vcd_journal.specs.Machine.{Machine, first_machine, step_outcome, edit_outcome, undo_outcome, redo_outcome, is_depth}
+use Rattle.vcd_journal.specs.Machine.{Machine, first_machine, step_outcome, edit_outcome, undo_outcome, redo_outcome}
+use Rattle.vcd_journal.specs.Machine.{is_depth}
 use Rattle.vcd_journal.proofs.Replay.{depth_choice}
 use Rattle.vcdedit.specs.declared.script.command.Command.{Command}
 use Rattle.vcdedit.specs.declared.script.command.Command.TheVariants as commands
@@ -29,7 +31,8 @@ taken_sound zero cs sound = tt
 taken_sound (suc n) [] sound = tt
 taken_sound (suc n) (c ∷ cs) sound = (sound.0, taken_sound n cs sound.1)
 
-edit_sound : (m : Machine) (e : Edit) (found : Option EditError) → edit_fault e m.now ≡ found → HoldsSound m → HoldsSound (edit_outcome found e m).after
+edit_sound : (m : Machine) (e : Edit) (found : Option EditError) → edit_fault e m.now ≡ found → HoldsSound m
+    → HoldsSound (edit_outcome found e m).after
 edit_sound m e None is sound = record {
   past = taken_sound m.depth (m.now ∷ m.past) (sound.now, sound.past);
   now = effect_is_sound e m.now sound.now is;
@@ -37,26 +40,32 @@ edit_sound m e None is sound = record {
 }
 edit_sound m e (Some fault) is sound = sound
 
-undo_sound : (m : Machine) (past : List Contents) → AllByRecursion IsSound past → HoldsSound m → HoldsSound (undo_outcome past m).after
+undo_sound : (m : Machine) (past : List Contents) → AllByRecursion IsSound past → HoldsSound m
+    → HoldsSound (undo_outcome past m).after
 undo_sound m [] held sound = sound
 undo_sound m (back ∷ older) held sound = record { past = held.1; now = held.0; future = (sound.now, sound.future) }
 
-redo_sound : (m : Machine) (future : List Contents) → AllByRecursion IsSound future → HoldsSound m → HoldsSound (redo_outcome future m).after
+redo_sound : (m : Machine) (future : List Contents) → AllByRecursion IsSound future → HoldsSound m
+    → HoldsSound (redo_outcome future m).after
 redo_sound m [] held sound = sound
 redo_sound m (next ∷ later) held sound = record { past = (sound.now, sound.past); now = held.0; future = held.1 }
 
-depth_sound : (m : Machine) (depth : ℕ) (bad small : Bool) → HoldsSound m → HoldsSound (depth_choice depth m bad small).after
+depth_sound : (m : Machine) (depth : ℕ) (bad small : Bool) → HoldsSound m
+    → HoldsSound (depth_choice depth m bad small).after
 depth_sound m depth true small sound = sound
 depth_sound m depth false true sound = sound
-depth_sound m depth false false sound = record { past = taken_sound (depth - length m.future) m.past sound.past; now = sound.now; future = sound.future }
+depth_sound m depth false false sound =
+    record { past = taken_sound (depth - length m.future) m.past sound.past; now = sound.now; future = sound.future }
 
 step_sound : (m : Machine) (s : Step) → HoldsSound m → HoldsSound (step_outcome m s).after
 step_sound m (steps.Edit e) sound = edit_sound m e (edit_fault e m.now) refl sound
 step_sound m steps.Undo sound = undo_sound m m.past sound.past sound
 step_sound m steps.Redo sound = redo_sound m m.future sound.future sound
-step_sound m (steps.Depth depth) sound = depth_sound m depth (not (is_depth depth)) (nat_lt depth (length m.future)) sound
+step_sound m (steps.Depth depth) sound =
+    depth_sound m depth (not (is_depth depth)) (nat_lt depth (length m.future)) sound
 
-command_sound : (m : Machine) (asked : Result Command LineError) → HoldsSound m → HoldsSound (machine_after_command m asked)
+command_sound : (m : Machine) (asked : Result Command LineError) → HoldsSound m
+    → HoldsSound (machine_after_command m asked)
 command_sound m (Err fault) sound = sound
 command_sound m (Ok commands.Nothing) sound = sound
 command_sound m (Ok (commands.Step step)) sound = step_sound m step sound
@@ -70,7 +79,10 @@ command_sound m (Ok (commands.I2c scl sda)) sound = sound
 run_sound : (m : Machine) (lines : List (List ℕ)) → HoldsSound m → HoldsSound (machine_after_lines m lines)
 unfolding machine_after_line machine_after_lines
 run_sound m [] sound = sound
-run_sound m (line ∷ lines) sound = run_sound (machine_after_line m line) lines (command_sound m (command_of_line m.now line) sound)
+run_sound m (line ∷ lines) sound =
+    run_sound (machine_after_line m line) lines (command_sound m (command_of_line m.now line) sound)
 
-pub lines_sound : (c : Contents) (depth : ℕ) (lines : List (List ℕ)) → IsSound c → IsSound (machine_after_lines (first_machine c depth) lines).now
-lines_sound c depth lines sound = (run_sound (first_machine c depth) lines (record { past = tt; now = sound; future = tt })).now
+pub lines_sound : (c : Contents) (depth : ℕ) (lines : List (List ℕ)) → IsSound c
+    → IsSound (machine_after_lines (first_machine c depth) lines).now
+lines_sound c depth lines sound =
+    (run_sound (first_machine c depth) lines (record { past = tt; now = sound; future = tt })).now

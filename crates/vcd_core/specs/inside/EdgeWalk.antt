@@ -35,7 +35,8 @@ next_tick_of (l ∷ ls) = earlier_tick (next_tick l.changes) (next_tick_of ls)
 -- a wave past its next change, where that stands at the tick
 abbrev pub trace_past : ℕ → Option (List Bit) → List Change → Trace
 trace_past t before [] = record { before = before; changes = [] }
-trace_past t before (c ∷ cs) = if c.tick == t then record { before = Some c.value; changes = cs } else record { before = before; changes = c ∷ cs }
+trace_past t before (c ∷ cs) =
+    if c.tick == t then record { before = Some c.value; changes = cs } else record { before = before; changes = c ∷ cs }
 
 -- the same, of a wave
 abbrev pub trace_after : ℕ → Trace → Trace

@@ -1,5 +1,6 @@
 -- A value is the planes of its letters: what its model needs to give its fields back.
-use Rattle.std.proofs.Common.{◌≡◌, ℕ, zero, suc, ◌+◌, ◌-◌, ◌*◌, ◌/◌, ◌%◌, ◌^◌, ◌<◌, ◌≤◌, nat_lt, true, false, if◌then◌else◌, List, length, get_or, refl, sym, ap, pow-suc, ◌∙◌, arith, inl, inr}
+use Rattle.std.proofs.Common.{◌≡◌, ℕ, zero, suc, ◌+◌, ◌-◌, ◌*◌, ◌/◌, ◌%◌, ◌^◌, ◌<◌, ◌≤◌, nat_lt, true, false}
+use Rattle.std.proofs.Common.{if◌then◌else◌, List, length, get_or, refl, sym, ap, pow-suc, ◌∙◌, arith, inl, inr}
 use Rattle.std.specs.Int.{bit_at}
 use Rattle.std.proofs.lemmas.Nat.Bits.{bit_at-lt, bit_at_cat_low, bit_at_cat_high, same_from_bits_below, bit_at_lowest}
 use Rattle.std.proofs.lemmas.List.FromFn.{get_or-map-range_with_len, length-map-range_with_len}
@@ -11,7 +12,8 @@ use Rattle.vcd_core.specs.declared.value.TheConstants.{WORDS}
 use Rattle.vcd_core.specs.declared.value.Value.TheInside.{Inside}
 use Rattle.vcd_core.specs.Value.{letter_at}
 use Rattle.vcd_core.specs.WordRows.{letter_of, low_of, high_of}
-use Rattle.vcd_core.specs.inside.Planes.{plane_bit, letters_in, view_value, number, bit_in, bit_below, planes_of, value_of, ArePlanes, IsValue}
+use Rattle.vcd_core.specs.inside.Planes.{plane_bit, letters_in, view_value, number, bit_in, bit_below, planes_of}
+use Rattle.vcd_core.specs.inside.Planes.{value_of, ArePlanes, IsValue}
 
 bit_times-≤ : (b m : ℕ) → b < 2 → b * m ≤ m
 bit_times-≤ zero m small = omega arith
@@ -34,7 +36,8 @@ bit_at-number f (suc n) i small within =
           let last : i ≡ n = omega arith in
           let none : i - n ≡ 0 = omega arith in
           let bit : f n % 2 ≡ f n = omega (arith, small n) in
-          bit_at_cat_high (f n) n (number f n) i (number-lt f n small) from ∙ ap (bit_at (f n)) none ∙ bit_at_lowest (f n) ∙ bit ∙ ap f (sym last)
+          bit_at_cat_high (f n) n (number f n) i (number-lt f n small) from ∙ ap (bit_at (f n)) none
+          ∙ bit_at_lowest (f n) ∙ bit ∙ ap f (sym last)
     ]
 
 -- each letter is given back by its bits, and each pair of bits by its letter
@@ -67,9 +70,12 @@ bit_in-lt zero b = low_of-lt b
 bit_in-lt (suc _) b = high_of-lt b
 
 -- the bit of a letter in the plane that it came from
-pub bit_in-letter_of : (plane low high : ℕ) → low < 2 → high < 2 → plane < 2 → (bit : ℕ) → (plane ≡ 0 → bit ≡ low) → (plane ≡ 1 → bit ≡ high) → bit_in plane (letter_of low high) ≡ bit
-bit_in-letter_of zero low high small_low small_high plane bit first second = low_of-letter_of low high small_low ∙ sym (first refl)
-bit_in-letter_of (suc zero) low high small_low small_high plane bit first second = high_of-letter_of low high small_high ∙ sym (second refl)
+pub bit_in-letter_of : (plane low high : ℕ) → low < 2 → high < 2 → plane < 2 → (bit : ℕ) → (plane ≡ 0 → bit ≡ low)
+    → (plane ≡ 1 → bit ≡ high) → bit_in plane (letter_of low high) ≡ bit
+bit_in-letter_of zero low high small_low small_high plane bit first second = low_of-letter_of low high small_low
+    ∙ sym (first refl)
+bit_in-letter_of (suc zero) low high small_low small_high plane bit first second = high_of-letter_of low high small_high
+    ∙ sym (second refl)
 bit_in-letter_of (suc (suc _)) low high small_low small_high plane bit first second = absurd (omega arith)
 
 pub length-letters_in : (width : ℕ) (words : List ℕ) → length (letters_in width words) ≡ width
@@ -77,18 +83,22 @@ unfolding letters_in
 length-letters_in width words = length-map-range_with_len _ 0 width
 
 -- the letter at bit k is that of the planes' bits k
-pub letter_at-letters_in : (width : ℕ) (words : List ℕ) (k : ℕ) → k < width → letter_at (letters_in width words) k ≡ letter_of (plane_bit 0 words k) (plane_bit 1 words k)
+pub letter_at-letters_in : (width : ℕ) (words : List ℕ) (k : ℕ) → k < width
+    → letter_at (letters_in width words) k ≡ letter_of (plane_bit 0 words k) (plane_bit 1 words k)
 unfolding letters_in
 letter_at-letters_in width words k within =
-    let place : length (letters_in width words) - 1 - k ≡ width - 1 - k = ap (λ n. n - 1 - k) (length-letters_in width words) in
+    let place : length (letters_in width words) - 1 - k ≡ width - 1 - k =
+    ap (λ n. n - 1 - k) (length-letters_in width words) in
     let back : width - 1 - (width - 1 - k) ≡ k = omega arith in
     ap (λ i. get_or (letters_in width words) i X) place
-    ∙ get_or-map-range_with_len (λ i. letter_of (plane_bit 0 words (width - 1 - i)) (plane_bit 1 words (width - 1 - i))) 0 width (width - 1 - k) (width - 1 - k) X (omega arith) (omega arith)
+    ∙ get_or-map-range_with_len (λ i. letter_of (plane_bit 0 words (width - 1 - i)) (plane_bit 1 words (width - 1 - i)))
+    0 width (width - 1 - k) (width - 1 - k) X (omega arith) (omega arith)
     ∙ ap (λ i. letter_of (plane_bit 0 words i) (plane_bit 1 words i)) back
 
 -- the planes are the bits of the letters
 planes_are : (n width : ℕ) (words : List ℕ) (v : List Bit) → ArePlanes n width words → length v ≡ width
-    → ((plane k : ℕ) → plane < 2 → k < width → bit_in plane (letter_at v k) ≡ plane_bit plane words k) → planes_of n v ≡ words
+    → ((plane k : ℕ) → plane < 2 → k < width → bit_in plane (letter_at v k) ≡ plane_bit plane words k)
+    → planes_of n v ≡ words
 unfolding planes_of bit_below plane_bit
 planes_are n width words v planes long same =
     let bit : ℕ → ℕ → ℕ = λ j i. bit_below (j % 2) v (64 * (j / 2) + i) in
@@ -97,14 +107,21 @@ planes_are n width words v planes long same =
     same_number_lists _ _ (long_planes ∙ sym planes.sized) (λ j within.
     let below : j < 2 * n = omega arith in
     get_or-map-range_with_len (λ j. number (bit j) 64) 0 (2 * n) j j 0 below (omega arith)
-    ∙ same_from_bits_below 64 _ _ (number-lt (bit j) 64 (bits j)) (planes.small j 0 (omega (arith, planes.sized))) (λ i inside.
+    ∙ same_from_bits_below 64 _ _ (number-lt (bit j) 64 (bits j)) (planes.small j 0 (omega (arith, planes.sized)))
+    (λ i inside.
     let place : 2 * ((64 * (j / 2) + i) / 64) + j % 2 ≡ j = omega arith in
     let rest : (64 * (j / 2) + i) % 64 ≡ i = omega arith in
-    let here : plane_bit (j % 2) words (64 * (j / 2) + i) ≡ bit_at (get_or words j 0) i = (λ p. bit_at (get_or words (place p) 0) (rest p)) in
+    let here : plane_bit (j % 2) words (64 * (j / 2) + i) ≡ bit_at (get_or words j 0) i =
+    (λ p. bit_at (get_or words (place p) 0) (rest p)) in
     bit_at-number (bit j) 64 i (bits j) inside ∙ at_bit (j % 2) (64 * (j / 2) + i) (omega arith) (omega arith) ∙ here))
   where
     bit_below-lt : (plane k : ℕ) → bit_below plane v k < 2
-    bit_below-lt plane k = elim (nat_lt k (length v)) as (λ b. (if b then bit_in plane (letter_at v k) else 0) < 2) [ true ↦ bit_in-lt plane _ | false ↦ omega arith ]
+    bit_below-lt plane k =
+        elim (nat_lt k (length v)) as (λ b. (if b then bit_in plane (letter_at v k) else 0) < 2) [
+          | true ↦
+              bit_in-lt plane _
+          | false ↦ omega arith
+        ]
 
     at_bit : (plane k : ℕ) → plane < 2 → k < 64 * n → bit_below plane v k ≡ plane_bit plane words k
     at_bit plane k which inside = elim (cases_lt k (length v)) [
@@ -119,5 +136,6 @@ value_of-view_value v is =
     let long = length-letters_in v.width v.planes in
     let planes = planes_are WORDS v.width v.planes (view_value v) is.planes long
     (λ plane k which within. ap (bit_in plane) (letter_at-letters_in v.width v.planes k within)
-    ∙ bit_in-letter_of plane _ _ (bit_at-lt _ _) (bit_at-lt _ _) which (plane_bit plane v.planes k) (ap (λ p. plane_bit p v.planes k)) (ap (λ p. plane_bit p v.planes k))) in
+    ∙ bit_in-letter_of plane _ _ (bit_at-lt _ _) (bit_at-lt _ _) which (plane_bit plane v.planes k)
+    (ap (λ p. plane_bit p v.planes k)) (ap (λ p. plane_bit p v.planes k))) in
     λ p. record { width = long p; planes = planes p }

@@ -1,5 +1,6 @@
 -- The two planes of bits that hold the letters of a value, word by word in turn.
-use Rattle.std.specs.Prelude.{ℕ, zero, suc, ◌+◌, ◌-◌, ◌*◌, ◌/◌, ◌%◌, ◌^◌, ◌≡◌, ◌<◌, ◌≤◌, if◌then◌else◌, nat_lt, List, length, map, slice_index, All}
+use Rattle.std.specs.Prelude.{ℕ, zero, suc, ◌+◌, ◌-◌, ◌*◌, ◌/◌, ◌%◌, ◌^◌, ◌≡◌, ◌<◌, ◌≤◌, if◌then◌else◌, nat_lt, List}
+use Rattle.std.specs.Prelude.{length, map, slice_index, All}
 use Rattle.std.specs.List.{range_with_len}
 use Rattle.std.specs.Int.{bit_at}
 use Rattle.vcd_core.specs.declared.bit.Bit.{Bit}
@@ -14,7 +15,9 @@ plane_bit plane words k = bit_at (slice_index words (2 * (k / 64) + plane)) (k %
 
 -- the letters of two planes, most significant first
 unfoldable pub letters_in : ℕ → List ℕ → List Bit
-letters_in width words = map (λ i. letter_of (plane_bit 0 words (width - 1 - i)) (plane_bit 1 words (width - 1 - i))) (range_with_len 0 width)
+letters_in width words =
+    map (λ i. letter_of (plane_bit 0 words (width - 1 - i)) (plane_bit 1 words (width - 1 - i)))
+    (range_with_len 0 width)
 
 -- the letters of a value
 unfoldable pub view_value : Inside → List Bit

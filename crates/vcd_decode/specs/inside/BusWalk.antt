@@ -1,5 +1,7 @@
--- How the events of an I2C bus are walked, one at a time: what is kept between two of them, and the annotations that one brings.
-use Rattle.std.specs.Prelude.{ℕ, ◌+◌, ◌^◌, ◌<◌, ◌≤◌, ◌==◌, nat_le, if◌then◌else◌, Option, Some, None, IfSome, List, [], ◌∷◌, ◌++◌, fold, filter_map}
+-- How the events of an I2C bus are walked, one at a time: what is kept between two of them, and the annotations that
+-- one brings.
+use Rattle.std.specs.Prelude.{ℕ, ◌+◌, ◌^◌, ◌<◌, ◌≤◌, ◌==◌, nat_le, if◌then◌else◌, Option, Some, None, IfSome, List, []}
+use Rattle.std.specs.Prelude.{◌∷◌, ◌++◌, fold, filter_map}
 use Rattle.std.specs.Option.{option_or}
 use Rattle.vcd_core.specs.declared.bit.Bit.{Bit}
 use Rattle.vcd_core.specs.declared.bit.Bit.TheVariants.{X}
@@ -26,7 +28,13 @@ no_bits = record { count = 0; first = 0; last = 0; number = Some 0 }
 
 -- with one more bit
 abbrev pub part_with : PartByte → BusBit → PartByte
-part_with p b = record { count = p.count + 1; first = if p.count == 0 then b.tick else p.first; last = b.tick; number = number_with p.number b }
+part_with p b = record {
+  count = p.count + 1;
+  first = if p.count == 0 then b.tick else p.first;
+  last = b.tick;
+  number =
+      number_with p.number b;
+}
 
 -- what is kept of bits
 abbrev pub part_of : List BusBit → PartByte
@@ -59,7 +67,8 @@ start_of (Some t) = kinds.RepeatedStart
 -- the bits at hand where a condition comes
 abbrev pub left_annotations : Option Transfer → List Annotation
 left_annotations None = []
-left_annotations (Some t) = if nat_le 2 t.part.count then annotation t.part.first t.part.last (kinds.PartialOf t.part.count) ∷ [] else []
+left_annotations (Some t) =
+    if nat_le 2 t.part.count then annotation t.part.first t.part.last (kinds.PartialOf t.part.count) ∷ [] else []
 
 -- ---- one bit
 

@@ -1,5 +1,6 @@
 -- The bits of a word of SPI that have come so far, and one more.
-use Rattle.std.specs.Prelude.{ℕ, ◌+◌, ◌*◌, ◌^◌, ◌==◌, ◌<◌, Bool, true, false, if◌then◌else◌, Option, Some, None, List, slice_index_or}
+use Rattle.std.specs.Prelude.{ℕ, ◌+◌, ◌*◌, ◌^◌, ◌==◌, ◌<◌, Bool, true, false, if◌then◌else◌, Option, Some, None, List}
+use Rattle.std.specs.Prelude.{slice_index_or}
 use Rattle.vcd_core.specs.declared.bit.Bit.{Bit}
 use Rattle.vcd_core.specs.declared.bit.Bit.TheVariants.{Zero, One, X, Z}
 use Rattle.vcd_core.specs.declared.bit_edges.BitEdge.{BitEdge}

@@ -1,5 +1,6 @@
 -- How edges are walked for words of SPI: what each tells, and the group of bits after it.
-use Rattle.std.specs.Prelude.{ℕ, ◌≡◌, ◌+◌, ◌==◌, ◌<◌, ◌&&◌, nat_lt, Bool, true, not, if◌then◌else◌, Option, Some, None, List, [], ◌∷◌, ◌++◌, length}
+use Rattle.std.specs.Prelude.{ℕ, ◌≡◌, ◌+◌, ◌==◌, ◌<◌, ◌&&◌, nat_lt, Bool, true, not, if◌then◌else◌, Option, Some, None}
+use Rattle.std.specs.Prelude.{List, [], ◌∷◌, ◌++◌, length}
 use Rattle.std.specs.List.{flat_map, AllByRecursion}
 use Rattle.vcd_core.specs.declared.bit.Bit.{Bit}
 use Rattle.vcd_core.specs.declared.bit_edges.BitEdge.{BitEdge}
@@ -10,7 +11,8 @@ use Rattle.vcd_decode.specs.Lines.{is_zero}
 use Rattle.vcd_decode.specs.Spi.{line_data, group_start, group_end, segment_annotations}
 use Rattle.vcd_decode.specs.inside.LineEdges.{line_edge}
 use Rattle.vcd_decode.specs.inside.SpiClock.{samples}
-use Rattle.vcd_decode.specs.inside.SpiGroup.{line_bit, DataFits, group_before, group_after, word_annotation, rest_annotation}
+use Rattle.vcd_decode.specs.inside.SpiGroup.{line_bit, DataFits, group_before, group_after, word_annotation}
+use Rattle.vcd_decode.specs.inside.SpiGroup.{rest_annotation}
 
 -- ---- what an edge is
 
@@ -78,13 +80,16 @@ unfoldable pub edge_marks : SpiSetup → BitEdge → List (Option ℕ)
 edge_marks u e = if deselects e then None ∷ [] else (if is_sampling u e then Some e.tick ∷ [] else [])
 
 -- what marks tell, behind some ticks of the segment
-unfoldable pub annotations_at_marks : SpiSetup → Option (ℕ → Bit) → Option (ℕ → Bit) → List ℕ → List (Option ℕ) → List Annotation
+unfoldable pub annotations_at_marks : SpiSetup → Option (ℕ → Bit) → Option (ℕ → Bit) → List ℕ → List (Option ℕ)
+    → List Annotation
 annotations_at_marks u mosi miso ticks [] = segment_annotations u mosi miso ticks
-annotations_at_marks u mosi miso ticks (None ∷ marks) = segment_annotations u mosi miso ticks ++ annotations_at_marks u mosi miso [] marks
+annotations_at_marks u mosi miso ticks (None ∷ marks) =
+    segment_annotations u mosi miso ticks ++ annotations_at_marks u mosi miso [] marks
 annotations_at_marks u mosi miso ticks (Some t ∷ marks) = annotations_at_marks u mosi miso (ticks ++ t ∷ []) marks
 
 -- what is told and what is left tell all: the group is that of the ticks of a segment that are no whole word yet
-pub record SpiProgress (u : SpiSetup) (clk : ℕ → Bit) (mosi miso cs : Option (ℕ → Bit)) (all found : List Annotation) (group : Group) (left : List BitEdge) : Type 0 where
+pub record SpiProgress (u : SpiSetup) (clk : ℕ → Bit) (mosi miso cs : Option (ℕ → Bit)) (all found : List Annotation)
+    (group : Group) (left : List BitEdge) : Type 0 where
   pub ticks : List ℕ
   pub short : length ticks < u.bits
   pub is_group : group ≡ group_of u mosi miso ticks

@@ -1,6 +1,7 @@
 -- A list of changes behind another.
 use Rattle.std.specs.Int.{w64, FitsUnsigned}
-use Rattle.std.specs.Prelude.{ℤ, pos, ◌+ℤ◌, unsigned_abs, ℕ, ◌+◌, ◌≤◌, ◌&&◌, Bool, true, not, nat_le, nat_eq, List, [], ◌∷◌, length, drop}
+use Rattle.std.specs.Prelude.{ℤ, pos, ◌+ℤ◌, unsigned_abs, ℕ, ◌+◌, ◌≤◌, ◌&&◌, Bool, true, not, nat_le, nat_eq, List, []}
+use Rattle.std.specs.Prelude.{◌∷◌, length, drop}
 use Rattle.vcd_core.specs.declared.bit.Bit.{Bit}
 use Rattle.vcd_core.specs.declared.wave.Change.{Change}
 use Rattle.vcd_core.specs.Value.{all_x, same_letters}
@@ -16,7 +17,8 @@ floor_after floor (c ∷ cs) = floor_after (c.tick + 1) cs
 
 -- whether a change may stand behind a value, where ticks from `floor` on are free
 abbrev pub may_follow : ℕ → List Bit → Change → Bool
-may_follow floor before c = nat_le floor c.tick && (not (same_letters c.value before) && nat_eq (length c.value) (length before))
+may_follow floor before c =
+    nat_le floor c.tick && (not (same_letters c.value before) && nat_eq (length c.value) (length before))
 
 -- whether changes may, one after another
 unfoldable pub may_all_follow : ℕ → List Bit → List Change → Bool

@@ -1,5 +1,6 @@
 -- How pieces and parts of waves change places: what is asked, and what then leads back.
-use Rattle.std.specs.Prelude.{◌≡◌, ℕ, ◌+◌, ◌-◌, ◌^◌, ◌<◌, ◌≤◌, neg_ℤ, List, [], ◌∷◌, length, take, drop, map, slice_index_or, All, vec_len, vec_capacity}
+use Rattle.std.specs.Prelude.{◌≡◌, ℕ, ◌+◌, ◌-◌, ◌^◌, ◌<◌, ◌≤◌, neg_ℤ, List, [], ◌∷◌, length, take, drop, map}
+use Rattle.std.specs.Prelude.{slice_index_or, All, vec_len, vec_capacity}
 use Rattle.vcd_core.specs.declared.wave.Change.{Change}
 use Rattle.vcd_core.specs.declared.capture.Signal.{Signal}
 use Rattle.vcd_core.specs.declared.capture.TheConstants.{END_LIMIT}
@@ -45,7 +46,8 @@ abbrev pub AreInversePieces : Contents → List PieceView → List PieceView →
 AreInversePieces c [] [] = Unit {0}
 AreInversePieces c [] (q ∷ qs) = ⊥
 AreInversePieces c (p ∷ ps) [] = ⊥
-AreInversePieces c (p ∷ ps) (q ∷ qs) = (p.signal < length c.signals) × IsInversePiece (signal_at c p.signal).changes p q × AreInversePieces (with_piece c p) ps qs
+AreInversePieces c (p ∷ ps) (q ∷ qs) = (p.signal < length c.signals) × IsInversePiece (signal_at c p.signal).changes p q
+    × AreInversePieces (with_piece c p) ps qs
 
 -- ---- room
 
@@ -64,7 +66,8 @@ pub record HasNoLessRoom (old new : WaveView) : Type 0 where
 
 -- a piece and its wave have the room for what the other gives
 pub record HasRoomForPiece (ss : List Signal) (p : Piece) : Type 0 where
-  pub wave : length (wave_at ss p.signal).changes + vec_len p.changes < (wave_at ss p.signal).splice_room + (p.to - p.from)
+  pub wave : length (wave_at ss p.signal).changes + vec_len p.changes < (wave_at ss p.signal).splice_room
+      + (p.to - p.from)
   pub piece : p.to - p.from ≤ vec_capacity p.changes
 
 -- ---- how far the pieces have come
@@ -76,7 +79,8 @@ pub record ReservedSoFar (old : List Piece) (i : ℕ) (new : List Piece) (ss : L
   pub room : All (HasRoomForPiece ss) (take i new)
 
 -- the first i pieces were put in and now lead back, and the later ones are as at first, and ready
-pub record PutSoFar (before : Contents) (old : List Piece) (i : ℕ) (new : List Piece) (now : Contents) (ss : List Signal) : Type 0 where
+pub record PutSoFar (before : Contents) (old : List Piece) (i : ℕ) (new : List Piece) (now : Contents)
+    (ss : List Signal) : Type 0 where
   pub rest : drop i new ≡ drop i old
   pub there : now ≡ with_pieces before (map piece_view (take i old))
   pub back : AreInversePieces before (map piece_view (take i old)) (map piece_view (take i new))

@@ -1,5 +1,6 @@
 -- What tells whether a record fits a capture.
-use Rattle.std.specs.Prelude.{ℕ, ◌<◌, ◌≤◌, nat_le, if◌then◌else◌, List, [], length, slice_index_or, All, Option, Some, None, IsTrue, IfSome}
+use Rattle.std.specs.Prelude.{ℕ, ◌<◌, ◌≤◌, nat_le, if◌then◌else◌, List, [], length, slice_index_or, All, Option, Some}
+use Rattle.std.specs.Prelude.{None, IsTrue, IfSome}
 use Rattle.std.specs.List.{list_all}
 use Rattle.vcd_core.specs.declared.wave.Change.{Change}
 use Rattle.vcd_core.specs.declared.capture.TheConstants.{END_LIMIT, SIGNAL_LIMIT}
@@ -7,7 +8,8 @@ use Rattle.vcd_core.specs.Contents.{Contents, SignalContents, no_signal}
 use Rattle.vcd_core.specs.Wave.{IsWave}
 use Rattle.vcd_core.specs.Sound.{is_sound_header, is_sound_timescale, IsSoundSignal}
 use Rattle.vcd_edit.specs.RecordView.{PieceView, RecordView}
-use Rattle.vcd_edit.specs.AppliedRecords.{signal_with_changes, PieceFits, WordFits, MayMoveSignal, MovedSignalFits, with_pieces, with_first_word, with_moved_signal, apply_record}
+use Rattle.vcd_edit.specs.AppliedRecords.{signal_with_changes, PieceFits, WordFits, MayMoveSignal, MovedSignalFits}
+use Rattle.vcd_edit.specs.AppliedRecords.{with_pieces, with_first_word, with_moved_signal, apply_record}
 use Rattle.vcd_edit.specs.inside.Adjacency.{IsValidPiece}
 
 -- all of a signal but its changes is sound
@@ -25,7 +27,8 @@ late_count end cs = if list_all (λ c. nat_le c.tick end) cs then 0 else 1
 -- a piece is for one of the signals, and leads to a wave up to the end
 pub record IsValidIn (end : ℕ) (ss : List SignalContents) (p : PieceView) : Type 0 where
   pub within : p.signal < length ss
-  pub stands : IsValidPiece (slice_index_or ss p.signal no_signal).width end (slice_index_or ss p.signal no_signal).changes p
+  pub stands : IsValidPiece (slice_index_or ss p.signal no_signal).width end
+      (slice_index_or ss p.signal no_signal).changes p
 
 -- signals are as many as a capture may have, and each is sound up to an end
 abbrev pub AreSoundSignals : ℕ → List SignalContents → Type 0
@@ -33,11 +36,13 @@ AreSoundSignals end ss = (length ss ≤ SIGNAL_LIMIT) × All (IsSoundSignal end)
 
 -- a capture but for its signals is sound, with its end at another tick
 abbrev pub HasSoundMetadata : ℕ → Contents → Type 0
-HasSoundMetadata end c = IsTrue (list_all is_sound_header c.header) × IfSome c.timescale (λ t. IsTrue (is_sound_timescale t)) × (end ≤ END_LIMIT)
+HasSoundMetadata end c = IsTrue (list_all is_sound_header c.header)
+    × IfSome c.timescale (λ t. IsTrue (is_sound_timescale t)) × (end ≤ END_LIMIT)
 
 -- the parts of a record stand within a capture, and the signals that it makes are sound up to an end
 abbrev pub PartsFit : ℕ → RecordView → Contents → Type 0
-PartsFit end r c = All (PieceFits c) r.pieces × WordFits c r.word × MovedSignalFits c r.signal × AreSoundSignals end (apply_record r c).signals
+PartsFit end r c = All (PieceFits c) r.pieces × WordFits c r.word × MovedSignalFits c r.signal
+    × AreSoundSignals end (apply_record r c).signals
 
 -- the same by the kind of the record: one with a signal to put in or take out, one with a word, or one of pieces
 abbrev pub KindFits : ℕ → Contents → List PieceView → Option (ℕ × List ℕ) → Option (ℕ × Option SignalContents) → Type 0

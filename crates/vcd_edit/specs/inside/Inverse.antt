@@ -7,7 +7,8 @@ use Rattle.vcd_edit.specs.Operators.{not_bit}
 
 -- each bit below a limit is that of the negated letter
 unfoldable pub ShowsInverseUpTo : ℕ → List Bit → (Bit → ℕ) → List ℕ → Type 0
-ShowsInverseUpTo limit value bit row = (k : ℕ) → k < limit → k < length value → row_bit row k ≡ bit (not_bit (letter_at value k))
+ShowsInverseUpTo limit value bit row = (k : ℕ) → k < limit → k < length value
+    → row_bit row k ≡ bit (not_bit (letter_at value k))
 
 -- each bit of the value is that of the negated letter
 abbrev pub ShowsInverse : List Bit → (Bit → ℕ) → List ℕ → Type 0

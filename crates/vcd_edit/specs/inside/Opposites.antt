@@ -1,5 +1,6 @@
 -- What a capture gives back into a record: the parts that gave way.
-use Rattle.std.specs.Prelude.{◌≡◌, ℕ, ◌<◌, ◌≤◌, neg_ℤ, ℤ, All, length, List, [], reverse, slice_index_or, Option, Some, None}
+use Rattle.std.specs.Prelude.{◌≡◌, ℕ, ◌<◌, ◌≤◌, neg_ℤ, ℤ, All, length, List, [], reverse, slice_index_or, Option, Some}
+use Rattle.std.specs.Prelude.{None}
 use Rattle.vcd_core.specs.Contents.{Contents, SignalContents, signal_at}
 use Rattle.vcd_edit.specs.RecordView.{PieceView, RecordView}
 use Rattle.vcd_edit.specs.AppliedRecords.{apply_record, Fits}
@@ -49,4 +50,5 @@ pub record IsInverse (c : Contents) (r q : RecordView) : Type 0 where
   pub fits : Fits q (apply_record r c)
   pub leads : apply_record q (apply_record r c) ≡ c
   pub stored : (offset : ℕ → ℤ) → All (λ p. offset p.signal ≡ neg_ℤ p.by) r.pieces
-      → stored_changes q ≤ touched_from offset 0 c.signals (partners (record_pairing r.signal) (apply_record r c).signals)
+      → stored_changes q ≤ touched_from offset 0 c.signals
+      (partners (record_pairing r.signal) (apply_record r c).signals)

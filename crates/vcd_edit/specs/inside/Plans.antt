@@ -26,9 +26,10 @@ pub record GivesValues (k : ℕ) (s : SignalContents) (end : ℕ) (by : ℤ) (f 
   pub leads : LeadsTo (piece_view p) s.changes s.width end f
 
 -- pieces for the first n signals of a capture at most, which lead to g on each of these, all with one offset
-pub record LeadEach (c : Contents) (by : ℤ) (g : SignalContents → SignalContents) (n : ℕ) (ps : List PieceView) : Type 0 where
-  pub led : with_pieces c ps ≡ record c { signals = map g (take n c.signals) ++ drop n c.signals }
-  pub fit : All (PieceFits c) ps
-  pub below : All (λ p. p.signal < n) ps
-  pub apart : AreApart ps
-  pub moves : All (λ p. p.by ≡ by) ps
+pub record LeadEach (c : Contents) (by : ℤ) (g : SignalContents → SignalContents) (n : ℕ) (ps : List PieceView) : Type 0
+  where
+    pub led : with_pieces c ps ≡ record c { signals = map g (take n c.signals) ++ drop n c.signals }
+    pub fit : All (PieceFits c) ps
+    pub below : All (λ p. p.signal < n) ps
+    pub apart : AreApart ps
+    pub moves : All (λ p. p.by ≡ by) ps

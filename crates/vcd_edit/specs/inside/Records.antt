@@ -27,4 +27,5 @@ moved_signal_view (Some m) = Some (m.0, contents_of_signal m.1)
 
 -- a record of these parts
 abbrev pub record_view : List Piece → Option (ℕ × Vec ℕ) → Option (ℕ × Option Signal) → Option ℕ → RecordView
-record_view pieces word signal end = record { pieces = map piece_view pieces; word = word_view word; signal = moved_signal_view signal; other_end = end }
+record_view pieces word signal end =
+    record { pieces = map piece_view pieces; word = word_view word; signal = moved_signal_view signal; other_end = end }

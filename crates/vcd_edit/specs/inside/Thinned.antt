@@ -1,5 +1,6 @@
 -- Changes of which only those count that change the value.
-use Rattle.std.specs.Prelude.{ℕ, Bool, ◌==◌, ◌||◌, ◌&&◌, not, ◌-◌, ◌+◌, ◌≤◌, ◌≡◌, length, true, if◌then◌else◌, nat_le, List, [], ◌∷◌}
+use Rattle.std.specs.Prelude.{ℕ, Bool, ◌==◌, ◌||◌, ◌&&◌, not, ◌-◌, ◌+◌, ◌≤◌, ◌≡◌, length, true, if◌then◌else◌, nat_le}
+use Rattle.std.specs.Prelude.{List, [], ◌∷◌}
 use Rattle.vcd_core.specs.declared.bit.Bit.{Bit}
 use Rattle.vcd_core.specs.declared.wave.Change.{Change}
 use Rattle.vcd_core.specs.Value.{same_letters}
@@ -27,7 +28,8 @@ begins_steady ticks c (next ∷ cs) = c.tick == 0 || nat_le ticks (next.tick - c
 -- the changes that begin such runs
 unfoldable pub steady_changes : ℕ → List Change → List Change
 steady_changes ticks [] = []
-steady_changes ticks (c ∷ cs) = if begins_steady ticks c cs then c ∷ steady_changes ticks cs else steady_changes ticks cs
+steady_changes ticks (c ∷ cs) =
+    if begins_steady ticks c cs then c ∷ steady_changes ticks cs else steady_changes ticks cs
 
 -- whether a change begins such a run, and its value is another than the one that is left before it
 abbrev pub is_kept : ℕ → List Bit → Change → List Change → Bool
@@ -36,4 +38,5 @@ is_kept ticks before c later = begins_steady ticks c later && not (same_letters 
 -- the changes that are left when short runs are taken out, behind a value
 unfoldable pub kept_changes : ℕ → List Bit → List Change → List Change
 kept_changes ticks before [] = []
-kept_changes ticks before (c ∷ cs) = if is_kept ticks before c cs then c ∷ kept_changes ticks c.value cs else kept_changes ticks before cs
+kept_changes ticks before (c ∷ cs) =
+    if is_kept ticks before c cs then c ∷ kept_changes ticks c.value cs else kept_changes ticks before cs

@@ -1,5 +1,6 @@
 -- The changes that waves do not have yet, and what they make of the waves.
-use Rattle.std.specs.Prelude.{◌≡◌, ℕ, ◌+◌, ◌%◌, ◌<◌, ◌≤◌, ◌==◌, if◌then◌else◌, nat_le, List, [], ◌∷◌, ◌++◌, length, set, slice_get, All, Some}
+use Rattle.std.specs.Prelude.{◌≡◌, ℕ, ◌+◌, ◌%◌, ◌<◌, ◌≤◌, ◌==◌, if◌then◌else◌, nat_le, List, [], ◌∷◌, ◌++◌, length, set}
+use Rattle.std.specs.Prelude.{slice_get, All, Some}
 use Rattle.std.specs.List.{filter}
 use Rattle.std.specs.Global.{Vec}
 use Rattle.vcd_core.specs.declared.bit.Bit.{Bit}
@@ -19,7 +20,8 @@ logged_letters width e = letters_of width (e.low ∷ []) (e.high ∷ [])
 -- the value at a tick, where these changes come behind a value
 abbrev pub value_after_changes : ℕ → ℕ → List Bit → List LoggedChange → List Bit
 value_after_changes width t before [] = before
-value_after_changes width t before (e ∷ es) = value_after_changes width t (if nat_le e.tick t then logged_letters width e else before) es
+value_after_changes width t before (e ∷ es) =
+    value_after_changes width t (if nat_le e.tick t then logged_letters width e else before) es
 
 -- the ticks do not fall, from `floor` to `tick`
 abbrev pub RisesTo : (floor tick : ℕ) → List LoggedChange → Type 0
@@ -27,7 +29,8 @@ RisesTo floor tick [] = floor ≤ tick
 RisesTo floor tick (e ∷ es) = (floor ≤ e.tick) × RisesTo e.tick tick es
 
 -- a wave with changes of the log behind its own has the values of f, and no change is past the tick
-pub record GivesLoggedValues (width tick : ℕ) (f : ℕ → List Bit) (changes : List Change) (following : List LoggedChange) : Type 0 where
+pub record GivesLoggedValues (width tick : ℕ) (f : ℕ → List Bit) (changes : List Change)
+    (following : List LoggedChange) : Type 0 where
   pub floor : ℕ
   pub ticks : All (λ (c : Change). c.tick ≤ floor) changes
   pub rises : RisesTo floor tick following
@@ -73,7 +76,8 @@ pub record AppliesToVariable (e : LoggedChange) (old new : Variable) : Type 0 wh
   pub same : IsSameVariable old new
   pub last : All (λ (c : Change). c.tick ≤ e.tick) new.signal.wave.changes
   pub values : (t : ℕ) → value_at new.signal.wave.width new.signal.wave.changes t
-      ≡ (if nat_le e.tick t then logged_letters old.signal.wave.width e else value_at old.signal.wave.width old.signal.wave.changes t)
+      ≡ (if nat_le e.tick t then logged_letters old.signal.wave.width e else value_at old.signal.wave.width
+      old.signal.wave.changes t)
 
 -- one of these variables has
 pub record AppliesLogged (e : LoggedChange) (old new : List Variable) : Type 0 where

@@ -1,4 +1,5 @@
--- Where the reading of a file stands that comes in chunks: the words that are sure have been taken, and a word that may go on is kept.
+-- Where the reading of a file stands that comes in chunks: the words that are sure have been taken, and a word that may
+-- go on is kept.
 use Rattle.std.specs.Prelude.{◌≡◌, ◌⊎◌, ℕ, ◌+◌, ◌≤◌, Bool, true, not, List, ◌++◌, length, Option, Result, Ok, Err}
 use Rattle.std.specs.List.{list_all}
 use Rattle.std.specs.Io.KnownBytes.{Consumes}
@@ -12,10 +13,12 @@ use Rattle.vcd_text.specs.Faults.{FrontFault}
 use Rattle.vcd_text.specs.Refusals.{memory_error}
 use Rattle.vcd_text.specs.inside.Reading.{Reads}
 
--- of the bytes that have come, the words that white space follows have been taken; the others are those of a word that may go on
+-- of the bytes that have come, the words that white space follows have been taken; the others are those of a word that
+-- may go on
 pub record HasTaken (m : Reader) (word : List ℕ) (passed left : ℕ) (bytes : List ℕ) : Type 0 where
   pub reads : Reads m (closed_words bytes)
-  pub following : (whole : Bool) (rest : List ℕ) → words_from whole 1 (bytes ++ rest) ≡ closed_words bytes ++ words_from whole (passed + 1) (word ++ rest)
+  pub following : (whole : Bool) (rest : List ℕ)
+      → words_from whole 1 (bytes ++ rest) ≡ closed_words bytes ++ words_from whole (passed + 1) (word ++ rest)
   pub black : list_all (λ b. not (is_white_space b)) word ≡ true
   pub short : length word ≤ length bytes
   pub lines : last_line bytes ≡ passed + 1

@@ -7,4 +7,5 @@ use Rattle.vcd_text.specs.declared.writing.kept_changes.KeptChange.{KeptChange}
 -- its tick, and its letters where they are at most 64
 pub record KeepsChange (change : Change) (kept : KeptChange) : Type 0 where
   pub tick : kept.tick ≡ change.tick
-  pub letters : length change.value ≤ 64 → letters_of (length change.value) (kept.low ∷ []) (kept.high ∷ []) ≡ change.value
+  pub letters : length change.value ≤ 64 → letters_of (length change.value) (kept.low ∷ []) (kept.high ∷ [])
+      ≡ change.value

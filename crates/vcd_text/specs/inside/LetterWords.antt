@@ -1,5 +1,6 @@
 -- Letters that are read 64 at a time, from the last.
-use Rattle.std.specs.Prelude.{ℕ, ◌≡◌, ◌-◌, ◌*◌, ◌<◌, if◌then◌else◌, nat_lt, Bool, List, ◌++◌, length, slice_range, codes}
+use Rattle.std.specs.Prelude.{ℕ, ◌≡◌, ◌-◌, ◌*◌, ◌<◌, if◌then◌else◌, nat_lt, Bool, List, ◌++◌, length, slice_range}
+use Rattle.std.specs.Prelude.{codes}
 use Rattle.std.specs.Int.{bit_at}
 use Rattle.vcd_core.specs.declared.bit.Bit.{Bit}
 use Rattle.vcd_core.specs.Value.{letter_at}
@@ -21,7 +22,8 @@ pub record HoldsLetters (pad : Bit) (s : List Bit) (lows highs : ℕ) : Type 0 w
 
 -- letters go below those that two words hold, whichever these are and whatever is wanting
 abbrev pub AddsLetters : List Bit → ℕ → ℕ → ℕ → ℕ → Type 0
-AddsLetters more lows highs lows' highs' = (pad : Bit) (s : List Bit) → HoldsLetters pad s lows highs → HoldsLetters pad (s ++ more) lows' highs'
+AddsLetters more lows highs lows' highs' = (pad : Bit) (s : List Bit) → HoldsLetters pad s lows highs
+    → HoldsLetters pad (s ++ more) lows' highs'
 
 -- whether a digit is 0 or 1
 abbrev pub is_two_state : ℕ → Bool

@@ -1,5 +1,7 @@
--- What the reader holds while it takes one word after another: what the whole items so far have told, and the words of the item that is open.
-use Rattle.std.specs.Prelude.{◌≡◌, ◌⊎◌, ℕ, ◌+◌, ◌<◌, ◌^◌, Bool, true, false, ◌&&◌, List, [], ◌∷◌, ◌++◌, length, if◌then◌else◌, IsTrue, IsFalse, Result, Ok, Err, codes}
+-- What the reader holds while it takes one word after another: what the whole items so far have told, and the words of
+-- the item that is open.
+use Rattle.std.specs.Prelude.{◌≡◌, ◌⊎◌, ℕ, ◌+◌, ◌<◌, ◌^◌, Bool, true, false, ◌&&◌, List, [], ◌∷◌, ◌++◌, length}
+use Rattle.std.specs.Prelude.{if◌then◌else◌, IsTrue, IsFalse, Result, Ok, Err, codes}
 use Rattle.vcd_text.specs.declared.fault.Fault.{Fault}
 use Rattle.vcd_text.specs.declared.fault.Fault.TheVariants.{NoMemory}
 use Rattle.vcd_text.specs.declared.fault.ReadError.{ReadError}
@@ -9,8 +11,10 @@ use Rattle.vcd_text.specs.Words.{PlacedWord, words_of}
 use Rattle.vcd_text.specs.Meaning.{FileMeans}
 use Rattle.vcd_text.specs.inside.OpenItems.{is_nothing}
 use Rattle.vcd_text.specs.Letters.{is_among}
-use Rattle.vcd_text.specs.Items.{Item, spelling, spellings, has_no_end_word, header_word, is_other, vector_prefixes, dropped_prefixes}
-use Rattle.vcd_text.specs.Grammar.{ParseState, Allows, AllowsAll, state_after, state_after_item, initial_state, word_texts, has_good_size}
+use Rattle.vcd_text.specs.Items.{Item, spelling, spellings, has_no_end_word, header_word, is_other, vector_prefixes}
+use Rattle.vcd_text.specs.Items.{dropped_prefixes}
+use Rattle.vcd_text.specs.Grammar.{ParseState, Allows, AllowsAll, state_after, state_after_item, initial_state}
+use Rattle.vcd_text.specs.Grammar.{word_texts, has_good_size}
 use Rattle.vcd_text.specs.Faults.{WordFault, ShowsFault}
 use Rattle.vcd_text.specs.Refusals.{memory_error}
 use Rattle.vcd_text.specs.inside.Scopes.{HoldsScopes}
@@ -77,12 +81,15 @@ IsAtState m c begun = ReaderMatches m c × IsBegun m begun m.item
 -- a word goes on with the open item, or ends it, which then gets what it asks for
 pub data WordStep (c : ParseState) (begun : List PlacedWord) (new : Reader) : Type 0 where
   goes_on : IsAtState new c begun → WordStep c begun new
-  ends_item : (i : Item) → spelling i ≡ word_texts begun → Allows c i → IsAtState new (state_after_item c i) [] → WordStep c begun new
+  ends_item : (i : Item) → spelling i ≡ word_texts begun → Allows c i → IsAtState new (state_after_item c i) []
+      → WordStep c begun new
 
 -- what comes of a word: it is taken, or shows a fault, or memory runs out
 abbrev pub WordResult : Reader → PlacedWord → Result (Unit {0}) Fault → Reader → Type 0
-WordResult old w (Ok x) new = (c : ParseState) (begun : List PlacedWord) → IsAtState old c begun → WordStep c (begun ++ w ∷ []) new
-WordResult old w (Err fault) new = (c : ParseState) (begun : List PlacedWord) → IsAtState old c begun → (fault ≡ NoMemory) ⊎ WordFault c (word_texts begun) w.text fault
+WordResult old w (Ok x) new = (c : ParseState) (begun : List PlacedWord) → IsAtState old c begun
+    → WordStep c (begun ++ w ∷ []) new
+WordResult old w (Err fault) new = (c : ParseState) (begun : List PlacedWord) → IsAtState old c begun
+    → (fault ≡ NoMemory) ⊎ WordFault c (word_texts begun) w.text fault
 
 -- ---- the words from the first
 
@@ -116,7 +123,8 @@ error_at line fault = if is_want_of_memory fault then memory_error else record {
 -- these words more have been taken, or one of them shows a fault whatever follows, or memory has run out
 abbrev pub WordsResult : Reader → List PlacedWord → Result (Unit {0}) ReadError → Reader → Type 0
 WordsResult old words (Ok x) new = (taken : List PlacedWord) → Reads old taken → Reads new (taken ++ words)
-WordsResult old words (Err e) new = (taken more : List PlacedWord) → Reads old taken → (e ≡ memory_error) ⊎ ShowsFault (taken ++ (words ++ more)) e.line e.fault
+WordsResult old words (Err e) new = (taken more : List PlacedWord) → Reads old taken
+    → (e ≡ memory_error) ⊎ ShowsFault (taken ++ (words ++ more)) e.line e.fault
 
 -- these words can be taken behind those that have been
 abbrev pub HasRoomFor : Reader → List PlacedWord → Type 0

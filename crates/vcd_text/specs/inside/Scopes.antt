@@ -1,5 +1,6 @@
 -- The scopes that the reader holds: in chains, each scope in the one before it.
-use Rattle.std.specs.Prelude.{◌≡◌, ℕ, ◌<◌, ◌≤◌, List, [], ◌∷◌, ◌++◌, length, take, map, slice_index_or, Option, Some, None}
+use Rattle.std.specs.Prelude.{◌≡◌, ℕ, ◌<◌, ◌≤◌, List, [], ◌∷◌, ◌++◌, length, take, map, slice_index_or, Option, Some}
+use Rattle.std.specs.Prelude.{None}
 use Rattle.vcd_core.specs.declared.capture.ScopeName.{ScopeName}
 use Rattle.vcd_core.specs.Contents.{SignalContents}
 use Rattle.vcd_text.specs.Grammar.{VariableDeclaration, kept_variables}
@@ -21,7 +22,8 @@ scopes_at chains p = take p.count (chain_at chains p.chain)
 -- each place is one in these chains
 abbrev pub AreWithin : List (List ScopeName) → List ScopePlace → Type 0
 AreWithin chains [] = Unit {0}
-AreWithin chains (p ∷ ps) = (p.chain < length chains) × (p.count ≤ length (chain_at chains p.chain)) × AreWithin chains ps
+AreWithin chains (p ∷ ps) = (p.chain < length chains) × (p.count ≤ length (chain_at chains p.chain))
+    × AreWithin chains ps
 
 -- each of these places that is one in the chain of this number has at most so many scopes
 abbrev pub AreReached : (chain reach : ℕ) → List ScopePlace → Type 0
@@ -34,7 +36,8 @@ pub record HoldsScopes (s : Scopes) (scopes : List ScopeName) (declared : List V
   pub inner : take s.depth s.chain.items ≡ scopes
   pub places : AreWithin (chains_of s) s.places.items
   pub reached : AreReached (length s.chains.items) s.reach s.places.items
-  pub paths : map (scopes_at (chains_of s)) s.places.items ≡ map (λ (d : VariableDeclaration). d.scopes) (kept_variables declared)
+  pub paths : map (scopes_at (chains_of s)) s.places.items
+      ≡ map (λ (d : VariableDeclaration). d.scopes) (kept_variables declared)
 
 -- the scopes of a place, and none where there is no place
 abbrev pub scopes_of : List (List ScopeName) → Option ScopePlace → List ScopeName

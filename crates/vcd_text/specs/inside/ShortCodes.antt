@@ -12,7 +12,8 @@ HasPlace (b ∷ bs) place = (0 < b) × (b < 128) × ((rest : ℕ) × HasPlace bs
 
 -- a number above 0 at the place of a code is one more than the position that the code stands for
 abbrev pub TableAgrees : (List ℕ → Option CodeTarget) → List ℕ → Type 0
-TableAgrees target table = (code : List ℕ) (place number : ℕ) → HasPlace code place → slice_get table place ≡ Some number → 0 < number → target code ≡ Some (Kept (number - 1))
+TableAgrees target table = (code : List ℕ) (place number : ℕ) → HasPlace code place
+    → slice_get table place ≡ Some number → 0 < number → target code ≡ Some (Kept (number - 1))
 
 -- what a code stands for
 abbrev pub code_target : {S : Type 0} → IndexMap (Vec ℕ) CodeTarget S → List ℕ → Option CodeTarget

@@ -3,7 +3,8 @@ use Rattle.std.specs.Prelude.{ℕ, ◌++◌, List, [], ◌∷◌, Option, find, 
 use Rattle.std.specs.Option.{option_map}
 use Rattle.vcd_core.specs.declared.capture.Timescale.{Timescale}
 use Rattle.vcd_core.specs.declared.capture.TimeUnit.{TimeUnit}
-use Rattle.vcd_core.specs.declared.capture.TimeUnit.TheVariants.{Second, Millisecond, Microsecond, Nanosecond, Picosecond, Femtosecond}
+use Rattle.vcd_core.specs.declared.capture.TimeUnit.TheVariants.{Second, Millisecond, Microsecond, Nanosecond}
+use Rattle.vcd_core.specs.declared.capture.TimeUnit.TheVariants.{Picosecond, Femtosecond}
 use Rattle.vcd_core.specs.TimeUnits.{unit_text}
 use Rattle.vcd_text.specs.Items.{timescales}
 
@@ -13,7 +14,8 @@ timescale_spelled text = find (λ t. bytes_eq text (decimal t.count ++ unit_text
 
 -- the unit that a text names, if it names one
 abbrev pub unit_named : List ℕ → Option TimeUnit
-unit_named text = find (λ unit. bytes_eq text (unit_text unit)) (Second ∷ Millisecond ∷ Microsecond ∷ Nanosecond ∷ Picosecond ∷ Femtosecond ∷ [])
+unit_named text = find (λ unit. bytes_eq text (unit_text unit))
+    (Second ∷ Millisecond ∷ Microsecond ∷ Nanosecond ∷ Picosecond ∷ Femtosecond ∷ [])
 
 -- so many of a unit
 abbrev pub timescale_of_unit : ℕ → Option TimeUnit → Option Timescale

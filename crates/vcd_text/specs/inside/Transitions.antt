@@ -1,5 +1,7 @@
--- The changes of signals in a window of ticks: by tick, as the text lists them, and signal by signal, as waves hold them.
-use Rattle.std.specs.Prelude.{ℕ, zero, suc, ◌+◌, ◌==◌, if◌then◌else◌, List, [], ◌∷◌, ◌++◌, map, ◌&&◌, Bool, nat_le, nat_lt, slice_index_or}
+-- The changes of signals in a window of ticks: by tick, as the text lists them, and signal by signal, as waves hold
+-- them.
+use Rattle.std.specs.Prelude.{ℕ, zero, suc, ◌+◌, ◌==◌, if◌then◌else◌, List, [], ◌∷◌, ◌++◌, map, ◌&&◌, Bool, nat_le}
+use Rattle.std.specs.Prelude.{nat_lt, slice_index_or}
 use Rattle.std.specs.List.{filter, enumerate_from}
 use Rattle.vcd_core.specs.declared.bit.Bit.{Bit}
 use Rattle.vcd_core.specs.declared.wave.Change.{Change}
@@ -31,12 +33,14 @@ is_in_window from to t = nat_le from t && nat_lt t to
 
 -- the changes in a window of the signal at a position
 abbrev pub window_of_signal : ℕ → ℕ → ℕ → List Change → List Transition
-window_of_signal from to position changes = map (λ c. transition_of c.tick position) (filter (λ c. is_in_window from to c.tick) changes)
+window_of_signal from to position changes =
+    map (λ c. transition_of c.tick position) (filter (λ c. is_in_window from to c.tick) changes)
 
 -- the changes in a window of signals, the first at this position, signal by signal
 unfoldable pub unsorted_window : ℕ → ℕ → ℕ → List SignalContents → List Transition
 unsorted_window from to position [] = []
-unsorted_window from to position (s ∷ ss) = window_of_signal from to position s.changes ++ unsorted_window from to (position + 1) ss
+unsorted_window from to position (s ∷ ss) =
+    window_of_signal from to position s.changes ++ unsorted_window from to (position + 1) ss
 
 -- the value that a signal changes to
 abbrev pub transition_value : List SignalContents → Transition → List Bit
@@ -46,7 +50,8 @@ transition_value signals m = signal_value (slice_index_or signals m.position no_
 unfoldable pub transition_items : List SignalContents → ℕ → List Transition → List Item
 transition_items signals last [] = []
 transition_items signals last (m ∷ ms) =
-    (if m.tick == last then [] else stamp_of m.tick ∷ []) ++ value_item (code_of m.position) (transition_value signals m) ∷ transition_items signals m.tick ms
+    (if m.tick == last then [] else stamp_of m.tick ∷ [])
+    ++ value_item (code_of m.position) (transition_value signals m) ∷ transition_items signals m.tick ms
 
 -- the tick of the last of them, or the one before them
 unfoldable pub last_tick : ℕ → List Transition → ℕ

@@ -8,7 +8,8 @@ use Rattle.vcd_text.specs.declared.reading.binary_number.BinaryNumberError.TheVa
 
 -- the digits are binary digits, at most as many as the width, and the value is their extension
 abbrev pub WritesValue : ℕ → List ℕ → List Bit → Type 0
-WritesValue width digits value = IsTrue (is_binary_number digits) × (length digits ≤ width) × (value ≡ extension width (letters_of_digits digits))
+WritesValue width digits value = IsTrue (is_binary_number digits) × (length digits ≤ width)
+    × (value ≡ extension width (letters_of_digits digits))
 
 -- the digits are looked at first, and then their number
 abbrev pub WritesNoValue : ℕ → List ℕ → BinaryNumberError → Type 0

@@ -1,5 +1,6 @@
 -- The variables of the reader, and what they hold of what a file has told.
-use Rattle.std.specs.Prelude.{◌≡◌, ◌⊎◌, ℕ, ◌<◌, ◌≤◌, if◌then◌else◌, nat_le, List, [], ◌∷◌, ◌++◌, map, length, slice_get, count_by, All, Option, Some, None, IsTrue, IsFalse, IsSomeAnd, Result, Ok, Err}
+use Rattle.std.specs.Prelude.{◌≡◌, ◌⊎◌, ℕ, ◌<◌, ◌≤◌, if◌then◌else◌, nat_le, List, [], ◌∷◌, ◌++◌, map, length, slice_get}
+use Rattle.std.specs.Prelude.{count_by, All, Option, Some, None, IsTrue, IsFalse, IsSomeAnd, Result, Ok, Err}
 use Rattle.vcd_core.specs.declared.capture.TheConstants.{SIGNAL_LIMIT}
 use Rattle.vcd_core.specs.declared.wave.Change.{Change}
 use Rattle.vcd_core.specs.Value.{all_x}
@@ -11,7 +12,9 @@ use Rattle.vcd_text.specs.declared.fault.Fault.{Fault}
 use Rattle.vcd_text.specs.declared.fault.Fault.TheVariants as faults
 use Rattle.vcd_text.specs.Letters.{letters_of_digits, extension}
 use Rattle.vcd_text.specs.Items.{variable}
-use Rattle.vcd_text.specs.Grammar.{VariableDeclaration, ValueChange, ParseState, is_skipped, kept_variables, declaration_of, variable_of, may_have_code, has_room, is_binary_number, takes_binary_number, state_after_item, with_value_change}
+use Rattle.vcd_text.specs.Grammar.{VariableDeclaration, ValueChange, ParseState, is_skipped, kept_variables}
+use Rattle.vcd_text.specs.Grammar.{declaration_of, variable_of, may_have_code, has_room, is_binary_number}
+use Rattle.vcd_text.specs.Grammar.{takes_binary_number, state_after_item, with_value_change}
 use Rattle.vcd_text.specs.Meaning.{latest_value}
 use Rattle.vcd_text.specs.inside.ShortCodes.{code_target}
 use Rattle.vcd_text.specs.inside.ChangeLog.{GivesLoggedValues, logged, AreGrouped}
@@ -29,7 +32,8 @@ declaration_by code s = record { scopes = s.scopes; kind = s.kind; size = s.wave
 
 -- what they declare in these scopes
 abbrev pub declaration_in : List ScopeName → (code : List ℕ) → Signal → VariableDeclaration
-declaration_in scopes code s = record { scopes = scopes; kind = s.kind; size = s.wave.width; code = code; words = s.words }
+declaration_in scopes code s =
+    record { scopes = scopes; kind = s.kind; size = s.wave.width; code = code; words = s.words }
 
 -- a declaration without its scopes
 abbrev pub without_scopes : VariableDeclaration → VariableDeclaration
@@ -43,19 +47,24 @@ declaration v = declaration_by v.code v.signal
 abbrev pub target_of : Variables → List ℕ → Option CodeTarget
 target_of vs code = code_target vs.code_targets.codes code
 
--- the variable of this code and size stands at this position, and its wave with the changes that the log has for it follows the value changes, the last of which is at the tick or before
-pub record HasWave (vs : List Variable) (log : ℕ → List LoggedChange) (position : ℕ) (code : List ℕ) (size : ℕ) (value_changes : List ValueChange) (tick : ℕ) : Type 0 where
+-- the variable of this code and size stands at this position, and its wave with the changes that the log has for it
+-- follows the value changes, the last of which is at the tick or before
+pub record HasWave (vs : List Variable) (log : ℕ → List LoggedChange) (position : ℕ) (code : List ℕ) (size : ℕ)
+    (value_changes : List ValueChange) (tick : ℕ) : Type 0 where
   pub first : Variable
   pub stands : slice_get vs position ≡ Some first
   pub coded : first.code ≡ code
   pub sized : first.signal.wave.width ≡ size
-  pub gives : GivesLoggedValues size tick (λ t. latest_value size code t (all_x size) value_changes) first.signal.wave.changes (log position)
+  pub gives : GivesLoggedValues size tick (λ t. latest_value size code t (all_x size) value_changes)
+      first.signal.wave.changes (log position)
 
 -- what a code stands for agrees with the first variable that was declared with it
-abbrev pub TargetMatches : List Variable → (ℕ → List LoggedChange) → List ValueChange → ℕ → List ℕ → Option CodeTarget → Option VariableDeclaration → Type 0
+abbrev pub TargetMatches : List Variable → (ℕ → List LoggedChange) → List ValueChange → ℕ → List ℕ → Option CodeTarget
+    → Option VariableDeclaration → Type 0
 TargetMatches vs log value_changes tick code None None = Unit {0}
 TargetMatches vs log value_changes tick code (Some Skipped) (Some d) = IsTrue (is_skipped d)
-TargetMatches vs log value_changes tick code (Some (Kept position)) (Some d) = IsFalse (is_skipped d) × HasWave vs log position code d.size value_changes tick
+TargetMatches vs log value_changes tick code (Some (Kept position)) (Some d) =
+    IsFalse (is_skipped d) × HasWave vs log position code d.size value_changes tick
 TargetMatches vs log value_changes tick code target declared = ⊥
 
 -- a kept variable knows the first one with its code, which stands no later and has the same size
@@ -66,14 +75,17 @@ pub record HasFirst (vs : Variables) (position : ℕ) (v : Variable) : Type 0 wh
 
 -- the log has changes of variables alone that are the first of their code
 abbrev pub HasLogs : List Variable → (ℕ → List LoggedChange) → Type 0
-HasLogs vs log = (position : ℕ) → 0 < length (log position) → (v : Variable) × (slice_get vs position ≡ Some v) × (v.first ≡ position)
+HasLogs vs log = (position : ℕ) → 0 < length (log position) → (v : Variable) × (slice_get vs position ≡ Some v)
+    × (v.first ≡ position)
 
 -- the variables hold what has been told of them: declarations without their scopes, and value changes up to the tick
 pub record VariablesMatch (vs : Variables) (c : ParseState) : Type 0 where
   pub kept : map without_scopes (kept_variables c.declared) ≡ map declaration vs.kept.items
   pub skipped : vs.skipped ≡ count_by is_skipped c.declared
   pub widths : vs.widths.items ≡ map (λ (v : Variable). v.signal.wave.width) vs.kept.items
-  pub stand : (code : List ℕ) → TargetMatches vs.kept.items (logged vs.log.groups.items) c.value_changes c.tick code (target_of vs code) (variable_of c code)
+  pub stand : (code : List ℕ)
+      → TargetMatches vs.kept.items (logged vs.log.groups.items) c.value_changes c.tick code (target_of vs code)
+      (variable_of c code)
   pub firsts : (position : ℕ) (v : Variable) → slice_get vs.kept.items position ≡ Some v → HasFirst vs position v
   pub few : length vs.kept.items ≤ SIGNAL_LIMIT
   pub grouped : AreGrouped 0 vs.log.groups.items
@@ -88,11 +100,13 @@ with_declaration c d = record c { declared = c.declared ++ d ∷ [] }
 -- the declaration may not stand here
 pub data CannotDeclare (c : ParseState) (d : VariableDeclaration) (fault : Fault) : Type 0 where
   mixed : IsFalse (may_have_code (variable_of c d.code) d) → fault ≡ faults.MixedCode → CannotDeclare c d fault
-  many : IsTrue (may_have_code (variable_of c d.code) d) → IsFalse (has_room c.declared d) → fault ≡ faults.TooManySignals → CannotDeclare c d fault
+  many : IsTrue (may_have_code (variable_of c d.code) d) → IsFalse (has_room c.declared d)
+      → fault ≡ faults.TooManySignals → CannotDeclare c d fault
 
 -- what comes of a declaration: it is held beside the others, or may not stand here, or memory runs out
 abbrev pub DeclaresAs : ParseState → VariableDeclaration → Result (Unit {0}) Fault → Variables → Type 0
-DeclaresAs c d (Ok x) new = IsTrue (may_have_code (variable_of c d.code) d) × IsTrue (has_room c.declared d) × VariablesMatch new (with_declaration c d)
+DeclaresAs c d (Ok x) new = IsTrue (may_have_code (variable_of c d.code) d) × IsTrue (has_room c.declared d)
+    × VariablesMatch new (with_declaration c d)
 DeclaresAs c d (Err fault) new = (fault ≡ faults.NoMemory) ⊎ CannotDeclare c d fault
 
 -- ---- what comes of a `$var`, at its `$end`
@@ -100,15 +114,18 @@ DeclaresAs c d (Err fault) new = (fault ≡ faults.NoMemory) ⊎ CannotDeclare c
 -- the words declare no variable that may stand here
 pub data VariableFault (c : ParseState) (words : List (List ℕ)) (fault : Fault) : Type 0 where
   no_variable : declaration_of c words ≡ None → fault ≡ faults.BadVar → VariableFault c words fault
-  code_mixed : (d : VariableDeclaration) → declaration_of c words ≡ Some d → IsFalse (may_have_code (variable_of c d.code) d)
+  code_mixed : (d : VariableDeclaration) → declaration_of c words ≡ Some d
+      → IsFalse (may_have_code (variable_of c d.code) d)
       → fault ≡ faults.MixedCode → VariableFault c words fault
-  no_room : (d : VariableDeclaration) → declaration_of c words ≡ Some d → IsTrue (may_have_code (variable_of c d.code) d) → IsFalse (has_room c.declared d)
+  no_room : (d : VariableDeclaration) → declaration_of c words ≡ Some d
+      → IsTrue (may_have_code (variable_of c d.code) d) → IsFalse (has_room c.declared d)
       → fault ≡ faults.TooManySignals → VariableFault c words fault
 
 -- what comes of the words: their variable is held beside the others, or they show a fault, or memory runs out
 abbrev pub Declares : ParseState → List (List ℕ) → Result (Unit {0}) Fault → Variables → Type 0
 Declares c words (Ok x) new =
-    IsSomeAnd (declaration_of c words) (λ d. IsTrue (may_have_code (variable_of c d.code) d) × IsTrue (has_room c.declared d))
+    IsSomeAnd (declaration_of c words) (λ d. IsTrue (may_have_code (variable_of c d.code) d)
+    × IsTrue (has_room c.declared d))
     × VariablesMatch new (state_after_item c (variable words))
 Declares c words (Err fault) new = (fault ≡ faults.NoMemory) ⊎ VariableFault c words fault
 
@@ -122,34 +139,46 @@ pub record Sets (tick : ℕ) (digits : List ℕ) (old new : Variable) : Type 0 w
   pub same_first : new.first ≡ old.first
   pub ticks : All (λ (change : Change). change.tick ≤ tick) new.signal.wave.changes
   pub values : (t : ℕ) → value_at new.signal.wave.width new.signal.wave.changes t
-      ≡ (if nat_le tick t then extension old.signal.wave.width (letters_of_digits digits) else value_at old.signal.wave.width old.signal.wave.changes t)
+      ≡ (if nat_le tick t then extension old.signal.wave.width (letters_of_digits digits) else value_at
+      old.signal.wave.width old.signal.wave.changes t)
 
 -- a variable of this width does not take the digits
 abbrev pub RefusesBinaryNumber : (width : ℕ) → List ℕ → Fault → Type 0
 RefusesBinaryNumber width digits fault =
-    (IsFalse (is_binary_number digits) × (fault ≡ faults.BadChange)) ⊎ (IsTrue (is_binary_number digits) × (width < length digits) × (fault ≡ faults.ValueTooLong))
+    (IsFalse (is_binary_number digits) × (fault ≡ faults.BadChange))
+    ⊎ (IsTrue (is_binary_number digits) × (width < length digits) × (fault ≡ faults.ValueTooLong))
 
 -- ---- what comes of a change with these digits
 
 -- the code is none, or its variable does not take the digits
 pub data BinaryNumberFault (c : ParseState) (code digits : List ℕ) (fault : Fault) : Type 0 where
   unknown : variable_of c code ≡ None → fault ≡ faults.UnknownCode → BinaryNumberFault c code digits fault
-  no_value : (d : VariableDeclaration) → variable_of c code ≡ Some d → IsFalse (is_skipped d) → IsFalse (is_binary_number digits)
+  no_value : (d : VariableDeclaration) → variable_of c code ≡ Some d → IsFalse (is_skipped d)
+      → IsFalse (is_binary_number digits)
       → fault ≡ faults.BadChange → BinaryNumberFault c code digits fault
-  too_long : (d : VariableDeclaration) → variable_of c code ≡ Some d → IsFalse (is_skipped d) → IsTrue (is_binary_number digits) → d.size < length digits
+  too_long : (d : VariableDeclaration) → variable_of c code ≡ Some d → IsFalse (is_skipped d)
+      → IsTrue (is_binary_number digits) → d.size < length digits
       → fault ≡ faults.ValueTooLong → BinaryNumberFault c code digits fault
 
 -- what comes of the change: it is held, or shows a fault, or memory runs out
 abbrev pub ChangeResult : ParseState → (code digits : List ℕ) → Result (Unit {0}) Fault → Variables → Type 0
 ChangeResult c code digits (Ok x) new =
-    IsSomeAnd (variable_of c code) (λ d. IsTrue (takes_binary_number d digits)) × VariablesMatch new (with_value_change c code (letters_of_digits digits))
+    IsSomeAnd (variable_of c code) (λ d. IsTrue (takes_binary_number d digits))
+    × VariablesMatch new (with_value_change c code (letters_of_digits digits))
 ChangeResult c code digits (Err fault) new = (fault ≡ faults.NoMemory) ⊎ BinaryNumberFault c code digits fault
 
 -- ---- what comes of the variables at the end
 
--- the signal of a variable has a wave of its own, or that of the signal that stands at the position of the first variable with its code
+-- the signal of a variable has a wave of its own, or that of the signal that stands at the position of the first
+-- variable with its code
 abbrev pub Finishes : Variable → Option Signal → Signal → Type 0
 Finishes v None signal = (signal ≡ v.signal) × IsWave signal.wave.width signal.wave.changes
 Finishes v (Some shared) signal =
     signal_contents signal
-    ≡ record { scopes = v.signal.scopes; kind = v.signal.kind; words = v.signal.words; width = shared.wave.width; changes = shared.wave.changes }
+    ≡ record {
+      scopes = v.signal.scopes;
+      kind = v.signal.kind;
+      words = v.signal.words;
+      width = shared.wave.width;
+      changes = shared.wave.changes;
+    }

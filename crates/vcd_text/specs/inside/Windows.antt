@@ -15,7 +15,8 @@ pub record IsListed (signals : List SignalContents) (m : ListedTransition) : Typ
   pub within : m.position < length signals
   pub wide : m.width ≡ length (transition_value signals (listed_transition m))
   pub some : 1 ≤ m.width
-  pub letters : m.width ≤ 64 → letters_of m.width (m.change.low ∷ []) (m.change.high ∷ []) ≡ transition_value signals (listed_transition m)
+  pub letters : m.width ≤ 64 → letters_of m.width (m.change.low ∷ []) (m.change.high ∷ [])
+      ≡ transition_value signals (listed_transition m)
 
 -- the transitions of a row
 abbrev pub transitions_of : List ListedTransition → List Transition

@@ -3,12 +3,16 @@ use Rattle.std.specs.Prelude.{◌≡◌, ◌<◌, ◌≤◌, ◌-◌, ◌^◌, �
 use Rattle.std.specs.Io.KnownBytes.{Appends}
 use Rattle.vcd_text.specs.declared.writing.buffer.WriteBuffer.{WriteBuffer}
 
--- a text was written since a writer held these bytes: as long as the count of what was sent has not reached the last number, the writer took the front, and the rest waits, unless it has failed
-pub record HasEmitted (before after : Option (List ℕ)) (failed : Bool) (buffer : WriteBuffer) (text : List ℕ) : Type 0 where
-  pub within : buffer.sent ≤ length text
-  pub front : buffer.sent < 2 ^ 128 - 1 → Appends before after (take buffer.sent text)
-  pub rest : buffer.sent < 2 ^ 128 - 1 → failed ≡ false → drop buffer.sent text ≡ buffer.waiting.items
+-- a text was written since a writer held these bytes: as long as the count of what was sent has not reached the last
+-- number, the writer took the front, and the rest waits, unless it has failed
+pub record HasEmitted (before after : Option (List ℕ)) (failed : Bool) (buffer : WriteBuffer) (text : List ℕ) : Type 0
+  where
+    pub within : buffer.sent ≤ length text
+    pub front : buffer.sent < 2 ^ 128 - 1 → Appends before after (take buffer.sent text)
+    pub rest : buffer.sent < 2 ^ 128 - 1 → failed ≡ false → drop buffer.sent text ≡ buffer.waiting.items
 
 -- a piece is written behind each text that was written
-pub record Emits (old : WriteBuffer) (taken_old : Option (List ℕ)) (failed_old : Bool) (new : WriteBuffer) (taken_new : Option (List ℕ)) (failed_new : Bool) (piece : List ℕ) : Type 0 where
-  pub following : (before : Option (List ℕ)) (text : List ℕ) → HasEmitted before taken_old failed_old old text → HasEmitted before taken_new failed_new new (text ++ piece)
+pub record Emits (old : WriteBuffer) (taken_old : Option (List ℕ)) (failed_old : Bool) (new : WriteBuffer)
+    (taken_new : Option (List ℕ)) (failed_new : Bool) (piece : List ℕ) : Type 0 where
+  pub following : (before : Option (List ℕ)) (text : List ℕ) → HasEmitted before taken_old failed_old old text
+      → HasEmitted before taken_new failed_new new (text ++ piece)

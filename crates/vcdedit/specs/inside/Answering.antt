@@ -18,18 +18,22 @@ is_no_memory refusals.NoMemory = true
 is_no_memory (refusals.Edit errors.NoMemory) = true
 is_no_memory refusal = false
 
--- the step, for which the line of this number asks, leads from one machine to the other where there is memory, and this is said to it
+-- the step, for which the line of this number asks, leads from one machine to the other where there is memory, and this
+-- is said to it
 abbrev pub AnswersStep : (number : ℕ) → Step → Machine → Machine → Reply → Type 0
 AnswersStep number step old new reply =
-    ((step_outcome old step).after ≡ new) × IsReplyTo number (step_reply step old.now (length old.past) (length old.future)) reply
+    ((step_outcome old step).after ≡ new)
+    × IsReplyTo number (step_reply step old.now (length old.past) (length old.future)) reply
 
 -- the same of what the line asks for
 abbrev pub AnswersCommand : (skipped number : ℕ) → Command → Machine → Machine → Reply → Type 0
 AnswersCommand skipped number command old new reply =
     (machine_after_command old (Ok (command_without_address command)) ≡ new)
-    × IsReplyTo number (command_reply (Ok (command_without_address command)) old.now skipped (length old.past) (length old.future)) reply
+    × IsReplyTo number (command_reply (Ok (command_without_address command)) old.now skipped (length old.past)
+    (length old.future)) reply
 
 -- the same of the line
 abbrev pub AnswersLine : (skipped number : ℕ) → List ℕ → Machine → Machine → Reply → Type 0
 AnswersLine skipped number line old new reply =
-    (machine_after_line old line ≡ new) × IsReplyTo number (line_reply line old.now skipped (length old.past) (length old.future)) reply
+    (machine_after_line old line ≡ new)
+    × IsReplyTo number (line_reply line old.now skipped (length old.past) (length old.future)) reply

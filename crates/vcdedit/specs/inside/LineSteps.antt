@@ -17,10 +17,12 @@ steps_of_command asked = []
 -- the steps that lines ask for
 unfoldable pub steps_of_lines : Machine → List (List ℕ) → List Step
 steps_of_lines m [] = []
-steps_of_lines m (line ∷ lines) = steps_of_command (command_of_line m.now line) ++ steps_of_lines (machine_after_line m line) lines
+steps_of_lines m (line ∷ lines) =
+    steps_of_command (command_of_line m.now line) ++ steps_of_lines (machine_after_line m line) lines
 
 -- their answers
 unfoldable pub answers_of_lines : Machine → List (List ℕ) → List Answer
 answers_of_lines m [] = []
 answers_of_lines m (line ∷ lines) =
-    map (λ step. (step_outcome m step).answer) (steps_of_command (command_of_line m.now line)) ++ answers_of_lines (machine_after_line m line) lines
+    map (λ step. (step_outcome m step).answer) (steps_of_command (command_of_line m.now line))
+    ++ answers_of_lines (machine_after_line m line) lines

@@ -66,7 +66,8 @@ decoder_keywords =
 -- the keyword of a word in one of the tables
 abbrev pub keyword_in_tables : List ℕ → Option Keyword
 keyword_in_tables word =
-    option_or (option_or (option_or (keyword_in edit_keywords word) (keyword_in history_keywords word)) (keyword_in query_keywords word)) (keyword_in decoder_keywords word)
+    option_or (option_or (option_or (keyword_in edit_keywords word) (keyword_in history_keywords word))
+    (keyword_in query_keywords word)) (keyword_in decoder_keywords word)
 
 -- ---- edits of a signal
 

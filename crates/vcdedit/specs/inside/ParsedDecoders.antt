@@ -9,7 +9,8 @@ use Rattle.vcdedit.specs.declared.script.line_error.LineError.{LineError}
 use Rattle.vcdedit.specs.LineWords.{◌>>=◌}
 use Rattle.vcdedit.specs.inside.WordCounts.{two_words, five_words, seven_words}
 use Rattle.vcdedit.specs.ScriptWords.{signal_of_name, number_of_word}
-use Rattle.vcdedit.specs.DecoderWords.{ratio_of_word, parity_of_word, order_of_word, signal_or_absent, one_bit_signal, one_bit_signal_or_absent, faultless_uart, faultless_spi}
+use Rattle.vcdedit.specs.DecoderWords.{ratio_of_word, parity_of_word, order_of_word, signal_or_absent, one_bit_signal}
+use Rattle.vcdedit.specs.DecoderWords.{one_bit_signal_or_absent, faultless_uart, faultless_spi}
 
 -- `uart NAME BIT DATA PARITY STOP`
 abbrev pub uart_command : Contents → List (List ℕ) → Result Command LineError

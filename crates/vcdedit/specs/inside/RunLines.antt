@@ -9,8 +9,10 @@ use Rattle.vcdedit.specs.Reply.{line_reply_text, is_line_refused}
 use Rattle.vcdedit.specs.Run.{machine_after_line, machine_after_lines, refusal_count}
 use Rattle.vcdedit.specs.RunOutcomes.{line_replies}
 
--- the line of this number leads from one machine to the other, its reply of so many bytes is told, and so many lines are refused
-abbrev pub LineStep : (skipped number : ℕ) → List ℕ → Machine → Machine → (refused written : ℕ) → (before after : Option (List ℕ)) → Type 0
+-- the line of this number leads from one machine to the other, its reply of so many bytes is told, and so many lines
+-- are refused
+abbrev pub LineStep : (skipped number : ℕ) → List ℕ → Machine → Machine → (refused written : ℕ)
+    → (before after : Option (List ℕ)) → Type 0
 LineStep skipped number line old new refused written before after =
     (machine_after_line old line ≡ new)
     × (refused ≡ (if is_line_refused line old.now skipped (length old.past) (length old.future) then 1 else 0))
@@ -18,14 +20,17 @@ LineStep skipped number line old new refused written before after =
     × (written ≡ length (line_reply_text number line old.now skipped (length old.past) (length old.future)))
 
 -- the lines lead from one machine to the other; their replies are these, and so many are refused
-pub record LinesGive (skipped : ℕ) (lines : List (List ℕ)) (old new : Machine) (told : List (List ℕ)) (count : ℕ) : Type 0 where
+pub record LinesGive (skipped : ℕ) (lines : List (List ℕ)) (old new : Machine) (told : List (List ℕ)) (count : ℕ) : Type
+    0 where
   pub after : machine_after_lines old lines ≡ new
   pub replies : line_replies skipped 1 old lines ≡ told
   pub refused : refusal_count skipped old lines ≡ count
 
 -- all lines are run, and their replies told
-abbrev pub RunsLines : (skipped : ℕ) → List (List ℕ) → Machine → Machine → (refused : ℕ) → (before after : Option (List ℕ)) → Type 0
-RunsLines skipped lines old new refused before after = (told : List (List ℕ)) × Appends before after (concat told) × LinesGive skipped lines old new told refused
+abbrev pub RunsLines : (skipped : ℕ) → List (List ℕ) → Machine → Machine → (refused : ℕ)
+    → (before after : Option (List ℕ)) → Type 0
+RunsLines skipped lines old new refused before after = (told : List (List ℕ)) × Appends before after (concat told)
+    × LinesGive skipped lines old new told refused
 
 -- ---- faults
 
@@ -43,22 +48,32 @@ IsLineFault run_errors.ScriptTooLarge = ⊥
 IsLineFault run_errors.ScriptReadFault = ⊥
 IsLineFault (run_errors.Write e) = ⊥
 
--- the fault ended the telling of this text to the line of this number, behind so many bytes of others: for want of memory none of its bytes was taken, else its first ones
-abbrev pub StopsAtReply : (number : ℕ) → (text : List ℕ) → (told : ℕ) → (before after : Option (List ℕ)) → RunError → Type 0
+-- the fault ended the telling of this text to the line of this number, behind so many bytes of others: for want of
+-- memory none of its bytes was taken, else its first ones
+abbrev pub StopsAtReply : (number : ℕ) → (text : List ℕ) → (told : ℕ) → (before after : Option (List ℕ)) → RunError
+    → Type 0
 StopsAtReply number text told before after (run_errors.NoMemory line) = (line ≡ number) × Keeps before after
-StopsAtReply number text told before after (run_errors.ReplyFault written) = (count : ℕ) × (written ≡ told + count) × (count ≤ length text) × Appends before after (take count text)
+StopsAtReply number text told before after (run_errors.ReplyFault written) = (count : ℕ) × (written ≡ told + count)
+    × (count ≤ length text) × Appends before after (take count text)
 StopsAtReply number text told before after _ = ⊥
 
 -- the same of the reply to a line, on the machine before it
-abbrev pub StopsAtLine : (skipped number : ℕ) → (line : List ℕ) → Machine → (told : ℕ) → (before after : Option (List ℕ)) → RunError → Type 0
-StopsAtLine skipped number line old told before after e = StopsAtReply number (line_reply_text number line old.now skipped (length old.past) (length old.future)) told before after e
+abbrev pub StopsAtLine : (skipped number : ℕ) → (line : List ℕ) → Machine → (told : ℕ)
+    → (before after : Option (List ℕ)) → RunError → Type 0
+StopsAtLine skipped number line old told before after e =
+    StopsAtReply number (line_reply_text number line old.now skipped (length old.past) (length old.future)) told before
+    after e
 
--- the fault ended the telling of these replies: it names the line before whose reply memory ran out, or how many bytes of them were taken
+-- the fault ended the telling of these replies: it names the line before whose reply memory ran out, or how many bytes
+-- of them were taken
 abbrev pub StopsInReplies : (replies : List (List ℕ)) → (took : List ℕ → Type 0) → RunError → Type 0
-StopsInReplies replies took (run_errors.NoMemory line) = (1 ≤ line) × (line ≤ length replies) × took (concat (take (line - 1) replies))
-StopsInReplies replies took (run_errors.ReplyFault written) = (written ≤ length (concat replies)) × took (take written (concat replies))
+StopsInReplies replies took (run_errors.NoMemory line) = (1 ≤ line) × (line ≤ length replies)
+    × took (concat (take (line - 1) replies))
+StopsInReplies replies took (run_errors.ReplyFault written) = (written ≤ length (concat replies))
+    × took (take written (concat replies))
 StopsInReplies replies took _ = ⊥
 
 -- the same of the replies to lines, the first of them on this machine
 abbrev pub StopsInLines : (skipped : ℕ) → List (List ℕ) → Machine → (before after : Option (List ℕ)) → RunError → Type 0
-StopsInLines skipped lines old before after e = StopsInReplies (line_replies skipped 1 old lines) (Appends before after) e
+StopsInLines skipped lines old before after e =
+    StopsInReplies (line_replies skipped 1 old lines) (Appends before after) e

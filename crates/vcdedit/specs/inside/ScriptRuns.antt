@@ -8,7 +8,8 @@ use Rattle.vcdedit.specs.Script.{script_lines}
 use Rattle.vcdedit.specs.Run.{machine_after_lines, refusal_count}
 use Rattle.vcdedit.specs.RunOutcomes.{line_replies}
 
--- the script on what the capture file means gives replies of which `took` holds, so many refused lines, and this capture
+-- the script on what the capture file means gives replies of which `took` holds, so many refused lines, and this
+-- capture
 pub record ScriptGives (file script : List ℕ) (depth count : ℕ) (took : List ℕ → Type 0) (now : Contents) : Type 0 where
   pub contents : Contents
   pub skipped : ℕ

@@ -8,7 +8,8 @@ use Rattle.vcdedit.specs.declared.running.run_error.Summary.{Summary}
 use Rattle.vcdedit.specs.RunEnds.{ReaderEnd, OfRun}
 
 -- all replies, or where memory ran out at a line those to the lines before it
-abbrev pub HasSentReplies : Result Summary RunError → (depth : ℕ) → (capture script : ReaderEnd) → (before after : Option (List ℕ)) → Type 0
+abbrev pub HasSentReplies : Result Summary RunError → (depth : ℕ) → (capture script : ReaderEnd)
+    → (before after : Option (List ℕ)) → Type 0
 HasSentReplies (Ok summary) depth capture script before after =
     OfRun capture script depth (λ written. Appends before after (concat written.replies))
 HasSentReplies (Err (run_errors.NoMemory (suc count))) depth capture script before after =

@@ -20,16 +20,21 @@ two_words (first ∷ second ∷ []) asked = asked first second
 two_words words asked = Err WrongCount
 
 -- what just four words ask for
-abbrev pub four_words : List (List ℕ) → (List ℕ → List ℕ → List ℕ → List ℕ → Result Command LineError) → Result Command LineError
+abbrev pub four_words : List (List ℕ) → (List ℕ → List ℕ → List ℕ → List ℕ → Result Command LineError)
+    → Result Command LineError
 four_words (first ∷ second ∷ third ∷ fourth ∷ []) asked = asked first second third fourth
 four_words words asked = Err WrongCount
 
 -- what just five words ask for
-abbrev pub five_words : List (List ℕ) → (List ℕ → List ℕ → List ℕ → List ℕ → List ℕ → Result Command LineError) → Result Command LineError
+abbrev pub five_words : List (List ℕ) → (List ℕ → List ℕ → List ℕ → List ℕ → List ℕ → Result Command LineError)
+    → Result Command LineError
 five_words (first ∷ second ∷ third ∷ fourth ∷ fifth ∷ []) asked = asked first second third fourth fifth
 five_words words asked = Err WrongCount
 
 -- what just seven words ask for
-abbrev pub seven_words : List (List ℕ) → (List ℕ → List ℕ → List ℕ → List ℕ → List ℕ → List ℕ → List ℕ → Result Command LineError) → Result Command LineError
-seven_words (first ∷ second ∷ third ∷ fourth ∷ fifth ∷ sixth ∷ seventh ∷ []) asked = asked first second third fourth fifth sixth seventh
+abbrev pub seven_words : List (List ℕ)
+    → (List ℕ → List ℕ → List ℕ → List ℕ → List ℕ → List ℕ → List ℕ → Result Command LineError)
+    → Result Command LineError
+seven_words (first ∷ second ∷ third ∷ fourth ∷ fifth ∷ sixth ∷ seventh ∷ []) asked =
+    asked first second third fourth fifth sixth seventh
 seven_words words asked = Err WrongCount

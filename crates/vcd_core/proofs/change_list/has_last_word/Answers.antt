@@ -8,13 +8,15 @@ use Rattle.vcd_core.proofs.change_list.has_last_word.Goals as goal
 pub has_word-requires : goal.has_word-requires
 has_word-requires c =
     let long : length c.in-Some.last.now.value ≡ c.args.width =
-    ap length (last_value-split (all_x c.args.width) _ _ _ (c.in-Some.ensures.cases.0)) ∙ last_value-long 0 _ _ c.requires.form.rise ∙ length-replicate c.args.width _ in
+    ap length (last_value-split (all_x c.args.width) _ _ _ (c.in-Some.ensures.cases.0))
+    ∙ last_value-long 0 _ _ c.requires.form.rise ∙ length-replicate c.args.width _ in
     omega (arith, c.requires.most)
 
 pub returns-in-Some : goal.returns-in-Some
 returns-in-Some c =
     let last = last_value-split (all_x c.args.width) _ _ _ (c.in-Some.ensures.cases.0) in
-    let long : length c.in-Some.last.now.value ≡ c.args.width = ap length last ∙ last_value-long 0 _ _ c.requires.form.rise ∙ length-replicate c.args.width _ in
+    let long : length c.in-Some.last.now.value ≡ c.args.width = ap length last
+    ∙ last_value-long 0 _ _ c.requires.form.rise ∙ length-replicate c.args.width _ in
     c.has_word.ensures ∙ (λ i. same_letters (letters_of (long i) (c.args.low ∷ []) (c.args.high ∷ [])) (last i))
 
 pub returns-in-None : goal.returns-in-None

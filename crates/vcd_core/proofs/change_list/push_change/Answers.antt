@@ -9,14 +9,16 @@ use Rattle.vcd_core.proofs.change_list.push_change.Goals as goal
 
 -- what the comparison with the last value told
 told : (value : List Bit) (width : ℕ) (kept slice : List Change) (r b : Bool) → slice ≡ kept → length value ≡ width
-    → r ≡ same_letters value (last_value (all_x (length value)) slice) → r ≡ b → same_letters value (last_value (all_x width) kept) ≡ b
+    → r ≡ same_letters value (last_value (all_x (length value)) slice) → r ≡ b
+    → same_letters value (last_value (all_x width) kept) ≡ b
 told value width kept slice r b same wide compared result =
     sym (λ i. same_letters value (last_value (all_x (wide i)) (same i))) ∙ sym compared ∙ result
 
 pub returns-in_err-push-clause-adds_none : goal.returns-in_err-push-clause-adds_none
 returns-in_err-push-clause-adds_none c same =
     let differs : same_letters c.args.value (last_value (all_x c.args.width) c.pop_at.new.changes.items) ≡ false =
-    told _ _ _ _ _ false c.as_slice.ensures.value c.requires.wide c.has_last_value.ensures c.if-not-has_last_value.true in
+    told _ _ _ _ _ false c.as_slice.ensures.value c.requires.wide c.has_last_value.ensures
+    c.if-not-has_last_value.true in
     let equal : same_letters c.args.value (last_value (all_x c.args.width) c.pop_at.new.changes.items) ≡ true =
     (same_letters-Decides _ _).1 (sym (ap (last_value (all_x c.args.width)) c.pop_at.ensures.kept ∙ same)) in
     let both : true ≡ false = sym equal ∙ differs in
@@ -25,8 +27,12 @@ returns-in_err-push-clause-adds_none c same =
 pub returns-in_ok-push-clause-pushed : goal.returns-in_ok-push-clause-pushed
 returns-in_ok-push-clause-pushed c =
     c.in_ok-push.ensures.items
-    ∙ pushed_other _ _ _ _ _ c.pop_at.ensures.kept (told _ _ _ _ _ false c.as_slice.ensures.value c.requires.wide c.has_last_value.ensures c.if-not-has_last_value.true)
+    ∙ pushed_other _ _ _ _ _ c.pop_at.ensures.kept
+    (told _ _ _ _ _ false c.as_slice.ensures.value c.requires.wide c.has_last_value.ensures
+    c.if-not-has_last_value.true)
 
 pub returns-else-not-has_last_value-clause-pushed : goal.returns-else-not-has_last_value-clause-pushed
 returns-else-not-has_last_value-clause-pushed c =
-    pushed_same _ _ _ _ _ c.pop_at.ensures.kept (told _ _ _ _ _ true c.as_slice.ensures.value c.requires.wide c.has_last_value.ensures c.if-not-has_last_value.false)
+    pushed_same _ _ _ _ _ c.pop_at.ensures.kept
+    (told _ _ _ _ _ true c.as_slice.ensures.value c.requires.wide c.has_last_value.ensures
+    c.if-not-has_last_value.false)

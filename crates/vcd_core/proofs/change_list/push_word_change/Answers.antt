@@ -9,12 +9,15 @@ use Rattle.vcd_core.proofs.Pushes.{kept_wave, pushed_same, pushed_other}
 use Rattle.vcd_core.proofs.change_list.push_word_change.Goals as goal
 
 -- what the comparison with the last value told
-told : (value before : List Bit) (kept slice : List Change) (r b : Bool) → slice ≡ kept → r ≡ same_letters value (last_value before slice) → r ≡ b
+told : (value before : List Bit) (kept slice : List Change) (r b : Bool) → slice ≡ kept
+    → r ≡ same_letters value (last_value before slice) → r ≡ b
     → same_letters value (last_value before kept) ≡ b
-told value before kept slice r b same compared result = sym (λ i. same_letters value (last_value before (same i))) ∙ sym compared ∙ result
+told value before kept slice r b same compared result = sym (λ i. same_letters value (last_value before (same i)))
+    ∙ sym compared ∙ result
 
 pub has_last_word-requires-clause-form : goal.has_last_word-requires-clause-form
-has_last_word-requires-clause-form c = kept_wave c.args.width c.args.tick _ _ (c.as_slice.ensures.value ∙ c.pop_at.ensures.kept) c.requires.form
+has_last_word-requires-clause-form c =
+    kept_wave c.args.width c.args.tick _ _ (c.as_slice.ensures.value ∙ c.pop_at.ensures.kept) c.requires.form
 
 pub returns-in_err-push-clause-adds_none : goal.returns-in_err-push-clause-adds_none
 returns-in_err-push-clause-adds_none c same =
@@ -29,8 +32,10 @@ returns-in_err-push-clause-adds_none c same =
 pub returns-in_ok-push-clause-pushed : goal.returns-in_ok-push-clause-pushed
 returns-in_ok-push-clause-pushed c =
     c.in_ok-push.ensures.items ∙ ap (λ v. c.pop_at.new.changes.items ++ change c.args.tick v ∷ []) c.from_word.ensures
-    ∙ pushed_other _ _ _ _ _ c.pop_at.ensures.kept (told _ _ _ _ _ false c.as_slice.ensures.value c.has_last_word.ensures c.if-not-has_last_word.true)
+    ∙ pushed_other _ _ _ _ _ c.pop_at.ensures.kept
+    (told _ _ _ _ _ false c.as_slice.ensures.value c.has_last_word.ensures c.if-not-has_last_word.true)
 
 pub returns-else-not-has_last_word-clause-pushed : goal.returns-else-not-has_last_word-clause-pushed
 returns-else-not-has_last_word-clause-pushed c =
-    pushed_same _ _ _ _ _ c.pop_at.ensures.kept (told _ _ _ _ _ true c.as_slice.ensures.value c.has_last_word.ensures c.if-not-has_last_word.false)
+    pushed_same _ _ _ _ _ c.pop_at.ensures.kept
+    (told _ _ _ _ _ true c.as_slice.ensures.value c.has_last_word.ensures c.if-not-has_last_word.false)

@@ -5,19 +5,29 @@ use Rattle.vcd_core.proofs.PlaneBits.{plane_bit-set_same, plane_bit-write, plane
 use Rattle.vcd_core.proofs.planes.write_plane_bit.Goals as goal
 
 pub returns-then-set-clause-at : goal.returns-then-set-clause-at
-returns-then-set-clause-at c = rw c.if-set.true (plane_bit-set_same _ _ _ _ c.args.k c.requires.within refl ∙ bit_at_set_same w64 _ (c.args.k % 64) (omega arith))
+returns-then-set-clause-at c =
+    rw c.if-set.true (plane_bit-set_same _ _ _ _ c.args.k c.requires.within refl
+    ∙ bit_at_set_same w64 _ (c.args.k % 64) (omega arith))
 
 pub returns-then-set-clause-others : goal.returns-then-set-clause-others
-returns-then-set-clause-others c = plane_bit-write _ c.args.plane c.args.k _ c.requires.within (λ i low apart. bit_at_set_other w64 _ (c.args.k % 64) (omega arith) i apart)
+returns-then-set-clause-others c =
+    plane_bit-write _ c.args.plane c.args.k _ c.requires.within
+    (λ i low apart. bit_at_set_other w64 _ (c.args.k % 64) (omega arith) i apart)
 
 pub returns-then-set-clause-other_plane : goal.returns-then-set-clause-other_plane
-returns-then-set-clause-other_plane c = λ other i which differ. plane_bit-other_plane _ c.args.plane other c.args.k _ i c.requires.plane which differ
+returns-then-set-clause-other_plane c =
+    λ other i which differ. plane_bit-other_plane _ c.args.plane other c.args.k _ i c.requires.plane which differ
 
 pub returns-else-set-clause-at : goal.returns-else-set-clause-at
-returns-else-set-clause-at c = rw c.if-set.false (plane_bit-set_same _ _ _ _ c.args.k c.requires.within refl ∙ bit_at_clear_same w64 _ (c.args.k % 64) (omega arith))
+returns-else-set-clause-at c =
+    rw c.if-set.false (plane_bit-set_same _ _ _ _ c.args.k c.requires.within refl
+    ∙ bit_at_clear_same w64 _ (c.args.k % 64) (omega arith))
 
 pub returns-else-set-clause-others : goal.returns-else-set-clause-others
-returns-else-set-clause-others c = plane_bit-write _ c.args.plane c.args.k _ c.requires.within (λ i low apart. bit_at_clear_other w64 _ (c.args.k % 64) (omega arith) i low apart)
+returns-else-set-clause-others c =
+    plane_bit-write _ c.args.plane c.args.k _ c.requires.within
+    (λ i low apart. bit_at_clear_other w64 _ (c.args.k % 64) (omega arith) i low apart)
 
 pub returns-else-set-clause-other_plane : goal.returns-else-set-clause-other_plane
-returns-else-set-clause-other_plane c = λ other i which differ. plane_bit-other_plane _ c.args.plane other c.args.k _ i c.requires.plane which differ
+returns-else-set-clause-other_plane c =
+    λ other i which differ. plane_bit-other_plane _ c.args.plane other c.args.k _ i c.requires.plane which differ

@@ -12,7 +12,8 @@ loop-j-init c = record {
 pub loop-j-preserved : goal.loop-j-preserved
 loop-j-preserved c = rw c.ones-mask.ensures (record {
   left = omega arith;
-  holds = one_more WORDS c.args.width c.loop-j.j c.loop-j.left c.loop-j.words _ _ (omega arith) (omega arith) c.loop-j.invariant.left c.loop-j.invariant.holds;
+  holds = one_more WORDS c.args.width c.loop-j.j c.loop-j.left c.loop-j.words _ _ (omega arith) (omega arith)
+      c.loop-j.invariant.left c.loop-j.invariant.holds;
 })
 
 pub returns-clause-low : goal.returns-clause-low

@@ -13,7 +13,10 @@ returns c =
     let from = c.place_before-from.result in
     let to = c.place_after-to.result in
     let n = c.partition_point.result in
-    let point = IsPartitionPoint-from_clause (λ (x : Change). leb x.tick c.args.tick) (slice_range cs from to) n c.partition_point.ensures.partitioned
-    (IsPartitionedBy-leb (λ (x : Change). x.tick) (slice_range cs from to) c.args.tick (part_rises width cs form c.args.tick from to (omega arith) (omega arith))) (λ a r f h. search rules) in
-    point_counts width cs form c.args.tick from to n (omega arith) (omega arith) c.partition_point.ensures.bound c.place_before-from.ensures.early c.place_after-to.ensures.late
+    let point = IsPartitionPoint-from_clause (λ (x : Change). leb x.tick c.args.tick) (slice_range cs from to) n
+    c.partition_point.ensures.partitioned
+    (IsPartitionedBy-leb (λ (x : Change). x.tick) (slice_range cs from to) c.args.tick
+    (part_rises width cs form c.args.tick from to (omega arith) (omega arith))) (λ a r f h. search rules) in
+    point_counts width cs form c.args.tick from to n (omega arith) (omega arith) c.partition_point.ensures.bound
+    c.place_before-from.ensures.early c.place_after-to.ensures.late
     (λ k early. point.0 k no_change (omega arith) early) (λ k late within. point.1 k no_change late within)

@@ -3,4 +3,5 @@ use Rattle.vcd_core.proofs.searching.place_after.Goals as goal
 
 pub returns-else-changes-place-clause-late : goal.returns-else-changes-place-clause-late
 returns-else-changes-place-clause-late c =
-    late_from c.requires.form.0 _ c.requires.form.1 c.args.tick c.loop-place.place c.index-changes-place.result c.loop-place-test.true c.if-changes-place.false
+    late_from c.requires.form.0 _ c.requires.form.1 c.args.tick c.loop-place.place c.index-changes-place.result
+    c.loop-place-test.true c.if-changes-place.false

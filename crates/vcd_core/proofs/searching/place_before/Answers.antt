@@ -4,4 +4,5 @@ use Rattle.vcd_core.proofs.searching.place_before.Goals as goal
 
 pub returns-else-changes-place-clause-early : goal.returns-else-changes-place-clause-early
 returns-else-changes-place-clause-early c =
-    early_before c.requires.form.0 _ c.requires.form.1 c.args.tick c.loop-place.place c.index-changes-place.result (omega arith) (omega arith) c.if-changes-place.false
+    early_before c.requires.form.0 _ c.requires.form.1 c.args.tick c.loop-place.place c.index-changes-place.result
+    (omega arith) (omega arith) c.if-changes-place.false

@@ -8,11 +8,16 @@ use Rattle.vcd_core.specs.Sound.{IsSoundSignal}
 use Rattle.vcd_core.proofs.soundness.are_signals_sound.Goals as goal
 
 -- what holds of the contents of each signal
-unmapped : (P : SignalContents → Type 0) (signals : List Signal) → All P (map signal_contents signals) → All (λ s. P (signal_contents s)) signals
+unmapped : (P : SignalContents → Type 0) (signals : List Signal) → All P (map signal_contents signals)
+    → All (λ s. P (signal_contents s)) signals
 unmapped P signals all k d within =
-    subst P (get_or-map signal_contents signals k d) (all k (signal_contents d) (omega (arith, length-map signals signal_contents)))
+    subst P (get_or-map signal_contents signals k d)
+    (all k (signal_contents d) (omega (arith, length-map signals signal_contents)))
 
 pub returns : goal.returns
 returns c =
-    let each : IsTrue c.all.result ↔ All (λ (s : Signal). IsSoundSignal c.args.end (signal_contents s)) c.args.signals.now = search rules in
-    ((λ yes. All-map (IsSoundSignal c.args.end) signal_contents c.args.signals.now (each.0 yes)), (λ all. each.1 (unmapped (IsSoundSignal c.args.end) c.args.signals.now all)))
+    let each : IsTrue c.all.result ↔ All (λ (s : Signal). IsSoundSignal c.args.end (signal_contents s))
+    c.args.signals.now = search rules in (
+      (λ yes. All-map (IsSoundSignal c.args.end) signal_contents c.args.signals.now (each.0 yes)),
+      (λ all. each.1 (unmapped (IsSoundSignal c.args.end) c.args.signals.now all)),
+    )

@@ -7,10 +7,12 @@ use Rattle.vcd_core.proofs.splicing.moved_change.Goals as goal
 pub unwrap-tick-requires : goal.unwrap-tick-requires
 unfolding TickFits
 unwrap-tick-requires c =
-    tick_given c.args.change.now.tick c.args.by _ c.checked_add_signed.result (to_z-of_z w64 c.args.by c.ranges.by) c.requires c.checked_add_signed.ensures
+    tick_given c.args.change.now.tick c.args.by _ c.checked_add_signed.result (to_z-of_z w64 c.args.by c.ranges.by)
+    c.requires c.checked_add_signed.ensures
 
 pub returns : goal.returns
 unfolding moved_change
 returns c =
-    let tick = tick_is c.args.change.now.tick c.args.by _ c.checked_add_signed.result _ (to_z-of_z w64 c.args.by c.ranges.by) c.checked_add_signed.ensures c.unwrap-tick.ensures in
+    let tick = tick_is c.args.change.now.tick c.args.by _ c.checked_add_signed.result _
+    (to_z-of_z w64 c.args.by c.ranges.by) c.checked_add_signed.ensures c.unwrap-tick.ensures in
     λ i. record { tick = tick i; value = c.args.change.now.value }

@@ -1,4 +1,5 @@
-use Rattle.std.proofs.Common.{rules, w64, List, ◌≡◌, ◌++◌, ◌-◌, length, take, drop, map, ap, ◌∙◌, refl, arith, length-drop}
+use Rattle.std.proofs.Common.{rules, w64, List, ◌≡◌, ◌++◌, ◌-◌, length, take, drop, map, ap, ◌∙◌, refl, arith}
+use Rattle.std.proofs.Common.{length-drop}
 use Rattle.std.proofs.lemmas.List.{take_all}
 use Rattle.std.proofs.lemmas.Int.{to_z-of_z}
 use Rattle.vcd_core.specs.declared.wave.Change.{Change}
@@ -13,9 +14,12 @@ returns-clause-changes c =
     let given = c.deref.result.now in
     let rest : List Change = take (length given - c.args.kept) (drop c.args.kept given) in
     let is : rest ≡ drop c.args.kept c.args.piece.now.items =
-    take_all (length given - c.args.kept) (drop c.args.kept given) (omega (arith, length-drop c.args.kept given)) ∙ ap (drop c.args.kept) c.deref.ensures.value in
+    take_all (length given - c.args.kept) (drop c.args.kept given) (omega (arith, length-drop c.args.kept given))
+    ∙ ap (drop c.args.kept) c.deref.ensures.value in
     let whole : c.as_mut_slice.result.now ≡ xs ++ rest = search rules in
-    put_into_gap _ xs rest c.as_mut_slice.result.now c.push_up.new.changes _ c.write_at.new.changes.items c.args.at (length rest) refl (omega arith)
+    put_into_gap _ xs rest c.as_mut_slice.result.now c.push_up.new.changes _ c.write_at.new.changes.items c.args.at
+    (length rest) refl (omega arith)
     whole c.push_up.ensures
-    (whole_list _ c.push_up.new.changes _ (omega (arith, c.push_up.auto.changes, c.as_mut_slice.ensures.len))) c.write_at.ensures.items
+    (whole_list _ c.push_up.new.changes _ (omega (arith, c.push_up.auto.changes, c.as_mut_slice.ensures.len)))
+    c.write_at.ensures.items
     ∙ (λ i. take c.args.at xs ++ is i ++ map (moved_change (to_z-of_z w64 c.args.by c.ranges.by i)) (drop c.args.at xs))

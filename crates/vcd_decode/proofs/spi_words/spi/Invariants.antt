@@ -10,4 +10,5 @@ invariant-loop-edge l =
     let mosi = option_map line_of (option_copied l.fn.mosi) in
     let miso = option_map line_of (option_copied l.fn.miso) in
     let cs = option_map line_of (option_copied l.fn.cs) in
-    SpiProgress l.fn.setup (line_of l.fn.clk) mosi miso cs (spi_annotations l.fn.setup (line_of l.fn.clk) mosi miso cs l.fn.end) l.found.items l.group l.edge-iterator
+    SpiProgress l.fn.setup (line_of l.fn.clk) mosi miso cs
+    (spi_annotations l.fn.setup (line_of l.fn.clk) mosi miso cs l.fn.end) l.found.items l.group l.edge-iterator

@@ -5,7 +5,8 @@ use Rattle.vcd_decode.proofs.BegunFrames.{cut_in_start_bit, glitch, cut_later, w
 use Rattle.vcd_decode.proofs.uart_frames.begun_frame.Goals as goal
 
 pub returns-then-left-first : goal.returns-then-left-first
-returns-then-left-first c = sym (cut_in_start_bit (line_of c.args.wave.now) c.args.end c.args.setup.now c.args.start (omega arith))
+returns-then-left-first c =
+    sym (cut_in_start_bit (line_of c.args.wave.now) c.args.end c.args.setup.now c.args.start (omega arith))
 
 pub returns-then-not-is_zero : goal.returns-then-not-is_zero
 returns-then-not-is_zero c =

@@ -7,10 +7,13 @@ use Rattle.vcd_decode.proofs.SampleTicks.{offsets_rise, shifted}
 use Rattle.vcd_decode.proofs.uart_frames.read_letters.Goals as goal
 
 pub overflow_add-start : goal.overflow_add-start
-overflow_add-start c = omega (arith, offsets_rise c.args.setup.now (c.loop-index.index + 1) (last_bit c.args.setup.now) (omega arith))
+overflow_add-start c =
+    omega (arith, offsets_rise c.args.setup.now (c.loop-index.index + 1) (last_bit c.args.setup.now) (omega arith))
 
 pub returns : goal.returns
 returns c =
-    fill_by_all (λ k. line_of c.args.wave.now (sample_tick c.args.setup.now c.args.start (k + 1))) c.loop-index.letters (last_bit c.args.setup.now) X (omega arith)
+    fill_by_all (λ k. line_of c.args.wave.now (sample_tick c.args.setup.now c.args.start (k + 1))) c.loop-index.letters
+    (last_bit c.args.setup.now) X (omega arith)
     (λ k below. c.loop-index.invariant k (omega arith))
-    ∙ shifted (λ bit. line_of c.args.wave.now (sample_tick c.args.setup.now c.args.start bit)) 0 (last_bit c.args.setup.now)
+    ∙ shifted (λ bit. line_of c.args.wave.now (sample_tick c.args.setup.now c.args.start bit)) 0
+    (last_bit c.args.setup.now)

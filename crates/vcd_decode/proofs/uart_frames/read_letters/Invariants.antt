@@ -6,4 +6,5 @@ use Rattle.vcd_decode.specs.Uart.{sample_tick}
 use Rattle.vcd_decode.proofs.uart_frames.read_letters.Given as goal
 
 abbrev pub invariant-loop-index : goal.invariant-loop-index
-invariant-loop-index l = (k : ℕ) → k < l.index → get_or l.letters k X ≡ line_of l.wave (sample_tick l.setup l.start (k + 1))
+invariant-loop-index l = (k : ℕ) → k < l.index
+    → get_or l.letters k X ≡ line_of l.wave (sample_tick l.setup l.start (k + 1))

@@ -8,5 +8,6 @@ use Rattle.vcd_decode.proofs.uart_frames.uart.Given as goal
 
 abbrev pub invariant-loop-place : goal.invariant-loop-place
 invariant-loop-place l =
-    l.found.items ++ frames (begun_frame (line_of l.wave) l.end l.setup) l.taken (fall_ticks l.before (drop l.place l.changes))
+    l.found.items ++ frames (begun_frame (line_of l.wave) l.end l.setup) l.taken
+    (fall_ticks l.before (drop l.place l.changes))
     ≡ frames (begun_frame (line_of l.wave) l.end l.setup) 0 (fall_ticks X l.changes)

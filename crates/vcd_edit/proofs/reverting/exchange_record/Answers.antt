@@ -6,7 +6,8 @@ use Rattle.vcd_edit.specs.AppliedRecords.{apply_record, with_moved_signal, Fits}
 use Rattle.vcd_edit.specs.inside.Records.{piece_view, record_view, moved_signal_view}
 use Rattle.vcd_edit.specs.inside.Opposites.{opposite_move, IsInverse}
 use Rattle.vcd_edit.proofs.TouchedParts.{whole_list}
-use Rattle.vcd_edit.proofs.Exchanged.{fits_each, ready_then, word_fits_then, word_named_then, end_is_back, is_record_then, leads_then}
+use Rattle.vcd_edit.proofs.Exchanged.{fits_each, ready_then, word_fits_then, word_named_then, end_is_back}
+use Rattle.vcd_edit.proofs.Exchanged.{is_record_then, leads_then}
 use Rattle.vcd_edit.proofs.reverting.exchange_record.Goals as goal
 
 pub reserve_all-requires-clause-signal : goal.reserve_all-requires-clause-signal
@@ -15,7 +16,11 @@ reserve_all-requires-clause-signal c =
     let v = record_view c.way.inside.pieces.items c.way.inside.word c.way.inside.signal c.way.inside.other_end in
     let fits : Fits v now = subst (λ r. Fits r now) (sym c.way.view_is) c.requires.fits in
     subst (All (λ (p : Piece). p.signal < length c.args.capture.now.signals)) (sym c.as_mut_slice.ensures.value)
-    (λ k d less. omega (arith, (fits_each now c.way.inside.pieces.items fits.pieces k d less).signal, length-map c.args.capture.now.signals signal_contents))
+    (λ k d less. omega (
+      arith,
+      (fits_each now c.way.inside.pieces.items fits.pieces k d less).signal,
+      length-map c.args.capture.now.signals signal_contents,
+    ))
 
 pub reserve_all-requires-clause-ordered : goal.reserve_all-requires-clause-ordered
 reserve_all-requires-clause-ordered c =
@@ -38,9 +43,12 @@ exchange_pieces-requires-clause-ready c =
     let now = contents c.args.capture.now in
     let v = record_view c.way.inside.pieces.items c.way.inside.word c.way.inside.signal c.way.inside.other_end in
     let fits : Fits v now = subst (λ r. Fits r now) (sym c.way.view_is) c.requires.fits in
-    let pieces = whole_list c.way.inside.pieces.len c.reserve_all.new.pieces c.way.inside.pieces.items (omega (arith, c.as_mut_slice.ensures.len, c.reserve_all.auto.pieces)) in
-    let whole = ap (map piece_view) pieces ∙ c.reserve_all.ensures.pieces ∙ ap (map piece_view) c.as_mut_slice.ensures.value in
-    let moved : contents c.exchange_signal.new.capture ≡ with_moved_signal v.signal now = c.in-Ok.ensures.there ∙ ap (with_moved_signal v.signal) c.reserve_all.ensures.contents in
+    let pieces = whole_list c.way.inside.pieces.len c.reserve_all.new.pieces c.way.inside.pieces.items
+    (omega (arith, c.as_mut_slice.ensures.len, c.reserve_all.auto.pieces)) in
+    let whole = ap (map piece_view) pieces ∙ c.reserve_all.ensures.pieces
+    ∙ ap (map piece_view) c.as_mut_slice.ensures.value in
+    let moved : contents c.exchange_signal.new.capture ≡ with_moved_signal v.signal now = c.in-Ok.ensures.there
+    ∙ ap (with_moved_signal v.signal) c.reserve_all.ensures.contents in
     ready_then now v fits c.way.invariant c.requires.sound _ whole (contents c.exchange_signal.new.capture) moved
 
 pub exchange_word-word-requires-clause-fits : goal.exchange_word-word-requires-clause-fits
@@ -48,33 +56,49 @@ exchange_word-word-requires-clause-fits c =
     let now = contents c.args.capture.now in
     let v = record_view c.way.inside.pieces.items c.way.inside.word c.way.inside.signal c.way.inside.other_end in
     let fits : Fits v now = subst (λ r. Fits r now) (sym c.way.view_is) c.requires.fits in
-    let pieces = whole_list c.way.inside.pieces.len c.reserve_all.new.pieces c.way.inside.pieces.items (omega (arith, c.as_mut_slice.ensures.len, c.reserve_all.auto.pieces)) in
-    let whole = ap (map piece_view) pieces ∙ c.reserve_all.ensures.pieces ∙ ap (map piece_view) c.as_mut_slice.ensures.value in
-    let moved : contents c.exchange_signal.new.capture ≡ with_moved_signal v.signal now = c.in-Ok.ensures.there ∙ ap (with_moved_signal v.signal) c.reserve_all.ensures.contents in
-    word_fits_then now v fits c.way.invariant c.requires.sound _ whole (contents c.exchange_signal.new.capture) moved (contents c.exchange_pieces.new.capture) c.exchange_pieces.ensures.there
+    let pieces = whole_list c.way.inside.pieces.len c.reserve_all.new.pieces c.way.inside.pieces.items
+    (omega (arith, c.as_mut_slice.ensures.len, c.reserve_all.auto.pieces)) in
+    let whole = ap (map piece_view) pieces ∙ c.reserve_all.ensures.pieces
+    ∙ ap (map piece_view) c.as_mut_slice.ensures.value in
+    let moved : contents c.exchange_signal.new.capture ≡ with_moved_signal v.signal now = c.in-Ok.ensures.there
+    ∙ ap (with_moved_signal v.signal) c.reserve_all.ensures.contents in
+    word_fits_then now v fits c.way.invariant c.requires.sound _ whole (contents c.exchange_signal.new.capture) moved
+    (contents c.exchange_pieces.new.capture) c.exchange_pieces.ensures.there
 
 pub exchange_word-word-requires-clause-named : goal.exchange_word-word-requires-clause-named
 exchange_word-word-requires-clause-named c =
     let now = contents c.args.capture.now in
     let v = record_view c.way.inside.pieces.items c.way.inside.word c.way.inside.signal c.way.inside.other_end in
     let fits : Fits v now = subst (λ r. Fits r now) (sym c.way.view_is) c.requires.fits in
-    let pieces = whole_list c.way.inside.pieces.len c.reserve_all.new.pieces c.way.inside.pieces.items (omega (arith, c.as_mut_slice.ensures.len, c.reserve_all.auto.pieces)) in
-    let whole = ap (map piece_view) pieces ∙ c.reserve_all.ensures.pieces ∙ ap (map piece_view) c.as_mut_slice.ensures.value in
-    let moved : contents c.exchange_signal.new.capture ≡ with_moved_signal v.signal now = c.in-Ok.ensures.there ∙ ap (with_moved_signal v.signal) c.reserve_all.ensures.contents in
-    word_named_then now v fits c.way.invariant c.requires.sound _ whole (contents c.exchange_signal.new.capture) moved (contents c.exchange_pieces.new.capture) c.exchange_pieces.ensures.there
+    let pieces = whole_list c.way.inside.pieces.len c.reserve_all.new.pieces c.way.inside.pieces.items
+    (omega (arith, c.as_mut_slice.ensures.len, c.reserve_all.auto.pieces)) in
+    let whole = ap (map piece_view) pieces ∙ c.reserve_all.ensures.pieces
+    ∙ ap (map piece_view) c.as_mut_slice.ensures.value in
+    let moved : contents c.exchange_signal.new.capture ≡ with_moved_signal v.signal now = c.in-Ok.ensures.there
+    ∙ ap (with_moved_signal v.signal) c.reserve_all.ensures.contents in
+    word_named_then now v fits c.way.invariant c.requires.sound _ whole (contents c.exchange_signal.new.capture) moved
+    (contents c.exchange_pieces.new.capture) c.exchange_pieces.ensures.there
 
 pub invariant_of-result : goal.invariant_of-result
 invariant_of-result c =
     let now = contents c.args.capture.now in
     let v = record_view c.way.inside.pieces.items c.way.inside.word c.way.inside.signal c.way.inside.other_end in
     let fits : Fits v now = subst (λ r. Fits r now) (sym c.way.view_is) c.requires.fits in
-    let pieces = whole_list c.way.inside.pieces.len c.reserve_all.new.pieces c.way.inside.pieces.items (omega (arith, c.as_mut_slice.ensures.len, c.reserve_all.auto.pieces)) in
-    let whole = ap (map piece_view) pieces ∙ c.reserve_all.ensures.pieces ∙ ap (map piece_view) c.as_mut_slice.ensures.value in
-    let moved : contents c.exchange_signal.new.capture ≡ with_moved_signal v.signal now = c.in-Ok.ensures.there ∙ ap (with_moved_signal v.signal) c.reserve_all.ensures.contents in
-    let signal : moved_signal_view c.in-Ok.signal ≡ opposite_move v.signal now = c.in-Ok.ensures.back ∙ ap (opposite_move v.signal) c.reserve_all.ensures.contents in
-    let q = record_view c.exchange_pieces.new.pieces.items c.exchange_word-word.result c.in-Ok.signal c.exchange_end-other_end.result in
-    is_record_then now v fits c.way.invariant c.requires.sound _ whole (contents c.exchange_signal.new.capture) moved (contents c.exchange_pieces.new.capture) c.exchange_pieces.ensures.there
-    (contents c.exchange_word-word.new.capture) (contents c.exchange_end-other_end.new.capture) c.exchange_word-word.ensures.there c.exchange_end-other_end.ensures.there c.exchange_pieces.ensures.back.0 c.exchange_pieces.ensures.back.2 q
+    let pieces = whole_list c.way.inside.pieces.len c.reserve_all.new.pieces c.way.inside.pieces.items
+    (omega (arith, c.as_mut_slice.ensures.len, c.reserve_all.auto.pieces)) in
+    let whole = ap (map piece_view) pieces ∙ c.reserve_all.ensures.pieces
+    ∙ ap (map piece_view) c.as_mut_slice.ensures.value in
+    let moved : contents c.exchange_signal.new.capture ≡ with_moved_signal v.signal now = c.in-Ok.ensures.there
+    ∙ ap (with_moved_signal v.signal) c.reserve_all.ensures.contents in
+    let signal : moved_signal_view c.in-Ok.signal ≡ opposite_move v.signal now = c.in-Ok.ensures.back
+    ∙ ap (opposite_move v.signal) c.reserve_all.ensures.contents in
+    let q = record_view c.exchange_pieces.new.pieces.items c.exchange_word-word.result c.in-Ok.signal
+    c.exchange_end-other_end.result in
+    is_record_then now v fits c.way.invariant c.requires.sound _ whole (contents c.exchange_signal.new.capture) moved
+    (contents c.exchange_pieces.new.capture) c.exchange_pieces.ensures.there
+    (contents c.exchange_word-word.new.capture) (contents c.exchange_end-other_end.new.capture)
+    c.exchange_word-word.ensures.there c.exchange_end-other_end.ensures.there c.exchange_pieces.ensures.back.0
+    c.exchange_pieces.ensures.back.2 q
     c.exchange_pieces.ensures.back.1 c.exchange_word-word.ensures.back signal c.exchange_end-other_end.ensures.back
 
 pub returns-in-Ok-clause-back : goal.returns-in-Ok-clause-back
@@ -82,11 +106,16 @@ returns-in-Ok-clause-back c =
     let now = contents c.args.capture.now in
     let v = record_view c.way.inside.pieces.items c.way.inside.word c.way.inside.signal c.way.inside.other_end in
     let fits : Fits v now = subst (λ r. Fits r now) (sym c.way.view_is) c.requires.fits in
-    let pieces = whole_list c.way.inside.pieces.len c.reserve_all.new.pieces c.way.inside.pieces.items (omega (arith, c.as_mut_slice.ensures.len, c.reserve_all.auto.pieces)) in
-    let whole = ap (map piece_view) pieces ∙ c.reserve_all.ensures.pieces ∙ ap (map piece_view) c.as_mut_slice.ensures.value in
-    let moved : contents c.exchange_signal.new.capture ≡ with_moved_signal v.signal now = c.in-Ok.ensures.there ∙ ap (with_moved_signal v.signal) c.reserve_all.ensures.contents in
-    end_is_back now v fits c.way.invariant c.requires.sound _ whole (contents c.exchange_signal.new.capture) moved (contents c.exchange_pieces.new.capture) c.exchange_pieces.ensures.there
-    (contents c.exchange_word-word.new.capture) (contents c.exchange_end-other_end.new.capture) c.exchange_word-word.ensures.there c.exchange_end-other_end.ensures.there
+    let pieces = whole_list c.way.inside.pieces.len c.reserve_all.new.pieces c.way.inside.pieces.items
+    (omega (arith, c.as_mut_slice.ensures.len, c.reserve_all.auto.pieces)) in
+    let whole = ap (map piece_view) pieces ∙ c.reserve_all.ensures.pieces
+    ∙ ap (map piece_view) c.as_mut_slice.ensures.value in
+    let moved : contents c.exchange_signal.new.capture ≡ with_moved_signal v.signal now = c.in-Ok.ensures.there
+    ∙ ap (with_moved_signal v.signal) c.reserve_all.ensures.contents in
+    end_is_back now v fits c.way.invariant c.requires.sound _ whole (contents c.exchange_signal.new.capture) moved
+    (contents c.exchange_pieces.new.capture) c.exchange_pieces.ensures.there
+    (contents c.exchange_word-word.new.capture) (contents c.exchange_end-other_end.new.capture)
+    c.exchange_word-word.ensures.there c.exchange_end-other_end.ensures.there
     ∙ ap (λ r. apply_record r now) c.way.view_is
 
 pub returns-in-Ok-clause-opposite : goal.returns-in-Ok-clause-opposite
@@ -94,12 +123,20 @@ returns-in-Ok-clause-opposite c =
     let now = contents c.args.capture.now in
     let v = record_view c.way.inside.pieces.items c.way.inside.word c.way.inside.signal c.way.inside.other_end in
     let fits : Fits v now = subst (λ r. Fits r now) (sym c.way.view_is) c.requires.fits in
-    let pieces = whole_list c.way.inside.pieces.len c.reserve_all.new.pieces c.way.inside.pieces.items (omega (arith, c.as_mut_slice.ensures.len, c.reserve_all.auto.pieces)) in
-    let whole = ap (map piece_view) pieces ∙ c.reserve_all.ensures.pieces ∙ ap (map piece_view) c.as_mut_slice.ensures.value in
-    let moved : contents c.exchange_signal.new.capture ≡ with_moved_signal v.signal now = c.in-Ok.ensures.there ∙ ap (with_moved_signal v.signal) c.reserve_all.ensures.contents in
-    let signal : moved_signal_view c.in-Ok.signal ≡ opposite_move v.signal now = c.in-Ok.ensures.back ∙ ap (opposite_move v.signal) c.reserve_all.ensures.contents in
-    let q = record_view c.exchange_pieces.new.pieces.items c.exchange_word-word.result c.in-Ok.signal c.exchange_end-other_end.result in
+    let pieces = whole_list c.way.inside.pieces.len c.reserve_all.new.pieces c.way.inside.pieces.items
+    (omega (arith, c.as_mut_slice.ensures.len, c.reserve_all.auto.pieces)) in
+    let whole = ap (map piece_view) pieces ∙ c.reserve_all.ensures.pieces
+    ∙ ap (map piece_view) c.as_mut_slice.ensures.value in
+    let moved : contents c.exchange_signal.new.capture ≡ with_moved_signal v.signal now = c.in-Ok.ensures.there
+    ∙ ap (with_moved_signal v.signal) c.reserve_all.ensures.contents in
+    let signal : moved_signal_view c.in-Ok.signal ≡ opposite_move v.signal now = c.in-Ok.ensures.back
+    ∙ ap (opposite_move v.signal) c.reserve_all.ensures.contents in
+    let q = record_view c.exchange_pieces.new.pieces.items c.exchange_word-word.result c.in-Ok.signal
+    c.exchange_end-other_end.result in
     subst (λ r. IsInverse now r q) c.way.view_is
-    (leads_then now v fits c.way.invariant c.requires.sound _ whole (contents c.exchange_signal.new.capture) moved (contents c.exchange_pieces.new.capture) c.exchange_pieces.ensures.there
-    (contents c.exchange_word-word.new.capture) (contents c.exchange_end-other_end.new.capture) c.exchange_word-word.ensures.there c.exchange_end-other_end.ensures.there c.exchange_pieces.ensures.back.0 c.exchange_pieces.ensures.back.2 q
+    (leads_then now v fits c.way.invariant c.requires.sound _ whole (contents c.exchange_signal.new.capture) moved
+    (contents c.exchange_pieces.new.capture) c.exchange_pieces.ensures.there
+    (contents c.exchange_word-word.new.capture) (contents c.exchange_end-other_end.new.capture)
+    c.exchange_word-word.ensures.there c.exchange_end-other_end.ensures.there c.exchange_pieces.ensures.back.0
+    c.exchange_pieces.ensures.back.2 q
     c.exchange_pieces.ensures.back.1 c.exchange_word-word.ensures.back signal c.exchange_end-other_end.ensures.back)

@@ -8,5 +8,6 @@ use Rattle.vcd_edit.proofs.reverting.revert.Goals as goal
 pub returns-clause-bound : goal.returns-clause-bound
 returns-clause-bound c =
     let way = c.args.way in
-    IfOk-weaker c.exchange_record.result (IsInverse (contents c.args.capture.now) way) _ (λ q leads. leads.stored (piece_offset way.pieces) (own_offsets way.pieces c.exchange_record.ensures.apart))
+    IfOk-weaker c.exchange_record.result (IsInverse (contents c.args.capture.now) way) _
+    (λ q leads. leads.stored (piece_offset way.pieces) (own_offsets way.pieces c.exchange_record.ensures.apart))
     c.exchange_record.ensures.opposite

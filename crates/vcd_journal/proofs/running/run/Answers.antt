@@ -13,12 +13,16 @@ loop-step-preserved c =
     let l = c.loop-step in
     let so = l.invariant.0 in
     let answer = c.answer_to.result in
-    let asked : take (l.step-index + 1) c.args.steps.now ≡ take l.step-index c.args.steps.now ++ c.step-item.result ∷ [] =
-    take_more c.args.steps.now l.step-index c.step-item.result c.loop-step-test.true ∙ ap (λ (s : Step). take l.step-index c.args.steps.now ++ s ∷ []) (sym c.step-item.is) in (
+    let asked : take (l.step-index + 1) c.args.steps.now ≡ take l.step-index c.args.steps.now
+    ++ c.step-item.result ∷ [] =
+    take_more c.args.steps.now l.step-index c.step-item.result c.loop-step-test.true
+    ∙ ap (λ (s : Step). take l.step-index c.args.steps.now ++ s ∷ []) (sym c.step-item.is) in (
       (
         so.0 ++ answer ∷ [],
-        c.push_reserved.ensures.items ∙ ap (λ (xs : List Answer). xs ++ answer ∷ []) so.1 ∙ append_assoc c.args.answers.now.items so.0 (answer ∷ []),
-        rw asked (steps_lead_more c.args.session.now (take l.step-index c.args.steps.now) so.0 l.session c.step-item.result answer _ so.2 c.answer_to.ensures),
+        c.push_reserved.ensures.items ∙ ap (λ (xs : List Answer). xs ++ answer ∷ []) so.1
+            ∙ append_assoc c.args.answers.now.items so.0 (answer ∷ []),
+        rw asked (steps_lead_more c.args.session.now (take l.step-index c.args.steps.now) so.0 l.session
+            c.step-item.result answer _ so.2 c.answer_to.ensures),
       ),
       omega (arith, l.invariant.1, c.push_reserved.ensures.len, c.push_reserved.ensures.capacity),
     )

@@ -16,7 +16,8 @@ returns-in_err-take_chunk-clause-refused g c =
     let left = g.R.Source.coming c.take_chunk.new.source in
     let failed = g.R.Source.has_failed c.take_chunk.new.source in
     let refused = err_from_is_err_and c.from_residual.result c.from_residual.ensures.1 in
-    subst (λ r. IfErr r (λ (e : ReadError). IfSome coming (λ file. IsRefusal file failed left e))) (sym (refused.1 ∙ ap Err refused.2))
+    subst (λ r. IfErr r (λ (e : ReadError). IfSome coming (λ file. IsRefusal file failed left e)))
+    (sym (refused.1 ∙ ap Err refused.2))
     (c.in_err-take_chunk.ensures.refused coming c.loop-progress.invariant.0)
 
 pub finish-requires : goal.finish-requires
@@ -29,8 +30,11 @@ returns-clause-means g c =
     let coming = g.R.Source.coming c.args.reader.now in
     let left = g.R.Source.coming c.take_chunk.new.source in
     let (bytes, consumes, taken) = c.in_ok-take_chunk.ensures.taken coming c.loop-progress.invariant.0 in
-    IfOk-weaker c.finish.result _ (λ (loaded : Loaded). IfSome coming (λ file. (length file ≤ FILE_LIMIT) × FileMeans file (contents loaded.capture) loaded.skipped))
-    (λ loaded means. of_all coming left bytes (λ file. (length file ≤ FILE_LIMIT) × FileMeans file (contents loaded.capture) loaded.skipped) consumes
+    IfOk-weaker c.finish.result _
+    (λ (loaded : Loaded). IfSome coming (λ file. (length file ≤ FILE_LIMIT)
+    × FileMeans file (contents loaded.capture) loaded.skipped))
+    (λ loaded means. of_all coming left bytes (λ file. (length file ≤ FILE_LIMIT)
+    × FileMeans file (contents loaded.capture) loaded.skipped) consumes
     (c.in_ok-take_chunk.ensures.ended c.if-branch.false) (omega (arith, taken.room), means bytes taken))
     c.finish.ensures.means
 
@@ -41,11 +45,15 @@ returns-clause-refused g c =
     let failed = g.R.Source.has_failed c.take_chunk.new.source in
     let (bytes, consumes, taken) = c.in_ok-take_chunk.ensures.taken coming c.loop-progress.invariant.0 in
     IfErr-weaker c.finish.result _ (λ (e : ReadError). IfSome coming (λ file. IsRefusal file failed left e))
-    (λ e fault. at_end coming left failed bytes e c.in_ok-take_chunk.ensures.not_failed consumes (c.in_ok-take_chunk.ensures.ended c.if-branch.false) (omega (arith, taken.room)) (fault bytes taken))
+    (λ e fault. at_end coming left failed bytes e c.in_ok-take_chunk.ensures.not_failed consumes
+    (c.in_ok-take_chunk.ensures.ended c.if-branch.false) (omega (arith, taken.room)) (fault bytes taken))
     c.finish.ensures.fault
 
 pub returns-clause-failed : goal.returns-clause-failed
 returns-clause-failed g c =
     let failed = g.R.Source.has_failed c.take_chunk.new.source in
-    let (bytes, consumes, taken) = c.in_ok-take_chunk.ensures.taken (g.R.Source.coming c.args.reader.now) c.loop-progress.invariant.0 in
-    IfErr-weaker c.finish.result _ (λ (e : ReadError). e.fault ≡ faults.ReadFault → failed ≡ true) (λ e fault is. absurd (is_no_file_failure bytes e (fault bytes taken) is)) c.finish.ensures.fault
+    let (bytes, consumes, taken) =
+    c.in_ok-take_chunk.ensures.taken (g.R.Source.coming c.args.reader.now) c.loop-progress.invariant.0 in
+    IfErr-weaker c.finish.result _ (λ (e : ReadError). e.fault ≡ faults.ReadFault
+    → failed ≡ true) (λ e fault is. absurd (is_no_file_failure bytes e (fault bytes taken) is))
+    c.finish.ensures.fault

@@ -3,7 +3,8 @@ use Rattle.vcd_text.specs.inside.Chunks.{ProgressMatches}
 use Rattle.vcd_text.proofs.reading.read.Given as goal
 
 abbrev pub invariant-loop-progress : goal.invariant-loop-progress
-invariant-loop-progress g l = ProgressMatches (g.R.Source.coming l.fn.reader) (g.R.Source.coming l.reader) l.progress × (g.R.Source.has_failed l.reader ≡ false)
+invariant-loop-progress g l = ProgressMatches (g.R.Source.coming l.fn.reader) (g.R.Source.coming l.reader) l.progress
+    × (g.R.Source.has_failed l.reader ≡ false)
 
 abbrev pub decreases-loop-progress : goal.decreases-loop-progress
 decreases-loop-progress g l = l.progress.left

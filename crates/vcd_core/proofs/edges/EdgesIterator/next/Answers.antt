@@ -9,18 +9,24 @@ returns-in_err-tick-clause-steps c =
 
 pub invariant_of-self : goal.invariant_of-self
 invariant_of-self c =
-    walk_kept c.self.inside c.after-self-inside.result c.after-self-inside-2.result c.after-self-inside-3.result c.after-self-inside-4.result c.in_ok-tick.tick
-    c.self.invariant (sym c.in_ok-tick.ensures) c.after-self-inside.ensures c.after-self-inside-2.ensures c.after-self-inside-3.ensures c.after-self-inside-4.ensures
+    walk_kept c.self.inside c.after-self-inside.result c.after-self-inside-2.result c.after-self-inside-3.result
+    c.after-self-inside-4.result c.in_ok-tick.tick
+    c.self.invariant (sym c.in_ok-tick.ensures) c.after-self-inside.ensures c.after-self-inside-2.ensures
+    c.after-self-inside-3.ensures c.after-self-inside-4.ensures
 
 pub returns-clause-steps : goal.returns-clause-steps
 returns-clause-steps c =
     sym c.self.view_is
-    ∙ walk_next c.self.inside c.after-self-inside.result c.after-self-inside-2.result c.after-self-inside-3.result c.after-self-inside-4.result c.in_ok-tick.tick
-    c.self.invariant (sym c.in_ok-tick.ensures) c.after-self-inside.ensures c.after-self-inside-2.ensures c.after-self-inside-3.ensures c.after-self-inside-4.ensures
+    ∙ walk_next c.self.inside c.after-self-inside.result c.after-self-inside-2.result c.after-self-inside-3.result
+    c.after-self-inside-4.result c.in_ok-tick.tick
+    c.self.invariant (sym c.in_ok-tick.ensures) c.after-self-inside.ensures c.after-self-inside-2.ensures
+    c.after-self-inside-3.ensures c.after-self-inside-4.ensures
 
 pub returns-clause-goes : goal.returns-clause-goes
 returns-clause-goes c =
-    let first = walk_next c.self.inside c.after-self-inside.result c.after-self-inside-2.result c.after-self-inside-3.result c.after-self-inside-4.result c.in_ok-tick.tick
-    c.self.invariant (sym c.in_ok-tick.ensures) c.after-self-inside.ensures c.after-self-inside-2.ensures c.after-self-inside-3.ensures c.after-self-inside-4.ensures in
+    let first = walk_next c.self.inside c.after-self-inside.result c.after-self-inside-2.result
+    c.after-self-inside-3.result c.after-self-inside-4.result c.in_ok-tick.tick
+    c.self.invariant (sym c.in_ok-tick.ensures) c.after-self-inside.ensures c.after-self-inside-2.ensures
+    c.after-self-inside-3.ensures c.after-self-inside-4.ensures in
     let shorter = ap length (sym c.self.view_is ∙ first) in
     record { on = λ finite. (tt, finite, omega arith); keeps = tt; rests = λ _. tt }

@@ -6,7 +6,8 @@ pub returns-in-empty : goal.returns-in-empty
 returns-in-empty c =
     let name = c.args.self.now in
     bytes_drained name c.requires c.if-not-self.false
-    ∙ ap (λ (bytes : List ℕ). 46 ∷ bytes) (sym (bytes_in_none name.scopes.now name.first.now name.others.now c.in-empty.len_below))
+    ∙ ap (λ (bytes : List ℕ). 46 ∷ bytes)
+    (sym (bytes_in_none name.scopes.now name.first.now name.others.now c.in-empty.len_below))
 
 pub returns-in-len1-up : goal.returns-in-len1-up
 returns-in-len1-up c =

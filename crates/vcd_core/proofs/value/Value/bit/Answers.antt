@@ -10,4 +10,6 @@ pub plane_bit-requires-2 : goal.plane_bit-requires-2
 plane_bit-requires-2 c = in_planes _ _ c.self.invariant c.self.view_is 1 _ (omega arith) c.requires
 
 pub returns : goal.returns
-returns c = c.letter.ensures ∙ sym (letter_at-shown _ _ c.self.invariant c.self.view_is _ c.requires ∙ (λ p. letter_of (c.plane_bit.ensures p) (c.plane_bit-2.ensures p)))
+returns c = c.letter.ensures
+    ∙ sym (letter_at-shown _ _ c.self.invariant c.self.view_is _ c.requires
+    ∙ (λ p. letter_of (c.plane_bit.ensures p) (c.plane_bit-2.ensures p)))

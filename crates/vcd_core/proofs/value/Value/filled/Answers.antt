@@ -7,4 +7,5 @@ pub returns : goal.returns
 returns c =
     c.from_words.ensures
     ∙ letters_of-replicate c.args.width WORDS _ _ c.args.bit (omega arith)
-    (λ i inside. c.repeated-low.ensures i inside ∙ sym c.is_low.ensures) (λ i inside. c.repeated-high.ensures i inside ∙ sym c.is_high.ensures)
+    (λ i inside. c.repeated-low.ensures i inside ∙ sym c.is_low.ensures) (λ i inside. c.repeated-high.ensures i inside
+    ∙ sym c.is_high.ensures)

@@ -6,7 +6,8 @@ use Rattle.vcd_core.specs.declared.bit.Bit.{Bit}
 use Rattle.vcd_core.specs.Value.{letter_at}
 use Rattle.vcd_core.specs.WordRows.{low_of, high_of}
 use Rattle.vcd_core.specs.inside.Planes.{view_value, plane_bit}
-use Rattle.vcd_core.proofs.ValueLemmas.{letters_in-shown, letter_at-set_same, letter_at-set_other, length-shown, bit-shown, in_planes}
+use Rattle.vcd_core.proofs.ValueLemmas.{letters_in-shown, letter_at-set_same, letter_at-set_other, length-shown}
+use Rattle.vcd_core.proofs.ValueLemmas.{bit-shown, in_planes}
 use Rattle.vcd_core.proofs.value.Value.with_bit.Goals as goal
 
 -- a plane after the write has the bits of the letters after the write
@@ -16,7 +17,8 @@ plane_written : (plane : ℕ) (f : Bit → ℕ) (v : List Bit) (k : ℕ) (b : Bi
     → (i : ℕ) → i < length v → plane_bit plane new i ≡ f (letter_at (set v (length v - 1 - k) b) i)
 plane_written plane f v k b old new bit within is at others shown i inside =
     elim (cases_eq i k) [
-      | inl here ↦ ap (plane_bit plane new) here ∙ at ∙ sym is ∙ sym (ap f (ap (letter_at (set v (length v - 1 - k) b)) here ∙ letter_at-set_same v k b within))
+      | inl here ↦ ap (plane_bit plane new) here ∙ at ∙ sym is
+          ∙ sym (ap f (ap (letter_at (set v (length v - 1 - k) b)) here ∙ letter_at-set_same v k b within))
       | inr apart ↦ others i apart ∙ shown i inside ∙ sym (ap f (letter_at-set_other v k i b within inside apart))
     ]
 
@@ -24,11 +26,17 @@ pub write_plane_bit-requires-clause-within : goal.write_plane_bit-requires-claus
 write_plane_bit-requires-clause-within c = in_planes _ _ c.self.invariant c.self.view_is 0 _ (omega arith) c.requires
 
 pub write_plane_bit-requires-2-clause-within : goal.write_plane_bit-requires-2-clause-within
-write_plane_bit-requires-2-clause-within c = omega (arith, c.write_plane_bit.ensures.sized, in_planes _ _ c.self.invariant c.self.view_is 1 _ (omega arith) c.requires)
+write_plane_bit-requires-2-clause-within c =
+    omega (
+      arith,
+      c.write_plane_bit.ensures.sized,
+      in_planes _ _ c.self.invariant c.self.view_is 1 _ (omega arith) c.requires,
+    )
 
 pub invariant_of-result : goal.invariant_of-result
 invariant_of-result c =
-    let inside : c.args.k < c.self.inside.width = omega (arith, c.requires, length-shown _ _ c.self.invariant c.self.view_is) in
+    let inside : c.args.k < c.self.inside.width =
+    omega (arith, c.requires, length-shown _ _ c.self.invariant c.self.view_is) in
     let first = c.write_plane_bit.ensures in
     let second = c.write_plane_bit-2.ensures in
     record {
@@ -38,11 +46,13 @@ invariant_of-result c =
         sized = second.sized ∙ first.sized ∙ c.self.invariant.planes.sized;
         small = c.words_fit.ensures;
         clear = λ plane i which out below. elim (cases_eq plane 0) [
-          | inl low ↦ second.other_plane plane i which (omega arith) ∙ ap (λ p. plane_bit p c.write_plane_bit.new.words i) low
+          | inl low ↦ second.other_plane plane i which (omega arith)
+              ∙ ap (λ p. plane_bit p c.write_plane_bit.new.words i) low
               ∙ first.others i (omega arith) ∙ c.self.invariant.planes.clear 0 i (omega arith) out below
           | inr high ↦ let one : plane ≡ 1 = omega arith in
               ap (λ p. plane_bit p c.write_plane_bit-2.new.words i) one ∙ second.others i (omega arith)
-              ∙ first.other_plane 1 i (omega arith) (omega arith) ∙ c.self.invariant.planes.clear 1 i (omega arith) out below
+              ∙ first.other_plane 1 i (omega arith) (omega arith)
+              ∙ c.self.invariant.planes.clear 1 i (omega arith) out below
         ];
       };
     }
@@ -57,6 +67,8 @@ returns c =
     let second = c.write_plane_bit-2.ensures in
     letters_in-shown (set v (length v - 1 - c.args.k) c.args.bit) _ _ (sym (length-set v _ _ ∙ long))
     (λ i within. second.other_plane 0 i (omega arith) (omega arith)
-    ∙ plane_written 0 low_of v c.args.k c.args.bit _ _ _ c.requires c.is_low.ensures first.at first.others (λ i below. shown 0 i (omega arith) below) i (omega (arith, long)))
+    ∙ plane_written 0 low_of v c.args.k c.args.bit _ _ _ c.requires c.is_low.ensures first.at first.others
+    (λ i below. shown 0 i (omega arith) below) i (omega (arith, long)))
     (λ i within. plane_written 1 high_of v c.args.k c.args.bit _ _ _ c.requires c.is_high.ensures second.at
-    (λ i apart. second.others i apart ∙ first.other_plane 1 i (omega arith) (omega arith)) (λ i below. shown 1 i (omega arith) below) i (omega (arith, long)))
+    (λ i apart. second.others i apart ∙ first.other_plane 1 i (omega arith) (omega arith))
+    (λ i below. shown 1 i (omega arith) below) i (omega (arith, long)))

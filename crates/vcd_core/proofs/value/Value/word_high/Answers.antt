@@ -7,4 +7,5 @@ pub plane_word-requires : goal.plane_word-requires
 plane_word-requires c = word_within _ _ c.self.invariant c.self.view_is 1 c.args.k (omega arith) c.requires
 
 pub returns : goal.returns
-returns c = λ i inside. ap (λ w. bit_at w i) c.plane_word.ensures ∙ word-shown _ _ c.self.invariant c.self.view_is 1 c.args.k i (omega arith) c.requires inside
+returns c = λ i inside. ap (λ w. bit_at w i) c.plane_word.ensures
+    ∙ word-shown _ _ c.self.invariant c.self.view_is 1 c.args.k i (omega arith) c.requires inside

@@ -10,12 +10,14 @@ use Rattle.vcd_core.proofs.ValueLemmas.{same_words}
 use Rattle.vcd_core.proofs.value.ValuePartialEq.eq.Goals as goal
 
 -- values with the same letters have the same planes
-same_planes : (a b : Inside) (v w : List Bit) → IsValue a → IsValue b → view_value a ≡ v → view_value b ≡ w → v ≡ w → a ≡ b
+same_planes : (a b : Inside) (v w : List Bit) → IsValue a → IsValue b → view_value a ≡ v → view_value b ≡ w → v ≡ w
+    → a ≡ b
 same_planes a b v w is_a is_b shows_a shows_b same =
     sym (value_of-view_value a is_a) ∙ ap value_of (shows_a ∙ same ∙ sym shows_b) ∙ value_of-view_value b is_b
 
 -- and values of one width with the same words in use the same letters
-same_view : (a b : Inside) (v w : List Bit) (m : ℕ) → view_value a ≡ v → view_value b ≡ w → a.width ≤ 64 * m → a.width ≡ b.width
+same_view : (a b : Inside) (v w : List Bit) (m : ℕ) → view_value a ≡ v → view_value b ≡ w → a.width ≤ 64 * m
+    → a.width ≡ b.width
     → take (2 * m) a.planes ≡ take (2 * m) b.planes → v ≡ w
 unfolding view_value
 same_view a b v w m shows_a shows_b fits width same =
@@ -23,9 +25,14 @@ same_view a b v w m shows_a shows_b fits width same =
 
 pub returns : goal.returns
 returns c =
-    let fields = λ (e : c.args.self.now ≡ c.args.other.now). same_planes _ _ _ _ c.self.invariant c.other.invariant c.self.view_is c.other.view_is e in
+    let fields = λ (e : c.args.self.now ≡ c.args.other.now). same_planes _ _ _ _ c.self.invariant c.other.invariant
+    c.self.view_is c.other.view_is e in
     same_from_decides _ _
-    (Decides-like _ (λ (width, same). same_view _ _ _ _ c.words_in-used.result c.self.view_is c.other.view_is c.words_in-used.ensures.fits width same)
-    (λ e. (ap (λ (v : Inside). v.width) (fields e), ap (λ (v : Inside). take (2 * c.words_in-used.result) v.planes) (fields e)))
+    (Decides-like _ (λ (width, same). same_view _ _ _ _ c.words_in-used.result c.self.view_is c.other.view_is
+    c.words_in-used.ensures.fits width same)
+    (λ e. (
+      ap (λ (v : Inside). v.width) (fields e),
+      ap (λ (v : Inside). take (2 * c.words_in-used.result) v.planes) (fields e),
+    ))
     (Decides-and _ _ (Decides-eqb _ _) (slice_eq-Decides Decides-eqb _ _ _ c.eq-same.ensures)))
     (same_letters-Decides _ _)

@@ -5,4 +5,5 @@ use Rattle.vcd_decode.proofs.i2c_bus.bus_walk.annotations_of.Given as goal
 -- what was found and what the edges that are left bring are all annotations
 abbrev pub invariant-loop-edge : goal.invariant-loop-edge
 invariant-loop-edge l =
-    (l.found.items ++ walk_annotations l.bus (edge_events l.edge-iterator) ≡ walk_annotations None (edge_events l.fn.edges)) × IsBus l.bus
+    (l.found.items ++ walk_annotations l.bus (edge_events l.edge-iterator)
+    ≡ walk_annotations None (edge_events l.fn.edges)) × IsBus l.bus

@@ -9,14 +9,19 @@ loop-position-init c = λ d are sound ends. lead_none d _ _ _ (ap (map piece_vie
 
 pub loop-position-preserved-then-is_quiet_from : goal.loop-position-preserved-then-is_quiet_from
 loop-position-preserved-then-is_quiet_from c = λ d are sound ends.
-    cut_without d c.args.signals.now are sound c.args.from c.args.to c.requires.some ends c.loop-position.position c.index-signals-position.result c.loop-position-test.true c.index-signals-position.is
-    c.loop-position.pieces.items (c.is_quiet_from.ensures.0 c.if-is_quiet_from.true) (c.loop-position.invariant d are sound ends)
+    cut_without d c.args.signals.now are sound c.args.from c.args.to c.requires.some ends c.loop-position.position
+    c.index-signals-position.result c.loop-position-test.true c.index-signals-position.is
+    c.loop-position.pieces.items (c.is_quiet_from.ensures.0 c.if-is_quiet_from.true)
+    (c.loop-position.invariant d are sound ends)
 
 pub loop-position-preserved : goal.loop-position-preserved
 loop-position-preserved c = λ d are sound ends.
-    cut_with d c.args.signals.now are sound c.args.from c.args.to c.requires.some ends c.loop-position.position c.index-signals-position.result c.loop-position-test.true c.index-signals-position.is
-    c.loop-position.pieces.items c.in_ok-piece.piece _ c.in_ok-piece.ensures c.in_ok-push.ensures.items (c.loop-position.invariant d are sound ends)
+    cut_with d c.args.signals.now are sound c.args.from c.args.to c.requires.some ends c.loop-position.position
+    c.index-signals-position.result c.loop-position-test.true c.index-signals-position.is
+    c.loop-position.pieces.items c.in_ok-piece.piece _ c.in_ok-piece.ensures c.in_ok-push.ensures.items
+    (c.loop-position.invariant d are sound ends)
 
 pub returns : goal.returns
 returns c = λ d are sound ends.
-    cut_end d c.args.signals.now are c.args.from c.args.to c.loop-position.position _ (omega arith) (c.loop-position.invariant d are sound ends)
+    cut_end d c.args.signals.now are c.args.from c.args.to c.loop-position.position _ (omega arith)
+    (c.loop-position.invariant d are sound ends)

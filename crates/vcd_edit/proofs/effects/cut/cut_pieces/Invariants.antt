@@ -10,4 +10,5 @@ use Rattle.vcd_edit.proofs.effects.cut.cut_pieces.Given as goal
 -- the pieces lead to the cut of the signals so far
 abbrev pub invariant-loop-position : goal.invariant-loop-position
 invariant-loop-position l = (c : Contents) → c.signals ≡ map signal_contents l.signals → IsSound c → l.to ≤ c.end
-    → LeadEach c (neg_ℤ (pos (l.to - l.from))) (signal_after_cut (c.end - (l.to - l.from)) l.from l.to) l.position (map piece_view l.pieces.items)
+    → LeadEach c (neg_ℤ (pos (l.to - l.from))) (signal_after_cut (c.end - (l.to - l.from)) l.from l.to) l.position
+    (map piece_view l.pieces.items)

@@ -12,6 +12,8 @@ loop-i-preserved c =
     let l = c.loop-i in
     let cs = c.args.changes.now in
     record {
-      kept = kept_in_front c.args.ticks l.last.now cs l.i c.index-changes-i.result _ c.loop-i-test.true c.index-changes-i.is (rest_is cs l.i) (sym c.is_kept.ensures ∙ c.if-not-is_kept.false) c.args.before.now _ l.invariant.kept;
+      kept = kept_in_front c.args.ticks l.last.now cs l.i c.index-changes-i.result _ c.loop-i-test.true
+          c.index-changes-i.is (rest_is cs l.i) (sym c.is_kept.ensures ∙ c.if-not-is_kept.false) c.args.before.now _
+          l.invariant.kept;
       last = last_so_far c.args.before.now cs l.i c.index-changes-i.result c.loop-i-test.true c.index-changes-i.is;
     }

@@ -6,6 +6,7 @@ use Rattle.vcd_edit.proofs.effects.deglitch.count_kept_in_front.Given as goal
 -- all so far are left
 abbrev pub invariant-loop-i : goal.invariant-loop-i
 invariant-loop-i l = record {
-  kept : kept_changes l.ticks l.fn.before l.changes ≡ take l.i l.changes ++ kept_changes l.ticks l.last (drop l.i l.changes);
+  kept : kept_changes l.ticks l.fn.before l.changes ≡ take l.i l.changes
+      ++ kept_changes l.ticks l.last (drop l.i l.changes);
   last : l.last ≡ last_value l.fn.before (take l.i l.changes);
 }

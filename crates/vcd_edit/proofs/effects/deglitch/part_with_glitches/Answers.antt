@@ -10,7 +10,12 @@ loop-i-preserved-then-is_kept c =
     record {
       to = omega arith;
       less = l.invariant.less;
-      kept = (same.0, same.1, kept_after c.args.ticks l.last.now cs l.i c.index-changes-i.result _ c.loop-i-test.true c.index-changes-i.is (rest_is cs l.i) (sym c.is_kept.ensures ∙ c.if-is_kept.true) same.0 _ l.part.to l.invariant.to same.2);
+      kept = (
+        same.0,
+        same.1,
+        kept_after c.args.ticks l.last.now cs l.i c.index-changes-i.result _ c.loop-i-test.true c.index-changes-i.is
+            (rest_is cs l.i) (sym c.is_kept.ensures ∙ c.if-is_kept.true) same.0 _ l.part.to l.invariant.to same.2,
+      );
     }
 
 pub loop-i-preserved : goal.loop-i-preserved
@@ -24,11 +29,13 @@ loop-i-preserved c =
       kept = (
         same.0 ++ take (l.i - l.part.to) (drop l.part.to cs),
         part_long same.0 cs l.part.kept l.part.to l.i same.1 l.invariant.to (omega arith),
-        left_out_after c.args.ticks l.last.now cs l.i c.index-changes-i.result _ c.loop-i-test.true c.index-changes-i.is (rest_is cs l.i) (sym c.is_kept.ensures ∙ c.if-is_kept.false) same.0 _ l.part.to same.2,
+        left_out_after c.args.ticks l.last.now cs l.i c.index-changes-i.result _ c.loop-i-test.true c.index-changes-i.is
+            (rest_is cs l.i) (sym c.is_kept.ensures ∙ c.if-is_kept.false) same.0 _ l.part.to same.2,
       );
     }
 
 pub returns-clause-kept : goal.returns-clause-kept
 returns-clause-kept c =
     let l = c.loop-i in
-    part_done c.args.ticks l.last.now c.args.changes.now l.invariant.kept.0 _ l.part.kept l.part.to l.i (omega arith) l.invariant.to l.invariant.kept.1 l.invariant.kept.2
+    part_done c.args.ticks l.last.now c.args.changes.now l.invariant.kept.0 _ l.part.kept l.part.to l.i (omega arith)
+    l.invariant.to l.invariant.kept.1 l.invariant.kept.2

@@ -14,17 +14,22 @@ use Rattle.vcd_edit.proofs.DeglitchPlans.{kept_of_signal, none_left_out, deglitc
 use Rattle.vcd_edit.proofs.effects.deglitch.plan.Goals as goal
 
 pub signal_there-requires-clause-there : goal.signal_there-requires-clause-there
-signal_there-requires-clause-there c = (no_fault (Deglitch c.args.signal c.args.ticks) (contents c.args.capture.now) c.requires.allowed).signals
+signal_there-requires-clause-there c =
+    (no_fault (Deglitch c.args.signal c.args.ticks) (contents c.args.capture.now) c.requires.allowed).signals
 
 pub returns-then-from-changes : goal.returns-then-from-changes
 returns-then-from-changes c =
     let s : SignalContents = signal_contents c.signal_there.result.now in
     let n = c.args.ticks in
     let end = c.args.capture.now.end in
-    nothing_plan (Deglitch c.args.signal n) (contents c.args.capture.now) c.args.signal (λ s. steady_value n end (signal_value s)) s c.no_piece.result c.no_piece.ensures c.requires.sound c.requires.allowed
+    nothing_plan (Deglitch c.args.signal n) (contents c.args.capture.now) c.args.signal
+    (λ s. steady_value n end (signal_value s)) s c.no_piece.result c.no_piece.ensures c.requires.sound
+    c.requires.allowed
     c.signal_there.ensures.is (deglitch_is_wave c.args.signal n (contents c.args.capture.now)) refl
     (sym (kept_of_signal n end s c.signal_there.ensures.sound)
-    ∙ none_left_out n s c.changes-changes.result.now c.x_value-x.result c.changes-changes.ensures.changes c.x_value-x.ensures c.count_kept_in_front-from.result (omega arith) c.count_kept_in_front-from.ensures.kept c.if-from-changes.true)
+    ∙ none_left_out n s c.changes-changes.result.now c.x_value-x.result c.changes-changes.ensures.changes
+    c.x_value-x.ensures c.count_kept_in_front-from.result (omega arith) c.count_kept_in_front-from.ensures.kept
+    c.if-from-changes.true)
 
 pub returns : goal.returns
 returns c =
@@ -36,10 +41,23 @@ returns c =
     let part = c.part_with_glitches-part.result in
     let later : List Change = take (length cs - from) (drop from cs) in
     let rest : later ≡ drop from cs = take_all (length cs - from) (drop from cs) (omega (arith, length-drop from cs)) in
-    let piece : Piece = record { signal = c.args.signal; from = from; to = from + part.to; changes = c.in_ok-kept_list.field-0; by = pos 0 } in
-    wave_plan (Deglitch c.args.signal n) (contents c.args.capture.now) c.args.signal (λ s. steady_value n end (signal_value s)) (pos 0) s
+    let piece : Piece = record {
+      signal = c.args.signal;
+      from = from;
+      to = from + part.to;
+      changes =
+          c.in_ok-kept_list.field-0;
+      by = pos 0;
+    } in
+    wave_plan (Deglitch c.args.signal n) (contents c.args.capture.now) c.args.signal
+    (λ s. steady_value n end (signal_value s)) (pos 0) s
     piece c.one_piece.result c.requires.sound c.requires.allowed
-    c.signal_there.ensures.within c.signal_there.ensures.is (deglitch_is_wave c.args.signal n (contents c.args.capture.now)) refl refl
-    (deglitch_gives n s cs c.x_value-x.result c.changes-changes.ensures.changes c.x_value-x.ensures from (omega arith) c.count_kept_in_front-from.ensures.kept
-    c.last_value-before.result later c.in_ok-kept_list.field-0.items part.kept part.to (c.last_value-before.ensures ∙ ap (λ (w : ℕ). last_value (all_x w) (take from cs)) c.width.ensures.width) rest c.part_with_glitches-part.ensures.kept c.in_ok-kept_list.ensures
-    c.args.signal end piece c.signal_there.ensures.sound c.requires.sound.end c.part_with_glitches-part.ensures.within refl) c.one_piece.ensures
+    c.signal_there.ensures.within c.signal_there.ensures.is
+    (deglitch_is_wave c.args.signal n (contents c.args.capture.now)) refl refl
+    (deglitch_gives n s cs c.x_value-x.result c.changes-changes.ensures.changes c.x_value-x.ensures from (omega arith)
+    c.count_kept_in_front-from.ensures.kept
+    c.last_value-before.result later c.in_ok-kept_list.field-0.items part.kept part.to (c.last_value-before.ensures
+    ∙ ap (λ (w : ℕ). last_value (all_x w) (take from cs)) c.width.ensures.width) rest
+    c.part_with_glitches-part.ensures.kept c.in_ok-kept_list.ensures
+    c.args.signal end piece c.signal_there.ensures.sound c.requires.sound.end c.part_with_glitches-part.ensures.within
+    refl) c.one_piece.ensures

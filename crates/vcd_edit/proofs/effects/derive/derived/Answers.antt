@@ -13,12 +13,16 @@ returns c =
     (ap (λ (k : ℕ). signal_at d k) (sym c.first_operand.ensures) ∙ c.signal_there-first.ensures.is)
     (ap (λ (k : ℕ). signal_at d k) (sym c.last_operand.ensures) ∙ c.signal_there-last.ensures.is)
     c.in_ok-share.ensures c.in_ok-copy_word.ensures c.in_ok-name_of_one_word.ensures
-    (c.in_ok-derived_wave.ensures d.end c.signal_there-first.ensures.sound.ticks c.signal_there-last.ensures.sound.ticks)
+    (c.in_ok-derived_wave.ensures d.end c.signal_there-first.ensures.sound.ticks
+    c.signal_there-last.ensures.sound.ticks)
 
 pub derived_wave-requires-clause-one_bit : goal.derived_wave-requires-clause-one_bit
 derived_wave-requires-clause-one_bit c = λ two.
     let d : Contents = contents c.args.capture.now in
     let narrow = operands_narrow d c.args.rule c.requires.narrow two in
     let first = ap (λ (k : ℕ). signal_at d k) (sym c.first_operand.ensures) ∙ c.signal_there-first.ensures.is in
-    let last = ap (λ (k : ℕ). signal_at d k) (sym c.last_operand.ensures) ∙ c.signal_there-last.ensures.is in
-    (sym (ap (λ (s : SignalContents). s.width) first) ∙ narrow.0, sym (ap (λ (s : SignalContents). s.width) last) ∙ narrow.1)
+    let last = ap (λ (k : ℕ). signal_at d k) (sym c.last_operand.ensures) ∙ c.signal_there-last.ensures.is in (
+      sym (ap (λ (s : SignalContents). s.width) first) ∙ narrow.0,
+      sym (ap (λ (s : SignalContents). s.width) last)
+          ∙ narrow.1,
+    )

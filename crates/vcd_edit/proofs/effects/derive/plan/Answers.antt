@@ -7,12 +7,16 @@ use Rattle.vcd_edit.proofs.DerivedSignals.{derive_plan}
 use Rattle.vcd_edit.proofs.effects.derive.plan.Goals as goal
 
 pub derived-requires-clause-there : goal.derived-requires-clause-there
-derived-requires-clause-there c = (no_fault (Derive c.args.word c.args.rule) (contents c.args.capture.now) c.requires.allowed).signals
+derived-requires-clause-there c =
+    (no_fault (Derive c.args.word c.args.rule) (contents c.args.capture.now) c.requires.allowed).signals
 
 pub derived-requires-clause-narrow : goal.derived-requires-clause-narrow
-derived-requires-clause-narrow c = (no_fault (Derive c.args.word c.args.rule) (contents c.args.capture.now) c.requires.allowed).scalars
+derived-requires-clause-narrow c =
+    (no_fault (Derive c.args.word c.args.rule) (contents c.args.capture.now) c.requires.allowed).scalars
 
 pub returns : goal.returns
 returns c =
-    derive_plan (contents c.args.capture.now) c.args.word c.args.rule (length c.signals.result.now) (signal_contents c.in_ok-signal.signal) c.new.result.items c.requires.sound c.requires.allowed
-    (ap length c.signals.ensures ∙ sym (length-map c.args.capture.now.signals signal_contents)) c.in_ok-signal.ensures c.new.ensures.items
+    derive_plan (contents c.args.capture.now) c.args.word c.args.rule (length c.signals.result.now)
+    (signal_contents c.in_ok-signal.signal) c.new.result.items c.requires.sound c.requires.allowed
+    (ap length c.signals.ensures ∙ sym (length-map c.args.capture.now.signals signal_contents)) c.in_ok-signal.ensures
+    c.new.ensures.items

@@ -4,4 +4,5 @@ use Rattle.vcd_edit.proofs.effects.derive.wave_at_changes.Given as goal
 
 -- the wave and the changes that are left are all
 abbrev pub invariant-loop-change : goal.invariant-loop-change
-invariant-loop-change l = IsMade (map (operand_change l.rule) l.changes) (map (operand_change l.rule) (drop l.change-index l.changes)) l.wave
+invariant-loop-change l =
+    IsMade (map (operand_change l.rule) l.changes) (map (operand_change l.rule) (drop l.change-index l.changes)) l.wave

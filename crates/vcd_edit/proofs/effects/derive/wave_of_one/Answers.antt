@@ -9,6 +9,7 @@ pub returns : goal.returns
 returns c = λ end upto. (
   c.in_ok-wave.ensures.width,
   derived_of_one_is c.args.rule c.args.operand.now end c.in_ok-wave.wave upto
-      (subst (λ (cs : List Change). IsMade (map (operand_change c.args.rule) cs) [] c.in_ok-wave.wave) c.changes.ensures.changes c.in_ok-wave.ensures)
+      (subst (λ (cs : List Change). IsMade (map (operand_change c.args.rule) cs) [] c.in_ok-wave.wave)
+      c.changes.ensures.changes c.in_ok-wave.ensures)
       (subst (IsWave c.in_ok-wave.wave.width) c.changes-changes.ensures.changes c.changes-changes.ensures.form),
 )

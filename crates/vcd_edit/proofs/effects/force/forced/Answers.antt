@@ -12,10 +12,17 @@ returns-then-to-end c =
     record {
       signal = ap (λ (q : PieceView). q.signal) c.piece_between.ensures;
       moves = ap (λ (q : PieceView). q.by) c.piece_between.ensures;
-      leads = force_to_end c.args.from c.args.to c.args.end c.args.value s c.requires.sound.wave c.requires.sound.ticks c.requires.end c.requires.some p
-          (ap (λ (q : PieceView). q.from) c.piece_between.ensures) (ap (λ (q : PieceView). q.by) c.piece_between.ensures)
+      leads = force_to_end c.args.from c.args.to c.args.end c.args.value s c.requires.sound.wave c.requires.sound.ticks
+          c.requires.end c.requires.some p
+          (ap (λ (q : PieceView). q.from) c.piece_between.ensures)
+          (ap (λ (q : PieceView). q.by) c.piece_between.ensures)
           (omega (arith, c.requires.within)) (ap (λ (q : PieceView). q.to) c.piece_between.ensures)
-          (cc (ap (λ (q : PieceView). q.changes) c.piece_between.ensures, c.in_ok-put_change.ensures, c.new-changes.ensures.items, c.value_just_before.ensures));
+          (cc (
+            ap (λ (q : PieceView). q.changes) c.piece_between.ensures,
+            c.in_ok-put_change.ensures,
+            c.new-changes.ensures.items,
+            c.value_just_before.ensures,
+          ));
     }
 
 pub returns : goal.returns
@@ -25,8 +32,17 @@ returns c =
     record {
       signal = ap (λ (q : PieceView). q.signal) c.piece_between-2.ensures;
       moves = ap (λ (q : PieceView). q.by) c.piece_between-2.ensures;
-      leads = force_before_end c.args.from c.args.to c.args.end c.args.value s c.requires.sound.wave c.requires.sound.ticks c.requires.end c.requires.some p
-          (ap (λ (q : PieceView). q.from) c.piece_between-2.ensures) (ap (λ (q : PieceView). q.by) c.piece_between-2.ensures)
+      leads = force_before_end c.args.from c.args.to c.args.end c.args.value s c.requires.sound.wave
+          c.requires.sound.ticks c.requires.end c.requires.some p
+          (ap (λ (q : PieceView). q.from) c.piece_between-2.ensures)
+          (ap (λ (q : PieceView). q.by) c.piece_between-2.ensures)
           (omega arith) (ap (λ (q : PieceView). q.to) c.piece_between-2.ensures)
-          (cc (ap (λ (q : PieceView). q.changes) c.piece_between-2.ensures, c.in_ok-put_change.ensures, c.in_ok-put_change-2.ensures, c.new-changes.ensures.items, c.value_just_before.ensures, c.at.ensures));
+          (cc (
+            ap (λ (q : PieceView). q.changes) c.piece_between-2.ensures,
+            c.in_ok-put_change.ensures,
+            c.in_ok-put_change-2.ensures,
+            c.new-changes.ensures.items,
+            c.value_just_before.ensures,
+            c.at.ensures,
+          ));
     }

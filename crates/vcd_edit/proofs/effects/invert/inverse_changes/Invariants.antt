@@ -6,4 +6,5 @@ use Rattle.vcd_edit.proofs.effects.invert.inverse_changes.Given as goal
 -- what is listed and what is left are all
 abbrev pub invariant-loop-change : goal.invariant-loop-change
 invariant-loop-change l =
-    l.inverse.items ++ thinned_list l.last (map (with_value (map not_bit)) (drop l.change-index l.changes)) ≡ thinned_list l.fn.before (map (with_value (map not_bit)) l.changes)
+    l.inverse.items ++ thinned_list l.last (map (with_value (map not_bit)) (drop l.change-index l.changes))
+    ≡ thinned_list l.fn.before (map (with_value (map not_bit)) l.changes)

@@ -7,4 +7,5 @@ pub returns : goal.returns
 returns c =
     c.from_words.ensures
     ∙ ap (λ n. letters_of n c.write_inverse.new.low c.write_inverse.new.high) c.width.ensures.width
-    ∙ inverse_letters c.args.value.now c.write_inverse.new.low c.write_inverse.new.high c.write_inverse.ensures.low c.write_inverse.ensures.high
+    ∙ inverse_letters c.args.value.now c.write_inverse.new.low c.write_inverse.new.high c.write_inverse.ensures.low
+    c.write_inverse.ensures.high

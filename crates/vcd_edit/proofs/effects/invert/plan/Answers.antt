@@ -11,13 +11,18 @@ use Rattle.vcd_edit.proofs.Inverses.{inverse_changes, invert_is_wave}
 use Rattle.vcd_edit.proofs.effects.invert.plan.Goals as goal
 
 pub signal_there-requires-clause-there : goal.signal_there-requires-clause-there
-signal_there-requires-clause-there c = (no_fault (Invert c.args.signal) (contents c.args.capture.now) c.requires.allowed).signals
+signal_there-requires-clause-there c =
+    (no_fault (Invert c.args.signal) (contents c.args.capture.now) c.requires.allowed).signals
 
 pub returns : goal.returns
 returns c =
     let s : SignalContents = signal_contents c.signal_there.result.now in
-    let told = c.in_ok-changes.ensures ∙ (λ i. thinned_list (c.x_value.ensures i) (map (with_value (map not_bit)) (c.changes.ensures.changes i)))
+    let told = c.in_ok-changes.ensures
+    ∙ (λ i. thinned_list (c.x_value.ensures i) (map (with_value (map not_bit)) (c.changes.ensures.changes i)))
     ∙ inverse_changes c.args.capture.now.end s c.signal_there.ensures.sound.wave c.signal_there.ensures.sound.ticks in
-    wave_plan (Invert c.args.signal) (contents c.args.capture.now) c.args.signal inverse_value (pos 0) s c.whole_piece.result c.one_piece.result c.requires.sound c.requires.allowed
-    c.signal_there.ensures.within c.signal_there.ensures.is (invert_is_wave c.args.signal (contents c.args.capture.now)) refl refl
-    (whole_gives c.whole_piece.result c.args.signal s c.in_ok-changes.changes.items c.args.capture.now.end (inverse_value s) c.whole_piece.ensures told) c.one_piece.ensures
+    wave_plan (Invert c.args.signal) (contents c.args.capture.now) c.args.signal inverse_value (pos 0) s
+    c.whole_piece.result c.one_piece.result c.requires.sound c.requires.allowed
+    c.signal_there.ensures.within c.signal_there.ensures.is (invert_is_wave c.args.signal (contents c.args.capture.now))
+    refl refl
+    (whole_gives c.whole_piece.result c.args.signal s c.in_ok-changes.changes.items c.args.capture.now.end
+    (inverse_value s) c.whole_piece.ensures told) c.one_piece.ensures

@@ -14,10 +14,14 @@ loop-j-init c = record {
 
 pub loop-j-preserved : goal.loop-j-preserved
 loop-j-preserved c = record {
-  low = shows_more c.args.value.now low_of c.loop-j.low c.loop-j.j _ (omega (arith, c.loop-j.invariant.low_sized, c.loop-j-test.true, c.words_in-j-end.ensures.most))
-      (inverse_low c.args.value.now c.loop-j.j c.word_high-high_bits.result c.word_low.result c.word_low.type_inv c.word_high-high_bits.ensures c.word_low.ensures) c.loop-j.invariant.low;
-  high = shows_more c.args.value.now high_of c.loop-j.high c.loop-j.j _ (omega (arith, c.loop-j.invariant.high_sized, c.loop-j-test.true, c.words_in-j-end.ensures.most))
-      (inverse_high c.args.value.now c.loop-j.j c.word_high-high_bits.result c.word_high-high_bits.ensures) c.loop-j.invariant.high;
+  low = shows_more c.args.value.now low_of c.loop-j.low c.loop-j.j _
+      (omega (arith, c.loop-j.invariant.low_sized, c.loop-j-test.true, c.words_in-j-end.ensures.most))
+      (inverse_low c.args.value.now c.loop-j.j c.word_high-high_bits.result c.word_low.result c.word_low.type_inv
+      c.word_high-high_bits.ensures c.word_low.ensures) c.loop-j.invariant.low;
+  high = shows_more c.args.value.now high_of c.loop-j.high c.loop-j.j _
+      (omega (arith, c.loop-j.invariant.high_sized, c.loop-j-test.true, c.words_in-j-end.ensures.most))
+      (inverse_high c.args.value.now c.loop-j.j c.word_high-high_bits.result c.word_high-high_bits.ensures)
+      c.loop-j.invariant.high;
   low_sized = length-set c.loop-j.low c.loop-j.j _ ∙ c.loop-j.invariant.low_sized;
   high_sized = length-set c.loop-j.high c.loop-j.j _ ∙ c.loop-j.invariant.high_sized;
 }

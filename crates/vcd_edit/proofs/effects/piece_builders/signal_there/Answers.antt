@@ -9,10 +9,12 @@ bounds-signals-position c = rw (c.signals.ensures) (there c.args.capture.now c.a
 
 pub returns : goal.returns
 returns c =
-    let within : c.args.position < length c.args.capture.now.signals = there c.args.capture.now c.args.position c.requires.there in
+    let within : c.args.position < length c.args.capture.now.signals =
+    there c.args.capture.now c.args.position c.requires.there in
     let here = rw (c.signals.ensures) at c.index-signals-position.is in
     record {
       is = contents_at c.args.capture.now.signals c.args.position c.index-signals-position.result within here;
-      sound = sound_here c.args.capture.now c.args.position c.index-signals-position.result c.requires.sound within here;
+      sound = sound_here c.args.capture.now c.args.position c.index-signals-position.result c.requires.sound within
+          here;
       within = omega (arith, within, length-map c.args.capture.now.signals signal_contents);
     }

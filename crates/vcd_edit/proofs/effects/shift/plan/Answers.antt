@@ -10,11 +10,14 @@ use Rattle.vcd_edit.proofs.Shifts.{shift_is_wave}
 use Rattle.vcd_edit.proofs.effects.shift.plan.Goals as goal
 
 pub signal_there-old-requires-clause-there : goal.signal_there-old-requires-clause-there
-signal_there-old-requires-clause-there c = (no_fault (Shift c.args.signal c.args.by) (contents c.args.capture.now) c.requires.allowed).signals
+signal_there-old-requires-clause-there c =
+    (no_fault (Shift c.args.signal c.args.by) (contents c.args.capture.now) c.requires.allowed).signals
 
 pub returns : goal.returns
 returns c =
     let piece = rw (c.end.ensures, to_z-of_z w64 c.args.by c.ranges.by) at c.in_ok-piece.ensures in
-    wave_plan (Shift c.args.signal c.args.by) (contents c.args.capture.now) c.args.signal (shift_value c.args.capture.now.end c.args.by) c.args.by (signal_contents c.signal_there-old.result.now)
-    c.in_ok-piece.piece c.one_piece.result c.requires.sound c.requires.allowed c.signal_there-old.ensures.within c.signal_there-old.ensures.is
+    wave_plan (Shift c.args.signal c.args.by) (contents c.args.capture.now) c.args.signal
+    (shift_value c.args.capture.now.end c.args.by) c.args.by (signal_contents c.signal_there-old.result.now)
+    c.in_ok-piece.piece c.one_piece.result c.requires.sound c.requires.allowed c.signal_there-old.ensures.within
+    c.signal_there-old.ensures.is
     (shift_is_wave c.args.signal c.args.by (contents c.args.capture.now)) refl refl piece c.one_piece.ensures

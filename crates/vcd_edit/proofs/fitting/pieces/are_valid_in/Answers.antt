@@ -10,5 +10,8 @@ use Rattle.vcd_edit.proofs.fitting.pieces.are_valid_in.Goals as goal
 pub returns : goal.returns
 returns c =
     let ss = map signal_contents c.args.signals.now in
-    let each : IsTrue c.all.result ↔ All (λ (p : Piece). IsValidIn c.args.end ss (piece_view p)) c.args.pieces.now = search rules in
-    ((λ yes. All-map (IsValidIn c.args.end ss) piece_view c.args.pieces.now (each.0 yes)), (λ all. each.1 (unmapped (IsValidIn c.args.end ss) piece_view c.args.pieces.now all)))
+    let each : IsTrue c.all.result ↔ All (λ (p : Piece). IsValidIn c.args.end ss (piece_view p)) c.args.pieces.now =
+    search rules in (
+      (λ yes. All-map (IsValidIn c.args.end ss) piece_view c.args.pieces.now (each.0 yes)),
+      (λ all. each.1 (unmapped (IsValidIn c.args.end ss) piece_view c.args.pieces.now all)),
+    )

@@ -7,4 +7,6 @@ use Rattle.vcd_edit.proofs.fitting.pieces.late_pieces.Given as goal
 
 abbrev pub invariant-loop-piece : goal.invariant-loop-piece
 invariant-loop-piece l =
-    (l.count ≡ sum_by (λ (p : Piece). late_count l.end (slice_index_or (map signal_contents l.signals) p.signal no_signal).changes) (take l.piece-index l.pieces)) × (l.count ≤ l.piece-index)
+    (l.count ≡ sum_by (λ (p : Piece). late_count l.end
+    (slice_index_or (map signal_contents l.signals) p.signal no_signal).changes) (take l.piece-index l.pieces))
+    × (l.count ≤ l.piece-index)

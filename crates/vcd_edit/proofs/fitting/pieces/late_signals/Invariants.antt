@@ -5,4 +5,6 @@ use Rattle.vcd_edit.specs.inside.Fitting.{late_count}
 use Rattle.vcd_edit.proofs.fitting.pieces.late_signals.Given as goal
 
 abbrev pub invariant-loop-signal : goal.invariant-loop-signal
-invariant-loop-signal l = (l.count ≡ sum_by (λ (s : Signal). late_count l.end s.wave.changes) (take l.signal-index l.signals)) × (l.count ≤ l.signal-index)
+invariant-loop-signal l =
+    (l.count ≡ sum_by (λ (s : Signal). late_count l.end s.wave.changes) (take l.signal-index l.signals))
+    × (l.count ≤ l.signal-index)

@@ -12,8 +12,10 @@ returns-then-are_sound c =
     let signals = c.args.signals.now in
     let ss = map signal_contents signals in
     let front = sym (take-map signal_contents c.args.at signals) in
-    let back = ap (map signal_contents) (take_rest signals (c.args.at + 1)) ∙ sym (drop-map signal_contents (c.args.at + 1) signals) in (
-      (λ yes. of_others P ss c.args.at (subst (All P) front (c.are_sound.ensures.0 c.if-are_sound.true)) (subst (All P) back (c.are_sound-then-are_sound.ensures.0 yes))),
+    let back = ap (map signal_contents) (take_rest signals (c.args.at + 1))
+    ∙ sym (drop-map signal_contents (c.args.at + 1) signals) in (
+      (λ yes. of_others P ss c.args.at (subst (All P) front (c.are_sound.ensures.0 c.if-are_sound.true))
+          (subst (All P) back (c.are_sound-then-are_sound.ensures.0 yes))),
       (λ all. c.are_sound-then-are_sound.ensures.1 (subst (All P) (sym back) (others_back P ss c.args.at all))),
     )
 
@@ -22,4 +24,6 @@ returns-else-are_sound c =
     let P = IsSoundSignal c.args.end in
     let signals = c.args.signals.now in
     failed c.are_sound.result _ c.if-are_sound.false
-    (λ all. c.are_sound.ensures.1 (subst (All P) (take-map signal_contents c.args.at signals) (others_front P (map signal_contents signals) c.args.at all)))
+    (λ all. c.are_sound.ensures.1
+    (subst (All P) (take-map signal_contents c.args.at signals)
+    (others_front P (map signal_contents signals) c.args.at all)))

@@ -15,9 +15,12 @@ returns-then-not-may_follow c =
     let floor = floor_after 0 c.args.before.now in
     let value = value_following c.args.width c.args.before.now in
     let x = c.index-changes-i.result in
-    let test : may_follow (floor_after floor (take c.loop-i.i cs)) (last_value value (take c.loop-i.i cs)) x ≡ c.may_follow.result =
-    (λ j. may_follow (sym c.changes_after.ensures.floor j) (sym (c.changes_after.ensures.value c.args.width) j) x) ∙ sym c.may_follow.ensures in
-    follow_stops floor value cs c.loop-i.i x (omega arith) c.index-changes-i.is _ c.loop-i.invariant (test ∙ c.if-not-may_follow.true)
+    let test : may_follow (floor_after floor (take c.loop-i.i cs)) (last_value value (take c.loop-i.i cs)) x
+    ≡ c.may_follow.result =
+    (λ j. may_follow (sym c.changes_after.ensures.floor j) (sym (c.changes_after.ensures.value c.args.width) j) x)
+    ∙ sym c.may_follow.ensures in
+    follow_stops floor value cs c.loop-i.i x (omega arith) c.index-changes-i.is _ c.loop-i.invariant (test
+    ∙ c.if-not-may_follow.true)
 
 pub loop-i-preserved : goal.loop-i-preserved
 loop-i-preserved c =
@@ -25,9 +28,12 @@ loop-i-preserved c =
     let floor = floor_after 0 c.args.before.now in
     let value = value_following c.args.width c.args.before.now in
     let x = c.index-changes-i.result in
-    let test : may_follow (floor_after floor (take c.loop-i.i cs)) (last_value value (take c.loop-i.i cs)) x ≡ c.may_follow.result =
-    (λ j. may_follow (sym c.changes_after.ensures.floor j) (sym (c.changes_after.ensures.value c.args.width) j) x) ∙ sym c.may_follow.ensures in
-    follow_more floor value cs c.loop-i.i x (omega arith) c.index-changes-i.is _ c.loop-i.invariant (test ∙ c.if-not-may_follow.false)
+    let test : may_follow (floor_after floor (take c.loop-i.i cs)) (last_value value (take c.loop-i.i cs)) x
+    ≡ c.may_follow.result =
+    (λ j. may_follow (sym c.changes_after.ensures.floor j) (sym (c.changes_after.ensures.value c.args.width) j) x)
+    ∙ sym c.may_follow.ensures in
+    follow_more floor value cs c.loop-i.i x (omega arith) c.index-changes-i.is _ c.loop-i.invariant (test
+    ∙ c.if-not-may_follow.false)
 
 pub returns : goal.returns
 unfolding may_all_follow

@@ -9,7 +9,14 @@ use Rattle.vcd_edit.proofs.pieces.exchanges.put_all.Goals as goal
 
 pub loop-piece-init : goal.loop-piece-init
 unfolding with_pieces
-loop-piece-init c = record { rest = refl; there = refl; back = tt; ready = c.requires.ready; apart = c.requires.apart; room = c.requires.room }
+loop-piece-init c = record {
+  rest = refl;
+  there = refl;
+  back = tt;
+  ready = c.requires.ready;
+  apart = c.requires.apart;
+  room = c.requires.room;
+}
 
 pub put_one-requires-clause-ready : goal.put_one-requires-clause-ready
 put_one-requires-clause-ready c =
@@ -17,7 +24,8 @@ put_one-requires-clause-ready c =
     let x = c.piece-item.result in
     let inside : l.piece-index < length l.pieces = omega arith in
     subst (λ p. PieceReadyIn (contents l.capture) (piece_view p)) c.piece-item.is
-    (next_ready (contents c.args.capture.now) c.args.pieces.now l.pieces l.piece-index x x (contents l.capture) (contents l.capture) l.capture.signals l.capture.signals inside c.piece-item.is l.invariant)
+    (next_ready (contents c.args.capture.now) c.args.pieces.now l.pieces l.piece-index x x (contents l.capture)
+    (contents l.capture) l.capture.signals l.capture.signals inside c.piece-item.is l.invariant)
 
 pub put_one-requires-clause-room : goal.put_one-requires-clause-room
 put_one-requires-clause-room c =
@@ -25,7 +33,8 @@ put_one-requires-clause-room c =
     let x = c.piece-item.result in
     let inside : l.piece-index < length l.pieces = omega arith in
     subst (HasRoomForPiece l.capture.signals) c.piece-item.is
-    (next_room (contents c.args.capture.now) c.args.pieces.now l.pieces l.piece-index x x (contents l.capture) (contents l.capture) l.capture.signals l.capture.signals inside c.piece-item.is l.invariant)
+    (next_room (contents c.args.capture.now) c.args.pieces.now l.pieces l.piece-index x x (contents l.capture)
+    (contents l.capture) l.capture.signals l.capture.signals inside c.piece-item.is l.invariant)
 
 pub loop-piece-preserved : goal.loop-piece-preserved
 loop-piece-preserved c =
@@ -33,10 +42,15 @@ loop-piece-preserved c =
     let x = c.piece-item.result in
     let e = c.put_one.ensures in
     let inside : l.piece-index < length l.pieces = omega arith in
-    let there : contents c.put_one.new.capture ≡ with_piece (contents l.capture) (piece_view x) = e.there ∙ ap (λ p. with_piece (contents l.capture) (piece_view p)) (sym c.piece-item.is) in
-    let back : IsInversePiece (signal_at (contents l.capture) x.signal).changes (piece_view x) (piece_view c.put_one.new.piece) =
-    subst (λ (p : Piece). IsInversePiece (signal_at (contents l.capture) p.signal).changes (piece_view p) (piece_view c.put_one.new.piece)) (sym c.piece-item.is) e.back in
+    let there : contents c.put_one.new.capture ≡ with_piece (contents l.capture) (piece_view x) = e.there
+    ∙ ap (λ p. with_piece (contents l.capture) (piece_view p)) (sym c.piece-item.is) in
+    let back : IsInversePiece (signal_at (contents l.capture) x.signal).changes (piece_view x)
+    (piece_view c.put_one.new.piece) =
+    subst (λ (p : Piece). IsInversePiece (signal_at (contents l.capture) p.signal).changes (piece_view p)
+    (piece_view c.put_one.new.piece)) (sym c.piece-item.is) e.back in
     let others : (k : ℕ) → k ≢ x.signal → wave_at c.put_one.new.capture.signals k ≡ wave_at l.capture.signals k =
-    subst (λ (p : Piece). (k : ℕ) → k ≢ p.signal → wave_at c.put_one.new.capture.signals k ≡ wave_at l.capture.signals k) (sym c.piece-item.is) e.others in
-    put_more (contents c.args.capture.now) c.args.pieces.now l.pieces l.piece-index x c.put_one.new.piece (contents l.capture) (contents c.put_one.new.capture)
+    subst (λ (p : Piece). (k : ℕ) → k ≢ p.signal
+    → wave_at c.put_one.new.capture.signals k ≡ wave_at l.capture.signals k) (sym c.piece-item.is) e.others in
+    put_more (contents c.args.capture.now) c.args.pieces.now l.pieces l.piece-index x c.put_one.new.piece
+    (contents l.capture) (contents c.put_one.new.capture)
     l.capture.signals c.put_one.new.capture.signals inside c.piece-item.is l.invariant there back others

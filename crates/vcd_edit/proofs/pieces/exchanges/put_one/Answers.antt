@@ -10,10 +10,20 @@ pub returns-clause-there : goal.returns-clause-there
 returns-clause-there c =
     let old : Contents = contents c.args.capture.now in
     let k = c.args.piece.now.signal in
-    let within : k < length c.args.capture.now.signals = omega (arith, c.requires.ready.signal, length-map c.args.capture.now.signals signal_contents) in
-    ap (λ (ss : List SignalContents). record { header = old.header; timescale = old.timescale; end = old.end; signals = ss })
-    (changes_written c.args.capture.now.signals k c.item_mut.result.now c.exchange_piece.new.wave _ within c.item_mut.ensures.value c.exchange_piece.ensures.width
-    (c.exchange_piece.ensures.there ∙ ap (λ (s : SignalContents). changes_with_piece (piece_view c.args.piece.now) s.changes) (sym (contents_at c.args.capture.now.signals k c.item_mut.result.now within c.item_mut.ensures.value))))
+    let within : k < length c.args.capture.now.signals =
+    omega (arith, c.requires.ready.signal, length-map c.args.capture.now.signals signal_contents) in
+    ap (λ (ss : List SignalContents). record {
+      header = old.header;
+      timescale = old.timescale;
+      end = old.end;
+      signals =
+          ss;
+    })
+    (changes_written c.args.capture.now.signals k c.item_mut.result.now c.exchange_piece.new.wave _ within
+    c.item_mut.ensures.value c.exchange_piece.ensures.width
+    (c.exchange_piece.ensures.there
+    ∙ ap (λ (s : SignalContents). changes_with_piece (piece_view c.args.piece.now) s.changes)
+    (sym (contents_at c.args.capture.now.signals k c.item_mut.result.now within c.item_mut.ensures.value))))
 
 pub returns-clause-others : goal.returns-clause-others
 returns-clause-others c = λ k other. other_waves c.args.capture.now.signals c.args.piece.now.signal k _ other

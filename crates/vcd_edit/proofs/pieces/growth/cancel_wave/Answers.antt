@@ -6,5 +6,12 @@ use Rattle.vcd_edit.proofs.pieces.growth.cancel_wave.Goals as goal
 pub returns : goal.returns
 returns c =
     let old : Contents = contents c.args.capture.now in
-    ap (λ (ss : List SignalContents). record { header = old.header; timescale = old.timescale; end = old.end; signals = ss })
-    (contents_kept c.args.capture.now.signals c.args.signal c.item_mut.result.now c.cancel_splice.new.self c.requires c.item_mut.ensures.value c.cancel_splice.ensures.width c.cancel_splice.ensures.changes)
+    ap (λ (ss : List SignalContents). record {
+      header = old.header;
+      timescale = old.timescale;
+      end = old.end;
+      signals =
+          ss;
+    })
+    (contents_kept c.args.capture.now.signals c.args.signal c.item_mut.result.now c.cancel_splice.new.self c.requires
+    c.item_mut.ensures.value c.cancel_splice.ensures.width c.cancel_splice.ensures.changes)

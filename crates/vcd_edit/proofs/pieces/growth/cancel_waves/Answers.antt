@@ -7,5 +7,6 @@ pub cancel_wave-requires : goal.cancel_wave-requires
 cancel_wave-requires c =
     let l = c.loop-signal in
     let old = c.args.capture.now.signals in
-    let count : length (map signal_contents l.capture.signals) ≡ length (map signal_contents old) = ap (λ (n : Contents). length n.signals) l.invariant in
+    let count : length (map signal_contents l.capture.signals) ≡ length (map signal_contents old) =
+    ap (λ (n : Contents). length n.signals) l.invariant in
     omega (arith, count, c.requires, length-map l.capture.signals signal_contents, length-map old signal_contents)

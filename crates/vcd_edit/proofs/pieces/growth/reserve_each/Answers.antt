@@ -13,8 +13,12 @@ reserve_one-requires-clause-signal c =
     let x = c.piece-item.result in
     let inside : l.piece-index < length l.pieces = omega arith in
     let is = item_as_first c.args.pieces.now l.pieces l.piece-index x x inside c.piece-item.is l.invariant.1.rest in
-    let first : x.signal < length c.args.capture.now.signals = subst (λ (p : Piece). p.signal < length c.args.capture.now.signals) (sym is) (c.requires.signal l.piece-index x (omega arith)) in
-    let count : length (map signal_contents l.capture.signals) ≡ length (map signal_contents c.args.capture.now.signals) = ap (λ (n : Contents). length n.signals) l.invariant.0 in
+    let first : x.signal < length c.args.capture.now.signals =
+    subst (λ (p : Piece). p.signal < length c.args.capture.now.signals) (sym is)
+    (c.requires.signal l.piece-index x (omega arith)) in
+    let count : length (map signal_contents l.capture.signals)
+    ≡ length (map signal_contents c.args.capture.now.signals) =
+    ap (λ (n : Contents). length n.signals) l.invariant.0 in
     omega (
       arith,
       first,
@@ -40,14 +44,16 @@ reserve_one-requires-clause-within c =
     let is = item_as_first c.args.pieces.now l.pieces l.piece-index x x inside c.piece-item.is l.invariant.1.rest in
     subst (λ (p : Piece). p.to ≤ length (signal_at (contents l.capture) p.signal).changes) c.piece-item.is
     (subst (λ (n : Contents). x.to ≤ length (signal_at n x.signal).changes) (sym l.invariant.0)
-    (subst (λ (p : Piece). p.to ≤ length (signal_at (contents c.args.capture.now) p.signal).changes) (sym is) (c.requires.within l.piece-index x (omega arith))))
+    (subst (λ (p : Piece). p.to ≤ length (signal_at (contents c.args.capture.now) p.signal).changes) (sym is)
+    (c.requires.within l.piece-index x (omega arith))))
 
 pub returns-in_err-reserve_one-clause-pieces : goal.returns-in_err-reserve_one-clause-pieces
 returns-in_err-reserve_one-clause-pieces c =
     let l = c.loop-piece in
     let x = c.piece-item.result in
     let inside : l.piece-index < length l.pieces = omega arith in
-    views_kept c.args.pieces.now l.pieces l.piece-index x c.reserve_one.new.piece inside c.piece-item.is l.invariant.1.rest (c.reserve_one.ensures.piece ∙ ap piece_view (sym c.piece-item.is))
+    views_kept c.args.pieces.now l.pieces l.piece-index x c.reserve_one.new.piece inside c.piece-item.is
+    l.invariant.1.rest (c.reserve_one.ensures.piece ∙ ap piece_view (sym c.piece-item.is))
     ∙ l.invariant.1.same
 
 pub loop-piece-preserved : goal.loop-piece-preserved
@@ -56,8 +62,10 @@ loop-piece-preserved c =
     let x = c.piece-item.result in
     let inside : l.piece-index < length l.pieces = omega arith in (
       c.reserve_one.ensures.contents ∙ l.invariant.0,
-      reserved_more c.args.pieces.now l.pieces l.piece-index x c.reserve_one.new.piece l.capture.signals c.reserve_one.new.capture.signals inside c.piece-item.is l.invariant.1
-          (c.reserve_one.ensures.piece ∙ ap piece_view (sym c.piece-item.is)) c.in_ok-reserve_one.ensures.room c.reserve_one.ensures.never_less,
+      reserved_more c.args.pieces.now l.pieces l.piece-index x c.reserve_one.new.piece l.capture.signals
+          c.reserve_one.new.capture.signals inside c.piece-item.is l.invariant.1
+          (c.reserve_one.ensures.piece ∙ ap piece_view (sym c.piece-item.is)) c.in_ok-reserve_one.ensures.room
+          c.reserve_one.ensures.never_less,
     )
 
 pub returns-clause-room : goal.returns-clause-room

@@ -7,7 +7,8 @@ pub returns-clause-back : goal.returns-clause-back
 returns-clause-back c =
     let back = c.put_pieces.ensures.back in (
       back.0,
-      ap (map piece_view) (whole_list c.put_pieces.new.pieces.len c.release_rooms.new.pieces c.put_pieces.new.pieces.items (omega (arith, c.as_mut_slice.ensures.len, c.release_rooms.auto.pieces)))
+      ap (map piece_view) (whole_list c.put_pieces.new.pieces.len c.release_rooms.new.pieces
+          c.put_pieces.new.pieces.items (omega (arith, c.as_mut_slice.ensures.len, c.release_rooms.auto.pieces)))
           ∙ c.release_rooms.ensures ∙ ap (map piece_view) c.as_mut_slice.ensures.value ∙ back.1,
       back.2,
     )

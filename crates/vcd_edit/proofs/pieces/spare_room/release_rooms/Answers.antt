@@ -6,4 +6,5 @@ use Rattle.vcd_edit.proofs.pieces.spare_room.release_rooms.Goals as goal
 pub loop-piece-preserved : goal.loop-piece-preserved
 loop-piece-preserved c =
     let l = c.loop-piece in
-    map-set_same piece_view l.pieces l.piece-index c.release_room.new.piece c.piece-item.result c.release_room.ensures ∙ l.invariant
+    map-set_same piece_view l.pieces l.piece-index c.release_room.new.piece c.piece-item.result c.release_room.ensures
+    ∙ l.invariant

@@ -10,12 +10,14 @@ returns-then-not-is_moved-clause-count c =
     let xs = c.args.old.now in
     let ys = c.args.new.now in
     subst (λ b. c.loop-i.i ≡ common_suffix_lowered (neg_ℤ b) xs ys) (to_z-of_z w64 c.args.by c.ranges.by)
-    (back_stops (same_lowered (neg_ℤ (to_z w64 (of_z w64 c.args.by)))) xs ys c.loop-i.i c.index-old-old.result c.index-new-new.result (omega arith) (omega arith)
+    (back_stops (same_lowered (neg_ℤ (to_z w64 (of_z w64 c.args.by)))) xs ys c.loop-i.i c.index-old-old.result
+    c.index-new-new.result (omega arith) (omega arith)
     c.index-old-old.is c.index-new-new.is (sym c.is_moved.ensures ∙ c.if-not-is_moved.true) c.loop-i.invariant)
 
 pub loop-i-preserved : goal.loop-i-preserved
 loop-i-preserved c =
-    back_more (same_lowered (neg_ℤ (to_z w64 (of_z w64 c.args.by)))) c.args.old.now c.args.new.now c.loop-i.i c.index-old-old.result c.index-new-new.result (omega arith) (omega arith)
+    back_more (same_lowered (neg_ℤ (to_z w64 (of_z w64 c.args.by)))) c.args.old.now c.args.new.now c.loop-i.i
+    c.index-old-old.result c.index-new-new.result (omega arith) (omega arith)
     c.index-old-old.is c.index-new-new.is (sym c.is_moved.ensures ∙ c.if-not-is_moved.false) c.loop-i.invariant
 
 pub returns-clause-count : goal.returns-clause-count
@@ -23,5 +25,6 @@ returns-clause-count c =
     let xs = c.args.old.now in
     let ys = c.args.new.now in
     subst (λ b. c.min-most.result ≡ common_suffix_lowered (neg_ℤ b) xs ys) (to_z-of_z w64 c.args.by c.ranges.by)
-    (walk_end (same_lowered (neg_ℤ (to_z w64 (of_z w64 c.args.by)))) (reverse xs) (reverse ys) c.loop-i.i c.min-most.result
+    (walk_end (same_lowered (neg_ℤ (to_z w64 (of_z w64 c.args.by)))) (reverse xs) (reverse ys) c.loop-i.i
+    c.min-most.result
     (omega (arith, length-reverse xs, length-reverse ys)) (omega arith) (omega arith) c.loop-i.invariant)

@@ -5,4 +5,5 @@ use Rattle.vcd_edit.proofs.pieces.trimming.common_back.Given as goal
 
 abbrev pub invariant-loop-i : goal.invariant-loop-i
 invariant-loop-i l =
-    l.i + common_prefix_len (same_lowered (neg_ℤ l.by)) (drop l.i (reverse l.old)) (drop l.i (reverse l.new)) ≡ common_suffix_lowered (neg_ℤ l.by) l.old l.new
+    l.i + common_prefix_len (same_lowered (neg_ℤ l.by)) (drop l.i (reverse l.old)) (drop l.i (reverse l.new))
+    ≡ common_suffix_lowered (neg_ℤ l.by) l.old l.new

@@ -5,4 +5,5 @@ use Rattle.vcd_edit.proofs.pieces.trimming.common_front.Goals as goal
 
 pub returns-clause-count : goal.returns-clause-count
 returns-clause-count c =
-    walk_end same_change c.args.old.now c.args.new.now c.loop-i.i c.min-most.result c.min-most.ensures (omega arith) (omega arith) c.loop-i.invariant
+    walk_end same_change c.args.old.now c.args.new.now c.loop-i.i c.min-most.result c.min-most.ensures (omega arith)
+    (omega arith) c.loop-i.invariant

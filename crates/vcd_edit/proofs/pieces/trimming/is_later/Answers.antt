@@ -5,4 +5,5 @@ use Rattle.vcd_edit.proofs.pieces.trimming.is_later.Goals as goal
 
 pub returns : goal.returns
 returns c =
-    moved_test c.args.tick c.args.later c.args.by _ _ _ (to_z-of_z w64 c.args.by c.ranges.by) (omega arith) c.checked_add_signed.ensures c.eq.ensures
+    moved_test c.args.tick c.args.later c.args.by _ _ _ (to_z-of_z w64 c.args.by c.ranges.by) (omega arith)
+    c.checked_add_signed.ensures c.eq.ensures

@@ -13,20 +13,27 @@ pub returns-then-not-is_metadata_sound : goal.returns-then-not-is_metadata_sound
 returns-then-not-is_metadata_sound c =
     let now = contents c.args.capture.now in
     let v = record_view c.self.inside.pieces.items c.self.inside.word c.self.inside.signal c.self.inside.other_end in
-    let end : c.unwrap_or-end.result ≡ unwrap_or c.self.inside.other_end now.end = c.unwrap_or-end.ensures ∙ ap (unwrap_or c.self.inside.other_end) c.end.ensures in
+    let end : c.unwrap_or-end.result ≡ unwrap_or c.self.inside.other_end now.end = c.unwrap_or-end.ensures
+    ∙ ap (unwrap_or c.self.inside.other_end) c.end.ensures in
     refused c.is_metadata_sound.result _ c.if-not-is_metadata_sound.true
-    (λ fits. c.is_metadata_sound.ensures.1 (subst (λ e. HasSoundMetadata e now) (sym end) (frame_fits v now (subst (λ r. Fits r now) (sym c.self.view_is) fits))))
+    (λ fits. c.is_metadata_sound.ensures.1
+    (subst (λ e. HasSoundMetadata e now) (sym end)
+    (frame_fits v now (subst (λ r. Fits r now) (sym c.self.view_is) fits))))
 
 pub returns : goal.returns
 returns c =
     let now = contents c.args.capture.now in
     let v = record_view c.self.inside.pieces.items c.self.inside.word c.self.inside.signal c.self.inside.other_end in
-    let end : c.unwrap_or-end.result ≡ unwrap_or c.self.inside.other_end now.end = c.unwrap_or-end.ensures ∙ ap (unwrap_or c.self.inside.other_end) c.end.ensures in
+    let end : c.unwrap_or-end.result ≡ unwrap_or c.self.inside.other_end now.end = c.unwrap_or-end.ensures
+    ∙ ap (unwrap_or c.self.inside.other_end) c.end.ensures in
     let given = c.parts_fit.ensures now c.self.inside.other_end (ap (map signal_contents) (sym c.signals.ensures)) in
     let tells : IsTrue c.parts_fit.result ↔ PartsFit (unwrap_or c.self.inside.other_end now.end) v now =
     subst (λ e. IsTrue c.parts_fit.result ↔ PartsFit e v now) end
-    (subst (λ (l : List Piece). IsTrue c.parts_fit.result ↔ PartsFit c.unwrap_or-end.result (record_view l c.self.inside.word c.self.inside.signal c.self.inside.other_end) now) c.as_slice.ensures.value given) in
-    let frame = subst (λ e. HasSoundMetadata e now) end (c.is_metadata_sound.ensures.0 c.if-not-is_metadata_sound.false) in (
+    (subst (λ (l : List Piece). IsTrue c.parts_fit.result ↔ PartsFit c.unwrap_or-end.result
+    (record_view l c.self.inside.word c.self.inside.signal c.self.inside.other_end) now) c.as_slice.ensures.value
+    given) in
+    let frame = subst (λ e. HasSoundMetadata e now) end
+    (c.is_metadata_sound.ensures.0 c.if-not-is_metadata_sound.false) in (
       (λ yes. subst (λ r. Fits r now) c.self.view_is (fits_by_parts v now frame (tells.0 yes))),
       (λ fits. tells.1 (parts_fits v now (subst (λ r. Fits r now) (sym c.self.view_is) fits))),
     )

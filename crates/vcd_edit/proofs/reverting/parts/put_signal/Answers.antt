@@ -7,6 +7,15 @@ use Rattle.vcd_edit.proofs.reverting.parts.put_signal.Goals as goal
 pub returns-in-Ok-clause-there : goal.returns-in-Ok-clause-there
 returns-in-Ok-clause-there c =
     let old : Contents = contents c.args.capture.now in
-    ap (λ (ss : List SignalContents). record { header = old.header; timescale = old.timescale; end = old.end; signals = ss })
-    (ap (map signal_contents) (c.from_vec.ensures ∙ c.insert-put.ensures.items ∙ ap (λ r. if is_ok r then insert c.into_vec-signals.result.items c.args.at c.args.signal else c.into_vec-signals.result.items) c.in-Ok.is
-    ∙ ap (λ l. insert l c.args.at c.args.signal) (c.into_vec-signals.ensures ∙ c.replace.ensures.value)) ∙ signal_put c.args.capture.now.signals c.args.at c.args.signal)
+    ap (λ (ss : List SignalContents). record {
+      header = old.header;
+      timescale = old.timescale;
+      end = old.end;
+      signals =
+          ss;
+    })
+    (ap (map signal_contents) (c.from_vec.ensures ∙ c.insert-put.ensures.items
+    ∙ ap (λ r. if is_ok r then insert c.into_vec-signals.result.items c.args.at c.args.signal else
+    c.into_vec-signals.result.items) c.in-Ok.is
+    ∙ ap (λ l. insert l c.args.at c.args.signal) (c.into_vec-signals.ensures ∙ c.replace.ensures.value))
+    ∙ signal_put c.args.capture.now.signals c.args.at c.args.signal)

@@ -6,6 +6,13 @@ use Rattle.vcd_edit.proofs.reverting.parts.replace_word.Goals as goal
 pub returns-clause-there : goal.returns-clause-there
 returns-clause-there c =
     let old : Contents = contents c.args.capture.now in
-    ap (λ (ss : List SignalContents). record { header = old.header; timescale = old.timescale; end = old.end; signals = ss })
-    (word_written c.args.capture.now.signals c.args.signal c.item_mut.result.now c.args.word.items c.replace_first-first.new.words c.requires.within c.item_mut.ensures.value
+    ap (λ (ss : List SignalContents). record {
+      header = old.header;
+      timescale = old.timescale;
+      end = old.end;
+      signals =
+          ss;
+    })
+    (word_written c.args.capture.now.signals c.args.signal c.item_mut.result.now c.args.word.items
+    c.replace_first-first.new.words c.requires.within c.item_mut.ensures.value
     (c.replace_first-first.ensures.new ∙ ap (λ w. w ∷ drop 1 c.item_mut.result.now.words) c.from_vec.ensures))

@@ -7,6 +7,13 @@ use Rattle.vcd_edit.proofs.reverting.parts.take_signal.Goals as goal
 pub returns-clause-there : goal.returns-clause-there
 returns-clause-there c =
     let old : Contents = contents c.args.capture.now in
-    ap (λ (ss : List SignalContents). record { header = old.header; timescale = old.timescale; end = old.end; signals = ss })
+    ap (λ (ss : List SignalContents). record {
+      header = old.header;
+      timescale = old.timescale;
+      end = old.end;
+      signals =
+          ss;
+    })
     (ap (map signal_contents) (c.from_vec.ensures ∙ c.remove-signal.ensures.items
-    ∙ ap (λ l. remove l c.args.at) (c.into_vec-signals.ensures ∙ c.replace.ensures.value)) ∙ signal_taken c.args.capture.now.signals c.args.at)
+    ∙ ap (λ l. remove l c.args.at) (c.into_vec-signals.ensures ∙ c.replace.ensures.value))
+    ∙ signal_taken c.args.capture.now.signals c.args.at)

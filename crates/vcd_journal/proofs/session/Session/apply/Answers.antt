@@ -13,7 +13,9 @@ invariant_of-self-2 c =
     let kept = few_after_edit newest old.past.items old.depth in
     rw (c.clear.ensures) (record {
       sound = made.sound;
-      past_fits = rw (c.push_newest.ensures.items) (fit_after_edit (contents old.capture) (contents c.apply.new.capture) newest old.past.items old.depth made.back made.fits held.past_fits);
+      past_fits = rw (c.push_newest.ensures.items)
+          (fit_after_edit (contents old.capture) (contents c.apply.new.capture) newest old.past.items old.depth
+          made.back made.fits held.past_fits);
       future_fits = tt;
       few = rw (c.push_newest.ensures.items) (omega (arith, kept));
       most = held.most;
@@ -28,4 +30,5 @@ returns-clause-step c =
     let newest = c.in_ok-record.record in
     rw (← c.self.view_is, c.push_newest.ensures.items, c.clear.ensures)
     (edit_accepted c.args.edit.now _ _ made.allowed
-    (machine_of_edit c.args.edit.now (contents old.capture) (contents c.apply.new.capture) newest old.past.items old.future.items old.depth made.effect made.back))
+    (machine_of_edit c.args.edit.now (contents old.capture) (contents c.apply.new.capture) newest old.past.items
+    old.future.items old.depth made.effect made.back))

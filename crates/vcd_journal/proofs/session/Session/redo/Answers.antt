@@ -15,5 +15,6 @@ returns-in_err-follow_newest-clause-step c =
     let kept = c.in_err-follow_newest.ensures.unchanged in
     let some : 0 < length old.future.items = grind (arith, nat_tests) in
     rw (refused.1, refused.2, ← c.self.view_is)
-    (redo_starved _ _ (some_captures (contents old.capture) old.future.items some) (same_machine (contents old.capture) _ old.past.items _ old.future.items _ old.depth kept.0
+    (redo_starved _ _ (some_captures (contents old.capture) old.future.items some)
+    (same_machine (contents old.capture) _ old.past.items _ old.future.items _ old.depth kept.0
     (ap (λ (ring : Buffer RecordView). ring.items) kept.2) (ap (λ (ring : Buffer RecordView). ring.items) kept.1)))

@@ -6,7 +6,8 @@ use Rattle.vcd_journal.proofs.session.Session.redoable.Goals as goal
 
 pub returns-clause-count : goal.returns-clause-count
 returns-clause-count c =
-    c.len.ensures.len ∙ sym (length_reached_captures (contents c.self.inside.capture) c.self.inside.future.items) ∙ ap (λ (m : Machine). length m.future) c.self.view_is
+    c.len.ensures.len ∙ sym (length_reached_captures (contents c.self.inside.capture) c.self.inside.future.items)
+    ∙ ap (λ (m : Machine). length m.future) c.self.view_is
 
 pub returns-clause-most : goal.returns-clause-most
 returns-clause-most c =

@@ -13,7 +13,8 @@ returns-then-depth-kept-clause-step c =
     let old = c.self.inside in
     let valid : is_depth c.args.depth ≡ true = sym c.if-not-is_depth.ensures in
     let count = length_reached_captures (contents old.capture) old.future.items in
-    let less : c.args.depth < length (reached_captures (contents old.capture) old.future.items) = omega (arith, count, c.len-kept.ensures.len) in
+    let less : c.args.depth < length (reached_captures (contents old.capture) old.future.items) =
+    omega (arith, count, c.len-kept.ensures.len) in
     rw (← c.self.view_is) (depth_too_small c.args.depth _ _ valid less refl)
 
 pub returns-in_err-enlarge-clause-step : goal.returns-in_err-enlarge-clause-step
@@ -22,23 +23,30 @@ returns-in_err-enlarge-clause-step c =
     let old = c.self.inside in
     let valid : is_depth c.args.depth ≡ true = sym c.if-not-is_depth.ensures in
     let count = length_reached_captures (contents old.capture) old.future.items in
-    let most : length (reached_captures (contents old.capture) old.future.items) ≤ c.args.depth = omega (arith, count, c.len-kept.ensures.len) in
-    let greater : old.depth < c.args.depth = omega (arith, c.self.invariant.past_room, c.in_err-enlarge.ensures.wants) in
+    let most : length (reached_captures (contents old.capture) old.future.items) ≤ c.args.depth =
+    omega (arith, count, c.len-kept.ensures.len) in
+    let greater : old.depth < c.args.depth =
+    omega (arith, c.self.invariant.past_room, c.in_err-enlarge.ensures.wants) in
     rw (refused.1, refused.2, ← c.self.view_is)
     (depth_starved c.args.depth _ _ valid most greater
-    (same_machine (contents old.capture) _ old.past.items _ old.future.items _ old.depth refl c.in_err-enlarge.ensures.items refl))
+    (same_machine (contents old.capture) _ old.past.items _ old.future.items _ old.depth refl
+    c.in_err-enlarge.ensures.items refl))
 
 pub returns-in_err-enlarge-2-clause-step : goal.returns-in_err-enlarge-2-clause-step
 returns-in_err-enlarge-2-clause-step c =
-    let refused = err_from_is_err_and c.from_residual-in_err-enlarge-2.result c.from_residual-in_err-enlarge-2.ensures.1 in
+    let refused = err_from_is_err_and c.from_residual-in_err-enlarge-2.result
+    c.from_residual-in_err-enlarge-2.ensures.1 in
     let old = c.self.inside in
     let valid : is_depth c.args.depth ≡ true = sym c.if-not-is_depth.ensures in
     let count = length_reached_captures (contents old.capture) old.future.items in
-    let most : length (reached_captures (contents old.capture) old.future.items) ≤ c.args.depth = omega (arith, count, c.len-kept.ensures.len) in
-    let greater : old.depth < c.args.depth = omega (arith, c.self.invariant.future_room, c.in_err-enlarge-2.ensures.wants) in
+    let most : length (reached_captures (contents old.capture) old.future.items) ≤ c.args.depth =
+    omega (arith, count, c.len-kept.ensures.len) in
+    let greater : old.depth < c.args.depth =
+    omega (arith, c.self.invariant.future_room, c.in_err-enlarge-2.ensures.wants) in
     rw (refused.1, refused.2, ← c.self.view_is)
     (depth_starved c.args.depth _ _ valid most greater
-    (same_machine (contents old.capture) _ old.past.items _ old.future.items _ old.depth refl c.in_ok-enlarge.ensures.items c.in_err-enlarge-2.ensures.items))
+    (same_machine (contents old.capture) _ old.past.items _ old.future.items _ old.depth refl
+    c.in_ok-enlarge.ensures.items c.in_err-enlarge-2.ensures.items))
 
 pub invariant_of-self-2 : goal.invariant_of-self-2
 invariant_of-self-2 c =
@@ -48,9 +56,11 @@ invariant_of-self-2 c =
     let kept = length-take (c.args.depth - c.len-kept.result) old.past.items in
     rw (c.keep_newest.ensures) (record {
       sound = held.sound;
-      past_fits = rw (c.in_ok-enlarge.ensures.items) (AllRecordsFit_take (contents old.capture) (c.args.depth - c.len-kept.result) old.past.items held.past_fits);
+      past_fits = rw (c.in_ok-enlarge.ensures.items)
+          (AllRecordsFit_take (contents old.capture) (c.args.depth - c.len-kept.result) old.past.items held.past_fits);
       future_fits = rw (c.in_ok-enlarge-2.ensures.items) held.future_fits;
-      few = rw (c.in_ok-enlarge.ensures.items, c.in_ok-enlarge-2.ensures.items) (omega (arith, kept, c.len-kept.ensures.len));
+      few = rw (c.in_ok-enlarge.ensures.items, c.in_ok-enlarge-2.ensures.items)
+          (omega (arith, kept, c.len-kept.ensures.len));
       most = depth_within c.args.depth valid;
       past_room = c.in_ok-enlarge.ensures.room;
       future_room = c.in_ok-enlarge-2.ensures.room;
@@ -61,6 +71,14 @@ returns-clause-step c =
     let old = c.self.inside in
     let valid : is_depth c.args.depth ≡ true = sym c.if-not-is_depth.ensures in
     let count = length_reached_captures (contents old.capture) old.future.items in
-    let most : length (reached_captures (contents old.capture) old.future.items) ≤ c.args.depth = omega (arith, count, c.len-kept.ensures.len) in
-    rw (← c.self.view_is, c.keep_newest.ensures, c.in_ok-enlarge.ensures.items, c.in_ok-enlarge-2.ensures.items, c.len-kept.ensures.len)
-    (depth_accepted c.args.depth _ _ valid most (machine_of_depth (contents old.capture) old.past.items old.future.items old.depth c.args.depth))
+    let most : length (reached_captures (contents old.capture) old.future.items) ≤ c.args.depth =
+    omega (arith, count, c.len-kept.ensures.len) in
+    rw (
+      ← c.self.view_is,
+      c.keep_newest.ensures,
+      c.in_ok-enlarge.ensures.items,
+      c.in_ok-enlarge-2.ensures.items,
+      c.len-kept.ensures.len,
+    )
+    (depth_accepted c.args.depth _ _ valid most
+    (machine_of_depth (contents old.capture) old.past.items old.future.items old.depth c.args.depth))

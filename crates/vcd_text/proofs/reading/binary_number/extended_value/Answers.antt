@@ -9,7 +9,8 @@ use Rattle.vcd_text.proofs.LetterWords.{RowsHold, rows_more, letters_more, no_le
 use Rattle.vcd_text.proofs.reading.binary_number.extended_value.Goals as goal
 
 -- behind the last digit there is none
-none_after : (digits : List ℕ) → list_all is_binary_digit (drop (length digits - 0) digits) ≡ list_all is_binary_digit []
+none_after : (digits : List ℕ) → list_all is_binary_digit (drop (length digits - 0) digits)
+    ≡ list_all is_binary_digit []
 none_after digits = ap (list_all is_binary_digit) (drop_all (length digits - 0) digits (omega arith))
 
 pub loop-k-init : goal.loop-k-init
@@ -26,9 +27,12 @@ loop-k-preserved c =
     let read = c.in_ok-word.ensures in
     let part = c.digits_of_word.ensures in
     record {
-      rows = rows_more c.pad_of-pad.result digits c.loop-k.low c.loop-k.high c.loop-k.k _ _ (omega arith) (omega arith) c.loop-k.invariant.rows
-          (subst (λ l. HoldsLetters c.pad_of-pad.result (letters_of_digits l) c.in_ok-word.word.low c.in_ok-word.word.high) part read.1);
-      letters = letters_more digits c.loop-k.k c.loop-k.invariant.letters (sym (ap (list_all is_binary_digit) part) ∙ read.0);
+      rows = rows_more c.pad_of-pad.result digits c.loop-k.low c.loop-k.high c.loop-k.k _ _ (omega arith) (omega arith)
+          c.loop-k.invariant.rows
+          (subst (λ l. HoldsLetters c.pad_of-pad.result (letters_of_digits l) c.in_ok-word.word.low
+          c.in_ok-word.word.high) part read.1);
+      letters = letters_more digits c.loop-k.k c.loop-k.invariant.letters (sym (ap (list_all is_binary_digit) part)
+          ∙ read.0);
       sized = length-set c.loop-k.low _ _ ∙ c.loop-k.invariant.sized;
       sized_high = length-set c.loop-k.high _ _ ∙ c.loop-k.invariant.sized_high;
     }
@@ -36,15 +40,20 @@ loop-k-preserved c =
 pub returns : goal.returns
 returns c =
     let digits = c.args.digits.now in
-    let none : length digits - 64 * c.loop-k.k ≡ 0 = omega (arith, c.requires.fits, c.words_in-k-end.ensures.fits, c.loop-k-test.false) in
-    let long : length (letters_of_digits digits) ≤ c.args.width = omega (arith, c.requires.fits, length-map digits (λ b. unwrap_or (letter_of_digit b) X)) in (
+    let none : length digits - 64 * c.loop-k.k ≡ 0 =
+    omega (arith, c.requires.fits, c.words_in-k-end.ensures.fits, c.loop-k-test.false) in
+    let long : length (letters_of_digits digits) ≤ c.args.width =
+    omega (arith, c.requires.fits, length-map digits (λ b. unwrap_or (letter_of_digit b) X)) in (
       sym (ap (λ n. list_all is_binary_digit (drop n digits)) none) ∙ c.loop-k.invariant.letters,
       c.from_words.ensures
-          ∙ rows_are_extension c.args.width c.loop-k.k (letters_of_digits digits) c.loop-k.low c.loop-k.high long (omega (arith, c.words_in-k-end.ensures.fits, c.loop-k-test.false))
-          (subst (λ pad. RowsHold pad (letters_of_digits digits) c.loop-k.k c.loop-k.low c.loop-k.high) c.pad_of-pad.ensures c.loop-k.invariant.rows),
+          ∙ rows_are_extension c.args.width c.loop-k.k (letters_of_digits digits) c.loop-k.low c.loop-k.high long
+          (omega (arith, c.words_in-k-end.ensures.fits, c.loop-k-test.false))
+          (subst (λ pad. RowsHold pad (letters_of_digits digits) c.loop-k.k c.loop-k.low c.loop-k.high)
+          c.pad_of-pad.ensures c.loop-k.invariant.rows),
     )
 
 pub returns-in_err-word : goal.returns-in_err-word
 returns-in_err-word c =
-    let none = no_letter c.args.digits.now c.loop-k.k (sym (ap (list_all is_binary_digit) c.digits_of_word.ensures) ∙ c.in_err-word.ensures) in
+    let none = no_letter c.args.digits.now c.loop-k.k (sym (ap (list_all is_binary_digit) c.digits_of_word.ensures)
+    ∙ c.in_err-word.ensures) in
     search rules

@@ -12,7 +12,8 @@ use Rattle.vcd_text.proofs.LetterWords.{word_is_extension}
 use Rattle.vcd_text.proofs.reading.binary_number.extended_word.Goals as goal
 
 -- where the word that was read holds the letters, it is the extension
-of_the_word : (width : ℕ) (s : List Bit) (pad : Bit) (P A : Type 0) (o : Option LetterWord) → length s ≤ width → width ≤ 64 → pad ≡ pad_letter s
+of_the_word : (width : ℕ) (s : List Bit) (pad : Bit) (P A : Type 0) (o : Option LetterWord) → length s ≤ width
+    → width ≤ 64 → pad ≡ pad_letter s
     → MatchOption o P (λ w. A × HoldsLetters pad s w.low w.high)
     → MatchOption o P (λ w. A × (letters_of width (w.low ∷ []) (w.high ∷ []) ≡ extension width s))
 of_the_word width s pad P A None fits narrow is p = p
@@ -22,5 +23,8 @@ of_the_word width s pad P A (Some w) fits narrow is (a, holds) =
 pub returns : goal.returns
 returns c =
     let digits = c.args.digits.now in
-    let long : length (letters_of_digits digits) ≤ c.args.width = omega (arith, c.requires.fits, length-map digits (λ b. unwrap_or (letter_of_digit b) X)) in
-    of_the_word c.args.width (letters_of_digits digits) c.pad_of.result (list_all is_binary_digit digits ≡ false) (list_all is_binary_digit digits ≡ true) c.word_read.result long c.requires.narrow c.pad_of.ensures c.word_read.ensures
+    let long : length (letters_of_digits digits) ≤ c.args.width =
+    omega (arith, c.requires.fits, length-map digits (λ b. unwrap_or (letter_of_digit b) X)) in
+    of_the_word c.args.width (letters_of_digits digits) c.pad_of.result (list_all is_binary_digit digits ≡ false)
+    (list_all is_binary_digit digits ≡ true) c.word_read.result long c.requires.narrow c.pad_of.ensures
+    c.word_read.ensures

@@ -9,6 +9,7 @@ two_state_is_digit digit two = search rules
 
 pub returns-then-are_two_state : goal.returns-then-are_two_state
 returns-then-are_two_state c = (
-  all_weaker is_two_state is_binary_digit two_state_is_digit c.args.digits.now (sym c.are_two_state.ensures ∙ c.if-are_two_state.true),
+  all_weaker is_two_state is_binary_digit two_state_is_digit c.args.digits.now (sym c.are_two_state.ensures
+      ∙ c.if-are_two_state.true),
   c.with_two_state_digits.ensures,
 )

@@ -1,4 +1,5 @@
-use Rattle.std.proofs.Common.{◌≡◌, ℕ, ◌+◌, ◌-◌, ◌*◌, ◌/◌, ◌%◌, ◌^◌, ◌<◌, max, Bool, true, false, if◌then◌else◌, bit_or, sym, ap, ◌∙◌, arith}
+use Rattle.std.proofs.Common.{◌≡◌, ℕ, ◌+◌, ◌-◌, ◌*◌, ◌/◌, ◌%◌, ◌^◌, ◌<◌, max, Bool, true, false, if◌then◌else◌, bit_or}
+use Rattle.std.proofs.Common.{sym, ap, ◌∙◌, arith}
 use Rattle.std.specs.Int.{bit_at}
 use Rattle.std.proofs.lemmas.Nat.Bits.{bit_at_or, bit_at_lowest, bit_at_above, bit_at_cat_low, bit_at_cat_high}
 use mir.Val.{bool_byte}
@@ -18,7 +19,8 @@ later_bit a b i small inside =
     let place : i + 1 - 1 ≡ i = omega arith in
     let moved : bit_at (a * 2 % 18446744073709551616) (i + 1) ≡ bit_at a i =
     sym (bit_at_cat_low (a * 2 / 18446744073709551616) 64 (a * 2 % 18446744073709551616) (i + 1) inside)
-    ∙ ap (λ n. bit_at n (i + 1)) (sym whole) ∙ bit_at_cat_high a 1 0 (i + 1) (omega arith) (omega arith) ∙ ap (bit_at a) place in
+    ∙ ap (λ n. bit_at n (i + 1)) (sym whole) ∙ bit_at_cat_high a 1 0 (i + 1) (omega arith) (omega arith)
+    ∙ ap (bit_at a) place in
     bit_at_or _ b (i + 1) ∙ (λ p. max (moved p) (none p)) ∙ omega arith
 
 bit_is : (set : Bool) (b : ℕ) → b ≡ bool_byte set → b ≡ (if set then 1 else 0)
@@ -30,7 +32,8 @@ bit_is_small true b is = omega (arith, is)
 bit_is_small false b is = omega (arith, is)
 
 pub returns-clause-first : goal.returns-clause-first
-returns-clause-first c = first_bit c.args.word c.from.result (bit_is_small _ _ c.from.ensures) ∙ bit_is _ _ c.from.ensures
+returns-clause-first c = first_bit c.args.word c.from.result (bit_is_small _ _ c.from.ensures)
+    ∙ bit_is _ _ c.from.ensures
 
 pub returns-clause-rest : goal.returns-clause-rest
 returns-clause-rest c = λ i inside. later_bit c.args.word c.from.result i (bit_is_small _ _ c.from.ensures) inside

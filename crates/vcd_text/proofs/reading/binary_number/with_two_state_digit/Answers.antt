@@ -7,7 +7,8 @@ use Rattle.vcd_text.specs.inside.LetterWords.{is_two_state}
 use Rattle.vcd_text.proofs.LetterWords.{adds_one}
 use Rattle.vcd_text.proofs.reading.binary_number.with_two_state_digit.Goals as goal
 
-low_bit : (digit : ℕ) → is_two_state digit ≡ true → (if nat_eq digit 49 then 1 else 0) ≡ low_of (unwrap_or (letter_of_digit digit) X)
+low_bit : (digit : ℕ) → is_two_state digit ≡ true
+    → (if nat_eq digit 49 then 1 else 0) ≡ low_of (unwrap_or (letter_of_digit digit) X)
 low_bit digit two = search rules
 
 high_bit : (digit : ℕ) → is_two_state digit ≡ true → 0 ≡ high_of (unwrap_or (letter_of_digit digit) X)

@@ -9,7 +9,8 @@ pub loop-alloc-preserved : goal.loop-alloc-preserved
 loop-alloc-preserved c =
     let groups = c.loop-alloc.groups.items in
     let more = c.in_ok-push.ensures.items in (
-      subst (AreGrouped 0) (sym more) (grouped_longer 0 groups c.new.result c.new.ensures.items c.loop-alloc.invariant.0),
+      subst (AreGrouped 0) (sym more)
+          (grouped_longer 0 groups c.new.result c.new.ensures.items c.loop-alloc.invariant.0),
       λ position.
           ap (λ (gs : List (Vec LoggedChange)). logged gs position) more
           ∙ logged_longer groups c.new.result position c.new.ensures.items

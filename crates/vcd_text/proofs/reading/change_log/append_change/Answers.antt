@@ -11,7 +11,8 @@ returns-clause-grouped c =
     let group = c.index_mut.result.now in
     let within : e.position % GROUPS < length groups = omega (arith, c.in_ok-add_groups.ensures.many) in
     let at = slice_get-get_or groups (e.position % GROUPS) group within ∙ ap Some (sym c.index_mut.ensures.value) in
-    grouped_with e c.push.new.self 0 groups (e.position % GROUPS) group at c.in_ok-push.ensures.items (omega arith) c.in_ok-add_groups.ensures.grouped
+    grouped_with e c.push.new.self 0 groups (e.position % GROUPS) group at c.in_ok-push.ensures.items (omega arith)
+    c.in_ok-add_groups.ensures.grouped
 
 pub returns-clause-logged : goal.returns-clause-logged
 returns-clause-logged c = λ position.

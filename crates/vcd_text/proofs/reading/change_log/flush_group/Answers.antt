@@ -13,7 +13,8 @@ flush_change-requires c =
     let e = get_or group i none in
     let (rest, can) = c.loop-change.invariant.0 in
     can_take e (drop (i + 1) group) rest c.loop-change.kept.items
-    (subst (λ (es : List LoggedChange). CanFlush c.loop-change.kept.items (λ position. changes_of_position position es ++ rest position))
+    (subst (λ (es : List LoggedChange). CanFlush c.loop-change.kept.items (λ position. changes_of_position position es
+    ++ rest position))
     (drop_more group i none c.loop-change-test.true) can)
 
 pub loop-change-preserved : goal.loop-change-preserved
@@ -30,23 +31,30 @@ loop-change-preserved c =
     let takes = c.in_ok-flush_change.ensures in (
       (
         after,
-        can_still now new (λ position. changes_of_position position (drop i group) ++ after position) (λ position. changes_of_position position left ++ after position)
+        can_still now new (λ position. changes_of_position position (drop i group) ++ after position)
+            (λ position. changes_of_position position left ++ after position)
             (λ position some.
-            subst (λ (es : List LoggedChange). 0 < length (changes_of_position position es ++ after position)) (sym more) (more_left e left (after position) position some))
-            (subst (λ (es : List LoggedChange). FlushesLog now new (λ position. changes_of_position position es ++ after position) (λ position. changes_of_position position left ++ after position)) (sym more)
+            subst (λ (es : List LoggedChange). 0 < length (changes_of_position position es ++ after position))
+            (sym more) (more_left e left (after position) position some))
+            (subst (λ (es : List LoggedChange). FlushesLog now new (λ position. changes_of_position position es
+            ++ after position) (λ position. changes_of_position position left ++ after position)) (sym more)
             (flushes_one e left after now new takes))
             can,
       ),
       λ rest.
           flushes_then c.args.kept.now.items now new (λ position. changes_of_position position group ++ rest position)
-          (λ position. changes_of_position position (drop i group) ++ rest position) (λ position. changes_of_position position left ++ rest position)
+          (λ position. changes_of_position position (drop i group) ++ rest position)
+          (λ position. changes_of_position position left ++ rest position)
           (c.loop-change.invariant.1 rest)
-          (subst (λ (es : List LoggedChange). FlushesLog now new (λ position. changes_of_position position es ++ rest position) (λ position. changes_of_position position left ++ rest position)) (sym more)
+          (subst (λ (es : List LoggedChange). FlushesLog now new (λ position. changes_of_position position es
+          ++ rest position) (λ position. changes_of_position position left ++ rest position)) (sym more)
           (flushes_one e left rest now new takes)),
     )
 
 pub returns : goal.returns
 returns c = λ rest.
-    subst (λ (es : List LoggedChange). FlushesLog c.args.kept.now.items c.loop-change.kept.items (λ position. changes_of_position position c.args.group.now ++ rest position)
+    subst (λ (es : List LoggedChange). FlushesLog c.args.kept.now.items c.loop-change.kept.items
+    (λ position. changes_of_position position c.args.group.now ++ rest position)
     (λ position. changes_of_position position es ++ rest position))
-    (drop_all c.loop-change.change-index c.args.group.now (omega (arith, c.loop-change-test.false))) (c.loop-change.invariant.1 rest)
+    (drop_all c.loop-change.change-index c.args.group.now (omega (arith, c.loop-change-test.false)))
+    (c.loop-change.invariant.1 rest)

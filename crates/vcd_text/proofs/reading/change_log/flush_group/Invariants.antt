@@ -9,4 +9,5 @@ invariant-loop-change l =
     ((rest : ℕ → List LoggedChange)
     × CanFlush l.kept.items (λ position. changes_of_position position (drop l.change-index l.group) ++ rest position))
     × ((rest : ℕ → List LoggedChange) → FlushesLog l.fn.kept.items l.kept.items
-    (λ position. changes_of_position position l.group ++ rest position) (λ position. changes_of_position position (drop l.change-index l.group) ++ rest position))
+    (λ position. changes_of_position position l.group ++ rest position)
+    (λ position. changes_of_position position (drop l.change-index l.group) ++ rest position))

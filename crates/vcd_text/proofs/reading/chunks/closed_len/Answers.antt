@@ -13,13 +13,15 @@ returns-then-is_white_space-clause-closed c =
     let n : ℕ = c.loop-len.len - 1 in
     let space : is_white_space (get_or bytes n 0) ≡ true = search rules in
     let last : suc n ≡ c.loop-len.len = omega (arith, c.loop-len-test.true) in
-    ap (λ k. is_closed (take k bytes)) (sym last) ∙ closed_at n bytes (omega (arith, c.loop-len-test.true, c.loop-len.invariant.1)) space
+    ap (λ k. is_closed (take k bytes)) (sym last)
+    ∙ closed_at n bytes (omega (arith, c.loop-len-test.true, c.loop-len.invariant.1)) space
 
 pub returns-clause-black : goal.returns-clause-black
 returns-clause-black c =
     let bytes = c.args.bytes.now in
     let from = c.args.from in
     let last : c.loop-len.len ≡ from = omega (arith, c.loop-len-test.false, c.loop-len.invariant.0) in
-    ap (list_all (λ b. not (is_white_space b))) (sym (take-append-drop from bytes)) ∙ list_all-append (λ b. not (is_white_space b)) (take from bytes) (drop from bytes)
+    ap (list_all (λ b. not (is_white_space b))) (sym (take-append-drop from bytes))
+    ∙ list_all-append (λ b. not (is_white_space b)) (take from bytes) (drop from bytes)
     ∙ ap (λ t. t && list_all (λ b. not (is_white_space b)) (drop from bytes)) c.requires.black
     ∙ ap (λ k. list_all (λ b. not (is_white_space b)) (drop k bytes)) (sym last) ∙ c.loop-len.invariant.2

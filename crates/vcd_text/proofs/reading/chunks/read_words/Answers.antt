@@ -1,4 +1,5 @@
-use Rattle.std.proofs.Common.{◌≡◌, ◌⊎◌, Err, List, [], ◌∷◌, ◌++◌, length, sym, ap, subst, ◌∙◌, arith, append_assoc, append-nil, length-append, refl}
+use Rattle.std.proofs.Common.{◌≡◌, ◌⊎◌, Err, List, [], ◌∷◌, ◌++◌, length, sym, ap, subst, ◌∙◌, arith, append_assoc}
+use Rattle.std.proofs.Common.{append-nil, length-append, refl}
 use Rattle.std.proofs.lemmas.Result.{err_from_is_err_and}
 use Rattle.vcd_text.specs.declared.fault.ReadError.{ReadError}
 use Rattle.vcd_text.specs.Words.{PlacedWord}
@@ -10,12 +11,18 @@ use Rattle.vcd_text.specs.inside.WordWalk.{words_left}
 use Rattle.vcd_text.proofs.reading.chunks.read_words.Goals as goal
 
 -- what came, this word and those behind it that have been taken with it, and what is left
-in_turn : (all came words following left : List PlacedWord) (first : PlacedWord) (rest : List PlacedWord) → all ≡ came ++ words → words ≡ first ∷ rest → rest ≡ following ++ left
+in_turn : (all came words following left : List PlacedWord) (first : PlacedWord) (rest : List PlacedWord)
+    → all ≡ came ++ words → words ≡ first ∷ rest → rest ≡ following ++ left
     → all ≡ came ++ (first ∷ following) ++ left
-in_turn all came words following left first rest parts next taken = parts ∙ ap (λ ws. came ++ ws) (next ∙ ap (λ ws. first ∷ ws) taken) ∙ sym (append_assoc came (first ∷ following) left)
+in_turn all came words following left first rest parts next taken = parts
+    ∙ ap (λ ws. came ++ ws) (next ∙ ap (λ ws. first ∷ ws) taken) ∙ sym (append_assoc came (first ∷ following) left)
 
 pub loop-first-init : goal.loop-first-init
-loop-first-init c = (([], refl, λ taken reads. subst (Reads c.args.reader.now) (sym (append-nil taken)) reads), c.requires.lines, refl)
+loop-first-init c = (
+  ([], refl, λ taken reads. subst (Reads c.args.reader.now) (sym (append-nil taken)) reads),
+  c.requires.lines,
+  refl,
+)
 
 pub take_from-requires-clause-reading : goal.take_from-requires-clause-reading
 take_from-requires-clause-reading c =
@@ -24,13 +31,24 @@ take_from-requires-clause-reading c =
     record {
       words = taken ++ came;
       reads = c.loop-first.invariant.0.2 taken reads;
-      few = omega (arith, few, length-append taken came, length-append came (words_left c.loop-first.left), ap (length {A = PlacedWord}) c.loop-first.invariant.0.1);
+      few = omega (
+        arith,
+        few,
+        length-append taken came,
+        length-append came (words_left c.loop-first.left),
+        ap (length {A = PlacedWord}) c.loop-first.invariant.0.1,
+      );
     }
 
 pub loop-first-smaller : goal.loop-first-smaller
 loop-first-smaller c =
     let (following, left, steps) = c.in_ok-take_from.ensures.words in
-    omega (arith, length-append following (words_left c.take_from.new.words), ap (length {A = PlacedWord}) left, ap (length {A = PlacedWord}) c.in-Some.ensures.words)
+    omega (
+      arith,
+      length-append following (words_left c.take_from.new.words),
+      ap (length {A = PlacedWord}) left,
+      ap (length {A = PlacedWord}) c.in-Some.ensures.words,
+    )
 
 pub loop-first-preserved : goal.loop-first-preserved
 loop-first-preserved c =
@@ -39,8 +57,11 @@ loop-first-preserved c =
     let more = word_at c.in-Some.first ∷ following in (
       (
         came ++ more,
-        in_turn (words_left c.args.words) came (words_left c.loop-first.left) following (words_left c.take_from.new.words) (word_at c.in-Some.first) (words_left c.next_word.new.self) c.loop-first.invariant.0.1 c.in-Some.ensures.words left,
-        λ taken reads. subst (Reads c.take_from.new.reader) (append_assoc taken came more) (steps (taken ++ came) (c.loop-first.invariant.0.2 taken reads)),
+        in_turn (words_left c.args.words) came (words_left c.loop-first.left) following
+            (words_left c.take_from.new.words) (word_at c.in-Some.first) (words_left c.next_word.new.self)
+            c.loop-first.invariant.0.1 c.in-Some.ensures.words left,
+        λ taken reads. subst (Reads c.take_from.new.reader) (append_assoc taken came more)
+            (steps (taken ++ came) (c.loop-first.invariant.0.2 taken reads)),
       ),
       c.in_ok-take_from.ensures.lines,
       c.in_ok-take_from.ensures.feeds ∙ c.in-Some.ensures.feeds ∙ c.loop-first.invariant.2,
@@ -53,9 +74,13 @@ returns-in_err-take_from-clause-words c = λ taken reads.
     let refused = err_from_is_err_and c.from_residual.result c.from_residual.ensures.1 in
     let first = word_at c.in-Some.first in
     let more = (words_left c.take_from.new.words) in
-    let parts = in_turn (words_left c.args.words) came (words_left c.loop-first.left) following more first (words_left c.next_word.new.self) c.loop-first.invariant.0.1 c.in-Some.ensures.words left in
+    let parts = in_turn (words_left c.args.words) came (words_left c.loop-first.left) following more first
+    (words_left c.next_word.new.self) c.loop-first.invariant.0.1 c.in-Some.ensures.words left in
     let all : (taken ++ came) ++ first ∷ (following ++ more) ≡ taken ++ (words_left c.args.words) =
-    append_assoc taken came _ ∙ ap (λ words. taken ++ words) (sym (append_assoc came (first ∷ following) more) ∙ sym parts) in
+    append_assoc taken came _
+    ∙ ap (λ words. taken ++ words) (sym (append_assoc came (first ∷ following) more) ∙ sym parts) in
     let e : ReadError = c.in_err-take_from.field-0.0 in
-    subst (λ r. AllWordsResult taken (words_left c.args.words) r c.take_from.new.reader) (sym (refused.1 ∙ ap Err refused.2))
-    (subst (λ words. (e ≡ memory_error) ⊎ ShowsFault words e.line e.fault) all (steps (taken ++ came) more (c.loop-first.invariant.0.2 taken reads)))
+    subst (λ r. AllWordsResult taken (words_left c.args.words) r c.take_from.new.reader)
+    (sym (refused.1 ∙ ap Err refused.2))
+    (subst (λ words. (e ≡ memory_error) ⊎ ShowsFault words e.line e.fault) all
+    (steps (taken ++ came) more (c.loop-first.invariant.0.2 taken reads)))

@@ -6,7 +6,8 @@ use Rattle.vcd_text.proofs.reading.chunks.read_words.Given as goal
 
 abbrev pub invariant-loop-first : goal.invariant-loop-first
 invariant-loop-first l =
-    ((came : List PlacedWord) × (words_left l.fn.words ≡ came ++ words_left l.left) × ((taken : List PlacedWord) → Reads l.fn.reader taken → Reads l.reader (taken ++ came)))
+    ((came : List PlacedWord) × (words_left l.fn.words ≡ came ++ words_left l.left)
+    × ((taken : List PlacedWord) → Reads l.fn.reader taken → Reads l.reader (taken ++ came)))
     × LinesFit l.left
     × (feeds_at_end l.left ≡ feeds_at_end l.fn.words)
 

@@ -6,13 +6,21 @@ use Rattle.std.proofs.lemmas.Option.{slice_get_within, slice_get_read, get_or_fr
 use Rattle.vcd_text.proofs.reading.code_targets.put.Goals as goal
 
 -- what stands in a list after one number of it was set
-after_set : (xs : List ℕ) (place number i n : ℕ) → slice_get (set xs place number) i ≡ Some n → ((i ≡ place) × (n ≡ number)) ⊎ (slice_get xs i ≡ Some n)
+after_set : (xs : List ℕ) (place number i n : ℕ) → slice_get (set xs place number) i ≡ Some n
+    → ((i ≡ place) × (n ≡ number)) ⊎ (slice_get xs i ≡ Some n)
 after_set xs place number i n at =
-    let within : i < length xs = subst (λ m. i < m) (length-set xs place number) (slice_get_within (set xs place number) i n at) in
+    let within : i < length xs =
+    subst (λ m. i < m) (length-set xs place number) (slice_get_within (set xs place number) i n at) in
     let read : get_or (set xs place number) i n ≡ n = get_or_from_slice_get (set xs place number) i n n at in
     elim (cases_eq i place) [
-      | inl same ↦ inl (same, sym read ∙ subst (λ k. get_or (set xs place number) k n ≡ number) (sym same) (get_or-set_same xs place number n (subst (λ k. k < length xs) same within)))
-      | inr other ↦ inr (slice_get_read xs (length xs) i n refl within (sym read ∙ get_or-set_other xs place i number n other))
+      | inl same ↦ inl (
+        same,
+        sym read
+            ∙ subst (λ k. get_or (set xs place number) k n ≡ number) (sym same)
+            (get_or-set_same xs place number n (subst (λ k. k < length xs) same within)),
+      )
+      | inr other ↦ inr (slice_get_read xs (length xs) i n refl within (sym read
+          ∙ get_or-set_other xs place i number n other))
     ]
 
 pub returns : goal.returns

@@ -11,7 +11,8 @@ returns-then-first-before-clause-kept c =
     let before = c.args.before.now in
     let old = c.index-before-first.result in
     map-set signal_contents before first c.with_wave_of.new.first
-    ∙ ap (set (map signal_contents before) first) (c.with_wave_of.ensures.kept ∙ sym (get_or-map signal_contents before first old (signal_contents old) c.if-first-before.true))
+    ∙ ap (set (map signal_contents before) first) (c.with_wave_of.ensures.kept
+    ∙ sym (get_or-map signal_contents before first old (signal_contents old) c.if-first-before.true))
     ∙ set-get_or (map signal_contents before) first (signal_contents old)
 
 pub returns-clause-finished : goal.returns-clause-finished
@@ -20,5 +21,8 @@ returns-clause-finished c =
     let before = c.args.before.now in
     elim (slice_get_cases before first).1 [
       | inl (s, within, at, read) ↦ absurd (omega (arith, within, c.if-first-before.false))
-      | inr (past, at) ↦ subst (λ o. Finishes c.args.variable o c.with_form.result) (sym at) (c.with_form.ensures.same, c.with_form.ensures.form)
+      | inr (past, at) ↦ subst (λ o. Finishes c.args.variable o c.with_form.result) (sym at) (
+        c.with_form.ensures.same,
+        c.with_form.ensures.form,
+      )
     ]

@@ -9,6 +9,7 @@ pub returns : goal.returns
 returns c =
     let buffer = c.write_declarations.new.buffer in
     let count =
-    length_written _ _ _ buffer (declarations_text (contents c.args.capture.now)) refl (omega (arith, c.if-buffer-ge-COUNT_LIMIT.false))
+    length_written _ _ _ buffer (declarations_text (contents c.args.capture.now)) refl
+    (omega (arith, c.if-buffer-ge-COUNT_LIMIT.false))
     (whole_written c.new-waiting.ensures.items refl c.write_declarations.ensures) in
     omega (arith, count, c.if-buffer-ge-COUNT_LIMIT.false, buffer.waiting.small)

@@ -10,7 +10,11 @@ use Rattle.vcd_text.proofs.writing.declarations.write_declarations.Goals as goal
 
 pub returns : goal.returns
 returns g c =
-    let header = writes_as (ap (λ (l : List Header). flat_map item_line (header_items l)) c.header.ensures) c.write_header.ensures in
-    let timescale = writes_as (ap (λ o. flat_map item_line (timescale_items o)) c.timescale.ensures) c.write_timescale.ensures in
-    let signals = writes_as (ap (λ (l : List Signal). flat_map item_line (signal_items [] 0 (map signal_contents l))) c.signals.ensures) c.write_signals.ensures in
+    let header = writes_as (ap (λ (l : List Header). flat_map item_line (header_items l)) c.header.ensures)
+    c.write_header.ensures in
+    let timescale = writes_as (ap (λ o. flat_map item_line (timescale_items o)) c.timescale.ensures)
+    c.write_timescale.ensures in
+    let signals = writes_as
+    (ap (λ (l : List Signal). flat_map item_line (signal_items [] 0 (map signal_contents l))) c.signals.ensures)
+    c.write_signals.ensures in
     writes_both (writes_both (writes_both header timescale) signals) c.write_piece.ensures

@@ -7,5 +7,6 @@ use Rattle.vcd_text.proofs.writing.declarations.write_header.Given as goal
 
 abbrev pub invariant-loop-one : goal.invariant-loop-one
 invariant-loop-one g l =
-    WritesFront l.initial.buffer (g.W.Sink.taken l.initial.writer) (g.W.Sink.has_failed l.initial.writer) l.buffer (g.W.Sink.taken l.writer) (g.W.Sink.has_failed l.writer)
+    WritesFront l.initial.buffer (g.W.Sink.taken l.initial.writer) (g.W.Sink.has_failed l.initial.writer) l.buffer
+    (g.W.Sink.taken l.writer) (g.W.Sink.has_failed l.writer)
     (flat_map item_line (header_items (drop l.one-index l.header))) (flat_map item_line (header_items l.header))

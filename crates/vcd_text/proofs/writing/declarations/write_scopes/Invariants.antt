@@ -8,5 +8,7 @@ use Rattle.vcd_text.proofs.writing.declarations.write_scopes.Given as goal
 
 abbrev pub invariant-loop-name : goal.invariant-loop-name
 invariant-loop-name g l =
-    WritesFront l.initial.buffer (g.W.Sink.taken l.initial.writer) (g.W.Sink.has_failed l.initial.writer) l.buffer (g.W.Sink.taken l.writer) (g.W.Sink.has_failed l.writer)
-    (flat_map item_line (map (λ s. scope s.kind s.words) (drop l.name-index l.scopes))) (flat_map item_line (map (λ s. scope s.kind s.words) l.scopes))
+    WritesFront l.initial.buffer (g.W.Sink.taken l.initial.writer) (g.W.Sink.has_failed l.initial.writer) l.buffer
+    (g.W.Sink.taken l.writer) (g.W.Sink.has_failed l.writer)
+    (flat_map item_line (map (λ s. scope s.kind s.words) (drop l.name-index l.scopes)))
+    (flat_map item_line (map (λ s. scope s.kind s.words) l.scopes))

@@ -10,9 +10,11 @@ loop-position-init g c = front_begun refl
 pub loop-position-preserved : goal.loop-position-preserved
 loop-position-preserved g c =
     front_grows _ c.loop-position.invariant (writes_both c.write_scope_changes.ensures c.write_variable.ensures)
-    (one_declared c.loop-position.opened.now c.as_slice-path.result.now c.loop-position.position c.args.signals.now c.index-signals-position.result
+    (one_declared c.loop-position.opened.now c.as_slice-path.result.now c.loop-position.position c.args.signals.now
+    c.index-signals-position.result
     (omega arith) c.index-signals-position.is c.as_slice-path.ensures)
 
 pub returns : goal.returns
 returns g c =
-    front_whole (front_grows _ c.loop-position.invariant c.write_upscopes.ensures (all_declared c.loop-position.opened.now c.loop-position.position c.args.signals.now (omega arith))) refl
+    front_whole (front_grows _ c.loop-position.invariant c.write_upscopes.ensures
+    (all_declared c.loop-position.opened.now c.loop-position.position c.args.signals.now (omega arith))) refl

@@ -14,7 +14,10 @@ pub returns-in-Some : goal.returns-in-Some
 returns-in-Some g c =
     let count = decimal c.in-Some.timescale.count in
     let unit = unit_text c.in-Some.timescale.unit in
-    let first = writes_as (ap (λ l. spaced_words (l ∷ [])) (c.as_bytes.ensures.value ∙ c.format.ensures.text)) c.write_word.ensures in
-    let second = writes_as (ap (λ l. spaced_words (l ∷ [])) (c.as_bytes-in-Some.ensures.value ∙ c.symbol.ensures)) c.write_word-in-Some.ensures in
+    let first = writes_as (ap (λ l. spaced_words (l ∷ [])) (c.as_bytes.ensures.value ∙ c.format.ensures.text))
+    c.write_word.ensures in
+    let second = writes_as (ap (λ l. spaced_words (l ∷ [])) (c.as_bytes-in-Some.ensures.value ∙ c.symbol.ensures))
+    c.write_word-in-Some.ensures in
     writes_as (sym (append-nil _) ∙ ap (λ o. flat_map item_line (timescale_items o)) (sym c.in-Some.is))
-    (writes_line (codes "$timescale") (count ∷ unit ∷ []) c.write_piece.ensures (writes_words (count ∷ []) (unit ∷ []) first second) c.write_end.ensures)
+    (writes_line (codes "$timescale") (count ∷ unit ∷ []) c.write_piece.ensures
+    (writes_words (count ∷ []) (unit ∷ []) first second) c.write_end.ensures)

@@ -8,10 +8,13 @@ use Rattle.vcd_text.proofs.Written.{front_begun, front_grows, front_whole}
 use Rattle.vcd_text.proofs.writing.declarations.write_upscopes.Goals as goal
 
 pub loop-closed-init : goal.loop-closed-init
-loop-closed-init g c = let all : c.args.count - 0 ≡ c.args.count = omega arith in front_begun (ap (λ (n : ℕ). flat_map item_line (replicate n upscope)) all)
+loop-closed-init g c = let all : c.args.count - 0 ≡ c.args.count = omega arith in
+    front_begun (ap (λ (n : ℕ). flat_map item_line (replicate n upscope)) all)
 
 pub loop-closed-preserved : goal.loop-closed-preserved
-loop-closed-preserved g c = front_grows _ c.loop-closed.invariant c.write_piece.ensures (one_closed c.args.count c.loop-closed._closed (omega arith))
+loop-closed-preserved g c =
+    front_grows _ c.loop-closed.invariant c.write_piece.ensures
+    (one_closed c.args.count c.loop-closed._closed (omega arith))
 
 pub returns : goal.returns
 returns g c =

@@ -12,10 +12,14 @@ loop-place-preserved c =
     let row = c.args.row.now in
     record {
       keys = one_key c.args.from k c.key_of.result row _ out c.push_in_room.new.list.items _ (omega arith)
-          (c.key_of.ensures ∙ ap (λ n. n * PLACES + k) c.saturating_sub-ticks.ensures) c.push_in_room.ensures.items c.loop-place.invariant.keys;
-      count = ap (length {A = ℕ}) c.push_in_room.ensures.items ∙ length_push out c.key_of.result ∙ ap (λ n. n + 1) c.loop-place.invariant.count;
+          (c.key_of.ensures ∙ ap (λ n. n * PLACES + k) c.saturating_sub-ticks.ensures) c.push_in_room.ensures.items
+          c.loop-place.invariant.keys;
+      count = ap (length {A = ℕ}) c.push_in_room.ensures.items ∙ length_push out c.key_of.result
+          ∙ ap (λ n. n + 1) c.loop-place.invariant.count;
       room = omega (arith, c.loop-place.invariant.room, c.push_in_room.ensures.room);
     }
 
 pub returns-clause-keys : goal.returns-clause-keys
-returns-clause-keys c = all_keys c.args.from c.loop-place.place c.args.row.now c.loop-place.order.items _ (omega arith) c.loop-place.invariant.keys
+returns-clause-keys c =
+    all_keys c.args.from c.loop-place.place c.args.row.now c.loop-place.order.items _ (omega arith)
+    c.loop-place.invariant.keys

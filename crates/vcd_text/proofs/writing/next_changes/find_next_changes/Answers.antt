@@ -11,5 +11,6 @@ loop-position-preserved c =
     let p = c.loop-position.position in
     record {
       all = length-set nexts p c.next_from.result ∙ kept.all;
-      passed = passed_next c.args.from p c.args.signals.now nexts c.index-signals-position.result c.next_from.result (omega arith) kept.all c.index-signals-position.is c.next_from.ensures kept.passed;
+      passed = passed_next c.args.from p c.args.signals.now nexts c.index-signals-position.result c.next_from.result
+          (omega arith) kept.all c.index-signals-position.is c.next_from.ensures kept.passed;
     }

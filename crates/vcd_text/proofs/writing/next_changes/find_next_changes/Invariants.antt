@@ -9,5 +9,6 @@ abbrev pub invariant-loop-position : goal.invariant-loop-position
 invariant-loop-position l =
     record {
       all : length l.nexts ≡ length l.signals;
-      passed : (k : ℕ) (s : Signal) (n : KeptChange) → k < l.position → IsNext l.from (get_or l.signals k s).wave.changes (get_or l.nexts k n);
+      passed : (k : ℕ) (s : Signal) (n : KeptChange) → k < l.position
+          → IsNext l.from (get_or l.signals k s).wave.changes (get_or l.nexts k n);
     }

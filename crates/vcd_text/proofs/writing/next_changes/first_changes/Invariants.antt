@@ -9,5 +9,6 @@ abbrev pub invariant-loop-signal : goal.invariant-loop-signal
 invariant-loop-signal l =
     record {
       all : length l.nexts.items ≡ l.signal-index;
-      each : (k : ℕ) (s : Signal) (n : KeptChange) → k < l.signal-index → IsNext 1 (get_or l.signals k s).wave.changes (get_or l.nexts.items k n);
+      each : (k : ℕ) (s : Signal) (n : KeptChange) → k < l.signal-index
+          → IsNext 1 (get_or l.signals k s).wave.changes (get_or l.nexts.items k n);
     }

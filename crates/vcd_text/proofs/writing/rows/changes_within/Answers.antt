@@ -10,18 +10,29 @@ use Rattle.vcd_text.proofs.writing.rows.changes_within.Goals as goal
 
 pub slice_bounds-result-start : goal.slice_bounds-result-start
 slice_bounds-result-start c =
-    omega (arith, c.requires.start, c.requires.stop, count_rises (c.args.from - 1) (c.args.to - 1) c.args.wave.now.changes (omega arith))
+    omega (
+      arith,
+      c.requires.start,
+      c.requires.stop,
+      count_rises (c.args.from - 1) (c.args.to - 1) c.args.wave.now.changes (omega arith),
+    )
 
 pub slice_bounds-result-count : goal.slice_bounds-result-count
 slice_bounds-result-count c =
-    omega (arith, c.requires.start, c.requires.stop, count_rises (c.args.from - 1) (c.args.to - 1) c.args.wave.now.changes (omega arith))
+    omega (
+      arith,
+      c.requires.start,
+      c.requires.stop,
+      count_rises (c.args.from - 1) (c.args.to - 1) c.args.wave.now.changes (omega arith),
+    )
 
 pub returns : goal.returns
 returns c =
     let cs = c.args.wave.now.changes in
     let a = c.args.from - 1 in
     let b = c.args.to - 1 in
-    let rise = subst (AreChangesFrom 0 (all_x c.args.wave.now.width)) c.changes.ensures.changes c.changes.ensures.form.rise in
+    let rise = subst (AreChangesFrom 0 (all_x c.args.wave.now.width)) c.changes.ensures.changes
+    c.changes.ensures.form.rise in
     let low : a + 1 ≡ c.args.from = omega arith in
     let high : b + 1 ≡ c.args.to = omega arith in
     ap (λ (l : List Change). take (c.args.stop - c.args.start) (drop c.args.start l)) c.changes.ensures.changes

@@ -14,29 +14,49 @@ use Rattle.vcd_text.proofs.writing.rows.list_after.Goals as goal
 pub returns-clause-listed : goal.returns-clause-listed
 returns-clause-listed c = λ signals inside values before.
     c.list_changes.ensures.listed signals inside
-    (window_values signals c.args.position c.args.from c.args.to c.args.wave.now.width c.args.wave.now.changes c.changes_within-changes.result.now c.requires.form.rise c.changes_within-changes.ensures values) before
+    (window_values signals c.args.position c.args.from c.args.to c.args.wave.now.width c.args.wave.now.changes
+    c.changes_within-changes.result.now c.requires.form.rise c.changes_within-changes.ensures values) before
 
 pub window_stop-requires-clause-start : goal.window_stop-requires-clause-start
-window_stop-requires-clause-start c = omega (arith, c.requires.start, count_rises (c.args.from - 1) (c.args.to - 1) c.args.wave.now.changes (omega arith))
+window_stop-requires-clause-start c =
+    omega (arith, c.requires.start, count_rises (c.args.from - 1) (c.args.to - 1) c.args.wave.now.changes (omega arith))
 
 pub returns-in_default-clause-full : goal.returns-in_default-clause-full
 returns-in_default-clause-full c =
     let cs = c.args.wave.now.changes in
-    let count = window_length c.args.from c.args.to 0 (all_x c.args.wave.now.width) cs c.requires.form.rise c.requires.from c.requires.order in
-    let part = length-map (filter (λ (x : Change). is_in_window c.args.from c.args.to x.tick) cs) (λ (x : Change). transition_of x.tick c.args.position) in
+    let count = window_length c.args.from c.args.to 0 (all_x c.args.wave.now.width) cs c.requires.form.rise
+    c.requires.from c.requires.order in
+    let part = length-map (filter (λ (x : Change). is_in_window c.args.from c.args.to x.tick) cs)
+    (λ (x : Change). transition_of x.tick c.args.position) in
     omega (arith, c.in_default.ensures.full, c.requires.start, count, part, c.len.ensures)
 
 pub list_changes-requires : goal.list_changes-requires
 list_changes-requires c =
     let cs = c.args.wave.now.changes in
-    let count = window_length c.args.from c.args.to 0 (all_x c.args.wave.now.width) cs c.requires.form.rise c.requires.from c.requires.order in
+    let count = window_length c.args.from c.args.to 0 (all_x c.args.wave.now.width) cs c.requires.form.rise
+    c.requires.from c.requires.order in
     let long = ap (length {A = Change}) c.changes_within-changes.ensures in
-    record { position = c.requires.position; room = omega (arith, c.in-Some.ensures.stop, c.in-Some.ensures.few, c.requires.start, count, long, c.len.ensures, c.requires.few, c.requires.room) }
+    record {
+      position = c.requires.position;
+      room =
+          omega (
+            arith,
+            c.in-Some.ensures.stop,
+            c.in-Some.ensures.few,
+            c.requires.start,
+            count,
+            long,
+            c.len.ensures,
+            c.requires.few,
+            c.requires.room,
+          );
+    }
 
 pub returns-clause-few : goal.returns-clause-few
 returns-clause-few c =
     let cs = c.args.wave.now.changes in
-    let count = window_length c.args.from c.args.to 0 (all_x c.args.wave.now.width) cs c.requires.form.rise c.requires.from c.requires.order in
+    let count = window_length c.args.from c.args.to 0 (all_x c.args.wave.now.width) cs c.requires.form.rise
+    c.requires.from c.requires.order in
     let long = ap (length {A = Change}) c.changes_within-changes.ensures in
     let part = c.changes_within-changes.result.now in
     let grown = ap (length {A = Transition}) c.list_changes.ensures.all in
@@ -50,7 +70,8 @@ returns-clause-few c =
       c.len.ensures,
       c.requires.few,
       grown,
-      length-append (transitions_of c.args.row.now.items) (map (λ (x : Change). transition_of x.tick c.args.position) part),
+      length-append (transitions_of c.args.row.now.items)
+          (map (λ (x : Change). transition_of x.tick c.args.position) part),
       length-map part (λ (x : Change). transition_of x.tick c.args.position),
       length-map c.args.row.now.items listed_transition,
       length-map c.list_changes.new.row.items listed_transition,

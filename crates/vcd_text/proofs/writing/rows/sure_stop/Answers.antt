@@ -11,5 +11,6 @@ returns-in-Some-clause-high c =
     let found = c.in-Some.ensures.lookup in
     let inside : c.args.guess - 1 < length changes = found.3.0 in
     let early = subst (λ (x : Change). x.tick < c.args.to) found.1 (omega arith) in
-    let all = reached c.args.to (c.args.guess - 1) (all_x c.args.wave.now.width) changes c.args.wave.now.changes c.in-Some.change.now c.changes.ensures.form.rise c.changes.ensures.changes inside early in
+    let all = reached c.args.to (c.args.guess - 1) (all_x c.args.wave.now.width) changes c.args.wave.now.changes
+    c.in-Some.change.now c.changes.ensures.form.rise c.changes.ensures.changes inside early in
     omega (arith, all)

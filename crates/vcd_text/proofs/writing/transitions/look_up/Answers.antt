@@ -13,8 +13,10 @@ loop-k-preserved c =
     let room : k < length c.loop-k.found = omega (arith, inside, kept.sized, c.requires.room) in
     record {
       sized = length-set c.loop-k.found k _ ∙ kept.sized;
-      all = one_looked_up c.args.row.now c.loop-k.found c.args.keys.now k c.place_of.result 0 _ inside room c.place_of.ensures (c.requires.keys k 0 inside) kept.all;
-      listed = λ signals rows. one_more_listed signals c.args.row.now c.loop-k.found c.args.keys.now k c.place_of.result 0 _ room c.place_of.ensures (c.requires.keys k 0 inside) rows (kept.listed signals rows);
+      all = one_looked_up c.args.row.now c.loop-k.found c.args.keys.now k c.place_of.result 0 _ inside room
+          c.place_of.ensures (c.requires.keys k 0 inside) kept.all;
+      listed = λ signals rows. one_more_listed signals c.args.row.now c.loop-k.found c.args.keys.now k c.place_of.result
+          0 _ room c.place_of.ensures (c.requires.keys k 0 inside) rows (kept.listed signals rows);
     }
 
 pub returns-clause-listed : goal.returns-clause-listed

@@ -9,5 +9,6 @@ invariant-loop-k l =
     record {
       sized : length l.found ≡ length l.initial.found;
       all : transitions_of (take l.k l.found) ≡ in_order l.row (take l.k l.keys);
-      listed : (signals : List SignalContents) → All (IsListed signals) l.row → All (IsListed signals) (take l.k l.found);
+      listed : (signals : List SignalContents) → All (IsListed signals) l.row
+          → All (IsListed signals) (take l.k l.found);
     }

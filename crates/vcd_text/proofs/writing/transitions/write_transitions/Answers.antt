@@ -22,12 +22,14 @@ pub loop-from-preserved : goal.loop-from-preserved
 loop-from-preserved g c =
     let signals = map signal_contents c.args.signals.now in
     let window = c.fill_window-count in
-    let following : c.loop-from.from + window.result ≤ c.args.end + 1 = omega (arith, window.ensures.most, c.min-ticks.ensures) in
+    let following : c.loop-from.from + window.result ≤ c.args.end + 1 =
+    omega (arith, window.ensures.most, c.min-ticks.ensures) in
     record {
       text =
           front_grows _ c.loop-from.invariant.text c.write_listed-last.ensures.text
           (window_walked signals c.args.end c.loop-from.last c.write_listed-last.result c.loop-from.from window.result _
-          ((λ p. in_order (c.as_slice.ensures.value p) (c.as_slice-in-loop-from.ensures.value p)) ∙ window.ensures.all) c.write_listed-last.ensures.last following);
+          ((λ p. in_order (c.as_slice.ensures.value p) (c.as_slice-in-loop-from.ensures.value p))
+          ∙ window.ensures.all) c.write_listed-last.ensures.last following);
       next = window.ensures.next;
       row = omega (arith, c.loop-from.invariant.row, window.ensures.room);
       order = omega (arith, c.loop-from.invariant.order, window.ensures.order);
@@ -38,4 +40,6 @@ loop-from-preserved g c =
 
 pub returns : goal.returns
 returns g c =
-    front_whole (front_grows _ c.loop-from.invariant.text c.write_last_stamp.ensures (end_walked (map signal_contents c.args.signals.now) c.args.end c.loop-from.last c.loop-from.from (omega arith))) refl
+    front_whole (front_grows _ c.loop-from.invariant.text c.write_last_stamp.ensures
+    (end_walked (map signal_contents c.args.signals.now) c.args.end c.loop-from.last c.loop-from.from
+    (omega arith))) refl

@@ -14,8 +14,11 @@ returns-then-change-tick g c =
     let found = c.in-Some.ensures.lookup in
     let is : get_or changes c.args.place c.in-Some.change.now ≡ c.in-Some.change.now = sym found.1 in
     let inside : c.args.place < length changes = found.3.0 in
-    let here : value_at c.args.wave.now.width changes c.args.tick ≡ (get_or changes c.args.place c.in-Some.change.now).value =
-    value_standing 0 (all_x c.args.wave.now.width) changes c.args.place c.args.tick c.in-Some.change.now c.changes.ensures.form.rise inside (ap (λ (x : Change). x.tick) is ∙ c.if-change-tick.true) in
+    let here : value_at c.args.wave.now.width changes c.args.tick
+    ≡ (get_or changes c.args.place c.in-Some.change.now).value =
+    value_standing 0 (all_x c.args.wave.now.width) changes c.args.place c.args.tick c.in-Some.change.now
+    c.changes.ensures.form.rise inside (ap (λ (x : Change). x.tick) is ∙ c.if-change-tick.true) in
     let same : c.in-Some.change.now.value ≡ value_at c.args.wave.now.width c.args.wave.now.changes c.args.tick =
-    sym (ap (λ l. value_at c.args.wave.now.width l c.args.tick) (sym c.changes.ensures.changes) ∙ here ∙ ap (λ (x : Change). x.value) is) in
+    sym (ap (λ l. value_at c.args.wave.now.width l c.args.tick) (sym c.changes.ensures.changes) ∙ here
+    ∙ ap (λ (x : Change). x.value) is) in
     writes_as (ap (λ v. item_line (value_item (code_of c.args.position) v)) same) c.write_value.ensures

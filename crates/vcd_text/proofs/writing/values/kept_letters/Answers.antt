@@ -10,14 +10,16 @@ returns-then-kept-gt1-clause-rest c =
     let left = c.loop-left.left in
     let below : ℕ = 64 * ((left - 1) / 64) in
     let kept = c.kept_in_word-kept.result in
-    let holds : HoldsFrom v below c.word_low-low.result c.word_high-high.result = record { lows = c.word_low-low.ensures; highs = c.word_high-high.ensures } in
+    let holds : HoldsFrom v below c.word_low-low.result c.word_high-high.result =
+    record { lows = c.word_low-low.ensures; highs = c.word_high-high.ensures } in
     let is : IsKept (left - below) c.word_low-low.result c.word_high-high.result kept = record {
       least = c.kept_in_word-kept.ensures.least;
       most = c.kept_in_word-kept.ensures.most;
       spare = c.kept_in_word-kept.ensures.spare;
       needed = c.kept_in_word-kept.ensures.kept;
     } in
-    sym (word_stays v below _ _ left kept holds (omega arith) (omega arith) c.loop-left.invariant.within is (inr c.if-kept-gt1.true))
+    sym (word_stays v below _ _ left kept holds (omega arith) (omega arith) c.loop-left.invariant.within is
+    (inr c.if-kept-gt1.true))
     ∙ sym (word_left_out v below _ _ left kept holds (omega arith) (omega arith) c.loop-left.invariant.within is)
     ∙ c.loop-left.invariant.spare ∙ sym (short_is v)
 
@@ -27,7 +29,8 @@ returns-then-not-is_spare-clause-rest c =
     let left = c.loop-left.left in
     let below : ℕ = 64 * ((left - 1) / 64) in
     let kept = c.kept_in_word-kept.result in
-    let holds : HoldsFrom v below c.word_low-low.result c.word_high-high.result = record { lows = c.word_low-low.ensures; highs = c.word_high-high.ensures } in
+    let holds : HoldsFrom v below c.word_low-low.result c.word_high-high.result =
+    record { lows = c.word_low-low.ensures; highs = c.word_high-high.ensures } in
     let is : IsKept (left - below) c.word_low-low.result c.word_high-high.result kept = record {
       least = c.kept_in_word-kept.ensures.least;
       most = c.kept_in_word-kept.ensures.most;
@@ -38,7 +41,8 @@ returns-then-not-is_spare-clause-rest c =
     let place : below + 1 - 2 ≡ below - 1 = omega arith in
     sym (stays v (below + 1) (omega arith) (omega (arith, c.loop-left.invariant.within)) (λ more.
     ap (is_spare_in v) place
-    ∙ state_at v below _ _ _ _ (omega (arith, c.loop-left-test.true)) c.bit.ensures c.bit-in-loop-left.ensures c.is_spare.ensures c.if-not-is_spare.true))
+    ∙ state_at v below _ _ _ _ (omega (arith, c.loop-left-test.true)) c.bit.ensures c.bit-in-loop-left.ensures
+    c.is_spare.ensures c.if-not-is_spare.true))
     ∙ ap (λ n. shortened (drop (length v - n) v)) (sym one)
     ∙ sym (word_left_out v below _ _ left kept holds (omega arith) (omega arith) c.loop-left.invariant.within is)
     ∙ c.loop-left.invariant.spare ∙ sym (short_is v)
@@ -49,7 +53,8 @@ loop-left-preserved c =
     let left = c.loop-left.left in
     let below : ℕ = 64 * ((left - 1) / 64) in
     let kept = c.kept_in_word-kept.result in
-    let holds : HoldsFrom v below c.word_low-low.result c.word_high-high.result = record { lows = c.word_low-low.ensures; highs = c.word_high-high.ensures } in
+    let holds : HoldsFrom v below c.word_low-low.result c.word_high-high.result =
+    record { lows = c.word_low-low.ensures; highs = c.word_high-high.ensures } in
     let is : IsKept (left - below) c.word_low-low.result c.word_high-high.result kept = record {
       least = c.kept_in_word-kept.ensures.least;
       most = c.kept_in_word-kept.ensures.most;
@@ -60,10 +65,12 @@ loop-left-preserved c =
     let some : 1 ≤ below = omega (arith, c.loop-left-test.true) in
     record {
       spare =
-          sym (left_out v (below + 1) below some (omega arith) (omega (arith, c.loop-left.invariant.within)) (λ i past within.
+          sym (left_out v (below + 1) below some (omega arith) (omega (arith, c.loop-left.invariant.within))
+          (λ i past within.
           let here : i ≡ below - 1 = omega arith in
           ap (is_spare_in v) here
-          ∙ state_at v below _ _ _ _ some c.bit.ensures c.bit-in-loop-left.ensures c.is_spare.ensures c.if-not-is_spare.false))
+          ∙ state_at v below _ _ _ _ some c.bit.ensures c.bit-in-loop-left.ensures c.is_spare.ensures
+          c.if-not-is_spare.false))
           ∙ ap (λ n. shortened (drop (length v - n) v)) (sym one)
           ∙ sym (word_left_out v below _ _ left kept holds (omega arith) (omega arith) c.loop-left.invariant.within is)
           ∙ c.loop-left.invariant.spare;
@@ -76,16 +83,20 @@ returns-clause-rest c =
     let v = c.args.value.now in
     let left = c.loop-left.left in
     let kept = c.kept_in_word.result in
-    let holds : HoldsFrom v 0 c.word_low.result c.word_high.result = record { lows = c.word_low.ensures; highs = c.word_high.ensures } in
+    let holds : HoldsFrom v 0 c.word_low.result c.word_high.result =
+    record { lows = c.word_low.ensures; highs = c.word_high.ensures } in
     let none : left - 0 ≡ left = omega arith in
     let all : 0 + kept ≡ kept = omega arith in
-    let is : IsKept (left - 0) c.word_low.result c.word_high.result kept = subst (λ n. IsKept n c.word_low.result c.word_high.result kept) (sym none) (record {
+    let is : IsKept (left - 0) c.word_low.result c.word_high.result kept =
+    subst (λ n. IsKept n c.word_low.result c.word_high.result kept) (sym none) (record {
       least = c.kept_in_word.ensures.least;
       most = c.kept_in_word.ensures.most;
       spare = c.kept_in_word.ensures.spare;
       needed = c.kept_in_word.ensures.kept;
     }) in
     ap (λ n. drop (length v - n) v) (sym all)
-    ∙ sym (word_stays v 0 _ _ left kept holds c.loop-left.invariant.least (omega (arith, c.loop-left-test.false)) c.loop-left.invariant.within is (inl refl))
-    ∙ sym (word_left_out v 0 _ _ left kept holds c.loop-left.invariant.least (omega (arith, c.loop-left-test.false)) c.loop-left.invariant.within is)
+    ∙ sym (word_stays v 0 _ _ left kept holds c.loop-left.invariant.least (omega (arith, c.loop-left-test.false))
+    c.loop-left.invariant.within is (inl refl))
+    ∙ sym (word_left_out v 0 _ _ left kept holds c.loop-left.invariant.least (omega (arith, c.loop-left-test.false))
+    c.loop-left.invariant.within is)
     ∙ c.loop-left.invariant.spare ∙ sym (short_is v)

@@ -5,7 +5,11 @@ use Rattle.vcd_text.proofs.ShortForms.{shortened}
 use Rattle.vcd_text.proofs.writing.values.kept_letters.Given as goal
 
 abbrev pub invariant-loop-left : goal.invariant-loop-left
-invariant-loop-left l = record { spare : shortened (lowest l.left l.value) ≡ shortened l.value; least : 1 ≤ l.left; within : l.left ≤ length l.value }
+invariant-loop-left l = record {
+  spare : shortened (lowest l.left l.value) ≡ shortened l.value;
+  least : 1 ≤ l.left;
+  within : l.left ≤ length l.value;
+}
 
 abbrev pub decreases-loop-left : goal.decreases-loop-left
 decreases-loop-left l = l.left

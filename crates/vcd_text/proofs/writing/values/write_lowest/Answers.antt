@@ -16,11 +16,13 @@ loop-left-preserved g c =
     let from : ℕ = 64 * ((left - 1) / 64) in
     record {
       front = front_grows (printed_letters (lowest from v)) c.loop-left.invariant.front c.write_letters.ensures
-          (word_and_rest v left from _ _ (omega arith) (omega arith) c.loop-left.invariant.within (record { lows = c.word_low-low.ensures; highs = c.word_high-high.ensures }));
+          (word_and_rest v left from _ _ (omega arith) (omega arith) c.loop-left.invariant.within
+          (record { lows = c.word_low-low.ensures; highs = c.word_high-high.ensures }));
       within = omega (arith, c.loop-left.invariant.within);
     }
 
 pub returns : goal.returns
 returns g c =
     let v = c.args.value.now in
-    front_whole c.loop-left.invariant.front (ap printed_letters (drop_all (length v - c.loop-left.left) v (omega (arith, c.loop-left-test.false))))
+    front_whole c.loop-left.invariant.front
+    (ap printed_letters (drop_all (length v - c.loop-left.left) v (omega (arith, c.loop-left-test.false))))

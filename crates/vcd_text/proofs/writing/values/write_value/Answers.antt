@@ -15,7 +15,8 @@ returns-then-width-le64 g c =
     let high = c.word_high-high.result in
     let holds : HoldsFrom v 0 low high = record { lows = c.word_low-low.ensures; highs = c.word_high-high.ensures } in
     let whole : letters_of c.width-width.result (low ∷ []) (high ∷ []) ≡ v =
-    ap (λ n. letters_of n (low ∷ []) (high ∷ [])) c.width-width.ensures.width ∙ given_whole v low high (omega (arith, c.if-width-le64.true, c.width-width.ensures.width)) holds in
+    ap (λ n. letters_of n (low ∷ []) (high ∷ [])) c.width-width.ensures.width
+    ∙ given_whole v low high (omega (arith, c.if-width-le64.true, c.width-width.ensures.width)) holds in
     writes_as (ap (λ w. item_line (value_item (code_of c.args.position) w)) whole) c.write_word_value.ensures
 
 pub returns : goal.returns
@@ -23,6 +24,9 @@ returns g c =
     let v = c.args.value.now in
     let more : length v ≢ 1 = omega (arith, c.if-width-le64.false, c.width-width.ensures.width) in
     writes_as
-    (ap (λ digits. ((98 ∷ []) ++ (printed_letters digits ++ 32 ∷ [])) ++ (code_of c.args.position ++ 10 ∷ [])) c.kept_letters.ensures.rest
-    ∙ ap (λ front. front ++ (code_of c.args.position ++ 10 ∷ [])) (sym (front_of_bits v more)) ∙ line_of_front v (code_of c.args.position))
-    (writes_both (writes_both c.write_byte.ensures (writes_both c.write_lowest.ensures c.write_byte-2.ensures)) (writes_both c.write_code.ensures c.write_byte-3.ensures))
+    (ap (λ digits. ((98 ∷ []) ++ (printed_letters digits ++ 32 ∷ [])) ++ (code_of c.args.position ++ 10 ∷ []))
+    c.kept_letters.ensures.rest
+    ∙ ap (λ front. front ++ (code_of c.args.position ++ 10 ∷ [])) (sym (front_of_bits v more))
+    ∙ line_of_front v (code_of c.args.position))
+    (writes_both (writes_both c.write_byte.ensures (writes_both c.write_lowest.ensures c.write_byte-2.ensures))
+    (writes_both c.write_code.ensures c.write_byte-3.ensures))

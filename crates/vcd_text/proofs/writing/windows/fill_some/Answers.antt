@@ -14,10 +14,18 @@ loop-count-preserved c =
     let more : c.loop-count.count ≢ 1 = λ only. elim (c.fill_ticks.ensures.full c.loop-count-test.true) [
       | inl far ↦ omega (arith, far, only)
       | inr over ↦
-          omega (arith, subst (λ n. c.args.room < length (unsorted_window c.args.from (c.args.from + n) 0 signals)) only over, one, length-map c.args.signals.now signal_contents, c.requires.all)
+          omega (
+            arith,
+            subst (λ n. c.args.room < length (unsorted_window c.args.from (c.args.from + n) 0 signals)) only
+                over,
+            one,
+            length-map c.args.signals.now signal_contents,
+            c.requires.all,
+          )
     ] in
     record {
-      next = subst (λ b. AreNext (if b then c.args.from + c.loop-count.count else c.args.from) c.args.signals.now c.fill_ticks.new.nexts) c.loop-count-test.true c.fill_ticks.ensures.next;
+      next = subst (λ b. AreNext (if b then c.args.from + c.loop-count.count else c.args.from) c.args.signals.now
+          c.fill_ticks.new.nexts) c.loop-count-test.true c.fill_ticks.ensures.next;
       some = omega (arith, more, c.loop-count.invariant.some);
       most = omega (arith, c.loop-count.invariant.most);
       room = omega (arith, c.loop-count.invariant.room, c.fill_ticks.ensures.room);

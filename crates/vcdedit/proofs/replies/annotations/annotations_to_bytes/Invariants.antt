@@ -4,4 +4,6 @@ use Rattle.vcdedit.specs.inside.Annotations.{annotations_text}
 use Rattle.vcdedit.proofs.replies.annotations.annotations_to_bytes.Given as goal
 
 abbrev pub invariant-loop-annotation : goal.invariant-loop-annotation
-invariant-loop-annotation l = l.text.items ++ annotations_text l.decoder l.digits (drop l.annotation-index l.annotations) ≡ annotations_text l.decoder l.digits l.annotations
+invariant-loop-annotation l =
+    l.text.items ++ annotations_text l.decoder l.digits (drop l.annotation-index l.annotations)
+    ≡ annotations_text l.decoder l.digits l.annotations

@@ -12,6 +12,8 @@ returns-in-Step-clause-answers c =
     let old = c.args.session.now in
     let new = c.answer_step.new.session in
     let step = c.in-Step.step in
-    subst (λ (command : Command). IfOk c.answer_step.result (λ reply. AnswersCommand c.args.skipped c.args.number command old new reply)) (sym c.in-Step.is)
-    (IfOk-weaker c.answer_step.result (λ reply. AnswersStep c.args.number step old new reply) (λ reply. AnswersCommand c.args.skipped c.args.number (commands.Step step) old new reply)
+    subst (λ (command : Command). IfOk c.answer_step.result
+    (λ reply. AnswersCommand c.args.skipped c.args.number command old new reply)) (sym c.in-Step.is)
+    (IfOk-weaker c.answer_step.result (λ reply. AnswersStep c.args.number step old new reply)
+    (λ reply. AnswersCommand c.args.skipped c.args.number (commands.Step step) old new reply)
     (λ reply. command_steps c.args.skipped c.args.number step old new reply) c.answer_step.ensures.answers)

@@ -7,15 +7,18 @@ use Rattle.vcd_text.specs.Letters.{printed_letters}
 use Rattle.vcdedit.proofs.replies.appending.append_letters.Goals as goal
 
 -- one letter more
-one_more : (v : List Bit) (k : ℕ) → k < length v → printed_letters (take (k + 1) v) ≡ printed_letters (take k v) ++ printed_letter (get_or v k X) ∷ []
-one_more v k within = ap printed_letters (take_more v k X within) ∙ map-append printed_letter (take k v) (get_or v k X ∷ [])
+one_more : (v : List Bit) (k : ℕ) → k < length v → printed_letters (take (k + 1) v) ≡ printed_letters (take k v)
+    ++ printed_letter (get_or v k X) ∷ []
+one_more v k within = ap printed_letters (take_more v k X within)
+    ∙ map-append printed_letter (take k v) (get_or v k X ∷ [])
 
 pub loop-k-preserved : goal.loop-k-preserved
 loop-k-preserved c =
     let v : List Bit = c.args.value.now in
     let k : ℕ = c.loop-k.k in
     let place : length v - 1 - (c.width-width.result - 1 - k) ≡ k = omega arith in
-    let letter : c.letter.result ≡ printed_letter (get_or v k X) = c.letter.ensures ∙ ap printed_letter (c.bit.ensures ∙ ap (λ i. get_or v i X) place) in
+    let letter : c.letter.result ≡ printed_letter (get_or v k X) = c.letter.ensures
+    ∙ ap printed_letter (c.bit.ensures ∙ ap (λ i. get_or v i X) place) in
     c.in_ok-push.ensures.items
     ∙ (λ i. c.loop-k.invariant i ++ letter i ∷ [])
     ∙ append_assoc c.args.text.now.items (printed_letters (take k v)) (printed_letter (get_or v k X) ∷ [])
@@ -23,5 +26,6 @@ loop-k-preserved c =
 
 pub returns : goal.returns
 returns c =
-    let all : take c.loop-k.k c.args.value.now ≡ c.args.value.now = take_all c.loop-k.k c.args.value.now (omega arith) in
+    let all : take c.loop-k.k c.args.value.now ≡ c.args.value.now =
+    take_all c.loop-k.k c.args.value.now (omega arith) in
     c.loop-k.invariant ∙ ap (λ l. c.args.text.now.items ++ printed_letters l) all

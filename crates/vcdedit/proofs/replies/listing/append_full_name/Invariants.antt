@@ -4,4 +4,5 @@ use Rattle.vcd_core.specs.Names.{name_in}
 use Rattle.vcdedit.proofs.replies.listing.append_full_name.Given as goal
 
 abbrev pub invariant-loop-scope : goal.invariant-loop-scope
-invariant-loop-scope l = l.text.items ++ name_in (drop l.scope-index l.scopes) l.signal.words ≡ l.initial.text.items ++ name_in l.scopes l.signal.words
+invariant-loop-scope l = l.text.items ++ name_in (drop l.scope-index l.scopes) l.signal.words ≡ l.initial.text.items
+    ++ name_in l.scopes l.signal.words

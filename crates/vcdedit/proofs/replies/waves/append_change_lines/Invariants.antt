@@ -6,4 +6,5 @@ use Rattle.vcdedit.specs.Reply.{with_line_feed}
 use Rattle.vcdedit.proofs.replies.waves.append_change_lines.Given as goal
 
 abbrev pub invariant-loop-change : goal.invariant-loop-change
-invariant-loop-change l = l.text.items ++ flat_map with_line_feed (change_lines (drop l.change-index l.changes)) ≡ l.initial.text.items ++ flat_map with_line_feed (change_lines l.changes)
+invariant-loop-change l = l.text.items ++ flat_map with_line_feed (change_lines (drop l.change-index l.changes))
+    ≡ l.initial.text.items ++ flat_map with_line_feed (change_lines l.changes)

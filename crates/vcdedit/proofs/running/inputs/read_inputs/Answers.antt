@@ -6,4 +6,7 @@ use Rattle.vcdedit.proofs.running.inputs.read_inputs.Goals as goal
 pub returns-in_err-loaded-clause-ended : goal.returns-in_err-loaded-clause-ended
 returns-in_err-loaded-clause-ended g c =
     at_error c.from_residual.result (run_errors.Capture c.in_err-loaded.field-0.0) _ c.from_residual.ensures.1
-    (capture_ends _ _ c.in_err-loaded.field-0.0 c.in_err-loaded.ensures.refused c.in_err-loaded.ensures.failed (refl, c.requires.script_ready))
+    (capture_ends _ _ c.in_err-loaded.field-0.0 c.in_err-loaded.ensures.refused c.in_err-loaded.ensures.failed (
+      refl,
+      c.requires.script_ready,
+    ))

@@ -8,8 +8,10 @@ use Rattle.vcdedit.proofs.running.run_lines.run_lines.Goals as goal
 
 pub loop-line-preserved : goal.loop-line-preserved
 loop-line-preserved g c = record {
-  told = told_more c.args.skipped (script_lines c.args.script.now) c.args.session.now c.loop-line.number c.in-Some.line.now (script_lines c.loop-line.rest.now) (script_lines c.in-Some.following.now)
-      c.loop-line.session c.run_line.new.session c.loop-line.refused c.in_ok-outcome.outcome.refused c.loop-line.written c.in_ok-outcome.outcome.written _ _ _
+  told = told_more c.args.skipped (script_lines c.args.script.now) c.args.session.now c.loop-line.number
+      c.in-Some.line.now (script_lines c.loop-line.rest.now) (script_lines c.in-Some.following.now)
+      c.loop-line.session c.run_line.new.session c.loop-line.refused c.in_ok-outcome.outcome.refused c.loop-line.written
+      c.in_ok-outcome.outcome.written _ _ _
       c.in-Some.ensures.0 c.loop-line.invariant.told c.in_ok-outcome.ensures.told;
   ready = c.in_ok-outcome.ensures.not_failed;
   number = omega (arith, c.in-Some.ensures.1);
@@ -20,16 +22,20 @@ loop-line-preserved g c = record {
 pub returns-in_err-outcome-clause-stopped : goal.returns-in_err-outcome-clause-stopped
 returns-in_err-outcome-clause-stopped g c =
     at_error c.from_residual.result c.in_err-outcome.field-0.0 _ c.from_residual.ensures.1
-    (line_stops c.args.skipped (script_lines c.args.script.now) c.args.session.now c.loop-line.number c.in-Some.line.now (script_lines c.loop-line.rest.now) (script_lines c.in-Some.following.now)
-    c.loop-line.session c.loop-line.refused c.loop-line.written _ _ _ c.in_err-outcome.field-0.0 c.in-Some.ensures.0 c.loop-line.invariant.told c.in_err-outcome.ensures.stopped)
+    (line_stops c.args.skipped (script_lines c.args.script.now) c.args.session.now c.loop-line.number c.in-Some.line.now
+    (script_lines c.loop-line.rest.now) (script_lines c.in-Some.following.now)
+    c.loop-line.session c.loop-line.refused c.loop-line.written _ _ _ c.in_err-outcome.field-0.0 c.in-Some.ensures.0
+    c.loop-line.invariant.told c.in_err-outcome.ensures.stopped)
 
 pub returns-in-Ok-clause-told : goal.returns-in-Ok-clause-told
 returns-in-Ok-clause-told g c =
-    let so = none_left c.args.skipped (script_lines c.args.script.now) c.args.session.now c.loop-line.number (script_lines c.loop-line.rest.now) c.loop-line.session c.loop-line.refused c.loop-line.written _ _
+    let so = none_left c.args.skipped (script_lines c.args.script.now) c.args.session.now c.loop-line.number
+    (script_lines c.loop-line.rest.now) c.loop-line.session c.loop-line.refused c.loop-line.written _ _
     (no_lines c.loop-line.rest.now c.in_default.ensures) c.loop-line.invariant.told in
     (so.0, Appends-kept _ _ _ _ so.1 c.in-Ok.ensures.bytes, so.2)
 
 pub returns-in-Err-clause-stopped : goal.returns-in-Err-clause-stopped
 returns-in-Err-clause-stopped g c =
-    flush_stops c.args.skipped (script_lines c.args.script.now) c.args.session.now c.loop-line.number (script_lines c.loop-line.rest.now) c.loop-line.session c.loop-line.refused c.loop-line.written _ _ _
+    flush_stops c.args.skipped (script_lines c.args.script.now) c.args.session.now c.loop-line.number
+    (script_lines c.loop-line.rest.now) c.loop-line.session c.loop-line.refused c.loop-line.written _ _ _
     (no_lines c.loop-line.rest.now c.in_default.ensures) c.loop-line.invariant.told c.in-Err.ensures.bytes

@@ -6,4 +6,5 @@ use Rattle.vcdedit.proofs.script.edits.signal_of_name.Goals as goal
 
 pub returns-clause-within : goal.returns-clause-within
 returns-clause-within c =
-    named_within c.args.capture.now c.args.name.now c.ok_or.result (c.ok_or.ensures.value ∙ ap (λ (o : Option ℕ). ok_or o NoSuchName) c.find.ensures)
+    named_within c.args.capture.now c.args.name.now c.ok_or.result (c.ok_or.ensures.value
+    ∙ ap (λ (o : Option ℕ). ok_or o NoSuchName) c.find.ensures)

@@ -14,11 +14,13 @@ use Rattle.vcdedit.proofs.KeywordCommands.{words_read}
 use Rattle.vcdedit.proofs.script.line.parse_line.Goals as goal
 
 -- what is read, clause by clause
-read_command : (wanted asked : Result Command LineError) → ReadsAs wanted asked → IfOk asked (λ command. wanted ≡ Ok (command_without_address command))
+read_command : (wanted asked : Result Command LineError) → ReadsAs wanted asked
+    → IfOk asked (λ command. wanted ≡ Ok (command_without_address command))
 read_command wanted (Ok command) reads = reads
 read_command wanted (Err fault) reads = tt
 
-read_fault : (wanted asked : Result Command LineError) → ReadsAs wanted asked → IfErr asked (λ fault. wanted ≡ Err fault)
+read_fault : (wanted asked : Result Command LineError) → ReadsAs wanted asked
+    → IfErr asked (λ fault. wanted ≡ Err fault)
 read_fault wanted (Ok command) reads = tt
 read_fault wanted (Err fault) reads = reads
 
@@ -27,18 +29,24 @@ unfolding command_of_line
 returns-in-Some-clause-command c =
     let texts : word_texts (words_of c.args.line.now) ≡ c.in-Some.first.now ∷ word_texts c.next_text.new.words =
     ap word_texts (sym c.new-words.ensures.words) ∙ c.in-Some.ensures in
-    read_command (command_of_words (contents c.args.capture.now) (word_texts (words_of c.args.line.now))) c.parse_first_word.result
-    (subst (λ words. ReadsAs (command_of_words (contents c.args.capture.now) words) c.parse_first_word.result) (sym texts)
-    (words_read (contents c.args.capture.now) (c.in-Some.first.now ∷ word_texts c.next_text.new.words) c.parse_first_word.result c.parse_first_word.ensures))
+    read_command (command_of_words (contents c.args.capture.now) (word_texts (words_of c.args.line.now)))
+    c.parse_first_word.result
+    (subst (λ words. ReadsAs (command_of_words (contents c.args.capture.now) words) c.parse_first_word.result)
+    (sym texts)
+    (words_read (contents c.args.capture.now) (c.in-Some.first.now ∷ word_texts c.next_text.new.words)
+    c.parse_first_word.result c.parse_first_word.ensures))
 
 pub returns-in-Some-clause-fault : goal.returns-in-Some-clause-fault
 unfolding command_of_line
 returns-in-Some-clause-fault c =
     let texts : word_texts (words_of c.args.line.now) ≡ c.in-Some.first.now ∷ word_texts c.next_text.new.words =
     ap word_texts (sym c.new-words.ensures.words) ∙ c.in-Some.ensures in
-    read_fault (command_of_words (contents c.args.capture.now) (word_texts (words_of c.args.line.now))) c.parse_first_word.result
-    (subst (λ words. ReadsAs (command_of_words (contents c.args.capture.now) words) c.parse_first_word.result) (sym texts)
-    (words_read (contents c.args.capture.now) (c.in-Some.first.now ∷ word_texts c.next_text.new.words) c.parse_first_word.result c.parse_first_word.ensures))
+    read_fault (command_of_words (contents c.args.capture.now) (word_texts (words_of c.args.line.now)))
+    c.parse_first_word.result
+    (subst (λ words. ReadsAs (command_of_words (contents c.args.capture.now) words) c.parse_first_word.result)
+    (sym texts)
+    (words_read (contents c.args.capture.now) (c.in-Some.first.now ∷ word_texts c.next_text.new.words)
+    c.parse_first_word.result c.parse_first_word.ensures))
 
 pub returns-in-Some-clause-signals : goal.returns-in-Some-clause-signals
 returns-in-Some-clause-signals c =

@@ -5,9 +5,18 @@ use Rattle.vcdedit.proofs.ProgramRuns.{words_asked, not_both}
 use Rattle.vcdedit.proofs.shell.program.status_of_program.Goals as goal
 
 pub returns-in-Ok-clause-told : goal.returns-in-Ok-clause-told
-returns-in-Ok-clause-told g c =
-    (c.ending_of_words.result, words_asked _ (map string_bytes c.as_slice.result.now) c.ending_of_words.ensures.done c.ending_of_words.ensures.of_run, c.report_ending.ensures.status, c.report_ending.ensures.text)
+returns-in-Ok-clause-told g c = (
+  c.ending_of_words.result,
+  words_asked _ (map string_bytes c.as_slice.result.now) c.ending_of_words.ensures.done
+      c.ending_of_words.ensures.of_run,
+  c.report_ending.ensures.status,
+  c.report_ending.ensures.text,
+)
 
 pub returns-in-Err-clause-told : goal.returns-in-Err-clause-told
-returns-in-Err-clause-told g c =
-    (c.in-Err.ending, λ done. absurd (not_both _ c.in-Err.ensures done), c.report_ending-in-Err.ensures.status, c.report_ending-in-Err.ensures.text)
+returns-in-Err-clause-told g c = (
+  c.in-Err.ending,
+  λ done. absurd (not_both _ c.in-Err.ensures done),
+  c.report_ending-in-Err.ensures.status,
+  c.report_ending-in-Err.ensures.text,
+)

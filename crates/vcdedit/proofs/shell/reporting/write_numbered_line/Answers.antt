@@ -6,7 +6,8 @@ use Rattle.vcdedit.proofs.shell.reporting.write_numbered_line.Goals as goal
 
 pub returns-clause-line : goal.returns-clause-line
 returns-clause-line g c =
-    let number = subst (Appends _ _) (c.as_bytes.ensures.value ∙ c.format.ensures.text) c.in_ok-write_all-2.ensures.all in
+    let number = subst (Appends _ _) (c.as_bytes.ensures.value
+    ∙ c.format.ensures.text) c.in_ok-write_all-2.ensures.all in
     let name = subst (Appends _ _) (c.as_bytes-2.ensures.value ∙ c.name.ensures) c.in_ok-write_all-4.ensures.all in
     let to_number = Appends-trans _ _ _ _ _ c.in_ok-write_all.ensures.all number in
     let to_colon = Appends-trans _ _ _ _ _ to_number c.in_ok-write_all-3.ensures.all in

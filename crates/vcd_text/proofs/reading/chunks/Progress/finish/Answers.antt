@@ -16,48 +16,69 @@ read_words-requires-clause-room c =
     let (bytes, taken) = c.requires in (
       closed_words bytes,
       taken.reads,
-      omega (arith, words_are_few false 1 bytes, words_are_few true (p.passed + 1) c.as_slice.result.now, ap (length {A = ℕ}) c.as_slice.ensures, taken.short, taken.room),
+      omega (
+        arith,
+        words_are_few false 1 bytes,
+        words_are_few true (p.passed + 1) c.as_slice.result.now,
+        ap (length {A = ℕ}) c.as_slice.ensures,
+        taken.short,
+        taken.room,
+      ),
     )
 
 pub returns-in_err-read_words-clause-fault : goal.returns-in_err-read_words-clause-fault
 returns-in_err-read_words-clause-fault c =
     let p = c.args.self in
     let refused = err_from_is_err_and c.from_residual.result c.from_residual.ensures.1 in
-    subst (λ r. IfErr r (λ (e : ReadError). (bytes : List ℕ) → HasConsumed p bytes → (e ≡ memory_error) ⊎ FileFault bytes e.line e.fault)) (sym (refused.1 ∙ ap Err refused.2))
-    (λ bytes taken. last_shown p.reader p.buffer.bytes p.passed p.left bytes (words_from true (p.passed + 1) c.as_slice.result.now) c.in_err-read_words.field-0.0 taken
-    (ap (words_from true (p.passed + 1)) c.as_slice.ensures) (c.in_err-read_words.ensures.words (closed_words bytes) taken.reads))
+    subst (λ r. IfErr r (λ (e : ReadError). (bytes : List ℕ) → HasConsumed p bytes
+    → (e ≡ memory_error) ⊎ FileFault bytes e.line e.fault)) (sym (refused.1 ∙ ap Err refused.2))
+    (λ bytes taken. last_shown p.reader p.buffer.bytes p.passed p.left bytes
+    (words_from true (p.passed + 1) c.as_slice.result.now) c.in_err-read_words.field-0.0 taken
+    (ap (words_from true (p.passed + 1)) c.as_slice.ensures)
+    (c.in_err-read_words.ensures.words (closed_words bytes) taken.reads))
 
 pub returns-in_err-check_complete-clause-fault : goal.returns-in_err-check_complete-clause-fault
 returns-in_err-check_complete-clause-fault c =
     let p = c.args.self in
     let m = c.read_words.new.reader in
-    let refused = err_from_is_err_and c.from_residual-in_err-check_complete.result c.from_residual-in_err-check_complete.ensures.1 in
+    let refused = err_from_is_err_and c.from_residual-in_err-check_complete.result
+    c.from_residual-in_err-check_complete.ensures.1 in
     let (open_still, truncated) = c.in_err-check_complete.ensures.truncated in
-    subst (λ r. IfErr r (λ (e : ReadError). (bytes : List ℕ) → HasConsumed p bytes → (e ≡ memory_error) ⊎ FileFault bytes e.line e.fault)) (sym (refused.1 ∙ ap Err refused.2))
+    subst (λ r. IfErr r (λ (e : ReadError). (bytes : List ℕ) → HasConsumed p bytes
+    → (e ≡ memory_error) ⊎ FileFault bytes e.line e.fault)) (sym (refused.1 ∙ ap Err refused.2))
     (λ bytes taken.
-    let reads = last_taken p.reader m p.buffer.bytes p.passed p.left bytes (words_from true (p.passed + 1) c.as_slice.result.now) taken (ap (words_from true (p.passed + 1)) c.as_slice.ensures)
+    let reads = last_taken p.reader m p.buffer.bytes p.passed p.left bytes
+    (words_from true (p.passed + 1) c.as_slice.result.now) taken
+    (ap (words_from true (p.passed + 1)) c.as_slice.ensures)
     (c.in_ok-read_words.ensures.words (closed_words bytes) taken.reads) in
-    inr (too_early (stops m _ reads open_still) (ap (λ (e : ReadError). e.line) truncated ∙ sym taken.lines) (ap (λ (e : ReadError). e.fault) truncated)))
+    inr (too_early (stops m _ reads open_still) (ap (λ (e : ReadError). e.line) truncated
+    ∙ sym taken.lines) (ap (λ (e : ReadError). e.fault) truncated)))
 
 pub finish-requires-clause-known : goal.finish-requires-clause-known
 finish-requires-clause-known c =
     let (bytes, taken) = c.requires in
     let p = c.args.self in
-    let reads = last_taken p.reader c.read_words.new.reader p.buffer.bytes p.passed p.left bytes (words_from true (p.passed + 1) c.as_slice.result.now) taken
-    (ap (words_from true (p.passed + 1)) c.as_slice.ensures) (c.in_ok-read_words.ensures.words (closed_words bytes) taken.reads) in
+    let reads = last_taken p.reader c.read_words.new.reader p.buffer.bytes p.passed p.left bytes
+    (words_from true (p.passed + 1) c.as_slice.result.now) taken
+    (ap (words_from true (p.passed + 1)) c.as_slice.ensures)
+    (c.in_ok-read_words.ensures.words (closed_words bytes) taken.reads) in
     (reads.told, reads.at.0.variables)
 
 pub returns-clause-means : goal.returns-clause-means
 returns-clause-means c = λ bytes taken.
     let p = c.args.self in
-    let reads = last_taken p.reader c.read_words.new.reader p.buffer.bytes p.passed p.left bytes (words_from true (p.passed + 1) c.as_slice.result.now) taken
-    (ap (words_from true (p.passed + 1)) c.as_slice.ensures) (c.in_ok-read_words.ensures.words (closed_words bytes) taken.reads) in
+    let reads = last_taken p.reader c.read_words.new.reader p.buffer.bytes p.passed p.left bytes
+    (words_from true (p.passed + 1) c.as_slice.result.now) taken
+    (ap (words_from true (p.passed + 1)) c.as_slice.ensures)
+    (c.in_ok-read_words.ensures.words (closed_words bytes) taken.reads) in
     c.in_ok-finish.ensures.means bytes reads
 
 pub returns-clause-sound : goal.returns-clause-sound
 returns-clause-sound c =
     let (bytes, taken) = c.requires in
     let p = c.args.self in
-    let reads = last_taken p.reader c.read_words.new.reader p.buffer.bytes p.passed p.left bytes (words_from true (p.passed + 1) c.as_slice.result.now) taken
-    (ap (words_from true (p.passed + 1)) c.as_slice.ensures) (c.in_ok-read_words.ensures.words (closed_words bytes) taken.reads) in
+    let reads = last_taken p.reader c.read_words.new.reader p.buffer.bytes p.passed p.left bytes
+    (words_from true (p.passed + 1) c.as_slice.result.now) taken
+    (ap (words_from true (p.passed + 1)) c.as_slice.ensures)
+    (c.in_ok-read_words.ensures.words (closed_words bytes) taken.reads) in
     c.in_ok-finish.ensures.sound bytes reads

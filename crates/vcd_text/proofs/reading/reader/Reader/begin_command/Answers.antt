@@ -4,11 +4,13 @@ use Rattle.vcd_text.proofs.reading.reader.Reader.begin_command.Goals as goal
 
 pub returns-then-is_dump_word : goal.returns-then-is_dump_word
 returns-then-is_dump_word c line =
-    takes_bracket c.args.self.now c.args.text.now line c.requires.between c.requires.changing (sym c.is_dump_word.ensures ∙ c.if-is_dump_word.true)
+    takes_bracket c.args.self.now c.args.text.now line c.requires.between c.requires.changing
+    (sym c.is_dump_word.ensures ∙ c.if-is_dump_word.true)
 
 pub returns-then-is_declaring : goal.returns-then-is_declaring
 returns-then-is_declaring c line =
-    declares_late c.args.self.now c.args.self.now c.args.text.now line c.requires.between c.requires.changing (sym c.is_declaring.ensures ∙ c.if-is_declaring.true)
+    declares_late c.args.self.now c.args.self.now c.args.text.now line c.requires.between c.requires.changing
+    (sym c.is_declaring.ensures ∙ c.if-is_declaring.true)
 
 pub returns : goal.returns
 returns c line =

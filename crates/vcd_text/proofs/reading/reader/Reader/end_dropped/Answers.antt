@@ -4,8 +4,10 @@ use Rattle.vcd_text.proofs.reading.reader.Reader.end_dropped.Goals as goal
 
 pub returns-then-not-has_code : goal.returns-then-not-has_code
 returns-then-not-has_code c line =
-    drops_unknown c.args.self.now c.args.self.now c.args.code.now line c.requires.item (λ d knows. sym (c.has_code.ensures d knows) ∙ c.if-not-has_code.true)
+    drops_unknown c.args.self.now c.args.self.now c.args.code.now line c.requires.item
+    (λ d knows. sym (c.has_code.ensures d knows) ∙ c.if-not-has_code.true)
 
 pub returns : goal.returns
 returns c line =
-    ends_dropped c.args.self.now c.args.code.now line c.requires.item (λ d knows. sym (c.has_code.ensures d knows) ∙ c.if-not-has_code.false)
+    ends_dropped c.args.self.now c.args.code.now line c.requires.item (λ d knows. sym (c.has_code.ensures d knows)
+    ∙ c.if-not-has_code.false)

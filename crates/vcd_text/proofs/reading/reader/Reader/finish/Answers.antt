@@ -15,17 +15,26 @@ returns c =
     let capture = c.new-capture.result in
     let parts = c.new-capture.ensures in
     let whole = all_signals c.in_ok-signals.signals.len c.place_signals.new.signals c.in_ok-signals.signals.items
-    (omega (arith, c.in_ok-signals.signals.ok.0, c.place_signals.auto.signals, ap (length {A = Signal}) c.deref_mut.ensures.value)) in
-    let same : (bytes : List ℕ) (r : Reads c.args.self (words_of bytes)) → contents capture ≡ meaning r.told = λ bytes r.
+    (omega (
+      arith,
+      c.in_ok-signals.signals.ok.0,
+      c.place_signals.auto.signals,
+      ap (length {A = Signal}) c.deref_mut.ensures.value,
+    )) in
+    let same : (bytes : List ℕ) (r : Reads c.args.self (words_of bytes)) → contents capture ≡ meaning r.told =
+    λ bytes r.
     let at = r.at.0 in
     λ i. record {
       header = (parts.header ∙ at.header) i;
       timescale = (parts.timescale ∙ at.timescale) i;
       end = (parts.end ∙ at.tick) i;
-      signals = (ap (map signal_contents) (parts.signals ∙ whole) ∙ c.in_ok-place_signals.ensures r.told at.scopes (ap (map signal_contents) c.deref_mut.ensures.value ∙ c.in_ok-signals.ensures r.told at.variables)) i;
+      signals = (ap (map signal_contents) (parts.signals ∙ whole)
+          ∙ c.in_ok-place_signals.ensures r.told at.scopes (ap (map signal_contents) c.deref_mut.ensures.value
+          ∙ c.in_ok-signals.ensures r.told at.variables)) i;
     } in
     record {
-      sound = λ bytes r. subst IsSound (sym (same bytes r)) (meaning_is_sound bytes r.told (accepts c.args.self (words_of bytes) r c.requires.complete));
+      sound = λ bytes r. subst IsSound (sym (same bytes r))
+          (meaning_is_sound bytes r.told (accepts c.args.self (words_of bytes) r c.requires.complete));
       means = λ bytes r. record {
         told = r.told;
         accepted = accepts c.args.self (words_of bytes) r c.requires.complete;

@@ -8,7 +8,8 @@ use Rattle.vcd_text.proofs.Taken.{words_taken, one_shown}
 use Rattle.vcd_text.proofs.reading.reader.Reader.take_word.Goals as goal
 
 pub returns-in-Ok : goal.returns-in-Ok
-returns-in-Ok c = λ taken r. words_taken c.args.self.now c.take.new.self taken (word_on c.args.text.now c.args.line ∷ []) r (c.in-Ok.ensures r.told r.begun r.at)
+returns-in-Ok c = λ taken r. words_taken c.args.self.now c.take.new.self taken
+    (word_on c.args.text.now c.args.line ∷ []) r (c.in-Ok.ensures r.told r.begun r.at)
 
 pub returns-in-Err : goal.returns-in-Err
 returns-in-Err c = λ taken more r.

@@ -7,5 +7,8 @@ pub returns-clause-same : goal.returns-clause-same
 returns-clause-same c = λ told h.
     let old = c.args.self.now in
     chain_begins old _ told
-    (c.in_ok-push.ensures.items ∙ ap (λ (p : List ScopeName). old.chains.items ++ p ∷ []) (c.in_ok-shared.ensures ∙ ap (λ v. v.items) c.replace-chain.ensures.value))
-    (ap (λ v. v.items) c.replace-chain.ensures.after ∙ c.in_ok-outer.ensures ∙ ap (take old.depth) c.deref.ensures.value) refl refl h
+    (c.in_ok-push.ensures.items
+    ∙ ap (λ (p : List ScopeName). old.chains.items ++ p ∷ []) (c.in_ok-shared.ensures
+    ∙ ap (λ v. v.items) c.replace-chain.ensures.value))
+    (ap (λ v. v.items) c.replace-chain.ensures.after ∙ c.in_ok-outer.ensures
+    ∙ ap (take old.depth) c.deref.ensures.value) refl refl h

@@ -9,6 +9,9 @@ pub returns : goal.returns
 returns c = λ told h is.
     let s = c.args.self in
     let chains : c.deref.result.now ≡ chains_of s =
-    c.deref.ensures.value ∙ c.in_ok-push.ensures.items ∙ ap (λ (p : List ScopeName). s.chains.items ++ p ∷ []) c.in_ok-shared.ensures in
-    let all = (λ i. with_places (chains i) (is i) (c.deref-2.ensures.value i)) ∙ as_declared (chains_of s) told.value_changes told.tick s.places.items _ h.paths in
-    subst (λ (l : List SignalContents). OnOk c.give_paths.result (map signal_contents c.give_paths.new.signals ≡ l)) all c.give_paths.ensures
+    c.deref.ensures.value ∙ c.in_ok-push.ensures.items
+    ∙ ap (λ (p : List ScopeName). s.chains.items ++ p ∷ []) c.in_ok-shared.ensures in
+    let all = (λ i. with_places (chains i) (is i) (c.deref-2.ensures.value i))
+    ∙ as_declared (chains_of s) told.value_changes told.tick s.places.items _ h.paths in
+    subst (λ (l : List SignalContents). OnOk c.give_paths.result (map signal_contents c.give_paths.new.signals ≡ l)) all
+    c.give_paths.ensures

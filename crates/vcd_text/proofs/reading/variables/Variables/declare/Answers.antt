@@ -1,4 +1,5 @@
-use Rattle.std.proofs.Common.{◌+◌, ◌≡◌, ◌∙◌, ◌<◌, min, ◌||◌, ◌==◌, nat_lt, true, false, length, drop, List, ℕ, ap, sym, subst, arith}
+use Rattle.std.proofs.Common.{◌+◌, ◌≡◌, ◌∙◌, ◌<◌, min, ◌||◌, ◌==◌, nat_lt, true, false, length, drop, List, ℕ, ap, sym}
+use Rattle.std.proofs.Common.{subst, arith}
 use Rattle.std.proofs.lemmas.Bool.{eqb-false}
 use Rattle.std.proofs.lemmas.List.{take_rest}
 use Rattle.vcd_core.specs.declared.value.TheConstants.{WIDTH_LIMIT}
@@ -15,7 +16,8 @@ returns-then-is_skipped c = λ told value_changes k.
     let kind = c.kind-item.result in
     let size = c.size-item.result in
     let code = c.code-item.result in
-    let front = words_in_front words kind size code c.in-len3-up.len_at_least c.kind-item.is c.size-item.is c.code-item.is in
+    let front = words_in_front words kind size code c.in-len3-up.len_at_least c.kind-item.is c.size-item.is
+    c.code-item.is in
     let following = take_rest words 3 in
     let other = eqb-false _ 0 (sym c.is_empty.ensures ∙ c.if-is_empty.false) in
     let some : 0 < length (drop 3 words) = omega (arith, other, ap (length {A = List ℕ}) following) in
@@ -23,7 +25,8 @@ returns-then-is_skipped c = λ told value_changes k.
     let read = c.in-Some.ensures.1 ∙ ap (λ word. min (number_of word) (WIDTH_LIMIT + 1)) c.as_slice.ensures in
     let skipped : is_skipped d ≡ true =
     left_out told kind size code (drop 3 words) c.in-Some.size read
-    ∙ ap (λ name. is_skipped_kind name || (c.in-Some.size == 0 || nat_lt WIDTH_LIMIT c.in-Some.size)) (sym c.as_slice-2.ensures)
+    ∙ ap (λ name. is_skipped_kind name || (c.in-Some.size == 0 || nat_lt WIDTH_LIMIT c.in-Some.size))
+    (sym c.as_slice-2.ensures)
     ∙ sym c.is_skipped.ensures ∙ c.if-is_skipped.true in
     declares_words told words kind size code (drop 3 words) c.skip.result c.skip.new.self front some
     (c.skip.ensures told d k (sym c.as_slice-then-is_skipped.ensures) skipped)
@@ -34,14 +37,16 @@ returns c = λ told value_changes k.
     let kind = c.kind-item.result in
     let size = c.size-item.result in
     let code = c.code-item.result in
-    let front = words_in_front words kind size code c.in-len3-up.len_at_least c.kind-item.is c.size-item.is c.code-item.is in
+    let front = words_in_front words kind size code c.in-len3-up.len_at_least c.kind-item.is c.size-item.is
+    c.code-item.is in
     let following = take_rest words 3 in
     let other = eqb-false _ 0 (sym c.is_empty.ensures ∙ c.if-is_empty.false) in
     let some : 0 < length (drop 3 words) = omega (arith, other, ap (length {A = List ℕ}) following) in
     let d = worded_declaration told kind size code (drop 3 words) in
     let read = c.in-Some.ensures.1 ∙ ap (λ word. min (number_of word) (WIDTH_LIMIT + 1)) c.as_slice.ensures in
     let tested =
-    ap (λ name. is_skipped_kind name || (c.in-Some.size == 0 || nat_lt WIDTH_LIMIT c.in-Some.size)) (sym c.as_slice-2.ensures)
+    ap (λ name. is_skipped_kind name || (c.in-Some.size == 0 || nat_lt WIDTH_LIMIT c.in-Some.size))
+    (sym c.as_slice-2.ensures)
     ∙ sym c.is_skipped.ensures ∙ c.if-is_skipped.false in
     let keeps : is_skipped d ≡ false = left_out told kind size code (drop 3 words) c.in-Some.size read ∙ tested in
     let signal = c.in_ok-signal.ensures in
@@ -53,4 +58,5 @@ returns c = λ told value_changes k.
       words = (signal.words ∙ following) i;
     } in
     declares_words told words kind size code (drop 3 words) c.keep.result c.keep.new.self front some
-    (subst (λ (e : VariableDeclaration). DeclaresAs told e c.keep.result c.keep.new.self) same (c.keep.ensures told told.scopes k value_changes (ap is_skipped same ∙ keeps)))
+    (subst (λ (e : VariableDeclaration). DeclaresAs told e c.keep.result c.keep.new.self) same
+    (c.keep.ensures told told.scopes k value_changes (ap is_skipped same ∙ keeps)))

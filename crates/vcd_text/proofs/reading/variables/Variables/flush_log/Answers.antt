@@ -9,7 +9,8 @@ use Rattle.vcd_text.proofs.reading.variables.Variables.flush_log.Goals as goal
 pub flush_log-requires : goal.flush_log-requires
 flush_log-requires c =
     let (told, k) = c.requires in
-    subst (λ (gs : Vec (Vec LoggedChange)). CanFlush c.args.self.now.kept.items (logged gs.items)) (sym c.replace-groups.ensures.value) (variables_can_flush c.args.self.now told k)
+    subst (λ (gs : Vec (Vec LoggedChange)). CanFlush c.args.self.now.kept.items (logged gs.items))
+    (sym c.replace-groups.ensures.value) (variables_can_flush c.args.self.now told k)
 
 pub returns-clause-same : goal.returns-clause-same
 returns-clause-same c =
@@ -17,5 +18,6 @@ returns-clause-same c =
     (λ d told k.
     flushed_match c.args.self.now c.flush_log.new.kept (record { groups = c.replace-groups.new.dest }) told k
     (ap (λ (gs : Vec (Vec LoggedChange)). gs.items) c.replace-groups.ensures.after ∙ c.new.ensures.items)
-    (subst (λ (gs : Vec (Vec LoggedChange)). FlushesLog c.args.self.now.kept.items c.flush_log.new.kept.items (logged gs.items) (λ _. [])) c.replace-groups.ensures.value d))
+    (subst (λ (gs : Vec (Vec LoggedChange)). FlushesLog c.args.self.now.kept.items c.flush_log.new.kept.items
+    (logged gs.items) (λ _. [])) c.replace-groups.ensures.value d))
     c.flush_log.ensures

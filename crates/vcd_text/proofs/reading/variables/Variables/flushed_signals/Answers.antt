@@ -16,9 +16,11 @@ loop-variable-preserved c =
       all ∙ sym (append_assoc yielded (v ∷ []) rest),
       λ empty told k.
           let one =
-          finishes_as_declared c.args.self told yielded rest v signals k empty all (c.loop-variable.invariant.1 empty told k) added.0 added.1 in
+          finishes_as_declared c.args.self told yielded rest v signals k empty all
+          (c.loop-variable.invariant.1 empty told k) added.0 added.1 in
           added.2
           ∙ (λ i. c.loop-variable.invariant.1 empty told k i ++ one i ∷ [])
-          ∙ sym (map-append (declared_signal told.value_changes told.tick) (map declaration yielded) (declaration v ∷ []))
+          ∙ sym (map-append (declared_signal told.value_changes told.tick) (map declaration yielded)
+          (declaration v ∷ []))
           ∙ ap (map (declared_signal told.value_changes told.tick)) (sym (map-append declaration yielded (v ∷ []))),
     )

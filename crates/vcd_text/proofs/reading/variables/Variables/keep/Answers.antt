@@ -10,7 +10,8 @@ pub returns-in-None : goal.returns-in-None
 returns-in-None c = λ told scopes k value_changes keeps.
     let old = c.args.self.now in
     let e = c.keep_first.ensures in
-    push_declares old c.keep_first.new.self told scopes c.args.code.now c.args.signal (length old.kept.items) c.keep_first.result k value_changes c.requires.silent c.requires.bare keeps
+    push_declares old c.keep_first.new.self told scopes c.args.code.now c.args.signal (length old.kept.items)
+    c.keep_first.result k value_changes c.requires.silent c.requires.bare keeps
     (inl (sym c.target.ensures ∙ c.in-None.is, refl)) e.few e.kept e.widths e.log e.code_targets e.skipped e.refuses
 
 pub returns-else-not-has_width : goal.returns-else-not-has_width
@@ -19,7 +20,10 @@ returns-else-not-has_width c = λ told scopes k value_changes keeps.
     let first = c.in-Some-Kept.first in
     let e = c.push.ensures in
     let had = sym c.target.ensures ∙ c.in-Some-Kept.is ∙ ap Some c.in-Some-Kept.field-0-is in
-    let test = ap (λ n. option_map_or (λ (v : Variable). v.signal.wave.width == n) (slice_get old.kept.items first) false) (sym c.width.ensures.width) ∙ sym c.has_width.ensures ∙ c.if-not-has_width.false in
-    push_declares old c.push.new.self told scopes c.args.code.now c.args.signal first c.push.result k value_changes c.requires.silent c.requires.bare keeps
+    let test = ap (λ n. option_map_or (λ (v : Variable). v.signal.wave.width == n) (slice_get old.kept.items first)
+    false) (sym c.width.ensures.width) ∙ sym c.has_width.ensures ∙ c.if-not-has_width.false in
+    push_declares old c.push.new.self told scopes c.args.code.now c.args.signal first c.push.result k value_changes
+    c.requires.silent c.requires.bare keeps
     (inr (had, same_width (slice_get old.kept.items first) c.args.signal.wave.width test)) e.few e.kept e.widths e.log
-    (when_ok c.push.result (Puts old c.push.new.self c.args.code.now (Kept first)) (puts_same old c.push.new.self c.args.code.now (Kept first) e.code_targets had)) e.skipped e.refuses
+    (when_ok c.push.result (Puts old c.push.new.self c.args.code.now (Kept first))
+    (puts_same old c.push.new.self c.args.code.now (Kept first) e.code_targets had)) e.skipped e.refuses

@@ -11,7 +11,15 @@ pub returns : goal.returns
 returns c = λ told d k coded skipped.
     let old = c.args.self.now in
     let now = c.match-target.self in
-    let new : Variables = record { kept = now.kept; widths = now.widths; code_targets = now.code_targets; skipped = now.skipped + 1; log = now.log } in
+    let new : Variables =
+    record {
+      kept = now.kept;
+      widths = now.widths;
+      code_targets = now.code_targets;
+      skipped = now.skipped + 1;
+      log =
+          now.log;
+    } in
     let stood = ap (target_of old) coded ∙ sym c.target.ensures in
     elim c.match-target.branch [
       | in-None+in_ok-bind-in-None w ↦
@@ -26,7 +34,8 @@ returns c = λ told d k coded skipped.
           (ap (λ (vs : Variables). vs.skipped + 1) w.self-is ∙ ap (λ n. n + 1) w.bind.ensures.skipped) tt
       | in-Some-Skipped w ↦
           let had = stood ∙ w.in-Some-Skipped.is ∙ ap Some w.in-Some-Skipped.field-0-is in
-          skip_declares old new told d k (ap (λ (vs : Variables). vs.kept.items) w.self-is) skipped (ap (λ (vs : Variables). vs.widths.items) w.self-is) (ap (λ (vs : Variables). vs.log) w.self-is) (inr had)
+          skip_declares old new told d k (ap (λ (vs : Variables). vs.kept.items) w.self-is) skipped
+          (ap (λ (vs : Variables). vs.widths.items) w.self-is) (ap (λ (vs : Variables). vs.log) w.self-is) (inr had)
           (puts_same old new d.code Skipped (ap (λ (vs : Variables). vs.code_targets) w.self-is) had)
           (ap (λ (vs : Variables). vs.skipped + 1) w.self-is) tt
     ]
