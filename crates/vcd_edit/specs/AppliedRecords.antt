@@ -57,7 +57,7 @@ with_end (Some end) c = record c { end = end }
 -- ---- what a record makes of a capture
 
 -- the pieces in their turn, then the word, the signal and the end
-unfoldable pub back : RecordView → Contents → Contents
+unfoldable pub apply_record : RecordView → Contents → Contents
 apply_record r c = with_end r.other_end (with_moved_signal r.signal (with_first_word r.word (with_pieces c r.pieces)))
 
 -- ---- which records fit a capture
