@@ -2,7 +2,7 @@
 PREFIX ?= /usr/local
 ZSH_FOLDER ?= share/zsh/site-functions
 
-# What is installed below PREFIX: mode, file, place. Beside them stand bin/vcdedit, which is made of launch/running.sh,
+# What is installed below PREFIX: mode, file, place. Besides there are bin/vcdedit, which is made of launch/running.sh,
 # and share/doc/vcdedit.
 define FILES
 755 crates/vcdedit/out/vcdedit libexec/vcdedit

@@ -1,5 +1,5 @@
 #!/usr/bin/env python3
-"""Measures reading and writing, beside GTKWave's converters in the same run.
+"""Measures reading and writing, compared with GTKWave's converters in the same run.
 
     bench/compare.py PROGRAM FOLDER MEGABYTES [ROUNDS]
     bench/compare.py PROGRAM FOLDER shared [ROUNDS]
@@ -7,7 +7,7 @@
 For each shape of make_captures.py, whose files lie in FOLDER: PROGRAM reads the capture with an empty script and
 writes it, and vcd2fst and fst2vcd turn it to FST and back. The figure that counts is the CPU time (user and system), the
 least of ROUNDS (3 if absent): a machine that others use adds to it, and never takes from it. The rounds go over all
-works in turn, so that a slow minute falls on all. Memory is the most that one process had, beside the changes in the
+works in turn, so that a slow minute falls on all. Memory is the most that one process had, compared with the changes in the
 file; the floor is that of this program, some 10 MB.
 
 `shared` takes the captures of many variables of one code, and PROGRAM alone: it lists them, and reads and writes that

@@ -1,7 +1,7 @@
 # Completion of vcdedit's options and files for bash: `source completions/vcdedit.bash`, or as `make install` puts it.
 _vcdedit() {
     local word=${COMP_WORDS[COMP_CWORD]} before=${COMP_WORDS[COMP_CWORD - 1]} front=
-    # `--depth=10` stands in three words, or in one where COMP_WORDBREAKS has no `=`.
+    # `--depth=10` is three words, or in one where COMP_WORDBREAKS has no `=`.
     if [[ $word == = ]]; then
         word=
     elif [[ $before == = ]]; then

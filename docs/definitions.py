@@ -3,7 +3,7 @@
 
     python3 docs/definitions.py [--print]
 
-With --print the page is printed and not written. What stands before the first crate is kept, but for the numbers in its table. Files keep the order that they have in
+With --print the page is printed and not written. What is before the first crate is kept, but for the numbers in its table. Files keep the order that they have in
 the document; new ones come last. A definition or file without a comment is named, and the status is then 1.
 """
 import itertools

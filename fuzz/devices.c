@@ -1,7 +1,7 @@
 /* Preloaded over the program (LD_PRELOAD), it makes memory, readers and writers hostile:
 
      GROWTH_REFUSED=N   the Nth growth (malloc, calloc, realloc) is refused; the file that GROWTH_MARK names is
-                        then made, so that a run in which no growth was refused can be told apart
+                        then made, so that a run in which no growth was refused can be known
      GROWTHS_MARKED=1   growths are counted only between the lines `refuse` and `allow` that the program writes to
                         standard output, each by one write
      READ_AT_MOST=N     a read gives at most N bytes

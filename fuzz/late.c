@@ -10,7 +10,7 @@
 
    The first four are for `growths`, `late-output`, `late-again` and `late-lines` for `devices`, and the last for
    `library_growths`. A program of the first five refuses each line of its script, with a growth for each and one
-   behind them, and then writes its output. */
+   after them, and then writes its output. */
 #include "libc.h"
 
 static const char *name;

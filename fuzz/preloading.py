@@ -1,4 +1,4 @@
-"""What the scripts of this folder share: where the cases stand, files, and C files that are built to be preloaded."""
+"""What the scripts of this folder share: where the cases are, files, and C files that are built to be preloaded."""
 
 import os
 import shutil
@@ -58,7 +58,7 @@ def stop_without_compiler():
 
 
 def build(work, source, shared=False):
-    """Compiles a C file beside this one, and gives the path of what was made."""
+    """Compiles a C file of this folder, and gives the path of what was made."""
     made = os.path.join(work, os.path.splitext(source)[0])
     flags = ["-O2", "-fno-builtin", "-fPIC", *(["-shared"] if shared else []), "-o", made, os.path.join(HERE, source)]
     subprocess.run(compiler(shared) + flags, check=True)

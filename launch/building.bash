@@ -5,7 +5,7 @@ say() {
     echo "$me: $*" >&2
 }
 
-# Says what was asked for where the answer needs no program: help and the version stand in the tree, as cases.
+# Says what was asked for where the answer needs no program: help and the version are in the tree, as cases.
 answer_from_the_tree() { # WORD
     local answer
     case "$1" in
