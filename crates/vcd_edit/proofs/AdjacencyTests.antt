@@ -1,4 +1,4 @@
--- A splice of a wave is a wave where the two seams are in order.
+-- A splice of a wave is a wave if the changes next to it are in order.
 use Rattle.std.proofs.Common.{◌≡◌, ◌≢◌, ℕ, zero, suc, ◌&&◌, ◌↔◌, IsTrue, Bool, true, false, not, nat_le, nat_lt, nat_eq}
 use Rattle.std.proofs.Common.{◌+◌, ◌-◌, ◌<◌, ◌≤◌, ℤ, pos, ◌+ℤ◌, unsigned_abs, List, [], ◌∷◌, ◌++◌, length, take, drop}
 use Rattle.std.proofs.Common.{map, get_or, All, refl, sym, ap, subst, ◌∙◌, inl, inr, arith}
@@ -49,7 +49,7 @@ unfolding last_value
 last_value-append before [] ys = refl
 last_value-append before (x ∷ xs) ys = last_value-append x.value xs ys
 
--- behind a list with changes it does not matter what was before
+-- after a list with changes it does not matter what was before
 pub floor_forgets : (low high : ℕ) (xs : List Change) → 0 < length xs → floor_after low xs ≡ floor_after high xs
 unfolding floor_after
 floor_forgets low high [] some = absurd (omega arith)
@@ -152,7 +152,7 @@ unfolding floor_after
 free_at_first tick [] none = sym (le-leb 0 tick (omega arith))
 free_at_first tick (c ∷ cs) none = absurd (omega arith)
 
--- what stands behind a list and the first changes of another
+-- what comes after a list and the first changes of another
 pub after_some : (floor : ℕ) (before : List Bit) (cs : List Change) (i : ℕ) → 0 < i → i ≤ length cs
     → (floor_after 0 (take i cs) ≡ floor_after floor (take i cs))
     × ((v : List Bit) → last_value v (take i cs) ≡ last_value before (take i cs))
@@ -243,7 +243,7 @@ fit_moves by end (c ∷ cs) fit (first, upto) =
       first,
     ) (fit_moves by end cs (All-tail (TickFits by) c cs fit) upto)
 
--- the first and the last tell whether all move
+-- the first and the last show whether all move
 pub ends_tell : (by at : ℤ) (end floor : ℕ) (before : List Bit) (cs : List Change) (x y : Change) (r : Bool) → at ≡ by
     → AreChangesFrom floor before cs → 0 < length cs
     → x ≡ get_or cs 0 x → y ≡ get_or cs (length cs - 1) y → MovesTo at end x.tick → (IsTrue r ↔ MovesTo at end y.tick)
@@ -286,7 +286,7 @@ unfolding may_all_follow
 none_follows floor before h [] none = refl
 none_follows floor before h (c ∷ cs) none = absurd (omega arith)
 
--- ---- a piece stands
+-- ---- a piece is valid
 
 -- parts of a wave rise
 module _ (width from to : ℕ) (cs : List Change) (is : IsWave width cs) where
@@ -300,7 +300,7 @@ module _ (width from to : ℕ) (cs : List Change) (is : IsWave width cs) where
       (subst (AreChangesFrom 0 (all_x width)) (sym (take-append-drop to cs)) is.rise) in
       (floor_after 0 (take to cs), last_value (all_x width) (take to cs), parts.1)
 
--- the changes of a wave in three parts, of which the middle one gives way
+-- the changes of a wave in three parts; the middle one is replaced
 module _ (width from to : ℕ) (cs piece : List Change) (by : ℤ) (is : IsWave width cs) (ordered : from ≤ to)
     (within : to ≤ length cs) (fit : AllTicksFit by (drop to cs)) where
   abbrev front : List Change
@@ -309,7 +309,7 @@ module _ (width from to : ℕ) (cs piece : List Change) (by : ℤ) (is : IsWave 
   abbrev later : List Change
   later = map (moved_change by) (drop to cs)
 
-  -- what may follow with its first change may follow
+  -- changes that may follow do so if their first one may
   whole_follows : (floor : ℕ) (before : List Bit) (low : ℕ) (old : List Bit) (xs : List Change)
       → AreChangesFrom low old xs → AllTicksFit by xs
       → may_all_follow floor before (map (moved_change by) (take 1 xs)) ≡ true
@@ -340,7 +340,7 @@ module _ (width from to : ℕ) (cs piece : List Change) (by : ℤ) (is : IsWave 
   later_test = may_all_follow (floor_after (floor_after 0 front) piece)
       (last_value (last_value (all_x width) front) piece) (map (moved_change by) (take 1 (drop to cs)))
 
-  -- the tests at the two seams tell whether the splice is a wave
+  -- the tests at the two ends show whether the splice is a wave
   pub seams_tell : (piece_test ≡ true) → (later_test ≡ true) → IsWave width (spliced_changes cs from to piece by)
   unfolding spliced_changes
   seams_tell at_piece at_later =
@@ -409,7 +409,7 @@ module _ (width end : ℕ) (cs : List Change) (p : PieceView) (is : IsWave width
             (upto_join end before p.changes upto_front upto_piece) parts.1;
       }
 
-  -- and one by one, where the piece stands
+  -- and one by one, if the piece is valid
   module _ (stands : IsValidPiece width end cs p) where
     three : (AllUpTo end before × AllUpTo end p.changes) × AllUpTo end (map (moved_change p.by) (drop p.to cs))
     unfolding spliced_changes
@@ -430,10 +430,10 @@ module _ (width end : ℕ) (cs : List Change) (p : PieceView) (is : IsWave width
     pub at_both_seams : (fits_between ≡ true) × (comes_next ≡ true)
     at_both_seams = wave_tells width p.from p.to cs p.changes p.by is ordered within stands.ticks stands.form
 
--- a test that fails, where what stands would pass it
+-- a test that fails, which a valid piece would pass
 pub refused : (r : Bool) (S : Type 0) → r ≡ false → (S → r ≡ true) → (IsTrue false → S) × (S → IsTrue false)
 refused r S fails passes = ((λ t. absurd (false≢true t)), (λ s. absurd (both_ways r fails (passes s))))
 
--- the same, where the test itself is the answer
+-- the same if the test itself is the answer
 pub failed : (r : Bool) (S : Type 0) → r ≡ false → (S → r ≡ true) → (IsTrue r → S) × (S → IsTrue r)
 failed r S fails passes = ((λ t. absurd (both_ways r fails t)), passes)

@@ -20,7 +20,7 @@ use Rattle.vcd_edit.specs.Allowed.{edit_fault}
 abbrev pub top : ScopeName
 top = record { kind = codes "module"; words = codes "top" ∷ [] }
 
--- from a tick on, one letter
+-- one letter from a tick on
 abbrev pub from : ℕ → Bit → Change
 from tick letter = change tick (letter ∷ [])
 
@@ -47,7 +47,7 @@ invert : effect (Invert 0) (alone 8 (from 0 Z ∷ from 4 One ∷ [])) ≡ alone 
 unfolding effect changes_from value_from
 invert = refl
 
--- the seam of a cut leaves no change where the values on both sides are the same
+-- a cut leaves no change between two equal values
 cut_run : effect (Cut 3 7) (alone 10 (from 0 Zero ∷ from 3 One ∷ from 7 Zero ∷ [])) ≡ alone 6 (from 0 Zero ∷ [])
 unfolding effect changes_from value_from
 cut_run = refl
@@ -62,7 +62,7 @@ cut_all_but_three : effect (Cut 3 10) (alone 10 (from 0 Zero ∷ from 3 One ∷ 
 unfolding effect changes_from value_from
 cut_all_but_three = refl
 
--- both short runs fall to the value before them; the run at the end stays
+-- both short runs take the value before them; the run at the end stays
 deglitch : effect (Deglitch 0 3) (alone 30 (from 0 Zero ∷ from 5 One ∷ from 6 Zero ∷ from 7 One ∷ from 20 Zero ∷ []))
     ≡ alone 30 (from 0 Zero ∷ from 7 One ∷ from 20 Zero ∷ [])
 unfolding effect changes_from value_from run_start run_end steady_value
@@ -126,7 +126,7 @@ shift_left : effect (Shift 0 (negsuc 3)) two_signals ≡ with_first (from 0 One 
 unfolding effect changes_from value_from
 shift_left = refl
 
--- all that was goes out at the end, by 9 and by 2^63 - 1; nothing of it stays but the last value, by -2^63
+-- all values are pushed past the end, by 9 and by 2^63 - 1; only the last value remains, by -2^63
 shift_far : (effect (Shift 0 (pos 9)) two_signals ≡ with_first [])
     × (effect (Shift 0 (pos 9223372036854775807)) two_signals ≡ with_first [])
     × (effect (Shift 0 (negsuc 9223372036854775807)) two_signals ≡ with_first (from 0 One ∷ []))
@@ -158,7 +158,7 @@ scalar_and_vector = capture 9 (
     ∷ []
     )
 
--- a position that is none, also as the second operand
+-- a missing position, also as the second operand
 missing_signals : (edit_fault (Rename 2 (lent (codes ""))) scalar_and_vector ≡ Some errors.NoSuchSignal)
     × (edit_fault (Remove 2) scalar_and_vector ≡ Some errors.NoSuchSignal)
     × (edit_fault (Deglitch 2 0) scalar_and_vector ≡ Some errors.NoSuchSignal)
@@ -166,7 +166,7 @@ missing_signals : (edit_fault (Rename 2 (lent (codes ""))) scalar_and_vector ≡
 unfolding edit_fault
 missing_signals = (refl, refl, refl, refl)
 
--- a wide operand, and a bit past the width; each counts before the word that is none
+-- a wide operand, and a bit past the width; each counts before the bad word
 bad_operands : (edit_fault (Derive (lent (codes "n")) (Not 1)) scalar_and_vector ≡ Some errors.NotScalar)
     × (edit_fault (Derive (lent (codes "")) (Xor 0 1)) scalar_and_vector ≡ Some errors.NotScalar)
     × (edit_fault (Derive (lent (codes "n")) (BitOf 1 4)) scalar_and_vector ≡ Some errors.BadBit)
@@ -188,7 +188,7 @@ bad_ranges : (edit_fault (Cut 5 5) scalar_and_vector ≡ Some errors.BadRange)
 unfolding edit_fault
 bad_ranges = (refl, refl, refl, refl, refl, refl, refl, refl, refl)
 
--- words that are none, names that are taken; its own name is free to a rename
+-- bad words and taken names; a rename may give the name that the signal has
 bad_names : (edit_fault (Rename 0 (lent (codes ""))) scalar_and_vector ≡ Some errors.BadWord)
     × (edit_fault (Rename 0 (lent (codes "a b"))) scalar_and_vector ≡ Some errors.BadWord)
     × (edit_fault (Rename 0 (lent (codes "$end"))) scalar_and_vector ≡ Some errors.BadWord)
@@ -200,7 +200,7 @@ bad_names : (edit_fault (Rename 0 (lent (codes ""))) scalar_and_vector ≡ Some 
 unfolding edit_fault name_in
 bad_names = (refl, refl, refl, refl, refl, refl, refl, refl)
 
--- edits that ask for nothing but a signal
+-- edits that need only a signal
 free_edits : (edit_fault (Remove 1) scalar_and_vector ≡ None)
     × (edit_fault (Invert 1) scalar_and_vector ≡ None)
     × (edit_fault (Shift 1 (negsuc 9223372036854775807)) scalar_and_vector ≡ None)

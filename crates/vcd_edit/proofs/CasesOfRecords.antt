@@ -18,7 +18,7 @@ use Rattle.vcd_edit.specs.Touched.{puts_in, stored_changes}
 abbrev top : ScopeName
 top = record { kind = codes "module"; words = codes "top" ∷ [] }
 
--- from a tick on, one letter
+-- one letter from a tick on
 abbrev from : ℕ → Bit → Change
 from tick letter = change tick (letter ∷ [])
 
@@ -42,7 +42,7 @@ with_one p = record { pieces = p ∷ []; word = None; signal = None; other_end =
 abbrev pulse : List Change
 pulse = from 0 Zero ∷ from 3 One ∷ from 7 Zero ∷ []
 
--- ---- what a record leads to
+-- ---- what a record makes of a capture
 
 -- the undo of a cut of the ticks 2 to 4: the change at 3 comes back, the later one moves, and the end too
 undo_of_cut : apply_record (record {
@@ -118,7 +118,7 @@ force_in_run_touches : touched_count (pos 0) (from 0 Zero ∷ from 9 One ∷ [])
 unfolding touched_count
 force_in_run_touches = refl
 
--- a signal that is taken out is touched whole, and the others are not
+-- all changes of a signal that is taken out are touched, and those of the others are not
 remove_touches : touched_from (λ k. pos 0) 0 (wire (codes "a") pulse ∷ wire (codes "b") (from 0 One ∷ [])
     ∷ wire (codes "c") pulse ∷ [])
     (partners (takes_out 1) (wire (codes "a") pulse ∷ wire (codes "c") pulse ∷ [])) ≡ 1

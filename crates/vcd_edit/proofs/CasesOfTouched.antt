@@ -1,4 +1,4 @@
--- Worked cases: how many changes each edit touches, the most that its record stores.
+-- Worked cases: how many changes each edit touches, which bounds what its record stores.
 use Rattle.std.proofs.Common.{◌≡◌, refl}
 use Rattle.std.specs.Prelude.{[], ◌∷◌, codes, pos, negsuc}
 use Rattle.vcd_core.specs.declared.bit.Bit.TheVariants.{Zero, One, Z}
@@ -25,7 +25,7 @@ touched_by_deglitch : touched_by_edit (Deglitch 0 3)
 unfolding effect changes_from value_from run_start run_end steady_value touched_count touched_from
 touched_by_deglitch = refl
 
--- no change is touched that only comes later; two go out at the front, one where the other value is forced
+-- a delay alone touches no change; two are pushed out at the front; a force of the other value touches one
 touched_by_one_wave : (touched_by_edit (Shift 0 (pos 2)) two_signals ≡ 0)
     × (touched_by_edit (Shift 0 (negsuc 3)) two_signals ≡ 2)
     × (touched_by_edit (Force 0 2 9 (Z ∷ [])) two_signals ≡ 1)
@@ -33,7 +33,7 @@ touched_by_one_wave : (touched_by_edit (Shift 0 (pos 2)) two_signals ≡ 0)
 unfolding effect changes_from value_from touched_count touched_from
 touched_by_one_wave = (refl, refl, refl, refl)
 
--- a signal that is taken out is touched whole; a new name and a new signal touch none
+-- all changes of a signal that is taken out are touched; a new name and a new signal touch none
 touched_by_others : (touched_by_edit (Remove 1) three_signals ≡ 1)
     × (touched_by_edit (Rename 1 (lent (codes "d"))) three_signals ≡ 0)
     × (touched_by_edit (Derive (lent (codes "n")) (Xor 0 1)) two_signals ≡ 0)

@@ -23,7 +23,7 @@ same_Bool a b there back =
       ]
     ]
 
--- whether a tick that is moved is another
+-- whether a moved tick is another tick
 pub moved_test : (old new : ℕ) (by at : ℤ) (sum : Option ℕ) (r : Bool) → at ≡ by → new < 2 ^ 64
     → SomeIff sum (FitsUnsigned w64 (pos old +ℤ at)) (unsigned_abs (pos old +ℤ at)) → r ≡ option_eq eqb sum (Some new)
     → r ≡ int_eq (pos old -ℤ neg_ℤ by) (pos new)
@@ -46,7 +46,7 @@ moved_test old new by at (Some x) r same small told is =
 -- ---- walks over two lists
 
 module _ (e : Change → Change → Bool) (xs ys : List Change) (i : ℕ) where
-  -- behind the shorter list nothing is left
+  -- after the shorter list nothing remains
   pub walk_end : (most : ℕ) → most ≡ min (length xs) (length ys) → most ≤ i → i ≤ most
       → i + common_prefix_len e (drop i xs) (drop i ys) ≡ common_prefix_len e xs ys
       → most ≡ common_prefix_len e xs ys
@@ -54,7 +54,7 @@ module _ (e : Change → Change → Bool) (xs ys : List Change) (i : ℕ) where
       let le = common_prefix_len-le e (drop i xs) (drop i ys) in
       omega (arith, le.0, le.1, length-drop i xs, length-drop i ys)
 
-  -- from the end: what is left at a pair that differs, and at one that matches
+  -- from the end: what remains at a pair that differs, and at one that matches
   pub back_stops : (c d : Change) → i < length xs → i < length ys → c ≡ get_or xs (length xs - 1 - i) c
       → d ≡ get_or ys (length ys - 1 - i) d → e c d ≡ false
       → i + common_prefix_len e (drop i (reverse xs)) (drop i (reverse ys))

@@ -96,7 +96,7 @@ cut_end c signals are from to n ps all lead =
     subst (λ (n : ℕ). LeadEach c (neg_ℤ (pos (to - from))) (signal_after_cut (c.end - (to - from)) from to) n ps) (all
     ∙ sym (ap length are ∙ length-map signals signal_contents)) lead
 
--- such pieces are the only part of a record but the end
+-- such pieces are the only part of the record except the end
 pub cut_is_one_step : (c : Contents) (by : ℤ) (g : SignalContents → SignalContents) (n : ℕ) (ps : List PieceView)
     (end : ℕ) → LeadEach c by g n ps
     → IsOneStep (record { pieces = ps; word = None; signal = None; other_end = Some end })

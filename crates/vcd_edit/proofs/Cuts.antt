@@ -57,7 +57,7 @@ module _ (a b end stop : ℕ) (s : SignalContents) (is : IsWave s.width s.change
       ∙ ap (λ w. unless_same (same_letters (signal_value s b) w) (change a (signal_value s b)) [])
       (same_before s.width (cut_value a b s) (signal_value s) a before_cut)
 
-  -- one change at most takes the place of those at the ticks that are cut out and at the one behind them
+  -- at most one change replaces those at the ticks cut out and at the tick after them
   pub cut_leads : (p : PieceView) (by : ℤ) → pos (b + 1) +ℤ by ≡ pos (a + 1)
       → p.from ≡ count_by (λ c. nat_lt c.tick a) s.changes
       → p.to ≡ count_by (λ c. nat_lt c.tick (b + 1)) s.changes → p.by ≡ by
@@ -73,7 +73,7 @@ module _ (a b end stop : ℕ) (s : SignalContents) (is : IsWave s.width s.change
       ∙ sym (ap (value_just_before s.width (signal_value s)) {x = b + 1} {y = suc b} (omega arith)))
       (told ∙ sym seam)
 
--- a wave with no change from the first tick on that is cut out stays as it is
+-- a wave with no change at or after the first tick cut out stays as it is
 pub quiet_cut : (a b stop : ℕ) (s : SignalContents) → IsWave s.width s.changes → a ≤ stop
     → count_by (λ c. nat_lt c.tick a) s.changes ≡ length s.changes
     → signal_after_cut stop a b s ≡ s

@@ -32,7 +32,7 @@ stay_fit end (c ∷ cs) small (here, upto) =
     All-cons (TickFits (pos 0)) c cs (omega (arith, ints), omega (arith, ints, here, small))
     (stay_fit end cs small upto)
 
--- the changes that are left are those of the edit
+-- the changes that remain are those of the edit
 pub kept_of_signal : (n end : ℕ) (s : SignalContents) → IsSoundSignal end s
     → kept_changes n (all_x s.width) s.changes ≡ changes_of s.width end (steady_value n end (signal_value s))
 kept_of_signal n end s sound = kept_are n (all_x s.width) s.changes ∙ steady_are n end s sound.wave sound.ticks
@@ -49,7 +49,7 @@ module _ (n : ℕ) (s : SignalContents) (cs : List Change) (x : List Bit) (same 
       (omega (arith, ap length (drop_all from cs (omega (arith, end))))))
       ∙ append-nil (take from cs) ∙ take_all from cs (omega (arith, end)) ∙ same
 
-  -- the part behind which no more is, and what is left of it
+  -- the part after which no change is taken out, and what remains of it
   module _ (before : List Bit) (later list : List Change) (kept to : ℕ)
       (value : before ≡ last_value (all_x s.width) (take from cs)) (rest : later ≡ drop from cs)
       (told : kept_changes n before later ≡ take kept (kept_changes n before later) ++ drop to later)

@@ -54,7 +54,7 @@ derived_parts c word rule scopes kind words wave first last is_first is_last sam
     let scoped = same_scopes ∙ ap (λ (s : SignalContents). s.scopes) (sym is_first) in
     λ i. record { scopes = scoped i; kind = same_kind i; words = same_words i; width = width i; changes = all i }
 
--- putting in behind the last is pushing
+-- to insert after the last is to push
 insert_last : (ss : List SignalContents) (k : ℕ) (s : SignalContents) → k ≡ length ss → insert ss k s ≡ push ss s
 insert_last ss k s is = λ i. take_all k ss (omega (arith, is)) i ++ s ∷ drop_all k ss (omega (arith, is)) i
 

@@ -76,7 +76,7 @@ pub late_enough : (all rest : List Change) (c : Change) (w : WaveView) → IsMad
     → All (λ d. d.tick ≤ c.tick) w.changes
 late_enough all rest c w made = λ k d less. made.before k d less 0 c (omega arith)
 
--- the same of an edge
+-- the same for an edge
 pub edge_made : (rule : Rule) (all left rest : List BitEdge) (e : BitEdge) (value : List Bit) (old new : WaveView)
     → left ≡ e ∷ rest → value ≡ edge_bit rule e.at ∷ []
     → IsMade (map (edge_change rule) all) (map (edge_change rule) left) old → new.width ≡ old.width
@@ -96,7 +96,7 @@ edge_late rule all left rest e w steps made =
     late_enough (map (edge_change rule) all) (map (edge_change rule) rest) (edge_change rule e) w
     (subst (λ (es : List BitEdge). IsMade (map (edge_change rule) all) (map (edge_change rule) es) w) steps made)
 
--- the same of a change of the one operand
+-- the same for a change of the one operand
 pub operand_made : (rule : Rule) (cs : List Change) (i : ℕ) (c : Change) (value : List Bit) (old new : WaveView)
     → i < length cs → c ≡ get_or cs i c → value ≡ operator_bit rule c.value c.value ∷ []
     → IsMade (map (operand_change rule) cs) (map (operand_change rule) (drop i cs)) old → new.width ≡ old.width
@@ -268,7 +268,7 @@ module _ (rule : Rule) (a b : WaveView) where
           ∙ ap (λ (x : Bit). x ∷ []) (x_bit rule a.width b.width)
       from_both (suc u) one two = λ i. operator_bit rule (one i) (two i) ∷ []
 
-  -- one bit of each operand tells
+  -- one bit of each operand decides
   pair_is : has_two_operands rule ≡ true → (v w : List Bit)
       → bit_of_two rule (letter_at v 0) (letter_at w 0) ≡ operator_bit rule v w
   pair_is two v w = for_each rule two
@@ -314,7 +314,7 @@ module _ (rule : Rule) (a b : WaveView) where
       ∙ sampled (λ t. list_any (changes_at t) lines) rule_value 0 (suc end) (all_x 1) refl (λ u. refl) still t
       (omega arith) (omega arith))
 
-  -- one operand tells
+  -- one operand decides
   alone_is : has_two_operands rule ≡ false → (u v w : List Bit) → operator_bit rule u v ≡ operator_bit rule u w
   alone_is one u v w = for_each rule one
     where

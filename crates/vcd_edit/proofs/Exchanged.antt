@@ -1,4 +1,4 @@
--- A record and a capture have changed places, part by part.
+-- A record was exchanged with a capture, part by part.
 use Rattle.std.proofs.Common.{◌≡◌, List, map, reverse, All, arith, sym, ap, subst, ◌∙◌}
 use Rattle.std.proofs.lemmas.List.{get_or-map, length-map}
 use Rattle.vcd_core.specs.Contents.{Contents}

@@ -1,4 +1,4 @@
--- What it says of an edit that it has no fault.
+-- What holds if an edit has no fault.
 use Rattle.std.proofs.Common.{◌≡◌, ◌<◌, ℕ, ◌||◌, not, Bool, true, false, if◌then◌else◌, IsTrue, length, Option, Some}
 use Rattle.std.proofs.Common.{None, refl, arith}
 use Rattle.std.proofs.lemmas.Bool.Decides.{nat_tests}
@@ -55,7 +55,7 @@ no_fault e c none =
       room = k.0;
     }
 
--- a position that is one
+-- a position below the number of signals
 pub signal_there : (c : Contents) (k : ℕ) → is_no_signal c k ≡ false → k < length c.signals
 signal_there c k none = grind (arith, nat_tests)
 
@@ -63,7 +63,7 @@ neither : (p q : Bool) → (p || q) ≡ false → p ≡ false
 neither true q none = none
 neither false q none = refl
 
--- the first operand is there where none is missing
+-- the first operand exists if none is missing
 pub first_operand_there : (c : Contents) (rule : Rule) → lacks_operand rule c ≡ false
     → first_operand rule < length c.signals
 first_operand_there c (Not a) none = signal_there c a none
@@ -76,7 +76,7 @@ other : (p q : Bool) → (p || q) ≡ false → q ≡ false
 other true q none = absurd (cc)
 other false q none = none
 
--- each operand is there where none is missing
+-- each operand exists if none is missing
 pub first_there : (c : Contents) (rule : Rule) → lacks_operand rule c ≡ false
     → is_no_signal c (first_operand rule) ≡ false
 first_there c (Not a) none = none
@@ -98,7 +98,7 @@ pub holds_where_not : (b : Bool) → not b ≡ false → IsTrue b
 holds_where_not true none = refl
 holds_where_not false none = absurd (cc)
 
--- both operands of an operator have one bit where neither is wider
+-- both operands of an operator have one bit if neither is wider
 narrow : (c : Contents) (k : ℕ) → is_wide c k ≡ false → (signal_at c k).width ≡ 1
 narrow c k none = grind (arith, nat_tests)
 

@@ -1,4 +1,4 @@
--- Which records fit a capture, told by tests of its parts.
+-- Which records fit a capture, as tests of their parts show.
 use Rattle.std.proofs.Common.{◌≡◌, ◌≢◌, IsTrue, Bool, true, false, refl, ℕ, zero, suc, ◌+◌, ◌<◌, ◌≤◌, nat_le}
 use Rattle.std.proofs.Common.{if◌then◌else◌, List, [], ◌∷◌, length, map, get_or, set, slice_index_or, All, sym, ap}
 use Rattle.std.proofs.Common.{subst, ◌∙◌, arith}
@@ -89,7 +89,7 @@ is_late end cs r passes fails = decided (is_in_time end cs) refl
 
 -- ---- one piece
 
--- another piece stands as before
+-- another piece is as valid as before
 stands_after : (end : ℕ) (c : Contents) (p q : PieceView) → q.signal ≢ p.signal → IsValidIn end c.signals q
     → IsValidIn end (with_piece c p).signals q
 stands_after end c p q other stands = record {
@@ -104,7 +104,7 @@ late_in end ss = sum_by (λ (s : SignalContents). late_count end s.changes) ss
 abbrev late_at : ℕ → Contents → PieceView → ℕ
 late_at end c p = late_count end (signal_at c p.signal).changes
 
--- its signal ends in time then
+-- its signal then ends in time
 late_after : (end : ℕ) (c : Contents) (p : PieceView) → IsValidIn end c.signals p
     → late_in end (with_piece c p).signals + late_at end c p ≡ late_in end c.signals
 late_after end c p stands =
@@ -116,7 +116,7 @@ late_after end c p stands =
       not_late end new.changes stands.stands.upto,
     )
 
--- all but the changes stays
+-- all but the changes
 abbrev bare : SignalContents → SignalContents
 bare s = signal_with_changes s []
 
@@ -180,7 +180,7 @@ formed_all end c (p ∷ ps) (none, apart) stand formed =
       here.stands.form,
     ) formed)
 
--- ---- what the tests of pieces tell
+-- ---- what the tests of pieces show
 
 all_in_time : (end : ℕ) (ss : List SignalContents) → late_in end ss ≡ 0
     → All (λ (s : SignalContents). AllUpTo end s.changes) ss
@@ -211,7 +211,7 @@ late_pieces_are end c ss pieces same =
     sum_by-map (late_at end c) piece_view pieces
     ∙ ap (λ l. sum_by (λ (p : Piece). late_count end (slice_index_or l p.signal no_signal).changes) pieces) same
 
--- pieces that fit and lead to sound signals
+-- pieces that fit and give sound signals
 abbrev FitAll : ℕ → Contents → List PieceView → Type 0
 FitAll end c ps = All (PieceFits c) ps × AreSoundSignals end (with_pieces c ps).signals
 

@@ -59,7 +59,7 @@ module _ (a b end : ℕ) (v : List Bit) (s : SignalContents) where
         (λ less. absurd (omega arith))
         (told ∙ sym (forced_part some))
 
-    -- the value at the tick behind the range is the old one again
+    -- the value at the tick after the range is the old one again
     after_part : changes_in s.width forced b 1
         ≡ unless_same (same_letters (signal_value s b) v) (change b (signal_value s b)) []
     after_part =

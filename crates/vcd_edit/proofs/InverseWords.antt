@@ -86,7 +86,7 @@ letter_at-map value k within =
     ap (λ n. get_or (map not_bit value) (n - 1 - k) X) (length-map value not_bit)
     ∙ get_or-map not_bit value (length value - 1 - k) X X (omega arith)
 
--- rows that show the inverse have its letters
+-- two lists of words that show the inverse have its letters
 pub inverse_letters : (value : List Bit) (low high : List ℕ) → ShowsInverse value low_of low
     → ShowsInverse value high_of high → letters_of (length value) low high ≡ map not_bit value
 unfolding ShowsInverseUpTo

@@ -17,7 +17,7 @@ use Rattle.vcd_edit.proofs.ThinnedLists.{thinned_is, wave_rises, mapped_rise, ma
 
 -- ---- the changes of a wave, one after another
 
--- the last change put, where the rest is still to come
+-- the last change added, while the rest remains
 pub thinned_more : (before last : List Bit) (c : Change) (out more rest all : List Change)
     → out ++ thinned_list last (c ∷ rest) ≡ all → more ≡ out ++ unless_same (same_letters c.value last) c []
     → more ++ thinned_list c.value rest ≡ all
@@ -31,7 +31,7 @@ thinned_more before last c out more rest all was put =
     joined true = refl
     joined false = refl
 
--- the changes that are left
+-- the changes that remain
 left : (h : List Bit → List Bit) (cs : List Change) (i : ℕ) (c : Change) → i < length cs → c ≡ get_or cs i c
     → map (with_value h) (drop i cs) ≡ with_value h c ∷ map (with_value h) (drop (i + 1) cs)
 left h cs i c within at =
@@ -52,7 +52,7 @@ inverse_more before last value cs i c out more within at is was put =
     (ap (λ (rest : List Change). out ++ thinned_list last rest) (sym (left (map not_bit) cs i c within at)) ∙ was)
     (put ∙ ap (λ v. out ++ unless_same (same_letters v last) (change c.tick v) []) is)
 
--- none is left
+-- none remains
 pub inverse_done : (before last : List Bit) (cs : List Change) (i : ℕ) (out : List Change) → length cs ≤ i
     → out ++ thinned_list last (map (with_value (map not_bit)) (drop i cs))
     ≡ thinned_list before (map (with_value (map not_bit)) cs)
@@ -74,7 +74,7 @@ inverse_of_x : (width : ℕ) → map not_bit (all_x width) ≡ all_x width
 inverse_of_x zero = refl
 inverse_of_x (suc width) = ap (λ (v : List Bit). X ∷ v) (inverse_of_x width)
 
--- the changes to inverse values, those that change nothing left out
+-- the changes to inverse values, without those that change nothing
 pub inverse_changes : (end : ℕ) (s : SignalContents) → IsWave s.width s.changes → AllUpTo end s.changes
     → thinned_list (all_x s.width) (map (with_value (map not_bit)) s.changes) ≡ changes_of s.width end (inverse_value s)
 inverse_changes end s is upto =

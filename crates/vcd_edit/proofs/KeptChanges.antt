@@ -1,4 +1,4 @@
--- The changes that are left when short runs of one value are taken out, change by change.
+-- The changes that remain when short runs of one value are taken out, change by change.
 use Rattle.std.proofs.Common.{◌≡◌, ℕ, ◌+◌, ◌-◌, ◌<◌, ◌≤◌, ◌&&◌, Bool, true, false, not, if◌then◌else◌, List, [], ◌∷◌}
 use Rattle.std.proofs.Common.{◌++◌, length, take, drop, get_or, refl, sym, ap, ◌∙◌, arith, append_assoc}
 use Rattle.std.proofs.lemmas.List.{append-nil, length-append, length-drop, length-take-le, take_all, take-append-le}
@@ -10,7 +10,7 @@ use Rattle.vcd_core.specs.inside.ValueLaws.{same_letters-Decides}
 use Rattle.vcd_core.specs.Wave.{unless_same, last_value}
 use Rattle.vcd_edit.specs.inside.Thinned.{thinned_list, begins_steady, steady_changes, is_kept, kept_changes}
 
--- a change that is left, and one that is taken out
+-- a change that remains, and one that is taken out
 pub kept_first : (n : ℕ) (before : List Bit) (c : Change) (cs : List Change) → is_kept n before c cs ≡ true
     → kept_changes n before (c ∷ cs) ≡ c ∷ kept_changes n c.value cs
 unfolding kept_changes
@@ -49,7 +49,7 @@ kept_are n before [] = refl
 kept_are n before (c ∷ cs) =
     kept_if_steady n before c cs (begins_steady n c cs) (kept_are n before cs) (kept_are n c.value cs)
 
--- none are left of none
+-- an empty list stays empty
 pub kept_of_none : (n : ℕ) (before : List Bit) (cs : List Change) → length cs ≤ 0 → kept_changes n before cs ≡ []
 unfolding kept_changes
 kept_of_none n before [] none = refl
@@ -62,7 +62,7 @@ last_of_more before (d ∷ cs) c = last_of_more d.value cs c
 
 -- ---- the change at a position
 
--- the changes behind it
+-- the changes after it
 pub rest_is : (cs : List Change) (i : ℕ) → take (length cs - (i + 1)) (drop (i + 1) cs) ≡ drop (i + 1) cs
 rest_is cs i = take_all (length cs - (i + 1)) (drop (i + 1) cs) (omega (arith, length-drop (i + 1) cs))
 
@@ -74,7 +74,7 @@ module _ (n : ℕ) (last : List Bit) (cs : List Change) (i : ℕ) (c : Change) (
   up_to_here : take (i + 1) cs ≡ take i cs ++ c ∷ []
   up_to_here = take_more cs i c within ∙ ap (λ d. take i cs ++ d ∷ []) (sym at)
 
-  -- it is left
+  -- it remains
   module _ (kept : is_kept n last c later ≡ true) where
     one_kept : kept_changes n last (drop i cs) ≡ c ∷ kept_changes n c.value (drop (i + 1) cs)
     one_kept = ap (kept_changes n last) here
@@ -136,7 +136,7 @@ last_so_far before cs i c within at =
     sym (ap (last_value before) (take_more cs i c within ∙ ap (λ d. take i cs ++ d ∷ []) (sym at))
     ∙ last_of_more before (take i cs) c)
 
--- how long what was passed is
+-- the length of the passed part
 pub part_long : (front cs : List Change) (kept to i : ℕ) → length front ≡ kept → to ≤ i → i ≤ length cs
     → length (front ++ take (i - to) (drop to cs)) ≡ kept + (i - to)
 part_long front cs kept to i long le within =

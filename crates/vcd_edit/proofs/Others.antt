@@ -1,4 +1,4 @@
--- What holds of each element of a list, told by one element and the others.
+-- What holds of each element of a list, if it holds of one element and of the others.
 use Rattle.std.proofs.Common.{ℕ, zero, suc, ◌+◌, ◌<◌, List, [], ◌∷◌, ◌++◌, length, take, drop, set, subst, All, arith}
 use Rattle.std.specs.List.{insert, remove}
 use Rattle.std.proofs.lemmas.List.Elements.{All-nil, All-cons, All-head, All-tail, All-append}

@@ -37,7 +37,7 @@ apart_more (q ∷ ps) p (none, apart) below =
       apart_more ps p apart (All-tail (λ (q : PieceView). q.signal < p.signal) q ps below),
     )
 
--- an element that has not been reached yet
+-- an element that has not been reached
 pub element_here : {X : Type 0} (f : X → X) (xs ys : List X) (i : ℕ) (d : X) → i < length xs
     → ys ≡ map f (take i xs) ++ drop i xs → get_or ys i d ≡ get_or xs i d
 element_here f xs ys i d within is =

@@ -1,4 +1,4 @@
--- Walks over the pieces of a record: what holds after one piece more.
+-- Walks over the pieces of a record: what holds after one more piece.
 use Rattle.std.proofs.Common.{vec_len, ◌-◌, ◌≡◌, ◌≢◌, ℕ, ◌+◌, ◌<◌, List, [], ◌∷◌, ◌++◌, length, take, drop, map, get_or}
 use Rattle.std.proofs.Common.{set, All, sym, ap, subst, ◌∙◌, arith}
 use Rattle.std.proofs.lemmas.List.{length-map, length-drop, get_or-map, get_or-drop, set-get_or, map-set, map-append}

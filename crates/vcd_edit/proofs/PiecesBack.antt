@@ -1,4 +1,4 @@
--- Pieces put into a capture one after another, and the pieces that lead back.
+-- Pieces put into a capture one after another, and the pieces that undo them.
 use Rattle.std.proofs.Common.{◌≡◌, ◌≢◌, ℕ, ◌<◌, ◌≤◌, List, [], ◌∷◌, ◌++◌, length, drop, reverse, get_or, set, All, refl}
 use Rattle.std.proofs.Common.{sym, ap, subst, ◌∙◌, arith}
 use Rattle.std.proofs.lemmas.List.{length-set, get_or-set_same, get_or-set_other, set-set, set-get_or, reverse-append}
@@ -52,7 +52,7 @@ fits_elsewhere c d q count same fits =
       ticks = subst (λ (s : SignalContents). AllTicksFit q.by (drop q.to s.changes)) (sym same) fits.ticks;
     }
 
--- the piece that leads back fits, and leads back
+-- the inverse piece fits, and undoes the first
 module _ (c : Contents) (p q : PieceView) (within : p.signal < length c.signals)
     (leads : IsInversePiece (signal_at c p.signal).changes p q) where
   changes_here : (signal_at (with_piece c p) q.signal).changes ≡ changes_with_piece p (signal_at c p.signal).changes
@@ -115,7 +115,7 @@ AreInversePieces-push c (x ∷ ps) [] p q lead within leads = absurd lead
 AreInversePieces-push c (x ∷ ps) (y ∷ qs) p q (first, one, lead) within leads =
     (first, one, AreInversePieces-push (with_piece c x) ps qs p q lead within leads)
 
--- all pieces that lead back, the last one first
+-- all inverse pieces, the last one first
 pub all_back : (c : Contents) (ps qs : List PieceView) → AreInversePieces c ps qs
     → with_pieces (with_pieces c ps) (reverse qs) ≡ c
 unfolding with_pieces
@@ -174,7 +174,7 @@ pub none_all : (k : ℕ) (ps : List PieceView) → NoneFor k ps → All (λ p. p
 none_all k [] none = All-nil (λ p. p.signal ≢ k)
 none_all k (p ∷ ps) (other, none) = All-cons (λ p. p.signal ≢ k) p ps other (none_all k ps none)
 
--- ---- the pieces that lead back fit
+-- ---- the inverse pieces fit
 
 pub back_fits_all : (c : Contents) (ps qs : List PieceView) → AreInversePieces c ps qs → AreApart ps
     → All (PieceFits (with_pieces c ps)) qs

@@ -13,7 +13,7 @@ use Rattle.vcd_edit.specs.Effect.{renamed_signal}
 use Rattle.vcd_edit.specs.AppliedRecords.{signal_with_changes}
 use Rattle.vcd_edit.specs.inside.Exchanges.{no_wave, wave_at, HasNoLessRoom}
 
--- the signal at a position, by what it holds
+-- the contents of the signal at a position
 pub contents_at : (signals : List Signal) (k : ℕ) (s : Signal) → k < length signals → s ≡ get_or signals k s
     → slice_index_or (map signal_contents signals) k no_signal ≡ signal_contents s
 contents_at signals k s within is = get_or-map signal_contents signals k s no_signal within
@@ -43,7 +43,7 @@ other_waves signals k j s other =
     ap (λ l. get_or l j no_wave) (map-set (λ (t : Signal). t.wave) signals k s)
     ∙ get_or-set_other (map (λ (t : Signal). t.wave) signals) k j s.wave no_wave other
 
--- with other room alone, the signals hold what they held
+-- if only room changes, the contents of the signals stay
 pub contents_kept : (signals : List Signal) (k : ℕ) (s : Signal) (w : WaveView) → k < length signals
     → s ≡ get_or signals k s → w.width ≡ s.wave.width → w.changes ≡ s.wave.changes
     → map signal_contents (set signals k (record s { wave = w })) ≡ map signal_contents signals
@@ -68,7 +68,7 @@ pub wave_is_there : (signals : List Signal) (k : ℕ) (s : Signal) → k < lengt
 wave_is_there signals k s within is = get_or-map (λ (t : Signal). t.wave) signals k s no_wave within
     ∙ ap (λ (t : Signal). t.wave) (sym is)
 
--- where one wave has no less room, none has
+-- if one wave has no less room, none has
 pub rooms_grow : (signals : List Signal) (k : ℕ) (s : Signal) (w : WaveView) → k < length signals
     → s ≡ get_or signals k s → w.changes ≡ s.wave.changes → s.wave.splice_room ≤ w.splice_room
     → (j : ℕ) → HasNoLessRoom (wave_at signals j) (wave_at (set signals k (record s { wave = w })) j)

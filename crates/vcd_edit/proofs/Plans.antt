@@ -1,4 +1,4 @@
--- Records that lead to the effect of an edit.
+-- Records whose result is the effect of an edit.
 use Rattle.std.proofs.Common.{◌≡◌, ◌<◌, ℕ, ◌||◌, ◌+◌, nat_le, nat_lt, false, ◌≤◌, List, [], ◌∷◌, length, map, get_or}
 use Rattle.std.proofs.Common.{drop, All, Some, None, refl, sym, ap, subst, ◌∙◌, arith}
 use Rattle.std.specs.Borrow.{Bor}
@@ -32,7 +32,7 @@ use Rattle.vcd_edit.specs.inside.Plans.{IsPlan, GivesValues}
 use Rattle.vcd_edit.proofs.Faults.{no_fault, signal_there}
 use Rattle.vcd_edit.proofs.SoundEffects.{sound_at, effect_is_sound}
 
--- a record that leads to the effect is a plan where its parts stand within the capture
+-- a record with that result is a plan if its parts lie within the capture
 pub is_plan : (e : Edit) (c : Contents) (r : RecordView) → IsSound c → edit_fault e c ≡ None
     → apply_record r c ≡ effect e c
     → All (PieceFits c) r.pieces → WordFits c r.word → MovedSignalFits c r.signal
@@ -50,17 +50,17 @@ is_plan e c r sound none leads pieces word signal offset pairing = record {
   pairing = pairing;
 }
 
--- the signal at a position, by what it holds
+-- the contents of the signal at a position
 pub contents_at : (signals : List Signal) (k : ℕ) (s : Signal) → k < length signals → s ≡ get_or signals k s
     → get_or (map signal_contents signals) k no_signal ≡ signal_contents s
 contents_at signals k s within is = get_or-map signal_contents signals k s no_signal within
     ∙ ap signal_contents (sym is)
 
--- a position of a capture that is one of its contents
+-- a position within the contents of a capture
 pub there : (c : Capture) (k : ℕ) → is_no_signal (contents c) k ≡ false → k < length c.signals
 there c k none = omega (arith, signal_there (contents c) k none, length-map c.signals signal_contents)
 
--- what is at each Ok
+-- what holds of each Ok
 pub at_ok : {A E : Type 0} (r : Result A E) (P Q : A → Type 0) → ((v : A) → P v → Q v) → IfOk r P → IfOk r Q
 at_ok (Ok v) P Q follows holds = follows v holds
 at_ok (Err e) P Q follows holds = tt
@@ -94,7 +94,7 @@ module _ (e : Edit) (c : Contents) (k : ℕ) (f : ℕ → List Bit) (p : PieceVi
         ticks = subst (λ (s : SignalContents). AllTicksFit p.by (drop p.to s.changes)) (sym there) gives.ticks;
       }
 
-  -- where those are the values that the edit gives it, it is a plan
+  -- it is a plan if these are the values of the edit
   pub one_piece_plan : IsSound c → edit_fault e c ≡ None → k < length c.signals → effect e c ≡ with_wave c k f
       → edit_offset e ≡ neg_ℤ p.by → edit_pairing e c ≡ stays → IsPlan e c r
   one_piece_plan sound none within effect_is offset pairing =
@@ -150,7 +150,7 @@ remove_plan c k pieces sound none empty =
     (All-nil (PieceFits (contents c))) tt (signal_there (contents c) k (no_fault (Remove k) (contents c) none).signals)
     (All-nil (λ (p : PieceView). pos 0 ≡ neg_ℤ p.by)) refl)
 
--- an edit of one wave, by the piece of its signal
+-- an edit of one wave, as the piece of its signal
 pub wave_plan : (e : Edit) (c : Contents) (k : ℕ) (f : SignalContents → ℕ → List Bit) (by : ℤ) (s : SignalContents)
     (p : Piece) (made : Result RecordView NoMemory) → IsSound c → edit_fault e c ≡ None
     → k < length c.signals → signal_at c k ≡ s → effect e c ≡ with_wave c k (f (signal_at c k))

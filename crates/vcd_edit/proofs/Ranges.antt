@@ -1,4 +1,4 @@
--- The changes of a function over a range of ticks, and a wave in which a range gives way to a piece.
+-- The changes of a function over a range of ticks, and a wave in which a piece replaces a range.
 use Rattle.std.proofs.Common.{◌≡◌, ℕ, zero, suc, ◌+◌, ◌-◌, ◌^◌, ◌<◌, ◌≤◌, Bool, true, false, cond, nat_lt, ℤ, pos, ◌+ℤ◌}
 use Rattle.std.proofs.Common.{unsigned_abs, List, [], ◌∷◌, ◌++◌, length, take, drop, map, refl, sym, ap, subst, ◌∙◌}
 use Rattle.std.proofs.Common.{arith}
@@ -211,13 +211,13 @@ module _ (width end a n k : ℕ) (cs : List Change) (is : IsWave width cs) (upto
   pub changes_from_tick : drop k cs ≡ high
   changes_from_tick = ap (drop k) parts ∙ drop_at low high k count_is_length
 
--- ---- a range gives way to a piece, and the later changes move
+-- ---- a piece replaces a range, and the later changes move
 
 module _ (width end : ℕ) (cs : List Change) (is : IsWave width cs) (upto : AllUpTo end cs) (a u m n k l stop : ℕ)
     (by : ℤ) (f : ℕ → List Bit) (piece : List Change)
     (long : end < u + n) (all : a + (m + n) ≡ suc stop) (from : k ≡ count_by (λ c. nat_lt c.tick a) cs)
     (to : l ≡ count_by (λ c. nat_lt c.tick u) cs) (later : pos u +ℤ by ≡ pos (a + m)) where
-  -- the piece takes the place of the ticks from a to u, and the later changes come to a + m
+  -- the piece replaces the ticks from a to u, and the later changes begin at a + m
   pub replaced : a ≤ u → ((s : ℕ) → s < a → f s ≡ value_at width cs s)
       → ((i : ℕ) → i < n → f (a + m + i) ≡ value_at width cs (u + i))
       → (0 < n → value_just_before width f (a + m) ≡ value_just_before width (value_at width cs) u)
@@ -238,7 +238,7 @@ module _ (width end : ℕ) (cs : List Change) (is : IsWave width cs) (upto : All
       ∙ sym (changes_in-split width f 0 a (m + n))
       ∙ ap (changes_in width f 0) all
 
-  -- and that is a piece that leads to the changes of f
+  -- such a piece gives the changes of f
   pub replacement_leads : (p : PieceView) → p.from ≡ k → p.to ≡ l → p.changes ≡ piece → p.by ≡ by → a ≤ u
       → stop < 2 ^ 64
       → ((s : ℕ) → s < a → f s ≡ value_at width cs s) → ((i : ℕ) → i < n → f (a + m + i) ≡ value_at width cs (u + i))

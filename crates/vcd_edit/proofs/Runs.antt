@@ -29,7 +29,7 @@ if_other v w x y other = choose (same_letters v w) refl
     choose true is = absurd (other ((same_letters-Decides v w).0 is))
     choose false is = refl
 
--- ---- the run that holds a tick
+-- ---- the run that contains a tick
 
 run_start_is : (f : ℕ → List Bit) (a t : ℕ) → a ≤ t → ((s : ℕ) → a ≤ s → s ≤ t → f s ≡ f a)
     → ((b : ℕ) → suc b ≡ a → f a ≢ f b) → run_start f t ≡ a

@@ -1,4 +1,4 @@
--- The pieces of a signal that comes later, or earlier.
+-- The pieces of a delayed or advanced signal.
 use Rattle.std.proofs.Common.{◌≡◌, ℕ, zero, suc, ◌+◌, ◌-◌, ◌^◌, ◌<◌, ◌≤◌, Bool, true, nat_lt, cond, if◌then◌else◌, ℤ}
 use Rattle.std.proofs.Common.{pos, negsuc, ◌-ℤ◌, List, [], ◌∷◌, ◌++◌, length, take, map, get_or, inl, inr, refl, sym}
 use Rattle.std.proofs.Common.{ap, ◌∙◌, arith}
@@ -49,7 +49,7 @@ leads_same p cs width end f g same leads =
           ∙ changes_same width end f g same;
     }
 
--- the same of the piece of a signal
+-- the same for the piece of a signal
 pub gives_same : (made : Result Piece NoMemory) (k : ℕ) (s : SignalContents) (end : ℕ) (at by : ℤ) (f g : ℕ → List Bit)
     → at ≡ by → ((t : ℕ) → f t ≡ g t) → IfOk made (GivesValues k s end at f) → IfOk made (GivesValues k s end by g)
 gives_same made k s end at by f g moves same =
@@ -94,13 +94,13 @@ module _ (d end : ℕ) (s : SignalContents) (upto : AllUpTo end s.changes) where
       there : (d t : ℕ) → pos t -ℤ neg_ℤ (pos d) ≡ pos (t + d)
       there d t = omega (arith, ints)
 
-  -- as where the first d ticks are cut out
+  -- as if the first d ticks were cut out
   pub shift_as_cut : (t : ℕ) → cut_value 0 d s t ≡ shift_value end back s t
   shift_as_cut t =
       ap (λ q. if q then signal_value s t else signal_value s (t + (d - 0))) (le-ltb t 0 (omega arith))
       ∙ ap (signal_value s) {x = t + (d - 0)} {y = t + d} (omega arith) ∙ sym (shift_earlier t)
 
-  -- all that comes is the last value
+  -- all values that come in are the last value
   pub shift_to_last : end < d → (t : ℕ) → shift_value end back s t ≡ signal_value s end
   shift_to_last far t = shift_earlier t ∙ past_end end (t + d) s upto (omega arith)
 
@@ -141,7 +141,7 @@ module _ (d end : ℕ) (s : SignalContents) where
   module _ (is : IsWave s.width s.changes) (upto : AllUpTo end s.changes) (near : d ≤ end) (small : end + 1 < 2 ^ 64)
       (p : PieceView) (first : p.from ≡ 0) (kept : ℕ)
       (count : kept ≡ count_by (λ c. nat_lt c.tick (end - d + 1)) s.changes) where
-    -- no change goes out
+    -- no change is pushed past the end
     pub later_all_stay : kept ≡ length s.changes → p.to ≡ 0 → p.changes ≡ [] → p.by ≡ pos d
         → LeadsTo p s.changes s.width end (shift_value end (pos d) s)
     later_all_stay all last empty by =

@@ -1,4 +1,4 @@
--- What an edit with no fault makes of a sound capture is sound.
+-- An edit with no fault keeps a sound capture sound.
 use Rattle.std.proofs.Common.{◌≡◌, ◌<◌, ℕ, zero, suc, ◌+◌, ◌-◌, ◌==◌, ◌&&◌, not, nat_le, nat_lt, Bool, true, false}
 use Rattle.std.proofs.Common.{if◌then◌else◌, IsTrue, ℤ, pos, negsuc, ◌-ℤ◌, List, [], ◌∷◌, length, take, drop, get_or}
 use Rattle.std.proofs.Common.{None, refl, ◌∙◌, arith}
@@ -98,7 +98,7 @@ others_are_words : (words : List (List ℕ)) → IsTrue (list_all is_word words)
 others_are_words [] all = refl
 others_are_words (word ∷ words) all = second_holds (is_word word) (list_all is_word words) all
 
--- a sound signal with another first word of its name
+-- a sound signal with another first word in its name
 pub sound_renamed : (end : ℕ) (word : List ℕ) (s : SignalContents) → IsTrue (is_word word) → IsSoundSignal end s
     → IsSoundSignal end (renamed_signal word s)
 sound_renamed end word s is sound = record {
@@ -113,7 +113,7 @@ sound_renamed end word s is sound = record {
   ticks = sound.ticks;
 }
 
--- a derived signal, where its first operand is sound
+-- a derived signal, if its first operand is sound
 pub sound_derived : (c : Contents) (word : List ℕ) (rule : Rule) → IsTrue (is_word word)
     → IsSoundSignal c.end (signal_at c (first_operand rule))
     → IsSoundSignal c.end (derived_signal word rule c)

@@ -1,4 +1,4 @@
--- A trimmed piece and its part have changed places: the piece leads back.
+-- A trimmed piece was exchanged with its range: the piece undoes this.
 use Rattle.std.proofs.Common.{◌≡◌, ℕ, ◌+◌, ◌^◌, ◌<◌, ◌≤◌, ℤ, pos, ◌+ℤ◌, neg_ℤ, List, [], ◌∷◌, ◌++◌, length, take, drop}
 use Rattle.std.proofs.Common.{map, slice_range, All, refl, sym, ap, subst, ◌∙◌, ◌⊎◌, inl, inr, arith}
 use Rattle.std.specs.Int.{w64, FitsUnsigned}
@@ -32,7 +32,7 @@ module _ (cs piece : List Change) (a z : ℕ) (by back : ℤ) (ordered : a ≤ z
   none_later : drop z cs ≡ [] → drop (a + length piece) (spliced_changes cs a z piece by) ≡ []
   none_later none = later_of-spliced cs piece a z by back ordered within ∙ ap (map (moved_change by)) none
 
-  -- where no change is later, any offset does
+  -- without later changes any offset does
   any_offset : (other : ℤ) → drop z cs ≡ []
       → spliced_changes (spliced_changes cs a z piece by) a (a + length piece) (slice_range cs a z) back
       ≡ spliced_changes (spliced_changes cs a z piece by) a (a + length piece) (slice_range cs a z) other

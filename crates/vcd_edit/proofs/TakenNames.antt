@@ -11,7 +11,7 @@ use Rattle.vcd_core.specs.Names.{full_name, full_names}
 use Rattle.vcd_edit.specs.Effect.{renamed_signal}
 use Rattle.vcd_edit.proofs.Plans.{contents_at}
 
--- the others stand before the position or behind it
+-- the others are before the position or after it
 has_other : (name : List ℕ) (signals : List Signal) (k : ℕ)
     → list_any (bytes_eq name) (full_names (remove (map signal_contents signals) k))
     ≡ (list_any (bytes_eq name) (full_names (map signal_contents (take k signals)))
@@ -23,7 +23,7 @@ has_other name signals k =
     (full_names (drop (suc k) (map signal_contents signals)))
     ∙ rw (take-map signal_contents k signals, drop-map signal_contents (suc k) signals) refl
 
--- the signals behind a position
+-- the signals after a position
 pub following : (k : ℕ) (signals : List Signal)
     → take (length signals - (k + 1)) (drop (k + 1) signals) ≡ drop (suc k) signals
 following k signals =

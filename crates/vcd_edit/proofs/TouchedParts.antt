@@ -1,4 +1,4 @@
--- What a splice touches, by its part and its piece alone.
+-- What a splice touches, by its range and its piece.
 use Rattle.std.proofs.Common.{◌≡◌, ℕ, suc, ◌+◌, ◌-◌, ◌^◌, ◌<◌, ◌≤◌, ◌==◌, Bool, true, ℤ, pos, ◌+ℤ◌, ◌-ℤ◌, neg_ℤ}
 use Rattle.std.proofs.Common.{unsigned_abs, List, [], ◌∷◌, ◌++◌, length, take, drop, get_or, map, reverse, All, refl}
 use Rattle.std.proofs.Common.{sym, ap, subst, ◌∙◌, inl, inr, arith}
@@ -81,7 +81,7 @@ module _ {X Y : Type 0} (e : X → Y → Bool) where
         | inr is ↦ cond-false (e x y) _ _ is ∙ sym (cond-false (e x y) _ _ is)
       ]
 
-  -- what matches in front is what each first part becomes
+  -- the pairs that match at the front of each first part
   prefix_parts : (h : X → Y) (P : X → Type 0) (Q : Y → Type 0)
       → ((a : X) (b : Y) → Q b → e a b ≡ true → (h a ≡ b) × P a) → (xs : List X) (ys : List Y) → All Q ys
       → (map h (take (common_prefix_len e xs ys) xs) ≡ take (common_prefix_len e xs ys) ys)
@@ -105,7 +105,7 @@ module _ {X Y : Type 0} (e : X → Y → Bool) where
 
 -- ---- common suffixes
 
--- the last changes match that move with the tail
+-- the last changes that move with the tail match
 suffix_end : (by o : ℤ) (xs ys cs : List Change) → o ≡ neg_ℤ by → AllTicksFit by cs
     → common_suffix_lowered o (xs ++ cs) (ys ++ map (moved_change by) cs) ≡ length cs + common_suffix_lowered o xs ys
 suffix_end by o xs ys [] opposite fit =
@@ -137,7 +137,7 @@ module _ {X : Type 0} where
       ∙ drop_at (reverse (drop n back)) (reverse (take n back)) (length xs - n)
       (omega (arith, length-reverse (drop n back), length-drop n back, length-reverse xs))
 
-  -- what a slice leaves in its list, where it is the whole list
+  -- a slice that is the whole list leaves it whole
   pub whole_list : (n : ℕ) (new old : List X) → n ≡ length new → take n (new ++ drop (length new) old) ≡ new
   whole_list n new old all = take-append-le n new (drop (length new) old) (omega arith) ∙ take_all n new (omega arith)
 
@@ -169,7 +169,7 @@ suffix_moves by o xs ys opposite small =
           (All-reverse (TickFits by) (take n (reverse xs)) parts.1),
     )
 
--- the old changes that match in front are the new ones
+-- the old changes that match at the front are the new ones
 pub prefix_same : (xs ys : List Change)
     → take (common_prefix_len same_change xs ys) xs ≡ take (common_prefix_len same_change xs ys) ys
 prefix_same xs ys =
@@ -180,7 +180,7 @@ prefix_same xs ys =
 
 -- ---- what a list touches
 
--- a list touches no fewer changes than it is longer
+-- a list touches at least as many changes as it is longer
 touched_least : (o : ℤ) (old new : List Change) → length old ≤ touched_count o old new + length new
 unfolding touched_count
 touched_least o old new =
@@ -221,7 +221,7 @@ module _ (by o : ℤ) (before ms ns cs : List Change) (opposite : o ≡ neg_ℤ 
           ap (λ k. drop k (u ∷ us ++ xs)) {x = suc (length us) + n} {y = suc (length us + n)} (omega arith)
           ∙ drop_after us xs n
 
-  -- of a list with a part that gives way, and with the later changes moved, no more is touched in the part alone
+  -- a range replaced in a list, with the later changes moved, touches no more than the whole list
   pub touched_middle : touched_count o ms ns ≤ touched_count o old new
   unfolding touched_count
   touched_middle =

@@ -1,4 +1,4 @@
--- What pieces that lead back store is within what is touched, signal by signal.
+-- What inverse pieces store is at most what is touched, signal by signal.
 use Rattle.std.proofs.Common.{◌≡◌, ℕ, zero, suc, ◌+◌, ◌<◌, ◌≤◌, ◌==◌, ℤ, neg_ℤ, List, [], ◌∷◌, length, map, reverse}
 use Rattle.std.proofs.Common.{get_or, set, All, Option, Some, None, refl, sym, ap, ◌∙◌, arith}
 use Rattle.std.specs.List.{sum_by, common_prefix_len}
@@ -36,7 +36,7 @@ touched_at_least offset j (x ∷ ss) (y ∷ ns) (suc k) s n in_ss in_ns =
           suc j + k} (omega arith),
     )
 
--- another signal in its place changes its own part alone
+-- another signal in its place changes only its own part
 touched-set : (offset : ℕ → ℤ) (j : ℕ) (ss : List SignalContents) (ns : List (Option SignalContents)) (k : ℕ)
     (s new : SignalContents) (n : Option SignalContents)
     → k < length ss → k < length ns
@@ -73,7 +73,7 @@ touched_self o cs =
     prefix_self [] = refl
     prefix_self (x ∷ xs) = cond-true (same_change x x) _ _ (same_change_self x) ∙ omega (arith, prefix_self xs)
 
--- what pieces that lead back store, where each signal's offset is the opposite of its piece's
+-- what inverse pieces store, with the opposite offsets
 pub stored_within : (offset : ℕ → ℤ) (c : Contents) (ps qs : List PieceView) → AreInversePieces c ps qs → AreApart ps
     → All (λ p. offset p.signal ≡ neg_ℤ p.by) ps
     → sum_by (λ q. length q.changes) qs ≤ touched_from offset 0 c.signals (map Some (with_pieces c ps).signals)

@@ -1,4 +1,4 @@
--- A piece without what stands in the list already makes the same of the list.
+-- A piece without the changes that its list already has gives the same list.
 use Rattle.std.proofs.Common.{◌≡◌, ℕ, ◌+◌, ◌-◌, ◌^◌, ◌<◌, ◌≤◌, ℤ, neg_ℤ, List, ◌++◌, length, take, drop, map}
 use Rattle.std.proofs.Common.{slice_range, All, sym, ap, subst, ◌∙◌, arith}
 use Rattle.std.specs.List.{common_prefix_len}
@@ -21,7 +21,7 @@ module _ (cs ns : List Change) (a z : ℕ) (by o : ℤ) (opposite : o ≡ neg_�
   abbrev part : List Change
   part = slice_range cs a z
 
-  -- how many match in front
+  -- how many match at the front
   abbrev front : ℕ
   front = common_prefix_len same_change part ns
 
@@ -103,7 +103,7 @@ module _ (cs ns : List Change) (a z : ℕ) (by o : ℤ) (opposite : o ≡ neg_�
   trimmed_ticks = subst (AllTicksFit by) (sym last_is)
       (All-append (TickFits by) (drop (length (drop front part) - end) (drop front part)) (drop z cs) moves.1 fit)
 
-  -- the part that is left is touched
+  -- the range that remains is touched
   trimmed_part : (z - end) - (a + front) ≤ touched_count o cs (spliced_changes cs a z ns by)
   unfolding touched_count spliced_changes
   trimmed_part =

@@ -1,4 +1,4 @@
--- The record that goes the other way: it leads back, it fits, and it stores touched changes alone.
+-- The record of the opposite step: it undoes the step, it fits, and it stores touched changes only.
 use Rattle.std.proofs.Common.{◌≡◌, ◌≢◌, ℕ, zero, suc, ◌+◌, ◌^◌, ◌<◌, ◌≤◌, ℤ, neg_ℤ, List, [], ◌∷◌, ◌++◌, length, take}
 use Rattle.std.proofs.Common.{drop, map, reverse, get_or, set, slice_index_or, All, Option, Some, None, refl, sym, ap}
 use Rattle.std.proofs.Common.{subst, ◌∙◌, arith}
@@ -104,7 +104,7 @@ move_of_end (Some e) c = refl
 
 -- ---- the three kinds of step
 
--- only pieces, and maybe an end
+-- only pieces, and perhaps an end
 module _ (e : Option ℕ) (c : Contents) (ps qs : List PieceView) (lead : AreInversePieces c ps qs) where
   pub pieces_back : with_end (opposite_end e c) (with_pieces (with_end e (with_pieces c ps)) (reverse qs)) ≡ c
   pieces_back =
@@ -117,7 +117,7 @@ module _ (e : Option ℕ) (c : Contents) (ps qs : List PieceView) (lead : AreInv
       (fits_at_end e (with_pieces c ps)) (reverse qs)
       (All-reverse (PieceFits (with_pieces c ps)) qs (back_fits_all c ps qs lead apart))
 
--- only a word, and maybe an end
+-- only a word, and perhaps an end
 pub word_back : (e : Option ℕ) (c : Contents) (k : ℕ) (word : List ℕ) → k < length c.signals
     → 0 < length (signal_at c k).words
     → with_end (opposite_end e c)
@@ -129,7 +129,7 @@ word_back e c k word within named =
     ∙ ap (with_end e) (word_back_at c k word within named))
     ∙ end_back e c c refl
 
--- only a signal put in or taken out, and maybe an end
+-- only a signal put in or taken out, and perhaps an end
 pub signal_back : (e : Option ℕ) (c : Contents) (k : ℕ) (o : Option SignalContents) → MayMoveSignal c k o
     → with_end (opposite_end e c)
     (with_moved_signal (Some (k, opposite_partner k o c)) (with_end e (with_moved_signal (Some (k, o)) c))) ≡ c
@@ -329,7 +329,7 @@ stores_back offset c ps qs None (Some m) e one signal lead opposite =
     )
 stores_back offset c ps qs (Some w) (Some m) e one signal lead opposite = absurd (no_word_at_move ps w m e one)
 
--- where each signal's offset is the opposite of its piece's
+-- with the opposite offsets
 pub opposite_stores : (offset : ℕ → ℤ) (c : Contents) (r : RecordView) (qs : List PieceView) → IsOneStep r → Fits r c
     → AreInversePieces c r.pieces qs → All (λ p. offset p.signal ≡ neg_ℤ p.by) r.pieces
     → stored_changes (opposite_record r qs c) ≤ touched_from offset 0 c.signals
@@ -356,7 +356,7 @@ upto_end end cs small upto =
     All-weaker (λ (c : Change). c.tick ≤ end) (λ (c : Change). c.tick ≤ END_LIMIT) (λ c le. omega (arith, le, small)) cs
     (all_from_upto end cs upto)
 
--- the changes of a piece are among those that it leads to
+-- the changes of a piece are among those of its result
 piece_among : (P : Change → Type 0) (p : PieceView) (cs : List Change) → All P (changes_with_piece p cs)
     → All P p.changes
 unfolding spliced_changes
@@ -417,7 +417,7 @@ leads_other_way c r qs one fits sound lead =
       stored = λ offset opposite. opposite_stores offset c r qs one fits lead opposite;
     }
 
--- ---- the parts in the order in which they change places: the signal, the pieces, the word, the end
+-- ---- the order of the exchange: the signal, the pieces, the word, the end
 
 module _ (c : Contents) (ps qs : List PieceView) where
   in_order_of : (w : Option (ℕ × List ℕ)) (m : Option (ℕ × Option SignalContents)) (e : Option ℕ)
@@ -453,7 +453,7 @@ module _ (c : Contents) (ps qs : List PieceView) where
   lead_moved_of w (Some m) e one lead =
       lead_anywhere (with_moved_signal (Some m) c) (no_pieces_at_move ps w m e one) lead
 
-  -- where there is a word, the capture is as before
+  -- if there is a word, the capture is as before
   before_word_of : (w : ℕ × List ℕ) (m : Option (ℕ × Option SignalContents)) (e : Option ℕ)
       → IsOneStep (parts ps (Some w) m e) → with_pieces (with_moved_signal m c) ps ≡ c
   before_word_of w None e one = none_put c ps (no_pieces_at_word ps w None e one)

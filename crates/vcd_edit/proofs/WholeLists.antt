@@ -1,4 +1,4 @@
--- Pieces that take the place of a whole list of changes.
+-- Pieces that replace a whole list of changes.
 use Rattle.std.proofs.Common.{◌≡◌, ℕ, suc, ◌≤◌, ◌+◌, List, [], ◌++◌, length, take, drop, map, sym, ap, subst, ◌∙◌}
 use Rattle.std.proofs.Common.{arith}
 use Rattle.std.proofs.lemmas.List.{append-nil, drop_all}
@@ -17,7 +17,7 @@ use Rattle.vcd_edit.specs.RecordView.{PieceView}
 use Rattle.vcd_edit.specs.inside.Ranges.{LeadsTo}
 use Rattle.vcd_edit.proofs.Ranges.{changes_in-constant}
 
--- the piece of a whole list is the list that comes
+-- the piece of a whole list gives its own changes
 pub whole_leads : (p : PieceView) (cs : List Change) (width end : ℕ) (f : ℕ → List Bit) → p.from ≡ 0 → p.to ≡ length cs
     → p.changes ≡ changes_of width end f
     → LeadsTo p cs width end f

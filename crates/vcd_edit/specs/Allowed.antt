@@ -1,4 +1,4 @@
--- Which fault an edit has on a capture: the project's own.
+-- Which fault an edit has on a capture. The rules are the project's own.
 use Rattle.std.specs.Prelude.{◌≡◌, ◌⊎◌, ℕ, ◌+◌, ◌==◌, ◌||◌, nat_lt, nat_le, Bool, false, not, if◌then◌else◌, List, [], ◌∷◌, length, Option, Some, None, Result, MatchResult}
 use Rattle.std.specs.List.{list_any, remove}
 use Rattle.std.specs.Str.{bytes_eq}
@@ -53,7 +53,7 @@ has_wide_operand (Or a b) c = is_wide c a || is_wide c b
 has_wide_operand (Xor a b) c = is_wide c a || is_wide c b
 has_wide_operand (BitOf a k) c = false
 
--- the same of an edit
+-- the same for an edit
 abbrev pub joins_wide_signal : Edit → Contents → Bool
 joins_wide_signal (Derive word rule) c = has_wide_operand rule c
 joins_wide_signal e c = false
@@ -65,14 +65,14 @@ abbrev pub is_bit_outside : Rule → Contents → Bool
 is_bit_outside (BitOf a k) c = nat_le (signal_at c a).width k
 is_bit_outside rule c = false
 
--- the same of an edit
+-- the same for an edit
 abbrev pub lacks_bit : Edit → Contents → Bool
 lacks_bit (Derive word rule) c = is_bit_outside rule c
 lacks_bit e c = false
 
 -- ---- ticks and values
 
--- whether a range of ticks is empty, or goes past the end: the end itself may be forced, but not cut out
+-- whether a range of ticks is empty or goes past the end; a force may reach the end, a cut may not
 abbrev pub has_bad_range : Edit → Contents → Bool
 has_bad_range (Cut from to) c = nat_le to from || nat_lt c.end to
 has_bad_range (Force k from to value) c = nat_le to from || nat_lt (c.end + 1) to
@@ -96,7 +96,7 @@ gives_no_word (Rename k word) = not (is_word word.now)
 gives_no_word (Derive word rule) = not (is_word word.now)
 gives_no_word e = false
 
--- whether another signal already has the full name that would arise
+-- whether another signal already has the new full name
 abbrev pub takes_name : Edit → Contents → Bool
 takes_name (Rename k word) c = list_any (bytes_eq (full_name (renamed_signal word.now (signal_at c k)))) (full_names (remove c.signals k))
 takes_name (Derive word rule) c = list_any (bytes_eq (full_name (derived_signal word.now rule c))) (full_names c.signals)
@@ -104,7 +104,7 @@ takes_name e c = false
 
 -- ---- how many signals
 
--- whether the edit adds a signal where there are as many as a capture may have
+-- whether the edit adds a signal to a capture that has the most signals allowed
 abbrev pub adds_too_many : Edit → Contents → Bool
 adds_too_many (Derive word rule) c = nat_le SIGNAL_LIMIT (length c.signals)
 adds_too_many e c = false
@@ -116,7 +116,7 @@ abbrev pub first_fault : List (Bool × EditError) → Option EditError
 first_fault [] = None
 first_fault (row ∷ rows) = if row.0 then Some row.1 else first_fault rows
 
--- the tests of an edit, each with its fault, in the order in which they count
+-- the tests of an edit with their faults, in the order in which they are made
 abbrev pub fault_rows : Edit → Contents → List (Bool × EditError)
 fault_rows e c =
     (lacks_signal e c, errors.NoSuchSignal)
@@ -130,14 +130,14 @@ fault_rows e c =
     ∷ (adds_too_many e c, errors.TooManySignals)
     ∷ []
 
--- the fault of an edit on a capture, where it has one
+-- the fault of an edit on a capture, if it has one
 unfoldable pub edit_fault : Edit → Contents → Option EditError
 edit_fault e c = first_fault (fault_rows e c)
 
--- how an edit may be refused: by the fault that it has, or for want of memory where it has none
+-- an edit is refused by its fault, or, without a fault, because memory runs out
 abbrev pub MayRefuse : Option EditError → EditError → Type 0
 MayRefuse found refusal = (found ≡ Some refusal) ⊎ ((found ≡ None) × (refusal ≡ errors.NoMemory))
 
--- what a check answers, told by the fault that there is
+-- a check answers with the fault, or Ok if there is none
 abbrev pub FaultIs : {T : Type 0} → Result T EditError → Option EditError → Type 0
 FaultIs answer found = MatchResult answer (λ _. found ≡ None) (λ refusal. found ≡ Some refusal)

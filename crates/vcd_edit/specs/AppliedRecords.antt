@@ -1,4 +1,4 @@
--- What a record makes of a capture, and which records fit one: the project's own.
+-- What a record makes of a capture, and which records fit one. The rules are the project's own.
 use Rattle.std.specs.Prelude.{◌≡◌, ◌≢◌, ℕ, ◌<◌, ◌≤◌, List, [], ◌∷◌, length, drop, All, Option, Some, None}
 use Rattle.std.specs.List.{insert, remove}
 use Rattle.vcd_core.specs.declared.wave.Change.{Change}
@@ -10,7 +10,7 @@ use Rattle.vcd_edit.specs.Effect.{renamed_signal}
 
 -- ---- pieces
 
--- the list of changes with a piece in it
+-- the list of changes after a piece is put in
 abbrev pub changes_with_piece : PieceView → List Change → List Change
 changes_with_piece p cs = spliced_changes cs p.from p.to p.changes p.by
 
@@ -18,28 +18,28 @@ changes_with_piece p cs = spliced_changes cs p.from p.to p.changes p.by
 abbrev pub signal_with_changes : SignalContents → List Change → SignalContents
 signal_with_changes s cs = record s { changes = cs }
 
--- the capture with a piece in its signal
+-- the capture after a piece is put into its signal
 abbrev pub with_piece : Contents → PieceView → Contents
 with_piece c p = with_signal c p.signal (signal_with_changes (signal_at c p.signal) (changes_with_piece p (signal_at c p.signal).changes))
 
--- the capture with all pieces, one after another
+-- the capture after all pieces are put in, one after another
 unfoldable pub with_pieces : Contents → List PieceView → Contents
 with_pieces c [] = c
 with_pieces c (p ∷ ps) = with_pieces (with_piece c p) ps
 
 -- ---- the other parts of a record
 
--- the capture with a word as the first of a signal's name
+-- the capture after a signal's first word is replaced
 abbrev pub with_first_word : Option (ℕ × List ℕ) → Contents → Contents
 with_first_word None c = c
 with_first_word (Some w) c = with_signal c w.0 (renamed_signal w.1 (signal_at c w.0))
 
--- the signals with one put in at a position, or with the one there taken out
+-- the signals after one is put in at a position, or the one there is taken out
 abbrev pub signals_after_move : ℕ → Option SignalContents → List SignalContents → List SignalContents
 signals_after_move k (Some s) ss = insert ss k s
 signals_after_move k None ss = remove ss k
 
--- the capture with a signal put in or taken out
+-- the capture after a signal is put in or taken out
 abbrev pub with_moved_signal : Option (ℕ × Option SignalContents) → Contents → Contents
 with_moved_signal None c = c
 with_moved_signal (Some m) c = record c { signals = signals_after_move m.0 m.1 c.signals }
@@ -56,13 +56,13 @@ with_end (Some end) c = record c { end = end }
 
 -- ---- what a record makes of a capture
 
--- the pieces in their turn, then the word, the signal and the end
+-- the pieces in order, then the word, the signal and the end
 unfoldable pub apply_record : RecordView → Contents → Contents
 apply_record r c = with_end r.other_end (with_moved_signal r.signal (with_first_word r.word (with_pieces c r.pieces)))
 
 -- ---- which records fit a capture
 
--- the piece's part stands within the changes of its signal, and the later changes may move
+-- the piece's range lies within the changes of its signal, and the later changes may move
 pub record PieceFits (c : Contents) (p : PieceView) : Type 0 where
   pub signal : p.signal < length c.signals
   pub ordered : p.from ≤ p.to
@@ -74,17 +74,17 @@ abbrev pub WordFits : Contents → Option (ℕ × List ℕ) → Type 0
 WordFits c None = Unit {0}
 WordFits c (Some w) = w.0 < length c.signals
 
--- a signal to put in stands at most behind the last one, and one to take out is one of them
+-- a signal is put in at most after the last one, and taken out only where there is one
 abbrev pub MayMoveSignal : Contents → ℕ → Option SignalContents → Type 0
 MayMoveSignal c k (Some s) = k ≤ length c.signals
 MayMoveSignal c k None = k < length c.signals
 
--- where there is one to put in or take out
+-- the same for a record that may move a signal
 abbrev pub MovedSignalFits : Contents → Option (ℕ × Option SignalContents) → Type 0
 MovedSignalFits c None = Unit {0}
 MovedSignalFits c (Some m) = MayMoveSignal c m.0 m.1
 
--- each part of the record stands within the capture, and what it makes of it is sound
+-- each part of the record lies within the capture, and the result is sound
 pub record Fits (r : RecordView) (c : Contents) : Type 0 where
   pub pieces : All (PieceFits c) r.pieces
   pub word : WordFits c r.word

@@ -1,4 +1,4 @@
--- The names of the faults of an edit: the project's own.
+-- The names of the faults of an edit. They are the project's own.
 use Rattle.std.specs.Prelude.{ℕ, List, codes}
 use Rattle.vcd_edit.specs.declared.fault.EditError.{EditError}
 use Rattle.vcd_edit.specs.declared.fault.EditError.TheVariants.{NoSuchSignal, NotScalar, BadBit, BadRange, BadCount, BadValue, BadWord, NameTaken, TooManySignals, NoMemory}

@@ -1,4 +1,4 @@
--- What an accepted edit makes of a capture, as values at each tick: the project's own.
+-- What an accepted edit makes of a capture, as values at each tick. The rules are the project's own.
 use Rattle.std.specs.Prelude.{ℕ, zero, suc, ◌+◌, ◌-◌, ◌==◌, ◌&&◌, ◌||◌, nat_lt, nat_le, ℤ, pos, negsuc, ◌-ℤ◌, Bool, if◌then◌else◌, List, [], ◌∷◌, map, drop, codes}
 use Rattle.std.specs.List.{push, remove}
 use Rattle.vcd_core.specs.declared.bit.Bit.{Bit}
@@ -11,7 +11,7 @@ use Rattle.vcd_edit.specs.declared.edit.Rule.{Rule}
 use Rattle.vcd_edit.specs.declared.edit.Rule.TheVariants.{Not, And, Or, Xor, BitOf}
 use Rattle.vcd_edit.specs.Operators.{not_bit, and_bit, or_bit, xor_bit}
 
--- a signal with the value of a function at each tick up to the end
+-- a signal with the values of a function at all ticks up to the end
 abbrev pub with_values : ℕ → (ℕ → List Bit) → SignalContents → SignalContents
 with_values end f s = record s { changes = changes_of s.width end f }
 
@@ -21,15 +21,15 @@ with_wave c k f = with_signal c k (with_values c.end f (signal_at c k))
 
 -- ---- one signal
 
--- a signal with another first word of its name
+-- a signal with another first word in its name
 abbrev pub renamed_signal : List ℕ → SignalContents → SignalContents
 renamed_signal word s = record s { words = word ∷ drop 1 s.words }
 
--- the value, with `~` on each bit
+-- the value with `~` applied to each bit
 abbrev pub inverse_value : SignalContents → ℕ → List Bit
 inverse_value s t = map not_bit (signal_value s t)
 
--- the value at a tick that may lie outside: all x before tick 0, the last value past the end
+-- the value at a tick that may be outside: all x before tick 0, the last value past the end
 abbrev pub value_near : ℕ → SignalContents → ℤ → List Bit
 value_near end s (negsuc n) = all_x s.width
 value_near end s (pos u) = if nat_lt end u then signal_value s end else signal_value s u
@@ -38,34 +38,34 @@ value_near end s (pos u) = if nat_lt end u then signal_value s end else signal_v
 abbrev pub shift_value : ℕ → ℤ → SignalContents → ℕ → List Bit
 shift_value end by s t = value_near end s (pos t -ℤ by)
 
--- the value where the ticks `from` up to before `to` are cut out
+-- the value after the ticks `from` up to before `to` are cut out
 abbrev pub cut_value : ℕ → ℕ → SignalContents → ℕ → List Bit
 cut_value from to s t = if nat_lt t from then signal_value s t else signal_value s (t + (to - from))
 
--- the value where one value is forced at the ticks `from` up to before `to`
+-- the value after one value is forced at the ticks `from` up to before `to`
 abbrev pub force_value : ℕ → ℕ → List Bit → SignalContents → ℕ → List Bit
 force_value from to value s t = if nat_le from t && nat_lt t to then value else signal_value s t
 
 -- ---- runs of one value
 
--- the first tick of the run of one value that holds a tick
+-- the first tick of the run of one value that contains a tick
 unfoldable pub run_start : (ℕ → List Bit) → ℕ → ℕ
 run_start f zero = 0
 run_start f (suc t) = if same_letters (f (suc t)) (f t) then run_start f t else suc t
 
--- its last tick, where the capture has n more ticks
+-- the last tick of that run, in a capture with n more ticks
 unfoldable pub run_end : (ℕ → List Bit) → ℕ → ℕ → ℕ
 run_end f t zero = t
 run_end f t (suc n) = if same_letters (f (suc t)) (f t) then run_end f (suc t) n else t
 
--- whether the run that holds a tick holds tick 0, holds the end or has at least so many ticks
+-- whether the run that contains a tick contains tick 0 or the end, or has at least so many ticks
 abbrev pub is_steady : ℕ → ℕ → (ℕ → List Bit) → ℕ → Bool
 is_steady ticks end f t =
     let first = run_start f t in
     let last = run_end f t (end - t) in
     first == 0 || last == end || nat_le ticks (last - first + 1)
 
--- the value at the greatest steady tick not above a tick
+-- the value at the greatest steady tick up to a tick
 unfoldable pub steady_value : ℕ → ℕ → (ℕ → List Bit) → ℕ → List Bit
 steady_value ticks end f zero = f 0
 steady_value ticks end f (suc t) = if is_steady ticks end f (suc t) then f (suc t) else steady_value ticks end f t
@@ -84,7 +84,7 @@ first_operand (BitOf a k) = a
 abbrev pub signal_bit : Contents → ℕ → ℕ → ℕ → Bit
 signal_bit c a k t = letter_at (signal_value (signal_at c a) t) k
 
--- what a rule gives at a tick
+-- the bit that a rule gives at a tick
 abbrev pub rule_bit : Rule → Contents → ℕ → Bit
 rule_bit (Not a) c t = not_bit (signal_bit c a 0 t)
 rule_bit (And a b) c t = and_bit (signal_bit c a 0 t) (signal_bit c b 0 t)
@@ -104,11 +104,11 @@ derived_signal word rule c = record {
 
 -- ---- all edits
 
--- a signal with a range of ticks cut out, up to an end
+-- a signal after a range of ticks is cut out, up to an end
 abbrev pub signal_after_cut : ℕ → ℕ → ℕ → SignalContents → SignalContents
 signal_after_cut end from to s = with_values end (cut_value from to s) s
 
--- the capture with a range of ticks cut out of every signal
+-- the capture after a range of ticks is cut out of every signal
 abbrev pub cut_contents : ℕ → ℕ → Contents → Contents
 cut_contents from to c =
     let end = c.end - (to - from) in

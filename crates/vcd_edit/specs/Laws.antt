@@ -1,4 +1,4 @@
--- A law that joins the definitions: the project's own.
+-- A law that joins the definitions of this crate.
 use Rattle.std.specs.Prelude.{◌≡◌, None}
 use Rattle.vcd_core.specs.Contents.{Contents}
 use Rattle.vcd_core.specs.Sound.{IsSound}
@@ -6,6 +6,6 @@ use Rattle.vcd_edit.specs.declared.edit.Edit.{Edit}
 use Rattle.vcd_edit.specs.Effect.{effect}
 use Rattle.vcd_edit.specs.Allowed.{edit_fault}
 
--- what an edit with no fault makes of a sound capture is sound
+-- an edit with no fault keeps a sound capture sound
 abbrev pub EffectIsSound : Type 0
 EffectIsSound = (e : Edit) (c : Contents) → IsSound c → edit_fault e c ≡ None → IsSound (effect e c)

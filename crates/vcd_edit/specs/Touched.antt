@@ -1,4 +1,4 @@
--- How many changes a step touches, signal by signal: the bound of what a record stores. The project's own.
+-- How many changes a step touches in each signal: the bound on what a record stores. It is the project's own.
 use Rattle.std.specs.Prelude.{ℕ, suc, ◌+◌, ◌-◌, ◌==◌, ◌&&◌, if◌then◌else◌, ℤ, pos, ◌-ℤ◌, neg_ℤ, Bool, List, [], ◌∷◌, length, drop, map, reverse, Option, Some, None}
 use Rattle.std.specs.List.{common_prefix_len, insert, remove, sum_by}
 use Rattle.std.specs.Ordering.{int_eq}
@@ -18,31 +18,31 @@ same_change a b = (a.tick == b.tick) && same_letters a.value b.value
 abbrev pub same_lowered : ℤ → Change → Change → Bool
 same_lowered offset a b = int_eq (pos a.tick -ℤ offset) (pos b.tick) && same_letters a.value b.value
 
--- how many of the last changes of two lists are the same, the old ticks lowered
+-- how many last changes two lists have in common, the old ticks lowered
 abbrev pub common_suffix_lowered : ℤ → List Change → List Change → ℕ
 common_suffix_lowered offset old new = common_prefix_len (same_lowered offset) (reverse old) (reverse new)
 
--- the old changes without the longest common prefix, and without the longest common suffix of what remains
+-- how many old changes remain without the longest common prefix, and then without the longest common suffix
 unfoldable pub touched_count : ℤ → List Change → List Change → ℕ
 touched_count offset old new =
     let front = common_prefix_len same_change old new in
     length old - front - common_suffix_lowered offset (drop front old) (drop front new)
 
--- ---- each signal of a capture beside what it is after a step
+-- ---- each signal of a capture compared with what it is after a step
 
--- the step leaves each signal in its place, takes the one at a position out, or puts one in there
+-- the step keeps all signals in place, takes one out, or puts one in at a position
 pub data Pairing : Type 0 where
   stays : Pairing
   takes_out : ℕ → Pairing
   puts_in : ℕ → Pairing
 
--- for each signal before the step what it is after it: none where it is taken out
+-- for each signal before the step, that signal after it: none if it is taken out
 abbrev pub partners : Pairing → List SignalContents → List (Option SignalContents)
 partners stays after = map Some after
 partners (takes_out k) after = insert (map Some after) k None
 partners (puts_in k) after = map Some (remove after k)
 
--- a signal that is taken out is touched whole
+-- how many changes of a signal are touched: all of them if it is taken out
 abbrev pub touched_of : ℤ → SignalContents → Option SignalContents → ℕ
 touched_of offset s None = length s.changes
 touched_of offset s (Some n) = touched_count offset s.changes n.changes
@@ -53,19 +53,19 @@ touched_from offset k [] ns = 0
 touched_from offset k (s ∷ ss) [] = 0
 touched_from offset k (s ∷ ss) (n ∷ ns) = touched_of (offset k) s n + touched_from offset (suc k) ss ns
 
--- ---- what a revert of a record touches
+-- ---- what reverting a record touches
 
--- the opposite of the offset of the piece for a signal, and 0 where there is none
+-- the opposite of the offset of the piece for a signal, and 0 without a piece
 unfoldable pub piece_offset : List PieceView → ℕ → ℤ
 piece_offset [] k = pos 0
 piece_offset (p ∷ ps) k = if p.signal == k then neg_ℤ p.by else piece_offset ps k
 
--- the step that puts a signal in at a position, or takes the one there out
+-- the step that puts a signal in at a position, or takes out the one there
 abbrev pub pairing_of_move : ℕ → Option SignalContents → Pairing
 pairing_of_move k (Some s) = puts_in k
 pairing_of_move k None = takes_out k
 
--- the same of what a record says of a signal
+-- the same for a record that may move a signal
 abbrev pub record_pairing : Option (ℕ × Option SignalContents) → Pairing
 record_pairing None = stays
 record_pairing (Some m) = pairing_of_move m.0 m.1
@@ -76,16 +76,16 @@ touched_by_record r c = touched_from (piece_offset r.pieces) 0 c.signals (partne
 
 -- ---- what a record stores
 
--- how many changes a signal has, if there is one
+-- how many changes a signal has, 0 without a signal
 abbrev pub change_count : Option SignalContents → ℕ
 change_count None = 0
 change_count (Some s) = length s.changes
 
--- how many are in a signal to put in
+-- how many changes a signal to put in has
 abbrev pub moved_change_count : Option (ℕ × Option SignalContents) → ℕ
 moved_change_count None = 0
 moved_change_count (Some m) = change_count m.1
 
--- the changes in its pieces and in a signal to put in
+-- the changes in the pieces and in a signal to put in
 abbrev pub stored_changes : RecordView → ℕ
 stored_changes r = sum_by (λ p. length p.changes) r.pieces + moved_change_count r.signal

@@ -1,4 +1,4 @@
--- How many changes an edit touches: the bound of what its record stores. The project's own.
+-- How many changes an edit touches: the bound on what its record stores. It is the project's own.
 use Rattle.std.specs.Prelude.{ℕ, ℤ, pos, ◌-ℤ◌, neg_ℤ, length}
 use Rattle.vcd_core.specs.Contents.{Contents}
 use Rattle.vcd_edit.specs.declared.edit.Edit.{Edit}
@@ -6,7 +6,7 @@ use Rattle.vcd_edit.specs.declared.edit.Edit.TheVariants.{Remove, Shift, Cut, De
 use Rattle.vcd_edit.specs.Effect.{effect}
 use Rattle.vcd_edit.specs.Touched.{Pairing, stays, takes_out, puts_in, partners, touched_from}
 
--- by how many ticks the edit brings the later changes to an earlier tick
+-- by how many ticks the edit moves the later changes to an earlier tick
 abbrev pub edit_offset : Edit → ℤ
 edit_offset (Cut from to) = pos to -ℤ pos from
 edit_offset (Shift k by) = neg_ℤ by

@@ -1,4 +1,4 @@
-//! Edits made.
+//! How an edit is applied.
 
 ghost use Rattle.std.specs.Prelude.{◌≡◌, ◌≤◌, None, IsOk, IfOk, OnOk, IfErr, OnErr};
 ghost use Rattle.vcd_core.specs.Contents.{contents};
@@ -18,16 +18,17 @@ use crate::reverting::exchange_record;
 use std::alloc::Global;
 use vcd_core::Capture;
 
-/// Makes an edit of a capture, and gives the record that takes it back.
+/// Applies an edit to a capture, and gives the record that undoes it.
 ///
-/// An edit that has a fault, as [`check`] tells it, is refused by it, without memory; want of memory comes
-/// after every fault, and never for a remove. After any refusal the capture is as it was. The record holds touched changes alone.
+/// An edit that has a fault, as [`check`] shows it, is refused with that fault, and takes no memory. An edit without a
+/// fault is refused only if memory runs out; a remove never is. A refused edit leaves the capture as it was. The
+/// record stores touched changes only.
 ///
-/// A force and a shift take a search by halves, the changes that they put in and take out, and one move of
-/// the later ones, a cut that in every signal with changes from its first tick on. An invert, a deglitch, and
-/// a shift that pushes changes out past the end take one pass over the wave and a list of its changes aside,
-/// and a derive one merged pass over its operands. A signal that shares its list with others, as variables of
-/// one code do, gets a list of its own: a copy of each change that it keeps.
+/// A force and a shift cost a binary search, the changes that they put in and take out, and one move of the later
+/// ones. A cut costs that for every signal with changes from its first tick on. An invert, a deglitch, and a shift
+/// that pushes changes past the end cost one pass over the wave and a new list of its changes. A derive costs one
+/// merged pass over its operands. Variables of one code share their list of changes. A signal that shares its list
+/// gets one of its own: a copy of each change that it keeps.
 pub fn apply(alloc: Global, capture: &mut Capture, edit: &Edit) -> Result<Record, EditError>
     requires { IsSound (contents capture.old) }
     ensures allowed { OnOk result (edit_fault edit.now (contents capture.old) ≡ None) }

@@ -16,11 +16,10 @@ use new_names::{check_derive, check_rename};
 use vcd_core::{Capture, Value};
 
 #[tactic(auto, unfolding(crate::specs::Allowed::edit_fault))]
-/// Tells which fault an edit has on a capture, where it has one: the first that holds, in the order of
-/// [`EditError`].
+/// The fault of an edit on a capture: the first that holds, in the order of [`EditError`].
 ///
-/// It takes no memory. Its time grows with the signals and their names where the edit gives a name, else
-/// it is bounded.
+/// It takes no memory. Its time grows with the signals and their names if the edit gives a name; otherwise it is
+/// bounded.
 pub fn check(capture: &Capture, edit: &Edit) -> Result<(), EditError>
     ensures { FaultIs result (edit_fault edit.now (contents capture.now)) }
 {

@@ -6,8 +6,8 @@ use vcd_core::Value;
 
 /// A change to a capture.
 ///
-/// Signals are positions in the capture, counted from 0. The other numbers of these variants are ticks, and a
-/// range of ticks has `from` and not `to`.
+/// A signal is named by its position in the capture, counted from 0. The other numbers of these variants are ticks. A
+/// range of ticks contains `from` and not `to`.
 #[derive(Clone, Copy, Debug, PartialEq)]
 pub enum Edit<'a> {
     /// The first word of the signal's name becomes `word`.
@@ -15,7 +15,7 @@ pub enum Edit<'a> {
         signal: usize,
         word: &'a [u8],
     },
-    /// The signal is taken out; later ones move up.
+    /// The signal is taken out; later signals move up.
     Remove {
         signal: usize,
     },
@@ -23,19 +23,19 @@ pub enum Edit<'a> {
     Invert {
         signal: usize,
     },
-    /// The signal comes `by` ticks later, or earlier where `by` is negative. What comes in before tick 0 is
-    /// x, what comes in past the end is the last value.
+    /// The signal is delayed by `by` ticks, or advanced if `by` is negative. The values that come in are x before tick
+    /// 0, and the last value past the end.
     Shift {
         signal: usize,
         by: i64,
     },
-    /// The ticks `from` up to before `to` are cut out of every signal, and the end comes as much earlier.
+    /// The ticks `from` up to before `to` are cut out of every signal, and the end is that much earlier.
     Cut {
         from: u64,
         to: u64,
     },
-    /// Runs of one value of fewer than `ticks` ticks, those at tick 0 and at the end aside, take the value of
-    /// the run before them that is none of these.
+    /// Runs of one value of fewer than `ticks` ticks take the value of the last longer run before them. Runs that
+    /// contain tick 0 or the end count as longer ones.
     Deglitch {
         signal: usize,
         ticks: u64,
@@ -47,16 +47,16 @@ pub enum Edit<'a> {
         to: u64,
         value: Value,
     },
-    /// A new last signal of one bit and the kind `wire`, in the scopes of the rule's first operand, with
-    /// `word` as its name. Its values are those of the rule at each tick.
+    /// A new last signal of one bit and the kind `wire`, in the scopes of the rule's first operand, with `word` as its
+    /// name. Its value at each tick is that of the rule.
     Derive {
         word: &'a [u8],
         rule: Rule,
     },
 }
 
-/// What a derived signal is made of. Operands are positions of signals, of one bit each except that of
-/// `BitOf`; the operators are those of IEEE 1364-2005, 5.1.10.
+/// How a derived signal is computed. Operands are positions of signals, of one bit each except for `BitOf`. The
+/// operators are those of IEEE 1364-2005, 5.1.10.
 #[derive(Clone, Copy, Debug, PartialEq, Eq)]
 pub enum Rule {
     /// `~ a`.
@@ -67,13 +67,13 @@ pub enum Rule {
     Or(usize, usize),
     /// `a ^ b`.
     Xor(usize, usize),
-    /// The bit of the signal at the first position that the second number counts to, from the least
-    /// significant end.
+    /// The second number selects a bit of the signal at the first position. Bits count from 0, the least significant
+    /// one.
     BitOf(usize, u64),
 }
 
 impl Rule {
-    /// The position of the last operand: the first where there is one alone.
+    /// The position of the last operand, which may be the only one.
     pub(crate) fn last_operand(self) -> usize
         ensures { result ≡ last_operand self }
     {

@@ -1,4 +1,4 @@
-//! What each edit asks for: a record that leads to its effect. Nothing is written here.
+//! What each edit does, as a record. Nothing is changed here.
 
 ghost use Rattle.std.specs.Prelude.{◌≡◌, [], None, IsOk, IfOk};
 ghost use Rattle.vcd_core.specs.Contents.{contents};
@@ -24,7 +24,7 @@ use crate::record::Record;
 use std::alloc::Global;
 use vcd_core::{Capture, NoMemory};
 
-/// The record that leads to the effect of an edit.
+/// The record whose result is the effect of an edit.
 pub(crate) fn plan(alloc: Global, capture: &Capture, edit: &Edit) -> Result<Record, NoMemory>
     requires sound { IsSound (contents capture.now) }
     requires allowed { edit_fault edit.now (contents capture.now) ≡ None }

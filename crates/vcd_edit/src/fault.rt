@@ -1,4 +1,4 @@
-//! Why an edit is refused.
+//! The faults by which an edit is refused.
 
 ghost use Rattle.std.specs.Prelude.{◌≡◌};
 ghost use Rattle.vcd_edit.specs.EditErrorNames.{edit_error_name};
@@ -8,7 +8,7 @@ use thiserror::Error;
 
 /// Why an edit is refused.
 ///
-/// The first nine are decided in this order. The names are the project's own.
+/// The first nine are tested in this order. The names are the project's own.
 #[derive(Clone, Copy, Debug, PartialEq, Eq, Error)]
 pub enum EditError {
     /// A position is not below the number of signals.
@@ -17,7 +17,7 @@ pub enum EditError {
     /// An operand of a logical operator is wider than one bit.
     #[error("NotScalar")]
     NotScalar,
-    /// A bit is not below the width of its signal.
+    /// A bit number is not below the width of its signal.
     #[error("BadBit")]
     BadBit,
     /// A range of ticks is empty or goes past the end.
@@ -32,10 +32,10 @@ pub enum EditError {
     /// A name is empty, has white space or is `$end`.
     #[error("BadWord")]
     BadWord,
-    /// Another signal already has the full name that would arise.
+    /// Another signal already has the new full name.
     #[error("NameTaken")]
     NameTaken,
-    /// There are as many signals as a capture may have.
+    /// The capture already has the most signals allowed.
     #[error("TooManySignals")]
     TooManySignals,
     /// Memory was refused.

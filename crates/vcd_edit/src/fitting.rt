@@ -16,8 +16,8 @@ use pieces::pieces_fit;
 use sound_names::{are_others_sound, are_sound, is_sound_with_word};
 use vcd_core::{Capture, END_LIMIT, SIGNAL_LIMIT, Signal};
 
-/// Whether a word may be the first of the name of the signal at a position, and all signals are then sound
-/// up to an end.
+/// Whether a word may be the first word of the name of the signal at a position, and all signals are then sound up to
+/// an end.
 fn may_be_renamed(signal: usize, word: &[u8], signals: &[Signal], end: u64) -> bool
     ensures { (c : Contents) → c.signals ≡ map signal_contents signals.now
         → IsTrue result ↔ ((signal < length c.signals)
@@ -51,7 +51,7 @@ fn may_be_taken_out(at: usize, signals: &[Signal], end: u64) -> bool
     are_others_sound(signals, at, end)
 }
 
-/// Whether a signal may be put in at a position, or the one there taken out where there is none to put in.
+/// Whether a signal may be put in at a position, or, without one, the signal there may be taken out.
 fn move_fits(at: usize, signal: &Option<Signal>, signals: &[Signal], end: u64) -> bool
     ensures { (c : Contents) → c.signals ≡ map signal_contents signals.now
         → IsTrue result ↔ (MayMoveSignal c at (contents_of_signal signal.now)
@@ -64,8 +64,8 @@ fn move_fits(at: usize, signal: &Option<Signal>, signals: &[Signal], end: u64) -
     }
 }
 
-/// Whether the parts of a record stand within a capture, and the signals that it makes are sound up to an
-/// end. A record has pieces, or a word, or a signal to put in or take out.
+/// Whether the parts of a record lie within a capture, and the resulting signals are sound up to an end. A record has
+/// pieces, or a word, or a signal to put in or take out.
 fn parts_fit(
     pieces: &[Piece],
     word: &Option<(usize, Vec<u8>)>,
@@ -87,7 +87,7 @@ fn parts_fit(
     }
 }
 
-/// Whether a capture is sound but for its signals and its end, and so is another end.
+/// Whether a capture, apart from its signals, is sound with its own end and with another one.
 fn is_metadata_sound(capture: &Capture, end: u64) -> bool
     ensures { IsTrue result ↔ HasSoundMetadata end (contents capture.now) }
 {
@@ -95,11 +95,10 @@ fn is_metadata_sound(capture: &Capture, end: u64) -> bool
 }
 
 impl Record {
-    /// Whether the record fits a capture: its parts stand within it, and the capture that it leads to is
-    /// sound.
+    /// Whether the record fits a capture: its parts lie within it, and the resulting capture is sound.
     ///
-    /// It takes no memory. Its time grows with the words and the signals of the capture and with the
-    /// changes in the pieces, not with those of the waves.
+    /// It takes no memory. Its time grows with the words and the signals of the capture and with the changes in the
+    /// pieces, but not with the changes of the waves.
     pub fn fits(&self, capture: &Capture) -> bool
         ensures { IsTrue result ↔ Fits self.now (contents capture.now) }
     {

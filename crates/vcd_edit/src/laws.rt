@@ -1,8 +1,8 @@
-//! A law about the definitions, as the contract of a function that does nothing.
+//! A law that joins the definitions, as the contract of a function that does nothing.
 
 ghost use Rattle.vcd_edit.specs.Laws.{EffectIsSound};
 
-/// What an edit with no fault makes of a sound capture is sound.
+/// An edit with no fault keeps a sound capture sound.
 pub fn effect_is_sound()
     ensures { EffectIsSound }
 {}

@@ -1,7 +1,7 @@
-//! Edits of a capture: which fault an edit has, what it makes of the capture, and the record that takes it back.
+//! Edits of a capture: the fault of an edit, its effect, and the record that undoes it.
 //!
-//! An [`Edit`] either has a fault, the first of nine, or is applied whole. The answer is then a record that
-//! leads back, and that holds the touched changes alone.
+//! An [`Edit`] either has a fault, the first of nine, or is applied as a whole. The answer is then a record that
+//! undoes the edit and stores touched changes only.
 #![tactic(auto)]
 
 mod applying;

@@ -1,4 +1,4 @@
-//! How the pieces of a record and parts of a capture's waves change places.
+//! How the pieces of a record are exchanged with ranges of a capture's waves.
 
 mod adjacency;
 mod exchanges;

@@ -9,8 +9,8 @@ use vcd_core::{Change, Signal};
 #[cfg(test)]
 mod tests;
 
-/// A part of a signal's changes that gives way to others: those at positions `from` up to before `to` become
-/// `changes`, and the later ones move by `by` ticks.
+/// A replacement for a range of a signal's changes. Those at positions `from` up to before `to` become `changes`, and
+/// the later ones move by `by` ticks.
 #[derive(Drop)]
 pub struct Piece {
     pub(crate) signal: usize,
@@ -20,11 +20,11 @@ pub struct Piece {
     pub(crate) by: i64,
 }
 
-/// What leads from one capture to another: pieces of waves, and where the step needs them a word that begins
-/// a signal's name, a signal to put in (or none, to take one out), and another end.
+/// A patch from one capture to another: pieces of waves and, if the step needs them, a new first word of a signal's
+/// name, a signal to put in (or none, to take one out), and another end.
 ///
-/// Each signal has at most one piece. A record with a word has no pieces, and one with a signal to put in or
-/// take out has neither. Contracts see a record as plain data.
+/// Each signal has at most one piece. A record with a word has no pieces, and one with a signal to put in or take out
+/// has neither. Contracts see a record as plain data.
 #[derive(Drop)]
 pub struct Record {
     pub(crate) pieces: Vec<Piece>,

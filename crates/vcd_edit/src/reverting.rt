@@ -1,4 +1,4 @@
-//! How a capture and a record change places.
+//! How a record is exchanged with a capture.
 
 ghost use Rattle.std.specs.Prelude.{◌≡◌, ℕ, ◌≤◌, [], None, neg_ℤ, All, IsOk, IfOk, OnOk, OnErr, IfErr};
 ghost use Rattle.vcd_core.specs.Contents.{contents};
@@ -15,14 +15,14 @@ use parts::{exchange_end, exchange_signal, exchange_word};
 use std::alloc::Global;
 use vcd_core::Capture;
 
-/// A record that led nowhere for want of memory, as it was.
+/// A record that was not applied because memory ran out, as it was.
 #[derive(Drop)]
 pub struct Kept {
     pub held: Record,
 }
 
-/// The capture becomes what the record makes of it, and the parts that gave way become the record that goes
-/// the other way. Every growth comes before the first change.
+/// Applies the record to the capture. The replaced parts become the record of the opposite step. All memory is
+/// reserved before the first change.
 pub(crate) fn exchange_record(
     alloc: Global,
     capture: &mut Capture,
@@ -76,15 +76,15 @@ pub(crate) fn exchange_record(
     }
 }
 
-/// Makes of the capture what the record leads to, and gives the record that goes the other way.
+/// Applies the record to the capture, and gives the record that undoes this.
 ///
-/// That record leads back to the capture as it was, fits, and stores touched changes alone: of each signal
-/// that has a piece, those that the step takes away or moves otherwise than the piece says, and a signal
-/// that is taken out whole. The one refusal is want of memory, never for a record with neither pieces nor a
-/// signal to put in; the record then comes back, and the capture is as it was.
+/// That record fits, restores the capture, and stores touched changes only. In a signal with a piece, these are the
+/// changes that the step takes away or moves by another number of ticks than the piece. In a signal that is taken out,
+/// they are all changes. The only refusal is out of memory, and never for a record with neither pieces nor a signal to
+/// put in. The record then comes back in [`Kept`], and the capture is as it was.
 ///
-/// The cost is the pieces, their parts, and for each piece one move of its signal's later changes; and one
-/// move of the later signals where a signal is put in or taken out.
+/// The cost is the pieces, their ranges, and for each piece one move of its signal's later changes. A signal that is
+/// put in or taken out costs one move of the later signals.
 pub fn revert(alloc: Global, capture: &mut Capture, way: Record) -> Result<Record, Kept>
     requires fits { Fits way (contents capture.old) }
     requires sound { IsSound (contents capture.old) }

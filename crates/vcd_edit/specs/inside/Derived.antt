@@ -12,7 +12,7 @@ use Rattle.vcd_edit.specs.declared.edit.Rule.TheVariants.{Not, And, Or, Xor, Bit
 use Rattle.vcd_edit.specs.Operators.{not_bit, and_bit, or_bit, xor_bit}
 use Rattle.vcd_edit.specs.inside.Thinned.{TicksRise}
 
--- the position of a rule's last operand: the first where there is one alone
+-- the position of a rule's last operand, which may be the only one
 abbrev pub last_operand : Rule → ℕ
 last_operand (Not a) = a
 last_operand (And a b) = b
@@ -20,7 +20,7 @@ last_operand (Or a b) = b
 last_operand (Xor a b) = b
 last_operand (BitOf a k) = a
 
--- what a rule gives for the values of its first and its last operand
+-- the bit that a rule gives for the values of its first and its last operand
 abbrev pub operator_bit : Rule → List Bit → List Bit → Bit
 operator_bit (Not a) v w = not_bit (letter_at v 0)
 operator_bit (And a b) v w = and_bit (letter_at v 0) (letter_at w 0)
@@ -36,7 +36,7 @@ has_two_operands (Or a b) = true
 has_two_operands (Xor a b) = true
 has_two_operands (BitOf a k) = false
 
--- what an operator gives for one bit of each operand
+-- the bit that an operator gives for one bit of each operand
 abbrev pub bit_of_two : Rule → Bit → Bit → Bit
 bit_of_two (Not a) x y = not_bit x
 bit_of_two (And a b) x y = and_bit x y
@@ -44,7 +44,7 @@ bit_of_two (Or a b) x y = or_bit x y
 bit_of_two (Xor a b) x y = xor_bit x y
 bit_of_two (BitOf a k) x y = x
 
--- what it gives for the bits at an edge
+-- the bit that it gives for the bits at an edge
 abbrev pub edge_bit : Rule → List (Option Bit) → Bit
 edge_bit rule (Some x ∷ Some y ∷ others) = bit_of_two rule x y
 edge_bit rule bits = X
@@ -53,11 +53,11 @@ edge_bit rule bits = X
 abbrev pub edge_change : Rule → BitEdge → Change
 edge_change rule e = change e.tick (edge_bit rule e.at ∷ [])
 
--- and at a change of its one operand
+-- the change of the derived signal at a change of its one operand
 abbrev pub operand_change : Rule → Change → Change
 operand_change rule c = change c.tick (operator_bit rule c.value c.value ∷ [])
 
--- the wave and the changes that are left give the values of all of them
+-- the changes of the wave, followed by the changes that remain, give the values of all changes
 pub record IsMade (all left : List Change) (w : WaveView) : Type 0 where
   pub width : w.width ≡ 1
   pub values : (t : ℕ) → value_from (value_at 1 w.changes t) left t ≡ value_from (all_x 1) all t

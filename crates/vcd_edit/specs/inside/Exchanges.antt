@@ -1,4 +1,4 @@
--- How pieces and parts of waves change places: what is asked, and what then leads back.
+-- How a piece and a range of a wave are exchanged: what must hold before, and what holds after.
 use Rattle.std.specs.Prelude.{◌≡◌, ℕ, ◌+◌, ◌-◌, ◌^◌, ◌<◌, ◌≤◌, neg_ℤ, List, [], ◌∷◌, length, take, drop, map}
 use Rattle.std.specs.Prelude.{slice_index_or, All, vec_len, vec_capacity}
 use Rattle.vcd_core.specs.declared.wave.Change.{Change}
@@ -16,7 +16,7 @@ use Rattle.vcd_edit.specs.Touched.{touched_count}
 
 -- ---- one wave
 
--- a piece may take its place in the changes of a wave
+-- a piece may be put into the changes of a wave
 pub record PieceReady (width : ℕ) (cs : List Change) (p : PieceView) : Type 0 where
   pub ordered : p.from ≤ p.to
   pub within : p.to ≤ length cs
@@ -25,7 +25,7 @@ pub record PieceReady (width : ℕ) (cs : List Change) (p : PieceView) : Type 0 
   pub small : All (λ c. c.tick < 2 ^ 64) p.changes
   pub upto : All (λ c. c.tick ≤ END_LIMIT) cs
 
--- the second piece leads back from what the first makes of a list, and has touched changes alone
+-- the second piece undoes the first one on a list, and stores touched changes only
 pub record IsInversePiece (cs : List Change) (p q : PieceView) : Type 0 where
   pub signal : q.signal ≡ p.signal
   pub ordered : q.from ≤ q.to
@@ -36,12 +36,12 @@ pub record IsInversePiece (cs : List Change) (p q : PieceView) : Type 0 where
 
 -- ---- a capture
 
--- a piece may take its place in its signal
+-- a piece may be put into its signal
 pub record PieceReadyIn (c : Contents) (p : PieceView) : Type 0 where
   pub signal : p.signal < length c.signals
   pub ready : PieceReady (signal_at c p.signal).width (signal_at c p.signal).changes p
 
--- the pieces of the second list lead back, each from what that of the first makes, one after another
+-- the pieces of the second list undo those of the first, one after another
 abbrev pub AreInversePieces : Contents → List PieceView → List PieceView → Type 0
 AreInversePieces c [] [] = Unit {0}
 AreInversePieces c [] (q ∷ qs) = ⊥
@@ -51,7 +51,7 @@ AreInversePieces c (p ∷ ps) (q ∷ qs) = (p.signal < length c.signals) × IsIn
 
 -- ---- room
 
--- stands for a wave where there is none
+-- the wave used if there is none
 abbrev pub no_wave : WaveView
 no_wave = record { width = 1; changes = []; room = 0; splice_room = 0 }
 
@@ -64,21 +64,21 @@ pub record HasNoLessRoom (old new : WaveView) : Type 0 where
   pub count : length new.changes ≡ length old.changes
   pub room : old.splice_room ≤ new.splice_room
 
--- a piece and its wave have the room for what the other gives
+-- a piece and its wave have room for each other's changes
 pub record HasRoomForPiece (ss : List Signal) (p : Piece) : Type 0 where
   pub wave : length (wave_at ss p.signal).changes + vec_len p.changes < (wave_at ss p.signal).splice_room
       + (p.to - p.from)
   pub piece : p.to - p.from ≤ vec_capacity p.changes
 
--- ---- how far the pieces have come
+-- ---- the exchange so far
 
--- room was made for the first i pieces; the later ones are as at first
+-- room was made for the first i pieces; the later ones are unchanged
 pub record ReservedSoFar (old : List Piece) (i : ℕ) (new : List Piece) (ss : List Signal) : Type 0 where
   pub rest : drop i new ≡ drop i old
   pub same : map piece_view new ≡ map piece_view old
   pub room : All (HasRoomForPiece ss) (take i new)
 
--- the first i pieces were put in and now lead back, and the later ones are as at first, and ready
+-- the first i pieces were put in and now undo that; the later ones are unchanged, and ready
 pub record PutSoFar (before : Contents) (old : List Piece) (i : ℕ) (new : List Piece) (now : Contents)
     (ss : List Signal) : Type 0 where
   pub rest : drop i new ≡ drop i old

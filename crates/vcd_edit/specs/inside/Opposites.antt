@@ -1,4 +1,4 @@
--- What a capture gives back into a record: the parts that gave way.
+-- The parts of a capture that a record replaces: they make the record for the opposite step.
 use Rattle.std.specs.Prelude.{◌≡◌, ℕ, ◌<◌, ◌≤◌, neg_ℤ, ℤ, All, length, List, [], reverse, slice_index_or, Option, Some}
 use Rattle.std.specs.Prelude.{None}
 use Rattle.vcd_core.specs.Contents.{Contents, SignalContents, signal_at}
@@ -6,27 +6,27 @@ use Rattle.vcd_edit.specs.RecordView.{PieceView, RecordView}
 use Rattle.vcd_edit.specs.AppliedRecords.{apply_record, Fits}
 use Rattle.vcd_edit.specs.Touched.{touched_from, partners, record_pairing, stored_changes}
 
--- the word that was the first of the signal's name
+-- the old first word of the signal's name
 abbrev pub opposite_word : Option (ℕ × List ℕ) → Contents → Option (ℕ × List ℕ)
 opposite_word None c = None
 opposite_word (Some w) c = Some (w.0, slice_index_or (signal_at c w.0).words 0 [])
 
--- the signal that was taken out, or none where one was put in
+-- the signal that was taken out, or none if one was put in
 abbrev pub opposite_partner : ℕ → Option SignalContents → Contents → Option SignalContents
 opposite_partner k (Some s) c = None
 opposite_partner k None c = Some (signal_at c k)
 
--- with its position
+-- the same with its position
 abbrev pub opposite_move : Option (ℕ × Option SignalContents) → Contents → Option (ℕ × Option SignalContents)
 opposite_move None c = None
 opposite_move (Some m) c = Some (m.0, opposite_partner m.0 m.1 c)
 
--- the end that there was
+-- the old end
 abbrev pub opposite_end : Option ℕ → Contents → Option ℕ
 opposite_end None c = None
 opposite_end (Some end) c = Some c.end
 
--- the record that goes the other way, its pieces being those that lead back, the last one first
+-- the record of the opposite step: its pieces are the inverse ones, the last one first
 abbrev pub opposite_record : RecordView → List PieceView → Contents → RecordView
 opposite_record r qs c = record {
   pieces = reverse qs;
@@ -39,13 +39,13 @@ opposite_record r qs c = record {
 abbrev pub AreNamed : Contents → Type 0
 AreNamed c = (k : ℕ) → k < length c.signals → 0 < length (signal_at c k).words
 
--- so has the signal that a word is for
+-- the signal that a word is for has a name
 abbrev pub IsNamedAt : Contents → Option (ℕ × List ℕ) → Type 0
 IsNamedAt c None = Unit {0}
 IsNamedAt c (Some w) = 0 < length (signal_at c w.0).words
 
--- the second record leads back from what the first makes of a capture, and stores no more than the first touches,
--- where each signal's offset is the opposite of its piece's
+-- the second record undoes the first one on a capture, and stores no more than that one touches; the offset of each
+-- signal is the opposite of its piece's
 pub record IsInverse (c : Contents) (r q : RecordView) : Type 0 where
   pub fits : Fits q (apply_record r c)
   pub leads : apply_record q (apply_record r c) ≡ c

@@ -1,4 +1,4 @@
--- What a plan of an edit is: a record that leads forth.
+-- What a plan of an edit is: a record whose result is the effect of the edit.
 use Rattle.std.specs.Prelude.{◌≡◌, ℕ, ℤ, neg_ℤ, ◌<◌, List, ◌++◌, map, take, drop, All}
 use Rattle.vcd_core.specs.declared.bit.Bit.{Bit}
 use Rattle.vcd_core.specs.Contents.{Contents, SignalContents}
@@ -12,20 +12,20 @@ use Rattle.vcd_edit.specs.AppliedRecords.{with_pieces, apply_record, PieceFits, 
 use Rattle.vcd_edit.specs.inside.Ranges.{LeadsTo}
 use Rattle.vcd_edit.specs.inside.Records.{piece_view}
 
--- a record that leads from a capture to what an edit makes of it
+-- the record changes a capture into the effect of an edit on it
 pub record IsPlan (e : Edit) (c : Contents) (r : RecordView) : Type 0 where
   pub fits : Fits r c
   pub leads : apply_record r c ≡ effect e c
   pub offset : All (λ p. edit_offset e ≡ neg_ℤ p.by) r.pieces
   pub pairing : record_pairing r.signal ≡ edit_pairing e c
 
--- the piece of the signal at a position, which gives it the values of a function up to an end, with an offset
+-- the piece gives the signal at a position the values of a function up to an end, with an offset
 pub record GivesValues (k : ℕ) (s : SignalContents) (end : ℕ) (by : ℤ) (f : ℕ → List Bit) (p : Piece) : Type 0 where
   pub signal : p.signal ≡ k
   pub moves : p.by ≡ by
   pub leads : LeadsTo (piece_view p) s.changes s.width end f
 
--- pieces for the first n signals of a capture at most, which lead to g on each of these, all with one offset
+-- pieces for at most the first n signals of a capture change each of these by g, all with one offset
 pub record LeadEach (c : Contents) (by : ℤ) (g : SignalContents → SignalContents) (n : ℕ) (ps : List PieceView) : Type 0
   where
     pub led : with_pieces c ps ≡ record c { signals = map g (take n c.signals) ++ drop n c.signals }

@@ -8,7 +8,7 @@ use Rattle.vcd_core.specs.Splice.{AllTicksFit}
 use Rattle.vcd_edit.specs.RecordView.{PieceView}
 use Rattle.vcd_edit.specs.AppliedRecords.{changes_with_piece}
 
--- the value at the tick before: all x before tick 0
+-- the value one tick earlier: all x before tick 0
 abbrev pub value_just_before : ℕ → (ℕ → List Bit) → ℕ → List Bit
 value_just_before width f zero = all_x width
 value_just_before width f (suc t) = f t
@@ -17,7 +17,7 @@ value_just_before width f (suc t) = f t
 abbrev pub changes_in : ℕ → (ℕ → List Bit) → ℕ → ℕ → List Change
 changes_in width f t n = changes_from (value_just_before width f t) t n f
 
--- a piece that makes of a list the changes of f from tick 0 to `stop`
+-- a piece that changes a list into the changes of f from tick 0 to `stop`
 pub record LeadsTo (p : PieceView) (cs : List Change) (width stop : ℕ) (f : ℕ → List Bit) : Type 0 where
   pub ordered : p.from ≤ p.to
   pub within : p.to ≤ length cs

@@ -6,21 +6,21 @@ use Rattle.vcd_core.specs.Contents.{SignalContents, signal_contents}
 use Rattle.vcd_edit.specs.declared.record.Piece.{Piece}
 use Rattle.vcd_edit.specs.RecordView.{PieceView, RecordView}
 
--- a piece by its numbers and its changes
+-- the numbers and changes of a piece
 abbrev pub piece_view : Piece → PieceView
 piece_view p = record { signal = p.signal; from = p.from; to = p.to; changes = p.changes.items; by = p.by }
 
--- a word with its position, as its bytes
+-- a word as its bytes, with its position
 abbrev pub word_view : Option (ℕ × Vec ℕ) → Option (ℕ × List ℕ)
 word_view None = None
 word_view (Some w) = Some (w.0, w.1.items)
 
--- what a signal holds, if there is one
+-- the contents of a signal, if there is one
 abbrev pub contents_of_signal : Option Signal → Option SignalContents
 contents_of_signal None = None
 contents_of_signal (Some s) = Some (signal_contents s)
 
--- with its position
+-- the same with its position
 abbrev pub moved_signal_view : Option (ℕ × Option Signal) → Option (ℕ × Option SignalContents)
 moved_signal_view None = None
 moved_signal_view (Some m) = Some (m.0, contents_of_signal m.1)

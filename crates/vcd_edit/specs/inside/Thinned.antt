@@ -1,4 +1,4 @@
--- Changes of which only those count that change the value.
+-- Changes without those that leave the value as it is.
 use Rattle.std.specs.Prelude.{ℕ, Bool, ◌==◌, ◌||◌, ◌&&◌, not, ◌-◌, ◌+◌, ◌≤◌, ◌≡◌, length, true, if◌then◌else◌, nat_le}
 use Rattle.std.specs.Prelude.{List, [], ◌∷◌}
 use Rattle.vcd_core.specs.declared.bit.Bit.{Bit}
@@ -11,7 +11,7 @@ abbrev pub TicksRise : ℕ → ℕ → List Change → Type 0
 TicksRise width floor [] = Unit {0}
 TicksRise width floor (c ∷ cs) = (floor ≤ c.tick) × (length c.value ≡ width) × TicksRise width (c.tick + 1) cs
 
--- each change whose value is another than the one before it
+-- each change whose value differs from the one before it
 unfoldable pub thinned_list : List Bit → List Change → List Change
 thinned_list before [] = []
 thinned_list before (c ∷ cs) = unless_same (same_letters c.value before) c (thinned_list c.value cs)
@@ -20,7 +20,7 @@ thinned_list before (c ∷ cs) = unless_same (same_letters c.value before) c (th
 abbrev pub with_value : (List Bit → List Bit) → Change → Change
 with_value h c = change c.tick (h c.value)
 
--- whether the run of one value that begins with a change holds tick 0, or the end, or at least so many ticks
+-- whether the run of one value that begins with a change contains tick 0 or the end, or has enough ticks
 abbrev pub begins_steady : ℕ → Change → List Change → Bool
 begins_steady ticks c [] = true
 begins_steady ticks c (next ∷ cs) = c.tick == 0 || nat_le ticks (next.tick - c.tick)
@@ -31,11 +31,11 @@ steady_changes ticks [] = []
 steady_changes ticks (c ∷ cs) =
     if begins_steady ticks c cs then c ∷ steady_changes ticks cs else steady_changes ticks cs
 
--- whether a change begins such a run, and its value is another than the one that is left before it
+-- whether a change begins such a run, and its value differs from the last one kept
 abbrev pub is_kept : ℕ → List Bit → Change → List Change → Bool
 is_kept ticks before c later = begins_steady ticks c later && not (same_letters c.value before)
 
--- the changes that are left when short runs are taken out, behind a value
+-- the changes after a value that remain when short runs are taken out
 unfoldable pub kept_changes : ℕ → List Bit → List Change → List Change
 kept_changes ticks before [] = []
 kept_changes ticks before (c ∷ cs) =

@@ -1,4 +1,4 @@
--- A piece without what stands in the list already.
+-- A piece without the changes that its list already has.
 use Rattle.std.specs.Prelude.{◌≡◌, ◌+◌, ◌-◌, ◌≤◌, neg_ℤ, List, length, drop}
 use Rattle.vcd_core.specs.declared.wave.Change.{Change}
 use Rattle.vcd_core.specs.Splice.{AllTicksFit}
@@ -6,7 +6,7 @@ use Rattle.vcd_edit.specs.RecordView.{PieceView}
 use Rattle.vcd_edit.specs.AppliedRecords.{changes_with_piece}
 use Rattle.vcd_edit.specs.Touched.{touched_count}
 
--- the new piece makes of the list what the old one makes of it, and takes the place of touched changes alone
+-- the new piece gives the same list as the old one, and replaces touched changes only
 pub record IsTrimmed (cs : List Change) (old new : PieceView) : Type 0 where
   pub signal : new.signal ≡ old.signal
   pub by : new.by ≡ old.by

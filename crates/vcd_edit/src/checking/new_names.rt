@@ -1,4 +1,4 @@
-//! Which fault a name has that an edit gives.
+//! The faults of a name that an edit gives.
 
 ghost use Rattle.std.specs.Prelude.{◌≡◌, ◌<◌, false, map, drop, length, slice_index_or};
 ghost use Rattle.std.specs.List.{list_any, remove};
@@ -32,7 +32,7 @@ pub(crate) fn check_rename(capture: &Capture, signal: usize, word: &[u8]) -> Res
     Ok(())
 }
 
-/// Whether another signal already has the full name that would arise.
+/// Whether another signal already has the new full name.
 fn is_name_taken(signals: &[Signal], signal: usize, word: &[u8]) -> bool
     requires { signal < length signals.now }
     ensures { result ≡ list_any
@@ -46,7 +46,7 @@ fn is_name_taken(signals: &[Signal], signal: usize, word: &[u8]) -> bool
     name.is_taken(&signals[..signal]) || name.is_taken(&signals[signal + 1..])
 }
 
-/// The words of a name but the first.
+/// The words of a name after the first.
 pub(crate) fn after_first(words: &[Word]) -> &[Word]
     ensures { result.now ≡ drop 1 words.now }
 {
@@ -73,7 +73,7 @@ pub(crate) fn check_derive(capture: &Capture, word: &[u8], rule: Rule) -> Result
     Ok(())
 }
 
-/// Whether a signal already has the full name that would arise.
+/// Whether a signal already has the full name of the derived one.
 fn is_derived_name_taken(capture: &Capture, word: &[u8], rule: Rule) -> bool
     requires { lacks_operand rule (contents capture.now) ≡ false }
     ensures { result ≡ takes_name (edits.Derive word.entry rule) (contents capture.now) }

@@ -1,4 +1,4 @@
-//! Which fault the operands of a rule have.
+//! The faults of the operands of a rule.
 
 ghost use Rattle.std.specs.Prelude.{◌∷◌, ◌||◌, nat_le, []};
 ghost use Rattle.vcd_core.specs.Contents.{contents, signal_at};
@@ -9,7 +9,7 @@ use crate::edit::Rule;
 use crate::fault::EditError;
 use vcd_core::Capture;
 
-/// Whether the operands of a rule are there, of one bit where they have to be, and have the bit.
+/// Whether the operands of a rule exist, have one bit where they must, and have the bit that it names.
 pub(crate) fn check_operands(capture: &Capture, rule: Rule) -> Result<(), EditError>
     ensures { FaultIs result (first_fault (
         (lacks_operand rule (contents capture.now), errors.NoSuchSignal)

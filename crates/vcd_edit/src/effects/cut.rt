@@ -14,7 +14,7 @@ use crate::record::{Piece, Record};
 use std::alloc::Global;
 use vcd_core::{Capture, END_LIMIT, NoMemory, Signal, Wave};
 
-/// The record of a piece for each signal that has changes from the first tick on that is cut out.
+/// The record with a piece for each signal that has changes at or after the first tick cut out.
 pub(crate) fn plan(alloc: Global, capture: &Capture, from: u64, to: u64) -> Result<Record, NoMemory>
     requires sound { IsSound (contents capture.now) }
     requires allowed { edit_fault (edits.Cut from to) (contents capture.now) ≡ None }
@@ -29,7 +29,7 @@ pub(crate) fn plan(alloc: Global, capture: &Capture, from: u64, to: u64) -> Resu
     })
 }
 
-/// The pieces of the signals with changes from `from` on.
+/// The pieces of the signals with changes at or after `from`.
 fn cut_pieces(alloc: Global, signals: &[Signal], from: u64, to: u64) -> Result<Vec<Piece>, NoMemory>
     requires some { from < to }
     requires small { to ≤ END_LIMIT }
@@ -49,7 +49,7 @@ fn cut_pieces(alloc: Global, signals: &[Signal], from: u64, to: u64) -> Result<V
     Ok(pieces)
 }
 
-/// Whether a wave has no change at a tick or behind it.
+/// Whether a wave has no change at or after a tick.
 fn is_quiet_from(wave: &Wave, tick: u64) -> bool
     ensures { IsTrue result
         ↔ (count_by (λ c. nat_lt c.tick tick) wave.now.changes ≡ length wave.now.changes) }
@@ -57,8 +57,8 @@ fn is_quiet_from(wave: &Wave, tick: u64) -> bool
     wave.count_until(tick) == wave.changes().len()
 }
 
-/// The piece of the signal at a position from which the ticks `from` up to before `to` are cut out. Its
-/// changes may have ticks up to `to - from` past the end that is left.
+/// The piece that cuts the ticks `from` up to before `to` out of the signal at a position. Its changes may have ticks
+/// up to `to - from` past the new end.
 pub(crate) fn cut_piece(
     alloc: Global,
     signal: &Signal,

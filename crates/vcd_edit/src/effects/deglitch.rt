@@ -14,8 +14,8 @@ use crate::record::{Piece, Record};
 use std::alloc::Global;
 use vcd_core::{Capture, Change, NoMemory, Value, last_value};
 
-/// The record of the changes from the first to the last that is taken out, or of nothing, without memory,
-/// where none is.
+/// The record of the changes from the first to the last one taken out. If none is, the record is empty and takes no
+/// memory.
 pub(crate) fn plan(
     alloc: Global,
     capture: &Capture,
@@ -46,7 +46,7 @@ pub(crate) fn plan(
     one_piece(alloc, piece)
 }
 
-/// How many changes are left before the first that is taken out.
+/// How many changes come before the first one taken out.
 fn count_kept_in_front(changes: &[Change], before: &Value, ticks: u64) -> usize
     ensures within { result ≤ length changes.now }
     ensures kept { kept_changes ticks before.now changes.now ≡ take result changes.now
@@ -64,14 +64,14 @@ fn count_kept_in_front(changes: &[Change], before: &Value, ticks: u64) -> usize
     changes.len()
 }
 
-/// A part of a list of changes from its front on: those before the position `to`, of which `kept` are left.
+/// The first `to` changes of a list, of which `kept` remain.
 #[derive(Clone, Copy)]
 struct Part {
     kept: usize,
     to: usize,
 }
 
-/// The part behind which no change is taken out.
+/// The shortest part that contains all changes that are taken out.
 fn part_with_glitches(changes: &[Change], before: &Value, ticks: u64) -> Part
     ensures within { result.to ≤ length changes.now }
     ensures kept { kept_changes ticks before.now changes.now
@@ -91,7 +91,7 @@ fn part_with_glitches(changes: &[Change], before: &Value, ticks: u64) -> Part
     part
 }
 
-/// The changes that are left of a part, with room for those that it has now.
+/// The changes of a part that remain, with room for all changes that it has now.
 fn kept_list(
     alloc: Global,
     changes: &[Change],
@@ -119,14 +119,14 @@ fn kept_list(
     Ok(kept)
 }
 
-/// Whether a change is left, behind the value that is left before it.
+/// Whether a change remains after the value `before`, the last one kept.
 fn is_kept(change: &Change, later: &[Change], before: &Value, ticks: u64) -> bool
     ensures { result ≡ kept_test ticks before.now change.now later.now }
 {
     begins_steady(change, later, ticks) && change.value != *before
 }
 
-/// Whether the run that begins with a change holds tick 0, or the end, or at least so many ticks.
+/// Whether the run that begins with a change contains tick 0 or the end, or has at least so many ticks.
 fn begins_steady(change: &Change, later: &[Change], ticks: u64) -> bool
     ensures { result ≡ steady_test ticks change.now later.now }
 {

@@ -1,4 +1,4 @@
-//! A signal made of others.
+//! A signal computed from others.
 
 ghost use Rattle.std.specs.Prelude.{◌≡◌, ◌≤◌, ℕ, [], ◌∷◌, Some, None, IfOk, true, false, length, map};
 ghost use Rattle.vcd_core.specs.Contents.{contents, signal_contents};
@@ -21,7 +21,7 @@ use vcd_core::{
     Bit, BitEdges, Capture, Change, NoMemory, Seq, Signal, Value, Wave, Word, copy_word,
 };
 
-/// The record that puts the new signal in behind the last.
+/// The record that puts the new signal in after the last.
 pub(crate) fn plan(
     alloc: Global,
     capture: &Capture,
@@ -83,7 +83,7 @@ fn derived_wave(alloc: Global, first: &Wave, last: &Wave, rule: Rule) -> Result<
     wave_of_one(alloc, first, rule)
 }
 
-/// The wave that a rule of one operand makes.
+/// The wave of a rule with one operand.
 fn wave_of_one(alloc: Global, operand: &Wave, rule: Rule) -> Result<Wave, NoMemory>
     ensures { (end : ℕ) → AllUpTo end operand.now.changes → IfOk result (λ w. (w.width ≡ 1)
         × (w.changes ≡ changes_of 1 end (λ t.
@@ -91,12 +91,12 @@ fn wave_of_one(alloc: Global, operand: &Wave, rule: Rule) -> Result<Wave, NoMemo
         operator_bit rule value value ∷ []))) }
 {
     let wave = wave_at_changes(alloc, operand.changes(), rule)?;
-    // The call tells the proof that the list has the form of a wave's.
+    // The call shows the prover that the list has the form of a wave's.
     let _changes = wave.changes();
     Ok(wave)
 }
 
-/// The wave that has the rule's bit at each change of its one operand, with just the room for that.
+/// The wave with the rule's bit at each change of its one operand. Its room is exact.
 fn wave_at_changes(alloc: Global, changes: &[Change], rule: Rule) -> Result<Wave, NoMemory>
     requires { (width : ℕ) × IsWave width changes.now }
     ensures { IfOk result (IsMade (map (operand_change rule) changes.now) []) }
@@ -124,7 +124,7 @@ fn count_at_changes(changes: &[Change], rule: Rule) -> usize {
     count
 }
 
-/// The wave that a rule of two operands makes.
+/// The wave of a rule with two operands.
 fn wave_of_two<'a>(
     alloc: Global,
     first: &'a Wave,
@@ -142,12 +142,12 @@ fn wave_of_two<'a>(
     let count = count_at_edges(BitEdges::new(Some(first), Some(last), None, None), rule);
     let edges = BitEdges::new(Some(first), Some(last), None, None);
     let wave = wave_at_edges(alloc, edges, rule, count)?;
-    // The call tells the proof that the list has the form of a wave's.
+    // The call shows the prover that the list has the form of a wave's.
     let _changes = wave.changes();
     Ok(wave)
 }
 
-/// The wave that has the rule's bit at each edge, with room for so many changes.
+/// The wave with the rule's bit at each edge, with room for so many changes.
 fn wave_at_edges(alloc: Global, edges: BitEdges, rule: Rule, count: usize) -> Result<Wave, NoMemory>
     requires { TicksRise 1 0 (map (edge_change rule) edges) }
     ensures { IfOk result (IsMade (map (edge_change rule) edges.entry) []) }
@@ -185,7 +185,7 @@ fn edge_bit(rule: Rule, bits: [Option<Bit>; 4]) -> Bit
     }
 }
 
-/// What a rule gives for the value of its one operand.
+/// The bit that a rule gives for the value of its one operand.
 fn bit_of_one(rule: Rule, value: &Value) -> Bit
     ensures { result ≡ operator_bit rule value.now value.now }
 {
@@ -199,7 +199,7 @@ fn bit_of_one(rule: Rule, value: &Value) -> Bit
     }
 }
 
-/// What an operator gives for one bit of each operand.
+/// The bit that an operator gives for one bit of each operand.
 fn bit_of_two(rule: Rule, a: Bit, b: Bit) -> Bit
     ensures { result ≡ bit_of_two rule a b }
 {
@@ -212,7 +212,7 @@ fn bit_of_two(rule: Rule, a: Bit, b: Bit) -> Bit
     }
 }
 
-/// Bit `k`, or the last bit where there are not so many.
+/// Bit `k`, or the last bit if there are fewer.
 fn value_bit(value: &Value, k: u64) -> Bit
     ensures { result ≡ letter_at value.now k }
 {

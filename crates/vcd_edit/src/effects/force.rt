@@ -15,7 +15,7 @@ use crate::record::{Piece, Record};
 use std::alloc::Global;
 use vcd_core::{Capture, END_LIMIT, NoMemory, Signal, Value};
 
-/// The record of the piece from the first forced tick to the one behind the last.
+/// The record of the piece from the first forced tick to the one after the last.
 pub(crate) fn plan(
     alloc: Global,
     capture: &Capture,
@@ -33,7 +33,7 @@ pub(crate) fn plan(
     one_piece(alloc, piece)
 }
 
-/// The piece of the signal at a position, which forces a value at the ticks `from` up to before `to`.
+/// The piece that forces a value in the signal at a position, at the ticks `from` up to before `to`.
 fn forced(
     alloc: Global,
     signal: &Signal,

@@ -30,8 +30,8 @@ pub(crate) fn plan(alloc: Global, capture: &Capture, signal: usize) -> Result<Re
     one_piece(alloc, whole_piece(wave, signal, changes))
 }
 
-/// The changes to the inverse values, behind the value `before`, those left out that change nothing; with
-/// room for as many as there were.
+/// The changes to the inverse values after the value `before`, without those that change nothing. There is room for as
+/// many as there were.
 fn inverse_changes(
     alloc: Global,
     changes: &[Change],
@@ -61,7 +61,7 @@ fn inverse_of(value: &Value) -> Value
     Value::from_words(value.width(), &low, &high)
 }
 
-/// Writes the low and the high bits of the inverse into two rows of words.
+/// Writes the low and the high bits of the inverse into two slices of words.
 fn write_inverse(value: &Value, low: &mut [u64], high: &mut [u64])
     requires low { length low.old ≡ WORDS }
     requires high { length high.old ≡ WORDS }

@@ -1,4 +1,4 @@
-//! What plans are made of.
+//! The parts of which plans are made.
 
 ghost use Rattle.std.specs.Prelude.{◌≡◌, ◌++◌, ◌∷◌, [], None, OnOk, IfOk, Some, false, ◌<◌, length, count_by, nat_lt, ◌≤◌, pos, neg_ℤ};
 ghost use Rattle.vcd_core.specs.Contents.{contents, signal_contents, signal_at};
@@ -35,8 +35,7 @@ pub(crate) fn value_just_before(wave: &Wave, tick: u64) -> Value
     wave.at(tick - 1)
 }
 
-/// Lists a change to `value` at `tick`, where `before` is another value. Where the list has no room, it gets
-/// that for this change alone.
+/// Adds a change to `value` at `tick` unless `before` is that value. A full list gets room for this change alone.
 pub(crate) fn put_change(
     changes: &mut Vec<Change>,
     before: Value,
@@ -53,8 +52,8 @@ pub(crate) fn put_change(
     Ok(())
 }
 
-/// The piece that takes the place of the changes from the tick `from` up to before the tick `to`, and leaves the
-/// later ones at their ticks.
+/// The piece that replaces the changes from the tick `from` up to before the tick `to`, and leaves the later ones at
+/// their ticks.
 pub(crate) fn piece_between(
     wave: &Wave,
     position: usize,
@@ -79,7 +78,7 @@ pub(crate) fn piece_between(
     }
 }
 
-/// The offset of so many ticks to an earlier tick.
+/// The offset by so many ticks to an earlier tick.
 pub(crate) fn offset_back(ticks: u64) -> i64
     requires { ticks ≤ END_LIMIT }
     ensures { result ≡ neg_ℤ (pos ticks) }
@@ -87,14 +86,14 @@ pub(crate) fn offset_back(ticks: u64) -> i64
     -(ticks as i64)
 }
 
-/// The value that is x in every bit, with the width of a wave.
+/// The value with the width of a wave and x in every bit.
 pub(crate) fn x_value(wave: &Wave) -> Value
     ensures { result ≡ all_x wave.now.width }
 {
     Value::filled(wave.width(), Bit::X)
 }
 
-/// The piece that takes the place of all changes.
+/// The piece that replaces all changes.
 pub(crate) fn whole_piece(wave: &Wave, position: usize, changes: Vec<Change>) -> Piece
     ensures { piece_view result ≡ record {
       signal = position;
@@ -113,7 +112,7 @@ pub(crate) fn whole_piece(wave: &Wave, position: usize, changes: Vec<Change>) ->
     }
 }
 
-/// The record of nothing.
+/// The empty record.
 pub(crate) fn no_piece(alloc: Global) -> Record
     ensures { result ≡ record { pieces = []; word = None; signal = None; other_end = None } }
 {
@@ -125,7 +124,7 @@ pub(crate) fn no_piece(alloc: Global) -> Record
     }
 }
 
-/// The record of one piece and nothing else.
+/// The record with one piece and nothing else.
 pub(crate) fn one_piece(alloc: Global, piece: Piece) -> Result<Record, NoMemory>
     ensures { IfOk result (λ r. r
         ≡ record { pieces = piece_view piece ∷ []; word = None; signal = None; other_end = None }) }

@@ -1,4 +1,4 @@
-//! Another first word of a signal's name.
+//! A new first word for a signal's name.
 
 ghost use Rattle.std.specs.Prelude.{◌≡◌, None, IfOk};
 ghost use Rattle.vcd_core.specs.Contents.{contents};

@@ -1,4 +1,4 @@
-//! A signal that comes later, or earlier.
+//! A signal delayed or advanced.
 
 ghost use Rattle.std.specs.Prelude.{◌≡◌, ◌<◌, ◌≤◌, ◌+◌, ◌^◌, ℕ, ℤ, pos, ◌<ℤ◌, ◌≤ℤ◌, List, None, IfOk, All, length, map};
 ghost use Rattle.vcd_core.specs.declared.bit.Bit.{Bit};
@@ -16,7 +16,7 @@ use crate::record::{Piece, Record};
 use std::alloc::Global;
 use vcd_core::{Bit, Capture, Change, END_LIMIT, NoMemory, Signal, Value};
 
-/// The record of the piece at the front, or of the whole list where changes go out at the end.
+/// The record of the piece at the front, or of the whole list if changes are pushed past the end.
 pub(crate) fn plan(
     alloc: Global,
     capture: &Capture,
@@ -32,7 +32,7 @@ pub(crate) fn plan(
     one_piece(alloc, piece)
 }
 
-/// The piece of the signal at a position, which comes `by` ticks later.
+/// The piece that delays the signal at a position by `by` ticks.
 fn shifted(
     alloc: Global,
     signal: &Signal,
@@ -51,7 +51,7 @@ fn shifted(
     delayed(alloc, signal, position, end, by)
 }
 
-/// The piece of a signal that comes earlier.
+/// The piece that advances a signal.
 fn advanced(
     alloc: Global,
     signal: &Signal,
@@ -73,7 +73,7 @@ fn advanced(
     cut_piece(alloc, signal, position, 0, ticks)
 }
 
-/// The piece of a signal that comes later, or at the same tick.
+/// The piece that delays a signal by 0 or more ticks.
 fn delayed(
     alloc: Global,
     signal: &Signal,
@@ -113,7 +113,7 @@ fn delayed(
     })
 }
 
-/// The piece of a signal that has one value at all ticks.
+/// The piece that gives a signal one value at all ticks.
 fn constant_piece(
     alloc: Global,
     signal: &Signal,
@@ -136,7 +136,7 @@ fn constant_piece(
     })
 }
 
-/// Copies of the changes, some ticks later, with room for as many as are asked for.
+/// Copies of the changes, some ticks later, with room for as many as `room` says.
 fn later_changes(
     alloc: Global,
     changes: &[Change],

@@ -12,7 +12,7 @@ use crate::pieces::is_valid_piece;
 use crate::record::Piece;
 use vcd_core::{SIGNAL_LIMIT, Signal, Wave, ends_by};
 
-/// The same of each signal.
+/// Whether all of each signal except its changes is sound.
 fn have_sound_names(signals: &[Signal]) -> bool
     ensures sound { IsTrue result → All IsFormedSignal (map signal_contents signals.now) }
     ensures names { All HasSoundNames (map signal_contents signals.now) → IsTrue result }
@@ -25,7 +25,7 @@ fn have_sound_names(signals: &[Signal]) -> bool
     true
 }
 
-/// 1 where a wave has a change past the end, else 0.
+/// 1 if a wave has a change past the end, else 0.
 fn late_count(wave: &Wave, end: u64) -> usize
     ensures is { result ≡ lateness_of end wave.now.changes }
     ensures most { result ≤ 1 }
@@ -46,7 +46,7 @@ fn late_signals(signals: &[Signal], end: u64) -> usize
     count
 }
 
-/// Whether a piece is for one of the signals, and leads to a wave up to the end.
+/// Whether a piece is for one of the signals, and gives a wave up to the end.
 fn is_valid_in(piece: &Piece, signals: &[Signal], end: u64) -> bool
     ensures { IsTrue result
         ↔ IsValidIn end (map signal_contents signals.now) (piece_view piece.now) }
@@ -57,7 +57,7 @@ fn is_valid_in(piece: &Piece, signals: &[Signal], end: u64) -> bool
     }
 }
 
-/// The same of each piece.
+/// The same for each piece.
 fn are_valid_in(pieces: &[Piece], signals: &[Signal], end: u64) -> bool
     ensures { IsTrue result
         ↔ All (IsValidIn end (map signal_contents signals.now)) (map piece_view pieces.now) }
@@ -79,8 +79,8 @@ fn late_pieces(pieces: &[Piece], signals: &[Signal], end: u64) -> usize
     count
 }
 
-/// Whether pieces fit signals and lead to sound ones up to the end. Each signal has one piece at most, so
-/// none that ends too late is without a piece where as many pieces as signals are for such ones.
+/// Whether pieces fit signals and give sound ones up to the end. Pieces have distinct signals, so equal counts mean
+/// that every signal with a change past the end has a piece.
 pub(crate) fn pieces_fit(pieces: &[Piece], signals: &[Signal], end: u64) -> bool
     requires apart { AreApart (map piece_view pieces.now) }
     ensures { (c : Contents) → c.signals ≡ map signal_contents signals.now

@@ -1,4 +1,4 @@
-//! Whether the names of signals are such as a file can say.
+//! Whether the names of signals can be written to a file.
 
 ghost use Rattle.std.specs.Prelude.{◌↔◌, IsTrue, All, map, ◌<◌, length};
 ghost use Rattle.std.specs.List.{remove};
@@ -10,7 +10,7 @@ ghost use Rattle.vcd_edit.specs.inside.Fitting.{HasSoundNames, IsFormedSignal};
 use crate::checking::after_first;
 use vcd_core::{Signal, are_scopes_sound, are_words, is_skipped_kind, is_wave_sound, is_word};
 
-/// Whether all of a signal but its changes is sound.
+/// Whether all of a signal except its changes is sound.
 pub(crate) fn has_sound_names(signal: &Signal) -> bool
     ensures sound { IsTrue result → IsFormedSignal (signal_contents signal.now) }
     ensures names { HasSoundNames (signal_contents signal.now) → IsTrue result }
@@ -32,7 +32,7 @@ pub(crate) fn are_sound(signals: &[Signal], end: u64) -> bool
     signals.iter().all(|signal| signal.is_sound(end))
 }
 
-/// The same of each but the one at a position.
+/// The same for each signal except the one at a position.
 pub(crate) fn are_others_sound(signals: &[Signal], at: usize, end: u64) -> bool
     requires { at < length signals.now }
     ensures { IsTrue result

@@ -1,4 +1,4 @@
-//! Whether a piece leads from one wave to another.
+//! Whether a piece changes one wave into another.
 
 ghost use Rattle.std.specs.Prelude.{◌≡◌, ◌↔◌, ℕ, List, ◌+◌, ◌≤◌, nat_le, length, take, map, All, IsTrue};
 ghost use Rattle.vcd_core.specs.Splice.{moved_change, TickFits, AllTicksFit};
@@ -10,7 +10,7 @@ ghost use Rattle.vcd_edit.specs.inside.Records.{piece_view};
 use crate::record::Piece;
 use vcd_core::{Change, WIDTH_LIMIT, Wave, ends_by, last_value, moved_change};
 
-/// Whether a tick is free behind the changes.
+/// Whether a tick comes after all changes.
 fn is_free(before: &[Change], tick: u64) -> bool
     ensures { result ≡ nat_le (floor_after 0 before.now) tick }
 {
@@ -20,7 +20,7 @@ fn is_free(before: &[Change], tick: u64) -> bool
     }
 }
 
-/// Whether a change may stand right behind the changes before it.
+/// Whether a change may come next after the changes before it.
 fn may_follow(before: &[Change], width: u64, change: &Change) -> bool
     requires least { 1 ≤ width }
     requires most { width ≤ WIDTH_LIMIT }
@@ -31,7 +31,7 @@ fn may_follow(before: &[Change], width: u64, change: &Change) -> bool
     is_free(before, change.tick) && change.value != last && change.value.width() == last.width()
 }
 
-/// The changes right behind which the one at `index` stands: those before it, or `before` where it is the first.
+/// The changes before the one at `index`: those of `changes`, or `before` if it is the first.
 fn changes_after<'a>(before: &'a [Change], changes: &'a [Change], index: usize) -> &'a [Change]
     requires { index ≤ length changes.now }
     ensures floor { floor_after 0 result.now
@@ -46,7 +46,7 @@ fn changes_after<'a>(before: &'a [Change], changes: &'a [Change], index: usize) 
     }
 }
 
-/// Whether changes may stand right behind others, one after another.
+/// Whether changes may come next after others, one after another.
 fn may_all_follow(before: &[Change], width: u64, changes: &[Change]) -> bool
     requires least { 1 ≤ width }
     requires most { width ≤ WIDTH_LIMIT }
@@ -61,7 +61,7 @@ fn may_all_follow(before: &[Change], width: u64, changes: &[Change]) -> bool
     true
 }
 
-/// Whether a tick may move by `by` ticks, to one up to the end.
+/// Whether a tick may move by `by` ticks and is then at most the end.
 fn moves_to(tick: u64, by: i64, end: u64) -> bool
     ensures { IsTrue result ↔ MovesTo by end tick }
 {
@@ -71,7 +71,7 @@ fn moves_to(tick: u64, by: i64, end: u64) -> bool
     }
 }
 
-/// Whether all changes may move by `by` ticks, to ticks up to the end: the first and the last tell.
+/// Whether all changes may move by `by` ticks and are then at most at the end: the first and the last show it.
 fn all_move_to(changes: &[Change], by: i64, end: u64) -> bool
     requires { (floor : ℕ) × (before : List BitLetter) × AreChangesFrom floor before changes.now }
     ensures { IsTrue result ↔ All (λ c. MovesTo by end c.tick) changes.now }
@@ -83,7 +83,7 @@ fn all_move_to(changes: &[Change], by: i64, end: u64) -> bool
     moves_to(changes[0].tick, by, end) && moves_to(changes[count - 1].tick, by, end)
 }
 
-/// Whether the first of the later changes, once moved, may stand right behind the changes before it.
+/// Whether the first of the later changes, once moved, may come next after the changes before it.
 fn may_come_next(before: &[Change], width: u64, later: &[Change], by: i64) -> bool
     requires least { 1 ≤ width }
     requires most { width ≤ WIDTH_LIMIT }
@@ -97,10 +97,9 @@ fn may_come_next(before: &[Change], width: u64, later: &[Change], by: i64) -> bo
     may_follow(before, width, &moved_change(&later[0], by))
 }
 
-/// Whether the piece's part stands within the changes of the wave, and what the piece makes of them is a wave
-/// up to the end.
+/// Whether the piece's range lies within the changes of the wave, and the result is a wave up to the end.
 ///
-/// It looks at the piece, at the two seams and at the last change, and takes no memory.
+/// It looks at the piece, at the changes next to it and at the last change. It takes no memory.
 pub(crate) fn is_valid_piece(piece: &Piece, wave: &Wave, end: u64) -> bool
     ensures { IsTrue result ↔ IsValidPiece wave.now.width end wave.now.changes
         (piece_view piece.now) }
@@ -113,7 +112,7 @@ pub(crate) fn is_valid_piece(piece: &Piece, wave: &Wave, end: u64) -> bool
     let front = &changes[..piece.from];
     let later = &changes[piece.to..];
     let list = piece.changes.as_slice();
-    // One test after another, each with its own exit: what a passed one shows, the next ones ask for.
+    // Each test has its own exit: a test that passed shows what the next ones need.
     if !all_move_to(later, piece.by, end) {
         return false;
     }

@@ -1,4 +1,4 @@
-//! How a piece and a part of a wave change places.
+//! How a piece is exchanged with a range of a wave.
 
 ghost use Rattle.std.specs.Prelude.{◌≡◌, ◌≢◌, ℕ, ◌+◌, ◌-◌, ◌<◌, ◌≤◌, All, pos, ◌+ℤ◌, List, map, reverse, length, vec_len, vec_capacity};
 ghost use Rattle.std.specs.Int.{w64, FitsUnsigned};
@@ -13,7 +13,7 @@ use crate::pieces::trimming::trim;
 use crate::record::Piece;
 use vcd_core::{Capture, Wave};
 
-/// The offset that moves back what `by` moves. Only -2^63 has none, and by that no tick of a capture moves.
+/// The opposite offset. Only -2^63 has none, and no tick of a capture can move by that.
 fn opposite(by: i64) -> i64
     ensures { (tick : ℕ) → tick ≤ END_LIMIT → FitsUnsigned w64 (pos tick +ℤ by)
         → by +ℤ result ≡ pos 0 }
@@ -21,9 +21,9 @@ fn opposite(by: i64) -> i64
     by.checked_neg().unwrap_or(0)
 }
 
-/// The piece, once trimmed, and its part of the wave change places, and the piece then leads back.
+/// Swaps a range of changes with a trimmed piece, in place. The piece then undoes this.
 ///
-/// It takes no memory. The cost is the piece, its part and one move of the later changes.
+/// It takes no memory. The cost is the piece, its range and one move of the later changes.
 fn exchange_piece(piece: &mut Piece, wave: &mut Wave)
     requires ready { PieceReady wave.old.width wave.old.changes (piece_view piece.old) }
     requires room { length wave.old.changes + vec_len piece.old.changes
@@ -40,7 +40,7 @@ fn exchange_piece(piece: &mut Piece, wave: &mut Wave)
     piece.by = opposite(piece.by);
 }
 
-/// The same in the piece's signal.
+/// The same for the piece's signal.
 fn put_one(capture: &mut Capture, piece: &mut Piece)
     requires ready { PieceReadyIn (contents capture.old) (piece_view piece.old) }
     requires room { HasRoomForPiece capture.old.signals piece.old }
@@ -54,8 +54,7 @@ fn put_one(capture: &mut Capture, piece: &mut Piece)
     exchange_piece(piece, &mut capture.signals.item_mut(piece.signal).wave);
 }
 
-/// All pieces and their parts of the capture change places, one after another, and the pieces then lead
-/// back.
+/// Swaps all pieces with their ranges of the capture, one after another. The pieces then undo this.
 fn put_all(capture: &mut Capture, pieces: &mut [Piece])
     requires ready { All (PieceReadyIn (contents capture.old)) (map piece_view pieces.old) }
     requires apart { AreApart (map piece_view pieces.old) }
@@ -70,7 +69,7 @@ fn put_all(capture: &mut Capture, pieces: &mut [Piece])
     }
 }
 
-/// The same for a list of pieces, which are then listed the other way round, so that they lead back in turn.
+/// The same for a list of pieces, which is then reversed, so that the last step is undone first.
 pub(crate) fn put_pieces(capture: &mut Capture, pieces: &mut Vec<Piece>)
     requires ready { All (PieceReadyIn (contents capture.old)) (map piece_view pieces.old.items) }
     requires apart { AreApart (map piece_view pieces.old.items) }

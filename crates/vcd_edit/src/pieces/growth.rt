@@ -1,4 +1,4 @@
-//! The room that pieces and waves need to change places.
+//! The room that pieces and waves need for their exchange.
 
 ghost use Rattle.std.specs.Prelude.{◌≡◌, ℕ, ◌+◌, ◌-◌, ◌<◌, ◌≤◌, [], All, IsOk, OnOk, map, length};
 ghost use Rattle.vcd_core.specs.Contents.{contents, signal_at};
@@ -8,8 +8,8 @@ ghost use Rattle.vcd_edit.specs.inside.Exchanges.{wave_at, HasNoLessRoom, HasRoo
 use crate::record::Piece;
 use vcd_core::{Capture, Change, NoMemory};
 
-/// Makes room in a signal for a splice of these positions and of these changes. The capture holds what it held, also
-/// where the memory is refused.
+/// Makes room in a signal for a splice of these positions and changes. The contents of the capture stay the same, also
+/// if the memory is refused.
 fn reserve_wave(
     capture: &mut Capture,
     signal: usize,
@@ -33,8 +33,8 @@ fn reserve_wave(
         .reserve_splice(from, to, changes)
 }
 
-/// Makes the room for one piece and its wave to change places. Both hold what they held, also where the
-/// memory is refused.
+/// Makes room for the exchange of one piece with its wave. The contents of both stay the same, also if the memory is
+/// refused.
 fn reserve_one(capture: &mut Capture, piece: &mut Piece) -> Result<(), NoMemory>
     requires signal { piece.old.signal < length capture.old.signals }
     requires ordered { piece.old.from ≤ piece.old.to }
@@ -53,7 +53,7 @@ fn reserve_one(capture: &mut Capture, piece: &mut Piece) -> Result<(), NoMemory>
     reserve_wave(capture, piece.signal, piece.from, piece.to, changes)
 }
 
-/// Makes the room for each piece in turn, up to the first for which memory is refused.
+/// Makes the room for each piece in order, up to the first for which memory is refused.
 fn reserve_each(capture: &mut Capture, pieces: &mut [Piece]) -> Result<(), NoMemory>
     requires signal { All (λ p. p.signal < length capture.old.signals) pieces.old }
     requires ordered { All (λ p. p.from ≤ p.to) pieces.old }
@@ -70,7 +70,7 @@ fn reserve_each(capture: &mut Capture, pieces: &mut [Piece]) -> Result<(), NoMem
     Ok(())
 }
 
-/// Gives back the memory that was taken beside the list of a signal, where that is shared.
+/// If the list of a signal is shared, gives back the memory taken for a list of its own.
 fn cancel_wave(capture: &mut Capture, signal: usize)
     requires { signal < length capture.old.signals }
     ensures { contents capture.new ≡ contents capture.old }
@@ -78,7 +78,7 @@ fn cancel_wave(capture: &mut Capture, signal: usize)
     capture.signals.item_mut(signal).wave.cancel_splice();
 }
 
-/// Does so for each of the first signals.
+/// Does so for each of the first `count` signals.
 fn cancel_waves(capture: &mut Capture, count: usize)
     requires { count ≤ length capture.old.signals }
     ensures { contents capture.new ≡ contents capture.old }
@@ -88,8 +88,8 @@ fn cancel_waves(capture: &mut Capture, count: usize)
     }
 }
 
-/// Makes the room for all pieces. The capture and the pieces hold what they held, also where the memory
-/// is refused; no wave then has memory beside a list that it shares.
+/// Makes the room for all pieces. The contents of the capture and the pieces stay the same, also if the memory is
+/// refused. In that case no wave keeps memory besides a list that it shares.
 pub(crate) fn reserve_all(capture: &mut Capture, pieces: &mut [Piece]) -> Result<(), NoMemory>
     requires signal { All (λ p. p.signal < length capture.old.signals) pieces.old }
     requires ordered { All (λ p. p.from ≤ p.to) pieces.old }

@@ -1,4 +1,4 @@
-//! The room of a record's pieces that nothing stands in.
+//! The unused room of a record's pieces.
 
 ghost use Rattle.std.specs.Prelude.{◌≡◌, All, List, map, reverse};
 ghost use Rattle.vcd_core.specs.Contents.{contents};
@@ -18,7 +18,7 @@ fn release_room(piece: &mut Piece)
     piece.changes.shrink_to_fit();
 }
 
-/// The same of all pieces.
+/// The same for all pieces.
 fn release_rooms(pieces: &mut [Piece])
     ensures { map piece_view pieces.new ≡ map piece_view pieces.old }
 {
@@ -27,8 +27,8 @@ fn release_rooms(pieces: &mut [Piece])
     }
 }
 
-/// All pieces and their parts of the capture change places, as [`put_pieces`] does it, and each piece then
-/// has just the room for what it holds.
+/// Swaps all pieces with their ranges of the capture, as [`put_pieces`] does. Each piece then has exact room for its
+/// changes.
 pub(crate) fn exchange_pieces(capture: &mut Capture, pieces: &mut Vec<Piece>)
     requires ready { All (PieceReadyIn (contents capture.old)) (map piece_view pieces.old.items) }
     requires apart { AreApart (map piece_view pieces.old.items) }

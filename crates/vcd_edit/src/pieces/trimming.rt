@@ -1,4 +1,4 @@
-//! A piece without what stands in its list already.
+//! A piece without the changes that its list already has.
 
 ghost use Rattle.std.specs.Prelude.{◌≡◌, ℕ, ◌^◌, ◌<◌, ◌≤◌, pos, ◌-ℤ◌, neg_ℤ, All, length, drop, vec_len, vec_capacity};
 ghost use Rattle.std.specs.List.{common_prefix_len};
@@ -17,7 +17,7 @@ fn is_same(old: &Change, new: &Change) -> bool
     old.tick == new.tick && old.value == new.value
 }
 
-/// Whether `later` is the tick that is `by` ticks later.
+/// Whether `later` is the tick that is `by` ticks after `tick`.
 fn is_later(tick: u64, by: i64, later: u64) -> bool
     ensures { result ≡ int_eq (pos tick -ℤ neg_ℤ by) (pos later) }
 {
@@ -31,7 +31,7 @@ fn is_moved(old: &Change, by: i64, new: &Change) -> bool
     is_later(old.tick, by, new.tick) && old.value == new.value
 }
 
-/// How many changes two lists have in common in front.
+/// How many changes two lists have in common at the front.
 fn common_front(old: &[Change], new: &[Change]) -> usize
     ensures count { result ≡ common_prefix_len same_change old.now new.now }
     ensures in_old { result ≤ length old.now }
@@ -46,7 +46,7 @@ fn common_front(old: &[Change], new: &[Change]) -> usize
     most
 }
 
-/// How many of the last old changes, `by` ticks later, are the last new ones.
+/// How many last old changes, `by` ticks later, are the last new ones.
 fn common_back(old: &[Change], new: &[Change], by: i64) -> usize
     ensures count { result ≡ common_suffix_lowered (neg_ℤ by) old.now new.now }
     ensures in_old { result ≤ length old.now }
@@ -71,10 +71,10 @@ fn drop_front(list: &mut Vec<Change>, count: usize)
     list.truncate(kept);
 }
 
-/// Takes off the piece what stands in the list already at either end of its part: the same changes in
-/// front, and those at the end that move with the later ones.
+/// Trims changes that the wave already has from both ends of the piece: the same changes at the front, and those at
+/// the end that move with the later ones.
 ///
-/// It looks at the part and the piece alone, and takes no memory.
+/// It looks at the range and the piece only, and takes no memory.
 pub(crate) fn trim(piece: &mut Piece, changes: &[Change])
     requires ordered { piece.old.from ≤ piece.old.to }
     requires within { piece.old.to ≤ length changes.now }

@@ -3,7 +3,7 @@ use std::process::Abort;
 use std::test::Fail;
 use vcd_core::{Change, Signal};
 
-/// A piece has no further field: each is bound at its type.
+/// A piece has no other field: the test names each field and its type.
 fn length_of(piece: Piece) -> usize {
     let Piece {
         signal,
@@ -20,7 +20,7 @@ fn length_of(piece: Piece) -> usize {
     changes.len()
 }
 
-/// Nor has a record.
+/// A record has no other field either.
 fn piece_count(record: Record) -> usize {
     let Record {
         pieces,

@@ -1,4 +1,4 @@
-//! How the word, the signal and the end of a record and those of a capture change places.
+//! How the word, the signal and the end of a record are exchanged with those of a capture.
 
 ghost use Rattle.std.specs.Prelude.{◌≡◌, ◌<◌, ◌≤◌, ◌∷◌, Some, None, length, drop, slice_index_or, IsOk, IfOk, OnOk, OnErr, IfErr};
 ghost use Rattle.std.specs.List.{insert, remove};
@@ -13,7 +13,7 @@ use std::alloc::Global;
 use std::mem;
 use vcd_core::{Capture, Seq, Signal, Word};
 
-/// Puts a word in the place of the first, and gives that one back.
+/// Puts a word in the place of the first, and gives the old one back.
 fn replace_first(words: &mut Seq<Word>, word: Word) -> Word
     requires { 0 < length words.old }
     ensures new { words.new ≡ word ∷ drop 1 words.old }
@@ -22,7 +22,7 @@ fn replace_first(words: &mut Seq<Word>, word: Word) -> Word
     mem::replace(words.item_mut(0), word)
 }
 
-/// The word and the first of its signal's name change places, without memory.
+/// Swaps the word with the first word of its signal's name. It takes no memory.
 fn replace_word(capture: &mut Capture, signal: usize, word: Vec<u8>) -> Vec<u8>
     requires within { signal < length capture.old.signals }
     requires named { 0 < length (signal_at (contents capture.old) signal).words }
@@ -38,7 +38,7 @@ fn replace_word(capture: &mut Capture, signal: usize, word: Vec<u8>) -> Vec<u8>
     first.into_vec()
 }
 
-/// The same, where there is a word.
+/// The same, if there is a word.
 pub(crate) fn exchange_word(
     capture: &mut Capture,
     word: Option<(usize, Vec<u8>)>,
@@ -54,7 +54,7 @@ pub(crate) fn exchange_word(
     }
 }
 
-/// Another end takes the place of the old one.
+/// Puts another end in the place of the old one, and gives the old one back.
 pub(crate) fn exchange_end(capture: &mut Capture, other_end: Option<u64>) -> Option<u64>
     ensures there { contents capture.new ≡ with_end other_end (contents capture.old) }
     ensures back { result ≡ opposite_end other_end (contents capture.old) }
@@ -65,7 +65,7 @@ pub(crate) fn exchange_end(capture: &mut Capture, other_end: Option<u64>) -> Opt
     }
 }
 
-/// Puts a signal in at a position; later ones move down. Where memory is refused, it comes back.
+/// Puts a signal in at a position; later signals move down. If memory is refused, the signal comes back.
 fn put_signal(alloc: Global, capture: &mut Capture, at: usize, signal: Signal) -> Result<(), Signal>
     requires { at ≤ length capture.old.signals }
     ensures there { OnOk result (contents capture.new
@@ -82,7 +82,7 @@ fn put_signal(alloc: Global, capture: &mut Capture, at: usize, signal: Signal) -
     }
 }
 
-/// Takes the signal at a position out; later ones move up. It takes no memory.
+/// Takes the signal at a position out; later signals move up. It takes no memory.
 fn take_signal(alloc: Global, capture: &mut Capture, at: usize) -> Signal
     requires { at < length capture.old.signals }
     ensures there { contents capture.new
@@ -95,7 +95,7 @@ fn take_signal(alloc: Global, capture: &mut Capture, at: usize) -> Signal
     signal
 }
 
-/// A signal is put in or taken out. Where memory is refused for one to put in, it comes back, and the
+/// Puts a signal in or takes one out. If memory is refused for a signal to put in, the signal comes back, and the
 /// capture is as it was.
 pub(crate) fn exchange_signal(
     alloc: Global,

@@ -7,7 +7,7 @@ use Rattle.vcd_edit.specs.inside.Records.{piece_view}
 use Rattle.vcd_edit.specs.inside.Plans.{LeadEach}
 use Rattle.vcd_edit.proofs.effects.cut.cut_pieces.Given as goal
 
--- the pieces lead to the cut of the signals so far
+-- the pieces cut the signals so far
 abbrev pub invariant-loop-position : goal.invariant-loop-position
 invariant-loop-position l = (c : Contents) → c.signals ≡ map signal_contents l.signals → IsSound c → l.to ≤ c.end
     → LeadEach c (neg_ℤ (pos (l.to - l.from))) (signal_after_cut (c.end - (l.to - l.from)) l.from l.to) l.position

@@ -3,7 +3,7 @@ use Rattle.vcd_core.specs.Wave.{last_value}
 use Rattle.vcd_edit.specs.inside.Thinned.{kept_changes}
 use Rattle.vcd_edit.proofs.effects.deglitch.count_kept_in_front.Given as goal
 
--- all so far are left
+-- all so far remain
 abbrev pub invariant-loop-i : goal.invariant-loop-i
 invariant-loop-i l = record {
   kept : kept_changes l.ticks l.fn.before l.changes ≡ take l.i l.changes

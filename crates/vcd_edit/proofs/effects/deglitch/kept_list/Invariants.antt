@@ -2,7 +2,7 @@ use Rattle.std.proofs.Common.{◌≡◌, ◌≤◌, ◌++◌, length, drop}
 use Rattle.vcd_edit.specs.inside.Thinned.{kept_changes}
 use Rattle.vcd_edit.proofs.effects.deglitch.kept_list.Given as goal
 
--- what is listed and what is left of the rest are all
+-- the changes listed and those that remain of the rest are all
 abbrev pub invariant-loop-i : goal.invariant-loop-i
 invariant-loop-i l = record {
   few : length l.kept.items ≤ l.part.kept;

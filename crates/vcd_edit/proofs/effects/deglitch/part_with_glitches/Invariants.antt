@@ -3,7 +3,7 @@ use Rattle.vcd_core.specs.declared.wave.Change.{Change}
 use Rattle.vcd_edit.specs.inside.Thinned.{kept_changes}
 use Rattle.vcd_edit.proofs.effects.deglitch.part_with_glitches.Given as goal
 
--- those that are left of the part, and all between it and the change at hand
+-- the changes that remain of the part, and all between it and the current change
 abbrev pub invariant-loop-i : goal.invariant-loop-i
 invariant-loop-i l = record {
   to : l.part.to ≤ l.i;

@@ -3,7 +3,7 @@ use Rattle.vcd_edit.specs.Operators.{not_bit}
 use Rattle.vcd_edit.specs.inside.Thinned.{thinned_list, with_value}
 use Rattle.vcd_edit.proofs.effects.invert.inverse_changes.Given as goal
 
--- what is listed and what is left are all
+-- the changes listed and the remaining ones are all
 abbrev pub invariant-loop-change : goal.invariant-loop-change
 invariant-loop-change l =
     l.inverse.items ++ thinned_list l.last (map (with_value (map not_bit)) (drop l.change-index l.changes))
