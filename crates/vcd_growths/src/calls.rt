@@ -8,21 +8,21 @@ use crate::sessions::{call_new, call_run, call_step};
 use crate::waves::call_on_wave;
 use std::rt::Runtime;
 
-/// What the words of the command line ask for, on a capture.
+/// The call that the words of the command line ask for, on a capture.
 #[derive(Clone, Copy)]
 pub struct Call<'a> {
-    /// Whether the call is made, or all but it.
+    /// Whether the call itself is made, or only what comes before and after it.
     pub makes: bool,
     pub name: &'a str,
-    /// The word behind the call's name, empty where there is none: an edit, a step or `shared`.
+    /// The word after the call's name, or empty: an edit, a step or `shared`.
     pub argument: &'a str,
-    /// The word behind that, empty where there is none: the steps made before.
+    /// The word after that, or empty: the steps made before.
     pub before: &'a str,
-    /// What the capture says.
+    /// The text of the capture.
     pub text: &'a [u8],
 }
 
-/// Makes the call that is named, and tells what it left.
+/// Makes the named call, and prints what it left.
 pub fn make_call<R: Runtime + AllocGlobal>(rt: &R, call: &Call) -> Result<(), Stopped> {
     match call.name {
         "push" | "share" | "reserve" | "reserve_exact" | "reserve_splice" => call_on_wave(rt, call),

@@ -1,4 +1,4 @@
-//! What decoders find on the first two signals.
+//! The annotations that decoders find on the first two signals.
 
 ghost use Rattle.std.specs.Prelude.{◌≡◌, IfOk};
 ghost use Rattle.vcd_core.specs.Wave.{AllUpTo};
@@ -28,7 +28,7 @@ pub fn call_decoder<R: Runtime + AllocGlobal>(rt: &R, call: &Call) -> Result<(),
     print_capture(rt, &capture)
 }
 
-/// Runs the decoder of a name on two lines, and tells what became of it.
+/// Runs the decoder of a name on two lines, and prints the result.
 fn make_decoder<R: Runtime + AllocGlobal>(
     rt: &R,
     name: &str,
@@ -73,7 +73,7 @@ fn scalar_wave(capture: &Capture, signal: usize) -> Result<&Wave, Stopped>
     Ok(wave)
 }
 
-/// What became of the call, and the annotations where there was memory for them.
+/// The outcome of the call, and the annotations if there was memory for them.
 fn print_found<R: Runtime>(
     rt: &R,
     found: Result<Vec<Annotation>, NoMemory>,

@@ -1,4 +1,4 @@
-//! Edits of a capture, and what takes them back.
+//! Edits of a capture, and the records that undo them.
 
 ghost use Rattle.std.specs.Prelude.{◌≡◌, IfOk};
 ghost use Rattle.vcd_core.specs.Contents.{contents};
@@ -14,7 +14,7 @@ use vcd_core::{Bit, Capture, NoMemory, ToWrite, Value};
 use vcd_edit::{Edit, Record, Rule, apply, revert};
 use vcd_text::write;
 
-/// The edit that a word names, of the first signal or signals. A new name is that word.
+/// The edit that a word names, on the first signal or signals. A new name is that word.
 pub fn edit_named<'a>(name: &'a str) -> Option<Edit<'a>> {
     let signal = 0;
     let word = name.as_bytes();
@@ -51,7 +51,7 @@ pub fn call_apply<R: Runtime + AllocGlobal>(rt: &R, call: &Call) -> Result<(), S
     make_edit(rt, &mut capture, &edit)
 }
 
-/// Makes the edit, and tells what became of it and all of the capture.
+/// Makes the edit, and prints its outcome and the whole capture.
 fn make_edit<R: Runtime + AllocGlobal>(
     rt: &R,
     capture: &mut Capture,
@@ -72,8 +72,8 @@ fn make_edit<R: Runtime + AllocGlobal>(
     }
 }
 
-/// `revert` of the edit's record, on a capture like the edited one that was read anew. So its waves have no more room
-/// than reading gives, where those that were edited have what they need.
+/// `revert` of the edit's record, on a capture like the edited one that was read again. Its waves have only the room
+/// that reading gives; those of the edited one have the room that they need.
 pub fn call_revert<R: Runtime + AllocGlobal>(rt: &R, call: &Call) -> Result<(), Stopped> {
     let Some(edit) = edit_named(call.argument) else {
         return Err(Stopped);
@@ -92,7 +92,7 @@ pub fn call_revert<R: Runtime + AllocGlobal>(rt: &R, call: &Call) -> Result<(), 
     make_revert(rt, &mut capture, way)
 }
 
-/// The capture that the text of a capture means.
+/// The capture read again from its own text.
 fn read_anew(alloc: Global, capture: &Capture) -> Result<Capture, Stopped>
     requires { IsSound (contents capture.now) }
     ensures { IfOk result (λ c. IsSound (contents c)) }
@@ -104,7 +104,7 @@ fn read_anew(alloc: Global, capture: &Capture) -> Result<Capture, Stopped>
     capture_of_text(alloc, sink.into_inner().as_slice())
 }
 
-/// Takes the edit back, and tells whether it was refused, and all of the capture and the record that are then there.
+/// Undoes the edit. Prints whether that was refused, and the whole capture and record after it.
 fn make_revert<R: Runtime + AllocGlobal>(
     rt: &R,
     capture: &mut Capture,
@@ -126,7 +126,7 @@ fn make_revert<R: Runtime + AllocGlobal>(
     }
 }
 
-/// A capture, how much a record holds that leads from it, and where that leads.
+/// A capture, how many changes a record on it stores, and the capture after the record.
 fn print_record<R: Runtime + AllocGlobal>(
     rt: &R,
     capture: &mut Capture,

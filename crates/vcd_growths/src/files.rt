@@ -15,7 +15,7 @@ use std::rt::Runtime;
 use vcd_core::{Capture, FromRead, Sink, Source, ToWrite};
 use vcd_text::{read, write};
 
-/// How many bytes a sink into memory takes without more of it.
+/// How many bytes a sink into memory takes without more memory.
 const ROOM: usize = 1_000_000;
 
 /// The capture that a text means.
@@ -28,7 +28,7 @@ pub fn capture_of_text(alloc: Global, text: &[u8]) -> Result<Capture, Stopped>
     }
 }
 
-/// `read`: a fault has a line; what is left is the source, which has not failed, and of its bytes some last ones.
+/// `read`: a fault has a line. Prints that the source has not failed, and how many last bytes are left.
 pub fn call_read<R: Runtime + AllocGlobal>(rt: &R, call: &Call) -> Result<(), Stopped> {
     let mut source = FromRead::new(call.text);
     if call.makes {
@@ -47,7 +47,7 @@ pub fn call_read<R: Runtime + AllocGlobal>(rt: &R, call: &Call) -> Result<(), St
     Ok(())
 }
 
-/// `write`, into memory that is there already.
+/// `write`, into memory that was taken before.
 pub fn call_write<R: Runtime + AllocGlobal>(rt: &R, call: &Call) -> Result<(), Stopped> {
     let capture = capture_of_text(rt.alloc(), call.text)?;
     let mut sink = ToWrite::new(Vec::with_capacity(rt.alloc(), ROOM)?);
@@ -63,7 +63,7 @@ pub fn call_write<R: Runtime + AllocGlobal>(rt: &R, call: &Call) -> Result<(), S
     print_capture(rt, &capture)
 }
 
-/// `write`, to a sink that counts: how it was called. No memory is refused.
+/// `write` to a sink that counts its calls. No memory is refused.
 pub fn count_write<R: Runtime + AllocGlobal>(rt: &R, call: &Call) -> Result<(), Stopped> {
     let capture = capture_of_text(rt.alloc(), call.text)?;
     let mut sink = CountingSink::new();
@@ -78,8 +78,7 @@ pub fn count_write<R: Runtime + AllocGlobal>(rt: &R, call: &Call) -> Result<(), 
     Ok(())
 }
 
-/// A capture's text read byte by byte, by reads into room for one: how many there were before the one that gave
-/// none, and whether the source has failed.
+/// A capture's text read by reads of one byte: how many gave a byte, and whether the source has failed.
 pub fn read_bytes<R: Runtime>(rt: &R, call: &Call) -> Result<(), Stopped> {
     let mut source = FromRead::new(call.text);
     let count = count_bytes(&mut source);

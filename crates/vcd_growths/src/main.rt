@@ -1,12 +1,14 @@
 //! One call of a library crate, between two lines on standard output that say where memory may be refused.
 //!
-//! The words of the command line are `make` or `omit`, a call, and behind some calls one word more: an edit or a step,
-//! or for `run` a step's position; behind a step stands the word of those that are made before it. A capture comes on
-//! standard input. The program makes all that the call needs and writes `refuse`; then it makes the call, and writes
-//! `allow`, `done` or the name of a fault, and last all that the call left. Whoever refuses growths of memory between
-//! the two lines can compare that with what `omit` writes, which leaves out the call alone, of `run` the step at that
-//! position alone. The call `counted` writes the capture to a sink that counts, and tells how that was called;
-//! `bytes` reads it byte by byte.
+//! The words of the command line are `make` or `omit`, a call, and after some calls one more word: an edit or a step,
+//! or for `run` a step's position. After a step comes the word of the steps made before it. Standard input is a
+//! capture.
+//!
+//! The program makes all that the call needs and writes `refuse`. Then it makes the call, and writes `allow`, and
+//! `done` or the name of a fault. Last it writes all that the call left. A test refuses growths of memory between the
+//! two lines, and compares that with the output of `omit`. That leaves out only the call, and for `run` only the step
+//! at that position. The call `counted` writes the capture to a sink that counts its calls, and prints the counts. The
+//! call `bytes` reads the capture byte by byte.
 #![tactic(auto)]
 
 mod calls;

@@ -1,4 +1,4 @@
-//! What is written of a call and of what it left.
+//! The output about a call and what it left.
 
 ghost use Rattle.vcd_core.specs.Contents.{contents};
 ghost use Rattle.vcd_core.specs.Sound.{IsSound};
@@ -46,10 +46,10 @@ pub fn refuse<R: Runtime>(rt: &R) -> Result<(), Stopped> {
     Ok(())
 }
 
-/// What is told of a call that was not refused.
+/// The outcome of a call that was not refused.
 pub const DONE: &str = "done";
 
-/// Memory is refused no more, and this became of the call: `DONE`, or the name of a fault.
+/// Memory is refused no more; the call had this outcome: `DONE`, or the name of a fault.
 pub fn allow<R: Runtime>(rt: &R, outcome: &str) -> Result<(), Stopped> {
     io::writer(rt).write_all(b"allow\n")?;
     println!(rt; "{outcome}")?;
@@ -64,7 +64,7 @@ pub fn print_wave<R: Runtime>(rt: &R, wave: &Wave) -> Result<(), Stopped> {
     Ok(())
 }
 
-/// All of a capture: its text.
+/// The whole capture as text.
 pub fn print_capture<R: Runtime + AllocGlobal>(rt: &R, capture: &Capture) -> Result<(), Stopped>
     requires { IsSound (contents capture.now) }
 {
@@ -74,7 +74,7 @@ pub fn print_capture<R: Runtime + AllocGlobal>(rt: &R, capture: &Capture) -> Res
     }
 }
 
-/// All of a session: the capture now, those that both histories lead to, and the depth.
+/// The whole session: the current capture, those that undo and redo reach, and the depth.
 pub fn print_session<R: Runtime + AllocGlobal>(
     rt: &R,
     session: &mut Session,
@@ -85,13 +85,13 @@ pub fn print_session<R: Runtime + AllocGlobal>(
     print_depth(rt, session)
 }
 
-/// How many steps go back and forth, and the capture now.
+/// How many steps can be undone and redone, and the current capture.
 fn print_now<R: Runtime + AllocGlobal>(rt: &R, session: &Session) -> Result<(), Stopped> {
     println!(rt; "{} back, {} forth", session.undoable(), session.redoable())?;
     print_capture(rt, session.capture())
 }
 
-/// The captures that a step leads to, made until it is refused.
+/// The captures after each of several steps, up to the first refusal.
 fn print_way<R: Runtime + AllocGlobal>(
     rt: &R,
     session: &mut Session,
@@ -106,7 +106,7 @@ fn print_way<R: Runtime + AllocGlobal>(
     Ok(())
 }
 
-/// The depth: how many of many steps are held.
+/// The depth, counted with many steps.
 fn print_depth<R: Runtime>(rt: &R, session: &mut Session) -> Result<(), Stopped> {
     for _ in 0..=DEPTH_LIMIT {
         if session.apply(&Edit::Invert { signal: 0 }).is_err() {

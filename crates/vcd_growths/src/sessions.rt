@@ -12,7 +12,7 @@ use vcd_core::NoMemory;
 use vcd_edit::{Edit, Rule};
 use vcd_journal::{Answer, DEPTH_LIMIT, Session, Step, run};
 
-/// How many steps a session holds, where no other depth is asked for.
+/// How many steps a session holds unless another depth is asked for.
 const DEPTH: u64 = 5;
 
 /// `Session::new`.
@@ -35,7 +35,7 @@ pub fn call_new<R: Runtime + AllocGlobal>(rt: &R, call: &Call) -> Result<(), Sto
 }
 
 /// A step by its name, after the steps that `before` names: `Session::apply`, `undo`, `redo`, and `set_depth`, which
-/// goes from a depth of 1.
+/// begins at a depth of 1.
 pub fn call_step<R: Runtime + AllocGlobal>(rt: &R, call: &Call) -> Result<(), Stopped> {
     let depth = if call.argument == "depth" { 1 } else { DEPTH };
     let mut session = new_session(rt.alloc(), call.text, depth)?;
@@ -53,7 +53,7 @@ pub fn call_step<R: Runtime + AllocGlobal>(rt: &R, call: &Call) -> Result<(), St
     print_session(rt, &mut session)
 }
 
-/// The step that a word names: an edit, `undo`, `redo`, or `depth`, which is then the greatest.
+/// The step that a word names: an edit, `undo`, `redo`, or `depth`, which sets the greatest one.
 fn step_named<'a>(name: &'a str) -> Option<Step<'a>> {
     match name {
         "undo" => Some(Step::Undo),
@@ -91,8 +91,8 @@ fn new_session(alloc: Global, text: &[u8], depth: u64) -> Result<Session, Stoppe
     }
 }
 
-/// `run`, of steps that each can be made whether or not those before it are. Where the call is omitted, only the step
-/// at the position in `argument` is.
+/// `run` of steps that do not depend on those before them. If the call is omitted, only the step at the position in
+/// `argument` is.
 pub fn call_run<R: Runtime + AllocGlobal>(rt: &R, call: &Call) -> Result<(), Stopped> {
     let steps = [
         Step::Edit(Edit::Rename {
@@ -125,7 +125,7 @@ pub fn call_run<R: Runtime + AllocGlobal>(rt: &R, call: &Call) -> Result<(), Sto
     print_session(rt, &mut session)
 }
 
-/// Makes all steps but the one at a position.
+/// Makes all steps except the one at a position.
 fn run_but(
     session: &mut Session,
     steps: &[Step],
@@ -142,7 +142,7 @@ fn run_but(
     Ok(())
 }
 
-/// What became of each step, on a line of its own: `DONE`, or the name of a fault.
+/// The outcome of each step, on a line of its own: `DONE`, or the name of a fault.
 fn print_answers<R: Runtime>(rt: &R, answers: &[Answer]) -> Result<(), Stopped> {
     for answer in answers {
         let outcome = match answer {

@@ -8,7 +8,7 @@ use std::alloc::Global;
 use std::rt::Runtime;
 use vcd_core::{Bit, Change, NoMemory, Value, Wave};
 
-/// How many changes room is made for.
+/// For how many changes room is made.
 const MORE: usize = 9;
 
 /// A wave of one change, at tick 0, without room for another.
@@ -22,8 +22,8 @@ fn full_wave(alloc: Global) -> Result<Wave, NoMemory>
     Ok(wave)
 }
 
-/// `Wave::push`, `share`, `reserve`, `reserve_exact` and `reserve_splice`, by their names. With the word `shared` another
-/// wave shares the list, and is told, too.
+/// `Wave::push`, `share`, `reserve`, `reserve_exact` and `reserve_splice`, by their names. With the word `shared`
+/// another wave shares the list, and is printed, too.
 pub fn call_on_wave<R: Runtime + AllocGlobal>(rt: &R, call: &Call) -> Result<(), Stopped> {
     let piece = full_wave(rt.alloc())?;
     let mut wave = full_wave(rt.alloc())?;
@@ -35,7 +35,7 @@ pub fn call_on_wave<R: Runtime + AllocGlobal>(rt: &R, call: &Call) -> Result<(),
     grow_and_tell(rt, call, &mut wave, piece.changes())
 }
 
-/// Makes the call, if it is made, and tells what became of it and of the wave. A splice is of this piece.
+/// Makes the call unless it is omitted, and prints its outcome and the wave. A splice puts in this piece.
 fn grow_and_tell<R: Runtime + AllocGlobal>(
     rt: &R,
     call: &Call,
@@ -69,7 +69,7 @@ fn grow(wave: &mut Wave, piece: &[Change], name: &str) -> Result<(), NoMemory>
     }
 }
 
-/// `Wave::share`, of which the other wave goes at once.
+/// `Wave::share`; the other wave is dropped at once.
 fn share_and_drop(wave: &mut Wave) -> Result<(), NoMemory> {
     wave.share()?;
     Ok(())

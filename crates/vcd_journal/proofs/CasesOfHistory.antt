@@ -23,7 +23,7 @@ use Rattle.vcd_journal.specs.InForce.{tally_of_steps, tally_after_all, replay, e
 
 -- ---- renames of one signal
 
--- a capture of one signal, under the names that it has one after another
+-- a capture of one signal with its names in order of time
 abbrev pub named : List ℕ → Contents
 named name = capture 0 (wire name [] ∷ [])
 
@@ -65,7 +65,7 @@ history_of_two :
 unfolding effect edit_fault name_in
 history_of_two = (refl, refl, refl, refl, refl, refl)
 
--- redo goes the other way; an accepted edit leaves none to redo, a refused one changes nothing
+-- redo is the opposite of undo; an accepted edit leaves nothing to redo, a refused one changes nothing
 redo_and_edit :
     leads (machine 2 [] b (c ∷ d ∷ [])) steps.Redo (machine 2 (b ∷ []) c (d ∷ []))
     × refuses (machine 2 (b ∷ []) c (d ∷ [])) (to (codes "")) (refusals.Edit errors.BadWord)
@@ -76,7 +76,7 @@ redo_and_edit = (refl, refl, refl, refl)
 
 -- ---- a depth that changes
 
--- what could be made again stays, what could be taken back goes where there is no room left beside it
+-- the future stays; the past loses what has no room besides it
 depth_beside_future :
     leads (machine 3 (b ∷ a ∷ []) c (d ∷ [])) steps.Undo (machine 3 (a ∷ []) b (c ∷ d ∷ []))
     × refuses (machine 3 (a ∷ []) b (c ∷ d ∷ [])) (steps.Depth 1) refusals.DepthTooSmall
@@ -84,7 +84,7 @@ depth_beside_future :
     × refuses (machine 2 [] b (c ∷ d ∷ [])) steps.Undo refusals.NothingToUndo
 depth_beside_future = (refl, refl, refl, refl)
 
--- a smaller depth drops the oldest, a greater one brings nothing back
+-- a smaller depth drops the oldest captures, a greater one brings none back
 depth_of_past :
     leads (machine 2 (c ∷ b ∷ []) d []) (steps.Depth 1) (machine 1 (c ∷ []) d [])
     × leads (machine 1 (c ∷ []) d []) (steps.Depth 2) (machine 2 (c ∷ []) d [])
@@ -92,14 +92,14 @@ depth_of_past :
 unfolding effect edit_fault name_in
 depth_of_past = (refl, refl, refl)
 
--- the first refusal is that of a number that is no depth
+-- a depth out of range is refused first
 depths_that_are_none :
     refuses (machine 2 [] b (c ∷ d ∷ [])) (steps.Depth 0) refusals.BadDepth
     × refuses (first_machine a 2) (steps.Depth (suc DEPTH_LIMIT)) refusals.BadDepth
     × leads (first_machine a 2) (steps.Depth DEPTH_LIMIT) (first_machine a DEPTH_LIMIT)
 depths_that_are_none = (refl, refl, refl)
 
--- ---- a refused edit leaves what could be made again
+-- ---- a refused edit keeps the future
 
 abbrev pub rising : Contents
 rising = alone 9 (from 0 Zero ∷ from 5 One ∷ [])
@@ -125,14 +125,14 @@ abbrev pub their_answers : List Answer
 their_answers = Done ∷ Done ∷ Done ∷ Done ∷ Refused refusals.DepthTooSmall ∷ Done ∷ Refused refusals.NothingToUndo
     ∷ Done ∷ []
 
--- the rename whose capture the history has dropped stays in force
+-- a rename stays in force after the history has dropped its capture
 still_in_force :
     ((tally_of_steps three_renames their_answers).edits_in_force ≡ rename (codes "b") ∷ [])
     × ((tally_of_steps three_renames their_answers).undone_edits ≡ rename (codes "c") ∷ rename (codes "d") ∷ [])
 unfolding tally_after_all
 still_in_force = (refl, refl)
 
--- what the edits in force make of the first capture, before and behind
+-- the replays of the edits in force on the first capture, earlier and later
 replays_of_three :
     (replay a (rename (codes "c") ∷ rename (codes "b") ∷ []) ≡ c)
     × (earlier_replays a (rename (codes "c") ∷ rename (codes "b") ∷ []) ≡ b ∷ a ∷ [])

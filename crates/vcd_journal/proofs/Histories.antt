@@ -1,4 +1,4 @@
--- The records of a session and the captures that they lead to.
+-- The records of a session and the captures that they reach.
 use Rattle.std.proofs.Common.{◌≡◌, ◌<◌, ◌≤◌, ◌+◌, ℕ, zero, suc, List, [], ◌∷◌, ◌-◌, length, take, drop, refl, sym, ◌∙◌}
 use Rattle.std.proofs.Common.{ap, subst, Some, arith}
 use Rattle.std.specs.Prelude.{slice_get}
@@ -17,7 +17,7 @@ pub length_reached_captures : (c : Contents) (rs : List RecordView) → length (
 length_reached_captures c [] = refl
 length_reached_captures c (r ∷ rs) = ap suc (length_reached_captures (apply_record r c) rs)
 
--- the newest records lead to the nearest captures
+-- the newest records reach the nearest captures
 pub reached_captures_take : (c : Contents) (n : ℕ) (rs : List RecordView)
     → reached_captures c (take n rs) ≡ take n (reached_captures c rs)
 reached_captures_take c zero rs = refl
@@ -25,24 +25,24 @@ reached_captures_take c (suc n) [] = refl
 reached_captures_take c (suc n) (r ∷ rs) =
     ap (λ (cs : List Contents). apply_record r c ∷ cs) (reached_captures_take (apply_record r c) n rs)
 
--- the newest of records that fit do so too
+-- the newest of records that fit also fit
 pub AllRecordsFit_take : (c : Contents) (n : ℕ) (rs : List RecordView) → AllRecordsFit c rs
     → AllRecordsFit c (take n rs)
 AllRecordsFit_take c zero rs fit = tt
 AllRecordsFit_take c (suc n) [] fit = tt
 AllRecordsFit_take c (suc n) (r ∷ rs) fit = (fit.0, AllRecordsFit_take (apply_record r c) n rs fit.1)
 
--- the captures that a session can go to are as many as its records
+-- a session can reach as many captures as it has records
 pub few_captures : (c : Contents) (past future : Buffer RecordView) (depth : ℕ) → IsHistory c past future depth
     → length (reached_captures c past.items) + length (reached_captures c future.items) ≤ depth
 few_captures c past future depth held =
     rw (length_reached_captures c past.items, length_reached_captures c future.items) (held.few)
 
--- and there is one where there is a record
+-- with a record there is at least one
 pub some_captures : (c : Contents) (rs : List RecordView) → 0 < length rs → 0 < length (reached_captures c rs)
 some_captures c rs some = rw (length_reached_captures c rs) some
 
--- the machine that a session with these records stands for
+-- the machine of a session with these records
 abbrev pub machine_of : Contents → List RecordView → List RecordView → ℕ → Machine
 machine_of c past future depth =
     record { past = reached_captures c past; now = c; future = reached_captures c future; depth = depth }
@@ -62,13 +62,13 @@ pub past_after_edit : (before after : Contents) (r : RecordView) (rs : List Reco
 past_after_edit before after r rs n leads = reached_captures_take after n (r ∷ rs)
     ∙ ap (λ (c : Contents). take n (c ∷ reached_captures c rs)) leads
 
--- and its record fits
+-- its record fits
 pub fit_after_edit : (before after : Contents) (r : RecordView) (rs : List RecordView) (n : ℕ)
     → apply_record r after ≡ before → Fits r after → AllRecordsFit before rs → AllRecordsFit after (take n (r ∷ rs))
 fit_after_edit before after r rs n leads fits fit =
     AllRecordsFit_take after n (r ∷ rs) (fits, subst (λ (c : Contents). AllRecordsFit c rs) (sym leads) fit)
 
--- few are kept
+-- at most n records are kept
 pub few_after_edit : (r : RecordView) (rs : List RecordView) (n : ℕ) → length (take n (r ∷ rs)) ≤ n
 few_after_edit r rs n = let kept = length-take n (r ∷ rs) in omega (arith, kept)
 
@@ -104,14 +104,14 @@ way_ahead c d r [] first leads fit = absurd (cc)
 way_ahead c d r (q ∷ rs) first leads fit = let same : r ≡ q = cc in
     first_way c d q rs (leads ∙ ap (λ (p : RecordView). apply_record p c) same) fit
 
--- the record that leads back is put in front
+-- the undo record is put in front
 pub way_after : (c d : Contents) (r : RecordView) (rs : List RecordView) (n : ℕ) → apply_record r d ≡ c → Fits r d
     → AllRecordsFit c rs → length rs < n → PopsRecord d (take n (r ∷ rs)) c rs
 way_after c d r rs n leads fits fit room =
     let whole : take n (r ∷ rs) ≡ r ∷ rs = take_all n (r ∷ rs) (omega arith) in
     rw whole (first_way d c r rs (sym leads) (fits, subst (λ (e : Contents). AllRecordsFit e rs) (sym leads) fit))
 
--- a record that was taken out stands where it stood
+-- a record that was taken out is put back in its place
 pub record_put_back : (r : RecordView) (rs : List RecordView) (n : ℕ) → Some r ≡ slice_get rs 0 → length rs ≤ n
     → take n (r ∷ drop 1 rs) ≡ rs
 record_put_back r [] n first within = absurd (cc)

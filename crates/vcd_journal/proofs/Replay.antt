@@ -1,4 +1,4 @@
--- The replay law: what the machine holds is what the edits in force make of the first capture.
+-- The replay law: the machine holds the results of the edits in force on the first capture.
 use Rattle.std.proofs.Common.{◌≡◌, ◌-◌, ℕ, zero, suc, Bool, true, false, if◌then◌else◌, List, [], ◌∷◌, length, take}
 use Rattle.std.proofs.Common.{Option, Some, None, sym, ap, subst, refl, inl, inr}
 use Rattle.std.specs.Prelude.{nat_lt, not}
@@ -45,7 +45,7 @@ past_taken c (suc n) es [] h = tt
 past_taken c (suc n) [] (held ∷ older) h = absurd h
 past_taken c (suc n) (e ∷ es) (held ∷ older) h = (h.0, past_taken c n es older h.1)
 
--- ---- what comes of each step where there is memory
+-- ---- the outcome of each step with enough memory
 
 pub edit_follows : (c : Contents) (t : Tally) (m : Machine) (e : Edit) (found : Option EditError) → Follows c t m
     → Follows c (tally_after t (steps.Edit e) (edit_outcome found e m).answer) (edit_outcome found e m).after
@@ -75,7 +75,7 @@ redo_follows c es undone_edits m [] p f = f
 redo_follows c es [] m (next ∷ later) p f = absurd p
 redo_follows c es (u ∷ undone_edits) m (next ∷ later) p f = record { now = p.0; past = (f.now, f.past); future = p.1 }
 
--- another depth, whatever the two tests say
+-- another depth, for either result of the two tests
 abbrev pub depth_choice : ℕ → Machine → Bool → Bool → StepOutcome
 depth_choice depth m bad small = if bad then refused_outcome refusals.BadDepth m
     else (if small then refused_outcome refusals.DepthTooSmall m else accepted_outcome (machine_after_depth depth m))
@@ -99,9 +99,9 @@ outcome_follows c t m steps.Redo f = redo_follows c t.edits_in_force t.undone_ed
 outcome_follows c t m (steps.Depth depth) f =
     depth_follows c t m depth (not (is_depth depth)) (nat_lt depth (length m.future)) f
 
--- ---- what may come of each step
+-- ---- every possible outcome of each step
 
--- a refusal for want of memory counts for nothing
+-- a step refused because memory ran out does not change the tally
 pub refusal_counts_not : (t : Tally) (s : Step) → tally_after t s (memory_refusal s) ≡ t
 refusal_counts_not t (steps.Edit e) = refl
 refusal_counts_not t steps.Undo = refl

@@ -1,4 +1,4 @@
--- Steps of the machine, each from what a call says of it.
+-- Steps of the machine, each from the contract of its call.
 use Rattle.std.proofs.Common.{◌≡◌, ◌≢◌, ◌<◌, ◌≤◌, ℕ, true, false, List, [], ◌∷◌, ◌++◌, None, length, refl, sym, ◌∙◌, ap}
 use Rattle.std.proofs.Common.{subst, inl, inr, arith}
 use Rattle.std.specs.Prelude.{nat_lt}
@@ -108,11 +108,11 @@ depth_starved depth m n is_one most greater is =
 
 -- ---- all steps
 
--- what comes of a step where there is memory is what may come of it
+-- the outcome of a step with enough memory is a possible one
 pub ample_step : (m : Machine) (s : Step) → IsStep m s (step_outcome m s).answer (step_outcome m s).after
 ample_step m s = inl refl
 
--- and it comes of each step that is not refused for want of memory
+-- a step that is not refused because memory ran out has that outcome
 pub outcome_of_step : (m : Machine) (s : Step) (a : Answer) (n : Machine) → IsStep m s a n → a ≢ memory_refusal s
     → record { answer = a; after = n } ≡ step_outcome m s
 outcome_of_step m s a n (inl same) other = same
@@ -123,7 +123,7 @@ pub no_steps_lead : (m : Machine) → StepsLead m [] [] m
 unfolding StepsLead
 no_steps_lead m = refl
 
--- one step more
+-- one more step
 pub steps_lead_more : (m : Machine) (asked : List Step) (answers : List Answer) (n : Machine) (s : Step) (a : Answer)
     (last : Machine) →
     StepsLead m asked answers n → IsStep n s a last → StepsLead m (asked ++ s ∷ []) (answers ++ a ∷ []) last

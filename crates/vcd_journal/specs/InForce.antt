@@ -1,4 +1,4 @@
--- Which edits are in force, and what they make of a capture: the project's own.
+-- Which edits are in force, and what they make of a capture. The rules are the project's own.
 use Rattle.std.specs.Prelude.{◌≡◌, List, [], ◌∷◌, length, take}
 use Rattle.vcd_core.specs.Contents.{Contents}
 use Rattle.vcd_edit.specs.declared.edit.Edit.{Edit}
@@ -9,7 +9,7 @@ use Rattle.vcd_journal.specs.declared.step.Answer.{Answer}
 use Rattle.vcd_journal.specs.declared.step.Answer.TheVariants.{Done}
 use Rattle.vcd_journal.specs.Machine.{Machine}
 
--- the edits in force, the last first, and those undone, the one undone last first
+-- the edits in force and the undone edits, both with the last one first
 pub record Tally : Type 0 where
   pub edits_in_force : List Edit
   pub undone_edits : List Edit
@@ -19,12 +19,12 @@ abbrev pub tally_after_undo : List Edit → List Edit → Tally
 tally_after_undo [] undone_edits = record { edits_in_force = []; undone_edits = undone_edits }
 tally_after_undo (e ∷ es) undone_edits = record { edits_in_force = es; undone_edits = e ∷ undone_edits }
 
--- an accepted redo: the edit that was undone last is in force again
+-- an accepted redo: the edit undone last is in force again
 abbrev pub tally_after_redo : List Edit → List Edit → Tally
 tally_after_redo edits_in_force [] = record { edits_in_force = edits_in_force; undone_edits = [] }
 tally_after_redo edits_in_force (e ∷ es) = record { edits_in_force = e ∷ edits_in_force; undone_edits = es }
 
--- an accepted edit is in force and leaves none undone; a depth and a refused step count for nothing
+-- an accepted edit is in force and clears the undone ones; a depth and a refused step change nothing
 abbrev pub tally_after : Tally → Step → Answer → Tally
 tally_after t (steps.Edit e) Done = record { edits_in_force = e ∷ t.edits_in_force; undone_edits = [] }
 tally_after t steps.Undo Done = tally_after_undo t.edits_in_force t.undone_edits
@@ -36,26 +36,27 @@ unfoldable pub tally_after_all : Tally → List Step → List Answer → Tally
 tally_after_all t (s ∷ asked) (a ∷ answers) = tally_after_all (tally_after t s a) asked answers
 tally_after_all t asked answers = t
 
--- the tally after steps with their answers, where there was none before
+-- the tally after steps with their answers, from an empty one
 abbrev pub tally_of_steps : List Step → List Answer → Tally
 tally_of_steps asked answers = tally_after_all (record { edits_in_force = []; undone_edits = [] }) asked answers
 
--- edits made one after another, the last of them being the first of the list
+-- the capture after edits are made one after another; the first of the list is made last
 unfoldable pub replay : Contents → List Edit → Contents
 replay c [] = c
 replay c (e ∷ es) = effect e (replay c es)
 
--- the replays of the edits without the last, without the last two, and so on down to none
+-- the replays without the last edit, without the last two, and so on down to none
 unfoldable pub earlier_replays : Contents → List Edit → List Contents
 earlier_replays c [] = []
 earlier_replays c (e ∷ es) = replay c es ∷ earlier_replays c es
 
--- the replays with the first of the undone edits again, with the first two, and so on
+-- the replays with the first undone edit made again, with the first two, and so on
 unfoldable pub later_replays : Contents → List Edit → List Edit → List Contents
 later_replays c es [] = []
 later_replays c es (u ∷ undone_edits) = replay c (u ∷ es) ∷ later_replays c (u ∷ es) undone_edits
 
--- the capture is the replay of the edits in force; those of the past, as far as they are held, are the replays of all but the last, of all but the last two, and so on; those of the future are the replays with the undone edits made again, one after another
+-- the capture is the replay of the edits in force; the past is replays of fewer of them, the future replays with more
+-- of the undone edits; the past may have lost its oldest captures
 pub record IsReplay (c : Contents) (t : Tally) (m : Machine) : Type 0 where
   pub now : m.now ≡ replay c t.edits_in_force
   pub past : m.past ≡ take (length m.past) (earlier_replays c t.edits_in_force)

@@ -1,4 +1,4 @@
--- Laws of the history: the project's own.
+-- Laws of the history.
 use Rattle.std.specs.Prelude.{ℕ, ◌+◌, ◌≤◌, List, length}
 use Rattle.vcd_core.specs.Contents.{Contents}
 use Rattle.vcd_journal.specs.declared.step.Step.{Step}
@@ -6,10 +6,10 @@ use Rattle.vcd_journal.specs.declared.step.Answer.{Answer}
 use Rattle.vcd_journal.specs.Machine.{Machine, first_machine, StepsLead}
 use Rattle.vcd_journal.specs.InForce.{IsReplay, tally_of_steps}
 
--- whatever steps are asked and however they are answered, what the machine holds are replays of the edits in force
+-- after any steps with any answers the machine holds replays of the edits in force
 abbrev pub SessionIsReplay : Type 0
 SessionIsReplay = (c : Contents) (depth : ℕ) (asked : List Step) (answers : List Answer) (m : Machine) → StepsLead (first_machine c depth) asked answers m → IsReplay c (tally_of_steps asked answers) m
 
--- whatever steps are asked and however they are answered, past and future together hold at most as many captures as the depth
+-- after any steps with any answers past and future together hold at most as many captures as the depth
 abbrev pub HistoryIsBounded : Type 0
 HistoryIsBounded = (c : Contents) (depth : ℕ) (asked : List Step) (answers : List Answer) (m : Machine) → StepsLead (first_machine c depth) asked answers m → length m.past + length m.future ≤ m.depth

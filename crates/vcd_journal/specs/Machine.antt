@@ -1,4 +1,4 @@
--- The bounded history of a capture as a machine: the project's own.
+-- The bounded history of a capture as a machine. The rules are the project's own.
 use Rattle.std.specs.Prelude.{◌≡◌, ◌⊎◌, ℕ, ◌-◌, nat_lt, nat_le, Bool, true, not, ◌&&◌, IsTrue, if◌then◌else◌, List, [], ◌∷◌, length, take, Option, Some, None, Result, MatchResult}
 use Rattle.vcd_core.specs.Contents.{Contents}
 use Rattle.vcd_edit.specs.declared.edit.Edit.{Edit}
@@ -14,7 +14,7 @@ use Rattle.vcd_journal.specs.declared.step.StepError.TheVariants as refusals
 use Rattle.vcd_journal.specs.declared.step.Answer.{Answer}
 use Rattle.vcd_journal.specs.declared.step.Answer.TheVariants.{Done, Refused}
 
--- the capture now; the past, to which undo goes back, and the future, to which redo goes on, both with the nearest first; how many captures of both are held at most
+-- the current capture; the captures that undo and redo reach, the nearest first; and the most that both may hold
 pub record Machine : Type 0 where
   pub past : List Contents
   pub now : Contents
@@ -27,25 +27,25 @@ first_machine c depth = record { past = []; now = c; future = []; depth = depth 
 
 -- ---- accepted steps
 
--- an accepted edit: the capture joins the past, of which the newest `depth` are kept; nothing is left to redo
+-- an accepted edit: the capture joins the past, which keeps the newest `depth`; the future becomes empty
 abbrev pub machine_after_edit : Edit → Machine → Machine
 machine_after_edit e m = record { past = take m.depth (m.now ∷ m.past); now = effect e m.now; future = []; depth = m.depth }
 
--- an accepted undo, where `back` is the newest of the past and `older` the others
+-- an accepted undo: `back` is the newest of the past, `older` the others
 abbrev pub machine_after_undo : Contents → List Contents → Machine → Machine
 machine_after_undo back older m = record { past = older; now = back; future = m.now ∷ m.future; depth = m.depth }
 
--- an accepted redo, where `next` is the first of the future and `later` the others
+-- an accepted redo: `next` is the first of the future, `later` the others
 abbrev pub machine_after_redo : Contents → List Contents → Machine → Machine
 machine_after_redo next later m = record { past = m.now ∷ m.past; now = next; future = later; depth = m.depth }
 
--- an accepted depth: of the past the newest are kept, as many as there is room for beside the future
+-- an accepted depth: the past keeps the newest captures that have room besides the future
 abbrev pub machine_after_depth : ℕ → Machine → Machine
 machine_after_depth depth m = record { past = take (depth - length m.future) m.past; now = m.now; future = m.future; depth = depth }
 
--- ---- what comes of a step
+-- ---- the outcome of a step
 
--- what comes of a step: the answer, and the machine after it
+-- the outcome of a step: the answer, and the machine after it
 pub record StepOutcome : Type 0 where
   pub answer : Answer
   pub after : Machine
@@ -58,17 +58,17 @@ accepted_outcome after = record { answer = Done; after = after }
 abbrev pub refused_outcome : StepError → Machine → StepOutcome
 refused_outcome refusal m = record { answer = Refused refusal; after = m }
 
--- an edit is refused by its fault, and else accepted
+-- an edit is refused by its fault, and accepted without one
 abbrev pub edit_outcome : Option EditError → Edit → Machine → StepOutcome
 edit_outcome None e m = accepted_outcome (machine_after_edit e m)
 edit_outcome (Some found) e m = refused_outcome (refusals.Edit found) m
 
--- an undo is refused where the past is empty
+-- an undo is refused if the past is empty
 abbrev pub undo_outcome : List Contents → Machine → StepOutcome
 undo_outcome [] m = refused_outcome refusals.NothingToUndo m
 undo_outcome (back ∷ older) m = accepted_outcome (machine_after_undo back older m)
 
--- a redo is refused where the future is empty
+-- a redo is refused if the future is empty
 abbrev pub redo_outcome : List Contents → Machine → StepOutcome
 redo_outcome [] m = refused_outcome refusals.NothingToRedo m
 redo_outcome (next ∷ later) m = accepted_outcome (machine_after_redo next later m)
@@ -77,47 +77,47 @@ redo_outcome (next ∷ later) m = accepted_outcome (machine_after_redo next late
 abbrev pub is_depth : ℕ → Bool
 is_depth depth = nat_le 1 depth && nat_le depth DEPTH_LIMIT
 
--- a depth is refused where a session may not have it, then where the future is longer
+-- a depth is refused if it is out of range, then if the future is longer
 abbrev pub depth_outcome : ℕ → Machine → StepOutcome
 depth_outcome depth m = if not (is_depth depth) then refused_outcome refusals.BadDepth m
     else (if nat_lt depth (length m.future) then refused_outcome refusals.DepthTooSmall m
     else accepted_outcome (machine_after_depth depth m))
 
--- what comes of a step where there is memory
+-- the outcome of a step with enough memory
 abbrev pub step_outcome : Machine → Step → StepOutcome
 step_outcome m (steps.Edit e) = edit_outcome (edit_fault e m.now) e m
 step_outcome m steps.Undo = undo_outcome m.past m
 step_outcome m steps.Redo = redo_outcome m.future m
 step_outcome m (steps.Depth depth) = depth_outcome depth m
 
--- ---- what may come of a step
+-- ---- every possible outcome of a step
 
--- whether a step may want memory: each may, but a depth only where it is greater
+-- whether a step may run out of memory: each may, but a depth only if it is greater
 abbrev pub may_want_memory : Machine → Step → Bool
 may_want_memory m (steps.Depth depth) = nat_lt m.depth depth
 may_want_memory m s = true
 
--- the answer where memory is refused
+-- the answer if memory is refused
 abbrev pub memory_refusal : Step → Answer
 memory_refusal (steps.Edit e) = Refused (refusals.Edit errors.NoMemory)
 memory_refusal s = Refused refusals.NoMemory
 
--- a step that would be accepted is refused for want of memory, and changes nothing
+-- a step that would be accepted is refused because memory ran out, and changes nothing
 pub record IsMemoryRefusal (m : Machine) (s : Step) (a : Answer) (n : Machine) : Type 0 where
   pub wants : IsTrue (may_want_memory m s)
   pub accepted : (step_outcome m s).answer ≡ Done
   pub answer : a ≡ memory_refusal s
   pub unchanged : n ≡ m
 
--- the answer that a step may have on the machine m, and the machine n after it: what comes of it where there is memory, or a refusal for want of memory
+-- a step on m may have this answer and give n: its outcome with enough memory, or a refusal because memory ran out
 abbrev pub IsStep : Machine → Step → Answer → Machine → Type 0
 IsStep m s a n = (record { answer = a; after = n } ≡ step_outcome m s) ⊎ IsMemoryRefusal m s a n
 
--- a call makes this step: the answer is `Done` where the call gives Ok, and else the refusal that it gives
+-- a call makes this step: it answers `Done` at Ok, otherwise the refusal
 abbrev pub IsStepCall : {T : Type 0} → Machine → Step → Result T StepError → Machine → Type 0
 IsStepCall m s result n = MatchResult result (λ _. IsStep m s Done n) (λ refusal. IsStep m s (Refused refusal) n)
 
--- the steps, with these answers, lead from m to n
+-- the steps, with these answers, change m into n
 unfoldable pub StepsLead : Machine → List Step → List Answer → Machine → Type 0
 StepsLead m [] [] n = n ≡ m
 StepsLead m [] (a ∷ answers) n = ⊥

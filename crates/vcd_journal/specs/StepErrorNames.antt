@@ -1,10 +1,10 @@
--- The names that are printed for refused steps: the project's own.
+-- The names that are printed for refused steps. They are the project's own.
 use Rattle.std.specs.Prelude.{ℕ, List, codes}
 use Rattle.vcd_edit.specs.EditErrorNames.{edit_error_name}
 use Rattle.vcd_journal.specs.declared.step.StepError.{StepError}
 use Rattle.vcd_journal.specs.declared.step.StepError.TheVariants.{Edit, NothingToUndo, NothingToRedo, BadDepth, DepthTooSmall, NoMemory}
 
--- the name that is printed for a refused step: of a refused edit, that of its fault
+-- the name that is printed for a refused step; a refused edit has the name of its fault
 abbrev pub step_error_name : StepError → List ℕ
 step_error_name (Edit fault) = edit_error_name fault
 step_error_name NothingToUndo = codes "NothingToUndo"

@@ -1,2 +1,3 @@
--- Stepping stones: definitions that only contracts of private functions and proofs cite. A reader need not believe them.
+-- Intermediate definitions, cited only by proofs and by contracts of private functions. A reader need not believe
+-- them.
 pub mod Histories

@@ -2,15 +2,15 @@
 
 ghost use Rattle.vcd_journal.specs.Laws.{HistoryIsBounded, SessionIsReplay};
 
-/// After any steps, accepted or refused, the capture is what the edits in force make of the first
-/// one; each step back that is held goes to what they make of it without the last, without the last
-/// two, and so on; and each step forth to what they make of it with the undone ones again.
+/// After any steps, accepted or refused, the capture is the first one after the edits in force.
+///
+/// Each capture of the past, as far as it is held, is the first one after all of these but the last, all but the last
+/// two, and so on. Each capture of the future has the undone edits made again, one after another.
 pub fn session_is_replay()
     ensures { SessionIsReplay }
 {}
 
-/// After any steps at most as many are held as the depth then allows, to be taken back or made
-/// again.
+/// After any steps, past and future together hold at most as many captures as the depth then allows.
 pub fn history_is_bounded()
     ensures { HistoryIsBounded }
 {}

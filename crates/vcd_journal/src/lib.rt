@@ -1,9 +1,8 @@
-//! The bounded history of a capture: edits made, taken back and made again.
+//! The bounded history of a capture: edits made, undone and made again.
 //!
-//! A [`Session`] holds one capture, the one now, and for each step that can be taken back or made
-//! again the record that leads there. How many steps it holds at most is its depth, which can be
-//! changed. `laws` says what the capture is after any steps: what the edits in force make of the
-//! first one.
+//! A [`Session`] holds the current capture, and a record for each step that can be undone or redone. Its depth is the
+//! most steps that it holds, and can be changed. `laws` states that after any steps the capture is the first one after
+//! the edits in force.
 #![tactic(auto)]
 
 mod laws;

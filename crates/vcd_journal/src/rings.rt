@@ -1,6 +1,6 @@
 //! The two histories as rings of records, the newest record first.
 //!
-//! The functions take a session's fields, not the session: so the prover knows what became of each.
+//! The functions take the fields of a session, not the session, so that the prover can follow each field.
 
 ghost use Rattle.std.specs.Prelude.{◌≡◌, ◌≤◌, ◌<◌, [], ◌∷◌, IfOk, OnOk, OnErr, length, take};
 ghost use Rattle.circular_buffer.specs.Buffer.{buffer};
@@ -16,7 +16,7 @@ use vcd_edit::{Record, revert};
 /// The records of one history, the newest first.
 pub type Ring = HeapCircularBuffer<Record>;
 
-/// Two rings without a record, each with room for so many.
+/// Two empty rings, each with room for so many records.
 pub fn empty_rings(alloc: Global, capacity: usize) -> Result<(Ring, Ring), NoMemory>
     ensures { IfOk result (λ r. (r.0 ≡ buffer [] capacity) × (r.1 ≡ buffer [] capacity)) }
 {
@@ -25,8 +25,7 @@ pub fn empty_rings(alloc: Global, capacity: usize) -> Result<(Ring, Ring), NoMem
     Ok((past, future))
 }
 
-/// Puts a record in front, and keeps the newest `depth` of all. The ring may have more room than
-/// that.
+/// Puts a record in front, and keeps the newest `depth` records. The ring may have more room than that.
 pub fn push_newest(ring: &mut Ring, newest: Record, depth: usize)
     requires { depth ≤ ring.old.capacity }
     ensures items { ring.new.items ≡ take depth (newest ∷ ring.old.items) }
@@ -36,13 +35,13 @@ pub fn push_newest(ring: &mut Ring, newest: Record, depth: usize)
     keep_newest(ring, depth);
 }
 
-/// Puts a record in front, where there is room.
+/// Puts a record in front. The ring has room for it.
 fn push_in_room(ring: &mut Ring, newest: Record)
     requires { length ring.old.items < ring.old.capacity }
     ensures items { ring.new.items ≡ newest ∷ ring.old.items }
     ensures capacity { ring.new.capacity ≡ ring.old.capacity }
 {
-    // A function of its own, so that the drop of no record stays out of its callers' proofs.
+    // A separate function, so that its callers need not prove anything about the dropped `None`.
     let _none = ring.push_front(newest);
 }
 
@@ -53,7 +52,7 @@ pub fn keep_newest(ring: &mut Ring, count: usize)
     ring.truncate_back(count);
 }
 
-/// Gives a ring room for so many records. One that has it stays as it is, and takes no memory.
+/// Gives a ring room for so many records. A ring that has the room takes no memory.
 pub fn enlarge(ring: &mut Ring, capacity: usize) -> Result<(), NoMemory>
     ensures items { ring.new.items ≡ ring.old.items }
     ensures room { OnOk result (capacity ≤ ring.new.capacity) }
@@ -67,8 +66,8 @@ pub fn enlarge(ring: &mut Ring, capacity: usize) -> Result<(), NoMemory>
     Ok(())
 }
 
-/// The capture becomes what the newest record of `from` leads to. That record goes, and the one
-/// that leads back becomes the newest of `to`. Where memory is refused, all is as before.
+/// Applies the newest record of `from` to the capture. That record is removed, and the one that undoes it becomes the
+/// newest of `to`. If memory is refused, nothing changes.
 pub fn follow_newest(
     alloc: Global,
     capture: &mut Capture,

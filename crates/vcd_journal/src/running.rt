@@ -8,8 +8,8 @@ ghost use Rattle.vcd_journal.specs.declared.step.Answer.{Answer};
 use crate::session::Session;
 use crate::step::{Answer, Step};
 
-/// Makes the steps in order, and appends the answer to each. A refused step changes nothing, and
-/// the next one is made all the same.
+/// Makes the steps in order, and appends the answer to each. A refused step changes nothing, and the next one is still
+/// made.
 pub fn run(session: &mut Session, steps: &[Step], answers: &mut Vec<Answer>)
     requires room { vec_len answers.old + length steps.now ≤ vec_capacity answers.old }
     ensures told { (told : List Answer) × (answers.new.items ≡ answers.old.items ++ told)
@@ -20,7 +20,7 @@ pub fn run(session: &mut Session, steps: &[Step], answers: &mut Vec<Answer>)
     }
 }
 
-/// Makes a step, and tells the answer.
+/// Makes a step, and gives the answer.
 fn answer_to(session: &mut Session, step: &Step) -> Answer
     ensures { IsStep session.old step.now result session.new }
 {

@@ -1,4 +1,4 @@
-//! The capture that is edited, with the steps that can be taken back and made again.
+//! The capture that is edited, with the steps that can be undone and redone.
 
 ghost use Rattle.std.specs.Prelude.{◌≡◌, ◌≤◌, ◌+◌, IfOk, IfErr, OnErr, length};
 ghost use Rattle.vcd_core.specs.Contents.{contents};
@@ -18,19 +18,19 @@ mod tests;
 
 /// A capture under edit, with a bounded history.
 ///
-/// It holds a record for each step that can be taken back or made again, and no capture but the one
-/// now. A record holds at most as many changes as its step touched.
+/// It holds a record for each step that can be undone or redone, and no other capture than the current one. A record
+/// holds at most as many changes as its step touched.
 ///
-/// A refused step changes nothing: contents, both histories and the depth are as before. Contracts
-/// see a session as the captures that it can go back and on to.
+/// A refused step changes nothing: contents, both histories and the depth are as before. Contracts see a session as
+/// the captures that undo and redo can reach.
 #[derive(Drop)]
 pub struct Session {
     capture: Capture,
-    /// The records that lead back, that of the newest edit first.
+    /// The records that undo edits, that of the newest edit first.
     past: Ring,
-    /// The records that lead forth again, that of the edit undone last first.
+    /// The records that redo edits, that of the edit undone last first.
     future: Ring,
-    /// How many records are held at most, in both rings together. Either ring may have more room.
+    /// The most records that both rings together may hold. Either ring may have more room.
     depth: u64,
     alloc: Global,
 }
@@ -53,8 +53,8 @@ impl Model for Session {
 }
 
 impl Session {
-    /// A session on a capture, with nothing to take back or to make again. It holds at most `depth`
-    /// steps at any time. Where memory is refused, the capture is handed back.
+    /// A session on a capture, with an empty history. It holds at most `depth` steps at any time. If memory is
+    /// refused, the capture is given back.
     pub fn new(alloc: Global, capture: Capture, depth: u64) -> Result<Session, (Capture, NoMemory)>
         requires least { 1 ≤ depth }
         requires most { depth ≤ DEPTH_LIMIT }
@@ -74,12 +74,12 @@ impl Session {
         }
     }
 
-    /// Makes an edit, which can then be taken back. Nothing is left to make again, and where as
-    /// many steps are held as the depth allows, the oldest is dropped.
+    /// Makes an edit, which can then be undone. Nothing is left to redo. If the history is full, the oldest step is
+    /// dropped.
     ///
-    /// It is refused by the edit's first fault, without memory, and else only for want of memory
-    /// (`StepError::Edit` of `NoMemory`). The cost is that of the edit, and of dropping the records
-    /// of undone edits.
+    /// An edit with a fault is refused by its first fault, and takes no memory. Otherwise it is refused only if memory
+    /// runs out (`StepError::Edit` of `NoMemory`). The cost is that of the edit, and of dropping the records of undone
+    /// edits.
     pub fn apply(&mut self, edit: &Edit) -> Result<(), StepError>
         ensures step { IsStepCall self.old (steps.Edit edit.now) result self.new }
         ensures unchanged { OnErr result (self.new ≡ self.old) }
@@ -90,11 +90,10 @@ impl Session {
         Ok(())
     }
 
-    /// Takes the newest edit back that is held.
+    /// Undoes the newest edit in the history.
     ///
-    /// It is refused without memory where none is held, and else only for want of memory. The cost
-    /// is that of the changes that the edit touched, and one move of the later ones of each touched
-    /// signal.
+    /// If there is none, the step is refused, and takes no memory. Otherwise it is refused only if memory runs out.
+    /// The cost is that of the changes that the edit touched, and one move of the later ones of each touched signal.
     pub fn undo(&mut self) -> Result<(), StepError>
         ensures step { IsStepCall self.old steps.Undo result self.new }
         ensures unchanged { OnErr result (self.new ≡ self.old) }
@@ -113,8 +112,8 @@ impl Session {
 
     /// Makes the edit again that was undone last.
     ///
-    /// It is refused without memory where none is held, and else only for want of memory. The cost
-    /// is that of an undo.
+    /// If there is none, the step is refused, and takes no memory. Otherwise it is refused only if memory runs out.
+    /// The cost is that of an undo.
     pub fn redo(&mut self) -> Result<(), StepError>
         ensures step { IsStepCall self.old steps.Redo result self.new }
         ensures unchanged { OnErr result (self.new ≡ self.old) }
@@ -131,12 +130,12 @@ impl Session {
         Ok(())
     }
 
-    /// Holds at most `depth` steps from now on. Where more are held, the oldest that could be taken
-    /// back are dropped; those that could be made again stay.
+    /// Sets the most steps that the history holds. If it holds more, the oldest that could be undone are dropped.
+    /// Those that could be redone stay.
     ///
-    /// It is refused where the depth is not from 1 to [`DEPTH_LIMIT`], then where more steps could
-    /// be made again, then for want of memory, which only a greater depth may need. The cost is
-    /// that of the dropped records, and of moving both rings where they are too small.
+    /// A depth that is not from 1 to [`DEPTH_LIMIT`] is refused, then one below the number of steps that could be
+    /// redone. Otherwise it is refused only if memory runs out, which only a greater depth may need. The cost is that
+    /// of the dropped records, and of moving both rings if they are too small.
     pub fn set_depth(&mut self, depth: u64) -> Result<(), StepError>
         ensures step { IsStepCall self.old (steps.Depth depth) result self.new }
         ensures unchanged { OnErr result (self.new ≡ self.old) }
@@ -155,7 +154,7 @@ impl Session {
         Ok(())
     }
 
-    /// Makes any step: each is one of the calls above, with its refusals and its cost.
+    /// Makes any step by one of the calls above, with its refusals and its cost.
     pub fn make_step(&mut self, step: &Step) -> Result<(), StepError>
         ensures step { IsStepCall self.old step.now result self.new }
         ensures unchanged { OnErr result (self.new ≡ self.old) }
@@ -168,7 +167,7 @@ impl Session {
         }
     }
 
-    /// The capture now. It takes no memory.
+    /// The current capture. It takes no memory.
     pub fn capture(&self) -> &Capture
         ensures now { contents result.now ≡ self.now.now }
         ensures sound { IsSound (contents result.now) }
@@ -176,7 +175,7 @@ impl Session {
         &self.capture
     }
 
-    /// Gives the capture now up, and drops the history. It takes no memory.
+    /// Gives the current capture, and drops the history. It takes no memory.
     pub fn into_capture(self) -> Capture
         ensures now { contents result ≡ self.now }
         ensures sound { IsSound (contents result) }
@@ -185,7 +184,7 @@ impl Session {
         capture
     }
 
-    /// How many steps can be taken back. It takes no memory.
+    /// How many steps can be undone. It takes no memory.
     pub fn undoable(&self) -> usize
         ensures count { result ≡ length self.now.past }
         ensures most { length self.now.past + length self.now.future ≤ self.now.depth }
@@ -193,7 +192,7 @@ impl Session {
         self.past.len()
     }
 
-    /// How many steps can be made again. It takes no memory.
+    /// How many steps can be redone. It takes no memory.
     pub fn redoable(&self) -> usize
         ensures count { result ≡ length self.now.future }
         ensures most { length self.now.past + length self.now.future ≤ self.now.depth }

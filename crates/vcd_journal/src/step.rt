@@ -1,4 +1,4 @@
-//! The steps of a session, and what it answers to them.
+//! The steps of a session, and its answers to them.
 
 ghost use Rattle.std.specs.Prelude.{◌≡◌};
 ghost use Rattle.vcd_journal.specs.StepErrorNames.{step_error_name};
@@ -7,8 +7,7 @@ use thiserror::Error;
 use vcd_core::NoMemory;
 use vcd_edit::{Edit, EditError};
 
-/// The most steps that a session may hold, those that can be taken back and those that can be made
-/// again together.
+/// The most steps that a session may hold, to undo and to redo together.
 pub const DEPTH_LIMIT: u64 = 1_000;
 
 /// What a session is asked to do.
@@ -16,11 +15,11 @@ pub const DEPTH_LIMIT: u64 = 1_000;
 pub enum Step<'a> {
     /// The capture is edited.
     Edit(Edit<'a>),
-    /// The last edit that can be taken back is taken back.
+    /// The last edit in the history is undone.
     Undo,
     /// The edit that was undone last is made again.
     Redo,
-    /// From now on at most so many steps are held, from 1 to [`DEPTH_LIMIT`].
+    /// The history holds at most so many steps from now on, from 1 to [`DEPTH_LIMIT`].
     Depth(u64),
 }
 
@@ -30,16 +29,16 @@ pub enum StepError {
     /// The edit is refused.
     #[error(transparent)]
     Edit(EditError),
-    /// No edit is held that could be taken back.
+    /// There is no edit to undo.
     #[error("NothingToUndo")]
     NothingToUndo,
-    /// No edit is held that could be made again.
+    /// There is no edit to redo.
     #[error("NothingToRedo")]
     NothingToRedo,
     /// The depth is not from 1 to [`DEPTH_LIMIT`].
     #[error("BadDepth")]
     BadDepth,
-    /// More edits are held that could be made again.
+    /// More edits than that could be redone.
     #[error("DepthTooSmall")]
     DepthTooSmall,
     /// Memory was refused for an undo, a redo or a greater depth.

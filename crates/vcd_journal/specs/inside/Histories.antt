@@ -1,4 +1,4 @@
--- What the records of a session stand for: the project's own.
+-- The captures that the records of a session reach.
 use Rattle.std.specs.Prelude.{◌≡◌, ℕ, suc, ◌+◌, ◌≤◌, List, [], ◌∷◌, length}
 use Rattle.circular_buffer.specs.Buffer.{Buffer}
 use Rattle.vcd_core.specs.Contents.{Contents}
@@ -7,17 +7,18 @@ use Rattle.vcd_edit.specs.RecordView.{RecordView}
 use Rattle.vcd_edit.specs.AppliedRecords.{apply_record, Fits}
 use Rattle.vcd_journal.specs.declared.step.TheConstants.{DEPTH_LIMIT}
 
--- the captures that records lead to, one after another
+-- the captures after records are applied, one after another
 abbrev pub reached_captures : Contents → List RecordView → List Contents
 reached_captures c [] = []
 reached_captures c (r ∷ rs) = apply_record r c ∷ reached_captures (apply_record r c) rs
 
--- each record fits the capture that those before it lead to
+-- each record fits the capture that those before it reach
 abbrev pub AllRecordsFit : Contents → List RecordView → Type 0
 AllRecordsFit c [] = Unit {0}
 AllRecordsFit c (r ∷ rs) = Fits r c × AllRecordsFit (apply_record r c) rs
 
--- the records of two rings lead back and forth from a sound capture, are few enough, and the rings have room
+-- the records of two rings fit and are undone from a sound capture, their number is at most the depth, and the rings
+-- have room
 pub record IsHistory (c : Contents) (past future : Buffer RecordView) (depth : ℕ) : Type 0 where
   pub sound : IsSound c
   pub past_fits : AllRecordsFit c past.items
@@ -27,7 +28,7 @@ pub record IsHistory (c : Contents) (past future : Buffer RecordView) (depth : �
   pub past_room : depth ≤ past.capacity
   pub future_room : depth ≤ future.capacity
 
--- the first record of a ring leads from c to d, and the others stay
+-- the first record of a ring changes c into d, and the others stay
 pub record PopsRecord (c : Contents) (before : List RecordView) (d : Contents) (after : List RecordView) : Type 0 where
   pub captures : reached_captures c before ≡ d ∷ reached_captures d after
   pub fit : AllRecordsFit c before

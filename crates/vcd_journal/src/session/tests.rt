@@ -1,5 +1,4 @@
-//! What no clause says: that steps are made where there is memory, which fields a session has, and
-//! messages.
+//! What no clause states: that steps are made with enough memory, which fields a session has, and messages.
 
 use crate::{Answer, DEPTH_LIMIT, Session, Step, StepError, run};
 use circular_buffer::HeapCircularBuffer;
@@ -65,8 +64,8 @@ fn push_capture(alloc: Global, text: &mut String, capture: &Capture) -> Result<(
     Ok(())
 }
 
-/// What is answered to the steps; then of the session the signal's name, its letter at tick 0, the
-/// end, and how many steps can be taken back and made again.
+/// The answers to the steps. Then the signal's name, its letter at tick 0, the end, and how many steps can be undone
+/// and redone.
 fn told(rt: &impl Abort, alloc: Global, depth: u64, steps: &[Step]) -> Result<String, Fail> {
     let capture = one_signal(alloc)?;
     assert!(rt; capture.is_sound());
@@ -202,7 +201,7 @@ fn greater_depth_holds_more(rt: HostRuntime) -> Result<(), Fail> {
     check_answers_of(&rt, rt.alloc(), 1, &steps, text)
 }
 
-/// Each field is bound at its type: a session holds records and one capture.
+/// Names each field and its type: a session holds records and one capture.
 #[test]
 fn session_has_these_fields_alone(rt: HostRuntime) -> Result<(), Fail> {
     let alloc = rt.alloc();
