@@ -1,4 +1,4 @@
--- What a session does is what the machine does, and what is said to it is what the machine answers.
+-- A session does what the machine does, and its replies are the machine's answers.
 use Rattle.std.proofs.Common.{◌≡◌, ◌≢◌, ℕ, true, false, List, ◌∷◌, [], take, Option, Some, None, Result, Ok, Err}
 use Rattle.std.proofs.Common.{length, refl, sym, subst, ◌∙◌, ap}
 use Rattle.vcd_core.specs.Contents.{Contents}
@@ -30,9 +30,9 @@ use Rattle.vcdedit.specs.inside.Answering.{is_no_memory, AnswersStep, AnswersCom
 use Rattle.vcdedit.specs.inside.Replies.{IsReplyTo}
 use Rattle.vcdedit.proofs.Steps.{reply_is_answer}
 
--- ---- at which address a word lies
+-- ---- the address of a word
 
--- it counts neither for the effect of an edit nor for its fault
+-- the address matters neither for the effect of an edit nor for its fault
 pub effect_without_address : (e : Edit) (c : Contents) → effect (edit_without_address e) c ≡ effect e c
 unfolding effect
 effect_without_address (Rename k word) c = refl
@@ -66,7 +66,7 @@ edit_outcome_without_address None e m =
     (effect_without_address e m.now)
 edit_outcome_without_address (Some found) e m = refl
 
--- nor for what comes of a step
+-- nor for the outcome of a step
 pub outcome_without_address : (m : Machine) (s : Step) → step_outcome m (step_without_address s) ≡ step_outcome m s
 outcome_without_address m (steps.Edit e) =
     ap (λ (found : Option EditError). edit_outcome found (edit_without_address e) m) (fault_without_address e m.now)
@@ -75,7 +75,7 @@ outcome_without_address m steps.Undo = refl
 outcome_without_address m steps.Redo = refl
 outcome_without_address m (steps.Depth depth) = refl
 
--- nor for what is said to it
+-- nor for the reply
 pub reply_without_address : (s : Step) (c : Contents) (undoable redoable : ℕ)
     → step_reply (step_without_address s) c undoable redoable ≡ step_reply s c undoable redoable
 reply_without_address (steps.Edit e) c undoable redoable = ap edit_reply (fault_without_address e c)
@@ -85,7 +85,7 @@ reply_without_address (steps.Depth depth) c undoable redoable = refl
 
 -- ---- steps
 
--- what comes of a step leads to the machine after it, and what is said to it is the answer
+-- the outcome of a step gives the machine after it, and the reply is the answer
 answered : (s : Step) (a : Answer) (old new : Machine) → record { answer = a; after = new } ≡ step_outcome old s →
     ((step_outcome old s).after ≡ new) × (step_reply s old.now (length old.past) (length old.future) ≡ answer_reply a)
 answered s a old new is = (
@@ -93,7 +93,7 @@ answered s a old new is = (
   reply_is_answer old s ∙ ap (λ (o : StepOutcome). answer_reply o.answer) (sym is),
 )
 
--- an accepted step was not refused for want of memory
+-- an accepted step was not refused because memory ran out
 done_not_refused : (s : Step) → Done ≢ memory_refusal s
 done_not_refused (steps.Edit e) same = absurd (cc)
 done_not_refused steps.Undo same = absurd (cc)
@@ -115,7 +115,7 @@ other_not_refused (steps.Depth depth) refusal other same =
     let is : refusal ≡ refusals.NoMemory = cc in
     let no : true ≡ false = sym (ap is_no_memory is) ∙ other in absurd (cc)
 
--- what is told is said to the step
+-- the reply is the one to the step
 told : (number : ℕ) (said : LineReply) (s : Step) (old new : Machine) (reply : Reply) →
     ((step_outcome old s).after ≡ new) × (step_reply s old.now (length old.past) (length old.future) ≡ said)
     → IsReplyTo number said reply → AnswersStep number s old new reply
@@ -137,11 +137,11 @@ step_refused number s refusal old new reply made other tells =
 
 -- ---- lines
 
--- what is said to a line that is read as this
+-- the reply to a line that is read as this
 said_to : (skipped : ℕ) → Machine → Result Command LineError → LineReply
 said_to skipped m asked = command_reply asked m.now skipped (length m.past) (length m.future)
 
--- what a step does and is told, where its word may lie at any address
+-- what a step does and its reply, with its word at any address
 pub command_steps : (skipped number : ℕ) (s : Step) (old new : Machine) (reply : Reply)
     → AnswersStep number s old new reply → AnswersCommand skipped number (commands.Step s) old new reply
 command_steps skipped number s old new reply answers = (

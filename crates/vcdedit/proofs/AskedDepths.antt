@@ -1,4 +1,4 @@
--- The depth that is asked for, of what reading a text as a number gave.
+-- The depth that is asked for, from the result of reading a text as a number.
 use Rattle.std.proofs.Common.{◌≡◌, ◌≤◌, ℕ, Bool, true, false, Option, Some, None, refl, sym, subst, ◌∙◌, arith}
 use Rattle.std.specs.Prelude.{Result}
 use Rattle.std.specs.Str.Parse.{ParsesUnsigned, ExplainsUnsignedError, HasUnsignedDigitsIfOk, digits_value}
@@ -12,7 +12,7 @@ use Rattle.vcd_journal.specs.declared.step.TheConstants.{DEPTH_LIMIT}
 use Rattle.vcdedit.specs.declared.shell.command_line.TheConstants.{DEFAULT_DEPTH}
 use Rattle.vcdedit.specs.CommandLine.{depth_asked}
 
--- what reading a number of 64 bits gives
+-- the result of reading a number of 64 bits
 abbrev pub Reads : Text → Result ℕ ParseIntError → Type 0
 Reads text r = ParsesUnsigned 64 10 text r × ExplainsUnsignedError 10 text r × HasUnsignedDigitsIfOk text r
 
@@ -32,7 +32,7 @@ number_asked (Some t) r n none value is least most =
     ) in
     rw within same
 
--- where no number from 1 to the limit was read, the default is
+-- if no number from 1 to the limit was read, the default is asked for
 pub default_asked : (text : Option Text) (r : Option ℕ) → ((t : Text) → text ≡ Some t → ReadsOne Reads t r)
     → ((n : ℕ) → r ≡ Some n → 1 ≤ n → n ≤ DEPTH_LIMIT → ⊥) → DEFAULT_DEPTH ≡ depth_asked text
 default_asked None r value out = refl

@@ -1,4 +1,4 @@
--- What the getters read of the matches is what the words ask for.
+-- The getters read from the matches what the words ask for.
 use Rattle.std.proofs.Common.{◌≡◌, ◌∙◌, ap, ap₂, ℕ, List, Option, refl, true, codes}
 use Rattle.std.specs.Prelude.{option_map}
 use Rattle.std.specs.Borrow.{Bor}

@@ -1,4 +1,4 @@
--- The signals that a line asks about are the capture's, and those that it decodes have one bit.
+-- The signals of a command are those of the capture, and those that it decodes have one bit.
 use Rattle.std.proofs.Common.{◌≡◌, ◌<◌, ℕ, ◌==◌, Bool, true, false, cond, List, [], ◌∷◌, Option, Some, None, Result, Ok}
 use Rattle.std.proofs.Common.{Err, length, sym, subst, refl, arith}
 use Rattle.std.specs.Prelude.{IfOk, IfSome}
@@ -45,7 +45,7 @@ refused c fault = record { has = tt }
 steps : (c : Contents) (step : Step) → GivesSignals c (Ok (commands.Step step))
 steps c step = record { has = tt }
 
--- ---- what is read on
+-- ---- the next reading
 
 read_on : {A : Type 0} (c : Contents) (r : Result A LineError) (P : A → Type 0) (f : A → Result Command LineError)
     → IfOk r P → ((x : A) → P x → GivesSignals c (f x)) → GivesSignals c (r >>= f)
@@ -115,7 +115,7 @@ either c false x y first second = second
 
 -- ---- the signals that words name
 
--- a signal of this name stands in the capture
+-- a signal with this name is in the capture
 named : (c : Capture) (name : List ℕ) → IfOk (signal_of_name (contents c) name) (λ k. k < length (contents c).signals)
 named c name = subst (λ (n : ℕ). IfOk (signal_of_name (contents c) name) (λ k. k < n))
     (sym (length-map c.signals signal_contents)) (named_within c name (signal_of_name (contents c) name) refl)

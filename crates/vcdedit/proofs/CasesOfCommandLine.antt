@@ -53,12 +53,12 @@ no_depth : fault_of option_app (codes "--depth" ∷ []) ≡ kinds.InvalidValue �
 unfolding clap_on_literals
 no_depth = refl
 
--- an option that stands twice
+-- an option given twice
 twice : fault_of option_app (codes "-o" ∷ codes "b.vcd" ∷ codes "-o" ∷ codes "b.vcd" ∷ []) ≡ kinds.ArgumentConflict ∷ []
 unfolding clap_on_literals
 twice = refl
 
--- a word that is no option, and an option where a path is due
+-- a word that is no option, and an option in place of a path
 stray_word : fault_of option_app (codes "a.vcd" ∷ []) ≡ kinds.UnknownArgument ∷ []
 unfolding clap_on_literals
 stray_word = refl

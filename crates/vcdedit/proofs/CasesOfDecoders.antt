@@ -1,4 +1,4 @@
--- Worked cases: what `uart`, `spi` and `i2c` ask for and tell.
+-- Worked cases: what `uart`, `spi` and `i2c` ask for, and their replies.
 use Rattle.std.proofs.Common.{◌≡◌, refl}
 use Rattle.std.specs.Prelude.{ℕ, List, [], ◌∷◌, Some, None, Result, Ok, Err, codes}
 use Rattle.std.specs.Fmt.{digits}
@@ -67,7 +67,7 @@ asked_of_spi : (asked (codes "spi top.a - - - 0 8 msb") ≡ Ok (commands.Spi 0 N
 unfolding command_of_line words_from lookup name_in
 asked_of_spi = (refl, refl)
 
--- `-` stands for no line, except for the clock
+-- `-` means no line, except for the clock
 faults_of_spi : (asked (codes "spi top.a - - - 0 8") ≡ Err WrongCount)
     × (asked (codes "spi - - - - 0 8 msb") ≡ Err NoSuchName)
     × (asked (codes "spi top.a - - top.q x 8 msb") ≡ Err NoSuchName)
@@ -129,7 +129,7 @@ words_told : (spi_lines returned 0 None (Some 1) None (spi_setup 1 4 Lsb) ≡ co
 unfolding returned spi_annotations groups_of value_from digits
 words_told = (refl, refl, refl)
 
--- a STOP behind three bits
+-- a STOP after three bits
 cut_short : Contents
 cut_short = capture 50 (wire (top ∷ []) (codes "scl") 1
     (from 0 (codes "1") ∷ from 15 (codes "0") ∷ from 20 (codes "1") ∷ from 25 (codes "0") ∷ from 30 (codes "1")

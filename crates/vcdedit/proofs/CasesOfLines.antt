@@ -70,7 +70,7 @@ greatest_numbers : (asked (codes "cut 0 18446744073709551615") ≡ edit_command 
 unfolding command_of_line words_from lookup name_in
 greatest_numbers = (refl, refl, refl, refl, refl, refl, refl, refl)
 
--- `derive` wants its rule before anything else
+-- the rule of `derive` is required before anything else
 faults_of_derive : (asked (codes "derive") ≡ Err WrongCount)
     × (asked (codes "derive x") ≡ Err WrongCount)
     × (asked (codes "derive x bogus") ≡ Err BadOption)

@@ -1,4 +1,4 @@
--- Worked cases: what `list`, `value` and `changes` ask for and tell.
+-- Worked cases: what `list`, `value` and `changes` ask for, and their replies.
 use Rattle.std.proofs.Common.{◌≡◌, refl}
 use Rattle.std.specs.Prelude.{[], ◌∷◌, Some, Ok, Err, codes}
 use Rattle.std.specs.Fmt.{digits}
@@ -19,7 +19,7 @@ use Rattle.vcdedit.specs.RunOutcomes.{line_replies}
 use Rattle.vcd_journal.specs.Machine.{first_machine}
 use Rattle.vcd_text.proofs.CasesOfText.{capture, wire, top, from}
 
--- a one_bit_signal that changes, a vector, and a signal in no scope that is x throughout
+-- a one_bit_signal that changes, a vector, and a signal in no scope that is always x
 abbrev three : Contents
 three = capture 9 (wire (top ∷ []) (codes "a") 1 (from 0 (codes "z") ∷ from 4 (codes "1") ∷ [])
     ∷ wire (top ∷ []) (codes "v") 4 (from 2 (codes "01xz") ∷ []) ∷ wire [] (codes "n") 2 [] ∷ [])
@@ -63,7 +63,7 @@ changed : (change_lines (signal_at three 0).changes ≡ codes "0 z" ∷ codes "4
 unfolding digits
 changed = (refl, refl, refl)
 
--- they tell of the capture that stands at their line, and `skipped` is that of the file
+-- they show the capture at their line, and `skipped` is that of the file
 told : line_replies 2 1 (first_machine three 100)
     (script_lines (codes "changes n\nremove top.a\nvalue top.a 0\nlist\nundo\nchanges top.a\n"))
     ≡ [] ∷ codes "ok\n" ∷ codes "line 3: refused: NoSuchName\n"

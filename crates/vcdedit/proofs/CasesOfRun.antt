@@ -20,7 +20,7 @@ use Rattle.vcdedit.proofs.RunReplays.{run_is_of_replays}
 use Rattle.vcd_text.proofs.CasesOfFiles.{one_scalar as one_scalar_file, one_scalar_contents, one_scalar_means}
 use Rattle.vcd_text.proofs.CasesOfText.{one_scalar, one_scalar_text, capture, wire, top, from}
 
--- lines end at line feeds, and a last piece without one counts where it is not empty
+-- lines end at line feeds, and text after the last one counts if it is not empty
 lines_of_scripts : (script_lines [] ≡ [])
     × (script_lines (codes "undo") ≡ codes "undo" ∷ [])
     × (script_lines (codes "undo\n") ≡ codes "undo" ∷ [])
@@ -80,7 +80,7 @@ undo_of_file = record { contents = one_scalar_contents; skipped = 0; means = one
 abbrev read_whole : List ℕ → ReaderEnd
 read_whole bytes = record { coming = Some bytes; left = Some []; has_failed = false }
 
--- where memory runs out at its second line, the reply to the first was told
+-- if memory runs out at the second line, the reply to the first was written
 stops_at_second_line : RunEnds (Err (run_errors.NoMemory 2)) 100 (read_whole one_scalar_file)
     (read_whole (codes "rename top.a b\nundo\n"))
     (record { before = Some []; after = Some (codes "ok\n"); has_failed = false }) None
@@ -96,7 +96,7 @@ stops_at_second_line = (
   ),
 )
 
--- where five bytes are taken, these are that and two letters of the second
+-- if five bytes are taken, they are that reply and two letters of the second
 stops_in_second_reply : RunEnds (Err (run_errors.ReplyFault 5)) 100 (read_whole one_scalar_file)
     (read_whole (codes "rename top.a b\nundo\n"))
     (record { before = Some []; after = Some (codes "ok\nok"); has_failed = true }) None
@@ -119,8 +119,8 @@ two_signals = capture 9
     (wire (top ∷ []) (codes "a") 1 (from 0 (codes "0") ∷ []) ∷ wire (top ∷ []) (codes "v") 4
     (from 0 (codes "0000") ∷ []) ∷ [])
 
--- empty lines and comments are numbered and give nothing; each refused line gives its first fault, and the script goes
--- on
+-- empty lines and comments are numbered and have no reply; each refused line gives its first fault, and the script
+-- continues
 refused_lines : line_replies 0 1 (record { past = []; now = two_signals; future = []; depth = 100 })
     (script_lines (codes
     "\n# rename\nfrob\nrename top.a\nrename top.a b c\nundo now\nrename top.q $end\nrename top.a $end\nrename top.a v\nundo\n \t#\n  rename\t@1\rb"))

@@ -11,7 +11,7 @@ last_digit (suc count) n more =
     let same : suc count - 1 ≡ count = omega arith in
     rw same refl
 
--- the last digit behind what is written
+-- the last digit after what is written
 pub pushed_digit : (count n digit : ℕ) (start written all : List ℕ) → count ≢ 0 → digit ≡ digit_glyph false (n % 16) →
     written ≡ start ++ hex_digits (count - 1) (n / 16) → all ≡ written ++ digit ∷ [] → all ≡ start ++ hex_digits count n
 pushed_digit count n digit start written all more is front whole =

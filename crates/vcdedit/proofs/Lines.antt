@@ -8,7 +8,7 @@ use Rattle.vcdedit.specs.Script.{script_lines}
 abbrev pub is_one_line : List ℕ → Bool
 is_one_line bytes = list_all (λ b. not (b == 10)) bytes
 
--- a byte that is no line feed stands in the first line
+-- a byte that is no line feed is in the first line
 pub byte_before : (feed : Bool) (b : ℕ) (line : List ℕ) (found others : List (List ℕ)) (black : Bool)
     → (not feed && black) ≡ true → (black ≡ true → found ≡ line ∷ others) →
     cond feed ([] ∷ found) (onto_first b found) ≡ (b ∷ line) ∷ others
@@ -20,7 +20,7 @@ pub byte_alone : (feed : Bool) (b : ℕ) → (not feed && true) ≡ true
 byte_alone true b h = absurd (cc)
 byte_alone false b h = refl
 
--- what stands before a line feed is a line, and the others follow
+-- the bytes before a line feed are a line, and the others follow
 pub line_whole : (line rest : List ℕ) → is_one_line line ≡ true
     → script_lines (line ++ 10 ∷ rest) ≡ line ∷ script_lines rest
 unfolding script_lines
@@ -29,7 +29,7 @@ line_whole (b ∷ line) rest h =
     byte_before (b == 10) b line (script_lines (line ++ 10 ∷ rest)) (script_lines rest) (is_one_line line) h
     (line_whole line rest)
 
--- what no line feed ends is a line where it is not empty
+-- bytes without a line feed at the end are a line if there are any
 pub line_last : (line : List ℕ) → 0 < length line → is_one_line line ≡ true → script_lines line ≡ line ∷ []
 unfolding script_lines
 line_last [] filled h = absurd (omega (arith, filled))

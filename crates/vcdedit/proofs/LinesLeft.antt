@@ -13,14 +13,14 @@ use Rattle.vcdedit.specs.RunOutcomes.{line_replies}
 use Rattle.vcdedit.specs.Script.{script_lines}
 use Rattle.vcdedit.specs.inside.RunLines.{LineStep, RunsLines}
 
--- of all lines, after so many, these are left on this machine; the replies so far are told, and so many lines refused
+-- after so many lines these are left on this machine; the replies so far are written, and so many lines refused
 pub record AreLeft (skipped : ℕ) (lines : List (List ℕ)) (old : Machine) (number : ℕ) (left : List (List ℕ))
     (now : Machine) (told : List (List ℕ)) (count : ℕ) : Type 0 where
   pub after : machine_after_lines old lines ≡ machine_after_lines now left
   pub replies : line_replies skipped 1 old lines ≡ told ++ line_replies skipped (number + 1) now left
   pub refused : refusal_count skipped old lines ≡ count + refusal_count skipped now left
 
--- what the loop keeps: the replies told so far, of so many lines and of so many bytes
+-- the loop's invariant: the replies written so far, of so many lines and bytes
 pub record RepliesSoFar (skipped : ℕ) (lines : List (List ℕ)) (old : Machine) (number : ℕ) (left : List (List ℕ))
     (now : Machine) (refused bytes : ℕ) (before after : Option (List ℕ)) : Type 0 where
   pub told : List (List ℕ)
@@ -40,14 +40,14 @@ all_left skipped lines old before = record {
   are_left = record { after = refl; replies = refl; refused = omega arith };
 }
 
--- what is said to a line on a machine, and how many lines are refused where this one is run
+-- the reply to a line on a machine, and how many lines are refused after it
 abbrev pub replied_to : (skipped number : ℕ) → List ℕ → Machine → List ℕ
 replied_to skipped number line m = line_reply_text number line m.now skipped (length m.past) (length m.future)
 
 abbrev refused_at : (skipped : ℕ) → List ℕ → Machine → ℕ
 refused_at skipped line m = cond (is_line_refused line m.now skipped (length m.past) (length m.future)) 1 0
 
--- a line more
+-- one more line
 line_more : (skipped : ℕ) (lines : List (List ℕ)) (old : Machine) (number : ℕ) (line : List ℕ) (left : List (List ℕ))
     (now new : Machine) (told : List (List ℕ)) (refused : ℕ) →
     AreLeft skipped lines old number (line ∷ left) now told refused → machine_after_line now line ≡ new →
@@ -92,7 +92,7 @@ told_more skipped lines old number line all left now new refused more bytes writ
           (line_more skipped lines old number line left now new so.told refused (rw parts at so.are_left) tells.0);
     }
 
--- where no line is left
+-- no line is left
 pub none_left : (skipped : ℕ) (lines : List (List ℕ)) (old : Machine) (number : ℕ) (left : List (List ℕ))
     (now : Machine) (refused bytes : ℕ) (before after : Option (List ℕ)) →
     left ≡ [] → RepliesSoFar skipped lines old number left now refused bytes before after

@@ -1,4 +1,4 @@
--- A run of lines that a fault ends: what the writer of the replies has taken by then.
+-- A run of lines that a fault ends: what the writer of the replies has taken.
 use Rattle.std.proofs.Common.{◌≡◌, ℕ, suc, ◌+◌, ◌-◌, ◌≤◌, List, [], ◌∷◌, ◌++◌, Option, length, take, sym, subst, ◌∙◌}
 use Rattle.std.proofs.Common.{ap, arith}
 use Rattle.std.specs.List.{concat}
@@ -16,9 +16,9 @@ use Rattle.vcdedit.specs.RunOutcomes.{line_replies}
 use Rattle.vcdedit.specs.inside.RunLines.{StopsAtReply, StopsAtLine, StopsInReplies, StopsInLines}
 use Rattle.vcdedit.proofs.LinesLeft.{RepliesSoFar}
 
--- ---- texts, told one after another
+-- ---- texts, written one after another
 
--- memory runs out at a text: those before it are told
+-- memory runs out at a text: those before it are written
 none_of_text : (replies told rest : List (List ℕ)) (text : List ℕ) (number line : ℕ)
     (before between after : Option (List ℕ)) →
     replies ≡ told ++ text ∷ rest → length told ≡ number → Appends before between (concat told) → line ≡ number + 1
@@ -35,7 +35,7 @@ none_of_text replies told rest text number line before between after parts count
           (Appends-kept before between after (concat told) took kept),
     )
 
--- the writer takes a front of a text: this and what was told before is a front of all texts
+-- the writer takes the first bytes of a text: with the texts before, these are the first bytes of all
 front_of_text : (replies told rest : List (List ℕ)) (text : List ℕ) (bytes count written : ℕ)
     (before between after : Option (List ℕ)) →
     replies ≡ told ++ text ∷ rest → length (concat told) ≡ bytes → Appends before between (concat told)
@@ -57,7 +57,7 @@ front_of_text replies told rest text bytes count written before between after pa
           (Appends-trans before between after (concat told) (take count text) took takes),
     )
 
--- the telling of one text stops, and so that of all
+-- the writing of one text stops, and so that of all
 text_stops : (replies told rest : List (List ℕ)) (text : List ℕ) (number bytes : ℕ)
     (before between after : Option (List ℕ)) (e : RunError) →
     replies ≡ told ++ text ∷ rest → length told ≡ number → length (concat told) ≡ bytes
@@ -96,7 +96,7 @@ line_stops skipped lines old number line all left now refused bytes before betwe
     between after e
     here.replies so.one_each so.counted so.took stops
 
--- behind the last line, in the flush: all is told
+-- after the last line, in the flush: all is written
 pub flush_stops : (skipped : ℕ) (lines : List (List ℕ)) (old : Machine) (number : ℕ) (left : List (List ℕ))
     (now : Machine) (refused bytes : ℕ) (before between after : Option (List ℕ)) →
     left ≡ [] → RepliesSoFar skipped lines old number left now refused bytes before between → Keeps between after

@@ -1,4 +1,4 @@
--- The signal that a name stands for is one of the capture's.
+-- The signal of a name is one of the capture's.
 use Rattle.std.proofs.Common.{◌≡◌, ◌<◌, ℕ, Bool, true, false, ◌&&◌, cond, ltb, List, Option, Some, None, Result, length}
 use Rattle.std.proofs.Common.{map, refl, sym, subst, arith}
 use Rattle.std.specs.Prelude.{IfOk}

@@ -1,4 +1,4 @@
--- The ending that the program tells is that of its words.
+-- The ending of the program is that of its words.
 use Rattle.std.proofs.Common.{◌≡◌, inl, inr, ℕ, List, [], Bool, true, false, subst}
 use Rattle.clap.specs.Words.{fault_of, kind_of, HasKind, IsAmong, Kinds}
 use Rattle.clap.specs.declared.error.Error.{Error}
@@ -7,13 +7,13 @@ use Rattle.vcdedit.specs.declared.shell.ending.Ending.{Ending}
 use Rattle.vcdedit.specs.CommandLine.{option_app}
 use Rattle.vcdedit.specs.ProgramEnds.{is_done, IsEndingOf}
 
--- words for which a run reached its end have no fault, and the ending is theirs
+-- words with a completed run have no fault, and the ending is theirs
 pub words_asked : (ending : Ending) (words : List (List ℕ)) → (is_done ending ≡ true → fault_of option_app words ≡ [])
     → (fault_of option_app words ≡ [] → IsEndingOf words ending) →
     is_done ending ≡ true → (words : List (List ℕ)) × (fault_of option_app words ≡ []) × IsEndingOf words ending
 words_asked ending words taken asked done = (words, taken done, asked (taken done))
 
--- where no word has a fault, an error is want of memory
+-- for words without a fault, an error means that memory ran out
 pub failed_for_memory : (kinds : Kinds) (e : Error) → kinds ≡ [] → HasKind kinds e
     → kind_of e ≡ kinds_of_clap.OutOfMemory
 failed_for_memory kinds e none (inl memory) = memory

@@ -26,7 +26,7 @@ use Rattle.vcdedit.specs.inside.RunStages.{EndsBeforeOutput, EndsBeforeReplies}
 use Rattle.vcdedit.specs.inside.ScriptRuns.{ScriptGives}
 use Rattle.vcdedit.proofs.RunReplays.{run_is_of_replays}
 
--- ---- what the script gives
+-- ---- the result of the script
 
 -- the lines of the script, run from the capture that the file means
 script_gives : (file script : List ℕ) (depth skipped : ℕ) (c : Contents) (new : Machine) (count : ℕ)
@@ -44,7 +44,7 @@ script_gives file script depth skipped c new count before after means ran =
       after = ap (λ (m : Machine). m.now) here.after;
     }
 
--- the same where a device may not tell its bytes
+-- the same for a device that may not show its bytes
 pub script_gives_where_told : (coming script_coming : Option (List ℕ)) (script : List ℕ) (depth skipped : ℕ)
     (c : Contents) (new : Machine) (count : ℕ) (before after : Option (List ℕ)) →
     IfSome coming (λ f. FileMeans f c skipped) → IfSome script_coming (λ s. script ≡ s)
@@ -55,7 +55,7 @@ script_gives_where_told (Some f) None script depth skipped c new count before af
 script_gives_where_told (Some f) (Some s) script depth skipped c new count before after means is ran =
     script_gives f s depth skipped c new count before after means (rw is at ran)
 
--- what holds of the outcome of the script on what the capture file means is said of what the run writes
+-- what holds of the outcome of the script on the capture file holds of what the run writes
 where_told : (coming script_coming : Option (List ℕ)) (script : List ℕ) (depth skipped : ℕ) (c : Contents)
     (said : RunOutcome → Type 0) →
     IfSome coming (λ f. FileMeans f c skipped) → IfSome script_coming (λ s. script ≡ s)
@@ -71,7 +71,7 @@ where_told (Some f) (Some s) script depth skipped c said means is holds = (
   subst (λ (bytes : List ℕ). said (run_outcome c skipped bytes depth)) is holds,
 )
 
--- what follows from the replies, the output and the count of refused lines is said of what the run writes
+-- what follows from the replies, the output and the count of refused lines holds of what the run writes
 if_run_writes : (file script : Option (List ℕ)) (depth count : ℕ) (took_replies : List ℕ
     → Type 0) (now : Contents) (said : RunOutcome → Type 0) →
     IfSome file (λ f. IfSome script (λ s. ScriptGives f s depth count took_replies now)) →
@@ -136,7 +136,7 @@ lines_end capture script replies bytes depth skipped c (run_errors.Write fault) 
 
 -- ---- the output
 
--- the run reaches its end, with an output or without
+-- the run is completed, with an output or without
 pub run_reaches_end : (capture script : ReaderEnd) (replies : WriterEnd) (output : Option WriterEnd) (depth : ℕ)
     (summary : Summary) (now : Contents) →
     IsAccepted capture → IsWholeScript script → replies.has_failed ≡ false →
@@ -199,14 +199,14 @@ run_stops_at_output capture script replies out depth count now (write_errors.Wri
       ),
     )
 
--- ---- errors handed on
+-- ---- errors passed on
 
--- a writer is given, or none
+-- there is a writer, or none
 pub given_or_none : {X : Type 0} (o : Option X) → (o ≡ None) ⊎ ((x : X) × (o ≡ Some x))
 given_or_none None = inl refl
 given_or_none (Some x) = inr (x, refl)
 
--- what holds of one error is said where it is handed on
+-- what holds of one error holds where it is passed on
 pub at_error : {A E : Type 0} (r : Result A E) (error : E) (P : E → Type 0) → IsErrAnd r (λ e. e ≡ error) → P error
     → IfErr r P
 at_error (Ok v) error P gives holds = tt

@@ -141,7 +141,7 @@ refused_line_changes_nothing m line skipped refused = command_refused m (command
 
 -- ---- a line of a run
 
--- the machine after one line more
+-- the machine after one more line
 machine_next : (m : Machine) (lines : List (List ℕ)) (count : ℕ) → count < length lines →
     machine_after_lines m (take (suc count) lines) ≡ machine_after_line (machine_after_lines m (take count lines))
     (get_or lines count [])
@@ -151,7 +151,7 @@ machine_next m (line ∷ lines) zero below = refl
 machine_next m (line ∷ lines) (suc count) below =
     machine_next (machine_after_line m line) lines count (omega (arith, below))
 
--- an undo that is not refused has a capture to go back to
+-- an accepted undo has a capture to restore
 undo_held : (past : List Contents) (now : Contents) (redoable : ℕ)
     → is_err (step_reply steps.Undo now (length past) redoable) ≡ false → 1 ≤ length past
 undo_held [] now redoable accepted = absurd (cc)
@@ -184,7 +184,7 @@ line_of_run c depth skipped lines count below =
 
 -- ---- runs
 
--- what is written where lines are run, and is of replays
+-- what a run of lines writes is of replays
 lines_of_replays : (c : Contents) (depth skipped : ℕ) (lines : List (List ℕ)) → IsSound c →
     IsOfReplays c depth lines skipped (record {
       replies = line_replies skipped 1 (first_machine c depth) lines;

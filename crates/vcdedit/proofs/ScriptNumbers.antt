@@ -16,11 +16,11 @@ use Rattle.vcdedit.specs.declared.script.line_error.LineError.{LineError}
 use Rattle.vcdedit.specs.declared.script.line_error.LineError.TheVariants.{BadNumber}
 use Rattle.vcdedit.specs.ScriptWords.{number_of_word}
 
--- a number, where it has 64 bits
+-- a number, if it has 64 bits
 abbrev pub number_if_short : ℕ → Result ℕ LineError
 number_if_short n = cond (ltb n (2 ^ 64)) (Ok n) (Err BadNumber)
 
--- the digits before the last may stop at the greatest number of 64 bits
+-- the number of the digits before the last may be limited to the greatest of 64 bits
 stops : (v d tens : ℕ) → tens ≡ min v (2 ^ 64 - 1) →
     ok_or (cond (ltb (tens * 10 + d) (2 ^ 64)) (Some (tens * 10 + d)) None) BadNumber ≡ number_if_short (v * 10 + d)
 stops v d tens is = elim (cases_lt (v * 10 + d) (2 ^ 64)) [
@@ -31,7 +31,7 @@ stops v d tens is = elim (cases_lt (v * 10 + d) (2 ^ 64)) [
 digit_within : (last : ℕ) → is_ascii_digit last ≡ true → IsInRange 48 57 last
 digit_within last digit = grind (arith, nat_tests)
 
--- a word of digits alone
+-- a word of digits only
 read_digits : (word : List ℕ) (n : ℕ) → 0 < length word → list_all is_ascii_digit word ≡ true → number_of word ≡ n
     → number_of_word word ≡ number_if_short n
 read_digits word n filled all is =
@@ -39,7 +39,7 @@ read_digits word n filled all is =
     ap (λ (b : Bool). cond (b && ltb (number_of word) (2 ^ 64)) (Ok (number_of word)) (Err BadNumber)) digits
     ∙ ap number_if_short is
 
--- a word whose digits but the last are digits, and that one too
+-- a word whose last digit and others are digits
 all_digits : (front : List ℕ) (last : ℕ) → list_all is_ascii_digit front ≡ true → is_ascii_digit last ≡ true
     → number_of_word (front ++ last ∷ []) ≡ number_if_short (number_of front * 10 + (last - 48))
 all_digits front last digits digit =

@@ -1,4 +1,4 @@
--- The captures of a run are sound: the one that stands, and those to which undo and redo lead.
+-- The captures of a run are sound: the current one, and those that undo and redo reach.
 use Rattle.std.proofs.Common.{◌≡◌, ◌-◌, ℕ, zero, suc, Bool, true, false, List, [], ◌∷◌, length, take, Option, Some}
 use Rattle.std.proofs.Common.{None, Result, Ok, Err, refl}
 use Rattle.std.specs.Prelude.{nat_lt, not}

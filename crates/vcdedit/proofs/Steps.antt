@@ -1,4 +1,4 @@
--- Steps where there is memory: the replies say what the machine answers, and lines ask for steps.
+-- Steps with enough memory: the replies are the machine's answers, and lines ask for steps.
 use Rattle.std.proofs.Common.{◌≡◌, ℕ, Bool, true, false, cond, List, [], ◌∷◌, ◌++◌, Option, Some, None, Result, Ok, Err}
 use Rattle.std.proofs.Common.{length, map, refl, subst, ◌∙◌}
 use Rattle.std.specs.Prelude.{not, nat_lt}
@@ -58,7 +58,7 @@ reply_is_answer m steps.Redo = reply_to_redo_is m.future m.now (length m.past) m
 reply_is_answer m (steps.Depth depth) =
     reply_to_depth_is (not (is_depth depth)) (nat_lt depth (length m.future)) depth m
 
--- a line asks for at most one step, and leaves what comes of it
+-- a line asks for at most one step, and gives the outcome of that step
 pub command_is_run : (m : Machine) (r : Result Command LineError) (asked : List Step) (answers : List Answer)
     (n : Machine) → StepsLead (machine_after_command m r) asked answers n →
     StepsLead m (steps_of_command r ++ asked) (map (λ step. (step_outcome m step).answer) (steps_of_command r)

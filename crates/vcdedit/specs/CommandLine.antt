@@ -1,4 +1,4 @@
--- The options of the command line, and what its words ask for: the project's own.
+-- The options of the command line, and what its words ask for. They are the project's own.
 use Rattle.std.specs.Prelude.{ℕ, List, [], ◌∷◌, codes, true, if◌then◌else◌, Option, Some, None}
 use Rattle.std.specs.Option.{option_copied}
 use Rattle.std.specs.Str.Parse.{digits_value, without_leading_plus}
@@ -26,7 +26,7 @@ output_option = record (new_rule (codes "output-file")) { long = Some (codes "ou
 abbrev pub depth_option : Rule
 depth_option = record (new_rule (codes "depth")) { long = Some (codes "depth"); value_names = 1; parser = Some (parsers.Unsigned 1 DEPTH_LIMIT) }
 
--- the program with these options, help and a version, whose words don't begin with its name
+-- the program with these options, help and a version; its words do not begin with its name
 abbrev pub option_app : App
 option_app = record (new_app (codes "vcdedit")) {
   top = record (new_shape (codes "vcdedit")) {
@@ -36,23 +36,23 @@ option_app = record (new_app (codes "vcdedit")) {
   };
 }
 
--- the depth that a text asks for: its number, where that is one from 1 to the limit, and else the default
+-- the depth of a text: its number if that is from 1 to the limit, else the default
 abbrev pub depth_asked : Option Text → ℕ
 depth_asked None = DEFAULT_DEPTH
 depth_asked (Some text) = if is_unsigned_in 1 DEPTH_LIMIT text then digits_value 10 (without_leading_plus text) else DEFAULT_DEPTH
 
--- the path of each option that is there, and the depth
+-- the path of each given option, and the depth
 pub record AskedOptions : Type 0 where
   pub input : Option Text
   pub script : Option Text
   pub output : Option Text
   pub depth : ℕ
 
--- the same, of what the code holds
+-- the same for the options that the code holds
 abbrev pub options_in : Options → AskedOptions
 options_in o = record { input = option_copied o.input; script = option_copied o.script; output = option_copied o.output; depth = o.depth }
 
--- what the words after the program's name ask for, where they are taken
+-- what accepted words after the program's name ask for
 abbrev pub asked_options : List Text → AskedOptions
 asked_options words =
     let rows = matches_of option_app words in

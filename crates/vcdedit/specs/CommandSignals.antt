@@ -1,14 +1,14 @@
--- The signals that a command asks about: the project's own.
+-- The signals that a command refers to.
 use Rattle.std.specs.Prelude.{◌≡◌, ◌<◌, ℕ, length, IfSome}
 use Rattle.vcd_core.specs.Contents.{Contents, signal_at}
 use Rattle.vcdedit.specs.declared.script.command.Command.{Command}
 use Rattle.vcdedit.specs.declared.script.command.Command.TheVariants as commands
 
--- a signal of one bit stands at this position
+-- the signal at this position has one bit
 abbrev pub IsScalarAt : Contents → ℕ → Type 0
 IsScalarAt c k = (k < length c.signals) × ((signal_at c k).width ≡ 1)
 
--- the signals that a command asks about are there, and those that it decodes have one bit
+-- the signals of a command exist, and those that it decodes have one bit
 abbrev pub HasItsSignals : Contents → Command → Type 0
 HasItsSignals c (commands.Value k tick) = k < length c.signals
 HasItsSignals c (commands.Changes k) = k < length c.signals

@@ -1,4 +1,4 @@
--- What the tool answers to a line that decodes signals: the project's own.
+-- The reply to a line that decodes signals. Its form is the project's own.
 use Rattle.std.specs.Prelude.{ℕ, zero, suc, ◌+◌, ◌/◌, ◌%◌, false, nat_lt, if◌then◌else◌, List, [], ◌∷◌, ◌++◌, Option, map, codes}
 use Rattle.std.specs.Fmt.{decimal, digit_glyph}
 use Rattle.std.specs.Option.{option_map}
@@ -29,17 +29,17 @@ hex_digits (suc count) n = hex_digits count (n / 16) ++ digit_glyph false (n % 1
 abbrev pub hex_text : ℕ → ℕ → List ℕ
 hex_text count n = codes "0x" ++ hex_digits count n
 
--- how many of them data of a UART line have
+-- how many digits the data of a UART line have
 abbrev pub uart_digits : UartSetup → ℕ
 uart_digits u = if nat_lt 8 u.data_bits then 3 else 2
 
--- how many of them words of SPI have: one for each four bits begun
+-- how many the words of SPI have: one for each four bits, rounded up
 abbrev pub spi_digits : SpiSetup → ℕ
 spi_digits u = (u.bits + 3) / 4
 
 -- ---- kinds
 
--- what a data line of SPI shows of a word, behind the name of the line
+-- the name of an SPI data line and what the line shows of a word
 abbrev pub line_data_text : List ℕ → ℕ → LineData → List ℕ
 line_data_text name digits Absent = []
 line_data_text name digits Unknown = name ++ codes "?"
@@ -83,17 +83,17 @@ annotation_line decoder digits a =
 abbrev pub letters_at : Contents → ℕ → ℕ → Bit
 letters_at c k t = letter_at (signal_value (signal_at c k) t) 0
 
--- the lines of a UART line's frames
+-- the lines of the frames on a UART line
 abbrev pub uart_lines : Contents → ℕ → UartSetup → List (List ℕ)
 uart_lines c k u = map (annotation_line (codes "uart") (uart_digits u)) (uart_annotations (letters_at c k) c.end u)
 
--- those of the words of a serial peripheral interface
+-- the lines of the words on a serial peripheral interface
 abbrev pub spi_lines : Contents → (clk : ℕ) → (mosi miso cs : Option ℕ) → SpiSetup → List (List ℕ)
 spi_lines c clk mosi miso cs u = map (annotation_line (codes "spi") (spi_digits u))
     (spi_annotations u (letters_at c clk) (option_map (letters_at c) mosi) (option_map (letters_at c) miso)
     (option_map (letters_at c) cs) c.end)
 
--- those of what an I2C bus carries
+-- the lines of the events on an I2C bus
 abbrev pub i2c_lines : Contents → (scl sda : ℕ) → List (List ℕ)
 i2c_lines c scl sda =
     map (annotation_line (codes "i2c") 2) (i2c_annotations (letters_at c scl) (letters_at c sda) c.end)

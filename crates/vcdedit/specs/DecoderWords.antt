@@ -1,4 +1,4 @@
--- What a word of a line that decodes signals is read as: the project's own.
+-- What the words of a line that decodes signals mean. The rules are the project's own.
 use Rattle.std.specs.Prelude.{ℕ, ◌+◌, ◌==◌, if◌then◌else◌, List, take, drop, Option, Some, None, Result, Ok, Err, codes}
 use Rattle.std.specs.List.{position}
 use Rattle.std.specs.Str.{bytes_eq}
@@ -17,7 +17,7 @@ use Rattle.vcdedit.specs.ScriptWords.{signal_of_name, number_of_word}
 
 -- ---- words
 
--- the numbers of a ratio in a word whose first `/` stands here; without one the second number is 1
+-- the numbers of a ratio, given the place of the first `/`; without one the second number is 1
 abbrev pub ratio_at : List ℕ → Option ℕ → Result (ℕ × ℕ) LineError
 ratio_at word None = do
   numerator ← number_of_word word
@@ -27,7 +27,7 @@ ratio_at word (Some place) = do
   denominator ← number_of_word (drop (place + 1) word)
   Ok (numerator, denominator)
 
--- where the first `/` (47) of a word stands
+-- the place of the first `/` (47) of a word
 abbrev pub slash_place : List ℕ → Option ℕ
 slash_place word = position (λ b. b == 47) word
 
@@ -50,7 +50,7 @@ order_of_word word =
     else (if bytes_eq word (codes "lsb") then Ok Lsb
     else Err BadOption)
 
--- the position of the signal that a word names; `-` stands for a line that is not there
+-- the position of the signal that a word names; `-` means that the line is absent
 abbrev pub signal_or_absent : Contents → List ℕ → Result (Option ℕ) LineError
 signal_or_absent c word =
     if bytes_eq word (codes "-") then Ok None
@@ -58,28 +58,28 @@ signal_or_absent c word =
       k ← signal_of_name c word
       Ok (Some k))
 
--- ---- what comes behind the words
+-- ---- the tests after the words are read
 
--- a decoder's signal: it has one bit
+-- a decoder's signal, which must have one bit
 abbrev pub one_bit_signal : Contents → ℕ → Result ℕ LineError
 one_bit_signal c k = if (signal_at c k).width == 1 then Ok k else Err NotScalar
 
--- the same of a line that may be absent
+-- the same for a line that may be absent
 abbrev pub one_bit_signal_or_absent : Contents → Option ℕ → Result (Option ℕ) LineError
 one_bit_signal_or_absent c None = Ok None
 one_bit_signal_or_absent c (Some k) = do
   there ← one_bit_signal c k
   Ok (Some there)
 
--- a setup that has this fault, or none
+-- a setup, or its fault
 abbrev pub faultless_setup : {S : Type 0} → Option SetupError → S → Result S LineError
 faultless_setup None setup = Ok setup
 faultless_setup (Some fault) setup = Err (Setup fault)
 
--- a setup of a UART line without a fault
+-- the setup of a UART line, or its fault
 abbrev pub faultless_uart : UartSetup → Result UartSetup LineError
 faultless_uart setup = faultless_setup (uart_fault setup) setup
 
--- one of a serial peripheral interface
+-- the setup of a serial peripheral interface, or its fault
 abbrev pub faultless_spi : SpiSetup → Result SpiSetup LineError
 faultless_spi setup = faultless_setup (spi_fault setup) setup

@@ -1,4 +1,4 @@
--- Laws that join the definitions: the project's own.
+-- Laws that join the definitions.
 use Rattle.std.specs.Prelude.{◌≡◌, ◌≤◌, ℕ, true, List, ◌∷◌, length, None, Ok, Err}
 use Rattle.vcd_core.specs.Contents.{Contents}
 use Rattle.vcdedit.specs.declared.script.command.Command.TheVariants as commands
@@ -18,18 +18,18 @@ use Rattle.vcdedit.specs.RunOutcomes.{RunWrites}
 
 -- ---- replies
 
--- what is said to an answer of the machine
+-- the reply for an answer of the machine
 abbrev pub answer_reply : Answer → LineReply
 answer_reply Done = ok_reply
 answer_reply (Refused refusal) = Err (step_error_name refusal)
 
--- what is said to a step, which looks at the capture and the two counts alone, is what the machine answers
+-- the reply to a step depends only on the capture and the two counts, and is what the machine answers
 abbrev pub ReplyIsAnswer : Type 0
 ReplyIsAnswer = (m : Machine) (step : Step) → step_reply step m.now (length m.past) (length m.future) ≡ answer_reply (step_outcome m step).answer
 
 -- ---- runs
 
--- after any lines what the machine holds are replays of the edits that they leave in force
+-- after any lines the machine holds replays of the edits that they leave in force
 abbrev pub RunIsReplay : Type 0
 RunIsReplay = (c : Contents) (depth : ℕ) (lines : List (List ℕ))
     → IsReplay c (tally_after_lines no_edits (first_machine c depth) lines) (machine_after_lines (first_machine c depth) lines)
@@ -39,26 +39,26 @@ abbrev pub EveryRunIsOfReplays : Type 0
 EveryRunIsOfReplays = (file script : List ℕ) (depth : ℕ) (written : RunOutcome)
     → RunWrites file script depth written → IsRunOfReplays file script depth written
 
--- and what is of replays is what the run writes
+-- whatever is of replays is what the run writes
 abbrev pub ReplaysAreOfRun : Type 0
 ReplaysAreOfRun = (file script : List ℕ) (depth : ℕ) (written : RunOutcome)
     → IsRunOfReplays file script depth written → RunWrites file script depth written
 
--- a capture file and a script can make a run write one thing only
+-- a capture file and a script determine what a run writes
 abbrev pub EveryRunWritesOneThing : Type 0
 EveryRunWritesOneThing = (file script : List ℕ) (depth : ℕ) (written other : RunOutcome)
     → IsRunOfReplays file script depth written → IsRunOfReplays file script depth other → written ≡ other
 
 -- ---- lines
 
--- an undo of an edit that was just made gives the capture back as it was, whatever the edit
+-- an undo right after an edit restores the capture, for any edit
 abbrev pub UndoGivesBack : Type 0
 UndoGivesBack = (m : Machine) (e : Edit) (line undo_line : List ℕ) → 1 ≤ m.depth
     → command_of_line m.now line ≡ Ok (commands.Step (steps.Edit e)) → edit_fault e m.now ≡ None
     → command_of_line (machine_after_line m line).now undo_line ≡ Ok (commands.Step steps.Undo)
     → (machine_after_line (machine_after_line m line) undo_line).now ≡ m.now
 
--- in a run, whose depth is at least 1, this holds after any lines
+-- the same after any lines of a run, whose depth is at least 1
 abbrev pub UndoInRunGivesBack : Type 0
 UndoInRunGivesBack = (c : Contents) (depth : ℕ) (lines : List (List ℕ)) (e : Edit) (line undo_line : List ℕ) → 1 ≤ depth
     → let m = machine_after_lines (first_machine c depth) lines in
@@ -66,7 +66,8 @@ UndoInRunGivesBack = (c : Contents) (depth : ℕ) (lines : List (List ℕ)) (e :
     → command_of_line (machine_after_line m line).now undo_line ≡ Ok (commands.Step steps.Undo)
     → (machine_after_line (machine_after_line m line) undo_line).now ≡ m.now
 
--- after any lines, an undo for which a capture is held takes back the last edit in force: the capture is then the replay of the others
+-- after any lines, an undo with a held capture undoes the last edit in force: the capture becomes the replay of the
+-- others
 abbrev pub UndoTakesBackTheLast : Type 0
 UndoTakesBackTheLast = (c : Contents) (depth : ℕ) (lines : List (List ℕ)) (undo_line : List ℕ)
     → let m = machine_after_lines (first_machine c depth) lines in

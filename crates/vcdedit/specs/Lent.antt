@@ -1,7 +1,7 @@
--- Words of edits are borrowed bytes, and at which address they lie says nothing.
+-- Words of edits are borrowed bytes. Their address has no meaning.
 use Rattle.std.specs.Prelude.{ℕ, List}
 use Rattle.std.specs.Borrow.{Bor}
 
--- bytes as a borrow of them, at an address that no definition looks at
+-- bytes as a borrow, at an address that no definition uses
 abbrev pub lent_bytes : List ℕ → Bor (List ℕ)
 lent_bytes bytes = record { ref_ptr = (0, 0); now = bytes }

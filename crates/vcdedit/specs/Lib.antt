@@ -1,4 +1,4 @@
--- The definitions of vcdedit, from a line of a script to a whole run and what is reported of it.
+-- The definitions of vcdedit, from a line of a script to a whole run and its report.
 pub mod LineErrorNames
 pub mod Lent
 pub mod Addressless

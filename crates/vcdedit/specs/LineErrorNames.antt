@@ -1,4 +1,4 @@
--- The names that are printed for lines that are no command: the project's own.
+-- The names that are printed for lines that are no command. They are the project's own.
 use Rattle.std.specs.Prelude.{ℕ, List, codes}
 use Rattle.vcd_decode.specs.SetupErrorNames.{setup_error_name}
 use Rattle.vcdedit.specs.declared.script.line_error.LineError.{LineError}

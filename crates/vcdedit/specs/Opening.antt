@@ -1,4 +1,4 @@
--- Where the bytes of the two inputs come from: the project's own.
+-- Where the bytes of the two inputs come from. The rules are the project's own.
 use Rattle.std.specs.Prelude.{◌≡◌, ℕ, Bool, not, MatchBool, List, codes, Option, Some, None}
 use Rattle.std.specs.Borrow.{Bor}
 use Rattle.std.specs.Str.{bytes_eq}
@@ -17,27 +17,27 @@ IsFile (Standard reader) = ⊥
 IsFile (File file) = Unit {0}
 IsFile (Given bytes) = ⊥
 
--- an input that is given here, and is these bytes
+-- an input with these bytes
 abbrev pub IsGiven : {S F : Type 0} → List ℕ → Origin S F → Type 0
 IsGiven text (Standard reader) = ⊥
 IsGiven text (File file) = ⊥
 IsGiven text (Given bytes) = bytes.now ≡ text
 
--- whether a path names a file: `-` stands for standard input
+-- whether a path names a file: `-` means standard input
 abbrev pub names_file : List ℕ → Bool
 names_file path = not (bytes_eq path (codes "-"))
 
--- the capture comes from the file that is named, and from standard input where none is
+-- the capture comes from the named file, or from standard input without one
 abbrev pub CaptureComesFrom : {S F : Type 0} → Option (Bor (List ℕ)) → Origin S F → Type 0
 CaptureComesFrom None origin = IsStandard origin
 CaptureComesFrom (Some path) origin = MatchBool (names_file path.now) (IsFile origin) (IsStandard origin)
 
--- the script comes from the file that is named, and is the one line `list` where none is
+-- the script comes from the named file, or is the one line `list` without one
 abbrev pub ScriptComesFrom : {S F : Type 0} → Option (Bor (List ℕ)) → Origin S F → Type 0
 ScriptComesFrom None origin = IsGiven (codes "list\n") origin
 ScriptComesFrom (Some path) origin = IsFile origin
 
--- the bytes that an input will give, where they are known
+-- the bytes to come from an input, if they are known
 abbrev pub bytes_to_come : {S F : Type 0} → (S → Option (List ℕ)) → (F → Option (List ℕ)) → Origin S F → Option (List ℕ)
 bytes_to_come of_standard of_file (Standard reader) = of_standard reader
 bytes_to_come of_standard of_file (File file) = of_file file

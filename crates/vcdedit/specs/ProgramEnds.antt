@@ -1,4 +1,4 @@
--- How the program ends: the project's own statuses, and what stands on standard error.
+-- How the program ends: the exit status, and the text on standard error. Both are the project's own.
 use Rattle.std.specs.Prelude.{◌≡◌, ◌⊎◌, ℕ, Bool, true, false, List, [], Option, is_some, Result, Ok, Err}
 use Rattle.std.specs.String.{string_bytes}
 use Rattle.clap.specs.declared.error.kind.ErrorKind.{ErrorKind}
@@ -13,14 +13,14 @@ use Rattle.vcdedit.specs.CommandLine.{AskedOptions, asked_options}
 use Rattle.vcdedit.specs.RunEnds.{ReaderEnd, WriterEnd, RunEnds}
 use Rattle.vcdedit.specs.Report.{done_status, error_status, error_line}
 
--- the exit status of the program: 2 where its words are refused
+-- the exit status of the program: 2 if its words are refused
 abbrev pub program_status : Ending → ℕ
 program_status (Done summary) = done_status summary.refused
 program_status (Failed e) = error_status e
 program_status Shown = 0
 program_status (Refused text) = 2
 
--- what it writes to standard error: nothing where it did what the words ask for
+-- its text on standard error: none if it did what the words ask for
 abbrev pub program_text : Ending → List ℕ
 program_text (Done summary) = []
 program_text (Failed e) = error_line e
@@ -34,26 +34,26 @@ abbrev pub ending_of : Result Summary RunError → Ending
 ending_of (Ok summary) = Done summary
 ending_of (Err e) = Failed e
 
--- why a run is not begun: an input can't be opened, or there is no memory for the buffer of the replies
+-- why a run does not begin: an input can't be opened, or there is no memory for the buffer of the replies
 abbrev pub IsNotBegun : RunError → Type 0
 IsNotBegun e = (e ≡ run_errors.Capture (record { line = 1; fault = faults.ReadFault })) ⊎ (e ≡ run_errors.ScriptReadFault)
     ⊎ (e ≡ run_errors.NoMemory 0)
 
--- the outcome is that of a run on these readers, whose output is written where a path is given
+-- the outcome is that of a run on these readers; it writes the output if there is a path
 abbrev pub IsRunOn : {P : Type 0} → (path : Option P) → Result Summary RunError → (depth : ℕ) → (capture script : ReaderEnd) → Type 0
 IsRunOn path outcome depth capture script = (replies : WriterEnd) × (output : Option WriterEnd)
     × (is_some output ≡ is_some path) × RunEnds outcome depth capture script replies output
 
--- the outcome is that of what options ask for: of a run with their depth, where it is begun
+-- the outcome is that of a run with these options, or the run does not begin
 abbrev pub IsOutcome : AskedOptions → Result Summary RunError → Type 0
 IsOutcome options outcome = ((e : RunError) × IsNotBegun e × (outcome ≡ Err e))
     ⊎ ((capture : ReaderEnd) × (script : ReaderEnd) × IsRunOn options.output outcome options.depth capture script)
 
--- the ending is that of what these words ask for, where they are taken
+-- the ending is that of accepted words
 abbrev pub IsEndingOf : (words : List (List ℕ)) → Ending → Type 0
 IsEndingOf words ending = (outcome : Result Summary RunError) × IsOutcome (asked_options words) outcome × (ending ≡ ending_of outcome)
 
--- the run came to its end
+-- the run was completed
 abbrev pub is_done : Ending → Bool
 is_done (Done summary) = true
 is_done _ = false
@@ -64,7 +64,7 @@ asks_for_text DisplayHelp = true
 asks_for_text DisplayVersion = true
 asks_for_text _ = false
 
--- an ending without a run: help and the version are shown, and other words refused, where that does not fail
+-- an ending without a run: help and the version are shown, other words refused, or this fails
 abbrev pub IsEndingOfKind : ErrorKind → Ending → Type 0
 IsEndingOfKind kind (Done summary) = ⊥
 IsEndingOfKind kind (Failed e) = Unit {0}

@@ -1,4 +1,4 @@
--- What `list`, `value` and `changes` tell of a capture: the project's own.
+-- The replies to `list`, `value` and `changes`. Their form is the project's own.
 use Rattle.std.specs.Prelude.{ℕ, ◌+◌, List, [], ◌∷◌, ◌++◌, length, map, Option, Some, None, codes}
 use Rattle.std.specs.Fmt.{decimal}
 use Rattle.vcd_core.specs.declared.capture.Timescale.{Timescale}
@@ -29,7 +29,7 @@ unfoldable pub signal_lines : ℕ → List SignalContents → List (List ℕ)
 signal_lines position [] = []
 signal_lines position (s ∷ ss) = signal_line position s ∷ signal_lines (position + 1) ss
 
--- the lines of `list`, where so many declarations of the file were skipped, whatever edits came
+-- the lines of `list`; edits do not change how many declarations of the file were skipped
 abbrev pub listing : Contents → (skipped : ℕ) → List (List ℕ)
 listing c skipped =
     timescale_line c.timescale
@@ -48,6 +48,6 @@ value_line s tick = printed_letters (signal_value s tick)
 abbrev pub change_line : Change → List ℕ
 change_line c = decimal c.tick ++ codes " " ++ printed_letters c.value
 
--- the lines of `changes`: one for each change, so none for a signal that is x throughout
+-- the lines of `changes`: one for each change, so none for a signal that is always x
 abbrev pub change_lines : List Change → List (List ℕ)
 change_lines changes = map change_line changes

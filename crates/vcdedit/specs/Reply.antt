@@ -1,4 +1,4 @@
--- What the tool answers to a line of a script: the project's own.
+-- The reply to a line of a script. Its form is the project's own.
 use Rattle.std.specs.Prelude.{ℕ, zero, suc, Bool, not, nat_lt, if◌then◌else◌, List, [], ◌∷◌, ◌++◌, Option, Some, None, Result, Ok, Err, is_err, codes}
 use Rattle.std.specs.List.{flat_map}
 use Rattle.std.specs.Fmt.{decimal}
@@ -24,34 +24,34 @@ use Rattle.vcdedit.specs.Queries.{listing, value_line, change_lines}
 abbrev pub LineReply : Type 0
 LineReply = Result (List (List ℕ)) (List ℕ)
 
--- what is said to an accepted step
+-- the reply to an accepted step
 abbrev pub ok_reply : LineReply
 ok_reply = Ok (codes "ok" ∷ [])
 
--- an edit with this fault, or with none
+-- the reply to an edit with this fault, or with none
 abbrev pub edit_reply : Option EditError → LineReply
 edit_reply None = ok_reply
 edit_reply (Some found) = Err (edit_error_name found)
 
--- an undo or a redo, for which so many captures are held; it is refused where there are none
+-- the reply to an undo or a redo with so many held captures; without any it is refused
 abbrev pub history_reply : ℕ → StepError → LineReply
 history_reply zero refusal = Err (step_error_name refusal)
 history_reply (suc held) refusal = ok_reply
 
--- another depth of the history, where so many edits can be redone
+-- the reply to another depth, with so many edits to redo
 abbrev pub depth_reply : (depth redoable : ℕ) → LineReply
 depth_reply depth redoable = if not (is_depth depth) then Err (step_error_name refusals.BadDepth)
     else (if nat_lt depth redoable then Err (step_error_name refusals.DepthTooSmall)
     else ok_reply)
 
--- a step on a capture, where so many edits can be undone and so many redone
+-- the reply to a step on a capture, with so many edits to undo and to redo
 abbrev pub step_reply : Step → Contents → (undoable redoable : ℕ) → LineReply
 step_reply (steps.Edit e) c undoable redoable = edit_reply (edit_fault e c)
 step_reply steps.Undo c undoable redoable = history_reply undoable refusals.NothingToUndo
 step_reply steps.Redo c undoable redoable = history_reply redoable refusals.NothingToRedo
 step_reply (steps.Depth depth) c undoable redoable = depth_reply depth redoable
 
--- a line that asks for this, or is no command
+-- the reply to a line that asks for this, or is no command
 abbrev pub command_reply : Result Command LineError → Contents → (skipped undoable redoable : ℕ) → LineReply
 command_reply (Err found) c skipped undoable redoable = Err (line_error_name found)
 command_reply (Ok commands.Nothing) c skipped undoable redoable = Ok []
@@ -64,20 +64,20 @@ command_reply (Ok (commands.Spi clk mosi miso cs setup)) c skipped undoable redo
     Ok (spi_lines c clk mosi miso cs setup)
 command_reply (Ok (commands.I2c scl sda)) c skipped undoable redoable = Ok (i2c_lines c scl sda)
 
--- what is said to a line on a capture, of whose file so many declarations were skipped
+-- the reply to a line on a capture from a file with so many skipped declarations
 unfoldable pub line_reply : (line : List ℕ) → Contents → (skipped undoable redoable : ℕ) → LineReply
 line_reply line c skipped undoable redoable = command_reply (command_of_line c line) c skipped undoable redoable
 
--- a line of a reply: it ends with a line feed (10)
+-- a line of a reply, which ends with a line feed (10)
 abbrev pub with_line_feed : List ℕ → List ℕ
 with_line_feed bytes = bytes ++ 10 ∷ []
 
--- the bytes of what is said to the line of this number
+-- the bytes of the reply to the line of this number
 abbrev pub reply_text : ℕ → LineReply → List ℕ
 reply_text number (Ok lines) = flat_map with_line_feed lines
 reply_text number (Err name) = with_line_feed (codes "line " ++ decimal number ++ codes ": refused: " ++ name)
 
--- the reply to a line: to its number and words, on a capture, whatever came before
+-- the reply to a line as bytes: it depends only on these arguments
 abbrev pub line_reply_text : (number : ℕ) → (line : List ℕ) → Contents → (skipped undoable redoable : ℕ) → List ℕ
 line_reply_text number line c skipped undoable redoable =
     reply_text number (line_reply line c skipped undoable redoable)

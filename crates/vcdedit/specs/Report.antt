@@ -1,4 +1,4 @@
--- What the program says of a run that failed: the project's own names, statuses and lines.
+-- What the program reports of a run that failed. The names, statuses and lines are the project's own.
 use Rattle.std.specs.Prelude.{ℕ, ◌==◌, if◌then◌else◌, List, ◌++◌, codes, decimal}
 use Rattle.vcd_text.specs.FaultNames.{fault_name, write_error_name}
 use Rattle.vcd_text.specs.declared.fault.Fault.{Fault}
@@ -8,7 +8,7 @@ use Rattle.vcd_text.specs.declared.fault.WriteError.TheVariants as write_errors
 use Rattle.vcdedit.specs.declared.running.run_error.RunError.{RunError}
 use Rattle.vcdedit.specs.declared.running.run_error.RunError.TheVariants as run_errors
 
--- the name of what ended a run; that of the capture's or the output's fault where it was one
+-- the name of a run's error; a fault of the capture or the output has its own name
 abbrev pub run_error_name : RunError → List ℕ
 run_error_name (run_errors.Capture e) = fault_name e.fault
 run_error_name run_errors.ScriptTooLarge = codes "ScriptTooLarge"
@@ -17,11 +17,11 @@ run_error_name (run_errors.NoMemory line) = codes "NoMemory"
 run_error_name (run_errors.ReplyFault written) = codes "ReplyFault"
 run_error_name (run_errors.Write e) = write_error_name e
 
--- the exit status of a run that came to its end: 1 where lines of the script were refused
+-- the exit status of a completed run: 1 if lines of the script were refused
 abbrev pub done_status : ℕ → ℕ
 done_status refused = if refused == 0 then 0 else 1
 
--- the exit status for a fault of the capture: 3 for what is wrong in it, 4 where it can't be read, 5 for want of memory
+-- the exit status for a fault of the capture: 3 for its text, 4 for its reader, 5 for out of memory
 abbrev pub capture_status : Fault → ℕ
 capture_status faults.ReadFault = 4
 capture_status faults.NoMemory = 5
@@ -41,11 +41,11 @@ error_status (run_errors.NoMemory line) = 5
 error_status (run_errors.ReplyFault written) = 4
 error_status (run_errors.Write e) = write_status e
 
--- the line for want of memory, wherever it arose
+-- the line for out of memory, at any place
 abbrev pub out_of_memory_line : List ℕ
 out_of_memory_line = codes "vcdedit: out of memory\n"
 
--- the line for a fault that was decided at a line of the capture
+-- the line for a fault at a line of the capture
 abbrev pub numbered_line : Fault → ℕ → List ℕ
 numbered_line fault line = codes "vcdedit: capture line " ++ decimal line ++ codes ": " ++ fault_name fault ++ codes "\n"
 

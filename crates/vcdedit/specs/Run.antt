@@ -1,4 +1,4 @@
--- What a run writes, said of the captures after its lines: the headline. The project's own.
+-- What a run writes, by the captures after its lines: the headline. The rules are the project's own.
 use Rattle.std.specs.Prelude.{◌≡◌, ◌<◌, ℕ, ◌+◌, if◌then◌else◌, true, false, Bool, List, [], ◌∷◌, length, take, get_or, Result, Ok}
 use Rattle.vcd_core.specs.Contents.{Contents}
 use Rattle.vcd_core.specs.Sound.{IsSound}
@@ -21,7 +21,7 @@ abbrev pub machine_after_command : Machine → Result Command LineError → Mach
 machine_after_command m (Ok (commands.Step step)) = (step_outcome m step).after
 machine_after_command m asked = m
 
--- the machine after a line, read on the capture that then stands
+-- the machine after a line, read on the current capture
 unfoldable pub machine_after_line : Machine → List ℕ → Machine
 machine_after_line m line = machine_after_command m (command_of_line m.now line)
 
@@ -45,7 +45,7 @@ tally_after_lines t m [] = t
 tally_after_lines t m (line ∷ lines) =
     tally_after_lines (tally_after_command t m (command_of_line m.now line)) (machine_after_line m line) lines
 
--- the reply that a line with this number gets on a machine
+-- the reply to a line with this number on a machine
 abbrev pub reply_on : (skipped number : ℕ) → List ℕ → Machine → List ℕ
 reply_on skipped number line m = line_reply_text number line m.now skipped (length m.past) (length m.future)
 
@@ -67,49 +67,49 @@ pub record RunOutcome : Type 0 where
 
 -- ---- the headline
 
--- a line on a capture where these edits are in force: it leads from one machine to the next
+-- a line changes one machine into the next, on a capture with these edits in force
 pub record IsLineOfRun (c : Contents) (t : Tally) (skipped : ℕ) (line : List ℕ) (m next : Machine) : Type 0 where
-  -- refused, it changes nothing: neither the capture nor what can be undone or redone
+  -- a refused line changes neither the capture nor what can be undone or redone
   pub unchanged : is_refused_on skipped line m ≡ true → next ≡ m
-  -- an undo that is not refused gives back the capture before the last edit in force
+  -- an accepted undo restores the capture before the last edit in force
   pub undone : command_of_line m.now line ≡ Ok (commands.Step steps.Undo) → is_refused_on skipped line m ≡ false
       → (e : Edit) × (es : List Edit) × (t.edits_in_force ≡ e ∷ es) × (next.now ≡ replay c es)
 
 -- lines on a capture, with a history of at most `depth`
 module _ (c : Contents) (depth : ℕ) (lines : List (List ℕ)) where
-  -- the machine after the first `count` of them
+  -- the machine after the first `count` lines
   abbrev pub machine_at : (count : ℕ) → Machine
   machine_at count = machine_after_lines (first_machine c depth) (take count lines)
 
-  -- the edits then in force, and those undone
+  -- the edits in force and those undone at that time
   abbrev pub tally_at : (count : ℕ) → Tally
   tally_at count = tally_after_lines no_edits (first_machine c depth) (take count lines)
 
-  -- the replay of the edits that are in force in the end
+  -- the replay of the edits in force at the end
   abbrev pub last_replay : Contents
   last_replay = replay c (tally_at (length lines)).edits_in_force
 
-  -- what is written where these lines are run is of replays
+  -- what a run of these lines writes is of replays
   pub record IsOfReplays (skipped : ℕ) (written : RunOutcome) : Type 0 where
-    -- after each line the capture is the replay of the edits then in force, and undo and redo lead to the others
+    -- after each line the capture is the replay of the edits in force, and undo and redo reach the others
     pub replays : (count : ℕ) → IsReplay c (tally_at count) (machine_at count)
     -- it is sound
     pub sound : (count : ℕ) → IsSound (machine_at count).now
     -- undo restores, and a refused line changes nothing
     pub each : (count : ℕ) → count < length lines →
         IsLineOfRun c (tally_at count) skipped (get_or lines count []) (machine_at count) (machine_at (count + 1))
-    -- one reply to each line, said on the capture before it
+    -- one reply to each line, given on the capture before it
     pub one_each : length written.replies ≡ length lines
     pub replies : (count : ℕ) → count < length lines →
         get_or written.replies count [] ≡ reply_on skipped (count + 1) (get_or lines count []) (machine_at count)
     pub refused : written.refused ≡ refusal_count skipped (first_machine c depth) lines
-    -- the output is the text of the last capture: read again, it means that capture, with nothing left out
+    -- the output is the text of the last capture: read again it means that capture, with nothing skipped
     pub output : written.output ≡ text last_replay
     pub read_again : FileMeans written.output last_replay 0
     -- and it means nothing else
     pub only : (d : Contents) (count : ℕ) → FileMeans written.output d count → (d ≡ last_replay) × (count ≡ 0)
 
--- what is written is of replays of what the capture file means, by the lines of the script
+-- what is written is of replays of the capture that the file means, by the lines of the script
 pub record IsRunOfReplays (file script : List ℕ) (depth : ℕ) (written : RunOutcome) : Type 0 where
   pub contents : Contents
   pub skipped : ℕ

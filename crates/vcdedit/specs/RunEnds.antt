@@ -1,4 +1,4 @@
--- How a run ends: for each ending, what its writers took and how its readers are left. The project's own.
+-- How a run ends: for each ending, the state of its writers and readers. The rules are the project's own.
 use Rattle.std.proofs.Common.{inl, inr}
 use Rattle.std.specs.Prelude.{◌≡◌, ◌<◌, ◌≤◌, ◌⊎◌, ℕ, zero, suc, Bool, true, false, List, length, take, Option, Some, None, Result, Ok, Err, IfSome, IsSomeAnd}
 use Rattle.std.specs.List.{concat}
@@ -18,18 +18,18 @@ use Rattle.vcdedit.specs.Run.{RunOutcome, IsRunOfReplays}
 
 -- ---- readers
 
--- a reader as it was and as it is left: its bytes to come, where it tells them, and whether it has failed
+-- a reader before and after: its bytes to come, if it shows them, and whether it has failed
 pub record ReaderEnd : Type 0 where
   pub coming : Option (List ℕ)
   pub left : Option (List ℕ)
   pub has_failed : Bool
 
--- the end of a reader, from what it tells
+-- the end of a reader, from what it shows
 abbrev pub reader_end : {R : Type 0} → (R → Option (List ℕ)) → (R → Bool) → (old new : R) → ReaderEnd
 reader_end coming has_failed old new =
     record { coming = coming old; left = coming new; has_failed = has_failed new }
 
--- it is as it was: no byte was read, and it has not failed
+-- it is unchanged: no byte was read, and it has not failed
 abbrev pub IsUnread : ReaderEnd → Type 0
 IsUnread r = (r.left ≡ r.coming) × (r.has_failed ≡ false)
 
@@ -37,29 +37,29 @@ IsUnread r = (r.left ≡ r.coming) × (r.has_failed ≡ false)
 abbrev pub IsReadToEnd : ReaderEnd → Type 0
 IsReadToEnd r = (r.has_failed ≡ false) × IsAtEnd r.left
 
--- a capture was read that is within the limit and has a meaning
+-- the capture read is within the limit and has a meaning
 abbrev pub IsAccepted : ReaderEnd → Type 0
 IsAccepted r = IsReadToEnd r
     × IfSome r.coming (λ file. (length file ≤ FILE_LIMIT) × (c : Contents) × (skipped : ℕ) × FileMeans file c skipped)
 
--- a script was read that is within the limit
+-- the script read is within the limit
 abbrev pub IsWholeScript : ReaderEnd → Type 0
 IsWholeScript r = IsReadToEnd r × IfSome r.coming (λ script. length script ≤ SCRIPT_LIMIT)
 
 -- ---- writers
 
--- a writer as it was and as it is left: the bytes that it took, where it tells them, and whether it has failed
+-- a writer before and after: the bytes that it took, if it shows them, and whether it has failed
 pub record WriterEnd : Type 0 where
   pub before : Option (List ℕ)
   pub after : Option (List ℕ)
   pub has_failed : Bool
 
--- the end of a writer, from what it tells
+-- the end of a writer, from what it shows
 abbrev pub writer_end : {W : Type 0} → (W → Option (List ℕ)) → (W → Bool) → (old new : W) → WriterEnd
 writer_end taken has_failed old new =
     record { before = taken old; after = taken new; has_failed = has_failed new }
 
--- it is as it was: it took nothing, and has not failed
+-- it is unchanged: it took nothing, and has not failed
 abbrev pub IsUntouched : WriterEnd → Type 0
 IsUntouched w = (w.after ≡ w.before) × (w.has_failed ≡ false)
 
@@ -67,11 +67,11 @@ IsUntouched w = (w.after ≡ w.before) × (w.has_failed ≡ false)
 abbrev pub HasText : WriterEnd → List ℕ → Type 0
 HasText w text = Appends w.before w.after text
 
--- it took this many bytes of a text, from the front
+-- it took the first bytes of a text, as many as this
 abbrev pub HasFront : WriterEnd → (count : ℕ) → List ℕ → Type 0
 HasFront w count text = (count ≤ length text) × Appends w.before w.after (take count text)
 
--- said of the writer of the output, or of none: it comes as an `Option<&mut W>`, which is left as the fourth says
+-- holds of the writer of the output, if any: an `Option<&mut W>`, with the fourth argument as its later state
 abbrev pub OfOutput : {W : Type 0} → (W → Option (List ℕ)) → (W → Bool) → Option (MutBor W)
     → Unit {0} ⊎ ((MutBor W × Unit {0}) ⊎ ⊥) → (Option WriterEnd → Type 0) → Type 0
 OfOutput taken has_failed None left said = said None
@@ -81,21 +81,21 @@ OfOutput taken has_failed (Some out) _ said = ⊥
 
 -- ---- runs
 
--- where the readers tell their bytes: said of what the run of the script on the capture file writes
+-- if the readers show their bytes: holds of what the run of the script on the capture file writes
 abbrev pub OfRun : (capture script : ReaderEnd) → (depth : ℕ) → (RunOutcome → Type 0) → Type 0
 OfRun capture script depth said = IfSome capture.coming (λ file. IfSome script.coming (λ lines.
     (written : RunOutcome) × IsRunOfReplays file lines depth written × said written))
 
--- how a run ends, by its result; each ending leaves its two readers, the writer of the replies and that of the output so
+-- how a run ends, by its result: the later state of its two readers and two writers
 abbrev pub RunEnds : Result Summary RunError → (depth : ℕ)
     → (capture script : ReaderEnd) → (replies : WriterEnd) → (output : Option WriterEnd) → Type 0
--- all replies are written, and the output where one is asked for
+-- all replies are written, and the output if one is asked for
 RunEnds (Ok summary) depth capture script replies output =
     IsAccepted capture × IsWholeScript script
     × (replies.has_failed ≡ false) × IfSome output (λ out. out.has_failed ≡ false)
     × OfRun capture script depth (λ written. HasText replies (concat written.replies)
     × IfSome output (λ out. HasText out written.output) × (summary.refused ≡ written.refused))
--- the capture has this fault: nothing is read of the script, and nothing written
+-- the capture has this fault: the script is unread, and nothing is written
 RunEnds (Err (run_errors.Capture e)) depth capture script replies output =
     IfSome capture.coming (λ file. IsRefusal file capture.has_failed capture.left e)
     × (e.fault ≡ faults.ReadFault → capture.has_failed ≡ true)
@@ -119,7 +119,7 @@ RunEnds (Err (run_errors.NoMemory (suc before))) depth capture script replies ou
 RunEnds (Err (run_errors.ReplyFault count)) depth capture script replies output =
     IsAccepted capture × IsWholeScript script × (replies.has_failed ≡ true) × IfSome output IsUntouched
     × OfRun capture script depth (λ written. HasFront replies count (concat written.replies))
--- memory ran out for the output: all replies are written, and nothing of the output
+-- memory ran out for the output: all replies are written, and none of the output
 RunEnds (Err (run_errors.Write write_errors.NoMemory)) depth capture script replies output =
     IsAccepted capture × IsWholeScript script × (replies.has_failed ≡ false)
     × IsSomeAnd output (λ out. Keeps out.before out.after × (out.has_failed ≡ false))

@@ -1,4 +1,4 @@
--- What a run writes as a function of the file, the script and the depth: the project's own.
+-- What a run writes as a function of the file, the script and the depth.
 use Rattle.std.specs.Prelude.{◌≡◌, ℕ, ◌+◌, List, [], ◌∷◌}
 use Rattle.vcd_core.specs.Contents.{Contents}
 use Rattle.vcd_text.specs.Meaning.{FileMeans}
@@ -7,13 +7,13 @@ use Rattle.vcd_journal.specs.Machine.{Machine, first_machine}
 use Rattle.vcdedit.specs.Script.{script_lines}
 use Rattle.vcdedit.specs.Run.{RunOutcome, machine_after_line, machine_after_lines, refusal_count, reply_on}
 
--- the replies to lines, one text for each line, the first line having this number
+-- the replies to lines, one text for each; the first line has this number
 unfoldable pub line_replies : (skipped number : ℕ) → Machine → List (List ℕ) → List (List ℕ)
 line_replies skipped number m [] = []
 line_replies skipped number m (line ∷ lines) =
     reply_on skipped number line m ∷ line_replies skipped (number + 1) (machine_after_line m line) lines
 
--- the run of a script on what a capture file means, with a history of at most `depth`, where there is memory
+-- the outcome of a script on a capture, with a history of at most `depth` and enough memory
 abbrev pub run_outcome : Contents → (skipped : ℕ) → (script : List ℕ) → (depth : ℕ) → RunOutcome
 run_outcome c skipped script depth = record {
   replies = line_replies skipped 1 (first_machine c depth) (script_lines script);
@@ -21,7 +21,7 @@ run_outcome c skipped script depth = record {
   refused = refusal_count skipped (first_machine c depth) (script_lines script);
 }
 
--- the capture file is accepted, and the run of the script on what it means writes this
+-- the capture file is accepted, and the run of the script on its meaning writes this
 pub record RunWrites (file script : List ℕ) (depth : ℕ) (written : RunOutcome) : Type 0 where
   pub contents : Contents
   pub skipped : ℕ

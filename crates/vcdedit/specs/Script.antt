@@ -1,4 +1,4 @@
--- The lines of a script, and what each asks for: the project's own.
+-- The lines of a script, and what each asks for. The rules are the project's own.
 use Rattle.std.specs.Prelude.{ℕ, ◌==◌, if◌then◌else◌, List, [], ◌∷◌, map, Result}
 use Rattle.std.specs.List.{onto_first}
 use Rattle.vcd_core.specs.Contents.{Contents}
@@ -7,7 +7,7 @@ use Rattle.vcdedit.specs.declared.script.line_error.LineError.{LineError}
 use Rattle.vcd_text.specs.Words.{PlacedWord, words_of}
 use Rattle.vcdedit.specs.ScriptCommands.{command_of_words}
 
--- the lines of a script: each ends at a line feed (10), and what stands behind the last line feed is a line where it is not empty
+-- each line ends at a line feed (10); text after the last line feed is a line, too
 unfoldable pub script_lines : List ℕ → List (List ℕ)
 script_lines [] = []
 script_lines (b ∷ bs) = if b == 10 then [] ∷ script_lines bs else onto_first b (script_lines bs)

@@ -1,4 +1,4 @@
--- What the words of a line ask for: the project's own.
+-- What the words of a line ask for. The rules are the project's own.
 use Rattle.std.specs.Prelude.{ℕ, Bool, false, ◌==◌, if◌then◌else◌, List, [], ◌∷◌, Option, find, option_map, Result, Ok, Err, codes}
 use Rattle.std.specs.Option.{ok_or}
 use Rattle.std.specs.Str.{bytes_eq}
@@ -43,7 +43,7 @@ abbrev pub is_comment : List ℕ → Bool
 is_comment [] = false
 is_comment (b ∷ bs) = b == 35
 
--- ---- the words behind it
+-- ---- the words after it
 
 -- a line asks for this step
 abbrev pub step_command : Step → Result Command LineError
@@ -84,7 +84,7 @@ rule_of c word operands =
     else (if bytes_eq word (codes "bit") then bit_rule c operands
     else Err BadOption))))
 
--- what the words behind a keyword ask for; the first fault counts, in the order in which they are read here
+-- what the words after a keyword ask for; the first fault counts, in the order in which they are read here
 abbrev pub command_of : Contents → Keyword → List (List ℕ) → Result Command LineError
 command_of c keywords.Rename (name ∷ word ∷ []) =
     signal_of_name c name >>= λ k. edit_command (Rename k (lent_bytes word))

@@ -1,4 +1,4 @@
--- What a word of a line of a script is read as: the project's own.
+-- What a word of a line means. The rules are the project's own.
 use Rattle.std.specs.Prelude.{ℕ, ◌^◌, ◌==◌, ◌&&◌, nat_lt, nat_le, if◌then◌else◌, ℤ, pos, neg_ℤ, List, [], ◌∷◌, Result, Ok, Err}
 use Rattle.std.specs.Option.{ok_or}
 use Rattle.vcd_core.specs.declared.bit.Bit.{Bit}
@@ -17,17 +17,17 @@ signal_of_name c name = ok_or (lookup c.signals name) NoSuchName
 abbrev pub number_of_word : List ℕ → Result ℕ LineError
 number_of_word word = if is_number word && nat_lt (number_of word) (2 ^ 64) then Ok (number_of word) else Err BadNumber
 
--- a distance forth in time: below 2^63
+-- a distance to a later tick: below 2^63
 abbrev pub distance_forth : List ℕ → Result ℤ LineError
 distance_forth digits =
     if is_number digits && nat_lt (number_of digits) (2 ^ 63) then Ok (pos (number_of digits)) else Err BadNumber
 
--- a distance back: at most 2^63
+-- a distance to an earlier tick: at most 2^63
 abbrev pub distance_back : List ℕ → Result ℤ LineError
 distance_back digits =
     if is_number digits && nat_le (number_of digits) (2 ^ 63) then Ok (neg_ℤ (pos (number_of digits))) else Err BadNumber
 
--- the distance that a word writes: a decimal number, behind `-` (45), `+` (43) or neither
+-- the distance that a word writes: a decimal number after `-` (45), `+` (43) or neither
 abbrev pub distance_of_word : List ℕ → Result ℤ LineError
 distance_of_word [] = Err BadNumber
 distance_of_word (c ∷ digits) =

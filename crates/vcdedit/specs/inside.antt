@@ -1,4 +1,5 @@
--- Stepping stones: definitions that only contracts of private functions and proofs cite. A reader need not believe them.
+-- Intermediate definitions, cited only by proofs and by contracts of private functions. A reader need not believe
+-- them.
 pub mod Replies
 pub mod ScriptParts
 pub mod Commands

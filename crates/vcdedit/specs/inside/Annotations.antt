@@ -1,4 +1,4 @@
--- The bytes of a reply that tells annotations: the project's own.
+-- The bytes of a reply that lists annotations.
 use Rattle.std.specs.Prelude.{ℕ, List, map}
 use Rattle.std.specs.List.{flat_map}
 use Rattle.vcd_decode.specs.declared.annotation.Annotation.{Annotation}

@@ -1,4 +1,4 @@
--- The steps that lines ask for, and their answers: the project's own.
+-- The steps that lines ask for, and their answers.
 use Rattle.std.specs.Prelude.{ℕ, List, [], ◌∷◌, ◌++◌, map, Result, Ok}
 use Rattle.vcdedit.specs.declared.script.command.Command.{Command}
 use Rattle.vcdedit.specs.declared.script.command.Command.TheVariants as commands
@@ -9,7 +9,7 @@ use Rattle.vcd_journal.specs.Machine.{Machine, step_outcome}
 use Rattle.vcdedit.specs.Script.{command_of_line}
 use Rattle.vcdedit.specs.Run.{machine_after_line}
 
--- the step that a line asks for, where it asks for one
+-- the step that a line asks for, if any
 abbrev pub steps_of_command : Result Command LineError → List Step
 steps_of_command (Ok (commands.Step step)) = step ∷ []
 steps_of_command asked = []

@@ -1,4 +1,4 @@
--- What the parsers of the commands read, keyword by keyword: the project's own.
+-- What the parsers of the commands read, keyword by keyword.
 use Rattle.std.specs.Prelude.{ℕ, if◌then◌else◌, List, [], ◌∷◌, Option, find, option_map, Result, Ok, Err, codes}
 use Rattle.std.specs.Option.{ok_or, option_or}
 use Rattle.std.specs.Str.{bytes_eq}
@@ -155,7 +155,7 @@ rule_command c word rule operands =
     else (if bytes_eq rule (codes "bit") then bit_command c word operands
     else Err BadOption))))
 
--- `derive WORD RULE ..`, of which at least the rule must be there
+-- `derive WORD RULE ..`, with at least a rule
 abbrev pub derive_command : Contents → List (List ℕ) → Result Command LineError
 derive_command c (word ∷ rule ∷ operands) = rule_command c word rule operands
 derive_command c arguments = Err WrongCount
@@ -183,7 +183,7 @@ depth_command arguments = one_word arguments (λ count. do
   depth ← number_of_word count
   step_command (steps.Depth depth))
 
--- what the words behind a keyword ask for
+-- what the words after a keyword ask for
 abbrev pub keyword_command : Contents → Keyword → List (List ℕ) → Result Command LineError
 keyword_command c keywords.Rename arguments = rename_command c arguments
 keyword_command c keywords.Remove arguments = remove_command c arguments

@@ -1,4 +1,4 @@
--- What the parsers of the commands that decode signals read: the project's own.
+-- What the parsers of the commands that decode signals read.
 use Rattle.std.specs.Prelude.{ℕ, List, Result, Ok}
 use Rattle.vcd_core.specs.Contents.{Contents}
 use Rattle.vcd_decode.specs.UartSetup.{uart_setup}

@@ -1,8 +1,8 @@
--- What a reply says: the project's own.
+-- The reply to a line, as the code holds it.
 use Rattle.std.specs.Prelude.{◌≡◌, ℕ, is_err}
 use Rattle.vcdedit.specs.declared.replies.reply.Reply.{Reply}
 use Rattle.vcdedit.specs.Reply.{LineReply, reply_text}
 
--- this is said to the line of this number
+-- this is the reply to the line of this number
 abbrev pub IsReplyTo : ℕ → LineReply → Reply → Type 0
 IsReplyTo number said reply = (reply.text.items ≡ reply_text number said) × (reply.is_refused ≡ is_err said)

@@ -1,4 +1,4 @@
--- What a run of lines does to a history and to the writer of the replies: the project's own.
+-- The effect of a run of lines on a history and on the writer of the replies.
 use Rattle.std.specs.Prelude.{◌≡◌, ◌≤◌, ℕ, ◌+◌, ◌-◌, if◌then◌else◌, List, length, take, Option}
 use Rattle.std.specs.List.{concat}
 use Rattle.std.specs.Io.KnownBytes.{Appends, Keeps}
@@ -9,7 +9,7 @@ use Rattle.vcdedit.specs.Reply.{line_reply_text, is_line_refused}
 use Rattle.vcdedit.specs.Run.{machine_after_line, machine_after_lines, refusal_count}
 use Rattle.vcdedit.specs.RunOutcomes.{line_replies}
 
--- the line of this number leads from one machine to the other, its reply of so many bytes is told, and so many lines
+-- the line of this number changes one machine into the other; its reply of so many bytes is written, and so many lines
 -- are refused
 abbrev pub LineStep : (skipped number : ℕ) → List ℕ → Machine → Machine → (refused written : ℕ)
     → (before after : Option (List ℕ)) → Type 0
@@ -19,14 +19,14 @@ LineStep skipped number line old new refused written before after =
     × Appends before after (line_reply_text number line old.now skipped (length old.past) (length old.future))
     × (written ≡ length (line_reply_text number line old.now skipped (length old.past) (length old.future)))
 
--- the lines lead from one machine to the other; their replies are these, and so many are refused
+-- the lines change one machine into the other; these are their replies, and so many are refused
 pub record LinesGive (skipped : ℕ) (lines : List (List ℕ)) (old new : Machine) (told : List (List ℕ)) (count : ℕ) : Type
     0 where
   pub after : machine_after_lines old lines ≡ new
   pub replies : line_replies skipped 1 old lines ≡ told
   pub refused : refusal_count skipped old lines ≡ count
 
--- all lines are run, and their replies told
+-- all lines are run, and their replies written
 abbrev pub RunsLines : (skipped : ℕ) → List (List ℕ) → Machine → Machine → (refused : ℕ)
     → (before after : Option (List ℕ)) → Type 0
 RunsLines skipped lines old new refused before after = (told : List (List ℕ)) × Appends before after (concat told)
@@ -34,7 +34,7 @@ RunsLines skipped lines old new refused before after = (told : List (List ℕ)) 
 
 -- ---- faults
 
--- this is said of the number of bytes that the writer of the replies took before its fault, where that ended the run
+-- if the fault is one of the writer of the replies, this holds of the number of bytes that it took
 abbrev pub IfReplyFault : RunError → (ℕ → Type 0) → Type 0
 IfReplyFault (run_errors.ReplyFault written) said = said written
 IfReplyFault _ said = Unit {0}
@@ -48,8 +48,8 @@ IsLineFault run_errors.ScriptTooLarge = ⊥
 IsLineFault run_errors.ScriptReadFault = ⊥
 IsLineFault (run_errors.Write e) = ⊥
 
--- the fault ended the telling of this text to the line of this number, behind so many bytes of others: for want of
--- memory none of its bytes was taken, else its first ones
+-- the fault ended the writing of this text for the line of this number, after so many bytes of others; out of memory,
+-- none of its bytes was taken, otherwise its first ones
 abbrev pub StopsAtReply : (number : ℕ) → (text : List ℕ) → (told : ℕ) → (before after : Option (List ℕ)) → RunError
     → Type 0
 StopsAtReply number text told before after (run_errors.NoMemory line) = (line ≡ number) × Keeps before after
@@ -57,15 +57,15 @@ StopsAtReply number text told before after (run_errors.ReplyFault written) = (co
     × (count ≤ length text) × Appends before after (take count text)
 StopsAtReply number text told before after _ = ⊥
 
--- the same of the reply to a line, on the machine before it
+-- the same for the reply to a line, on the machine before it
 abbrev pub StopsAtLine : (skipped number : ℕ) → (line : List ℕ) → Machine → (told : ℕ)
     → (before after : Option (List ℕ)) → RunError → Type 0
 StopsAtLine skipped number line old told before after e =
     StopsAtReply number (line_reply_text number line old.now skipped (length old.past) (length old.future)) told before
     after e
 
--- the fault ended the telling of these replies: it names the line before whose reply memory ran out, or how many bytes
--- of them were taken
+-- the fault ended the writing of these replies: it gives the line at which memory ran out, or how many bytes of them
+-- were taken
 abbrev pub StopsInReplies : (replies : List (List ℕ)) → (took : List ℕ → Type 0) → RunError → Type 0
 StopsInReplies replies took (run_errors.NoMemory line) = (1 ≤ line) × (line ≤ length replies)
     × took (concat (take (line - 1) replies))
@@ -73,7 +73,7 @@ StopsInReplies replies took (run_errors.ReplyFault written) = (written ≤ lengt
     × took (take written (concat replies))
 StopsInReplies replies took _ = ⊥
 
--- the same of the replies to lines, the first of them on this machine
+-- the same for the replies to lines, from this machine on
 abbrev pub StopsInLines : (skipped : ℕ) → List (List ℕ) → Machine → (before after : Option (List ℕ)) → RunError → Type 0
 StopsInLines skipped lines old before after e =
     StopsInReplies (line_replies skipped 1 old lines) (Appends before after) e

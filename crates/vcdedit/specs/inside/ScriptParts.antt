@@ -1,4 +1,4 @@
--- Where a line of a script ends: the project's own.
+-- Where a line of a script ends.
 use Rattle.std.specs.Prelude.{ℕ, Bool, true, ◌==◌, List, [], ◌∷◌}
 
 -- whether a line ends before these bytes: a line feed (10) follows, or nothing

@@ -1,4 +1,4 @@
--- What a run has done when only its output is missing: the project's own.
+-- The result of a run before its output.
 use Rattle.std.specs.Prelude.{◌≡◌, ℕ, List}
 use Rattle.std.specs.List.{concat}
 use Rattle.vcd_core.specs.Contents.{Contents}
@@ -8,8 +8,7 @@ use Rattle.vcdedit.specs.Script.{script_lines}
 use Rattle.vcdedit.specs.Run.{machine_after_lines, refusal_count}
 use Rattle.vcdedit.specs.RunOutcomes.{line_replies}
 
--- the script on what the capture file means gives replies of which `took` holds, so many refused lines, and this
--- capture
+-- the script on the capture file gives replies of which `took` holds, so many refused lines, and this capture
 pub record ScriptGives (file script : List ℕ) (depth count : ℕ) (took : List ℕ → Type 0) (now : Contents) : Type 0 where
   pub contents : Contents
   pub skipped : ℕ

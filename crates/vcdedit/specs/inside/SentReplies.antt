@@ -1,4 +1,4 @@
--- What the writer behind a buffer has taken after a run: the project's own.
+-- What the writer after a buffer has taken after a run.
 use Rattle.std.specs.Prelude.{ℕ, suc, List, take, Option, Result, Ok, Err}
 use Rattle.std.specs.List.{concat}
 use Rattle.std.specs.Io.KnownBytes.{Appends}
@@ -7,7 +7,7 @@ use Rattle.vcdedit.specs.declared.running.run_error.RunError.TheVariants as run_
 use Rattle.vcdedit.specs.declared.running.run_error.Summary.{Summary}
 use Rattle.vcdedit.specs.RunEnds.{ReaderEnd, OfRun}
 
--- all replies, or where memory ran out at a line those to the lines before it
+-- all replies, or those to the lines before the one at which memory ran out
 abbrev pub HasSentReplies : Result Summary RunError → (depth : ℕ) → (capture script : ReaderEnd)
     → (before after : Option (List ℕ)) → Type 0
 HasSentReplies (Ok summary) depth capture script before after =

@@ -12,8 +12,8 @@ use std::alloc::Global;
 use vcd_core::NoMemory;
 use vcd_decode::{Annotation, Direction, Kind, LineData};
 
-/// A line for each annotation of a decoder: its first and last tick, the decoder's word and the kind. Data of UART
-/// and SPI have so many hexadecimal digits.
+/// A line for each annotation of a decoder: its first and last tick, the decoder's word and the kind. Data of UART and
+/// SPI have `digits` hexadecimal digits.
 pub fn annotations_to_bytes(
     alloc: Global,
     decoder: &[u8],
@@ -116,7 +116,7 @@ fn append_address(
     }
 }
 
-/// Appends what the two data lines of SPI show of a word.
+/// Appends what the two SPI data lines show of a word.
 fn append_line_data(
     text: &mut Vec<u8>,
     digits: u64,
@@ -131,7 +131,7 @@ fn append_line_data(
     append_line(text, b" miso ", digits, miso)
 }
 
-/// Appends what a data line shows, behind its name; nothing where there is no such line.
+/// Appends a name and what its data line shows; nothing if the line is absent.
 fn append_line(
     text: &mut Vec<u8>,
     name: &[u8],
@@ -157,7 +157,7 @@ fn append_unknown(text: &mut Vec<u8>, name: &[u8]) -> Result<(), NoMemory>
     Ok(())
 }
 
-/// Appends how many bits there are of something that was not ended.
+/// Appends how many bits there are of something that did not end.
 fn append_count(text: &mut Vec<u8>, count: u64) -> Result<(), NoMemory>
     ensures { OnOk result (text.new.items ≡ text.old.items ++ (codes "partial " ++ decimal count)) }
 {

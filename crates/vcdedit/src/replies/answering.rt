@@ -1,4 +1,4 @@
-//! What a line of the script does to a session, and what is said to it.
+//! The effect of a line on a session, and the reply to it.
 
 ghost use Rattle.std.specs.Prelude.{◌≡◌, false, Err, IfOk, OnErr};
 ghost use Rattle.vcd_journal.specs.StepErrorNames.{step_error_name};
@@ -16,11 +16,10 @@ use vcd_core::NoMemory;
 use vcd_edit::EditError;
 use vcd_journal::{Session, Step, StepError};
 
-/// Does what the line of this number asks for, on the capture that then stands, of whose file so many
-/// declarations were skipped, and gives what is said to it.
+/// Does what the line of this number asks for, on the current capture, and gives the reply. So many declarations of
+/// the capture's file were skipped.
 ///
-/// The only error is that memory is refused; then the session is as before: the reply is made before the step
-/// is taken.
+/// The only error is out of memory. The session is then as before, since the reply is made before the step.
 pub fn answer_line(
     alloc: Global,
     session: &mut Session,
@@ -38,7 +37,7 @@ pub fn answer_line(
     }
 }
 
-/// Does what the line of this number asks for, and gives what is said to it.
+/// Does what the line of this number asks for, and gives the reply.
 fn answer_command(
     alloc: Global,
     session: &mut Session,
@@ -87,7 +86,7 @@ fn answer_command(
     }
 }
 
-/// Makes the step that the line of this number asks for, and gives what is said to it.
+/// Makes the step that the line of this number asks for, and gives the reply.
 fn answer_step(
     alloc: Global,
     session: &mut Session,
@@ -98,7 +97,7 @@ fn answer_step(
         AnswersStep number step.now session.old session.new reply) }
     ensures unchanged { OnErr result (session.new ≡ session.old) }
 {
-    // before the step, so that want of memory leaves the session as it is
+    // before the step, so that the session stays as it is if memory runs out
     let accepted = Reply::accepted(alloc)?;
     match session.make_step(step) {
         Ok(()) => Ok(accepted),
@@ -106,7 +105,7 @@ fn answer_step(
     }
 }
 
-/// What is said to a refused step, unless memory was refused.
+/// The reply to a refused step, unless memory was refused.
 fn refuse_step(alloc: Global, number: u64, refusal: StepError) -> Result<Reply, NoMemory>
     ensures named { IfOk result (λ reply.
         IsReplyTo number (Err (step_error_name refusal)) reply) }
@@ -118,13 +117,13 @@ fn refuse_step(alloc: Global, number: u64, refusal: StepError) -> Result<Reply, 
     Reply::refused(alloc, number, refusal.name())
 }
 
-/// Whether a step is refused for want of memory.
+/// Whether a step is refused because memory ran out.
 fn is_no_memory(refusal: StepError) -> bool
     ensures { result ≡ wants_memory refusal }
 {
     match refusal {
         StepError::NoMemory => true,
-        // nested, since only so the last arm knows that the fault is not `NoMemory`
+        // nested, since only so the prover has in the last arm that the fault is not `NoMemory`
         StepError::Edit(fault) => match fault {
             EditError::NoMemory => true,
             _ => false,

@@ -1,4 +1,4 @@
-//! What replies are made of: the letters of a value, decimal numbers.
+//! The parts of replies: the letters of a value, and decimal numbers.
 
 ghost use Rattle.std.specs.Prelude.{◌≡◌, ◌++◌, OnOk};
 ghost use Rattle.std.specs.Fmt.{decimal};
@@ -7,7 +7,7 @@ ghost use Rattle.vcd_text.specs.Letters.{printed_letters};
 use itoa::Buffer;
 use vcd_core::{NoMemory, Value};
 
-/// Appends all letters of a value, most significant first: a step for each bit.
+/// Appends all letters of a value, most significant first. The cost is the width.
 pub fn append_letters(text: &mut Vec<u8>, value: &Value) -> Result<(), NoMemory>
     ensures { OnOk result (text.new.items ≡ text.old.items ++ printed_letters value.now) }
 {

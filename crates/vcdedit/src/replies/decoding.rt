@@ -1,4 +1,4 @@
-//! What decoders find on the signals of a capture, as text.
+//! The annotations of decoders on signals of a capture, as text.
 
 ghost use Rattle.std.specs.Prelude.{◌≡◌, IfOk, IfSome};
 ghost use Rattle.std.specs.List.{flat_map};
@@ -17,7 +17,7 @@ use std::alloc::Global;
 use vcd_core::{Capture, NoMemory, Wave};
 use vcd_decode::{Spi, Uart, i2c, spi, uart};
 
-/// The lines of what a UART line carries. The cost is that of [`uart`], and of the text.
+/// The lines for a UART line. The cost is that of [`uart`], and of the text.
 pub fn uart_text(
     alloc: Global,
     capture: &Capture,
@@ -40,7 +40,7 @@ fn uart_digits(setup: &Uart) -> u64
     if setup.data_bits() > 8 { 3 } else { 2 }
 }
 
-/// The lines of what a serial peripheral interface carries. The cost is that of [`spi`], and of the text.
+/// The lines for a serial peripheral interface. The cost is that of [`spi`], and of the text.
 pub fn spi_text(
     alloc: Global,
     capture: &Capture,
@@ -73,7 +73,7 @@ fn spi_digits(setup: &Spi) -> u64
     (setup.bits() + 3) / 4
 }
 
-/// The lines of what an I2C bus carries. The cost is that of [`i2c`], and of the text.
+/// The lines for an I2C bus. The cost is that of [`i2c`], and of the text.
 pub fn i2c_text(
     alloc: Global,
     capture: &Capture,
@@ -103,7 +103,7 @@ fn scalar_wave(capture: &Capture, signal: usize) -> &Wave
     &capture.signals()[signal].wave
 }
 
-/// The same of a line that may be absent.
+/// The same for a line that may be absent.
 fn wave_or_absent(capture: &Capture, line: Option<usize>) -> Option<&Wave>
     requires sound { IsSound (contents capture.now) }
     requires one_bit_signal { IfSome line (IsScalarAt (contents capture.now)) }

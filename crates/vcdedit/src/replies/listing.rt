@@ -1,4 +1,4 @@
-//! What `list` tells: a capture's timescale, end and counts, and its signals.
+//! The reply to `list`: a capture's timescale, end and counts, and its signals.
 
 ghost use Rattle.std.specs.Prelude.{◌≡◌, ◌++◌, map, OnOk, IfOk};
 ghost use Rattle.std.specs.List.{concat, flat_map};
@@ -12,8 +12,8 @@ use itoa::Buffer;
 use std::alloc::Global;
 use vcd_core::{Capture, NoMemory, Signal, Timescale, Word};
 
-/// The lines of `list` on a capture, of whose file so many declarations were skipped. The cost is that of its
-/// names; no wave is looked at.
+/// The lines of `list` on a capture. So many declarations of its file were skipped. The cost is that of its names; no
+/// wave is read.
 pub fn listing_text(alloc: Global, capture: &Capture, skipped: u64) -> Result<Vec<u8>, NoMemory>
     ensures { IfOk result (λ text. text.items ≡
         flat_map with_line_feed (listing (contents capture.now) skipped)) }
@@ -42,7 +42,7 @@ fn append_timescale_line(text: &mut Vec<u8>, timescale: Option<Timescale>) -> Re
     }
 }
 
-/// Appends the line of a timescale that is there.
+/// Appends the line of a given timescale.
 fn append_unit(text: &mut Vec<u8>, timescale: Timescale) -> Result<(), NoMemory>
     ensures { OnOk result (text.new.items ≡
         text.old.items ++ with_line_feed (timescale_line (Some timescale))) }
@@ -118,7 +118,7 @@ fn append_full_name(text: &mut Vec<u8>, signal: &Signal) -> Result<(), NoMemory>
     Ok(())
 }
 
-/// Appends words, run together.
+/// Appends words without a separator.
 fn append_joined(text: &mut Vec<u8>, words: &[Word]) -> Result<(), NoMemory>
     ensures { OnOk result (text.new.items ≡ text.old.items ++ concat words.now) }
 {

@@ -1,4 +1,4 @@
-//! What is said to a line of the script.
+//! The reply to a line of the script.
 
 ghost use Rattle.std.specs.Prelude.{◌≡◌, ◌++◌, ℕ, Ok, Err, OnOk, IfOk, false};
 ghost use Rattle.vcdedit.specs.Reply.{ok_reply, reply_text};
@@ -8,10 +8,10 @@ use crate::replies::appending::append_decimal;
 use std::alloc::Global;
 use vcd_core::NoMemory;
 
-/// What is said to a line, whole.
+/// The whole reply to a line.
 #[derive(Drop)]
 pub struct Reply {
-    /// Its lines, each of which ends with a line feed; empty where nothing is said.
+    /// Its lines, each with a line feed at its end; empty if there is none.
     pub text: Vec<u8>,
     /// Whether it says that the line is refused.
     pub is_refused: bool,
@@ -38,7 +38,7 @@ impl Reply {
         Ok(Reply::of_text(text))
     }
 
-    /// The reply to the line of this number, counted from 1, that is refused for the fault with this name.
+    /// The reply to a refused line: its number, counted from 1, and the name of its fault.
     pub fn refused(alloc: Global, number: u64, name: &str) -> Result<Reply, NoMemory>
         ensures { IfOk result (λ reply. IsReplyTo number (Err name.now) reply) }
     {
@@ -51,7 +51,7 @@ impl Reply {
     }
 }
 
-/// Appends the line that says that the line of this number is refused, and why.
+/// Appends the line with the number of a refused line and its fault.
 fn append_refusal(text: &mut Vec<u8>, number: u64, name: &str) -> Result<(), NoMemory>
     ensures { OnOk result (text.new.items ≡ text.old.items ++ reply_text number (Err name.now)) }
 {

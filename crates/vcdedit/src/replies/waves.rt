@@ -1,4 +1,4 @@
-//! What `value` and `changes` tell of one signal.
+//! The replies to `value` and `changes` on one signal.
 
 ghost use Rattle.std.specs.Prelude.{◌≡◌, ◌<◌, ◌++◌, length, OnOk, IfOk};
 ghost use Rattle.std.specs.List.{flat_map};
@@ -10,8 +10,8 @@ use crate::replies::appending::{append_decimal, append_letters};
 use std::alloc::Global;
 use vcd_core::{Capture, Change, NoMemory};
 
-/// The line of `value` for the signal at a position. The cost is the logarithm of its number of changes, and its
-/// width.
+/// The line of `value` for the signal at a position, at a tick. The cost is the logarithm of its number of changes,
+/// and its width.
 pub fn value_text(
     alloc: Global,
     capture: &Capture,

@@ -1,4 +1,4 @@
-//! What a run reads before it runs the first line: the capture and the whole script.
+//! What a run reads before the first line: the capture and the whole script.
 
 ghost use Rattle.std.specs.Prelude.{◌≡◌, ◌≤◌, false, length, OnOk, IfOk, IfErr, IfSome};
 ghost use Rattle.vcd_core.specs.Contents.{contents};

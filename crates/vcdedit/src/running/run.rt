@@ -18,10 +18,10 @@ use vcd_core::{Capture, Sink, Source};
 use vcd_journal::{DEPTH_LIMIT, Session};
 use vcd_text::write;
 
-/// Reads the capture, then the whole script, runs its lines in order and flushes the replies, then writes
-/// the output where there is one, also when lines were refused. `depth` is how many edits can be undone.
+/// Reads the capture, then the whole script, runs its lines in order and flushes the replies. Then it writes the
+/// output if there is one, also after refused lines. `depth` is how many edits can be undone.
 ///
-/// The first error ends it, and nothing later is begun.
+/// The first error ends the run, and nothing later is begun.
 pub fn run<R: Source, S: Source, P: Sink, W: Sink>(
     alloc: Global,
     capture_reader: &mut R,
@@ -46,7 +46,7 @@ pub fn run<R: Source, S: Source, P: Sink, W: Sink>(
     let summary = Summary {
         refused: script_run.refused,
     };
-    // matched here: handed on, an `Option<&mut W>` comes back as a value that no clause can open
+    // matched here: no clause can open an `Option<&mut W>` that comes back from a call
     match out {
         Some(out) => {
             write(alloc, script_run.session.capture(), out)?;
@@ -63,7 +63,7 @@ struct ScriptRun {
     refused: u64,
 }
 
-/// Runs all but the output.
+/// Runs everything except the output.
 fn run_script<R: Source, S: Source, P: Sink>(
     alloc: Global,
     capture_reader: &mut R,
@@ -97,7 +97,7 @@ fn run_script<R: Source, S: Source, P: Sink>(
     Ok(ScriptRun { session, refused })
 }
 
-/// Begins a session. Want of memory for it counts at no line.
+/// Begins a session. If memory runs out here, the error names line 0.
 fn begin_session(alloc: Global, capture: Capture, depth: u64) -> Result<Session, RunError>
     requires least { 1 ≤ depth }
     requires most { depth ≤ DEPTH_LIMIT }

@@ -7,14 +7,14 @@ ghost use Rattle.vcdedit.specs.declared.running.run_error.RunError.TheVariants a
 use thiserror::Error;
 use vcd_text::{ReadError, WriteError};
 
-/// What is told of a run that reached its end.
+/// The result of a completed run.
 #[derive(Clone, Copy, Debug, PartialEq, Eq)]
 pub struct Summary {
     /// How many lines of the script were refused.
     pub refused: u64,
 }
 
-/// What ended a run before its end.
+/// Why a run was not completed.
 ///
 /// Up to `ScriptReadFault` no reply was written, up to `ReplyFault` no output.
 #[derive(Clone, Copy, Debug, PartialEq, Eq, Error)]
@@ -28,8 +28,8 @@ pub enum RunError {
     /// The script's reader failed.
     #[error("ScriptReadFault")]
     ScriptReadFault,
-    /// Memory ran out at this line of the script, counted from 1, or at 0 before the first. Exactly the replies
-    /// to the lines before it were written.
+    /// Memory ran out at this line of the script, counted from 1, or at 0 before the first. Exactly the replies to the
+    /// lines before it were written.
     #[error("NoMemory")]
     NoMemory { line: u64 },
     /// The writer of the replies failed. It took exactly their first `written` bytes.

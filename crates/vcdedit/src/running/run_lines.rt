@@ -12,7 +12,7 @@ use std::alloc::Global;
 use vcd_core::{Sink, write_all};
 use vcd_journal::Session;
 
-/// What came of a line.
+/// The result of a line.
 #[derive(Clone, Copy)]
 struct LineOutcome {
     /// How many lines are refused: this one, or none.
@@ -21,12 +21,12 @@ struct LineOutcome {
     written: usize,
 }
 
-/// Runs the lines of a script, in order: each on the capture that then stands, of whose file so many declarations
-/// were skipped, and its reply is written whole before the next line is read. Then the replies are flushed. Gives
-/// how many lines were refused.
+/// Runs the lines of a script, in order, each on the current capture. Its reply is written whole before the next line
+/// is read. Then the replies are flushed. So many declarations of the capture's file were skipped. Gives how many
+/// lines were refused.
 ///
-/// The first error ends it: memory is refused at a line, or the writer of the replies fails. It holds the reply
-/// of one line at a time.
+/// The first error ends it: memory is refused at a line, or the writer of the replies fails. It holds the reply of one
+/// line at a time.
 pub fn run_lines<P: Sink>(
     alloc: Global,
     session: &mut Session,
@@ -62,7 +62,7 @@ pub fn run_lines<P: Sink>(
     }
 }
 
-/// Runs the line of this number, and writes its reply behind the `written` bytes of those before.
+/// Runs the line of this number, and writes its reply after the `written` bytes of those before.
 fn run_line<P: Sink>(
     alloc: Global,
     session: &mut Session,
@@ -98,7 +98,7 @@ fn run_line<P: Sink>(
     }
 }
 
-/// Writes the whole text of a reply behind the `written` bytes of those before.
+/// Writes the whole text of a reply after the `written` bytes of those before.
 fn write_reply<P: Sink>(text: &[u8], replies: &mut P, written: u128) -> Result<(), RunError>
     requires ready { P.has_failed replies.old ≡ false }
     requires room { written < 2 ^ 127 }

@@ -5,8 +5,8 @@ use vcd_journal::Step;
 
 /// What a line of the script asks for, on the capture on which it is read.
 ///
-/// A signal is its position in that capture, below the number of its signals; a tick may be past the end. The
-/// signals of a decoder have one bit.
+/// A signal is its position in that capture, below the number of its signals; a tick may be past the end. The signals
+/// of a decoder have one bit.
 #[derive(Clone, Copy, Debug, PartialEq)]
 pub enum Command<'a> {
     /// The line has no word, or the first begins with `#`: a comment.
@@ -15,7 +15,7 @@ pub enum Command<'a> {
     Step(Step<'a>),
     /// `list`: the capture's timescale, end and counts, and its signals.
     List,
-    /// `value`: the value of a signal at a tick, past the end its last value.
+    /// `value`: the value of a signal at a tick. Past the end it is the last value.
     Value {
         signal: usize,
         tick: u64,
@@ -29,7 +29,7 @@ pub enum Command<'a> {
         signal: usize,
         setup: Uart,
     },
-    /// `spi`: the words that the lines of a serial peripheral interface carry; only the clock must be there.
+    /// `spi`: the words that the lines of a serial peripheral interface carry; only the clock is required.
     Spi {
         clk: usize,
         mosi: Option<usize>,
@@ -37,7 +37,7 @@ pub enum Command<'a> {
         cs: Option<usize>,
         setup: Spi,
     },
-    /// `i2c`: what the two lines of a bus carry.
+    /// `i2c`: the events that the two lines of a bus carry.
     I2c {
         scl: usize,
         sda: usize,

@@ -1,4 +1,4 @@
-//! The words of a decoder's line, each by itself.
+//! The words of a decoder's line, one by one.
 
 ghost use Rattle.std.specs.Prelude.{◌≡◌, ◌<◌, None, Some, IfSome, IfOk, length};
 ghost use Rattle.vcd_core.specs.Contents.{contents};
@@ -12,7 +12,7 @@ use crate::script::numbers::number_of_word;
 use vcd_core::Capture;
 use vcd_decode::{BitOrder, Parity, Spi, Uart};
 
-/// The two numbers of the ratio that a word writes: `N/D`, or `N`, where the second is 1.
+/// The two numbers of the ratio that a word writes: `N/D`, or `N`. The second is then 1.
 pub fn ratio_of_word(word: &[u8]) -> Result<(u64, u64), LineError>
     ensures { result ≡ spec.ratio_of_word word.now }
 {
@@ -22,7 +22,7 @@ pub fn ratio_of_word(word: &[u8]) -> Result<(u64, u64), LineError>
     }
 }
 
-/// Where the first `/` of a word stands.
+/// The place of the first `/` of a word.
 fn slash_place(word: &[u8]) -> Option<usize>
     ensures place { result ≡ spec.slash_place word.now }
     ensures within { IfSome result (λ place. place < length word.now) }
@@ -30,7 +30,7 @@ fn slash_place(word: &[u8]) -> Option<usize>
     word.iter().position(|byte| *byte == b'/')
 }
 
-/// The numbers before and behind the `/` of a word.
+/// The numbers before and after the `/` of a word.
 fn ratio_at(word: &[u8], place: usize) -> Result<(u64, u64), LineError>
     requires { place < length word.now }
     ensures { result ≡ spec.ratio_at word.now (Some place) }
@@ -77,8 +77,7 @@ pub fn order_of_word(word: &[u8]) -> Result<BitOrder, LineError>
     Err(LineError::BadOption)
 }
 
-/// The position of the signal that a word names; none where the word is `-`, which stands for a line that is
-/// not there.
+/// The position of the signal that a word names, or none if the word is `-`: the line is absent.
 pub fn find_or_absent(capture: &Capture, word: &[u8]) -> Result<Option<usize>, LineError>
     ensures named { result ≡ spec.signal_or_absent (contents capture.now) word.now }
     ensures within { IfOk result (λ line.
@@ -91,7 +90,7 @@ pub fn find_or_absent(capture: &Capture, word: &[u8]) -> Result<Option<usize>, L
     Ok(Some(signal))
 }
 
-/// Sees that a signal has one bit.
+/// Checks that a signal has one bit.
 pub fn one_bit_signal(capture: &Capture, signal: usize) -> Result<usize, LineError>
     requires { signal < length capture.now.signals }
     ensures { result ≡ spec.one_bit_signal (contents capture.now) signal }
@@ -103,7 +102,7 @@ pub fn one_bit_signal(capture: &Capture, signal: usize) -> Result<usize, LineErr
     }
 }
 
-/// The same of a line that may be absent.
+/// The same for a line that may be absent.
 pub fn one_bit_signal_or_absent(
     capture: &Capture,
     line: Option<usize>,
@@ -117,7 +116,7 @@ pub fn one_bit_signal_or_absent(
     }
 }
 
-/// The same of a line that is there.
+/// The same for a line that is there.
 fn some_scalar(capture: &Capture, signal: usize) -> Result<Option<usize>, LineError>
     requires { signal < length capture.now.signals }
     ensures { result ≡ spec.one_bit_signal_or_absent (contents capture.now) (Some signal) }

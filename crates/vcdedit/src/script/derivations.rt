@@ -28,7 +28,7 @@ pub fn parse_derive<'a>(words: &mut Words<'a>, capture: &Capture) -> Result<Comm
     parse_rule(word, rule, words, capture)
 }
 
-/// Reads the operands behind the rule.
+/// Reads the operands after the rule.
 fn parse_rule<'a>(
     word: &'a [u8],
     rule: &[u8],
@@ -68,7 +68,7 @@ fn parse_not<'a>(
     Ok(derive_by(word, Rule::Not(operand)))
 }
 
-/// Reads `A B` behind `and`.
+/// Reads `A B` after `and`.
 fn parse_and<'a>(
     word: &'a [u8],
     words: &mut Words<'a>,
@@ -81,7 +81,7 @@ fn parse_and<'a>(
     Ok(derive_by(word, Rule::And(a, b)))
 }
 
-/// Reads `A B` behind `or`.
+/// Reads `A B` after `or`.
 fn parse_or<'a>(
     word: &'a [u8],
     words: &mut Words<'a>,
@@ -94,7 +94,7 @@ fn parse_or<'a>(
     Ok(derive_by(word, Rule::Or(a, b)))
 }
 
-/// Reads `A B` behind `xor`.
+/// Reads `A B` after `xor`.
 fn parse_xor<'a>(
     word: &'a [u8],
     words: &mut Words<'a>,
@@ -135,7 +135,7 @@ fn parse_bit<'a>(
     Ok(derive_by(word, Rule::BitOf(operand, bit)))
 }
 
-/// The line asks for a signal that is derived so.
+/// The command that derives a signal by this rule.
 fn derive_by<'a>(word: &'a [u8], rule: Rule) -> Command<'a>
     ensures { spec.derive_by word.now rule ≡ Ok (command_without_address result) }
 {

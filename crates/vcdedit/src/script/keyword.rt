@@ -3,7 +3,7 @@
 ghost use Rattle.std.specs.Prelude.{◌≡◌};
 ghost use Rattle.vcdedit.specs.inside.ParsedCommands.{keyword_in, edit_keywords, history_keywords, query_keywords, decoder_keywords, keyword_in_tables as keyword_named};
 
-/// What the first word of a line names: a command.
+/// The command that the first word of a line names.
 #[derive(Clone, Copy, Debug, PartialEq, Eq)]
 pub enum Keyword {
     Rename,
@@ -35,7 +35,7 @@ pub fn keyword_of(word: &[u8]) -> Option<Keyword>
         .or(decoder_keyword(word))
 }
 
-/// The command that edits and has this name.
+/// The edit that has this name.
 fn edit_keyword(word: &[u8]) -> Option<Keyword>
     ensures { result ≡ keyword_in edit_keywords word.now }
 {
@@ -82,7 +82,7 @@ fn history_keyword(word: &[u8]) -> Option<Keyword>
     None
 }
 
-/// The command that asks about the capture and has this name.
+/// The question about the capture that has this name.
 fn query_keyword(word: &[u8]) -> Option<Keyword>
     ensures { result ≡ keyword_in query_keywords word.now }
 {

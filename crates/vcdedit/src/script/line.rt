@@ -26,14 +26,14 @@ use vcd_core::Capture;
 use vcd_journal::Step;
 use vcd_text::Words;
 
-/// Reads a line of the script, on the capture that then stands. It takes no memory.
+/// Reads a line of the script, on the current capture. It takes no memory.
 ///
-/// The faults in the order in which they count: the first word names no command; the command takes another
-/// number of words; then from left to right each word that is not what its place asks for; a decoder's signal
-/// that is wider than one bit; then the fault of the decoder's setup.
+/// The faults in the order in which they count: the first word names no command; the command takes another number of
+/// words; a word, from left to right, is not what its place requires; a decoder's signal is wider than one bit; the
+/// decoder's setup has a fault.
 ///
-/// The cost is that of the line, and of a comparison with each full name for each name in it; `@` and a position
-/// is found without one.
+/// The cost is that of the line, and for each name in it a comparison with each full name. `@` and a position needs no
+/// comparison.
 #[tactic(auto, unfolding(crate::specs::Script::command_of_line))]
 pub fn parse_line<'a>(line: &'a [u8], capture: &Capture) -> Result<Command<'a>, LineError>
     ensures command { IfOk result (λ command.
@@ -49,7 +49,7 @@ pub fn parse_line<'a>(line: &'a [u8], capture: &Capture) -> Result<Command<'a>, 
     }
 }
 
-/// Reads the first word, and by it those behind.
+/// Reads the first word, and then those after it.
 fn parse_first_word<'a>(
     first: &[u8],
     words: &mut Words<'a>,
@@ -65,7 +65,7 @@ fn parse_first_word<'a>(
     parse_command(keyword, words, capture)
 }
 
-/// Reads the words behind a keyword.
+/// Reads the words after a keyword.
 fn parse_command<'a>(
     keyword: Keyword,
     words: &mut Words<'a>,
@@ -94,7 +94,7 @@ fn parse_command<'a>(
     }
 }
 
-/// Reads that nothing follows `undo`.
+/// Checks that nothing follows `undo`.
 fn parse_undo<'a>(words: &mut Words<'a>) -> Result<Command<'a>, LineError>
     ensures { ReadsAs (no_word (word_texts words.old) (step_command steps.Undo)) result }
 {
@@ -102,7 +102,7 @@ fn parse_undo<'a>(words: &mut Words<'a>) -> Result<Command<'a>, LineError>
     Ok(Command::Step(Step::Undo))
 }
 
-/// Reads that nothing follows `redo`.
+/// Checks that nothing follows `redo`.
 fn parse_redo<'a>(words: &mut Words<'a>) -> Result<Command<'a>, LineError>
     ensures { ReadsAs (no_word (word_texts words.old) (step_command steps.Redo)) result }
 {

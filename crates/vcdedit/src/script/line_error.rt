@@ -9,7 +9,7 @@ use vcd_decode::SetupError;
 /// Why a line of the script is no command.
 #[derive(Clone, Copy, Debug, PartialEq, Eq, Error)]
 pub enum LineError {
-    /// The first word is the name of no command.
+    /// The first word names no command.
     #[error("UnknownCommand")]
     UnknownCommand,
     /// The command takes another number of words.
@@ -21,22 +21,22 @@ pub enum LineError {
     /// No signal has this name.
     #[error("NoSuchName")]
     NoSuchName,
-    /// A value has a letter that is none, or more letters than its signal has bits.
+    /// A value has an unknown letter, or more letters than its signal has bits.
     #[error("BadValueText")]
     BadValueText,
-    /// A word is none of those that may stand in its place.
+    /// A word is not one of those allowed in its place.
     #[error("BadOption")]
     BadOption,
     /// A decoder's signal is wider than one bit.
     #[error("NotScalar")]
     NotScalar,
-    /// The numbers of a decoder's setup are none that it can have.
+    /// The numbers of a decoder's setup are not allowed.
     #[error(transparent)]
     Setup(SetupError),
 }
 
 impl LineError {
-    /// The name that the tool prints; that of a setup's fault is its own.
+    /// The name that the tool prints. A fault of a setup has its own name.
     pub fn name(&self) -> &'static str
         ensures { result.now ≡ line_error_name self.now }
     {

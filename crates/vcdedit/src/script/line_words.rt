@@ -1,4 +1,4 @@
-//! The words behind the first of a line: how many there are.
+//! The words of a line after the first, and their number.
 
 ghost use Rattle.std.specs.Prelude.{◌≡◌, ◌∷◌, [], List, ℕ, Result, Err, IfOk, OnOk, IfErr, MatchOption};
 ghost use Rattle.vcd_text.specs.Grammar.{word_texts};
@@ -20,7 +20,7 @@ pub fn next_text<'a>(words: &mut Words<'a>) -> Option<&'a [u8]>
     }
 }
 
-/// Sees that no word is left.
+/// Checks that no word is left.
 pub fn take_none<'a>(words: &mut Words<'a>) -> Result<(), LineError>
     ensures none { OnOk result (word_texts words.old ≡ []) }
     ensures others { IfErr result (λ e. (asked : Result LineCommand LineFault) →

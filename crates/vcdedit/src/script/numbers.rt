@@ -9,7 +9,7 @@ ghost use Rattle.vcdedit.specs.ScriptWords.{number_of_word as number_read, dista
 use crate::script::LineError;
 use vcd_core::number_up_to;
 
-/// The greatest distance back in time, in ticks.
+/// The greatest distance to an earlier tick, in ticks.
 const MOST_BACK: u64 = 1 << 63;
 
 /// The number that a word writes: a decimal number of 64 bits.
@@ -24,7 +24,7 @@ pub fn number_of_word(word: &[u8]) -> Result<u64, LineError>
     with_ones(tens, u64::from(*last - b'0')).ok_or(LineError::BadNumber)
 }
 
-/// The number that the digits but the last write, where `u64::MAX` stands for every greater one.
+/// The number that the digits before the last write. A greater number than `u64::MAX` is given as that.
 fn tens_of(digits: &[u8]) -> Option<u64>
     ensures { result ≡ (if list_all is_ascii_digit digits.now
         then Some (min (number_of digits.now) (2 ^ 64 - 1)) else None) }
@@ -35,14 +35,14 @@ fn tens_of(digits: &[u8]) -> Option<u64>
     number_up_to(digits, u64::MAX)
 }
 
-/// The number with one more digit, where it has 64 bits.
+/// The number with one more digit, if it has 64 bits.
 fn with_ones(tens: u64, ones: u64) -> Option<u64>
     ensures { result ≡ (if nat_lt (tens * 10 + ones) (2 ^ 64) then Some (tens * 10 + ones) else None) }
 {
     tens.checked_mul(10)?.checked_add(ones)
 }
 
-/// The distance that a word writes: a decimal number, behind `-`, `+` or neither, that an `i64` can hold.
+/// The distance that a word writes: a decimal number after `-`, `+` or neither, within the range of `i64`.
 pub fn distance_of_word(word: &[u8]) -> Result<i64, LineError>
     ensures { result ≡ distance_read word.now }
 {

@@ -15,7 +15,7 @@ use crate::script::{Command, LineError};
 use vcd_core::Capture;
 use vcd_text::Words;
 
-/// Reads that nothing follows `list`.
+/// Checks that nothing follows `list`.
 pub fn parse_list<'a>(words: &mut Words<'a>) -> Result<Command<'a>, LineError>
     ensures { ReadsAs (no_word (word_texts words.old) (Ok commands.List)) result }
 {

@@ -5,8 +5,7 @@ ghost use Rattle.std.specs.List.{list_all};
 ghost use Rattle.vcdedit.specs.Script.{script_lines};
 ghost use Rattle.vcdedit.specs.inside.ScriptParts.{is_after_line};
 
-/// The first line of a script, without its line feed, and what follows it. There is none where the script is
-/// empty.
+/// The first line of a script, without its line feed, and what follows it. An empty script has none.
 pub fn split_line(script: &[u8]) -> Option<(&[u8], &[u8])>
     ensures { MatchOption result (script.now ≡ []) (λ parts.
         (script_lines script.now ≡ parts.0.now ∷ script_lines parts.1.now) ×
@@ -22,7 +21,7 @@ pub fn split_line(script: &[u8]) -> Option<(&[u8], &[u8])>
     }
 }
 
-/// How many bytes come before the first line feed, or in all where there is none.
+/// How many bytes come before the first line feed, or in all if there is none.
 fn line_len(script: &[u8]) -> usize
     ensures within { result ≤ length script.now }
     ensures line { list_all (λ b. not (b == 10)) (take result script.now) ≡ true }

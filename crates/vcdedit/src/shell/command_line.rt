@@ -11,7 +11,7 @@ use clap::{Arg, ArgMatches, Command, Error};
 use std::alloc::{AllocError, Global};
 use vcd_journal::DEPTH_LIMIT;
 
-/// How many edits are held for undo and redo where no word says how many.
+/// How many edits are held for undo and redo by default.
 pub const DEFAULT_DEPTH: u64 = 100;
 
 const VERSION: &str = "0.1.0";
@@ -70,11 +70,11 @@ Exit status:
 /// What the words of the command line ask for.
 #[derive(Clone, Copy, Debug, PartialEq, Eq)]
 pub struct Options<'a> {
-    /// The path of the capture; standard input where it is absent or `-`.
+    /// The path of the capture; absent or `-` means standard input.
     pub input: Option<&'a str>,
-    /// The path of the script; the script is the one line `list` where it is absent.
+    /// The path of the script; without one the script is the one line `list`.
     pub script: Option<&'a str>,
-    /// The path of the output; none is written where it is absent.
+    /// The path of the output; without one there is no output.
     pub output: Option<&'a str>,
     /// How many edits are held for undo and redo, from 1 to `DEPTH_LIMIT`.
     pub depth: u64,

@@ -1,4 +1,4 @@
-//! How the program ends, its exit status, and what it says on standard error.
+//! How the program ends, its exit status, and its text on standard error.
 
 ghost use Rattle.std.specs.Prelude.{◌≡◌, ◌≤◌, false, true};
 ghost use Rattle.std.specs.Io.KnownBytes.{Appends};
@@ -17,11 +17,11 @@ use vcd_core::{Sink, ToWrite, write_and_flush};
 /// How the program ended.
 #[derive(Drop)]
 pub enum Ending {
-    /// The run came to its end.
+    /// The run was completed.
     Done(Summary),
     /// The run failed, or could not begin.
     Failed(RunError),
-    /// Help or the version was shown, for which the words of the command line asked.
+    /// The words of the command line asked for help or the version, and it was shown.
     Shown,
     /// The words are refused, and this text says why.
     Refused(String),
@@ -30,8 +30,7 @@ pub enum Ending {
 /// Memory ran out before the run began.
 pub const NO_MEMORY: RunError = RunError::NoMemory { line: 0 };
 
-/// Writes to standard error what is to be said of the ending, and gives the exit status. A fault of the
-/// writer is passed over.
+/// Writes the text of the ending to standard error, and gives the exit status. A fault of the writer is ignored.
 pub fn report_ending<E: Sink>(ending: Ending, errors: &mut E) -> u8
     requires { E.has_failed errors.old ≡ false }
     ensures most { result ≤ 5 }
@@ -47,8 +46,8 @@ pub fn report_ending<E: Sink>(ending: Ending, errors: &mut E) -> u8
     }
 }
 
-/// The ending of words that ask for no run: `clap`'s text of the error, which refuses them, or help or the
-/// version, which is shown on standard output.
+/// The ending of words that ask for no run. Help and the version are shown on standard output; other words are
+/// refused, with `clap`'s text of the error.
 pub fn ending_without_run<R: Runtime + AllocGlobal>(rt: &R, error: &Error) -> Ending
     ensures kind { IsEndingOfKind (kind_of error.now) result }
     ensures not_done { is_done result ≡ false }

@@ -1,4 +1,4 @@
-//! A file that is made when it is first written.
+//! A file that is created at its first write.
 
 ghost use Rattle.std.specs.Prelude.{◌≡◌, None, IsSome, IsOk, OnOk, OnErr};
 
@@ -8,7 +8,7 @@ use std::{fs, io};
 
 /// A writer that creates or empties its file at its first write.
 ///
-/// So the file may be one that is read before, and a run that writes nothing leaves it as it is.
+/// So the file may also be an input of the run, and a run that writes nothing leaves it as it is.
 #[derive(Drop)]
 pub struct LateFile<'a, R: Files> {
     files: &'a R,
@@ -17,7 +17,7 @@ pub struct LateFile<'a, R: Files> {
 }
 
 impl<'a, R: Files> LateFile<'a, R> {
-    /// A writer to the file at `path`. It touches no file yet and takes no memory.
+    /// A writer to the file at `path`. It opens no file yet and takes no memory.
     pub fn new(files: &'a R, path: &'a str) -> LateFile<'a, R>
         ensures unopened { result.file ≡ None }
         ensures path { result.path.now ≡ path.now }

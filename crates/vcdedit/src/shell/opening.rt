@@ -7,7 +7,7 @@ use std::io::{Input, Read};
 use std::rt::Files;
 use std::{fs, io};
 
-/// The script where none is named: the capture is listed.
+/// The default script: the capture is listed.
 const SCRIPT_WITHOUT_FILE: &[u8] = b"list\n";
 
 /// Where the bytes of an input come from.
@@ -15,7 +15,7 @@ const SCRIPT_WITHOUT_FILE: &[u8] = b"list\n";
 pub enum Origin<S, F> {
     Standard(S),
     File(F),
-    /// These bytes: the script where none is named.
+    /// These bytes: the default script.
     Given(&'static [u8]),
 }
 
@@ -33,7 +33,7 @@ impl<S: Read, F: Read> Read for Origin<S, F> {
     }
 }
 
-/// Opens the capture: the file at `path`, or else standard input, for which `-` stands too.
+/// Opens the capture: the file at `path`, or standard input without a path or if it is `-`.
 pub fn open_capture<R: Files + Input>(
     rt: &R,
     path: Option<&str>,
@@ -46,7 +46,7 @@ pub fn open_capture<R: Files + Input>(
     }
 }
 
-/// Opens the script: the file at `path`, or else the one line `list`.
+/// Opens the script: the file at `path`, or the one line `list` without a path.
 pub fn open_script<R: Files + Input>(
     rt: &R,
     path: Option<&str>,
@@ -60,8 +60,7 @@ pub fn open_script<R: Files + Input>(
     }
 }
 
-/// A read of no byte fails where standard input is closed. Without it, the next file that is opened would
-/// stand in its place.
+/// A read of no byte fails if standard input is closed. Without it, the next file that is opened would take its place.
 fn open_standard<S: Read + Drop, F>(mut reader: S) -> io::Result<Origin<S, F>>
     ensures { IfOk result IsStandard }
 {

@@ -23,7 +23,7 @@ use vcd_core::{FromRead, Sink, Source, ToWrite};
 use vcd_journal::DEPTH_LIMIT;
 use vcd_text::{Fault, ReadError};
 
-/// How many bytes the replies are gathered in before they go out.
+/// How many bytes of replies are buffered before they are written.
 const BUFFER: usize = 65_536;
 
 /// The capture could not be opened: a read fault before its first line ends.
@@ -32,13 +32,13 @@ const NOT_OPENED: RunError = RunError::Capture(ReadError {
     fault: Fault::ReadFault,
 });
 
-/// Runs the program on the words of its command line, and gives its exit status. What stopped it is told
-/// on `errors`.
+/// Runs the program on the words of its command line, and gives its exit status. The text on why it failed goes to
+/// `errors`.
 pub fn status_of_program<R: Runtime + AllocGlobal, E: Sink>(rt: &R, errors: &mut E) -> u8
     requires { E.has_failed errors.old ≡ false }
     ensures most { result ≤ 5 }
-    // the status and the text are those of one and the same ending; where it is that of a run that reached its
-    // end, some words asked for that run, and it had that ending
+    // the status and the text are those of one ending; if that is one of a completed run, some words asked for that
+    // run, and it had that ending
     ensures told { (ending : ProgramEnding) ×
         (is_done ending ≡ true → (words : List (List ℕ)) ×
         (fault_of option_app words ≡ []) × IsEndingOf words ending) ×
@@ -52,7 +52,7 @@ pub fn status_of_program<R: Runtime + AllocGlobal, E: Sink>(rt: &R, errors: &mut
     }
 }
 
-/// The words after the program's name. One that is no text is refused.
+/// The words after the program's name. A word that is no text is refused.
 fn command_line_words<R: Runtime + AllocGlobal>(rt: &R) -> Result<Vec<String>, Ending>
     ensures { IfErr result (λ ending. is_done ending ≡ false) }
 {
@@ -76,7 +76,7 @@ fn ending_of_no_text<R: Runtime + AllocGlobal>(rt: &R) -> Ending
     }
 }
 
-/// Does what the words ask for. Where they ask for no run, nothing is opened.
+/// Does what the words ask for. If they ask for no run, nothing is opened.
 fn ending_of_words<R: Runtime + AllocGlobal>(rt: &R, words: &[String]) -> Ending
     // words without a fault are run
     ensures of_run { fault_of option_app (map string_bytes words.now) ≡ [] →
@@ -117,7 +117,7 @@ fn run_options<R: Runtime + AllocGlobal>(rt: &R, options: &Options<'_>) -> Resul
     )
 }
 
-/// Runs with the replies gathered for standard output.
+/// Runs with a buffer for the replies to standard output.
 fn run_inputs<R: Runtime + AllocGlobal, C: Source, S: Source>(
     rt: &R,
     capture: &mut C,
@@ -138,16 +138,16 @@ fn run_inputs<R: Runtime + AllocGlobal, C: Source, S: Source>(
     ending
 }
 
-/// How a run ended, and the writer behind the buffer of its replies. Where that failed, it is gone: then there is
-/// its error if it came behind the run.
+/// How a run ended, and the writer after the buffer of its replies. If that writer failed, it is gone, and only an
+/// error after the run is kept.
 #[derive(Drop)]
 struct EndedRun<W> {
     ending: Result<Summary, RunError>,
     replies: Result<W, Option<io::Error>>,
 }
 
-/// Runs with the replies gathered in a buffer. What it has in the end goes to the writer behind it, also where
-/// memory ran out.
+/// Runs with a buffer for the replies. What it holds at the end is sent to the writer after it, also if memory ran
+/// out.
 fn run_gathered<R: Runtime + AllocGlobal, C: Source, S: Source, W: Write + Drop>(
     rt: &R,
     capture: &mut C,
@@ -179,7 +179,7 @@ fn run_gathered<R: Runtime + AllocGlobal, C: Source, S: Source, W: Write + Drop>
     }
 }
 
-/// Runs with the file at `output` for the output, where one is named.
+/// Runs with the file at `output` for the output, if there is one.
 fn run_devices<R: Runtime + AllocGlobal, C: Source, S: Source, P: Sink>(
     rt: &R,
     capture: &mut C,
@@ -206,7 +206,7 @@ fn run_devices<R: Runtime + AllocGlobal, C: Source, S: Source, P: Sink>(
     run(rt.alloc(), capture, script, replies, out.as_mut(), depth)
 }
 
-/// A writer that gathers what another is given.
+/// A buffer for the bytes to another writer.
 fn new_buffer<R: AllocGlobal, W: Write + Drop>(rt: &R, writer: W) -> Result<BufWriter<W>, RunError>
     ensures inner { IfOk result (λ b. writer_inner b ≡ writer) }
     ensures empty { IfOk result (λ b. writer_buffer b ≡ []) }
@@ -216,9 +216,9 @@ fn new_buffer<R: AllocGlobal, W: Write + Drop>(rt: &R, writer: W) -> Result<BufW
     BufWriter::with_capacity(rt.alloc(), BUFFER, writer).map_err(|_| NO_MEMORY)
 }
 
-/// Sends what a device gathered to the writer behind it, and gives that writer back.
+/// Sends what a device holds to the writer after it, and gives that writer back.
 ///
-/// Nothing is sent where the device has failed, and nothing again where the writer fails here: its error is then given.
+/// Nothing is sent if the device has failed. If the writer fails here, nothing is sent again, and its error is given.
 fn close_device<W: Write + Drop>(device: ToWrite<BufWriter<W>>) -> Result<W, Option<io::Error>>
     ensures sent { IfOk result (λ writer.
         Keeps (⟦<ToWrite<BufWriter<W>> as Sink>⟧.taken device) (W.contents writer)) }

@@ -1,4 +1,4 @@
-//! What the program says of a run: its exit status, and the line on standard error.
+//! The report of a run: its exit status, and the line on standard error.
 
 ghost use Rattle.std.specs.Prelude.{◌≡◌, ◌≤◌, false, true, OnOk, OnErr};
 ghost use Rattle.std.specs.Io.KnownBytes.{Appends};
@@ -9,8 +9,8 @@ use itoa::Buffer;
 use vcd_core::{ShortWrite, Sink, write_all};
 use vcd_text::{Fault, ReadError, WriteError};
 
-/// Writes the line that says what ended a run, flushes the writer, and gives the exit status. A fault of the
-/// writer is passed over. It takes no memory.
+/// Writes the line on what ended a run, flushes the writer, and gives the exit status. A fault of the writer is
+/// ignored. It takes no memory.
 pub fn report<W: Sink>(error: &RunError, writer: &mut W) -> u8
     requires { W.has_failed writer.old ≡ false }
     ensures most { result ≤ 5 }
@@ -24,8 +24,8 @@ pub fn report<W: Sink>(error: &RunError, writer: &mut W) -> u8
     error_status(error)
 }
 
-/// Writes the text that says why the words of the command line are refused, and gives the exit status. A
-/// fault of the writer is passed over. It takes no memory.
+/// Writes the text on why the words of the command line are refused, and gives the exit status. A fault of the writer
+/// is ignored. It takes no memory.
 pub fn report_refusal<W: Sink>(text: &str, writer: &mut W) -> u8
     requires { W.has_failed writer.old ≡ false }
     ensures status { result ≡ 2 }
@@ -36,7 +36,7 @@ pub fn report_refusal<W: Sink>(text: &str, writer: &mut W) -> u8
     2
 }
 
-/// The exit status of a run that reached its end: 1 where a line of the script was refused.
+/// The exit status of a completed run: 1 if a line of the script was refused.
 pub fn status_when_done(summary: &Summary) -> u8
     ensures { result ≡ done_status summary.now.refused }
 {

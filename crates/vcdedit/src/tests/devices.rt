@@ -17,7 +17,7 @@ impl Read for FailingReader<'_> {
     }
 }
 
-/// A reader that gives line feeds without end.
+/// A reader that gives an endless row of line feeds.
 #[derive(Drop)]
 pub struct EndlessReader;
 
@@ -45,7 +45,7 @@ impl Write for FlushCounter {
     }
 }
 
-/// A writer with room for so many bytes. When they are there it takes no more, and a flush fails.
+/// A writer with room for so many bytes. Once full it takes no more, and a flush fails.
 #[derive(Drop)]
 pub struct SmallWriter {
     held: Vec<u8>,

@@ -1,4 +1,4 @@
-//! Runs whose devices fail midway: which error ends them, and what the writers have taken by then.
+//! Runs whose devices fail midway: which error ends them, and what the writers have taken.
 
 use crate::tests::devices::{EndlessReader, FailingReader, SmallWriter};
 use crate::{RunError, Summary, run};
@@ -23,7 +23,7 @@ $end
 #9
 ";
 
-/// It leaves the capture as it was.
+/// A script that leaves the capture as it was.
 const SCRIPT: &[u8] = b"rename top.a b\nundo\n";
 
 const REPLIES: &[u8] = b"ok\nok\n";
@@ -45,7 +45,7 @@ $end
 /// Room for more than a run writes here.
 const AMPLE: usize = 1_000;
 
-/// How a run ended, and its writers then.
+/// How a run ended, and the state of its writers.
 #[derive(Drop)]
 struct EndedRun {
     ending: Result<Summary, RunError>,
@@ -84,7 +84,7 @@ fn check_ending(rt: &impl Abort, run: &EndedRun, error: RunError, replies: &[u8]
     assert!(rt; run.output.held() == output);
 }
 
-/// Stops where a capture whose reader gives these bytes, and then fails, has another fault than this one at line 4.
+/// Stops unless a capture whose reader gives these bytes, and then fails, has this fault at line 4.
 fn check_capture(rt: &impl Abort, alloc: Global, bytes: &[u8], fault: Fault) {
     let run = run_on(alloc, FailingReader(bytes), SCRIPT, AMPLE, AMPLE);
     let error = ReadError { line: 4, fault };
@@ -123,14 +123,14 @@ fn a_capture_with_a_fault_before_a_script_that_fails(rt: HostRuntime) {
     check_ending(&rt, &run, RunError::Capture(fault), b"", b"");
 }
 
-/// The writer of the replies takes this front of them, all where its flush fails.
+/// The writer of the replies takes these first bytes of them, all if its flush fails.
 fn check_reply_fault(rt: &impl Abort, alloc: Global, front: &[u8]) {
     let run = run_on(alloc, CAPTURE, SCRIPT, front.len(), AMPLE);
     let written = front.len() as u128;
     check_ending(rt, &run, RunError::ReplyFault { written }, front, b"");
 }
 
-/// The writer of the output takes this front of it, all where its flush fails.
+/// The writer of the output takes these first bytes of it, all if its flush fails.
 fn check_output_fault(rt: &impl Abort, alloc: Global, front: &[u8]) {
     let run = run_on(alloc, CAPTURE, SCRIPT, AMPLE, front.len());
     let written = front.len() as u128;
@@ -140,7 +140,7 @@ fn check_output_fault(rt: &impl Abort, alloc: Global, front: &[u8]) {
 
 #[test]
 fn replies_that_fail(rt: HostRuntime) {
-    // behind the last byte it is the flush that fails
+    // after the last byte it is the flush that fails
     for written in 0..=REPLIES.len() {
         check_reply_fault(&rt, rt.alloc(), &REPLIES[..written]);
     }
@@ -148,7 +148,7 @@ fn replies_that_fail(rt: HostRuntime) {
 
 #[test]
 fn an_output_that_fails(rt: HostRuntime) {
-    // behind the last byte it is the flush that fails
+    // after the last byte it is the flush that fails
     for written in 0..=OUTPUT.len() {
         check_output_fault(&rt, rt.alloc(), &OUTPUT[..written]);
     }

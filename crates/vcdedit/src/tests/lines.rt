@@ -1,4 +1,4 @@
-//! What a line asks for, by `parse_line`: each kind of command, and some lines that are none.
+//! What a line asks for, by `parse_line`: each kind of command, and some lines that are no command.
 
 use crate::parse_line;
 use crate::tests::notation::capture_text;

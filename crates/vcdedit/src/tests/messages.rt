@@ -1,4 +1,4 @@
-//! The message of each fault, which its derive makes, is the fault's name; and what `report` says of each ending.
+//! The derived message of each fault is the fault's name; and the report of each ending.
 
 use crate::tests::devices::FlushCounter;
 use crate::{LineError, RunError, report};

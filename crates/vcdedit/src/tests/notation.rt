@@ -18,7 +18,7 @@ struct ChangeLine {
 #[derive(Drop)]
 struct SignalLines {
     declarations: String,
-    /// Those of the values at tick 0.
+    /// The lines of the values at tick 0.
     values: String,
     changes: Vec<ChangeLine>,
 }
@@ -28,7 +28,7 @@ pub fn capture_text(alloc: Global, notation: &str) -> Result<String, Fail> {
     let inner = notation.trim_start_matches('[').trim_end_matches(']');
     let (signals, end) = inner.split_once("; end ").ok_or("no end")?;
     let mut lines = signal_lines(alloc, signals)?;
-    // of the changes at one tick the order stays
+    // changes at one tick keep their order
     lines.changes.sort_by_key(|line| line.tick)?;
     let mut text = String::new(alloc);
     text.push_str("$scope module top $end\n")?;
@@ -82,7 +82,7 @@ fn push_signal(
     Ok(())
 }
 
-/// The letters of the change at tick 0, x where there is none.
+/// The letters of the change at tick 0, or x without one.
 fn letters_at_0(changes: &str) -> &str {
     for change in changes.split_whitespace() {
         if let Some((letters, tick)) = change.split_once('@') {
@@ -101,7 +101,7 @@ fn value_line(alloc: Global, width: &str, letters: &str, code: char) -> Result<S
     Ok(format!(in alloc; "b{letters} {code}\n")?)
 }
 
-/// Appends the changes, each tick once before those at it, and the end where it is past them.
+/// Appends the changes, each tick once before those at it, and the end if it is past them.
 fn push_changes(
     alloc: Global,
     text: &mut String,

@@ -49,7 +49,7 @@ fn notation_of(alloc: Global, session: &Session) -> Result<String, Fail> {
     Ok(text)
 }
 
-/// Stops where a call was not accepted, or the capture is another.
+/// Stops unless a call was accepted and the capture is this one.
 fn check_step(
     rt: &impl Abort,
     alloc: Global,

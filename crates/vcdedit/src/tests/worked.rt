@@ -1,10 +1,9 @@
 //! Worked cases of whole runs, in memory: what `run` answers and writes, and what `report` says of a run that failed.
 //!
-//! A table is one text. Its cases are parted by an empty line, and each has a line for its name and one for each part:
-//! `capture`, `script`, `depth` (100 where there is none), `replies`, `refused` (how many lines were refused; 0 where
-//! there is none) and `output` (the capture where there is none), or in place of the last three `report`, the exit
-//! status and the line of a run that failed. Lines of a capture, a script or the replies are parted by ` / `. A capture
-//! may stand in the short notation.
+//! A table is one text, with an empty line between two cases. A case has a line for its name and one for each part:
+//! `capture`, `script`, `depth` (by default 100), `replies`, `refused` (how many lines were refused, by default 0) and
+//! `output` (by default the capture). A run that failed has `report` in place of the last three: the exit status and
+//! the line. ` / ` separates the lines of a capture, a script or the replies. A capture may have the short notation.
 
 mod codes;
 mod cuts;
@@ -23,10 +22,10 @@ use std::test::Fail;
 use vcd_core::{FromRead, ToWrite};
 use vcd_journal::DEPTH_LIMIT;
 
-/// The depth of a case that names none.
+/// The depth of a case that gives none.
 const DEPTH: u64 = 100;
 
-/// How a run ended, and what it wrote by then.
+/// How a run ended, and what it wrote.
 #[derive(Drop)]
 struct EndedRun {
     ending: Result<Summary, RunError>,
@@ -61,15 +60,15 @@ fn run_in_memory(
     })
 }
 
-/// Stops where a run was refused other lines, or wrote other replies or another output.
+/// Stops unless a run refused so many lines, and wrote these replies and this output.
 fn check_done(rt: &impl Abort, run: &EndedRun, refused: u64, replies: &[u8], output: &[u8]) {
     assert!(rt; run.ending == Ok(Summary { refused }));
     assert!(rt; run.replies.as_slice() == replies);
     assert!(rt; run.output.as_slice() == output);
 }
 
-/// Stops where a run did not fail, wrote anything, or is reported otherwise: `told` is the exit status and the line,
-/// as `3 vcdedit: script: too large`.
+/// Stops unless a run failed, wrote nothing, and has this report: `told` is the exit status and the line, as `3
+/// vcdedit: script: too large`.
 fn check_failed(rt: &impl Abort, alloc: Global, run: &EndedRun, told: &str) -> Result<(), Fail> {
     let Err(error) = &run.ending else {
         return Err(Fail::from("the run reached its end"));
@@ -82,7 +81,7 @@ fn check_failed(rt: &impl Abort, alloc: Global, run: &EndedRun, told: &str) -> R
     Ok(())
 }
 
-/// The lines of a text that are parted by ` / `, each ended by a line feed.
+/// The lines of a text between the separators ` / `, each with a line feed.
 fn lines_of(alloc: Global, text: &str) -> Result<Vec<u8>, Fail> {
     let mut bytes = Vec::new(alloc);
     if text.is_empty() {
@@ -115,7 +114,7 @@ fn part<'a>(case: &'a str, name: &str) -> Option<&'a str> {
     None
 }
 
-/// The capture of a case. As `unended` its last line has no line feed.
+/// The capture of a case. As `unended` it has no line feed at its end.
 fn capture_of(alloc: Global, case: &str) -> Result<Vec<u8>, Fail> {
     if let Some(text) = part(case, "unended") {
         let mut file = file_of(alloc, text)?;
@@ -132,7 +131,7 @@ fn number_of(case: &str, name: &str, otherwise: u64) -> Result<u64, Fail> {
     }
 }
 
-/// Stops where a run ends otherwise than its case says.
+/// Stops unless a run ends as its case says.
 fn check_case(rt: &impl Abort, alloc: Global, case: &str) -> Result<(), Fail> {
     let capture = capture_of(alloc, case)?;
     let script = lines_of(alloc, part(case, "script").unwrap_or(""))?;

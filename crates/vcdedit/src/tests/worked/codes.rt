@@ -8,7 +8,7 @@ use std::test::Fail;
 /// Positions, and the codes of the signals there.
 const CODES: &str = "0 !\n93 ~\n94 !!\n95 \"!";
 
-/// Stops where a line does not declare the code of a row.
+/// Stops unless a line declares the code of a row.
 fn check_code(rt: &impl Abort, alloc: Global, lines: &[&[u8]], row: &str) -> Result<(), Fail> {
     let (position, code) = row.split_once(' ').ok_or("no code")?;
     let line = lines.get(position.parse::<usize>()?).ok_or("no line")?;

@@ -19,7 +19,7 @@ $end
 #9
 ";
 
-/// From how many bytes up to how many the cut file is refused, and by which fault. The others are accepted.
+/// Ranges of lengths at which the cut file is refused, each with its fault. Other lengths are accepted.
 const REFUSED: &str = "\
 0 19 line 1: Truncated
 20 42 line 2: Truncated

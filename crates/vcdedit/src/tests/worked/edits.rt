@@ -1,4 +1,4 @@
-//! Cases of edits, and of looks at what they make.
+//! Cases of edits, and of questions about their effect.
 
 use super::check_cases;
 use std::test::Fail;

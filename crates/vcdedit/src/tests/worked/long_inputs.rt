@@ -1,4 +1,4 @@
-//! Cases of inputs that are too long for a table, and of those at a limit and one past it.
+//! Cases of inputs that are too long for a table, at a limit and one past it.
 
 use super::{DEPTH, check_case, check_done, check_failed, run_in_memory};
 use crate::SCRIPT_LIMIT;
@@ -15,7 +15,7 @@ fn push_copies(bytes: &mut Vec<u8>, text: &[u8], count: usize) -> Result<(), Fai
     Ok(())
 }
 
-/// A text so many times, and another behind it.
+/// A text so many times, and another after it.
 fn copies_then(alloc: Global, text: &[u8], count: usize, last: &[u8]) -> Result<Vec<u8>, Fail> {
     let mut bytes = Vec::new(alloc);
     push_copies(&mut bytes, text, count)?;
@@ -73,7 +73,7 @@ fn one_signal_too_many(rt: HostRuntime) -> Result<(), Fail> {
 /// A capture without signals, as it is written.
 const EMPTY: &[u8] = b"$enddefinitions $end\n#0\n$dumpvars\n$end\n";
 
-/// A comment of so many bytes, the longest script that is taken and one byte more.
+/// A comment of so many bytes: the longest accepted script, and one byte more.
 #[test]
 fn the_longest_script(rt: HostRuntime) -> Result<(), Fail> {
     let mut script = copies_then(rt.alloc(), b"#", SCRIPT_LIMIT as usize, b"")?;

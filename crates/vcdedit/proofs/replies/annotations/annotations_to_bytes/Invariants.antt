@@ -1,4 +1,4 @@
--- What is written and the annotations left are the whole.
+-- The text so far and the annotations left make the whole text.
 use Rattle.std.proofs.Common.{◌≡◌, ◌++◌, drop}
 use Rattle.vcdedit.specs.inside.Annotations.{annotations_text}
 use Rattle.vcdedit.proofs.replies.annotations.annotations_to_bytes.Given as goal

@@ -1,4 +1,4 @@
--- The letters passed stand behind what stood there before.
+-- The letters passed come after the earlier text.
 use Rattle.std.proofs.Common.{◌≡◌, ◌++◌, take}
 use Rattle.vcd_text.specs.Letters.{printed_letters}
 use Rattle.vcdedit.proofs.replies.appending.append_letters.Given as goal

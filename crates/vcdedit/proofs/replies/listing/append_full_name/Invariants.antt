@@ -1,4 +1,4 @@
--- What is written and the name in the scopes left are the whole.
+-- The text so far and the name in the remaining scopes make the whole text.
 use Rattle.std.proofs.Common.{◌≡◌, ◌++◌, drop}
 use Rattle.vcd_core.specs.Names.{name_in}
 use Rattle.vcdedit.proofs.replies.listing.append_full_name.Given as goal

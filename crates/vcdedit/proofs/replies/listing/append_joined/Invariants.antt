@@ -1,4 +1,4 @@
--- What is written and the words left are the whole.
+-- The text so far and the words left make the whole text.
 use Rattle.std.proofs.Common.{◌≡◌, ◌++◌, drop}
 use Rattle.std.specs.List.{concat}
 use Rattle.vcdedit.proofs.replies.listing.append_joined.Given as goal

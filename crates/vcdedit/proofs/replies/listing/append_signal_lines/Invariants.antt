@@ -1,4 +1,4 @@
--- What is written and the lines of the signals left are the whole.
+-- The text so far and the lines of the signals left make the whole text.
 use Rattle.std.proofs.Common.{◌≡◌, ◌++◌, drop, map}
 use Rattle.std.specs.List.{flat_map}
 use Rattle.vcd_core.specs.Contents.{signal_contents}

@@ -1,4 +1,4 @@
--- What is written and the lines of the changes left are the whole.
+-- The text so far and the lines of the changes left make the whole text.
 use Rattle.std.proofs.Common.{◌≡◌, ◌++◌, drop}
 use Rattle.std.specs.List.{flat_map}
 use Rattle.vcdedit.specs.Queries.{change_lines}

@@ -1,4 +1,4 @@
--- Words without a fault that are not taken met want of memory, and so the run was not begun.
+-- Words without a fault that are not accepted ran out of memory, and so the run was not begun.
 use Rattle.std.proofs.Common.{Err, inl, inr, refl}
 use Rattle.vcdedit.specs.declared.running.run_error.RunError.TheVariants as run_errors
 use Rattle.vcdedit.proofs.ProgramRuns.{failed_for_memory}

@@ -1,4 +1,4 @@
--- The ending that is told is the one that the words had.
+-- The ending of the program is the one that the words had.
 use Rattle.std.proofs.Common.{map}
 use Rattle.std.specs.String.{string_bytes}
 use Rattle.vcdedit.proofs.ProgramRuns.{words_asked, not_both}
