@@ -1,4 +1,4 @@
-//! Captures made of their parts, and which of them a file can say.
+//! Captures made of their parts, and whether a file can hold them.
 
 use std::alloc::{AllocError, Global};
 use std::process::Abort;
@@ -67,7 +67,7 @@ fn a_capture_gives_its_parts(rt: HostRuntime) -> Result<(), Fail> {
     Ok(())
 }
 
-/// The kind and the name of the signal, the count of the timescale and the end, and whether a file can say so.
+/// The kind and the name of the signal, the count of the timescale and the end, and whether a file can hold that.
 const CAPTURES: &str = "\
 wire:a:10:5:sound
 reg:[1,0]:100:9:sound
@@ -80,7 +80,7 @@ wire:a b:1:9:not
 wire:a\r:1:9:not
 wire:$end:1:9:not";
 
-/// Stops where a capture is sound and a file cannot say it, or the other way round.
+/// Stops unless a capture is sound exactly if a file can hold it.
 fn check_sound(rt: &impl Abort, alloc: Global, row: &str) -> Result<(), Fail> {
     let fields: Vec<&str> = row.split(':').collect(alloc)?;
     match fields.as_slice() {

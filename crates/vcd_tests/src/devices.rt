@@ -1,4 +1,4 @@
-//! Devices that give or take little and fail: what is answered then and after, and how often they are asked.
+//! Devices that give or take little and fail: the answers then and after, and how often each device is called.
 
 ghost use Rattle.std.specs.Prelude.{◌≡◌, Some};
 
@@ -10,14 +10,14 @@ use vcd_core::{
     write_and_flush,
 };
 
-/// A source over memory tells the bytes to come.
+/// A source over memory shows the bytes to come.
 fn from_memory<'a>(bytes: &'a [u8]) -> FromRead<&'a [u8]>
     ensures { ⟦<FromRead<&'a [u8]> as Source>⟧.coming result ≡ Some bytes.now }
 {
     FromRead::new(bytes)
 }
 
-/// A sink into memory tells the bytes taken.
+/// A sink into memory shows the bytes taken.
 fn to_memory(bytes: Vec<u8>) -> ToWrite<Vec<u8>>
     ensures { ⟦<ToWrite<Vec<u8>> as Sink>⟧.taken result ≡ Some bytes.items }
 {
@@ -48,7 +48,7 @@ fn memory_keeps_what_it_takes(rt: HostRuntime) {
     assert!(rt; sink.into_inner().as_slice() == b"#10\n".as_slice());
 }
 
-/// Stops where a source that has failed answers anything but that.
+/// Stops unless a source that has failed fails at each further read.
 fn check_stays_failed(rt: &impl Abort, source: &mut FromRead<FakeReader>) {
     let mut buffer = [b'.'; 4];
     for _ in 0..3 {
@@ -74,7 +74,7 @@ fn an_interrupted_read_is_the_end(rt: HostRuntime) {
     assert!(rt; reader.calls == 4, "no read after the failure");
 }
 
-/// A writer that takes so many bytes a call, and of which this call is interrupted.
+/// A writer that takes so many bytes a call, one of its calls being interrupted.
 fn interrupted(alloc: Global, piece: usize, fault_at: usize) -> ToWrite<FakeWriter> {
     let mut writer = FakeWriter::new(alloc, piece);
     writer.fault_at = fault_at;
@@ -120,7 +120,7 @@ fn an_interrupted_flush_is_a_failure(rt: HostRuntime) {
 /// Nine bytes, read three at a time.
 const BYTES: &[u8] = b"#10 1! 0\"";
 
-/// Stops where a reader's bytes, of which there may be `limit`, end otherwise, or others were read.
+/// Stops unless a reader's bytes, at most `limit`, end so and are these.
 fn check_whole(
     rt: &impl Abort,
     alloc: Global,
@@ -156,8 +156,8 @@ fn a_reader_that_fails_gives_what_came_before(rt: HostRuntime) {
 
 const TEXT: &[u8] = b"#0\n$dumpvars\n0!\n$end\n";
 
-/// Stops where writing and flushing the text ends otherwise, or other bytes or flushes come. `wanted` is how
-/// many bytes an error counts.
+/// Stops unless writing and flushing the text ends so, with these bytes and flushes. `wanted` is how many bytes an
+/// error counts.
 fn check_written(
     rt: &impl Abort,
     writer: FakeWriter,
@@ -179,7 +179,7 @@ fn a_byte_at_a_time(rt: HostRuntime) {
     check_written(&rt, FakeWriter::new(rt.alloc(), 1), None, 21, 1);
 }
 
-/// Three bytes are handed over at a time where ten have room: the count is what was taken.
+/// The writer takes three bytes a call and has room for ten: the count is what was taken.
 #[test]
 fn fails_after_ten_bytes(rt: HostRuntime) {
     let writer = FakeWriter::narrow(rt.alloc(), 3, 10, false);

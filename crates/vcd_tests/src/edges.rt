@@ -5,7 +5,7 @@ use std::process::Abort;
 use std::test::Fail;
 use vcd_core::{Edge, Edges, Value};
 
-/// Of each edge the tick, and the values before and at it; `-` where there is no wave.
+/// The tick of each edge, and the values before and at it; `-` for an absent wave.
 const EDGES: &str = "\
 0 xx-x 0x-x
 3 0x-x 0x-1
@@ -27,7 +27,7 @@ fn letters(values: [Option<Value>; 4]) -> [u8; 4] {
     letters
 }
 
-/// Stops where an edge is another.
+/// Stops unless an edge is the one of its row.
 fn check_edge(rt: &impl Abort, edge: Edge, row: &str) -> Result<(), Fail> {
     let (tick, values) = row.split_once(' ').ok_or("no tick")?;
     let (before, at) = values.split_once(' ').ok_or("no values")?;

@@ -1,4 +1,4 @@
-//! Edits and what takes them back, through the public calls.
+//! Edits and their undo, through the public calls.
 
 ghost use Rattle.vcd_core.specs.Contents.{contents};
 ghost use Rattle.vcd_core.specs.Sound.{IsSound};
@@ -14,7 +14,7 @@ use vcd_core::{Capture, ToWrite, Value};
 use vcd_edit::{Edit, Rule};
 use vcd_text::write;
 
-/// The text of a capture, which says all that it holds.
+/// The text of a capture, which shows all that it holds.
 fn text_of(alloc: Global, capture: &Capture) -> Result<Vec<u8>, Fail>
     requires { IsSound (contents capture.now) }
 {

@@ -1,4 +1,4 @@
-//! Readers and writers that give or take little at a time, and fail where they are told to.
+//! Readers and writers that give or take little at a time, and fail at a chosen call.
 
 ghost use Rattle.std.specs.Prelude.{◌≡◌, false};
 
@@ -7,18 +7,18 @@ use std::io;
 use std::io::{ErrorKind, Read, Write};
 use vcd_core::{FromRead, Sink, Source, ToWrite};
 
-/// No call of a device.
+/// A number that no call of a device has.
 pub const NEVER: usize = usize::MAX;
 
-/// Gives `rest` in pieces of at most `piece` bytes. The call numbered `fault_at`, from 0, is interrupted, and
-/// with `fails_at_end` each one where no byte is left.
+/// Gives `rest` in pieces of at most `piece` bytes. The call numbered `fault_at`, from 0, is interrupted. With
+/// `fails_at_end` each call with no byte left fails.
 #[derive(Drop)]
 pub struct FakeReader<'a> {
     pub rest: &'a [u8],
     pub piece: usize,
     pub fault_at: usize,
     pub fails_at_end: bool,
-    /// How often it was asked.
+    /// How often it was called.
     pub calls: usize,
 }
 
@@ -54,8 +54,8 @@ impl<'a> Read for FakeReader<'a> {
     }
 }
 
-/// Takes at most `piece` bytes a call and `room` in all. The call numbered `fault_at`, from 0, is interrupted,
-/// be it a write or a flush.
+/// Takes at most `piece` bytes a call and `room` in all. The call numbered `fault_at`, from 0, is interrupted, whether
+/// it is a write or a flush.
 #[derive(Drop)]
 pub struct FakeWriter {
     pub held: Vec<u8>,
@@ -63,7 +63,7 @@ pub struct FakeWriter {
     pub room: usize,
     pub fault_at: usize,
     pub flush_fails: bool,
-    /// How often it was asked, and how often to flush.
+    /// How often it was called, and how often to flush.
     pub calls: usize,
     pub flushes: usize,
 }
@@ -82,7 +82,7 @@ impl FakeWriter {
         }
     }
 
-    /// A writer that fails after `room` bytes, and maybe in its flush.
+    /// A writer that fails after `room` bytes, and perhaps in its flush.
     pub fn narrow(alloc: Global, piece: usize, room: usize, flush_fails: bool) -> FakeWriter {
         FakeWriter {
             held: Vec::new(alloc),
@@ -127,7 +127,7 @@ impl Write for FakeWriter {
     }
 }
 
-/// A source of what a reader gives.
+/// A source of a reader's bytes.
 pub fn source_of<'a>(reader: FakeReader<'a>) -> FromRead<FakeReader<'a>>
     ensures { ⟦<FromRead<FakeReader<'a>> as Source>⟧.has_failed result ≡ false }
 {

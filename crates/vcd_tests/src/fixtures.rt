@@ -37,7 +37,7 @@ pub fn changes_in_text(alloc: Global, text: &str) -> Result<Vec<Change>, Fail> {
     Ok(changes)
 }
 
-/// What a wave of one bit is after a push for each change; a tick below the one before is passed over.
+/// A wave of one bit after a push for each change. A tick below the one before is skipped.
 pub fn pushed(alloc: Global, changes: &[Change]) -> Result<Wave, NoMemory> {
     let mut wave = Wave::new(alloc, 1);
     let mut last = 0u64;
@@ -56,7 +56,7 @@ pub fn wave_of(alloc: Global, text: &str) -> Result<Wave, Fail> {
     Ok(pushed(alloc, changes.as_slice())?)
 }
 
-/// The bytes of a file that stands in a row, where `|` is a line feed.
+/// The bytes of a file in a row, with `|` for a line feed.
 pub fn file_of(alloc: Global, row: &str) -> Result<Vec<u8>, Fail> {
     let mut file = Vec::new(alloc);
     for byte in row.as_bytes() {
@@ -73,7 +73,7 @@ pub fn append_copies(file: &mut Vec<u8>, text: &[u8], count: usize) -> Result<()
     Ok(())
 }
 
-/// What is read of a file in memory.
+/// The result of reading a file in memory.
 pub fn loaded(alloc: Global, file: &[u8]) -> Result<Loaded, ReadError>
     ensures { IfOk result (λ loaded. IsSound (contents loaded.capture)) }
 {

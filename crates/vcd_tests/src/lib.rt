@@ -1,7 +1,7 @@
-//! Tests of `vcd_core`, `vcd_text` and `vcd_edit` over their public calls: worked values from outside, devices that give
-//! little or fail, hostile files, and each call that takes memory once where there is plenty.
+//! Tests of `vcd_core`, `vcd_text` and `vcd_edit` over their public calls: worked values from outside, devices that
+//! give little or fail, and hostile files. Each call that takes memory is made once with enough memory.
 //!
-//! What a clause says is proved and not tested. A table is one text, of which each line is a row.
+//! What a clause says is proved and not tested. A table is one text, and each of its lines is a row.
 #![tactic(auto)]
 
 #[cfg(test)]

@@ -1,4 +1,4 @@
-//! The message of each fault, which its derive makes: the fault's name.
+//! The derived message of each fault is the fault's name.
 
 use std::alloc::Global;
 use std::fmt::Display;

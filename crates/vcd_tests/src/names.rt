@@ -23,7 +23,7 @@ $enddefinitions $end
 /// The full names of its signals, in order.
 const FULL_NAMES: &str = "top.q[1:0] top..a .a @1 @ @9 top.q[1:0] top.sub.b";
 
-/// Words that a signal may be looked up by, and the position that is found.
+/// Words by which a signal is looked up, and the position that is found.
 const FOUND: &str = "\
 top.q[1:0] 0
 top..a 1
@@ -48,7 +48,7 @@ top.q -
 top.q[1:0]. -
 topsub.b -";
 
-/// Stops where another signal is found.
+/// Stops unless the signal of the row is found.
 fn check_found(rt: &impl Abort, capture: &Capture, row: &str) -> Result<(), Fail> {
     let (name, position) = row.split_once(' ').ok_or("no position")?;
     let wanted = position.parse::<usize>().ok();
@@ -65,7 +65,7 @@ fn names_are_found(rt: HostRuntime) -> Result<(), Fail> {
     Ok(())
 }
 
-/// Stops where the signal at a position has another of the names, or not its own.
+/// Stops unless the signal at a position has its own name, and none of the others.
 fn check_name(rt: &impl Abort, capture: &Capture, k: usize, own: &str) {
     assert!(rt; k < capture.signals().len());
     for name in FULL_NAMES.split(' ') {

@@ -1,4 +1,4 @@
-//! Files that are read: what they mean, their faults, files that break off, and hostile ones.
+//! Files that are read: their meaning and faults, files that end too early, and hostile ones.
 
 mod broken_off;
 mod chunks;
@@ -17,7 +17,7 @@ use vcd_text::{read, write};
 /// How many bytes a reader gives at a time.
 const PIECES: [usize; 5] = [1, 7, 4095, 4096, 4097];
 
-/// The line and the name of the fault that is answered to a reader, else 0 and `read`.
+/// The line and the name of the fault for a reader, or 0 and `read`.
 fn answer_to(alloc: Global, reader: FakeReader) -> (u64, &'static str) {
     let mut source = source_of(reader);
     match read(alloc, &mut source) {
@@ -26,7 +26,7 @@ fn answer_to(alloc: Global, reader: FakeReader) -> (u64, &'static str) {
     }
 }
 
-/// Stops where a reader is answered otherwise than by `answer`, as `3 BadTime`.
+/// Stops unless the result for a reader is `answer`, as `3 BadTime`.
 fn check_answer_to(
     rt: &impl Abort,
     alloc: Global,
@@ -40,8 +40,7 @@ fn check_answer_to(
     Ok(())
 }
 
-/// Stops where a file is answered otherwise, whatever pieces its reader gives. With `fails` the reader fails at
-/// the end of the file.
+/// Stops unless a file has this result with pieces of any size. With `fails` the reader fails at the end of the file.
 fn check_answer(
     rt: &impl Abort,
     alloc: Global,
@@ -57,7 +56,7 @@ fn check_answer(
     Ok(())
 }
 
-/// How many variables of a file are skipped, and its capture as it is written.
+/// How many variables of a file are skipped, and the text of its capture.
 fn rewritten(alloc: Global, reader: FakeReader) -> Result<(u64, Vec<u8>), Fail> {
     let mut source = source_of(reader);
     let loaded = read(alloc, &mut source)?;
@@ -66,7 +65,7 @@ fn rewritten(alloc: Global, reader: FakeReader) -> Result<(u64, Vec<u8>), Fail> 
     Ok((loaded.skipped, sink.into_inner()))
 }
 
-/// Stops where a file that is read in such pieces, and written, is not `text`, or other variables are skipped.
+/// Stops unless a file that is read in such pieces, and written, is `text`, and so many variables are skipped.
 fn check_rewritten(
     rt: &impl Abort,
     alloc: Global,

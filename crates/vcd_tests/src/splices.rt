@@ -18,7 +18,7 @@ fn fits(change: &Change, by: i64) -> bool
     change.tick.checked_add_signed(by).is_some()
 }
 
-/// Whether each of them may.
+/// The same for all changes.
 fn all_fit(changes: &[Change], by: i64) -> bool
     ensures { IsTrue result → AllTicksFit by changes.now }
 {
@@ -91,8 +91,7 @@ fn changes_after(
     Ok(list)
 }
 
-/// Where a splice goes: the changes at positions `from` up to before `to` are replaced, and the later ones
-/// move.
+/// The place of a splice: the changes at positions `from` up to before `to` are replaced, and the later ones move.
 #[derive(Clone, Copy)]
 struct Place {
     from: usize,
@@ -100,7 +99,7 @@ struct Place {
     by: i64,
 }
 
-/// A splice with just the room that it asks for, where its other conditions hold.
+/// A splice with exactly the room that it needs, if its other conditions hold.
 fn splice(
     rt: &impl Abort,
     alloc: Global,
@@ -120,12 +119,12 @@ fn splice(
     Ok(())
 }
 
-/// Where the wave of the rows has its changes.
+/// The changes of the rows' wave.
 const WAVE: &str = "1@3 0@5 1@7 0@9 z@11";
 
-/// The place, by how many ticks the later changes move, the piece, and the changes after the splice: of nothing;
-/// at the front, in the middle and at the end, with a piece as long as its part, longer, shorter and empty; of the
-/// whole list, and far up.
+/// The place, by how many ticks the later changes move, the piece, and the changes after the splice. The rows are: an
+/// empty splice; at the front, in the middle and at the end, with a piece as long as its part, longer, shorter and
+/// empty; the whole list, and great ticks.
 const SPLICES: &str = "\
 0 0 0:: 1@3 0@5 1@7 0@9 z@11
 0 1 0: z@1: z@1 0@5 1@7 0@9 z@11
@@ -162,7 +161,7 @@ fn place_of(alloc: Global, text: &str) -> Result<Place, Fail> {
     }
 }
 
-/// Stops where a splice gives another wave, or its opposite does not undo it.
+/// Stops unless a splice gives this wave, and its opposite undoes it.
 fn check_splice(
     rt: &impl Abort,
     alloc: Global,

@@ -1,4 +1,4 @@
-//! Values of one bit, at the seams of the planes' words, and of the greatest width.
+//! Values of one bit, next to the borders of the planes' words, and of the greatest width.
 
 use std::test::Fail;
 use vcd_core::{Bit, Value, WIDTH_LIMIT};

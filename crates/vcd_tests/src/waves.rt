@@ -1,4 +1,4 @@
-//! Waves: what pushes make of them, and what they tell.
+//! Waves: the results of pushes, and what they show.
 
 use crate::fixtures::{changes_in_text, pushed, wave_of};
 use std::alloc::Global;
@@ -19,7 +19,7 @@ x@9 =>
 1@0 x@0 => 
 1@0 x@0 0@1 x@2 => 0@1 x@2";
 
-/// Stops where pushes leave other changes.
+/// Stops unless pushes give these changes.
 fn check_pushes(rt: &impl Abort, alloc: Global, row: &str) -> Result<(), Fail> {
     let (pushes, after) = row.split_once("=>").ok_or("no arrow")?;
     let pushes = changes_in_text(alloc, pushes)?;

@@ -1,16 +1,16 @@
-//! Words of a text, with the lines that they stand on, and the numbers that they are.
+//! Words of a text, with their lines, and the numbers that they mean.
 
 use std::process::Abort;
 use std::test::Fail;
 use vcd_core::number_up_to;
 use vcd_text::{PlacedWord, Words};
 
-/// The words of the text below, each behind its line.
+/// The words of the text below, each after its line.
 const WORDS: &str = "1 $end\n2 b01x\n2 !\n4 a.b\n4 $";
 
 const TEXT: &[u8] = b" $end\n\tb01x\x0b!\r\n\x0c\na.b $";
 
-/// Stops where a word is another, or on another line.
+/// Stops unless a word and its line are those of the row.
 fn check_word(rt: &impl Abort, word: PlacedWord, row: &str) -> Result<(), Fail> {
     let (line, text) = row.split_once(' ').ok_or("no line")?;
     assert!(rt; word.line == line.parse::<u64>()?);
@@ -28,7 +28,7 @@ fn words_and_lines(rt: HostRuntime) -> Result<(), Fail> {
     Ok(())
 }
 
-/// A text, the most that it may be, and its number up to that; `-` where it is none.
+/// A text, the greatest number allowed, and its number up to that; `-` if it has none.
 const NUMBERS: &str = "\
 0 9 0
 007 9 7
@@ -39,7 +39,7 @@ const NUMBERS: &str = "\
 1x 9 -
  9 -";
 
-/// Stops where a text has another number.
+/// Stops unless a text has the number of its row.
 fn check_number(rt: &impl Abort, row: &str) -> Result<(), Fail> {
     let (text, rest) = row.split_once(' ').ok_or("no text")?;
     let (most, number) = rest.split_once(' ').ok_or("no number")?;

@@ -9,7 +9,7 @@ use std::process::Abort;
 use std::test::Fail;
 use vcd_text::{Fault, ReadError, WriteError, write};
 
-/// A capture as it is written.
+/// The text of a capture.
 const TEXT: &str = "$timescale 1 ns $end
 $scope module top $end
 $var wire 1 ! b $end
@@ -24,7 +24,7 @@ $end
 #9
 ";
 
-/// Stops where the writing of that capture ends otherwise, or other bytes or flushes come.
+/// Stops unless the writing of that capture ends so, with these bytes and flushes.
 fn check_written(
     rt: &impl Abort,
     alloc: Global,
@@ -43,7 +43,7 @@ fn check_written(
     Ok(())
 }
 
-/// No clause speaks of the flush of a writer that takes all, so its calls are counted.
+/// No clause is about the flush of a writer that takes all, so its calls are counted.
 #[test]
 fn flushed_once(rt: HostRuntime) -> Result<(), Fail> {
     let writer = FakeWriter::new(rt.alloc(), 7);
@@ -91,7 +91,7 @@ fn a_writer_that_takes_no_byte(rt: HostRuntime) -> Result<(), Fail> {
     check_written(&rt, rt.alloc(), writer, Err(fault), 0, 0)
 }
 
-/// A name of a fault that is printed.
+/// Whether the name of a fault is printed.
 #[test]
 fn faults_are_printed(rt: HostRuntime) -> Result<(), Fail> {
     let fault = WriteError::WriteFault { written: 3 };
@@ -99,7 +99,7 @@ fn faults_are_printed(rt: HostRuntime) -> Result<(), Fail> {
     Ok(())
 }
 
-/// A fault of a file is printed by its name, with its line or without.
+/// Whether a fault of a file is printed by its name, with its line or without.
 #[test]
 fn faults_of_files_are_printed(rt: HostRuntime) -> Result<(), Fail> {
     let fault = Fault::TimeBackwards;

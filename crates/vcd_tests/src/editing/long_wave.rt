@@ -1,4 +1,4 @@
-//! Short edits of a long wave store what they touch.
+//! Short edits of a long wave store only what they touch.
 
 use crate::fixtures::loaded;
 use std::alloc::Global;
@@ -7,7 +7,7 @@ use std::test::Fail;
 use vcd_core::{Bit, Change, Value};
 use vcd_edit::{Edit, apply, revert};
 
-/// How many changes the wave has: at the ticks from 0 on, from 0 to 1 and back in turn.
+/// How many changes the wave has: at the ticks from 0 on, alternately to 0 and to 1.
 const COUNT: u64 = 10_000;
 
 fn file(alloc: Global) -> Result<String, Fail> {
@@ -21,8 +21,8 @@ fn file(alloc: Global) -> Result<String, Fail> {
     Ok(file)
 }
 
-/// What an edit leaves: how many changes there are, the one at a position, the end, and how many changes the
-/// record may hold.
+/// The result of an edit: how many changes there are, the one at a position, the end, and how many changes the record
+/// may store.
 #[derive(Drop)]
 struct Left {
     count: usize,
@@ -32,7 +32,7 @@ struct Left {
     stored: u128,
 }
 
-/// Stops where an edit leaves something else, or the way back does not lead to the changes of the file.
+/// Stops unless an edit has this result, and its undo restores the changes of the file.
 fn check_edit(rt: &impl Abort, alloc: Global, edit: &Edit, left: &Left) -> Result<(), Fail> {
     let text = file(alloc)?;
     let mut capture = loaded(alloc, text.as_bytes())?.capture;
@@ -75,7 +75,7 @@ fn a_tick_is_forced(rt: HostRuntime) -> Result<(), Fail> {
     check_edit(&rt, rt.alloc(), &force, &left)
 }
 
-/// Ten ticks leave the changes at both seams; of eleven the two at the seams join, and go.
+/// A cut of ten ticks keeps the changes on both sides; after a cut of eleven these have equal values, and one goes.
 #[test]
 fn ticks_are_cut_out(rt: HostRuntime) -> Result<(), Fail> {
     let ten = Left {

@@ -12,7 +12,7 @@ const FILE: &str = "\
 $scope module top $end $var wire 1 ! a $end $var wire 4 \" v $end $upscope $end
 $enddefinitions $end #0 0! b0 \" #9";
 
-/// Edits with the fault that each has. Of several faults the first in the order of `EditError` counts.
+/// Edits with their faults. Of several faults the first in the order of `EditError` counts.
 const REFUSED: &str = "\
 derive v not 2:NoSuchSignal
 remove 2:NoSuchSignal
@@ -30,12 +30,12 @@ rename 0 a\tb:BadWord
 rename 0 v:NameTaken
 derive a bit 1 3:NameTaken";
 
-/// With as many signals as a capture may have.
+/// The same for a capture with the most signals allowed.
 const REFUSED_OF_MOST: &str = "\
 derive b not 0:TooManySignals
 derive a not 0:NameTaken";
 
-/// Stops where an edit is not refused by a fault, or leaves another capture.
+/// Stops unless an edit is refused by its fault and leaves the capture as it was.
 fn check_refused(rt: &impl Abort, alloc: Global, file: &[u8], row: &str) -> Result<(), Fail> {
     let (edit, name) = row.split_once(':').ok_or("no fault")?;
     let words: Vec<&str> = edit.split(' ').collect(alloc)?;

@@ -1,4 +1,4 @@
-//! What edits make of small captures, how much their records store, and the way back.
+//! The effect of edits on small captures, how much their records store, and the undo.
 
 use super::{edit_of, number, position, text_of};
 use crate::fixtures::{changes_in_text, loaded};
@@ -8,8 +8,8 @@ use std::test::Fail;
 use vcd_core::Capture;
 use vcd_edit::{Edit, Rule, apply, revert};
 
-/// A row is the edit; then of the capture after it a position and the end, and how many changes the record may
-/// hold at most, and that of its undo; then the changes of the signal at the position.
+/// A row is the edit; then a position and the end of the capture after it; then how many changes the record may store
+/// at most, and that of its undo; then the changes of the signal at the position.
 const TWO: &str = "\
 $var wire 1 ! a $end $var wire 1 \" b $end $enddefinitions $end
 #0 0! 1\" #3 1! #5 x\" #8";
@@ -57,7 +57,7 @@ const EDITS_OF_GLITCH: &str = "\
 deglitch 0 3:0 30 2 0:0@0 1@7 0@20
 deglitch 0 18446744073709551615:0 30 4 0:0@0";
 
-/// Three signals, of which the middle one is taken out; and three that share a code, of which one is edited, or all.
+/// Three signals, the middle one being taken out; and three that share a code, with one edited, or all.
 const THREE: &str = "\
 $var wire 1 ! a $end $var wire 1 \" b $end $var wire 1 # c $end $enddefinitions $end
 #0 0! 1\" z# #4";
@@ -103,7 +103,7 @@ const EDITS_OF_STILL: &str = "\
 cut 0 9:0 0 0 0:0@0
 rename 0 a:0 9 0 0:0@0";
 
-/// Stops where the capture after an edit is another than its row says.
+/// Stops unless the capture after an edit is the one of its row.
 fn check_after(
     rt: &impl Abort,
     alloc: Global,
@@ -119,8 +119,7 @@ fn check_after(
     Ok(())
 }
 
-/// Stops where an edit makes another capture, a record holds more than it may, or the way back does not lead to
-/// the capture as it was.
+/// Stops unless an edit gives its capture, a record stores no more than it may, and the undo restores the capture.
 fn check_edit(
     rt: &impl Abort,
     alloc: Global,
@@ -175,7 +174,7 @@ fn edits_and_the_ways_back(rt: HostRuntime) -> Result<(), Fail> {
     Ok(())
 }
 
-/// A derived signal stands in the scopes of the first operand, and its record fits no capture without it.
+/// A derived signal is in the scopes of the first operand, and its record fits no capture without it.
 #[test]
 fn the_scopes_of_a_derived_signal(rt: HostRuntime) -> Result<(), Fail> {
     let without = loaded(rt.alloc(), SCOPES.as_bytes())?.capture;

@@ -1,4 +1,4 @@
-//! The worked file where it ends, or its reader fails, behind each of its bytes.
+//! The worked file, ended after each of its bytes, or with a reader that fails there.
 
 use super::check_answer;
 use std::alloc::Global;
@@ -20,7 +20,7 @@ $end
 #9
 ";
 
-/// From how many bytes up to how many a file that ends there has this answer.
+/// Ranges of lengths, and the answer to a file that ends there.
 const CUTS: &str = "\
 0 19:1 Truncated
 20 42:2 Truncated
@@ -53,7 +53,7 @@ fn front(len: usize) -> Result<&'static [u8], Fail> {
     Ok(ONE_SCALAR.as_bytes().get(..len).ok_or("past the end")?)
 }
 
-/// Stops where one of the files that a row speaks of has another answer.
+/// Stops unless each file of a row has the answer of the row.
 fn check_cuts(rt: &impl Abort, alloc: Global, row: &str) -> Result<(), Fail> {
     let (lengths, answer) = row.split_once(':').ok_or("no answer")?;
     let (from, to) = lengths.split_once(' ').ok_or("no lengths")?;
@@ -71,7 +71,7 @@ fn of_a_file_that_is_cut_off(rt: HostRuntime) -> Result<(), Fail> {
     Ok(())
 }
 
-/// No word of the file that is sure shows a fault, so the reader's own is answered, at the line reached.
+/// No complete word of the file has a fault, so the answer is the reader's own, at the line reached.
 fn check_failure(rt: &impl Abort, alloc: Global, len: usize) -> Result<(), Fail> {
     let bytes = front(len)?;
     let feeds = bytes.iter().filter(|byte| **byte == b'\n').count();

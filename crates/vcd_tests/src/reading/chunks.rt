@@ -1,4 +1,4 @@
-//! Files that come in chunks: words over the seams, and how often a reader is asked.
+//! Files that come in chunks: words across their borders, and how often a reader is called.
 
 use super::{PIECES, check_answer, check_rewritten};
 use crate::fake_devices::{FakeReader, NEVER, source_of};
@@ -8,10 +8,10 @@ use std::process::Abort;
 use std::test::Fail;
 use vcd_text::read;
 
-/// The most bytes that are asked for at a time.
+/// The most bytes that are asked for in one call.
 const CHUNK: usize = 4096;
 
-/// A comment whose words lie over each seam of two chunks, as it is written.
+/// A comment with a word across each border of two chunks, as it is written.
 fn over_seams(alloc: Global) -> Result<Vec<u8>, Fail> {
     let mut file = Vec::new(alloc);
     file.extend_from_slice(b"$comment")?;
@@ -30,8 +30,8 @@ fn words_over_the_seams(rt: HostRuntime) -> Result<(), Fail> {
     Ok(())
 }
 
-/// How many line feeds stand between `$comment` and a word, and how many bytes the word has: it ends before the
-/// buffer's end, at it, and behind it; begins at its last byte, and behind it; fills it; and is longer.
+/// How many line feeds are between `$comment` and a word, and how many bytes the word has. The word ends before the
+/// buffer's end, at it, or after it; begins at its last byte, or after it; fills it; or is longer.
 const WORDS_AT_THE_END: &str = "\
 1 4086
 1 4087
@@ -50,8 +50,8 @@ const WORDS_AT_THE_END: &str = "\
 4088 12288
 3 20000";
 
-/// Stops where a row's word is not kept, or the line behind it is another: that of the word that follows, which may
-/// not stand there, or that of the end, where the file breaks off behind the word.
+/// Stops unless a row's word is kept, and the line after it is right. That is the line of the next word, which is not
+/// allowed there, or that of the end of a file that breaks off after the word.
 fn check_word_at_end(rt: &impl Abort, alloc: Global, row: &str) -> Result<(), Fail> {
     let (feeds, bytes) = row.split_once(' ').ok_or("no length")?;
     let feeds = feeds.parse::<usize>()?;
@@ -85,7 +85,7 @@ fn words_at_the_buffers_end(rt: HostRuntime) -> Result<(), Fail> {
     Ok(())
 }
 
-/// Nothing behind the first chunk is asked for, since a fault stands in it.
+/// Nothing after the first chunk is asked for, since it has a fault.
 #[test]
 fn a_fault_in_the_first_chunk(rt: HostRuntime) -> Result<(), Fail> {
     let mut file = Vec::new(rt.alloc());

@@ -66,7 +66,7 @@ const OF_DECLARATIONS: &str = "\
 const DECLARED: &str =
     "$var wire 1 ! a $end $var wire 4 v v $end $var real 64 # r $end $enddefinitions $end|";
 
-/// The line, the fault, and the changes behind those declarations.
+/// The line, the fault, and the changes after those declarations.
 const OF_CHANGES: &str = "\
 -- the end
 2 Truncated:b1
@@ -126,8 +126,8 @@ const OF_CHANGES: &str = "\
 2 BadChange:#5 0|#4
 3 TimeBackwards:$date $end $dumpoff|#5 #4 $var";
 
-/// The line, the fault, and the bytes that a reader gives before it fails: a fault in the words that are sure
-/// is answered, and no other.
+/// The line, the fault, and the bytes that a reader gives before it fails: the answer is a fault in the complete words
+/// and no other.
 const OF_READERS_THAT_FAIL: &str = "\
 1 ReadFault:
 4 ReadFault:$var wire 1 ! a $end|$enddefinitions $end|#10|
@@ -146,7 +146,7 @@ const OF_READERS_THAT_FAIL: &str = "\
 1 BadVar:$var wire x\x0b
 4 ReadFault:||$comment|";
 
-/// Stops where a row's file, behind `front`, has another fault. A row that begins with `--` is a comment.
+/// Stops unless a row's file, after `front`, has the fault of the row. A row that begins with `--` is a comment.
 fn check_row(
     rt: &impl Abort,
     alloc: Global,

@@ -12,7 +12,7 @@ use vcd_text::Loaded;
 /// How many digits `~` stands for in the rows below.
 const LONG: usize = 100_000;
 
-/// The bytes of a row, where `|` is a line feed and `~` so many zeros.
+/// The bytes of a row, with `|` for a line feed and `~` for so many zeros.
 fn long_file(alloc: Global, row: &str) -> Result<Vec<u8>, Fail> {
     let mut file = Vec::new(alloc);
     for byte in row.as_bytes() {
@@ -47,8 +47,8 @@ fn a_long_value(rt: HostRuntime) -> Result<(), Fail> {
     check_answer_to(&rt, rt.alloc(), reader, "2 ValueTooLong")
 }
 
-/// 100,000 scopes within one another and a signal there, the ends of these scopes, and a signal behind them, in
-/// the form that is written.
+/// 100,000 nested scopes and a signal there, the ends of these scopes, and a signal after them, in the form that is
+/// written.
 #[test]
 fn deep_scopes(rt: HostRuntime) -> Result<(), Fail> {
     let mut file = Vec::new(rt.alloc());
@@ -73,7 +73,7 @@ fn append_codes(file: &mut Vec<u8>, front: &[u8], following: &[u8]) -> Result<()
     Ok(())
 }
 
-/// Stops where there are not 250 signals with these changes.
+/// Stops unless there are 250 signals with these changes.
 fn check_all(rt: &impl Abort, loaded: &Loaded, wanted: &[Change]) {
     let signals = loaded.capture.signals();
     assert!(rt; signals.len() == 250);

@@ -9,7 +9,7 @@ use std::test::Fail;
 use vcd_core::{Change, END_LIMIT, SIGNAL_LIMIT, WIDTH_LIMIT};
 use vcd_text::Loaded;
 
-/// A variable of the greatest width is kept, and one of a bit more skipped.
+/// A variable of the greatest width is kept, and one of one bit more is skipped.
 #[test]
 fn the_greatest_width(rt: HostRuntime) -> Result<(), Fail> {
     let widths = [WIDTH_LIMIT, WIDTH_LIMIT + 1];
@@ -25,7 +25,7 @@ $enddefinitions $end\n#0\n$dumpvars\n0!\nbx \"\n$end\n#5\n1!\n#7\n"
     check_rewritten(&rt, rt.alloc(), file.as_bytes(), 7, 1, text.as_bytes())
 }
 
-/// One code of a variable that is skipped for its width, and of one that is kept.
+/// One code for a variable that is too wide and skipped, and for one that is kept.
 #[test]
 fn a_code_of_two_widths(rt: HostRuntime) -> Result<(), Fail> {
     let wide = WIDTH_LIMIT + 1;
@@ -65,8 +65,8 @@ fn append_variables(text: &mut Vec<u8>, kind: &[u8], from: usize, to: usize) -> 
 /// How many variables the file below has.
 const VARIABLES: usize = 100_000;
 
-/// As many signals as a capture may have behind far more variables that are skipped, and a change at tick 7 of
-/// the first and of the last of them.
+/// The most signals allowed after far more variables that are skipped, and a change at tick 7 of the first and of the
+/// last signal.
 fn most_signals(alloc: Global) -> Result<Vec<u8>, Fail> {
     let mut file = Vec::new(alloc);
     append_variables(&mut file, b"$var event 1 ", SIGNAL_LIMIT, VARIABLES)?;
@@ -78,7 +78,7 @@ fn most_signals(alloc: Global) -> Result<Vec<u8>, Fail> {
     Ok(file)
 }
 
-/// Stops where a signal of that file has other changes.
+/// Stops unless the first and the last signal of that file have these changes, and all others none.
 fn check_most(rt: &impl Abort, loaded: &Loaded, first: &[Change], last: &[Change]) {
     let signals = loaded.capture.signals();
     assert!(rt; signals.len() == SIGNAL_LIMIT);
@@ -105,10 +105,10 @@ fn the_most_signals(rt: HostRuntime) -> Result<(), Fail> {
     Ok(())
 }
 
-/// Positions, and the codes of the signals there in what is written.
+/// Positions, and the codes that are written for the signals there.
 const CODES: &str = "0 !\n93 ~\n94 !!\n95 \"!\n8929 ~~\n8930 !!!";
 
-/// Stops where a line does not declare the code of a row.
+/// Stops unless a line declares the code of a row.
 fn check_code(rt: &impl Abort, alloc: Global, lines: &[&[u8]], row: &str) -> Result<(), Fail> {
     let (position, code) = row.split_once(' ').ok_or("no code")?;
     let line = lines.get(position.parse::<usize>()?).ok_or("no line")?;
@@ -130,14 +130,13 @@ fn codes_of_the_most_signals(rt: HostRuntime) -> Result<(), Fail> {
     Ok(())
 }
 
-/// The fault, the line of it counted from the first behind as many signals as a capture may have, and what
-/// stands there.
+/// The fault, its line, counted from the first after the most signals allowed, and the text there.
 const BEHIND_THE_MOST: &str = "\
 1 TooManySignals:$var wire 1 new a|$end
 0 MixedCode:$var wire 2 ! a $end
 0 BadVar:$var wire 2 ! $end";
 
-/// Stops where a row has another fault.
+/// Stops unless a row has its fault.
 fn check_following(rt: &impl Abort, alloc: Global, row: &str) -> Result<(), Fail> {
     let (answer, more) = row.split_once(':').ok_or("no answer")?;
     let (line, name) = answer.split_once(' ').ok_or("no line")?;

@@ -1,4 +1,4 @@
-//! Files, and the captures that they mean, as these are written.
+//! Files, and the text of the captures that they mean.
 
 use super::{PIECES, check_rewritten};
 use crate::fixtures::file_of;
@@ -6,8 +6,8 @@ use std::alloc::Global;
 use std::process::Abort;
 use std::test::Fail;
 
-/// How many variables are skipped, a file, and its capture as it is written; `|` is a line feed, and a row that
-/// begins with `--` is a comment.
+/// How many variables are skipped, a file, and the text of its capture; `|` is a line feed, and a row that begins with
+/// `--` is a comment.
 const FILES: &str = "\
 -- the worked file with one scalar
 0: $timescale 1ns $end|$scope module top $end|$var wire 1 ! a $end|$upscope $end|$enddefinitions $end|#0|\
@@ -96,7 +96,7 @@ $upscope $end|$enddefinitions $end|#0|$dumpvars|1!|1\"|$end|
 => $var wire 1 ! s $end|$var wire 2 \" d $end|$var wire 4 # q $end|$enddefinitions $end|\
 #0|$dumpvars|x!|bx \"|bx #|$end|#1|1!|b11 \"|b1 #|#2|z!|b101 #|#3|bz1 #|#4|bx01 #|#5|b0 #|#6|bx #|";
 
-/// Stops where a row's file means another capture.
+/// Stops unless a row's file means its capture.
 fn check_row(rt: &impl Abort, alloc: Global, row: &str) -> Result<(), Fail> {
     let (skipped, texts) = row.split_once(": ").ok_or("no count")?;
     let (file, text) = texts.split_once(" => ").ok_or("no text")?;

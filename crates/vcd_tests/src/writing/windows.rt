@@ -1,4 +1,4 @@
-//! Captures with more changes than a window of ticks has room for, and with changes far apart: they are written as
+//! Captures with more changes than a window of ticks has room for, and with changes far apart. They are written as
 //! they were read.
 
 use crate::fixtures::loaded;
@@ -43,8 +43,8 @@ fn declared(alloc: Global, signals: u8) -> Result<Vec<u8>, Fail> {
     Ok(text)
 }
 
-/// Stops where a capture whose signals all change at each tick up to an even one, and at the odd tick `last`, is
-/// not written as it was read.
+/// Stops unless a capture whose signals all change at each tick up to an even one, and at the odd tick `last`, is
+/// written as it was read.
 fn check_changing(
     rt: &impl Abort,
     alloc: Global,
@@ -67,7 +67,7 @@ fn check_changing(
     Ok(())
 }
 
-/// Windows are halves of the ticks, so each length puts the seams elsewhere.
+/// Windows are halves of the ticks, so each length puts their borders elsewhere.
 #[test]
 fn many_changes_of_one_signal(rt: HostRuntime) -> Result<(), Fail> {
     for k in 0..24u64 {
@@ -86,7 +86,7 @@ fn many_changes_of_some_signals(rt: HostRuntime) -> Result<(), Fail> {
     Ok(())
 }
 
-/// All changes but those at the end stand at the first ticks, and many ticks between have none.
+/// All changes but those at the end are at the first ticks, and many ticks between have none.
 #[test]
 fn changes_at_both_ends(rt: HostRuntime) -> Result<(), Fail> {
     for ticks in [0, 2, 182, 30_000] {

@@ -1,4 +1,4 @@
--- What is written and the changes left are the whole.
+-- The changes so far and those left make the whole list.
 use Rattle.std.proofs.Common.{◌≡◌, ◌++◌, drop, map}
 use Rattle.vcd_core.specs.Splice.{moved_change}
 use Rattle.vcd_tests.proofs.splices.append_later.Given as goal

@@ -8,7 +8,7 @@ use Rattle.vcd_core.specs.inside.ValueLaws.{same_letters-Decides}
 use Rattle.vcd_core.specs.Wave.{AreChangesFrom}
 use Rattle.vcd_tests.proofs.splices.is_wave.Goals as goal
 
--- one change more, where the later ones rise from the next tick
+-- one more change; the later ones rise from the next tick on
 one_more : (floor next : ℕ) (before : List Bit) (cs : List Change) (i : ℕ) (c : Change) → i < length cs
     → c ≡ get_or cs i c
     → floor ≤ c.tick → next ≡ c.tick + 1 → c.value ≢ before → length c.value ≡ length before
@@ -22,7 +22,7 @@ one_more floor next before cs i c within here from after other wide rest =
       subst (λ n. AreChangesFrom n c.value (drop (i + 1) cs)) after rest,
     )
 
--- what the comparison told
+-- the result of the comparison
 differ : (v w : List Bit) (answer : Bool) → answer ≡ same_letters v w → answer ≡ false → v ≢ w
 differ v w answer told false_is equal = let both : true ≡ false = sym ((same_letters-Decides v w).1 equal) ∙ sym told
     ∙ false_is in absurd (cc)
