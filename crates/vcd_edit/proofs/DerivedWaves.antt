@@ -301,7 +301,7 @@ module _ (rule : Rule) (a b : WaveView) where
       subst (TicksRise 1 0) (sym (ap (map (edge_change rule)) is ∙ edge_changes two end))
       (sampled_rise (λ t. list_any (changes_at t) lines) rule_value 0 (suc end) (λ u. refl))
 
-  -- what is made of the edges has the rule's bit at each tick
+  -- the wave from the edges has the rule's bit at each tick
   pub derived_is : has_two_operands rule ≡ true → (end : ℕ) (w : WaveView)
       → IsMade (map (edge_change rule) (bit_edges end)) [] w → IsWave w.width w.changes
       → w.changes ≡ changes_of 1 end rule_value
@@ -333,7 +333,7 @@ module _ (rule : Rule) (a b : WaveView) where
       (λ t. alone_is one (value_at a.width a.changes t) (value_at a.width a.changes t) (value_at b.width b.changes t) i
       ∷ [])
 
--- what is made of the changes of one operand has the rule's bit at each tick
+-- the wave from the changes of one operand has the rule's bit at each tick
 pub derived_of_one_is : (rule : Rule) (a : WaveView) (end : ℕ) (w : WaveView) → AllUpTo end a.changes
     → IsMade (map (operand_change rule) a.changes) [] w → IsWave w.width w.changes
     → w.changes ≡ changes_of 1 end (λ t. operator_bit rule (value_at a.width a.changes t) (value_at a.width a.changes t)

@@ -19,7 +19,7 @@ pub contents_at : (signals : List Signal) (k : ℕ) (s : Signal) → k < length 
 contents_at signals k s within is = get_or-map signal_contents signals k s no_signal within
     ∙ ap signal_contents (sym is)
 
--- its changes become others
+-- its changes are replaced
 pub changes_written : (signals : List Signal) (k : ℕ) (s : Signal) (w : WaveView) (cs : List Change)
     → k < length signals → s ≡ get_or signals k s → w.width ≡ s.wave.width → w.changes ≡ cs
     → map signal_contents (set signals k (record s { wave = w }))

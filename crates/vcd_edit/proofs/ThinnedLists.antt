@@ -68,7 +68,7 @@ thinned_value width floor before (c ∷ cs) t long (from, wide, rest) =
           (λ other. value_past before c (thinned_list c.value cs) t late ∙ tail ∙ sym (value_past before c cs t late))
     ]
 
--- such a list is that of the changes of the function whose values it has
+-- such a list has the changes of the function that has its values
 pub thinned_is : (width end : ℕ) (cs : List Change) (f : ℕ → List Bit) → TicksRise width 0 cs → AllUpTo end cs
     → ((t : ℕ) → t ≤ end → value_from (all_x width) cs t ≡ f t)
     → thinned_list (all_x width) cs ≡ changes_of width end f

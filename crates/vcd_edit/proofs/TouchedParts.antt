@@ -33,7 +33,7 @@ same_change_is c d same =
     let parts = and_parts (c.tick == d.tick) (same_letters c.value d.value) same in
     λ i. record { tick = eqb-true c.tick d.tick parts.0 i; value = (same_letters-Decides c.value d.value).0 parts.1 i }
 
--- a change is the one that it becomes
+-- a change matches its moved change
 same_lowered_moved : (by o : ℤ) (c : Change) → o ≡ neg_ℤ by → TickFits by c
     → same_lowered o c (moved_change by c) ≡ true
 unfolding moved_change TickFits

@@ -74,7 +74,7 @@ abbrev pub WordFits : Contents → Option (ℕ × List ℕ) → Type 0
 WordFits c None = Unit {0}
 WordFits c (Some w) = w.0 < length c.signals
 
--- a signal is put in at most after the last one, and taken out only where there is one
+-- a signal is put in at most after the last one, and the signal to take out exists
 abbrev pub MayMoveSignal : Contents → ℕ → Option SignalContents → Type 0
 MayMoveSignal c k (Some s) = k ≤ length c.signals
 MayMoveSignal c k None = k < length c.signals

@@ -16,8 +16,7 @@ use pieces::pieces_fit;
 use sound_names::{are_others_sound, are_sound, is_sound_with_word};
 use vcd_core::{Capture, END_LIMIT, SIGNAL_LIMIT, Signal};
 
-/// Whether a word may be the first word of the name of the signal at a position, and all signals are then sound up to
-/// an end.
+/// Whether the name of the signal at a position may begin with a word, and all signals are then sound up to an end.
 fn may_be_renamed(signal: usize, word: &[u8], signals: &[Signal], end: u64) -> bool
     ensures { (c : Contents) → c.signals ≡ map signal_contents signals.now
         → IsTrue result ↔ ((signal < length c.signals)
@@ -97,8 +96,8 @@ fn is_metadata_sound(capture: &Capture, end: u64) -> bool
 impl Record {
     /// Whether the record fits a capture: its parts lie within it, and the resulting capture is sound.
     ///
-    /// It takes no memory. Its time grows with the words and the signals of the capture and with the changes in the
-    /// pieces, but not with the changes of the waves.
+    /// It takes no memory. Its time grows with the words and the signals of the capture, and with the changes in the
+    /// pieces. It does not grow with the changes of the waves.
     pub fn fits(&self, capture: &Capture) -> bool
         ensures { IsTrue result ↔ Fits self.now (contents capture.now) }
     {

@@ -1,11 +1,11 @@
-//! Laws about the definitions alone: each function has an empty body, and its contract is the law.
+//! Laws about the definitions: each function has an empty body, and its contract is the law.
 
 ghost use Rattle.vcd_journal.specs.Laws.{HistoryIsBounded, SessionIsReplay};
 
-/// After any steps, accepted or refused, the capture is the first one after the edits in force.
+/// After any steps, accepted or refused, the capture is what the edits in force make of the first capture.
 ///
-/// Each capture of the past, as far as it is held, is the first one after all of these but the last, all but the last
-/// two, and so on. Each capture of the future has the undone edits made again, one after another.
+/// The captures of the past, as far as they are held, are the same without the last edit in force, without the last
+/// two, and so on. The captures of the future are the same with the undone edits made again, one after another.
 pub fn session_is_replay()
     ensures { SessionIsReplay }
 {}

@@ -18,7 +18,7 @@ use Rattle.vcdedit.specs.Run.{RunOutcome, IsRunOfReplays}
 
 -- ---- readers
 
--- a reader before and after: its bytes to come, if it shows them, and whether it has failed
+-- a reader before and after: the bytes that it will give, if it shows them, and whether it has failed
 pub record ReaderEnd : Type 0 where
   pub coming : Option (List ℕ)
   pub left : Option (List ℕ)

@@ -1,4 +1,4 @@
-//! Laws about the definitions alone: each function has an empty body, and its contract is the law.
+//! Laws about the definitions: each function has an empty body, and its contract is the law.
 
 ghost use Rattle.vcdedit.specs.Laws.{EveryRunIsOfReplays, EveryRunWritesOneThing, ReplaysAreOfRun, RefusedLineChangesNothing, ReplyIsAnswer, RunIsReplay, UndoGivesBack, UndoInRunGivesBack, UndoTakesBackTheLast};
 
@@ -10,8 +10,8 @@ pub fn run_is_of_replays()
     ensures one_thing { EveryRunWritesOneThing }
 {}
 
-/// After any lines of a script the capture is the first one after the edits in force. An undo gives the same without
-/// the last of these edits, and a redo the same with the edit undone last.
+/// After any lines of a script the capture is what the edits in force make of the first capture. An undo gives the
+/// same without the last of these edits, and a redo the same with the edit undone last.
 pub fn run_is_replay()
     ensures { RunIsReplay }
 {}

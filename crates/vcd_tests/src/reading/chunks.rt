@@ -50,8 +50,8 @@ const WORDS_AT_THE_END: &str = "\
 4088 12288
 3 20000";
 
-/// Stops unless a row's word is kept, and the line after it is right. That is the line of the next word, which is not
-/// allowed there, or that of the end of a file that breaks off after the word.
+/// Stops unless a row's word is kept, and the line after it is right. If another word follows, which is not allowed
+/// there, that is its line. Otherwise the file breaks off after the word, and that is the line of the end.
 fn check_word_at_end(rt: &impl Abort, alloc: Global, row: &str) -> Result<(), Fail> {
     let (feeds, bytes) = row.split_once(' ').ok_or("no length")?;
     let feeds = feeds.parse::<usize>()?;

@@ -43,8 +43,8 @@ fn declared(alloc: Global, signals: u8) -> Result<Vec<u8>, Fail> {
     Ok(text)
 }
 
-/// Stops unless a capture whose signals all change at each tick up to an even one, and at the odd tick `last`, is
-/// written as it was read.
+/// Stops unless a capture is written as it was read. All its signals change at each tick up to an even one, and at the
+/// odd tick `last`.
 fn check_changing(
     rt: &impl Abort,
     alloc: Global,
