@@ -80,8 +80,8 @@ pub(crate) fn exchange_record(
 ///
 /// That record fits, restores the capture, and stores touched changes only. In a signal with a piece, these are the
 /// changes that the step takes away or moves by another number of ticks than the piece. In a signal that is taken out,
-/// they are all changes. The only refusal is out of memory, and never for a record with neither pieces nor a signal to
-/// put in. The record then comes back in [`Kept`], and the capture is as it was.
+/// they are all changes. It is refused only if memory runs out, and never for a record with neither pieces nor a signal
+/// to put in. The record then comes back in [`Kept`], and the capture is as it was.
 ///
 /// The cost is the pieces, their ranges, and for each piece one move of its signal's later changes. A signal that is
 /// put in or taken out costs one move of the later signals.

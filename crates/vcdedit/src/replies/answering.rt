@@ -19,7 +19,7 @@ use vcd_journal::{Session, Step, StepError};
 /// Does what the line of this number asks for, on the current capture, and gives the reply. So many declarations of
 /// the capture's file were skipped.
 ///
-/// The only error is out of memory. The session is then as before, since the reply is made before the step.
+/// The only error is that memory runs out. The session is then as before, since the reply is made before the step.
 pub fn answer_line(
     alloc: Global,
     session: &mut Session,

@@ -67,8 +67,9 @@ fn check_done(rt: &impl Abort, run: &EndedRun, refused: u64, replies: &[u8], out
     assert!(rt; run.output.as_slice() == output);
 }
 
-/// Stops unless a run failed, wrote nothing, and has this report: `told` is the exit status and the line, as `3
-/// vcdedit: script: too large`.
+/// Stops unless a run failed, wrote nothing, and has the report `told`: its exit status and its line.
+///
+/// An example of `told` is `3 vcdedit: script: too large`.
 fn check_failed(rt: &impl Abort, alloc: Global, run: &EndedRun, told: &str) -> Result<(), Fail> {
     let Err(error) = &run.ending else {
         return Err(Fail::from("the run reached its end"));
