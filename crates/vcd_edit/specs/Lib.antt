@@ -1,3 +1,4 @@
+-- The definitions of vcd_edit: edits with their faults and effects, records, and the changes that they touch.
 pub mod EditErrorNames
 pub mod Operators
 pub mod Effect

@@ -1,3 +1,5 @@
+//! The edits of a capture, as data.
+
 ghost use Rattle.std.specs.Prelude.{◌≡◌};
 ghost use Rattle.vcd_edit.specs.Effect.{first_operand};
 ghost use Rattle.vcd_edit.specs.inside.Derived.{last_operand, has_two_operands};

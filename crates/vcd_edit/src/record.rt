@@ -1,3 +1,5 @@
+//! Pieces and records, the patches from one capture to another.
+
 ghost use Rattle.std.specs.Prelude.{◌≡◌, ℕ, ◌^◌, ◌<◌, length};
 ghost use Rattle.std.specs.List.{sum_by};
 ghost use Rattle.vcd_edit.specs.Touched.{moved_change_count};

@@ -1,3 +1,5 @@
+//! The fields of a piece and of a record.
+
 use super::{Piece, Record};
 use std::process::Abort;
 use std::test::Fail;
