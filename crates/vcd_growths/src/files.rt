@@ -28,7 +28,7 @@ pub fn capture_of_text(alloc: Global, text: &[u8]) -> Result<Capture, Stopped>
     }
 }
 
-/// `read`, and the line of a fault. Prints whether the source has failed, and whether the bytes left are the text's last.
+/// `read`, and the line of a fault. Prints whether the source has failed, and whether the rest ends the text.
 pub fn call_read<R: Runtime + AllocGlobal>(rt: &R, call: &Call) -> Result<(), Stopped> {
     let mut source = FromRead::new(call.text);
     if call.makes {
