@@ -16,7 +16,7 @@ use Rattle.vcd_core.proofs.Waves.{value_past, value_early, lower_floor}
 abbrev pub line : Option (List Bit) → List Change → Trace
 line before changes = record { before = before; changes = changes }
 
--- ---- where no change stands
+-- ---- where there is no change
 
 pub same_value-refl : (v : Option (List Bit)) → same_value v v ≡ true
 same_value-refl None = refl

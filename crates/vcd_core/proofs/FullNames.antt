@@ -70,7 +70,7 @@ pub is_one_of_names : (name : List ℕ) (signals : List Signal)
 is_one_of_names name signals = list_any-map full_name (bytes_eq name) (map signal_contents signals)
     ∙ list_any-map signal_contents (λ s. bytes_eq name (full_name s)) signals
 
--- ---- what a name ends with
+-- ---- the end of a name
 
 -- the last of several words, where the first is given apart
 pub last_word_of : (first : List ℕ) (others : List (List ℕ)) (w : List ℕ) → 1 ≤ length others

@@ -11,13 +11,13 @@ use Rattle.vcd_core.specs.declared.capture.Signal.{Signal}
 use Rattle.vcd_core.specs.Contents.{SignalContents, signal_contents}
 use Rattle.vcd_core.specs.Names.{full_name, full_names, is_numbered, number_in, lookup}
 
--- an answer by position
+-- a result by position
 pub numbered : (test : Bool) (n k : ℕ) (other : Option ℕ) → Some k ≡ (if test then Some n else None)
     → Some k ≡ (if test then Some n else other)
 numbered true n k other given = given
 numbered false n k other given = cc
 
--- an answer by full name
+-- a result by full name
 pub not_numbered : (test : Bool) (n : ℕ) (other : Option ℕ) → None ≡ (if test then Some n else None)
     → other ≡ (if test then Some n else other)
 not_numbered true n other given = cc

@@ -10,7 +10,7 @@ use Rattle.std.proofs.lemmas.List.{map-append, drop_more}
 use Rattle.vcd_core.specs.declared.wave.Change.{Change}
 use Rattle.vcd_core.specs.Splice.{moved_change, TickFits, AllTicksFit}
 
--- ---- down: the first k changes from `to` on stand from `from` on
+-- ---- down: the first k changes from `to` on are from `from` on
 
 -- the list after the move
 abbrev pub pulled : (Change → Change) → List Change → ℕ → ℕ → ℕ → List Change
@@ -71,7 +71,7 @@ module _ (f : Change → Change) (xs : List Change) (from to : ℕ) (ordered : f
       ∙ (λ p. (append_assoc (take from xs) (map f (take k (drop to xs))) (f x ∷ []) ∙ ap (λ l. take from xs ++ l) more)
       p ++ drop (following p) xs)
 
--- ---- up: the changes from `left` on, but the last `gap`, stand `gap` places higher
+-- ---- up: the changes from `left` on, but the last `gap`, are `gap` places higher
 
 abbrev pub lifted : (Change → Change) → List Change → ℕ → ℕ → ℕ → List Change
 lifted f xs n gap left = take (left + gap) xs ++ map f (drop left (take n xs))
@@ -108,7 +108,7 @@ module _ (f : Change → Change) (xs : List Change) (n gap : ℕ) (all : n + gap
       ∙ set-append_seam front (get_or xs (before + gap) x) (map f (drop left (take n xs))) (f x)
       ∙ ap (λ l. front ++ map f l) (sym rest)
 
--- ---- what the loops do
+-- ---- the steps of the loops
 
 -- the next change to move down has a tick that fits, and is put in its place
 module _ (at : ℤ) (xs ys : List Change) (from to i : ℕ) (d : Change) (ordered : from ≤ to) (following : to ≤ i)

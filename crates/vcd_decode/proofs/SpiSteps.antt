@@ -28,7 +28,7 @@ use Rattle.vcd_decode.proofs.Groups.{groups_none, groups_whole}
 use Rattle.vcd_decode.proofs.EdgeTicks.{each_edge, over_edges}
 use Rattle.vcd_decode.proofs.SpiGroups.{group_last, group_none, length_last, line_first, line_fits, rest_is, word_is}
 
--- ---- a whole word in front of what follows
+-- ---- a whole word in front of the rest
 
 module _ (u : SpiSetup) (some : 0 < u.bits) (mosi miso : Option (ℕ → Bit)) where
   abbrev annotations_of_ticks : List ℕ → List Annotation
@@ -46,7 +46,7 @@ module _ (u : SpiSetup) (some : 0 < u.bits) (mosi miso : Option (ℕ → Bit)) w
       ap (λ us. annotations_at_marks u mosi miso us marks) (append_assoc c ts (t ∷ []))
       ∙ word_first c (ts ++ t ∷ []) marks whole
 
-  -- ---- what an edge makes of the group of some ticks: the marks that it adds tell the same
+  -- ---- the group of some ticks after an edge: the marks that the edge adds give the same
 
   pub record Goes (divides reads : Bool) (longer : Group) (t : ℕ) (ts : List ℕ) (marks : List (Option ℕ)) : Type 0 where
     pub after : List ℕ

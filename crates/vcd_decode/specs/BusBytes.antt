@@ -21,7 +21,7 @@ number_with (Some n) b = if is_line_high b.level then Some (2 * n + 1) else (if 
 abbrev pub number_of_bits : List BusBit → Option ℕ
 number_of_bits bits = fold number_with (Some 0) bits
 
--- ---- the byte behind a START
+-- ---- the byte after a START
 
 -- the direction in its last bit: 1 the target sends, 0 the controller
 abbrev pub direction_of : ℕ → Direction

@@ -15,7 +15,7 @@ use Rattle.vcd_decode.specs.Lines.{letter_before, is_zero, is_one, is_unclear, n
 
 -- ---- the sampling ticks
 
--- whether a mode samples where its clock rises; the others sample where it falls
+-- whether a mode samples where its clock rises
 abbrev pub samples_rise : ℕ → Bool
 samples_rise mode = mode == 0 || mode == 3
 

@@ -6,7 +6,7 @@ use Rattle.vcd_decode.specs.declared.spi_setup.BitOrder.{BitOrder}
 use Rattle.vcd_decode.specs.declared.spi_setup.TheConstants.{GREATEST_MODE, WORD_BITS_LIMIT}
 use Rattle.vcd_decode.specs.UartSetup.{is_between}
 
--- a setup as contracts see it: the mode, the number of bits in a word, and their order
+-- a setup as contracts see it: `bits` in a word
 pub record SpiSetup : Type 0 where
   pub mode : ℕ
   pub bits : ℕ

@@ -36,7 +36,7 @@ sample_offset u bit = (2 * bit + 1) * u.numerator / (2 * u.denominator)
 abbrev pub sample_tick : UartSetup → ℕ → ℕ → ℕ
 sample_tick u start bit = start + sample_offset u bit
 
--- ---- what a frame says
+-- ---- the kind of a frame
 
 -- the letters of the frame after the start bit
 abbrev pub frame_letters : (ℕ → Bit) → UartSetup → ℕ → List Bit

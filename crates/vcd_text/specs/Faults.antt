@@ -10,7 +10,7 @@ use Rattle.vcd_text.specs.Letters.{is_among, is_binary_digit}
 use Rattle.vcd_text.specs.Items.{Item, spellings, end_word, is_end_word, has_no_end_word, declaring_words, header_words, begins_declaration, is_other, timescale_of, vector_prefixes, dropped_prefixes}
 use Rattle.vcd_text.specs.Grammar.{ParseState, VariableDeclaration, is_skipped, has_good_size, declaration_of, variable_of, may_have_code, has_room, is_tick, is_binary_number, initial_state, word_texts, AllowsAll, state_after}
 
--- ---- the rows: the words `begun` of an item that is not whole show no fault, and the word behind them shows this one
+-- ---- the rows: the words `begun` of an incomplete item show no fault, and the word after them shows this one
 
 -- among the declarations
 pub data DeclarationFault (c : ParseState) (begun : List (List ℕ)) (word : List ℕ) (fault : Fault) : Type 0 where

@@ -14,7 +14,7 @@ use Rattle.vcd_core.specs.Decimal.{is_number, number_of}
 use Rattle.vcd_text.specs.Letters.{is_among, is_binary_digit, letters_of_digits}
 use Rattle.vcd_text.specs.Items.{Item, entry, timescale, scope, upscope, variable, end_definitions, stamp, scalar, vector, real_or_string, bracket, other, spellings, has_no_end_word, dump_words, is_other, timescale_of, vector_prefixes, dropped_prefixes}
 
--- ---- what a file tells
+-- ---- the state of a file
 
 -- a variable, with the scopes that are open at its declaration
 pub record VariableDeclaration : Type 0 where
@@ -24,7 +24,7 @@ pub record VariableDeclaration : Type 0 where
   pub code : List ℕ
   pub words : List (List ℕ)
 
--- a value change: from this tick on, the variables of this code have the value of these letters
+-- from this tick on, the variables of this code have these letters
 pub record ValueChange : Type 0 where
   pub tick : ℕ
   pub code : List ℕ
@@ -100,7 +100,7 @@ is_binary_number digits = not (length digits == 0) && list_all is_binary_digit d
 abbrev pub takes_binary_number : VariableDeclaration → List ℕ → Bool
 takes_binary_number d digits = is_skipped d || (is_binary_number digits && nat_le (length digits) d.size)
 
--- ---- what an item asks for
+-- ---- the conditions of an item
 
 -- the conditions of an item in this state
 abbrev pub Allows : ParseState → Item → Type 0
@@ -120,7 +120,7 @@ Allows c (real_or_string first text code) = IsTrue c.changing × IsTrue (is_amon
 Allows c (bracket word) = IsTrue c.changing × IsTrue (is_one_of dump_words word)
 Allows c (other word words) = IsTrue (is_other c.changing word) × IsTrue (has_no_end_word words)
 
--- ---- what an item adds
+-- ---- the effect of an item
 
 -- a value change to these letters at the tick, for a kept variable
 abbrev pub value_changes_after : ParseState → List ℕ → List Bit → Option VariableDeclaration → List ValueChange

@@ -42,7 +42,7 @@ words_from whole line (b ∷ bs) = with_byte (is_white_space b) (ends_before who
 abbrev pub words_of : List ℕ → List PlacedWord
 words_of bytes = words_from true 1 bytes
 
--- the words that white space follows: those that are certain where only this front of a file was read
+-- the words of this front of a file that white space follows
 abbrev pub closed_words : List ℕ → List PlacedWord
 closed_words bytes = words_from false 1 bytes
 

@@ -43,7 +43,7 @@ part_of bits = fold part_with no_bits bits
 abbrev pub IsPart : PartByte → Type 0
 IsPart p = (p.count ≤ 8) × IfSome p.number (λ n. n < 2 ^ p.count)
 
--- ---- what stands since the last START, none after a STOP
+-- ---- the state since the last START, none after a STOP
 
 -- the current transfer, if there is one, is sound
 abbrev pub IsBus : Option Transfer → Type 0

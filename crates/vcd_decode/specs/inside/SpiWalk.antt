@@ -14,7 +14,7 @@ use Rattle.vcd_decode.specs.inside.SpiClock.{samples}
 use Rattle.vcd_decode.specs.inside.SpiGroup.{line_bit, DataFits, group_before, group_after, word_annotation}
 use Rattle.vcd_decode.specs.inside.SpiGroup.{rest_annotation}
 
--- ---- what an edge is
+-- ---- the tests of an edge
 
 -- whether the chip is selected by the bit of its line
 abbrev pub selects : Option Bit → Bool
@@ -29,7 +29,7 @@ deselects e = selects (line_bit e.before 3) && not (selects (line_bit e.at 3))
 abbrev pub is_sampling : SpiSetup → BitEdge → Bool
 is_sampling u e = selects (line_bit e.at 3) && samples u.mode (line_bit e.before 0) (line_bit e.at 0)
 
--- ---- what an edge tells, and the group after it
+-- ---- the annotations of an edge, and the group after it
 
 -- the group has room for one more bit
 pub record HasRoomForBit (u : SpiSetup) (g : Group) : Type 0 where

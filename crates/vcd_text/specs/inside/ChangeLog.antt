@@ -53,7 +53,7 @@ abbrev pub AreGrouped : ℕ → List (Vec LoggedChange) → Type 0
 AreGrouped index [] = Unit {0}
 AreGrouped index (g ∷ gs) = All (λ (e : LoggedChange). e.position % GROUPS ≡ index) g.items × AreGrouped (index + 1) gs
 
--- ---- what waves take of the log
+-- ---- the changes that waves take from the log
 
 -- a variable can take a change of the log
 pub record CanTake (kept : List Variable) (e : LoggedChange) : Type 0 where

@@ -24,7 +24,7 @@ use Rattle.vcd_text.specs.declared.reading.variables.CodeTarget.TheVariants.{Ski
 use Rattle.vcd_text.specs.declared.reading.variables.Variable.{Variable}
 use Rattle.vcd_text.specs.declared.reading.variables.Variables.{Variables}
 
--- ---- what the variables hold
+-- ---- the contents of the variables
 
 -- the declaration of a code and a signal
 abbrev pub declaration_by : (code : List ℕ) → Signal → VariableDeclaration
@@ -91,7 +91,7 @@ pub record VariablesMatch (vs : Variables) (c : ParseState) : Type 0 where
   pub grouped : AreGrouped 0 vs.log.groups.items
   pub logs : HasLogs vs.kept.items (logged vs.log.groups.items)
 
--- ---- what comes of a declaration
+-- ---- the result of a declaration
 
 -- the state with this declaration added last
 abbrev pub with_declaration : ParseState → VariableDeclaration → ParseState
@@ -109,7 +109,7 @@ DeclaresAs c d (Ok x) new = IsTrue (may_have_code (variable_of c d.code) d) × I
     × VariablesMatch new (with_declaration c d)
 DeclaresAs c d (Err fault) new = (fault ≡ faults.NoMemory) ⊎ CannotDeclare c d fault
 
--- ---- what comes of a `$var`, at its `$end`
+-- ---- the result of a `$var`, at its `$end`
 
 -- the words declare no variable that is allowed here
 pub data VariableFault (c : ParseState) (words : List (List ℕ)) (fault : Fault) : Type 0 where
@@ -129,7 +129,7 @@ Declares c words (Ok x) new =
     × VariablesMatch new (state_after_item c (variable words))
 Declares c words (Err fault) new = (fault ≡ faults.NoMemory) ⊎ VariableFault c words fault
 
--- ---- what comes of digits
+-- ---- the result of digits
 
 -- from the tick on a variable has the value of the digits
 pub record Sets (tick : ℕ) (digits : List ℕ) (old new : Variable) : Type 0 where
@@ -148,7 +148,7 @@ RefusesBinaryNumber width digits fault =
     (IsFalse (is_binary_number digits) × (fault ≡ faults.BadChange))
     ⊎ (IsTrue (is_binary_number digits) × (width < length digits) × (fault ≡ faults.ValueTooLong))
 
--- ---- what comes of a change with these digits
+-- ---- the result of a change with these digits
 
 -- the code is not declared, or its variable refuses the digits
 pub data BinaryNumberFault (c : ParseState) (code digits : List ℕ) (fault : Fault) : Type 0 where
@@ -167,7 +167,7 @@ ChangeResult c code digits (Ok x) new =
     × VariablesMatch new (with_value_change c code (letters_of_digits digits))
 ChangeResult c code digits (Err fault) new = (fault ≡ faults.NoMemory) ⊎ BinaryNumberFault c code digits fault
 
--- ---- what comes of the variables at the end
+-- ---- the signals of the variables at the end
 
 -- the signal of a variable has its own wave, or that of the signal at the position of the first variable with its code
 abbrev pub Finishes : Variable → Option Signal → Signal → Type 0
