@@ -15,8 +15,8 @@ use crate::spi_setup::Spi;
 use std::alloc::Global;
 use vcd_core::{Bit, BitEdge, BitEdges, NoMemory, Wave};
 
-/// The words of a serial peripheral interface up to the tick `end`, from the clock `clk`, the data
-/// lines `mosi` and `miso`, and the chip select `cs`, which is active at 0.
+/// The words of a serial peripheral interface up to the tick `end`. The lines are the clock `clk`,
+/// the data lines `mosi` and `miso`, and the chip select `cs`, which is active at 0.
 ///
 /// A bit is read at each edge of the clock at which the mode reads, while the chip is selected. A
 /// chip without a `cs` line is always selected. Bits before and after a tick at which the chip is

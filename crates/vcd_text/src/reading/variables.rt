@@ -131,8 +131,8 @@ impl Variables {
     /// variable of its code takes another copy of the code, in the map; a skipped one takes at most
     /// that copy.
     ///
-    /// The error is `BadVar` where a part is missing, or `MixedCode` where a kept and a skipped
-    /// variable, or two sizes, would share the code, or `TooManySignals`, or `NoMemory`.
+    /// The error is `BadVar` where a part is missing, `MixedCode` where the code has another size
+    /// or is skipped for one variable alone, `TooManySignals`, or `NoMemory`.
     pub fn declare(&mut self, alloc: Global, words: &[Word]) -> Result<(), Fault>
         requires size { IsTrue (has_good_size words.now) }
         requires few { self.old.skipped + 1 < 2 ^ 64 }

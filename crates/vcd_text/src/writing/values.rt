@@ -189,8 +189,8 @@ fn kept_in_word(count: u64, low: u64, high: u64) -> u64
 }
 
 /// A word whose bit `i` is set where the extension does not restore the letter of bit `i + 1` from
-/// that of bit `i`. This is so where one of them is x or z and the other is not, where the higher
-/// one is 1, or where one is x and the other z.
+/// that of bit `i`. These are the pairs with one of x and z and one of 0 and 1, those with 1 as the
+/// higher letter, and those of x and z.
 fn needed_above(low: u64, high: u64) -> u64
     ensures { (i : ℕ) → i < 64 →
         bit_at result i ≡ (if is_spare_above low high i then 0 else 1) }
