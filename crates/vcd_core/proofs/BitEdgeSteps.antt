@@ -25,13 +25,13 @@ lowest_of (Some b) = refl
 abbrev pub bit_walk_of : BitTrace → BitTrace → BitTrace → BitTrace → Inside
 bit_walk_of a b c d = record { a = a; b = b; c = c; d = d }
 
--- where no change is left, no edge is
+-- where no change is left, no edge is left
 pub bit_walk_over : (e : Inside) → EachRises 0 (bit_traces_left e) → next_tick_of (bit_traces_left e) ≡ None
     → bit_edges_left e ≡ []
 unfolding bit_edges_left
 bit_walk_over e rise next = ap (map bit_edge) (no_edges (bit_traces_left e) (reach (bit_traces_left e)) rise next)
 
--- the tracks past a tick are the waves past it
+-- the tracks after a tick are the waves after it
 advanced : (e : Inside) (a b c d : BitTrace) (t : ℕ) → bit_trace_left a ≡ trace_after t (bit_trace_left e.a)
     → bit_trace_left b ≡ trace_after t (bit_trace_left e.b)
     → bit_trace_left c ≡ trace_after t (bit_trace_left e.c) → bit_trace_left d ≡ trace_after t (bit_trace_left e.d)

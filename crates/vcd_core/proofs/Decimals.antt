@@ -9,19 +9,19 @@ use Rattle.std.proofs.lemmas.Str.{digit_value_digit}
 use Rattle.std.proofs.lemmas.Int.Digits.{digits_value_more}
 use Rattle.std.proofs.lemmas.Bool.Decides.{nat_tests}
 
--- each byte of a list of digits is one
+-- each byte of a list of digits is a digit
 digit_within : (bytes : List ℕ) (i : ℕ) → list_all is_ascii_digit bytes ≡ true → i < length bytes
     → IsInRange 48 57 (get_or bytes i 0)
 digit_within [] i all within = absurd (omega arith)
 digit_within (b ∷ bytes) zero all within = grind (arith, nat_tests)
 digit_within (b ∷ bytes) (suc i) all within = digit_within bytes i (grind (arith, nat_tests)) (omega arith)
 
--- a number that stops at a limit takes in one more digit
+-- a number with a limit takes one more digit
 capped_more : (value limit digit : ℕ)
     → min (min (min value limit * 10) limit + digit) limit ≡ min (value * 10 + digit) limit
 capped_more value limit digit = grind arith
 
--- the step of reading a numeral that stops at a limit
+-- the step of reading a number with a limit
 pub numeral_more : (bytes : List ℕ) (i limit number product digit : ℕ) → list_all is_ascii_digit bytes ≡ true
     → i < length bytes → number ≡ min (digits_value 10 (take i bytes)) limit → product ≡ min (number * 10) limit
     → digit ≡ get_or bytes i 0 - 48 → min (product + digit) limit ≡ min (digits_value 10 (take (i + 1) bytes)) limit

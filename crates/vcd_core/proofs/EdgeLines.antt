@@ -1,4 +1,4 @@
--- A wave at a tick, and past its next change.
+-- A wave at a tick, and after its next change.
 use Rattle.std.proofs.Common.{◌≡◌, ◌≢◌, ℕ, zero, suc, ◌+◌, ◌<◌, ◌≤◌, ◌==◌, Bool, true, false, not, if◌then◌else◌}
 use Rattle.std.proofs.Common.{Option, Some, None, List, [], ◌∷◌, refl, sym, ap, subst, ◌∙◌, arith, add-one}
 use Rattle.std.proofs.lemmas.Bool.Decides.{Decides-eqb}
@@ -16,13 +16,13 @@ use Rattle.vcd_core.proofs.Waves.{value_past, value_early, lower_floor}
 abbrev pub line : Option (List Bit) → List Change → Trace
 line before changes = record { before = before; changes = changes }
 
--- ---- where no change stands
+-- ---- where there is no change
 
 pub same_value-refl : (v : Option (List Bit)) → same_value v v ≡ true
 same_value-refl None = refl
 same_value-refl (Some v) = (same_letters-Decides v v).1 refl
 
--- different values have not the same letters
+-- different values have different letters
 other_letters : (v w : List Bit) → v ≢ w → same_letters v w ≡ false
 other_letters v w other = choose (same_letters v w) refl
   where
@@ -30,7 +30,7 @@ other_letters v w other = choose (same_letters v w) refl
     choose false e = e
     choose true e = absurd (other ((same_letters-Decides v w).0 e))
 
--- below its first change a wave has the value before it
+-- before its first change a wave has the value before it
 pub quiet_value : (before : Option (List Bit)) (changes : List Change) (floor t : ℕ) → Rises floor (line before changes)
     → t < floor → value_on (line before changes) t ≡ before
 quiet_value None changes floor t rises early = refl
@@ -51,7 +51,7 @@ quiet l floor t rises early =
 
 -- ---- past a change
 
--- a wave past its change at a tick has the same values from there on
+-- a wave after its change at a tick has the same values from there on
 pub after_agrees : (before : Option (List Bit)) (changes : List Change) (t u : ℕ) → Rises t (line before changes)
     → t ≤ u → value_on (line before changes) u ≡ value_on (trace_past t before changes) u
 after_agrees before [] t u rises later = refl

@@ -1,10 +1,10 @@
--- The edges of several waves, past the next tick at which one changes.
+-- The edges of several waves, after the next tick at which one changes.
 use Rattle.std.proofs.Common.{◌≡◌, ℕ, zero, suc, ◌+◌, ◌<◌, ◌≤◌, Bool, true, false, cond, List, [], ◌∷◌, map, refl, ap}
 use Rattle.std.proofs.Common.{◌∙◌, inl, inr, arith}
 use Rattle.std.specs.List.{filter, range_with_len}
 use Rattle.std.proofs.lemmas.Bool.{cases_eq}
 
--- tests and functions that agree from a tick on keep and give the same
+-- tests and functions that agree from a tick on give the same list
 pub same_from : {X : Type 0} (p q : ℕ → Bool) (f g : ℕ → X) (a n : ℕ) → ((u : ℕ) → a ≤ u → p u ≡ q u)
     → ((u : ℕ) → a ≤ u → f u ≡ g u) → map f (filter p (range_with_len a n)) ≡ map g (filter q (range_with_len a n))
 same_from p q f g a zero tests values = refl
@@ -18,7 +18,7 @@ same_from p q f g a (suc n) tests values =
     choose true later = λ i. values a (omega arith) i ∷ later i
     choose false later = later
 
--- one tick is kept by p alone, none before it is kept, and later ones alike: p's list begins with it
+-- where p alone keeps one tick, no test keeps one before it, and both agree later, p's list begins with that tick
 pub first_kept : {X : Type 0} (p q : ℕ → Bool) (f g : ℕ → X) (t a n : ℕ) → a ≤ t → t < a + n
     → ((u : ℕ) → u < t → p u ≡ false) → p t ≡ true → ((u : ℕ) → u < suc t → q u ≡ false)
     → ((u : ℕ) → t < u → p u ≡ q u) → ((u : ℕ) → t < u → f u ≡ g u)
@@ -38,7 +38,7 @@ first_kept p q f g t a (suc n) from to none here neither tests values =
           rw (before, drops) (first_kept p q f g t (a + 1) n (omega arith) (omega arith) none here neither tests values)
     ]
 
--- what keeps nothing from a tick on keeps nothing more of a longer list
+-- a test that keeps nothing from a tick on keeps no more of a longer list
 pub none_from : (p : ℕ → Bool) (a n : ℕ) → ((u : ℕ) → a ≤ u → p u ≡ false) → filter p (range_with_len a n) ≡ []
 none_from p a zero none = refl
 none_from p a (suc n) none = rw (none a (omega arith)) (none_from p (a + 1) n (λ u from. none u (omega arith)))

@@ -54,7 +54,7 @@ pub rises_to_next : (ls : List Trace) (t : ℕ) → EachRises 0 ls → next_tick
 rises_to_next ls t rise next =
     rises_each ls t rise (λ u is. let same : Some t ≡ Some u = sym next ∙ is in omega (arith, same_Some t u same))
 
--- and one changes there
+-- one wave changes at the next tick
 pub change_each : (ls : List Trace) (t : ℕ) → EachRises t ls → next_tick_of ls ≡ Some t
     → list_any (changes_at t) ls ≡ true
 change_each [] t rise next = absurd (cc)
@@ -83,7 +83,7 @@ pub after_each : (ls : List Trace) (t : ℕ) → EachRises t ls → EachRises (s
 after_each [] t rise = tt
 after_each (l ∷ ls) t (rises, rise) = (after_rises l.before l.changes t rises, after_each ls t rise)
 
--- past the tick the waves and those after it have the same values
+-- after the tick the waves and their rests have the same values
 values_agree : (ls : List Trace) (t u : ℕ) → EachRises t ls → t ≤ u
     → map (λ l. value_on l u) ls ≡ map (λ l. value_on l u) (map (trace_after t) ls)
 values_agree [] t u rise later = refl
@@ -97,7 +97,7 @@ edges_agree ls t (suc u) rise later =
     let at = values_agree ls t (suc u) rise (omega arith) in
     λ i. record { tick = suc u; before = before i; at = at i }
 
--- and change at the same ticks
+-- they change at the same ticks
 tests_agree : (ls : List Trace) (t u : ℕ) → EachRises t ls → t < u
     → list_any (changes_at u) ls ≡ list_any (changes_at u) (map (trace_after t) ls)
 tests_agree ls t zero rise later = absurd (omega arith)
@@ -108,7 +108,7 @@ tests_agree (l ∷ ls) t (suc u) (rises, rise) later =
     let rest = tests_agree ls t (suc u) rise later in
     λ i. not (same_value (at i) (just_before i)) || rest i
 
--- the values at the edge itself are those that the waves before and after it keep
+-- the values at the edge itself are those before each rest
 befores : (ls : List Trace) (t : ℕ) → EachRises t ls → map (λ l. value_before l t) ls ≡ map (λ l. l.before) ls
 befores [] t rise = refl
 befores (l ∷ ls) t (rises, rise) = λ i. quiet_before l.before l.changes t t rises (omega arith) i ∷ befores ls t rise i
@@ -134,7 +134,7 @@ next_edge_is ls t rise =
     let at = afters ls t rise in
     λ i. record { tick = t; before = before i; at = at i }
 
--- it comes first, and then those of the waves past it
+-- the next edge comes first, and then those of the rests
 pub edges_step : (ls : List Trace) (end t : ℕ) → EachRises 0 ls → next_tick_of ls ≡ Some t → t ≤ end
     → edges_on ls end ≡ next_edge ls t ∷ edges_on (map (trace_after t) ls) end
 unfolding edges_on
@@ -150,7 +150,7 @@ edges_step ls end t rise next within =
     ∷ map (edge_on past) (filter (λ u. list_any (changes_at u) past) (range_with_len 0 (suc end))))
     (next_edge_is ls t here)
 
--- where no change is left there is no edge
+-- where no change is left, there is no edge
 pub no_edges : (ls : List Trace) (end : ℕ) → EachRises 0 ls → next_tick_of ls ≡ None → edges_on ls end ≡ []
 unfolding edges_on
 no_edges ls end rise next =
@@ -161,7 +161,7 @@ no_edges ls end rise next =
 
 -- ---- the end
 
--- no wave changes past it
+-- no wave changes past the tick
 abbrev pub EachEnds : ℕ → List Trace → Type 0
 EachEnds end [] = Unit {0}
 EachEnds end (l ∷ ls) = AllUpTo end l.changes × EachEnds end ls
@@ -171,7 +171,7 @@ ended_each [] end t ends late = refl
 ended_each (l ∷ ls) end t (ends, rest) late =
     rw (ended l.before l.changes end t ends late) (ended_each ls end t rest late)
 
--- two ends that no change is past give the same edges
+-- two ends give the same edges where no change is past either
 pub edges_same : (ls : List Trace) (m n : ℕ) → EachEnds m ls → EachEnds n ls → edges_on ls m ≡ edges_on ls n
 unfolding edges_on
 edges_same ls m n ends_m ends_n =
@@ -227,7 +227,7 @@ walk_step ls t rise next =
     (edges_same past (reach ls) (reach past) (after_ends ls (reach ls) t ends)
     (reach_ends past (reach past) (omega arith)))
 
--- after which the waves still rise
+-- the waves still rise after a step
 pub walk_rises : (ls : List Trace) (t : ℕ) → EachRises 0 ls → next_tick_of ls ≡ Some t
     → EachRises 0 (map (trace_after t) ls)
 walk_rises ls t rise next =
@@ -249,7 +249,7 @@ walk_begins waves end upto =
 
 -- ---- the walk over four waves
 
--- where no change is left, no edge is
+-- where no change is left, no edge is left
 pub walk_over : (e : Inside) → EachRises 0 (traces_left e) → next_tick_of (traces_left e) ≡ None → edges_left e ≡ []
 unfolding edges_left
 walk_over e rise next = no_edges (traces_left e) (reach (traces_left e)) rise next
@@ -258,7 +258,7 @@ walk_over e rise next = no_edges (traces_left e) (reach (traces_left e)) rise ne
 abbrev pub walk_of : LentTrace → LentTrace → LentTrace → LentTrace → Inside
 walk_of a b c d = record { a = a; b = b; c = c; d = d }
 
--- the waves past a tick are those of the tracks past it
+-- the waves after a tick are those of the tracks after it
 advanced_lines : (e : Inside) (a b c d : LentTrace) (t : ℕ) → trace_left a ≡ trace_after t (trace_left e.a)
     → trace_left b ≡ trace_after t (trace_left e.b) → trace_left c ≡ trace_after t (trace_left e.c)
     → trace_left d ≡ trace_after t (trace_left e.d)

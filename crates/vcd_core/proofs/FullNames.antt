@@ -1,4 +1,4 @@
--- How a full name begins, and the tests of full names.
+-- The beginning of a full name, and the tests of full names.
 use Rattle.std.proofs.Common.{◌≡◌, Bool, true, false, suc, append_assoc, length-append, if◌then◌else◌, ◌||◌, ℕ, ◌-◌}
 use Rattle.std.proofs.Common.{◌<◌, ◌≤◌, List, [], ◌∷◌, ◌++◌, length, get_or, take, drop, map, refl, sym, ap, ◌∙◌}
 use Rattle.std.proofs.Common.{append-nil, arith}
@@ -42,7 +42,7 @@ list_any-map f p (x ∷ xs) = ap (λ (b : Bool). p (f x) || b) (list_any-map f p
 
 pub ruleset name_steps = (name_in-empty_word, append-nil)
 
--- the bytes of a name whose parts are taken from its scopes, at none and at one scope or more
+-- the bytes of a name from its scopes, for no scope and for one or more
 pub bytes_in_none : (scopes : List ScopeName) (first : List ℕ) (others : List (List ℕ)) → length scopes < 1
     → first ++ (concat others ++ []) ≡ name_in scopes (first ∷ others)
 bytes_in_none [] first others none = rw append-nil (sym (name_in-none (first ∷ others)))
@@ -70,9 +70,9 @@ pub is_one_of_names : (name : List ℕ) (signals : List Signal)
 is_one_of_names name signals = list_any-map full_name (bytes_eq name) (map signal_contents signals)
     ∙ list_any-map signal_contents (λ s. bytes_eq name (full_name s)) signals
 
--- ---- what a name ends with
+-- ---- the end of a name
 
--- the last of several words, the first of which is given apart
+-- the last of several words, where the first is given apart
 pub last_word_of : (first : List ℕ) (others : List (List ℕ)) (w : List ℕ) → 1 ≤ length others
     → w ≡ get_or others (length others - 1) w → (front : List ℕ) × (first ++ concat others ≡ front ++ w)
 last_word_of first [] w some is = absurd (omega arith)
@@ -93,7 +93,7 @@ name_in_ends (scope ∷ scopes) words =
           ∙ sym (append_assoc (scope_text scope) (46 ∷ rest.0) (concat words)),
     )
 
--- and so does one of which a scope is left
+-- a name of which a scope is left ends with them too
 pub last_in_scope : (n : FullName) (last : List ℕ) → n.in_scope ≡ true
     → ((front : List ℕ) × (n.first.now ++ concat n.others.now ≡ front ++ last))
     → (front : List ℕ) × (name_bytes n ≡ front ++ last)
@@ -109,7 +109,7 @@ last_in_scope n last within (front, ends) =
           ∙ ap (λ l. n.text.now ++ l) (append_assoc (concat n.words.now) (46 ∷ scoped.0) (front ++ last))),
     )
 
--- of two ends of one text the longer ends with the shorter
+-- of two ends of one text, the longer ends with the shorter
 end_of_longer : (x y a b : List ℕ) → x ++ a ≡ y ++ b → length b ≤ length a → (front : List ℕ) × (a ≡ front ++ b)
 end_of_longer [] y a b is le = (y, is)
 end_of_longer (c ∷ x) [] a b is le = absurd (omega (arith, ap length is, length-append x a))
@@ -121,7 +121,7 @@ ends_with_end x y a b r told is le =
     let longer = end_of_longer x y a b is le in
     (ends_is Decides-eqb a b r told).1 longer.0 longer.1
 
--- a text that does not end as a name does is not that name
+-- a text with an end that a name does not have is not that name
 pub other_end : (text name last : List ℕ) (r : Bool) → r ≡ ends_with eqb text last → r ≡ false
     → ((front : List ℕ) × (name ≡ front ++ last)) → false ≡ bytes_eq text name
 other_end text name last r told fails (front, ends) = choose (bytes_eq text name) ((bytes_eq-Decides text name).0)

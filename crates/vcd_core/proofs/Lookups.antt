@@ -11,13 +11,13 @@ use Rattle.vcd_core.specs.declared.capture.Signal.{Signal}
 use Rattle.vcd_core.specs.Contents.{SignalContents, signal_contents}
 use Rattle.vcd_core.specs.Names.{full_name, full_names, is_numbered, number_in, lookup}
 
--- an answer that was given by position
+-- a result by position
 pub numbered : (test : Bool) (n k : ℕ) (other : Option ℕ) → Some k ≡ (if test then Some n else None)
     → Some k ≡ (if test then Some n else other)
 numbered true n k other given = given
 numbered false n k other given = cc
 
--- and one that was not
+-- a result by full name
 pub not_numbered : (test : Bool) (n : ℕ) (other : Option ℕ) → None ≡ (if test then Some n else None)
     → other ≡ (if test then Some n else other)
 not_numbered true n other given = cc
@@ -50,7 +50,7 @@ full_name_is signals k s name answer within here is =
       (λ same. is ∙ decides.1 (same_Some _ _ (sym same ∙ at))),
     )
 
--- what a name stands for: a position in digits, else the first signal with that full name
+-- the signal that a name names: a position in digits, or the first signal with that full name
 pub lookup_numbered : (signals : List Signal) (name : List ℕ) (k : ℕ)
     → Some k ≡ (if is_numbered name && nat_lt (number_in name) (length signals) then Some (number_in name) else None)
     → Some k ≡ lookup (map signal_contents signals) name

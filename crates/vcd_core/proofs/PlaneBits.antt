@@ -10,7 +10,7 @@ use Rattle.std.proofs.lemmas.Bool.{cases_eq}
 use Rattle.vcd_core.specs.WordRows.{row_bit}
 use Rattle.vcd_core.specs.inside.Planes.{plane_bit}
 
--- the bits of the word that was written
+-- the bits of the written word
 pub plane_bit-set_same : (words : List ℕ) (plane j x k : ℕ) → j < length words → 2 * (k / 64) + plane ≡ j
     → plane_bit plane (set words j x) k ≡ bit_at x (k % 64)
 unfolding plane_bit
@@ -91,7 +91,7 @@ pub record HoldsRows (n width j : ℕ) (words lows highs : List ℕ) : Type 0 wh
   pub high : (k : ℕ) → k < 64 * j → k < width → plane_bit 1 words k ≡ row_bit highs k
   pub clear : (plane k : ℕ) → plane < 2 → width ≤ k → k < 64 * n → plane_bit plane words k ≡ 0
 
--- and one word more
+-- one more word
 pub one_more : (n width j left : ℕ) (words low high : List ℕ) → length words ≡ 2 * n → j < n → left ≡ width - 64 * j
     → HoldsRows n width j words low high
     → HoldsRows n width (j + 1)
@@ -132,7 +132,7 @@ one_more n width j left words low high sized within is holds =
         ∙ masked_above (get_or high j 0) left (k % 64) (omega arith) (omega arith)
     cleared (suc (suc _)) k which here out = absurd (omega arith)
 
--- planes of zeros hold none
+-- planes of zeros hold no bits
 pub none_held : (n width : ℕ) (low high : List ℕ) → HoldsRows n width 0 (replicate (2 * n) 0) low high
 unfolding plane_bit
 none_held n width low high = record {

@@ -1,4 +1,4 @@
--- The changes before a tick, and what a push at the end of a list makes of it.
+-- The changes before a tick, and the list after a push at its end.
 use Rattle.std.proofs.Common.{◌≡◌, ◌≢◌, ℕ, zero, suc, ◌+◌, ◌<◌, ◌≤◌, Bool, true, false, if◌then◌else◌, cond, nat_le}
 use Rattle.std.proofs.Common.{nat_lt, List, [], ◌∷◌, ◌++◌, length, take, get_or, All, Any, refl, sym, ap, subst, ◌∙◌}
 use Rattle.std.proofs.Common.{◌⊎◌, inl, inr, arith}
@@ -32,7 +32,7 @@ ticks_rise floor before (c ∷ cs) rise zero (suc j) d less within =
 ticks_rise floor before (c ∷ cs) rise (suc i) (suc j) d less within =
     ticks_rise (c.tick + 1) c.value cs rise.3 i j d (omega arith) (omega arith)
 
--- what `partition_point` asks of a wave
+-- the ticks of a wave do not fall, as `partition_point` needs
 pub ticks_do_not_fall : (width : ℕ) (cs : List Change) → IsWave width cs → (i j : ℕ) (d : Change) → i ≤ j
     → j < length cs → (get_or cs i d).tick ≤ (get_or cs j d).tick
 ticks_do_not_fall width cs is i j d le within =
@@ -61,7 +61,7 @@ before_out : (tick : ℕ) (c : Change) (cs : List Change) → tick ≤ c.tick �
 before_out tick c cs late = take_while-cons (λ c. nat_lt c.tick tick) c cs
     ∙ ap (λ b. cond b (c ∷ changes_before tick cs) []) (le-ltb c.tick tick late)
 
--- they are the first n, where n parts the list
+-- the changes before the tick are the first n, where n parts the list
 pub before_is_take : (tick : ℕ) (cs : List Change) (n : ℕ) (d : Change) → n ≤ length cs
     → ((k : ℕ) → k < n → (get_or cs k d).tick < tick)
     → (n < length cs → tick ≤ (get_or cs n d).tick) → changes_before tick cs ≡ take n cs
@@ -108,7 +108,7 @@ value_at_count (c ∷ cs) (suc n) t floor before kept d rise within early late =
     ∙ value_at_count cs n t (c.tick + 1) c.value c.value d rise.3 (omega arith) (λ k l. early (suc k) (omega arith))
     (λ l. late (omega arith))
 
--- before the tick the changes before it tell the value
+-- before the tick, the changes before it give the value
 pub kept_value : (floor tick t : ℕ) (kept before : List Bit) (cs : List Change) → AreChangesFrom floor kept cs
     → t < tick
     → value_from before cs t ≡ value_from before (changes_before tick cs) t
@@ -124,7 +124,7 @@ kept_value floor tick t kept before (c ∷ cs) (from, other, wide, rest) early =
           ∙ ap (λ l. value_from before l t) (sym (before_out tick c cs outside))
     ]
 
--- from the tick on they have their last value
+-- from the tick on, they have their last value
 pub kept_last : (tick t : ℕ) (before : List Bit) (cs : List Change) → tick ≤ t
     → value_from before (changes_before tick cs) t ≡ last_value before (changes_before tick cs)
 unfolding value_from last_value
@@ -145,7 +145,7 @@ kept_rise floor tick before (c ∷ cs) (from, other, wide, rest) =
       | inr outside ↦ rw before_out tt
     ]
 
--- a value that differs from the last of them may be put behind
+-- a value that differs from the last one can be appended
 added_rise : (floor tick : ℕ) (before value : List Bit) (cs : List Change) → AreChangesFrom floor before cs
     → floor ≤ tick → length value ≡ length before
     → value ≢ last_value before (changes_before tick cs)
@@ -187,7 +187,7 @@ upto_added tick value (c ∷ cs) (first, rest) = (first, upto_added tick value c
 
 -- ---- the list after a push
 
--- either nothing is added, or a change with another value than the last
+-- either nothing is added, or a change with a value other than the last
 pushed_cases : (P : List Change → Type 0) (width : ℕ) (cs : List Change) (tick : ℕ) (value : List Bit)
     → (value ≡ last_value (all_x width) (changes_before tick cs) → P (changes_before tick cs))
     → (value ≢ last_value (all_x width) (changes_before tick cs) → P (changes_before tick cs ++ change tick value ∷ []))
@@ -232,7 +232,7 @@ value_at-pushed width cs tick value t is =
           ∙ value_past _ (change tick value) [] t late))
     ]
 
--- at the tick, either the value is the last of them, or a change stands there
+-- at the tick, either the value is the last one, or there is a change
 pub last_before : (floor tick : ℕ) (kept before : List Bit) (cs : List Change) → AreChangesFrom floor kept cs
     → AllUpTo tick cs
     → (value_from before cs tick ≡ last_value before (changes_before tick cs)) ⊎ (changes_before tick cs ≢ cs)
@@ -259,7 +259,7 @@ below_tick tick (c ∷ cs) =
           (λ k d within. absurd (omega arith))
     ]
 
--- where a change stands at the tick, not all are before it
+-- where a change is at the tick, not all are before it
 pub one_at_tick : (tick : ℕ) (cs : List Change) → Any (λ c. c.tick ≡ tick) cs → changes_before tick cs ≢ cs
 one_at_tick tick cs (k, x, within, is, at) same =
     let below : (get_or cs k x).tick < tick =
@@ -283,7 +283,7 @@ unfolding last_value
 last_value-long floor before [] rise = refl
 last_value-long floor before (c ∷ cs) (from, other, wide, rest) = last_value-long (c.tick + 1) c.value cs rest ∙ wide
 
--- the last change stands at the tick, and is taken off
+-- the last change is at the tick, and is removed
 pub taken_off : (width tick : ℕ) (cs : List Change) (n : ℕ) (last : Change) → IsWave width cs → n + 1 ≡ length cs
     → last ≡ get_or cs n last → last.tick ≡ tick
     → changes_before tick cs ≡ take n cs
@@ -293,7 +293,7 @@ taken_off width tick cs n last is all at here =
     (λ k early. omega (arith, ticks_rise 0 (all_x width) cs is.rise k n last early (omega arith)))
     (λ _. omega arith)
 
--- no change stands at the tick
+-- no change is at the tick
 pub all_before : (tick : ℕ) (cs : List Change) (d : Change) → ((k : ℕ) → k < length cs → (get_or cs k d).tick < tick)
     → changes_before tick cs ≡ cs
 all_before tick cs d early = before_is_take tick cs (length cs) d (omega arith) early (λ l. absurd (omega arith))
@@ -308,7 +308,7 @@ unfolding last_value
 last_value-none before [] none = refl
 last_value-none before (c ∷ cs) none = absurd (omega arith)
 
--- the last change stands before the tick
+-- the last change is before the tick
 pub other_tick : (width tick : ℕ) (cs : List Change) (n : ℕ) (last : Change) → IsWave width cs → n + 1 ≡ length cs
     → last ≡ get_or cs n last
     → All (λ c. c.tick ≤ tick) cs → last.tick ≢ tick → cs ≡ changes_before tick cs
@@ -322,7 +322,7 @@ pub none_before : (tick : ℕ) (cs : List Change) → length cs ≡ 0 → cs ≡
 none_before tick [] none = refl
 none_before tick (c ∷ cs) none = absurd (omega arith)
 
--- after the changes before the tick were kept
+-- a push after the changes before the tick
 pub pushed_same : (width : ℕ) (cs : List Change) (tick : ℕ) (value : List Bit) (kept : List Change)
     → kept ≡ changes_before tick cs
     → same_letters value (last_value (all_x width) kept) ≡ true → kept ≡ changes_after_push width cs tick value
@@ -359,7 +359,7 @@ upto_last floor before (c ∷ rest) last rise =
     rise_to_last floor before (c ∷ rest) last rise =
         omega (arith, rise.0, rise_to_last (c.tick + 1) c.value rest last rise.3)
 
--- so the last tick tells whether all are up to the end
+-- so the last tick shows whether all changes are up to the end
 pub upto_from_last : (floor : ℕ) (before : List Bit) (end : ℕ) (cs rest : List Change) (last : Change)
     → AreChangesFrom floor before cs → cs ≡ rest ++ last ∷ [] → last.tick ≤ end → AllUpTo end cs
 upto_from_last floor before end cs rest last rise split le =

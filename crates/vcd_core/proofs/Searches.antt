@@ -1,4 +1,4 @@
--- A place among rising ticks tells which changes are at most a tick, and which later.
+-- A place among rising ticks shows which changes are at most a tick, and which are later.
 use Rattle.std.proofs.Common.{◌≡◌, ℕ, ◌+◌, ◌-◌, ◌<◌, ◌≤◌, Bool, true, false, nat_le, List, length, take, drop, get_or}
 use Rattle.std.proofs.Common.{All, slice_range, sym, ap, ◌∙◌, arith, inl, inr}
 use Rattle.std.specs.List.{count_by}
@@ -9,7 +9,7 @@ use Rattle.vcd_core.specs.Wave.{IsWave}
 use Rattle.vcd_core.proofs.Pushes.{ticks_do_not_fall, count_is, no_change}
 
 module _ (width : ℕ) (cs : List Change) (is : IsWave width cs) (tick : ℕ) where
-  -- the changes before one that is at most a tick are so too
+  -- where a change is at most a tick, so are those before it
   pub early_before : (place : ℕ) (last : Change) → 0 < place → place ≤ length cs
       → (get_or cs (place - 1) last).tick ≤ tick → All (λ c. c.tick ≤ tick) (take place cs)
   early_before place last some within early k d inside =
@@ -22,7 +22,7 @@ module _ (width : ℕ) (cs : List Change) (is : IsWave width cs) (tick : ℕ) wh
       ap (λ (c : Change). c.tick) (get_or_default cs (place - 1) d last (omega arith)) in
       omega (arith, read, rise, here, early)
 
-  -- those from one on that is later than a tick are later too
+  -- where a change is later than a tick, so are those after it
   pub late_from : (place : ℕ) (first : Change) → place < length cs → tick < (get_or cs place first).tick
       → All (λ c. tick < c.tick) (drop place cs)
   late_from place first within late k d inside =
@@ -52,8 +52,8 @@ module _ (width : ℕ) (cs : List Change) (is : IsWave width cs) (tick : ℕ) wh
         ticks_do_not_fall width cs is (from + i) (from + j) d (omega arith) (omega (arith, long)),
       )
 
-  -- a point that parts a part of the changes counts all that are at most a tick, where those before the part are so and
-  -- those behind it are later
+  -- a point that parts a part of the changes counts all that are at most a tick, where those before the part are, and
+  -- those after it are later
   pub point_counts : (from to n : ℕ) → from ≤ to → to ≤ length cs → n ≤ length (slice_range cs from to)
       → All (λ c. c.tick ≤ tick) (take from cs) → All (λ c. tick < c.tick) (drop to cs)
       → ((k : ℕ) → k < n → nat_le (get_or (slice_range cs from to) k no_change).tick tick ≡ true)

@@ -1,4 +1,4 @@
--- Changes that come down or go up within their list, each with its new tick.
+-- Changes that move down or up within their list, each with its new tick.
 use Rattle.std.proofs.Common.{◌≡◌, ℕ, ◌+◌, ◌-◌, ◌<◌, ◌≤◌, ℤ, List, [], ◌∷◌, ◌++◌, length, take, drop, map, get_or}
 use Rattle.std.proofs.Common.{subst, sym, ap, ◌∙◌, arith}
 use Rattle.std.proofs.Math.ListN.{set}
@@ -10,9 +10,9 @@ use Rattle.std.proofs.lemmas.List.{map-append, drop_more}
 use Rattle.vcd_core.specs.declared.wave.Change.{Change}
 use Rattle.vcd_core.specs.Splice.{moved_change, TickFits, AllTicksFit}
 
--- ---- down: the first k changes from `to` on stand from `from` on
+-- ---- down: the first k changes from `to` on are from `from` on
 
--- the list then
+-- the list after the move
 abbrev pub pulled : (Change → Change) → List Change → ℕ → ℕ → ℕ → List Change
 pulled f xs from to k = take from xs ++ map f (take k (drop to xs)) ++ drop (from + k) xs
 
@@ -71,7 +71,7 @@ module _ (f : Change → Change) (xs : List Change) (from to : ℕ) (ordered : f
       ∙ (λ p. (append_assoc (take from xs) (map f (take k (drop to xs))) (f x ∷ []) ∙ ap (λ l. take from xs ++ l) more)
       p ++ drop (following p) xs)
 
--- ---- up: the changes from `left` on, but the last `gap`, stand `gap` places higher
+-- ---- up: the changes from `left` on, but the last `gap`, are `gap` places higher
 
 abbrev pub lifted : (Change → Change) → List Change → ℕ → ℕ → ℕ → List Change
 lifted f xs n gap left = take (left + gap) xs ++ map f (drop left (take n xs))
@@ -108,9 +108,9 @@ module _ (f : Change → Change) (xs : List Change) (n gap : ℕ) (all : n + gap
       ∙ set-append_seam front (get_or xs (before + gap) x) (map f (drop left (take n xs))) (f x)
       ∙ ap (λ l. front ++ map f l) (sym rest)
 
--- ---- what the loops do
+-- ---- the steps of the loops
 
--- the next change to come down has a tick that fits, and it is put in its place
+-- the next change to move down has a tick that fits, and is put in its place
 module _ (at : ℤ) (xs ys : List Change) (from to i : ℕ) (d : Change) (ordered : from ≤ to) (following : to ≤ i)
     (within : i < length xs) (is : ys ≡ pulled (moved_change at) xs from to (i - to)) where
   same_change : get_or ys i d ≡ get_or xs i d
@@ -134,7 +134,7 @@ module _ (at : ℤ) (xs ys : List Change) (from to i : ℕ) (d : Change) (ordere
       (omega arith) is read
       ∙ ap (pulled (moved_change at) xs from to) count
 
--- the same of the next change to go up
+-- the same for the next change to move up
 module _ (at : ℤ) (xs ys : List Change) (n gap left : ℕ) (d : Change) (all : n + gap ≡ length xs) (some : 0 < left)
     (within : left ≤ n) (is : ys ≡ lifted (moved_change at) xs n gap left) where
   same_below : get_or ys (left - 1) d ≡ get_or xs (left - 1) d
@@ -160,7 +160,7 @@ module _ (at : ℤ) (xs ys : List Change) (n gap left : ℕ) (d : Change) (all :
       ap (set ys (left - 1 + gap)) told
       ∙ one_lifted (moved_change at) xs n gap all ys left (left - 1) x (omega arith) within is read
 
--- a piece that was put behind a list goes into the gap
+-- a piece that was appended to a list moves into the gap
 pub put_into_gap : (f : Change → Change) (xs piece whole lifts list new : List Change) (from gap : ℕ)
     → gap ≡ length piece → from ≤ length xs → whole ≡ xs ++ piece
     → lifts ≡ take (from + gap) whole ++ map f (drop from (take (length whole - gap) whole)) → list ≡ lifts

@@ -1,4 +1,4 @@
--- Lists after a part of one and a piece changed places, and the splice that undoes a splice.
+-- Lists after a range of one and a piece were swapped, and the splice that undoes a splice.
 use Rattle.std.proofs.Common.{◌≡◌, ℕ, ◌+◌, ◌-◌, ◌^◌, ◌<◌, ◌≤◌, All, ℤ, pos, ◌+ℤ◌, unsigned_abs, List, [], ◌∷◌, ◌++◌}
 use Rattle.std.proofs.Common.{length, take, drop, map, slice_range, Option, Some, None, SomeIff, is_some, true, subst}
 use Rattle.std.proofs.Common.{refl, sym, ap, ◌∙◌, arith}
@@ -15,7 +15,7 @@ use Rattle.vcd_core.specs.Splice.{moved_change, TickFits, AllTicksFit, spliced_c
 
 -- ---- the first changes of a piece for as many of a list
 
--- the list and the piece then
+-- the list and the piece after the swap
 module _ (xs piece list : List Change) (from to n : ℕ) (some : n ≤ length piece) (ordered : from + n ≤ to)
     (within : to ≤ length xs) (is : list ≡ take from xs ++ take n piece ++ drop (from + n) xs) where
   front_long : length (take from xs ++ take n piece) ≡ from + n
@@ -39,7 +39,7 @@ module _ (xs piece list : List Change) (from to n : ℕ) (some : n ≤ length pi
   later_fit by at same fits =
       subst (AllTicksFit at) (sym later_stay) (subst (λ z. AllTicksFit z (drop to xs)) (sym same) fits)
 
-  -- the piece is the shorter one: the rest of the part goes to it
+  -- the piece is shorter: the rest of the range goes to it
   module _ (all : n ≡ length piece) where
     pub spliced_without_rest : (by at : ℤ) (new : List Change) → at ≡ by
         → new ≡ take (from + n) list ++ map (moved_change at) (drop to list) → new ≡ spliced_changes xs from to piece by
@@ -61,7 +61,7 @@ module _ (xs piece list : List Change) (from to n : ℕ) (some : n ≤ length pi
         ∙ sym (take-add n (to - (from + n)) (drop from xs))
         ∙ ap (λ k. take k (drop from xs)) {x = n + (to - (from + n))} {y = to - from} (omega arith)
 
-  -- the part is the shorter one: the rest of the piece follows its front
+  -- the range is shorter: the rest of the piece follows its front
   pub spliced_with_rest : (by at : ℤ) (new held : List Change) → from + n ≡ to → at ≡ by
       → held ≡ take n (drop from xs) ++ drop n piece
       → new ≡ take to list ++ drop n held ++ map (moved_change at) (drop to list)
@@ -95,7 +95,7 @@ tick_is tick by at sum later same told is =
     (subst (λ o. SomeIff o (FitsUnsigned w64 (pos tick +ℤ at)) (unsigned_abs (pos tick +ℤ at))) is told).1
     ∙ ap (λ z. unsigned_abs (pos tick +ℤ z)) same
 
--- what a slice leaves in its list, where it is the whole list
+-- the list after a slice that is the whole list was replaced
 pub whole_list : (n : ℕ) (new old : List Change) → n ≡ length new → take n (new ++ drop (length new) old) ≡ new
 whole_list n new old all = take-append-le n new (drop (length new) old) (omega arith) ∙ take_all n new (omega arith)
 
@@ -130,7 +130,7 @@ moved_back by back (c ∷ cs) opposite fit =
     let tail = moved_back by back cs opposite (All-tail (TickFits by) c cs fit) in
     λ i. head i ∷ tail i
 
--- a tick that was moved may move back
+-- a tick that was moved can move back
 tick_fits_back : (by back : ℤ) (c : Change) → c.tick < 2 ^ 64 → by +ℤ back ≡ pos 0 → TickFits by c
     → TickFits back (moved_change by c)
 unfolding moved_change TickFits
@@ -161,7 +161,7 @@ module _ (cs piece : List Change) (from to : ℕ) (by back : ℤ) (ordered : fro
       ∙ ap (λ l. l ++ map (moved_change by) (drop to cs))
       (drop_all (from + length piece) (take from cs ++ piece) (omega (arith, both_are)))
 
-  -- its first ones
+  -- the first changes of a splice
   first_of-spliced : take from (spliced_changes cs from to piece by) ≡ take from cs
   unfolding spliced_changes
   first_of-spliced =
@@ -169,7 +169,7 @@ module _ (cs piece : List Change) (from to : ℕ) (by back : ℤ) (ordered : fro
       ∙ take-append-le from (take from cs) piece (omega (arith, front_is))
       ∙ take_all from (take from cs) (omega (arith, front_is))
 
-  -- the piece stands in it
+  -- the piece within a splice
   pub piece_of-spliced : slice_range (spliced_changes cs from to piece by) from (from + length piece) ≡ piece
   unfolding spliced_changes
   piece_of-spliced =
@@ -182,7 +182,7 @@ module _ (cs piece : List Change) (from to : ℕ) (by back : ℤ) (ordered : fro
       ∙ ap (λ k. take k (piece ++ rest)) {x = from + length piece - from} {y = length piece} (omega arith)
       ∙ take-append_seam piece rest
 
-  -- the splice of what went out, with the opposite offset
+  -- the splice of the replaced changes, with the opposite offset
   pub spliced_back : AllTicksFit by (drop to cs) → by +ℤ back ≡ pos 0
       → spliced_changes (spliced_changes cs from to piece by) from (from + length piece) (slice_range cs from to) back
       ≡ cs
@@ -197,12 +197,12 @@ module _ (cs piece : List Change) (from to : ℕ) (by back : ℤ) (ordered : fro
       ∙ ap (λ l. take from cs ++ l) (sym (drop_split cs from to ordered))
       ∙ take-append-drop from cs
 
-  -- the piece stands within the list
+  -- the piece is within the list
   pub back_within : from + length piece ≤ length (spliced_changes cs from to piece by)
   unfolding spliced_changes
   back_within = omega (arith, both_are, length-append (take from cs ++ piece) (map (moved_change by) (drop to cs)))
 
-  -- the later ticks may move back
+  -- the later ticks can move back
   pub back_fits : All (λ c. c.tick < 2 ^ 64) cs → AllTicksFit by (drop to cs) → by +ℤ back ≡ pos 0
       → AllTicksFit back (drop (from + length piece) (spliced_changes cs from to piece by))
   back_fits small fit opposite =

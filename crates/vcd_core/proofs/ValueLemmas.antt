@@ -26,7 +26,7 @@ letter_of-letter One = refl
 letter_of-letter X = refl
 letter_of-letter Z = refl
 
--- a value is known by its letters
+-- two values with the same letters are equal
 pub same_letter_at : (v w : List Bit) → length v ≡ length w → ((k : ℕ) → k < length v → letter_at v k ≡ letter_at w k)
     → v ≡ w
 same_letter_at v w long same = ext_get_or X v w long (λ i within.
@@ -49,7 +49,7 @@ pub length-letters_of : (width : ℕ) (low high : List ℕ) → length (letters_
 unfolding letters_of
 length-letters_of width low high = length-map-range_with_len _ 0 width
 
--- the letter at bit k is that of the rows' bits k
+-- the letter at bit k is that of the bits k of the rows
 pub letter_at-letters_of : (width : ℕ) (low high : List ℕ) (k : ℕ) → k < width
     → letter_at (letters_of width low high) k ≡ letter_of (row_bit low k) (row_bit high k)
 unfolding letters_of
@@ -104,7 +104,7 @@ letter_at-set_other v k i b within inside apart =
     ap (λ n. get_or (set v (length v - 1 - k) b) (n - 1 - i) X) (length-set v _ b)
     ∙ get_or-set_other v (length v - 1 - k) (length v - 1 - i) b X differs
 
--- the words in use tell the letters
+-- the words in use determine the letters
 pub same_words : (width m : ℕ) (xs ys : List ℕ) → width ≤ 64 * m → take (2 * m) xs ≡ take (2 * m) ys
     → letters_in width xs ≡ letters_in width ys
 unfolding plane_bit
@@ -122,7 +122,7 @@ same_words width m xs ys fits same =
         ap (λ w. bit_at w (k % 64)) (sym (get_or-take (2 * m) xs i 0 within) ∙ ap (λ l. get_or l i 0) same
         ∙ get_or-take (2 * m) ys i 0 within)
 
--- what the planes of a value tell of its letters
+-- the letters of a value, from its planes
 module _ (v : List Bit) (inside : Inside) (is : IsValue inside) (shows : view_value inside ≡ v) where
   pub length-shown : length v ≡ inside.width
   unfolding view_value
@@ -187,7 +187,7 @@ module _ (v : List Bit) (inside : Inside) (is : IsValue inside) (shows : view_va
       small : bit_and w (2 ^ min inside.width 64 - 1) < 2 ^ 64
       small = omega (arith, mask_lt w (min inside.width 64), pow_mono {i = min inside.width 64} {j = 64} (omega arith))
 
-  -- and such words give the letters
+  -- such words give the letters
   pub letters_by_first_words : (low high mask : ℕ) → length v ≤ 64 → mask ≡ 2 ^ min inside.width 64 - 1
       → get_or inside.planes 0 0 ≡ bit_and low mask → get_or inside.planes 1 0 ≡ bit_and high mask
       → letters_of (length v) (low ∷ []) (high ∷ []) ≡ v

@@ -40,7 +40,7 @@ value_early before kept (c ∷ cs) floor t (from, other, wide, rest) early =
 
 -- ---- the list of changes of a function
 
--- a change is put where the values differ
+-- a change is listed where the values differ
 pub put_cases : (P : List Change → Type 0) (v before : List Bit) (c : Change) (cs : List Change)
     → (v ≡ before → P cs) → (v ≢ before → P (c ∷ cs)) → P (unless_same (same_letters v before) c cs)
 put_cases P v before c cs same other = choose (same_letters v before) refl
@@ -50,7 +50,7 @@ put_cases P v before c cs same other = choose (same_letters v before) refl
     choose false e = other (λ equal. let both : true ≡ false = sym ((same_letters-Decides v before).1 equal) ∙ e in
         absurd (cc))
 
--- a canonical list with the values of f is the list of changes of f
+-- a list in the one form of a wave, with the values of f, is the list of changes of f
 pub changes_are : (before : List Bit) (t n end : ℕ) (cs : List Change) (f : ℕ → List Bit)
     → t + n ≡ suc end → AreChangesFrom t before cs → AllUpTo end cs
     → ((s : ℕ) → t ≤ s → s ≤ end → value_from before cs s ≡ f s)
@@ -113,7 +113,7 @@ pub waves_equal : (width end : ℕ) (xs ys : List Change) → IsWave width xs �
 waves_equal width end xs ys is_xs is_ys xs_upto ys_upto same =
     wave_is width end xs (value_at width ys) is_xs xs_upto same ∙ changes_of-value_at width end ys is_ys ys_upto
 
--- the changes from a tick on say nothing of the ticks before
+-- the changes from a tick on do not depend on the ticks before
 changes_later : (kept before : List Bit) (t n s : ℕ) (f : ℕ → List Bit) → s < t
     → value_from kept (changes_from before t n f) s ≡ kept
 unfolding changes_from value_from
@@ -137,7 +137,7 @@ values_from before t (suc n) s f from to =
     (λ equal. subst (λ b. value_from b (changes_from (f t) (suc t) n f) s ≡ f s) equal here)
     (λ _. value_past before (change t (f t)) (changes_from (f t) (suc t) n f) s from ∙ here)
 
--- the value at a tick of the changes of f is f there
+-- the changes of f have its value at each tick
 pub value_at-changes_of : (width end t : ℕ) (f : ℕ → List Bit) → t ≤ end
     → value_at width (changes_of width end f) t ≡ f t
 value_at-changes_of width end t f to = values_from (all_x width) 0 (suc end) t f (omega arith) (omega arith)
@@ -180,7 +180,7 @@ changes_end_from before t (suc n) end f within =
     put_cases (λ l. AllUpTo end l) (f t) before (change t (f t)) (changes_from (f t) (suc t) n f) (λ _. rest)
     (λ _. (omega arith, rest))
 
--- and none is past the end
+-- no change of f is past the end
 pub changes_end : (width end : ℕ) (f : ℕ → List Bit) → AllUpTo end (changes_of width end f)
 changes_end width end f = changes_end_from (all_x width) 0 (suc end) end f (omega arith)
 

@@ -1,4 +1,4 @@
--- Edges of several waves of one bit, an absent wave among them having no bit: the project's own.
+-- Edges of several waves of one bit, where an absent wave has no bit: the project's own.
 use Rattle.std.specs.Prelude.{ℕ, ◌≡◌, Option, List, [], ◌∷◌, map, IfSome}
 use Rattle.std.specs.Option.{option_map}
 use Rattle.vcd_core.specs.declared.bit.Bit.{Bit}
@@ -20,11 +20,11 @@ bit_edge e = record { tick = e.tick; before = map lowest_bit e.before; at = map 
 abbrev pub bit_edges_of : List (Option WaveView) → ℕ → List BitEdge
 bit_edges_of waves end = map bit_edge (edges_of waves end)
 
--- a wave of one bit, where it is there
+-- a wave of one bit, where it is present
 abbrev pub IsOneBit : Option WaveView → Type 0
 IsOneBit wave = IfSome wave (λ w. w.width ≡ 1)
 
--- each wave that is there has one bit
+-- each wave that is present has one bit
 abbrev pub EachOneBit : List (Option WaveView) → Type 0
 EachOneBit [] = Unit {0}
 EachOneBit (wave ∷ waves) = IsOneBit wave × EachOneBit waves

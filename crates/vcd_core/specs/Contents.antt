@@ -9,7 +9,7 @@ use Rattle.vcd_core.specs.declared.wave.Change.{Change}
 use Rattle.vcd_core.specs.declared.bit.Bit.{Bit}
 use Rattle.vcd_core.specs.Wave.{value_at}
 
--- a signal by what it holds: the room of its wave is left out
+-- the contents of a signal, without the room of its wave
 pub record SignalContents : Type 0 where
   pub scopes : List ScopeName
   pub kind : List ℕ
@@ -17,22 +17,22 @@ pub record SignalContents : Type 0 where
   pub width : ℕ
   pub changes : List Change
 
--- a capture by what it holds
+-- the contents of a capture
 pub record Contents : Type 0 where
   pub header : List Header
   pub timescale : Option Timescale
   pub end : ℕ
   pub signals : List SignalContents
 
--- what a signal holds
+-- the contents of a signal
 abbrev pub signal_contents : Signal → SignalContents
 signal_contents s = record { scopes = s.scopes; kind = s.kind; words = s.words; width = s.wave.width; changes = s.wave.changes }
 
--- what a capture holds
+-- the contents of a capture
 abbrev pub contents : Capture → Contents
 contents c = record { header = c.header; timescale = c.timescale; end = c.end; signals = map signal_contents c.signals }
 
--- stands for a signal where there is none
+-- the default where there is no signal
 abbrev pub no_signal : SignalContents
 no_signal = record { scopes = []; kind = []; words = []; width = 1; changes = [] }
 

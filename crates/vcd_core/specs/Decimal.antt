@@ -4,7 +4,7 @@ use Rattle.std.specs.List.{list_all}
 use Rattle.std.specs.Char.{is_ascii_digit}
 use Rattle.std.specs.Str.Parse.{digits_value}
 
--- whether a text is a decimal number: one or more of the digits 0 to 9, and nothing else
+-- whether a text is a decimal number: one or more of the digits 0 to 9 alone
 abbrev pub is_number : List ℕ → Bool
 is_number text = not (length text == 0) && list_all is_ascii_digit text
 
@@ -12,6 +12,6 @@ is_number text = not (length text == 0) && list_all is_ascii_digit text
 abbrev pub number_of : List ℕ → ℕ
 number_of text = digits_value 10 text
 
--- the number that a text writes, where `most` stands for every greater one; none where it is no decimal number
+-- the number that a text writes, `most` for every greater one; none where it is no number
 abbrev pub number_up_to : List ℕ → ℕ → Option ℕ
 number_up_to text most = if is_number text then Some (min (number_of text) most) else None

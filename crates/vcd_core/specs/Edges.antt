@@ -1,4 +1,4 @@
--- Edges of several waves, an absent wave among them having no value: the project's own.
+-- Edges of several waves, where an absent wave has no value: the project's own.
 use Rattle.std.specs.Prelude.{ℕ, zero, suc, Bool, Option, Some, None, true, false, not, List, [], ◌∷◌, map, filter, IfSome}
 use Rattle.std.specs.List.{list_any, range_with_len}
 use Rattle.std.specs.Option.{option_map}
@@ -23,7 +23,7 @@ trace_of (Some w) = record { before = Some (all_x w.width); changes = w.changes 
 abbrev pub value_on : Trace → ℕ → Option (List Bit)
 value_on l t = option_map (λ v. value_from v l.changes t) l.before
 
--- and just before one
+-- its value just before a tick
 abbrev pub value_before : Trace → ℕ → Option (List Bit)
 value_before l zero = l.before
 value_before l (suc t) = value_on l t
@@ -35,7 +35,7 @@ same_value None (Some w) = false
 same_value (Some v) None = false
 same_value (Some v) (Some w) = same_letters v w
 
--- whether it has another value at a tick than just before
+-- whether its value at a tick differs from that just before
 abbrev pub changes_at : ℕ → Trace → Bool
 changes_at t l = not (same_value (value_on l t) (value_before l t))
 

@@ -1,4 +1,4 @@
--- The names of the faults of a device that is read whole: the project's own.
+-- The names of the faults of a whole read: the project's own.
 use Rattle.std.specs.Prelude.{ℕ, List, codes}
 use Rattle.vcd_core.specs.declared.device.whole.Incomplete.{Incomplete}
 use Rattle.vcd_core.specs.declared.device.whole.Incomplete.TheVariants as faults

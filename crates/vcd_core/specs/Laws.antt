@@ -1,4 +1,4 @@
--- What the laws of waves and splices say: each is the contract of a function of `laws`.
+-- The laws of waves and splices: each is the contract of a function of `laws`.
 use Rattle.std.specs.Prelude.{ℕ, ◌+◌, ◌^◌, ◌≡◌, ◌<◌, ◌≤◌, ℤ, pos, ◌+ℤ◌, List, length, drop, slice_range, All}
 use Rattle.vcd_core.specs.declared.bit.Bit.{Bit}
 use Rattle.vcd_core.specs.declared.wave.Change.{Change}
@@ -16,18 +16,18 @@ abbrev pub ChangesOfOwnValues : Type 0
 ChangesOfOwnValues =
     (width end : ℕ) (xs : List Change) → IsWave width xs → AllUpTo end xs → changes_of width end (value_at width xs) ≡ xs
 
--- the value at a tick of the changes of f is f there
+-- the changes of f have its value at each tick
 abbrev pub ValuesOfChanges : Type 0
 ValuesOfChanges =
     (width end t : ℕ) (f : ℕ → List Bit) → t ≤ end → value_at width (changes_of width end f) t ≡ f t
 
--- the changes of f are a wave up to the end, where the values have its width
+-- the changes of f are a wave up to the end, where its values have the width
 abbrev pub ChangesAreWave : Type 0
 ChangesAreWave =
     (width end : ℕ) (f : ℕ → List Bit) → ((t : ℕ) → length (f t) ≡ width)
     → IsWave width (changes_of width end f) × AllUpTo end (changes_of width end f)
 
--- a splice, and then the splice of what it gave out, with the opposite offset: both lists are as they were
+-- the splice that undoes a splice restores both lists
 abbrev pub SpliceAndBack : Type 0
 SpliceAndBack =
     (changes piece : List Change) (from to : ℕ) (by back : ℤ) → from ≤ to → to ≤ length changes
@@ -35,7 +35,7 @@ SpliceAndBack =
     → (spliced_changes (spliced_changes changes from to piece by) from (from + length piece) (slice_range changes from to) back ≡ changes)
     × (slice_range (spliced_changes changes from to piece by) from (from + length piece) ≡ piece)
 
--- and the conditions of that second splice hold: the piece stands within the list, the ticks fit, and a wave is a wave again
+-- the splice that undoes an allowed splice is allowed: the piece is in range, the ticks fit, and the result is a wave
 abbrev pub SpliceBackIsAllowed : Type 0
 SpliceBackIsAllowed =
     (width : ℕ) (changes piece : List Change) (from to : ℕ) (by back : ℤ) → from ≤ to → to ≤ length changes

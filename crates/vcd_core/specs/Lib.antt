@@ -1,4 +1,4 @@
--- The definitions that contracts cite. Those that a reader need not believe stand in `inside`.
+-- The definitions that contracts cite. Those that a reader need not believe are in `inside`.
 pub mod Lending
 pub mod WaveView
 pub mod Value

@@ -6,11 +6,11 @@ use Rattle.vcd_core.specs.declared.capture.ScopeName.{ScopeName}
 use Rattle.vcd_core.specs.Contents.{SignalContents}
 use Rattle.vcd_core.specs.Decimal.{is_number, number_of}
 
--- the name of a scope, its words run together; empty where it has none
+-- the name of a scope, its words run together; empty where it has no words
 abbrev pub scope_text : ScopeName → List ℕ
 scope_text scope = concat scope.words
 
--- the full name of what has these words in these scopes: the names of the scopes and its own, joined by `.` (46)
+-- the full name of these words in these scopes: the names of the scopes and its own, joined by `.` (46)
 unfoldable pub name_in : List ScopeName → List (List ℕ) → List ℕ
 name_in scopes words = join_with_byte 46 (map scope_text scopes ++ concat words ∷ [])
 
@@ -27,11 +27,11 @@ abbrev pub is_numbered : List ℕ → Bool
 is_numbered [] = false
 is_numbered (c ∷ digits) = c == 64 && is_number digits
 
--- the number behind the `@` of such a name
+-- the number after the `@` of such a name
 abbrev pub number_in : List ℕ → ℕ
 number_in name = number_of (drop 1 name)
 
--- the position that a name stands for: k where it is `@k` and there is a signal k, else the first full name that it is
+-- the position that a name names: k for `@k` where there is a signal k, or the first with that full name
 unfoldable pub lookup : List SignalContents → List ℕ → Option ℕ
 lookup signals name =
     if is_numbered name && nat_lt (number_in name) (length signals)

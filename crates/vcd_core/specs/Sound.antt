@@ -1,4 +1,4 @@
--- The captures that a file can say: the project's own, after the format (IEEE 1364-2005, 18.2).
+-- The captures that a file can represent: the project's own, after the format (IEEE 1364-2005, 18.2).
 use Rattle.std.specs.Prelude.{ℕ, Bool, not, ◌&&◌, ◌||◌, ◌==◌, ◌<◌, ◌≤◌, length, All, IfSome, IsTrue}
 use Rattle.std.specs.List.{list_all}
 use Rattle.vcd_core.specs.declared.capture.Header.{Header}
@@ -10,11 +10,11 @@ use Rattle.vcd_core.specs.Word.{is_word, is_skipped_kind}
 use Rattle.vcd_core.specs.Wave.{IsWave, AllUpTo}
 use Rattle.vcd_core.specs.Contents.{Contents, SignalContents}
 
--- a header entry that a file can say: words alone
+-- a header entry that a file can represent: words alone
 abbrev pub is_sound_header : Header → Bool
 is_sound_header h = list_all is_word h.words
 
--- a scope that a file can say: its kind is a word, and so is each word of its name
+-- a scope that a file can represent: its kind and its name are words
 abbrev pub is_sound_scope : ScopeName → Bool
 is_sound_scope s = is_word s.kind && list_all is_word s.words
 
@@ -22,7 +22,7 @@ is_sound_scope s = is_word s.kind && list_all is_word s.words
 abbrev pub is_sound_timescale : Timescale → Bool
 is_sound_timescale t = t.count == 1 || t.count == 10 || t.count == 100
 
--- a signal that a file can say: a kept kind, a name, a width within the limit, and no change past the end
+-- a signal that a file can represent: a kept kind, a name, a width within the limit, and no change past the end
 pub record IsSoundSignal (end : ℕ) (s : SignalContents) : Type 0 where
   pub scopes : IsTrue (list_all is_sound_scope s.scopes)
   pub kind : IsTrue (is_word s.kind)
@@ -34,7 +34,7 @@ pub record IsSoundSignal (end : ℕ) (s : SignalContents) : Type 0 where
   pub wave : IsWave s.width s.changes
   pub ticks : AllUpTo end s.changes
 
--- a capture that a file can say
+-- a capture that a file can represent
 pub record IsSound (c : Contents) : Type 0 where
   pub header : IsTrue (list_all is_sound_header c.header)
   pub timescale : IfSome c.timescale (λ t. IsTrue (is_sound_timescale t))

@@ -8,14 +8,14 @@ use Rattle.vcd_core.specs.Wave.{change}
 unfoldable pub moved_change : ℤ → Change → Change
 moved_change by c = change (unsigned_abs (pos c.tick +ℤ by)) c.value
 
--- its tick is then from 0 to 2^64 - 1
+-- whether its new tick is from 0 to 2^64 - 1
 unfoldable pub TickFits : ℤ → Change → Type 0
 TickFits by c = FitsUnsigned w64 (pos c.tick +ℤ by)
 
--- and so is that of every change
+-- whether every new tick is
 abbrev pub AllTicksFit : ℤ → List Change → Type 0
 AllTicksFit by changes = All (TickFits by) changes
 
--- the changes at positions `from` up to before `to` give way to a piece, and the later ones move by `by` ticks
+-- the list with a piece in place of the changes from `from` to before `to`, and the later ones moved by `by` ticks
 unfoldable pub spliced_changes : List Change → ℕ → ℕ → List Change → ℤ → List Change
 spliced_changes changes from to piece by = take from changes ++ piece ++ map (moved_change by) (drop to changes)

@@ -1,9 +1,9 @@
--- How the units of timescales are spelled (IEEE 1364-2005, 18.2).
+-- The spelling of the units of timescales (IEEE 1364-2005, 18.2).
 use Rattle.std.specs.Prelude.{ℕ, List, codes}
 use Rattle.vcd_core.specs.declared.capture.TimeUnit.{TimeUnit}
 use Rattle.vcd_core.specs.declared.capture.TimeUnit.TheVariants.{Second, Millisecond, Microsecond, Nanosecond, Picosecond, Femtosecond}
 
--- a unit of time as it is spelled
+-- the spelling of a unit of time
 abbrev pub unit_text : TimeUnit → List ℕ
 unit_text Second = codes "s"
 unit_text Millisecond = codes "ms"

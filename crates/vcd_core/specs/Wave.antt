@@ -1,4 +1,4 @@
--- A wave as the list of its changes: its value at a tick, the one form that it has, and a push at its end.
+-- A wave as the list of its changes: its value at a tick, its one form, and a push at its end.
 use Rattle.std.specs.Prelude.{ℕ, zero, suc, Bool, ◌+◌, ◌≡◌, ◌≢◌, ◌≤◌, true, false, if◌then◌else◌, nat_le, nat_lt, List, [], ◌∷◌, ◌++◌, length, take_while}
 use Rattle.vcd_core.specs.declared.bit.Bit.{Bit}
 use Rattle.vcd_core.specs.declared.wave.Change.{Change}
@@ -8,7 +8,7 @@ use Rattle.vcd_core.specs.Value.{all_x, same_letters}
 abbrev pub change : ℕ → List Bit → Change
 change tick value = record { tick = tick; value = value }
 
--- the value at a tick: that of the last change at or before it, else `before`
+-- the value at a tick: that of the last change at or before it, or else `before`
 unfoldable pub value_from : List Bit → List Change → ℕ → List Bit
 value_from before [] t = before
 value_from before (c ∷ cs) t = value_from (if nat_le c.tick t then c.value else before) cs t
@@ -17,7 +17,7 @@ value_from before (c ∷ cs) t = value_from (if nat_le c.tick t then c.value els
 abbrev pub value_at : ℕ → List Change → ℕ → List Bit
 value_at width changes t = value_from (all_x width) changes t
 
--- a change is listed where the value is another than the one before
+-- a change is listed where the value differs from the one before
 abbrev pub unless_same : Bool → Change → List Change → List Change
 unless_same true c cs = cs
 unless_same false c cs = c ∷ cs
@@ -36,7 +36,7 @@ abbrev pub AreChangesFrom : ℕ → List Bit → List Change → Type 0
 AreChangesFrom floor before [] = Unit {0}
 AreChangesFrom floor before (c ∷ cs) = (floor ≤ c.tick) × (c.value ≢ before) × (length c.value ≡ length before) × AreChangesFrom (c.tick + 1) c.value cs
 
--- a change list in the one form that a wave of this width has
+-- a list of changes in the one form of a wave of this width
 pub record IsWave (width : ℕ) (changes : List Change) : Type 0 where
   pub rise : AreChangesFrom 0 (all_x width) changes
 

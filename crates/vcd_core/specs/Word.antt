@@ -15,7 +15,7 @@ is_word bytes = not (length bytes == 0) && list_all (λ b. not (is_white_space b
 abbrev pub is_one_of : List (List ℕ) → List ℕ → Bool
 is_one_of words word = list_any (bytes_eq word) words
 
--- the kinds whose variables are skipped: their values are no four-state values, or they have none
+-- the kinds whose variables are skipped: they have no four-state values
 abbrev pub skipped_kinds : List (List ℕ)
 skipped_kinds = codes "real" ∷ codes "realtime" ∷ codes "real_parameter" ∷ codes "shortreal" ∷ codes "event" ∷ codes "string" ∷ []
 

@@ -10,7 +10,7 @@ use Rattle.vcd_core.specs.Value.{letter_at}
 unfoldable pub row_bit : List ℕ → ℕ → ℕ
 row_bit words k = bit_at (slice_index words (k / 64)) (k % 64)
 
--- the letter that a low and a high bit stand for
+-- the letter with this low and high bit
 abbrev pub letter_of : ℕ → ℕ → Bit
 letter_of zero zero = Zero
 letter_of (suc _) zero = One
@@ -31,7 +31,7 @@ high_of One = 0
 high_of X = 1
 high_of Z = 1
 
--- the letters whose low and high bits two rows hold, most significant first
+-- the letters whose low and high bits are in two rows, most significant first
 unfoldable pub letters_of : ℕ → List ℕ → List ℕ → List Bit
 letters_of width low high = map (λ i. letter_of (row_bit low (width - 1 - i)) (row_bit high (width - 1 - i))) (range_with_len 0 width)
 

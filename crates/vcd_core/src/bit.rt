@@ -1,3 +1,5 @@
+//! The four letters of a value.
+
 ghost use Rattle.std.specs.Prelude.{◌≡◌};
 ghost use Rattle.vcd_core.specs.Value.{printed_letter};
 

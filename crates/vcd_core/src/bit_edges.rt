@@ -1,3 +1,5 @@
+//! The edges of up to four waves of one bit.
+
 ghost use Rattle.std.specs.Prelude.{◌≡◌, ℕ, [], ◌∷◌};
 ghost use Rattle.std.specs.Option.{option_copied};
 
@@ -8,7 +10,7 @@ use std::marker::Model;
 
 /// A tick at which a wave of one bit changes, with the bits of the waves just before it and at it.
 ///
-/// An absent wave has none, and the bit before tick 0 is x.
+/// An absent wave has no bit. The bit before tick 0 is x.
 #[derive(Clone, Copy)]
 pub struct BitEdge {
     pub tick: u64,
@@ -16,7 +18,7 @@ pub struct BitEdge {
     pub at: [Option<Bit>; 4],
 }
 
-/// A wave of one bit from some tick on: its bit just before, none where it is absent, and the
+/// A wave of one bit from some tick on: its bit just before, none where it is absent, and its
 /// changes from there on.
 #[derive(Clone, Copy)]
 struct BitTrace<'a> {
@@ -48,7 +50,7 @@ impl<'a> BitTrace<'a> {
         }
     }
 
-    /// The wave past `tick`, where no change is before that tick. It reads one letter of a change.
+    /// The wave after `tick`, where no change is before that tick. It reads one letter of a change.
     fn after(&self, tick: u64) -> BitTrace<'a>
         requires { Rises 0 (bit_trace_left self.now) }
         ensures { bit_trace_left result ≡ trace_after tick (bit_trace_left self.now) }
@@ -58,7 +60,7 @@ impl<'a> BitTrace<'a> {
                 bit: Some(change.value.bit(0)),
                 rest,
             },
-            // Built anew, since a copy of `*self` is not covered.
+            // Built anew: the prover does not cover a copy of `*self`.
             rest => BitTrace {
                 bit: self.bit,
                 rest,
@@ -67,11 +69,11 @@ impl<'a> BitTrace<'a> {
     }
 }
 
-/// The ticks at which one of up to four waves of one bit changes, rising, each with the bits just
-/// before it and at it.
+/// The ticks at which one of up to four waves of one bit changes, in rising order, each with the
+/// bits just before it and at it.
 ///
-/// [`Edges`](crate::Edges) with a letter in place of a whole value. Contracts see the list of the
-/// edges to come. Each takes a constant number of steps and no memory.
+/// It is [`Edges`](crate::Edges) with a letter in place of a whole value. Contracts see the list of
+/// the edges to come. Each edge takes a constant number of steps and no memory.
 #[derive(Drop)]
 pub struct BitEdges<'a> {
     // Four fields and no array, as in `Edges`.

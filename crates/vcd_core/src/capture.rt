@@ -1,3 +1,5 @@
+//! A capture and its parts: header entries, timescale, scopes and signals.
+
 ghost use Rattle.std.specs.Prelude.{◌≡◌, ◌↔◌, IsTrue};
 ghost use Rattle.vcd_core.specs.Contents.{contents};
 ghost use Rattle.vcd_core.specs.Sound.{IsSound};
@@ -6,16 +8,16 @@ use crate::scope_path::ScopePath;
 use crate::seq::Seq;
 use crate::wave::Wave;
 
-/// The greatest tick of a capture's end.
+/// The greatest end of a capture, in ticks.
 pub const END_LIMIT: u64 = 9223372036854775807;
 
-/// The greatest number of signals of a capture.
+/// The greatest number of signals in a capture.
 pub const SIGNAL_LIMIT: usize = 65536;
 
 /// A word of the file: bytes without white space.
 pub type Word = Seq<u8>;
 
-/// What a header entry is: `$date`, `$version` or `$comment` (IEEE 1364-2005, 18.2).
+/// The kind of a header entry: `$date`, `$version` or `$comment` (IEEE 1364-2005, 18.2).
 #[derive(Clone, Copy, Debug, PartialEq, Eq)]
 pub enum HeaderKind {
     Date,
@@ -45,7 +47,7 @@ impl TimeUnit {
     ghost use Rattle.std.specs.Prelude.{◌≡◌};
     ghost use Rattle.vcd_core.specs.TimeUnits.{unit_text};
 
-    /// The unit as it is spelled in a file: `s`, `ms`, `us`, `ns`, `ps` or `fs`.
+    /// The unit as a file spells it: `s`, `ms`, `us`, `ns`, `ps` or `fs`.
     pub fn symbol(self) -> &'static str
         ensures { result.now ≡ unit_text self }
     {
@@ -60,7 +62,7 @@ impl TimeUnit {
     }
 }
 
-/// How long a tick is: `count` is 1, 10 or 100 (IEEE 1364-2005, 18.2).
+/// The length of a tick: `count` units, where `count` is 1, 10 or 100 (IEEE 1364-2005, 18.2).
 #[derive(Clone, Copy, Debug, PartialEq, Eq)]
 pub struct Timescale {
     pub count: u64,
@@ -74,7 +76,7 @@ pub struct ScopeName {
     pub words: Seq<Word>,
 }
 
-/// A signal: where it stands, its kind such as `wire`, the words of its name, and its wave.
+/// A signal: its scopes, its kind such as `wire`, the words of its name, and its wave.
 #[derive(Drop)]
 pub struct Signal {
     pub scopes: ScopePath,
@@ -83,7 +85,7 @@ pub struct Signal {
     pub wave: Wave,
 }
 
-/// A capture: what a value change dump says, up to the tick `end`.
+/// A capture: the contents of a value change dump up to the tick `end`.
 #[derive(Drop)]
 pub struct Capture {
     pub header: Seq<Header>,
@@ -93,7 +95,7 @@ pub struct Capture {
 }
 
 impl Capture {
-    /// The capture of these parts, without a check and without memory.
+    /// The capture of these parts. It checks nothing and takes no memory.
     pub fn new(
         header: Vec<Header>,
         timescale: Option<Timescale>,
@@ -120,7 +122,7 @@ impl Capture {
         self.header.as_slice()
     }
 
-    /// How long a tick is, where the file says so.
+    /// The length of a tick, where the file gives it.
     pub fn timescale(&self) -> Option<Timescale>
         ensures { result ≡ self.now.timescale }
     {

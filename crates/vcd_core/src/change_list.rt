@@ -1,4 +1,4 @@
-//! What a wave does with its list of changes.
+//! Operations of a wave on its list of changes.
 
 ghost use Rattle.std.specs.Prelude.{◌≡◌, ◌≢◌, ℕ, List, [], ◌∷◌, ◌<◌, ◌≤◌, ◌↔◌, IsTrue, length, All, IsOk, OnOk, OnErr, vec_len, vec_capacity};
 ghost use Rattle.vcd_core.specs.Value.{all_x, same_letters};
@@ -23,7 +23,7 @@ pub fn last_value(changes: &[Change], width: u64) -> Value
     }
 }
 
-/// Whether no change is past the tick `end`: the last one tells.
+/// Whether no change is past the tick `end`. It looks at the last change alone.
 pub fn ends_by(changes: &[Change], end: u64) -> bool
     requires { (floor : ℕ) × (before : List BitLetter) × AreChangesFrom floor before changes.now }
     ensures { IsTrue result ↔ AllUpTo end changes.now }
@@ -34,7 +34,7 @@ pub fn ends_by(changes: &[Change], end: u64) -> bool
     }
 }
 
-/// Takes the last change off where it stands at `tick`.
+/// Removes the last change where it is at `tick`.
 fn pop_at(changes: &mut Vec<Change>, tick: u64)
     requires form { (width : ℕ) × IsWave width changes.old.items }
     requires late { All (λ c. c.tick ≤ tick) changes.old.items }
@@ -47,7 +47,7 @@ fn pop_at(changes: &mut Vec<Change>, tick: u64)
     }
 }
 
-/// Whether the value after all changes is this one, that before the first being all x.
+/// Whether the value after all changes is this one. The value before the first change is all x.
 fn has_last_value(changes: &[Change], value: &Value) -> bool
     ensures { result
         ≡ same_letters value.now (last_value (all_x (length value.now)) changes.now) }
@@ -58,7 +58,7 @@ fn has_last_value(changes: &[Change], value: &Value) -> bool
     }
 }
 
-/// Makes `value` the value from `tick` on, by the end of the list alone.
+/// Makes `value` the value from `tick` on. It changes only the end of the list.
 pub(crate) fn push_change(
     changes: &mut Vec<Change>,
     width: u64,
@@ -84,8 +84,8 @@ pub(crate) fn push_change(
     Ok(())
 }
 
-/// Whether the value after all changes is the one of `width` bits, at most 64, whose low and high
-/// bits these words hold, that before the first change being all x.
+/// Whether the value after all changes is the one of `width` bits, at most 64, with these words of
+/// low and high bits. The value before the first change is all x.
 fn has_last_word(changes: &[Change], width: u64, low: u64, high: u64) -> bool
     requires least { 1 ≤ width }
     requires most { width ≤ 64 }
@@ -102,7 +102,7 @@ fn has_last_word(changes: &[Change], width: u64, low: u64, high: u64) -> bool
 /// Does what [`push_change`] does with the value of `width` bits, at most 64, whose low and high
 /// bits these words hold.
 ///
-/// No value is built but the one that is added, which LLVM writes at its place in the list.
+/// Only a value that is added is built, and LLVM builds it in its place in the list.
 pub(crate) fn push_word_change(
     changes: &mut Vec<Change>,
     width: u64,

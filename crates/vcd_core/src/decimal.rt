@@ -5,10 +5,11 @@ ghost use Rattle.std.specs.List.{list_all};
 ghost use Rattle.std.specs.Char.{is_ascii_digit};
 ghost use Rattle.vcd_core.specs.Decimal.{is_number, number_of, number_up_to};
 
-/// The number that `text` writes in decimal digits, where `most` stands for every greater one; none
-/// where it is no decimal number. There may be any number of digits and of leading zeros.
+/// The number that `text` writes in decimal digits; `most` stands for every greater one. The result
+/// is none where `text` is no decimal number. There may be any number of digits and of leading
+/// zeros.
 ///
-/// The time is that of the digits, and no memory is taken.
+/// The time grows with the digits. It takes no memory.
 pub fn number_up_to(text: &[u8], most: u64) -> Option<u64>
     ensures { result ≡ number_up_to text.now most }
 {

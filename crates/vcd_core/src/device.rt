@@ -1,3 +1,5 @@
+//! Devices that bytes come from and go to.
+
 ghost use Rattle.std.specs.Prelude.{◌≡◌, ◌<◌, false, length, IfOk};
 ghost use Rattle.std.specs.Io.{ReadsAtMost, WritesAtMost};
 ghost use Rattle.std.specs.Io.KnownBytes.{ReadConsumes, WriteAppends, Keeps};
@@ -25,21 +27,21 @@ impl DeviceFault {
     }
 }
 
-/// Where bytes come from.
+/// A source of bytes.
 ///
 /// After an `Ok` the device has not failed. An `Err` means that it has failed: it gave no byte, and
 /// every later call is an `Err`.
 pub trait Source {
     ghost use Rattle.std.specs.Prelude.{ℕ, Bool, List, Option, None};
 
-    // the bytes to come, where the device tells them
+    // the bytes to come, where the device shows them
     ghost coming: { Self → Option (List ℕ) } = { λ _. None };
 
     // whether it has failed
     ghost has_failed: { Self → Bool };
 
-    /// Reads bytes into the front of `buffer` and answers how many, at most its length. None into a
-    /// buffer that is not empty means that no byte is to come.
+    /// Reads bytes into the front of `buffer`. Returns how many, at most its length. Zero bytes
+    /// into a buffer that is not empty mean that no byte is to come.
     fn read(&mut self, buffer: &mut [u8]) -> Result<usize, DeviceFault>
         ensures count { ReadsAtMost result buffer.new }
         ensures bytes { ReadConsumes (coming self.old) (coming self.new) result buffer.new }
@@ -50,28 +52,27 @@ pub trait Source {
         ensures { result ≡ has_failed self.now };
 }
 
-/// Where bytes go to.
+/// A sink of bytes.
 ///
 /// After an `Ok` the device has not failed. An `Err` means that it has failed: it took no byte, and
 /// every later call is an `Err`.
 pub trait Sink {
     ghost use Rattle.std.specs.Prelude.{ℕ, Bool, List, Option, None};
 
-    // the bytes taken so far, where the device tells them
+    // the bytes taken so far, where the device shows them
     ghost taken: { Self → Option (List ℕ) } = { λ _. None };
 
     // whether it has failed
     ghost has_failed: { Self → Bool };
 
-    /// Takes bytes from the front of `bytes` and answers how many: at least one, where there is
-    /// one.
+    /// Takes bytes from the front of `bytes`. Returns how many: at least one, where there is one.
     fn write(&mut self, bytes: &[u8]) -> Result<usize, DeviceFault>
         ensures count { WritesAtMost result bytes.now }
         ensures some { 0 < length bytes.now → IfOk result (λ count. 0 < count) }
         ensures bytes { WriteAppends (taken self.old) (taken self.new) result bytes.now }
         ensures fault { FailureMatches (has_failed self.old) (has_failed self.new) result };
 
-    /// Passes on what was taken.
+    /// Passes on the bytes taken.
     fn flush(&mut self) -> Result<(), DeviceFault>
         ensures bytes { Keeps (taken self.old) (taken self.new) }
         ensures fault { FailureMatches (has_failed self.old) (has_failed self.new) result };
@@ -81,7 +82,8 @@ pub trait Sink {
         ensures { result ≡ has_failed self.now };
 }
 
-/// A source over a reader. Every error is a failure, an interrupted read too: none is tried again.
+/// A source over a reader. Every error is a failure, also an interrupted read: nothing is tried
+/// again.
 #[derive(Drop)]
 pub struct FromRead<R> {
     reader: R,
@@ -89,7 +91,7 @@ pub struct FromRead<R> {
 }
 
 impl<R: Read> FromRead<R> {
-    /// A source of what the reader has left.
+    /// A source of the bytes that the reader has left.
     pub fn new(reader: R) -> FromRead<R>
         ensures coming { ⟦<FromRead<R> as Source>⟧.coming result ≡ R.remaining reader }
         ensures not_failed { ⟦<FromRead<R> as Source>⟧.has_failed result ≡ false }
@@ -132,8 +134,8 @@ impl<R: Read> Source for FromRead<R> {
     }
 }
 
-/// A sink over a writer. Every error is a failure, an interrupted write too: none is tried again.
-/// So is a write that takes no byte where there is one.
+/// A sink over a writer. Every error is a failure, also an interrupted write: nothing is tried
+/// again. A write that takes no byte where there is one is a failure too.
 #[derive(Drop)]
 pub struct ToWrite<W> {
     writer: W,
@@ -141,7 +143,7 @@ pub struct ToWrite<W> {
 }
 
 impl<W: Write> ToWrite<W> {
-    /// A sink that appends to what the writer holds.
+    /// A sink that appends to the contents of the writer.
     pub fn new(writer: W) -> ToWrite<W>
         ensures taken { ⟦<ToWrite<W> as Sink>⟧.taken result ≡ W.contents writer }
         ensures not_failed { ⟦<ToWrite<W> as Sink>⟧.has_failed result ≡ false }

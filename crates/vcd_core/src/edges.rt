@@ -1,3 +1,5 @@
+//! The edges of up to four waves.
+
 ghost use Rattle.std.specs.Prelude.{◌≡◌, ℕ, [], ◌∷◌, map, None};
 ghost use Rattle.std.specs.Option.{option_copied};
 ghost use Rattle.vcd_core.specs.inside.EdgeWalk.{earlier_tick, next_tick};
@@ -9,7 +11,7 @@ use std::marker::Model;
 
 /// A tick at which a wave changes, with the values of the waves just before it and at it.
 ///
-/// An absent wave has none, and the value before tick 0 is all x.
+/// An absent wave has no value. The value before tick 0 is all x.
 #[derive(Clone, Copy)]
 pub struct Edge {
     pub tick: u64,
@@ -17,7 +19,7 @@ pub struct Edge {
     pub at: [Option<Value>; 4],
 }
 
-/// A wave from some tick on: its value just before, none where it is absent, and the changes from
+/// A wave from some tick on: its value just before, none where it is absent, and its changes from
 /// there on.
 #[derive(Clone, Copy)]
 struct Trace<'a> {
@@ -46,7 +48,7 @@ impl<'a> Trace<'a> {
         }
     }
 
-    /// The wave past `tick`, where no change is before that tick.
+    /// The wave after `tick`, where no change is before that tick.
     fn after(&self, tick: u64) -> Trace<'a>
         ensures { trace_left result ≡ trace_after tick (trace_left self.now) }
     {
@@ -55,7 +57,7 @@ impl<'a> Trace<'a> {
                 value: Some(change.value),
                 rest,
             },
-            // Built anew, since a copy of `*self` is not covered either.
+            // Built anew: the prover does not cover a copy of `*self`.
             rest => Trace {
                 value: self.value,
                 rest,
@@ -64,14 +66,15 @@ impl<'a> Trace<'a> {
     }
 }
 
-/// The ticks at which one of up to four waves changes, rising, each with the values just before it
-/// and at it.
+/// The ticks at which one of up to four waves changes, in rising order, each with the values just
+/// before it and at it.
 ///
-/// Contracts see the list of the edges to come. Each takes a constant number of steps and no
+/// Contracts see the list of the edges to come. Each edge takes a constant number of steps and no
 /// memory.
 #[derive(Drop)]
 pub struct Edges<'a> {
-    // Four fields and no array, which the borrow checker's part of the proof does not cover.
+    // Four fields in place of an array: the borrow checker's part of the proof does not cover an
+    // array.
     a: Trace<'a>,
     b: Trace<'a>,
     c: Trace<'a>,
@@ -140,7 +143,7 @@ pub(crate) fn next_of(a: &[Change], b: &[Change], c: &[Change], d: &[Change]) ->
     ensures { result ≡ earlier_tick (next_tick a.now) (earlier_tick (next_tick b.now)
         (earlier_tick (next_tick c.now) (earlier_tick (next_tick d.now) None))) }
 {
-    // From the last wave to the first, as `next_tick_of` goes over a list, down to its end.
+    // From the last wave to the first, in the order in which `next_tick_of` goes over a list.
     let last = earlier(first_tick(d), None);
     let later = earlier(first_tick(c), last);
     earlier(first_tick(a), earlier(first_tick(b), later))

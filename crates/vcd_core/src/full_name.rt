@@ -1,4 +1,4 @@
-//! Full names compared byte by byte, so that none has to be built.
+//! Full names, compared byte by byte without building them.
 
 ghost use Rattle.std.specs.Prelude.{◌≡◌, ◌∷◌, ◌++◌, ℕ, List, [], IsTrue, MatchOption, map};
 ghost use Rattle.std.specs.List.{concat, list_any};
@@ -8,23 +8,23 @@ ghost use Rattle.vcd_core.specs.Names.{name_in, full_name, full_names};
 
 use crate::capture::{ScopeName, Signal, Word};
 
-/// A full name: the names of scopes, outermost first, and a name, joined by `.`; a name of several
-/// words is these run together.
+/// A full name: the names of scopes, outermost first, and a name, joined by `.`. Several words of
+/// one name are run together.
 ///
 /// It borrows its parts and is never built. Contracts see its bytes. A comparison takes no memory.
-/// It looks at the ends first, since signals share the beginnings of their names: most differ in
+/// It looks at the ends first: signals share the beginnings of their names, and most differ in
 /// their last word.
 #[derive(Clone, Copy)]
 pub struct FullName<'a> {
-    /// What is left of the word at hand.
+    /// The rest of the current word.
     text: &'a [u8],
-    /// The words behind it, in the same scope or name.
+    /// The words after it, in the same scope or name.
     words: &'a [Word],
-    /// Whether the words are a scope's, so that a `.` and more follows.
+    /// Whether the words are a scope's, so that a `.` follows them.
     in_scope: bool,
     /// The scopes that follow.
     scopes: &'a [ScopeName],
-    /// The first word of the name behind the scopes, and the others.
+    /// The first word of the name after the scopes, and the others.
     first: &'a [u8],
     others: &'a [Word],
 }
@@ -141,7 +141,7 @@ impl<'a> FullName<'a> {
         }
     }
 
-    /// Goes on to the next word that is not empty, in the scope or name at hand.
+    /// Moves to the next word that is not empty, in the current scope or name.
     fn go_to_text(&mut self)
         ensures same { name_bytes self.new ≡ name_bytes self.old }
         ensures text { self.new.text.now ≡ [] → self.new.words.now ≡ [] }
@@ -157,7 +157,7 @@ impl<'a> FullName<'a> {
         }
     }
 
-    /// Takes the `.` behind a scope of which no byte is left.
+    /// Takes the `.` after a scope of which no byte is left.
     fn leave_scope(&mut self) -> Option<u8>
         requires { IsDrained self.old }
         ensures { MatchOption result (name_bytes self.old ≡ [])
@@ -181,7 +181,7 @@ impl<'a> FullName<'a> {
     }
 }
 
-/// The last of several words, the first of which is given apart.
+/// The last of several words, where the first is given apart.
 fn last_of<'a>(first: &'a [u8], others: &'a [Word]) -> &'a [u8]
     ensures { (front : List ℕ) × (first.now ++ concat others.now ≡ front ++ result.now) }
 {
@@ -191,7 +191,7 @@ fn last_of<'a>(first: &'a [u8], others: &'a [Word]) -> &'a [u8]
     }
 }
 
-/// Whether two texts that end with these may be the same: the shorter one ends the longer one.
+/// Whether two texts with these ends can be the same: the longer end must end with the shorter one.
 fn may_end_alike(a: &[u8], b: &[u8]) -> bool
     ensures { (x y : List ℕ) → x ++ a.now ≡ y ++ b.now → IsTrue result }
 {

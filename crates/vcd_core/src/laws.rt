@@ -2,8 +2,8 @@
 
 ghost use Rattle.vcd_core.specs.Laws.{SameValuesSameChanges, ChangesOfOwnValues, ValuesOfChanges, ChangesAreWave, SpliceAndBack, SpliceBackIsAllowed};
 
-/// Two waves of one width whose changes have ticks at most `end`, with the same value at each tick
-/// 0 to `end`, have equal lists of changes. So equality tick by tick is equality of every change.
+/// Two waves of one width are equal lists where they have the same value at each tick 0 to `end`
+/// and no change past `end`. So equality tick by tick is equality of every change.
 pub fn same_values_same_changes()
     ensures { SameValuesSameChanges }
 {}
@@ -13,7 +13,7 @@ pub fn changes_of_own_values()
     ensures { ChangesOfOwnValues }
 {}
 
-/// The value at a tick up to the end, of the changes of a function of the tick, is the function's.
+/// The changes of a function of the tick have its values at every tick up to the end.
 pub fn values_of_changes()
     ensures { ValuesOfChanges }
 {}
@@ -23,15 +23,13 @@ pub fn changes_are_wave()
     ensures { ChangesAreWave }
 {}
 
-/// A splice, and then the splice of what it gave out, with the opposite offset, leave the list and
-/// the piece as they were.
+/// The splice that undoes a splice, with the opposite offset, restores the list and the piece.
 pub fn splice_and_back()
     ensures { SpliceAndBack }
 {}
 
-/// Where a splice of a wave was allowed, the splice of what it gave out, with the opposite offset,
-/// is allowed too, as far as the lists go: the piece stands within the list, the later ticks fit,
-/// and the result is a wave.
+/// The splice that undoes an allowed splice of a wave is allowed too. The piece is within the list,
+/// the later ticks fit, and the result is a wave.
 pub fn splice_back_is_allowed()
     ensures { SpliceBackIsAllowed }
 {}

@@ -1,8 +1,8 @@
-//! Four-state waves in memory: values, lists of changes, signals and captures, and the devices that
-//! bytes come from and go to.
+//! Four-state waves in memory: values, lists of changes, signals, captures, and devices for bytes.
 //!
 //! A [`Wave`] is the list of the ticks at which a signal changes, with the new values. Contracts
-//! see a [`Value`] as its letters, a wave as its changes, and compare captures by their contents.
+//! see a [`Value`] as its letters and a wave as its changes. They compare captures by their
+//! contents.
 #![tactic(auto)]
 
 mod bit;

@@ -1,8 +1,10 @@
+//! The fault of memory that was refused.
+
 ghost use Rattle.std.specs.Prelude.{◌≡◌, codes};
 
 use std::alloc::{AllocError, AllocFailed};
 
-/// Memory was asked for and refused. The type has one value, so a clause on a refusal need not name
+/// Memory was requested and refused. The type has one value, so a clause on a refusal need not name
 /// it.
 #[derive(Clone, Copy, Debug, PartialEq, Eq)]
 pub struct NoMemory;

@@ -1,4 +1,4 @@
-//! Signals looked up by name.
+//! Looking up signals by name.
 
 ghost use Rattle.std.specs.Prelude.{◌≡◌, ◌<◌, ◌↔◌, ◌&&◌, IsTrue, Some, None, length, nat_lt, slice_get, if◌then◌else◌};
 ghost use Rattle.std.specs.List.{position};
@@ -22,8 +22,8 @@ impl Capture {
         has_full_name(&self.signals.as_slice()[k], name)
     }
 
-    /// The position of the signal that `name` stands for. `@` and a position alone are that signal,
-    /// where there is one; any other name is the first signal with that full name.
+    /// The position of the signal that `name` names. `@` and the position of a signal name that
+    /// signal; any other name is the first signal with that full name.
     pub fn find(&self, name: &[u8]) -> Option<usize>
         ensures { result ≡ lookup (contents self.now).signals name.now }
     {

@@ -1,4 +1,4 @@
-//! The two planes of bits that hold a value, in words of 64 bits that belong to the two in turn.
+//! The two planes of bits that hold a value, in words of 64 bits that alternate between the planes.
 
 ghost use Rattle.std.specs.Prelude.{◌≡◌, ◌==◌, ℕ, [], ◌∷◌, ◌+◌, ◌-◌, ◌*◌, ◌/◌, ◌%◌, ◌^◌, ◌<◌, ◌≤◌, ◌≢◌, ◌↔◌, min, length, replicate, slice_index, All, IsTrue, if◌then◌else◌};
 ghost use Rattle.std.specs.Int.{bit_at};
@@ -9,7 +9,7 @@ use crate::bit::Bit;
 use crate::value::WORDS;
 
 impl Bit {
-    /// Whether the letter's low bit is set: those of 1 and x.
+    /// Whether the letter's low bit is set, as in 1 and x.
     pub fn is_low(self) -> bool
         ensures { low_of self ≡ (if result then 1 else 0) }
     {
@@ -19,7 +19,7 @@ impl Bit {
         }
     }
 
-    /// Whether the letter's high bit is set: those of x and z.
+    /// Whether the letter's high bit is set, as in x and z.
     pub fn is_high(self) -> bool
         ensures { high_of self ≡ (if result then 1 else 0) }
     {
@@ -42,7 +42,7 @@ pub(crate) fn letter(low: bool, high: bool) -> Bit
     }
 }
 
-/// How many words of 64 bits a width takes.
+/// The number of 64-bit words that hold `width` bits.
 pub fn words_in(width: u64) -> usize
     requires { width ≤ 64 * WORDS }
     ensures fits { width ≤ 64 * result }
@@ -79,7 +79,7 @@ pub(crate) fn ones(count: u64) -> u64
     }
 }
 
-/// A word is below 2 ^ 64: said of a slice that was written through a loan.
+/// States that each word is below 2 ^ 64, for a slice that was written through a loan.
 pub(crate) fn words_fit(words: &[u64])
     ensures { All (λ w. w < 2 ^ 64) words.now }
 {}
@@ -102,7 +102,7 @@ fn write_rows(words: &mut [u64], width: u64, low: &[u64], high: &[u64])
         words[2 * j + 1] = high[j] & mask;
         left = left.saturating_sub(64);
     }
-    // Its clause is what is known of a word after the loop.
+    // Its clause bounds each word after the loop.
     words_fit(words);
 }
 
@@ -122,7 +122,7 @@ pub(crate) fn planes_of_rows(width: u64, low: &[u64], high: &[u64]) -> [u64; 2 *
 
 /// The planes of the bits of two words that are below `width`.
 ///
-/// Straight code, so that LLVM writes them where the value is to stand, with no copy.
+/// It has no branch or loop, so LLVM writes them in their final place without a copy.
 pub(crate) fn planes_of_words(width: u64, low: u64, high: u64) -> [u64; 2 * WORDS]
     requires { width ≤ 64 }
     ensures low { (k : ℕ) → k < width → bit_of_plane 0 result k ≡ row_bit (low ∷ []) k }
@@ -133,7 +133,7 @@ pub(crate) fn planes_of_words(width: u64, low: u64, high: u64) -> [u64; 2 * WORD
     let mut words = [0; 2 * WORDS];
     words[0] = low & mask;
     words[1] = high & mask;
-    // Its clause is what is known of a word after the writes.
+    // Its clause bounds each word after the writes.
     words_fit(&words);
     words
 }

@@ -1,4 +1,4 @@
-//! The scopes that a signal stands in, in memory that the signals of one scope share.
+//! The scopes of a signal, in memory that the signals of one scope share.
 
 ghost use Rattle.std.specs.Prelude.{◌≡◌, ◌≤◌, IfOk, length, take};
 
@@ -9,23 +9,23 @@ use std::alloc::Global;
 use std::marker::Model;
 use std::rc::RcSlice;
 
-/// The scopes that a signal stands in, outermost first.
+/// The scopes of a signal, outermost first.
 ///
-/// Several paths can share one list, where each is a front of it. Contracts see the list of scope
-/// names, whoever shares it.
+/// Several paths can share one list, each as a front of it. Contracts see the list of scope names,
+/// shared or not.
 #[derive(Drop)]
 pub struct ScopePath {
     list: ScopeList,
-    /// How many scopes of the list are the path's.
+    /// The number of scopes of the list that belong to the path.
     count: usize,
 }
 
-/// The list that a path stands in.
+/// The list of scopes of a path.
 #[derive(Drop)]
 enum ScopeList {
-    /// The path alone has it.
+    /// The list of this path alone.
     Own(Vec<ScopeName>),
-    /// Several paths can have it; it goes with the last.
+    /// A list that several paths can share; it is freed with the last.
     Shared(RcSlice<ScopeName>),
 }
 
@@ -43,7 +43,7 @@ impl Model for ScopePath {
 }
 
 impl ScopePath {
-    /// The path of these scopes, outermost first, which nothing shares. It takes no memory.
+    /// The path of these scopes, outermost first, not shared. It takes no memory.
     pub fn from_vec(scopes: Vec<ScopeName>) -> ScopePath
         ensures { result ≡ scopes.items }
     {
@@ -54,7 +54,8 @@ impl ScopePath {
         }
     }
 
-    /// The path of these scopes, outermost first, which others can share. It takes one block of memory.
+    /// The path of these scopes, outermost first, which others can share. It takes one block of
+    /// memory.
     pub fn shared(scopes: Vec<ScopeName>) -> Result<ScopePath, NoMemory>
         ensures { IfOk result (λ path. path ≡ scopes.items) }
     {
@@ -63,15 +64,16 @@ impl ScopePath {
         Ok(ScopePath { list, count })
     }
 
-    /// The same path. It takes no memory where the list can be shared, and else a copy of each scope.
+    /// The same path. It takes no memory where the list can be shared; otherwise it copies each
+    /// scope.
     pub fn share(&self, alloc: Global) -> Result<ScopePath, NoMemory>
         ensures { IfOk result (λ path. path ≡ self.now) }
     {
         self.front(alloc, self.count)
     }
 
-    /// The path of the first `count` scopes. It takes no memory where the list can be shared, and else a
-    /// copy of each of them.
+    /// The path of the first `count` scopes. It takes no memory where the list can be shared;
+    /// otherwise it copies each of these scopes.
     pub fn front(&self, alloc: Global, count: usize) -> Result<ScopePath, NoMemory>
         requires { count ≤ length self.now }
         ensures { IfOk result (λ path. path ≡ take count self.now) }

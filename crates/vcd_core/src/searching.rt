@@ -1,11 +1,11 @@
-//! A search for a tick among changes that sets out from a place near it.
+//! A search for a tick among changes that starts near an expected place.
 
 ghost use Rattle.std.specs.Prelude.{◌≡◌, ℕ, ◌<◌, ◌≤◌, nat_le, length, take, drop, count_by, All};
 ghost use Rattle.vcd_core.specs.Wave.{IsWave};
 
 use crate::wave::Change;
 
-/// How many changes have a tick at most `tick`, whatever `near` is.
+/// The number of changes at or before `tick`, whatever `near` is.
 pub(crate) fn count_near(changes: &[Change], near: usize, tick: u64) -> usize
     requires { (width : ℕ) × IsWave width changes.now }
     ensures { result ≡ count_by (λ c. nat_le c.tick tick) changes.now }
@@ -16,8 +16,8 @@ pub(crate) fn count_near(changes: &[Change], near: usize, tick: u64) -> usize
     from + changes[from..to].partition_point(|change| change.tick <= tick)
 }
 
-/// A place before which no change is later than `tick`: `near`, or one before it, by steps that
-/// double.
+/// A place before which no change is later than `tick`: `near`, or one before it, found by steps
+/// that double.
 fn place_before(changes: &[Change], near: usize, tick: u64) -> usize
     requires form { (width : ℕ) × IsWave width changes.now }
     requires within { near ≤ length changes.now }
@@ -33,8 +33,8 @@ fn place_before(changes: &[Change], near: usize, tick: u64) -> usize
     place
 }
 
-/// A place from which on each change is later than `tick`: `near`, or one behind it, by steps that
-/// double.
+/// A place from which on each change is later than `tick`: `near`, or one after it, found by steps
+/// that double.
 fn place_after(changes: &[Change], near: usize, tick: u64) -> usize
     requires form { (width : ℕ) × IsWave width changes.now }
     requires within { near ≤ length changes.now }

@@ -1,10 +1,12 @@
+//! A list that contracts see as its items.
+
 ghost use Rattle.std.specs.Prelude.{◌≡◌, ◌==◌, ◌<◌, [], length, slice_index_or};
 ghost use Rattle.std.specs.Borrow.{sem};
 
 use std::alloc::Global;
 use std::marker::Model;
 
-/// A list that contracts see as its items alone, without room, pointer or allocator.
+/// A list that contracts see as its items alone, without capacity, pointer or allocator.
 #[derive(Drop)]
 pub struct Seq<T> {
     items: Vec<T>,
@@ -37,7 +39,7 @@ impl<T> Seq<T> {
         Seq { items }
     }
 
-    /// Gives the items back, with the memory that they stand in.
+    /// Gives the items back, with their memory.
     pub fn into_vec(self) -> Vec<T>
         ensures { result.items ≡ self }
     {

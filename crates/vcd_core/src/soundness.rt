@@ -1,4 +1,4 @@
-//! Whether a capture is one that a file can say.
+//! Whether a file can represent a capture.
 
 ghost use Rattle.std.specs.Prelude.{◌≡◌, ◌↔◌, ◌≤◌, IsTrue, IfSome, All, ℕ, map};
 ghost use Rattle.std.specs.List.{list_all};
@@ -37,10 +37,10 @@ impl ScopeName {
 }
 
 impl Signal {
-    /// Whether a file whose last tick is `end` can say this signal: its words and scopes are sound,
-    /// it has a name, its kind is one that is kept, and no change is past the end.
+    /// Whether a file whose last tick is `end` can represent this signal. Its words and scopes are
+    /// sound, it has a name, its kind is not skipped, and no change is past the end.
     ///
-    /// It takes no memory; its time grows with the words and the scopes, not with the changes.
+    /// It takes no memory. Its time grows with the words and the scopes, not with the changes.
     pub fn is_sound(&self, end: u64) -> bool
         ensures { IsTrue result ↔ IsSoundSignal end (signal_contents self.now) }
     {
@@ -53,15 +53,16 @@ impl Signal {
     }
 }
 
-/// Whether a file can say each of these scopes: its kind and the words of its name are words, in the sense of
-/// [`is_word`].
+/// Whether a file can represent these scopes: each kind and each word of a name is a word, in the
+/// sense of [`is_word`].
 pub fn are_scopes_sound(scopes: &[ScopeName]) -> bool
     ensures { result ≡ list_all is_sound_scope scopes.now }
 {
     scopes.iter().all(|scope| scope.is_sound())
 }
 
-/// Whether no change of a wave is past the end. Its width and its form are those of a file's, as of any wave.
+/// Whether no change of a wave is past the end. Every wave has the width and the form that a file
+/// needs.
 pub fn is_wave_sound(wave: &Wave, end: u64) -> bool
     ensures ends { IsTrue result ↔ AllUpTo end wave.now.changes }
     ensures least { 1 ≤ wave.now.width }
@@ -80,13 +81,13 @@ fn are_signals_sound(signals: &[Signal], end: u64) -> bool
 }
 
 impl Capture {
-    /// Whether a file can say this capture. Every word, the kinds of scopes and signals among them,
-    /// is non-empty, has no white space and is not `$end`; each signal has a name word and a kind
-    /// that is not skipped; widths are within the limit; the timescale's count is 1, 10 or 100;
-    /// every tick is at most the end, and the end at most [`END_LIMIT`]; there are at most
+    /// Whether a file can represent this capture. Every word, including the kinds of scopes and
+    /// signals, is non-empty, has no white space and is not `$end`. Each signal has a name and a
+    /// kind that is not skipped. Widths are within the limit, and the timescale's count is 1, 10 or
+    /// 100. Every tick is at most the end, and the end at most [`END_LIMIT`]. There are at most
     /// [`SIGNAL_LIMIT`] signals.
     ///
-    /// It takes no memory; its time grows with the words and the signals, not with their changes.
+    /// It takes no memory. Its time grows with the words and the signals, not with their changes.
     pub fn is_sound(&self) -> bool
         ensures { IsTrue result ↔ IsSound (contents self.now) }
     {
@@ -97,7 +98,7 @@ impl Capture {
             && are_signals_sound(self.signals.as_slice(), self.end)
     }
 
-    /// Whether a file can say the header entries: their words are words, in the sense of
+    /// Whether a file can represent the header entries: their words are words, in the sense of
     /// [`is_word`].
     pub fn is_header_sound(&self) -> bool
         ensures { result ≡ list_all is_sound_header self.now.header }
@@ -105,7 +106,7 @@ impl Capture {
         self.header.as_slice().iter().all(|entry| entry.is_sound())
     }
 
-    /// Whether a file can say the timescale, where there is one: a tick is 1, 10 or 100 of the unit
+    /// Whether a file can represent the timescale, where there is one: a tick is 1, 10 or 100 units
     /// (IEEE 1364-2005, 18.2).
     pub fn is_timescale_sound(&self) -> bool
         ensures { IsTrue result

@@ -1,4 +1,4 @@
-//! What a splice makes of a list, as a list of its own.
+//! The result of a splice, as a list of its own.
 
 ghost use Rattle.std.specs.Prelude.{◌≡◌, ◌≤◌, ◌+◌, ◌-◌, ◌++◌, length, drop, map, slice_range, vec_len, vec_capacity};
 ghost use Rattle.vcd_core.specs.Splice.{moved_change, AllTicksFit, spliced_changes};
@@ -6,7 +6,7 @@ ghost use Rattle.vcd_core.specs.Splice.{moved_change, AllTicksFit, spliced_chang
 use crate::splicing::moved_change;
 use crate::wave::Change;
 
-/// Adds changes at the end of a list that has room for them, each moved by `by` ticks.
+/// Appends changes to a list that has room for them, each moved by `by` ticks.
 fn append_moved(list: &mut Vec<Change>, changes: &[Change], by: i64)
     requires room { vec_len list.old + length changes.now ≤ vec_capacity list.old }
     requires fit { AllTicksFit by changes.now }
@@ -18,7 +18,8 @@ fn append_moved(list: &mut Vec<Change>, changes: &[Change], by: i64)
     }
 }
 
-/// Makes in `copy` what a splice makes of `list`, and puts the part that gives way into the piece. Both have the room.
+/// Makes in `copy` the result of a splice of `list`, and puts the replaced part into the piece.
+/// Both have the room.
 ///
 /// Each change that is kept is copied once.
 pub(crate) fn copy_spliced(

@@ -1,11 +1,11 @@
-//! How a piece and a part of a list of changes change places, in place.
+//! Swapping a range of a list of changes with a piece, in place.
 
 ghost use Rattle.std.specs.Prelude.{◌≡◌, ◌≤◌, ◌+◌, ◌-◌, ◌++◌, length, take, drop, map, slice_range, vec_len, vec_capacity};
 ghost use Rattle.vcd_core.specs.Splice.{moved_change, TickFits, AllTicksFit, spliced_changes};
 
 use crate::wave::Change;
 
-/// The changes of `list` from `at` on change places with those of `other`, one for one.
+/// Swaps the changes of `list` from `at` on with those of `other`, one for one.
 fn swap_part(list: &mut [Change], at: usize, other: &mut [Change])
     requires { at + length other.old ≤ length list.old }
     ensures list { list.new ≡ take at list.old ++ other.old
@@ -29,7 +29,7 @@ pub fn moved_change(change: &Change, by: i64) -> Change
     }
 }
 
-/// The first `count` changes of the piece change places with as many of the list from `at` on.
+/// Swaps the first `count` changes of the piece with as many of the list from `at` on.
 fn swap_fronts(changes: &mut Vec<Change>, at: usize, piece: &mut Vec<Change>, count: usize)
     requires within { at + count ≤ vec_len changes.old }
     requires front { count ≤ vec_len piece.old }
@@ -46,8 +46,8 @@ fn swap_fronts(changes: &mut Vec<Change>, at: usize, piece: &mut Vec<Change>, co
     swap_part(changes.as_mut_slice(), at, front);
 }
 
-/// The changes from `to` on come down to `from`, each moved by `by` ticks as it is copied; what stands
-/// behind them is left over.
+/// Moves the changes from `to` on down to `from`, and each by `by` ticks. The old changes at the
+/// end are left over.
 fn pull_down(changes: &mut [Change], from: usize, to: usize, by: i64)
     requires ordered { from ≤ to }
     requires within { to ≤ length changes.old }
@@ -58,14 +58,14 @@ fn pull_down(changes: &mut [Change], from: usize, to: usize, by: i64)
 {
     let gap = to - from;
     for i in to..changes.len() {
-        // A function of the item, so that the loop is a `map` to the prover.
+        // A function of the item, so that the prover sees the loop as a `map`.
         let next = moved_change(&changes[i], by);
         changes[i - gap] = next;
     }
 }
 
-/// The changes from `from` on, as far as the last `gap`, go up by `gap` places, each moved by `by` ticks as it
-/// is copied; what stood in the gap is left over.
+/// Moves the changes from `from` on up by `gap` places, and each by `by` ticks. The last `gap`
+/// changes are overwritten, and the old changes in the gap are left over.
 fn push_up(changes: &mut [Change], from: usize, gap: usize, by: i64)
     requires within { from + gap ≤ length changes.old }
     requires fit { AllTicksFit by (drop from (take (length changes.old - gap) changes.old)) }
@@ -80,7 +80,7 @@ fn push_up(changes: &mut [Change], from: usize, gap: usize, by: i64)
     }
 }
 
-/// Others take the place of as many changes from `at` on.
+/// Overwrites as many changes from `at` on with these.
 fn write_at(changes: &mut Vec<Change>, at: usize, others: &[Change])
     requires { at + length others.now ≤ vec_len changes.old }
     ensures items { changes.new.items ≡ take at changes.old.items ++ others.now
@@ -92,8 +92,8 @@ fn write_at(changes: &mut Vec<Change>, at: usize, others: &[Change])
     part.copy_from_slice(others);
 }
 
-/// The changes at positions `from` up to before `to` go to the end of the piece, where there is room
-/// for them, and the later ones come down with their new ticks.
+/// Moves the changes at positions `from` to before `to` to the end of the piece, which has room for
+/// them. The later ones move down and get their new ticks.
 ///
 /// Where none goes out and `by` is 0, it looks at no later change.
 fn take_out(changes: &mut Vec<Change>, from: usize, to: usize, piece: &mut Vec<Change>, by: i64)
@@ -116,8 +116,8 @@ fn take_out(changes: &mut Vec<Change>, from: usize, to: usize, piece: &mut Vec<C
     changes.truncate(kept);
 }
 
-/// The changes of the piece from `kept` on go into the list at `at`, where there is room for them, and
-/// the later ones go up with their new ticks.
+/// Moves the changes of the piece from `kept` on into the list at `at`, which has room for them.
+/// The later ones move up and get their new ticks.
 fn put_in(changes: &mut Vec<Change>, at: usize, piece: &mut Vec<Change>, kept: usize, by: i64)
     requires within { at ≤ vec_len changes.old }
     requires front { kept ≤ vec_len piece.old }
@@ -136,11 +136,11 @@ fn put_in(changes: &mut Vec<Change>, at: usize, piece: &mut Vec<Change>, kept: u
     piece.truncate(kept);
 }
 
-/// A splice of two lists, with the room for both.
+/// A splice of two lists that both have the room.
 ///
-/// What the piece and its part have in common in length is exchanged in place, and the rest of the
-/// longer one moves over. Each later change is copied once, where it moves: where `by` is not 0, or the
-/// lengths differ.
+/// It swaps as many changes as the shorter of piece and range has, in place, and moves the rest of
+/// the longer one over. Later changes are copied once, and only where `by` is not 0 or the lengths
+/// differ.
 pub(crate) fn splice_changes(
     changes: &mut Vec<Change>,
     from: usize,

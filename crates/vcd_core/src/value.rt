@@ -1,3 +1,5 @@
+//! Four-state values of up to 1024 bits.
+
 ghost use Rattle.std.specs.Prelude.{◌≡◌, ℕ, [], ◌∷◌, ◌+◌, ◌-◌, ◌*◌, ◌<◌, ◌≤◌, ◌↔◌, length, replicate, slice_set, IsTrue};
 ghost use Rattle.std.specs.Int.{bit_at};
 ghost use Rattle.vcd_core.specs.Value.{letter_at, all_x, same_letters};
@@ -11,7 +13,7 @@ use crate::planes::{
 use std::fmt;
 use std::marker::Model;
 
-/// How many words of 64 bits a plane of a value has.
+/// The number of 64-bit words in a plane of a value.
 pub const WORDS: usize = 16;
 
 /// The greatest width of a value, in bits.
@@ -20,9 +22,9 @@ pub const WIDTH_LIMIT: u64 = 1024;
 /// A four-state value of 1 to [`WIDTH_LIMIT`] bits (IEEE 1364-2005, 18.2).
 ///
 /// Contracts see the list of its letters, most significant first. Bit `k` counts from 0 at the
-/// least significant end. Two planes of bits tell the letters apart: 0 is 00, 1 is 01, z is 10 and
-/// x is 11, the high plane's bit first. Words of the low and the high plane stand in turn, so that
-/// a value of up to 64 bits has both of its words side by side.
+/// least significant end. Two planes of bits encode the letters: 0 is 00, 1 is 01, z is 10 and x is
+/// 11, the high plane's bit first. Words of the low and the high plane alternate, so that both
+/// words of a value of up to 64 bits are adjacent.
 #[derive(Clone, Copy)]
 pub struct Value {
     width: u64,
@@ -59,10 +61,10 @@ impl Value {
         Value::from_words(width, &low, &high)
     }
 
-    /// The value of `width` bits whose low and high bits two rows of words hold, bit 0 the lowest
-    /// of the first word. What the rows hold from `width` on is not looked at.
+    /// The value of `width` bits whose low and high bits are in two rows of words. Bit 0 is the
+    /// lowest of the first word. Bits of the rows from `width` on are ignored.
     ///
-    /// A step for each 64 bits.
+    /// It takes a step for each 64 bits.
     pub fn from_words(width: u64, low: &[u64], high: &[u64]) -> Value
         requires least { 1 ≤ width }
         requires most { width ≤ WIDTH_LIMIT }
@@ -76,8 +78,8 @@ impl Value {
         }
     }
 
-    /// The value of `width` bits, at most 64, whose low and high bits two words hold, bit 0 the
-    /// lowest. What they hold from `width` on is not looked at.
+    /// The value of `width` bits, at most 64, whose low and high bits are in two words, bit 0 the
+    /// lowest. Bits of the words from `width` on are ignored.
     pub(crate) fn from_word(width: u64, low: u64, high: u64) -> Value
         requires least { 1 ≤ width }
         requires most { width ≤ 64 }
@@ -89,7 +91,7 @@ impl Value {
         }
     }
 
-    /// Whether the value, of at most 64 bits, is the one whose low and high bits two words hold:
+    /// Whether the value, of at most 64 bits, has these words of low and high bits. It equals
     /// [`Value::from_word`] of its width, which is not built.
     pub(crate) fn has_word(&self, low: u64, high: u64) -> bool
         requires { length self.now ≤ 64 }
@@ -100,7 +102,7 @@ impl Value {
         (self.planes[0] == low & mask) & (self.planes[1] == high & mask)
     }
 
-    /// How many bits the value has.
+    /// The number of bits.
     pub fn width(self) -> u64
         ensures width { result ≡ length self }
         ensures least { 1 ≤ result }
@@ -125,7 +127,7 @@ impl Value {
         let mut planes = self.planes;
         write_plane_bit(&mut planes, 0, k, bit.is_low());
         write_plane_bit(&mut planes, 1, k, bit.is_high());
-        // Its clause is what is known of a word after the calls.
+        // Its clause bounds each word after the calls.
         words_fit(&planes);
         Value {
             width: self.width,
@@ -165,7 +167,7 @@ impl PartialEq for Value {
 
     ghost laws = { same_letters-equiv };
 
-    /// Whether the letters are the same: a comparison of the words in use.
+    /// Whether the letters are the same. It compares the words in use.
     fn eq(&self, other: &Value) -> bool {
         let used = 2 * words_in(self.width);
         let same = self.planes[..used] == other.planes[..used];

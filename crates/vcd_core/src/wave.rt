@@ -1,3 +1,5 @@
+//! The values of a signal over time.
+
 ghost use Rattle.std.specs.Prelude.{◌≡◌, ℕ, ◌+◌, ◌-◌, ◌<◌, ◌≤◌, if◌then◌else◌, nat_lt, nat_le, max, [], ◌∷◌, length, drop, slice_range, count_by, IsOk, IfOk, OnOk, OnErr, All, Any, vec_len, vec_capacity};
 ghost use Rattle.vcd_core.specs.Wave.{value_at, IsWave, changes_after_push};
 ghost use Rattle.vcd_core.specs.WordRows.{letters_of};
@@ -20,16 +22,16 @@ pub struct Change {
 
 /// The values of a signal at every tick, kept as the list of its changes.
 ///
-/// Ticks rise strictly, each value differs from the one before it and the first from all x, and all
+/// Ticks rise strictly. Each value differs from the one before it, and the first from all x. All
 /// values have one width. A wave that is x throughout has no change.
 ///
-/// A wave has its list alone, or shares it with others ([`Wave::share`]). What changes a wave gives
-/// it a list of its own first, so the others stay as they are.
+/// A wave has its own list, or shares it with others ([`Wave::share`]). An operation that changes a
+/// wave gives it its own list first, so the other waves stay unchanged.
 ///
-/// Contracts see the width in bits, the changes, and two numbers of room. The first is one more than
-/// the number of changes that the wave's own list can have without new memory, and 0 where the list
-/// is shared. The second is the same for the list that [`Wave::splice`] makes, and is 0 where that
-/// would need memory.
+/// Contracts see the width in bits, the changes, and two numbers of room. The first is one more
+/// than the number of changes that the wave's own list can have without new memory, and 0 where the
+/// list is shared. The second is the same for the list that [`Wave::splice`] makes; it is 0 where
+/// that would need memory.
 #[derive(Drop)]
 pub struct Wave {
     width: u64,
@@ -70,7 +72,7 @@ impl Wave {
         }
     }
 
-    /// How many bits each value has.
+    /// The width of each value, in bits.
     pub fn width(&self) -> u64
         ensures width { result ≡ self.now.width }
         ensures least { 1 ≤ result }
@@ -79,7 +81,7 @@ impl Wave {
         self.width
     }
 
-    /// The changes, rising by tick.
+    /// The changes, in rising order of ticks.
     pub fn changes(&self) -> &[Change]
         ensures changes { result.now ≡ self.now.changes }
         ensures form { IsWave self.now.width result.now }
@@ -87,10 +89,10 @@ impl Wave {
         self.list.as_slice()
     }
 
-    /// The value at `tick`: that of the last change at or before it, else all x. A tick past the
-    /// last change has the last value.
+    /// The value at `tick`: that of the last change at or before it, or all x. A tick past the last
+    /// change has the last value.
     ///
-    /// A search by halves: the logarithm of the number of changes.
+    /// A binary search: the logarithm of the number of changes.
     pub fn at(&self, tick: u64) -> Value
         ensures { result ≡ value_at self.now.width self.now.changes tick }
     {
@@ -99,7 +101,7 @@ impl Wave {
         last_value(&changes[..count], self.width)
     }
 
-    /// How many changes have a smaller tick, by a search by halves.
+    /// The number of changes before `tick`, by a binary search.
     pub fn count_until(&self, tick: u64) -> usize
         ensures { result ≡ count_by (λ c. nat_lt c.tick tick) self.now.changes }
     {
@@ -108,21 +110,22 @@ impl Wave {
             .partition_point(|change| change.tick < tick)
     }
 
-    /// How many changes have a tick at most `tick`, whatever `near` is: a number of changes that
-    /// the answer is expected to be near, as that of an earlier search.
+    /// The number of changes at or before `tick`, whatever `near` is. `near` is a number that the
+    /// result is expected to be near, such as the result of an earlier search.
     ///
-    /// It goes from there by steps that double, then by halves: the logarithm of the distance.
+    /// The search goes from there by steps that double, then by halves: the logarithm of the
+    /// distance.
     pub fn count_near(&self, near: usize, tick: u64) -> usize
         ensures { result ≡ count_by (λ c. nat_le c.tick tick) self.now.changes }
     {
         count_near(self.list.as_slice(), near, tick)
     }
 
-    /// Sets the value from `tick` on, at the end of the list: a value equal to the one before adds
-    /// nothing; an equal tick replaces, and the change vanishes where it then equals the one before
-    /// it.
+    /// Sets the value from `tick` on, at the end of the list. A value equal to the one before adds
+    /// nothing. A change at an equal tick is replaced, and removed where it then equals the one
+    /// before it.
     ///
-    /// Looks at the end of the list alone.
+    /// It looks at the end of the list alone. It may run out of memory.
     pub fn push(&mut self, tick: u64, value: Value) -> Result<(), NoMemory>
         requires width { length value ≡ self.old.width }
         requires late { All (λ c. c.tick ≤ tick) self.old.changes }
@@ -135,7 +138,7 @@ impl Wave {
         ensures width { self.new.width ≡ self.old.width }
         ensures refused { OnErr result (self.new.changes ≡ self.old.changes) }
 
-        // With a list of its own it succeeds where there is room for one change, or none is added.
+        // A wave with its own list succeeds where there is room for one change, or none is added.
         ensures in_place { length self.old.changes + 1 < self.old.room → IsOk result }
         ensures replaces { 0 < self.old.room → Any (λ c. c.tick ≡ tick) self.old.changes
             → IsOk result }
@@ -150,8 +153,8 @@ impl Wave {
         Ok(())
     }
 
-    /// Does what [`Wave::push`] does with the value whose low and high bits these two words hold,
-    /// bit 0 the lowest. What they hold from the width on is not looked at.
+    /// Does what [`Wave::push`] does with the value whose low and high bits are in these two words,
+    /// bit 0 the lowest. Bits of the words from the width on are ignored.
     pub fn push_word(&mut self, tick: u64, low: u64, high: u64) -> Result<(), NoMemory>
         requires width { self.old.width ≤ 64 }
         requires late { All (λ c. c.tick ≤ tick) self.old.changes }
@@ -165,7 +168,7 @@ impl Wave {
         ensures width { self.new.width ≡ self.old.width }
         ensures refused { OnErr result (self.new.changes ≡ self.old.changes) }
 
-        // With a list of its own it succeeds where there is room for one change, or none is added.
+        // A wave with its own list succeeds where there is room for one change, or none is added.
         ensures in_place { length self.old.changes + 1 < self.old.room → IsOk result }
         ensures replaces { 0 < self.old.room → Any (λ c. c.tick ≡ tick) self.old.changes
             → IsOk result }
@@ -181,10 +184,10 @@ impl Wave {
         Ok(())
     }
 
-    /// A wave that shares the list of this one: the same changes, and no copy of them.
+    /// A wave that shares the list of this one: it has the same changes, and copies none of them.
     ///
-    /// It takes one small block of memory the first time, and none later. Both waves stay as they
-    /// are where one of them is changed, since that one gets a list of its own first.
+    /// It takes one small block of memory the first time, and no memory later. A change of one of
+    /// the waves leaves the other unchanged, since the changed one gets its own list first.
     pub fn share(&mut self) -> Result<Wave, NoMemory>
         ensures kept_width { self.new.width ≡ self.old.width }
         ensures kept_changes { self.new.changes ≡ self.old.changes }
@@ -198,11 +201,11 @@ impl Wave {
         })
     }
 
-    /// Gives the wave a list of its own with room for `more` changes. The wave holds what it held,
-    /// also where the memory is refused.
+    /// Gives the wave its own list with room for `more` changes. The changes of the wave stay the
+    /// same, also where the memory is refused.
     ///
-    /// It takes no memory where that room is there already. A list that was shared, and that no
-    /// other wave has any more, is taken back; else its changes are copied.
+    /// It takes no memory where the room is there already. A shared list that no other wave has any
+    /// more is taken back; otherwise its changes are copied.
     pub fn reserve(&mut self, more: usize) -> Result<(), NoMemory>
         ensures width { self.new.width ≡ self.old.width }
         ensures changes { self.new.changes ≡ self.old.changes }
@@ -215,7 +218,8 @@ impl Wave {
         self.list.reserve(more)
     }
 
-    /// Does what [`Wave::reserve`] does, with no more room than that where memory is taken.
+    /// Does what [`Wave::reserve`] does. Where it takes memory, there is no more room than
+    /// requested.
     pub fn reserve_exact(&mut self, more: usize) -> Result<(), NoMemory>
         ensures width { self.new.width ≡ self.old.width }
         ensures changes { self.new.changes ≡ self.old.changes }
@@ -230,12 +234,12 @@ impl Wave {
         self.list.reserve_exact(more)
     }
 
-    /// Makes room for a [`Wave::splice`] of these positions and of this piece. The wave holds what
-    /// it held, also where the memory is refused.
+    /// Makes room for a [`Wave::splice`] of these positions and of this piece. The changes of the
+    /// wave stay the same, also where the memory is refused.
     ///
-    /// It takes no memory where that room is there already. A wave with a list of its own gets room
-    /// for what comes beyond what goes. One that shares its list keeps sharing it, and gets memory
-    /// for the changes that the splice keeps and those of the piece; no change is copied yet.
+    /// It takes no memory where the room is there already. A wave with its own list gets room for
+    /// the growth alone. A wave that shares its list keeps sharing it, and gets memory for the
+    /// changes that the splice keeps and those of the piece. No change is copied yet.
     pub fn reserve_splice(
         &mut self,
         from: usize,
@@ -257,7 +261,7 @@ impl Wave {
         self.list.reserve_splice(to - from, piece)
     }
 
-    /// Gives back the memory that [`Wave::reserve_splice`] took beside a list that is shared.
+    /// Frees the memory that [`Wave::reserve_splice`] took in addition to a shared list.
     pub fn cancel_splice(&mut self)
         ensures width { self.new.width ≡ self.old.width }
         ensures changes { self.new.changes ≡ self.old.changes }
@@ -266,12 +270,12 @@ impl Wave {
         self.list.cancel_splice();
     }
 
-    /// The changes at positions `from` up to before `to` and the contents of `piece` change places,
-    /// and the later changes move by `by` ticks.
+    /// Swaps the changes at positions `from` to before `to` with the contents of `piece`, and moves
+    /// the later changes by `by` ticks.
     ///
-    /// It takes no memory, so each list has the room for what the other gives. The cost is the piece
-    /// and the range; where `by` is not 0, or their lengths differ, each later change is copied once.
-    /// A wave that shares its list then has its own, into which each change is copied.
+    /// It takes no memory: each list has the room for what it gets. The cost is that of the piece
+    /// and the range; where `by` is not 0, or their lengths differ, each later change is copied
+    /// once. A wave that shares its list gets its own, into which each change is copied.
     pub fn splice(&mut self, from: usize, to: usize, piece: &mut Vec<Change>, by: i64)
         requires ordered { from ≤ to }
         requires within { to ≤ length self.old.changes }
@@ -287,7 +291,7 @@ impl Wave {
             ≡ spliced_changes self.old.changes from to piece.old.items by }
         ensures piece { piece.new.items ≡ slice_range self.old.changes from to }
 
-        // The list is the wave's own, and no room is lost, on either side.
+        // The list is the wave's own, and both sides keep their room.
         ensures room { self.old.splice_room ≤ self.new.room }
         ensures piece_room { vec_capacity piece.old ≤ vec_capacity piece.new }
     {

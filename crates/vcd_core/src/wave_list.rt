@@ -15,11 +15,11 @@ use std::rc::Rc;
 /// The list of changes of a wave.
 #[derive(Drop)]
 pub(crate) enum WaveList {
-    /// The wave alone has it.
+    /// The list of this wave alone.
     Own(Vec<Change>),
-    /// Several waves can have it; it goes with the last.
+    /// A list that several waves can share; it is freed with the last.
     Shared(Rc<Vec<Change>>),
-    /// The same, beside memory for the list that a splice makes of it for this wave alone.
+    /// A shared list, and memory for the list that a splice makes of it for this wave alone.
     SharedWithRoom {
         list: Rc<Vec<Change>>,
         room: Vec<Change>,
@@ -33,12 +33,13 @@ fn copy_with_room(alloc: Global, changes: &[Change], more: usize) -> Result<Vec<
 {
     let mut copy = Vec::with_capacity(alloc, changes.len().saturating_add(more))?;
     copy.extend_from_slice(changes)?;
-    // It takes no memory: the list that a sum past `usize` asks for was refused above.
+    // It takes no memory: a sum past `usize` asks for a list that was refused above.
     copy.reserve_exact(more)?;
     Ok(copy)
 }
 
-/// The list alone: taken back where nobody else has it, and else copied, with room for `more` changes.
+/// The list for one owner: taken back where nobody shares it, and otherwise copied, with room for
+/// `more` changes.
 fn part_shared(
     alloc: Global,
     shared: Rc<Vec<Change>>,
@@ -56,7 +57,7 @@ fn part_shared(
     }
 }
 
-/// The list alone, whoever has it now; a copy has room for `more` changes.
+/// The list for one owner, whatever its form; a copy has room for `more` changes.
 fn part_list(alloc: Global, list: WaveList, more: usize) -> (WaveList, Result<(), NoMemory>)
     ensures changes { changes_of_list result.0 ≡ changes_of_list list }
     ensures own { OnOk result.1 (0 < room_of_list result.0) }
@@ -70,14 +71,14 @@ fn part_list(alloc: Global, list: WaveList, more: usize) -> (WaveList, Result<()
     }
 }
 
-/// The same list once more. It takes no memory.
+/// A second owner of the same list. It takes no memory.
 fn clone_shared(shared: &Rc<Vec<Change>>) -> Result<WaveList, NoMemory>
     ensures { IfOk result (λ other. changes_of_list other ≡ shared.now.value.items) }
 {
     Ok(WaveList::Shared(shared.clone()?))
 }
 
-/// A list that others can have, too, and the same once more.
+/// The list in a form that can be shared, and a second owner of it.
 fn share_own(alloc: Global, own: Vec<Change>) -> (WaveList, Result<WaveList, NoMemory>)
     ensures kept { changes_of_list result.0 ≡ own.items }
     ensures same { IfOk result.1 (λ other. changes_of_list other ≡ own.items) }
@@ -91,7 +92,7 @@ fn share_own(alloc: Global, own: Vec<Change>) -> (WaveList, Result<WaveList, NoM
     }
 }
 
-/// The list as one that others can have, too, and the same once more.
+/// The list in a form that can be shared, and a second owner of it.
 fn share_list(alloc: Global, list: WaveList) -> (WaveList, Result<WaveList, NoMemory>)
     ensures kept { changes_of_list result.0 ≡ changes_of_list list }
     ensures same { IfOk result.1 (λ other. changes_of_list other ≡ changes_of_list list) }
@@ -109,7 +110,7 @@ fn share_list(alloc: Global, list: WaveList) -> (WaveList, Result<WaveList, NoMe
     }
 }
 
-/// Makes room for a splice in a list that the wave alone has.
+/// Makes room for a splice in a list that the wave does not share.
 fn reserve_own(list: Vec<Change>, more: usize) -> (WaveList, Result<(), NoMemory>)
     ensures changes { changes_of_list result.0 ≡ list.items }
     ensures room { OnOk result.1 (length list.items + more < splice_room_of_list result.0) }
@@ -125,7 +126,8 @@ fn reserve_own(list: Vec<Change>, more: usize) -> (WaveList, Result<(), NoMemory
     }
 }
 
-/// Makes room beside a shared list for one of `count` changes. What stood in that memory goes.
+/// Makes room for a list of `count` changes in addition to a shared list. The old contents of that
+/// memory are dropped.
 fn reserve_beside(
     list: Rc<Vec<Change>>,
     room: Vec<Change>,
@@ -144,7 +146,8 @@ fn reserve_beside(
     }
 }
 
-/// Makes room for a list of `count` changes where nobody else has the list, in it, and else beside it.
+/// Makes room for a list of `count` changes: in the list where nobody shares it, and otherwise in
+/// addition to it.
 fn reserve_shared(
     alloc: Global,
     shared: Rc<Vec<Change>>,
@@ -164,7 +167,7 @@ fn reserve_shared(
     }
 }
 
-/// Makes room for what a splice makes of a list, where `part` changes give way to those of a piece.
+/// Makes room for the result of a splice that replaces `part` changes with those of a piece.
 fn reserve_list(
     alloc: Global,
     list: WaveList,
@@ -191,7 +194,7 @@ fn reserve_list(
     }
 }
 
-/// The list without the memory beside it.
+/// The list without the additional memory.
 fn cancel_list(list: WaveList) -> WaveList
     ensures changes { changes_of_list result ≡ changes_of_list list }
     ensures room { room_of_list result ≡ room_of_list list }
@@ -202,7 +205,7 @@ fn cancel_list(list: WaveList) -> WaveList
     }
 }
 
-/// What a splice makes of a list.
+/// The result of a splice of a list.
 fn splice_list(list: WaveList, from: usize, to: usize, piece: &mut Vec<Change>, by: i64) -> WaveList
     requires ordered { from ≤ to }
     requires within { to ≤ length (changes_of_list list) }
@@ -262,7 +265,7 @@ impl WaveList {
         other
     }
 
-    /// Gives the wave its list alone, if it is not yet; a copy has room for `more` changes.
+    /// Gives the wave its own list, if it has none yet; a copy has room for `more` changes.
     pub fn part(&mut self, more: usize) -> Result<(), NoMemory>
         ensures changes { changes_of_list self.new ≡ changes_of_list self.old }
         ensures own { OnOk result (0 < room_of_list self.new) }
@@ -277,7 +280,7 @@ impl WaveList {
         parted
     }
 
-    /// Gives the wave its list alone, with room for `more` changes.
+    /// Gives the wave its own list, with room for `more` changes.
     pub fn reserve(&mut self, more: usize) -> Result<(), NoMemory>
         ensures changes { changes_of_list self.new ≡ changes_of_list self.old }
         ensures room { OnOk result
@@ -295,7 +298,8 @@ impl WaveList {
         }
     }
 
-    /// The same with no more room than that, where memory is taken.
+    /// Does what [`WaveList::reserve`] does. Where it takes memory, there is no more room than
+    /// requested.
     pub fn reserve_exact(&mut self, more: usize) -> Result<(), NoMemory>
         ensures changes { changes_of_list self.new ≡ changes_of_list self.old }
         ensures room { OnOk result
@@ -315,7 +319,7 @@ impl WaveList {
         }
     }
 
-    /// Makes room for what a splice makes of the list, where `part` changes give way to those of a piece.
+    /// Makes room for the result of a splice that replaces `part` changes with those of a piece.
     pub fn reserve_splice(&mut self, part: usize, piece: &[Change]) -> Result<(), NoMemory>
         requires { part ≤ length (changes_of_list self.old) }
         ensures changes { changes_of_list self.new ≡ changes_of_list self.old }
@@ -335,7 +339,7 @@ impl WaveList {
         reserved
     }
 
-    /// Gives back the memory that [`WaveList::reserve_splice`] took beside a shared list.
+    /// Frees the memory that [`WaveList::reserve_splice`] took in addition to a shared list.
     pub fn cancel_splice(&mut self)
         ensures changes { changes_of_list self.new ≡ changes_of_list self.old }
         ensures room { room_of_list self.new ≡ room_of_list self.old }
@@ -344,7 +348,7 @@ impl WaveList {
         *self = cancel_list(replace(self, WaveList::Own(Vec::new(alloc))));
     }
 
-    /// The splice of the list, for which there is room.
+    /// The splice of the list, which has the room.
     pub fn splice(&mut self, from: usize, to: usize, piece: &mut Vec<Change>, by: i64)
         requires ordered { from ≤ to }
         requires within { to ≤ length (changes_of_list self.old) }

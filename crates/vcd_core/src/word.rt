@@ -1,4 +1,4 @@
-//! The words that files and scripts are made of.
+//! The words of files and scripts.
 
 ghost use Rattle.std.specs.Prelude.{◌≡◌, not};
 ghost use Rattle.std.specs.List.{list_all};
@@ -14,8 +14,8 @@ pub fn is_white_space(byte: u8) -> bool
     matches!(byte, 9..=13 | 32)
 }
 
-/// Whether the bytes are a word that a header entry, a name or a kind may have: at least one byte,
-/// none of them white space, and not `$end`, which closes a list of words.
+/// Whether the bytes are a word of a header entry, a name or a kind: at least one byte, no white
+/// space, and not `$end`, which closes a list of words.
 pub fn is_word(bytes: &[u8]) -> bool
     ensures { result ≡ word_test bytes.now }
 {
@@ -36,8 +36,8 @@ pub fn are_words(words: &[Word]) -> bool
     words.iter().all(|word| is_word(word.as_slice()))
 }
 
-/// Whether variables of this kind are skipped: their values are no four-state values, or they have
-/// none (IEEE 1364-2005, 18.2).
+/// Whether variables of this kind are skipped: they have no four-state values (IEEE 1364-2005,
+/// 18.2).
 pub fn is_skipped_kind(kind: &[u8]) -> bool
     ensures { result ≡ skipped kind.now }
 {

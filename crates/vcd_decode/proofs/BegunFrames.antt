@@ -1,4 +1,4 @@
--- What a fall begins, case by case.
+-- The frame that a fall begins, case by case.
 use Rattle.std.proofs.Common.{◌≡◌, ℕ, ◌<◌, ◌≤◌, true, false, Some, None, refl}
 use Rattle.std.proofs.lemmas.Bool.{lt-ltb, le-ltb}
 use Rattle.vcd_core.specs.declared.bit.Bit.{Bit}

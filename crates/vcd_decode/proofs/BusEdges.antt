@@ -11,7 +11,7 @@ use Rattle.vcd_decode.specs.inside.BusWalk.{levels_of, edge_event, edge_events}
 use Rattle.vcd_decode.specs.inside.LineEdges.{lines_of, line_edge}
 use Rattle.vcd_decode.proofs.EdgeTicks.{over_edges}
 
--- where no level changes, nothing happens
+-- where no level changes, there is no event
 nothing_happens : (t : ℕ) (scl sda : Bit)
     → bus_event t (record { scl = scl; sda = sda }) (record { scl = scl; sda = sda }) ≡ None
 nothing_happens t Zero Zero = refl

@@ -1,4 +1,4 @@
--- Events taken one at a time bring the annotations of the whole bus.
+-- Events taken one at a time give the annotations of the whole bus.
 use Rattle.std.proofs.Common.{◌≡◌, ◌≢◌, ℕ, zero, suc, ◌<◌, ◌≤◌, ◌==◌, nat_le, Bool, true, false, if◌then◌else◌, Option}
 use Rattle.std.proofs.Common.{Some, None, Result, Ok, Err, OnOk, IfOk, List, [], ◌∷◌, ◌++◌, length, take, refl, sym, ap}
 use Rattle.std.proofs.Common.{◌∙◌, inl, inr, arith}
@@ -51,7 +51,7 @@ rest_alone ended role (b ∷ g) few =
     let short : (length (b ∷ g) == 9) ≡ false = test_other (length (b ∷ g)) 9 (λ nine. omega arith) in
     ap (nines_annotations ended role) (groups_short 9 (b ∷ g) (omega arith) (omega arith)) ∙ rw short refl
 
--- what a condition leaves of them
+-- the annotations of these bits where a condition comes
 left_is : (role : ByteRole) (g : List BusBit) (given : Option ℕ)
     → left_annotations (Some (transfer_of role (part_of g) given)) ≡ rest_annotations true g
 left_is role [] given = refl
@@ -61,7 +61,7 @@ left_is role (b ∷ g) given =
     let last = part_last b g in
     λ i. if nat_le 2 (count i) then annotation (first i) (last i) (kinds.PartialOf (count i)) ∷ [] else []
 
--- which shows no address
+-- they show no address
 none_given : (g : List BusBit) → shown_address (rest_annotations true g) ≡ None
 unfolding shown_address
 none_given g = choose (nat_le 2 (length g))
@@ -72,7 +72,7 @@ none_given g = choose (nat_le 2 (length g))
 
 -- ---- a whole byte
 
--- eight bits at hand and the ninth
+-- eight current bits and the ninth
 whole_is : (role : ByteRole) (g : List BusBit) (given : Option ℕ) (b : BusBit) → length g ≡ 8
     → byte_annotations role (g ++ b ∷ []) ≡ whole_annotations (transfer_of role (part_of g) given) b
 whole_is role [] given b eight = absurd (omega arith)
@@ -111,11 +111,11 @@ given_past t b others =
     (acknowledge_none (number_with (Some 0) b))
     ∙ or_assoc t.address (ten_bit_address (byte_kind t.role t.part.number)) (shown_address others)
 
--- the annotations of bits at hand and those to come up to the next condition
+-- the annotations of the current bits and those up to the next condition
 abbrev stretch : List BusEvent → ByteRole → List BusBit → List Annotation
 stretch es role g = nines_annotations (has_condition es) role (groups_of 9 (g ++ bits_until es))
 
--- a full nine and what is behind it
+-- a full nine and the bits after it
 stretch_past : (es : List BusEvent) (role : ByteRole) (g : List BusBit) (given : Option ℕ) (b : BusBit) → length g ≡ 8
     → nines_annotations (has_condition es) role (groups_of 9 (g ++ b ∷ bits_until es))
     ≡ whole_annotations (transfer_of role (part_of g) given) b ++ stretch es (role_after role (part_of g).number) []
@@ -143,7 +143,7 @@ WalksTransfer es = (role : ByteRole) (g : List BusBit) (given : Option ℕ) → 
     → walk_annotations (Some (transfer_of role (part_of g) given)) es ≡ stretch es role g
     ++ events_annotations (Some (option_or given (shown_address (stretch es role g)))) es
 
--- a condition comes: the bits at hand are a rest
+-- at a condition the current bits are a rest
 at_condition : (c : BusEvent) (es : List BusEvent) (role : ByteRole) (g : List BusBit) (given : Option ℕ) → length g ≤ 8
     → bits_until (c ∷ es) ≡ [] → has_condition (c ∷ es) ≡ true
     → (left_annotations (Some (transfer_of role (part_of g) given)) ≡ stretch (c ∷ es) role g)
@@ -287,7 +287,7 @@ walked (events.Stop t ∷ es) =
 pub walk_is : (es : List BusEvent) → walk_annotations None es ≡ events_annotations None es
 walk_is es = (walked es).0
 
--- what an event brings, and then those behind it
+-- the annotations of an event, and then those after it
 pub event_taken : (r : Result (Option Transfer) NoMemory) (old new : List Annotation) (bus : Option Transfer)
     (told : Option BusEvent) (e : BusEvent) → told ≡ Some e
     → OnOk r (new ≡ old ++ event_annotations bus e) → IfOk r (λ next. next ≡ bus_after bus e)
@@ -300,7 +300,7 @@ event_taken (Ok next) old new bus told e is annotations after = λ es.
     ∙ append_assoc old (event_annotations bus e) (walk_annotations (bus_after bus e) es)
     ∙ ap (λ (o : Option BusEvent). old ++ walk_annotations bus (cons_option o es)) (sym is)
 
--- where no event is left, what was found is all
+-- where no event is left, the annotations found are all
 pub all_found : (found : List Annotation) (bus : Option Transfer) (left : List BusEvent) (all : List Annotation)
     → left ≡ [] → found ++ walk_annotations bus left ≡ all → found ≡ all
 unfolding walk_annotations

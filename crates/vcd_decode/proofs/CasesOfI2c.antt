@@ -27,7 +27,7 @@ at tick kind = annotation tick tick kind
 abbrev from : ℕ → Bit → Change
 from tick letter = change tick (letter ∷ [])
 
--- one letter and another in turn, from these ticks on
+-- two letters in turn, from these ticks on
 abbrev turns : Bit → Bit → List ℕ → List Change
 turns a b [] = []
 turns a b (tick ∷ ticks) = from tick a ∷ turns b a ticks
@@ -41,13 +41,13 @@ beats tick (suc n) = from tick One ∷ from (tick + 5) Zero ∷ beats (tick + 10
 abbrev clock : ℕ → List Change
 clock n = from 0 One ∷ from 15 Zero ∷ beats 20 n
 
--- what the changes of SCL and SDA show
+-- the annotations of the changes of SCL and SDA
 abbrev annotations : List Change → List Change → ℕ → List Annotation
 annotations scl sda end =
     i2c_annotations (line_of (record { width = 1; changes = scl; room = 0; splice_room = 0 }))
     (line_of (record { width = 1; changes = sda; room = 0; splice_room = 0 })) end
 
--- an address and its acknowledge; one bit is behind them, the rise of SCL before STOP
+-- an address and its acknowledge; one bit follows them, the rise of SCL before STOP
 address_of_seven_bits : annotations (clock 9) (turns One Zero (0 ∷ 10 ∷ 17 ∷ 27 ∷ 37 ∷ 47 ∷ 115 ∷ [])) 120
     ≡ at 10 Start ∷ annotation 20 90 (Address 80 Write) ∷ at 100 Ack ∷ at 115 Stop ∷ []
 unfolding value_from bus_events groups_of nines_annotations bits_until has_condition shown_address events_annotations
@@ -66,13 +66,13 @@ unknown_byte : annotations (clock 9) (turns One Zero (0 ∷ 10 ∷ 17 ∷ 27 ∷
 unfolding value_from bus_events groups_of nines_annotations bits_until has_condition shown_address events_annotations
 unknown_byte = refl
 
--- three bits before STOP, the rise of SCL before it among them
+-- three bits before STOP, including the rise of SCL before it
 partial_byte : annotations (clock 2) (turns One Zero (0 ∷ 10 ∷ 45 ∷ [])) 50
     ≡ at 10 Start ∷ annotation 20 40 (PartialOf 3) ∷ at 45 Stop ∷ []
 unfolding value_from bus_events groups_of nines_annotations bits_until has_condition shown_address events_annotations
 partial_byte = refl
 
--- a byte is read behind a repeated START
+-- a byte is read after a repeated START
 repeated_start : annotations (clock 28)
     (turns One Zero (0 ∷ 10 ∷ 17 ∷ 27 ∷ 37 ∷ 47 ∷ 107 ∷ 113 ∷ 117 ∷ 127 ∷ 137 ∷ 147 ∷ 187 ∷ 197 ∷ 247 ∷ 297 ∷ 303 ∷ []))
     310
@@ -117,26 +117,26 @@ abbrev byte : ℕ → ℕ → List BusEvent
 byte tick n = bits tick (map (λ k. if n / 2 ^ k % 2 == 1 then One else Zero) (7 ∷ 6 ∷ 5 ∷ 4 ∷ 3 ∷ 2 ∷ 1 ∷ 0 ∷ [])
     ++ Zero ∷ [])
 
--- eight bits are no byte without an acknowledge
+-- eight bits without an acknowledge are no byte
 eight_bits : events_annotations None (events.Start 0 ∷ bits 1 (One ∷ Zero ∷ One ∷ Zero ∷ One ∷ Zero ∷ One ∷ Zero ∷ [])
     ++ events.Stop 9 ∷ [])
     ≡ at 0 Start ∷ annotation 1 8 (PartialOf 8) ∷ at 9 Stop ∷ []
 unfolding groups_of nines_annotations bits_until has_condition shown_address events_annotations
 eight_bits = refl
 
--- at the capture's end a byte that is not ended gives nothing, whole ones are annotations
+-- at the capture's end an unfinished byte gives nothing, and whole ones are annotations
 cut_off : events_annotations None (events.Start 0 ∷ byte 1 7 ++ bits 10 (Zero ∷ Zero ∷ []))
     ≡ at 0 Start ∷ annotation 1 8 (Address 3 Read) ∷ at 9 Ack ∷ []
 unfolding groups_of nines_annotations bits_until has_condition shown_address events_annotations
 cut_off = refl
 
--- bits before a START and behind a STOP belong to nothing
+-- bits before a START and after a STOP belong to nothing
 outside : events_annotations None (byte 1 7 ++ events.Start 10 ∷ events.Stop 11 ∷ byte 12 7 ++ events.Start 21 ∷ [])
     ≡ at 10 Start ∷ at 11 Stop ∷ at 21 Start ∷ []
 unfolding groups_of nines_annotations bits_until has_condition shown_address events_annotations
 outside = refl
 
--- an acknowledge that is x; data behind an address that is unknown
+-- an acknowledge that is x; data after an address that is unknown
 unknown_acknowledge : events_annotations None
     (events.Start 0 ∷ bits 1 (Zero ∷ Zero ∷ Zero ∷ Zero ∷ Zero ∷ Zero ∷ Zero ∷ X ∷ X ∷ []) ++ byte 10 7
     ++ events.Stop 19 ∷ [])
@@ -144,7 +144,7 @@ unknown_acknowledge : events_annotations None
 unfolding groups_of nines_annotations bits_until has_condition shown_address events_annotations
 unknown_acknowledge = refl
 
--- an address of ten bits is read again also behind a read of it; data behind its second byte
+-- an address of ten bits is read again also after a read of it; data follow its second byte
 read_twice : events_annotations None (events.Start 0 ∷ byte 1 244 ++ byte 10 165 ++ byte 19 9
     ++ events.Start 28 ∷ byte 29 245 ++ events.Start 38 ∷ byte 39 245)
     ≡ at 0 Start ∷ annotation 1 8 (AddressHigh 2 Write) ∷ at 9 Ack ∷ annotation 10 17 (TenBitAddress 677 Write)
@@ -154,7 +154,7 @@ read_twice : events_annotations None (events.Start 0 ∷ byte 1 244 ++ byte 10 1
 unfolding groups_of nines_annotations bits_until has_condition shown_address events_annotations
 read_twice = refl
 
--- not where a STOP is between
+-- not where there is a STOP between them
 read_after_stop : events_annotations None (events.Start 0 ∷ byte 1 244 ++ byte 10 165
     ++ events.Stop 19 ∷ events.Start 20 ∷ byte 21 245)
     ≡ at 0 Start ∷ annotation 1 8 (AddressHigh 2 Write) ∷ at 9 Ack ∷ annotation 10 17 (TenBitAddress 677 Write)
@@ -163,7 +163,7 @@ read_after_stop : events_annotations None (events.Start 0 ∷ byte 1 244 ++ byte
 unfolding groups_of nines_annotations bits_until has_condition shown_address events_annotations
 read_after_stop = refl
 
--- nor with other high bits, nor behind another address
+-- nor with other high bits, nor after another address
 read_of_another : events_annotations None (events.Start 0 ∷ byte 1 244 ++ byte 10 165 ++ events.Start 19 ∷ byte 20 243
     ++ events.Start 29 ∷ byte 30 245)
     ≡ at 0 Start ∷ annotation 1 8 (AddressHigh 2 Write) ∷ at 9 Ack ∷ annotation 10 17 (TenBitAddress 677 Write)

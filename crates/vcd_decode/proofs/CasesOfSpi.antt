@@ -1,4 +1,4 @@
--- Worked cases: what words small captures of SPI lines hold.
+-- Worked cases: the words in small captures of SPI lines.
 use Rattle.std.proofs.Common.{◌≡◌, refl}
 use Rattle.std.specs.Prelude.{ℕ, ◌+◌, ◌*◌, Option, Some, None, List, [], ◌∷◌, map}
 use Rattle.std.specs.List.{flat_map, range_with_len}
@@ -103,7 +103,7 @@ at_one_tick : found (spi_setup 0 2 Msb) (clock 3) None None (Some ((0, One) ∷ 
 unfolding found line clock spi_annotations groups_of value_from
 at_one_tick = refl
 
--- x and z of the chip select part too, and an edge from x is none
+-- a chip select of x or z parts words too, and an edge from x is no edge
 unclear_select : found (spi_setup 0 2 Msb) ((10, One) ∷ (15, Zero) ∷ (20, One) ∷ (25, Zero) ∷ (30, One) ∷ []) None None
     (Some ((0, Zero) ∷ (22, Z) ∷ (23, X) ∷ (24, Zero) ∷ [])) 40
     ≡ annotation 20 20 (PartialOf 1) ∷ annotation 30 30 (PartialOf 1) ∷ []

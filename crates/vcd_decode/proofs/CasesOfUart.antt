@@ -1,4 +1,4 @@
--- Worked cases: what frames small captures of a UART line hold.
+-- Worked cases: the frames in small captures of a UART line.
 use Rattle.std.proofs.Common.{◌≡◌, refl}
 use Rattle.std.specs.Prelude.{ℕ, ◌+◌, ◌-◌, ◌*◌, ◌/◌, List, [], ◌∷◌, map, Some}
 use Rattle.std.specs.Prelude as no_fault
@@ -67,7 +67,7 @@ second_stop_bit_is_cut_off : found short_bits 30 (uart_setup 25 10 5 Even 2) ≡
 unfolding found short_bits uart_annotations frames falls begun_frame sample_offset value_from
 second_stop_bit_is_cut_off = refl
 
--- a low pulse that is over in the middle of the start bit begins nothing
+-- a low pulse that ends before the middle of the start bit begins nothing
 glitch : found ((0, One) ∷ (10, Zero) ∷ (12, One) ∷ []) 40 (uart_setup 10 1 8 None 1) ≡ []
 unfolding found uart_annotations frames falls begun_frame sample_offset value_from
 glitch = refl
@@ -79,7 +79,7 @@ x_among_the_data = refl
 
 -- ---- where it goes on
 
--- a fall at the tick behind the last sample begins a frame
+-- a fall at the tick after the last sample begins a frame
 on_after_a_frame : found ((0, One) ∷ (20, Zero) ∷ (30, One) ∷ (40, Zero) ∷ (90, One) ∷ (100, Zero) ∷ (110, One) ∷ (
   116,
   Zero,
@@ -88,32 +88,32 @@ on_after_a_frame : found ((0, One) ∷ (20, Zero) ∷ (30, One) ∷ (40, Zero) �
 unfolding found uart_annotations frames falls begun_frame sample_offset value_from
 on_after_a_frame = refl
 
--- one at the last sample belongs to the frame, whose stop bit is then 0
+-- a fall at the last sample belongs to the frame, whose stop bit is then 0
 not_at_its_last_tick : found ((0, One) ∷ (20, Zero) ∷ (30, One) ∷ (40, Zero) ∷ (90, One) ∷ (100, Zero) ∷ (110, One)
     ∷ (115, Zero) ∷ []) 130 (uart_setup 10 1 8 None 1)
     ≡ annotation 20 115 FrameError ∷ []
 unfolding found uart_annotations frames falls begun_frame sample_offset value_from
 not_at_its_last_tick = refl
 
--- a frame may begin while the start bit of a glitch would still last
+-- a frame can begin while the start bit of a glitch would still last
 on_after_a_glitch : found ((0, One) ∷ (10, Zero) ∷ (12, One) ∷ (16, Zero) ∷ []) 40 (uart_setup 10 1 8 None 1)
     ≡ annotation 16 40 Partial ∷ []
 unfolding found uart_annotations frames falls begun_frame sample_offset value_from
 on_after_a_glitch = refl
 
--- and behind a stop bit that is 0
+-- or after a stop bit that is 0
 on_after_a_frame_error : found ((0, One) ∷ (10, Zero) ∷ (13, One) ∷ (18, Zero) ∷ (28, One) ∷ (29, Zero) ∷ []) 40
     (uart_setup 25 10 5 None 1) ≡ annotation 10 26 FrameError ∷ annotation 29 40 Partial ∷ []
 unfolding found uart_annotations frames falls begun_frame sample_offset value_from
 on_after_a_frame_error = refl
 
--- behind a wrong parity
+-- or after a wrong parity
 on_after_a_parity_error : found ((0, One) ∷ (10, Zero) ∷ (13, One) ∷ (18, Zero) ∷ (28, One) ∷ (29, Zero) ∷ []) 40
     (uart_setup 25 10 5 Odd 1) ≡ annotation 10 28 (ParityError 3) ∷ annotation 29 40 Partial ∷ []
 unfolding found uart_annotations frames falls begun_frame sample_offset value_from
 on_after_a_parity_error = refl
 
--- behind an x
+-- or after an x
 on_after_unknown : found ((0, One) ∷ (10, Zero) ∷ (13, X) ∷ (18, Zero) ∷ (26, One) ∷ (27, Zero) ∷ []) 40
     (uart_setup 25 10 5 None 1) ≡ annotation 10 26 Unknown ∷ annotation 27 40 Partial ∷ []
 unfolding found uart_annotations frames falls begun_frame sample_offset value_from
@@ -121,25 +121,25 @@ on_after_unknown = refl
 
 -- ---- which fault counts
 
--- a stop bit that is 0 counts above a wrong parity
+-- a stop bit that is 0 outranks a wrong parity
 frame_error_beside_parity_error : found ((0, One) ∷ (10, Zero) ∷ (13, One) ∷ (18, Zero) ∷ []) 30
     (uart_setup 25 10 5 Odd 1) ≡ annotation 10 28 FrameError ∷ []
 unfolding found uart_annotations frames falls begun_frame sample_offset value_from
 frame_error_beside_parity_error = refl
 
--- x or z counts above both
+-- x or z outranks both
 x_beside_frame_error : found ((0, One) ∷ (10, Zero) ∷ (13, Z) ∷ (18, Zero) ∷ []) 30 (uart_setup 25 10 5 Odd 1)
     ≡ annotation 10 28 Unknown ∷ []
 unfolding found uart_annotations frames falls begun_frame sample_offset value_from
 x_beside_frame_error = refl
 
--- a stop bit may be unknown too
+-- a stop bit can be unknown too
 x_in_the_stop_bit : found ((0, One) ∷ (10, Zero) ∷ (13, One) ∷ (18, Zero) ∷ (26, X) ∷ []) 30 (uart_setup 25 10 5 None 1)
     ≡ annotation 10 26 Unknown ∷ []
 unfolding found uart_annotations frames falls begun_frame sample_offset value_from
 x_in_the_stop_bit = refl
 
--- both stop bits are looked at
+-- both stop bits are read
 both_stop_bits : found short_bits 30 (uart_setup 25 10 5 None 2) ≡ annotation 10 28 FrameError ∷ []
 unfolding found short_bits uart_annotations frames falls begun_frame sample_offset value_from
 both_stop_bits = refl
@@ -154,7 +154,7 @@ two_stop_bits : found ((0, One) ∷ (10, Zero) ∷ (13, One) ∷ (18, Zero) ∷ 
 unfolding found uart_annotations frames falls begun_frame sample_offset value_from
 two_stop_bits = refl
 
--- the parity bit behind nine data bits counts
+-- the parity bit after nine data bits counts
 nine_bits_with_parity : found ((0, One) ∷ (10, Zero) ∷ (33, One) ∷ (35, Zero) ∷ (36, One) ∷ []) 40
     (uart_setup 25 10 9 Even 1) ≡ annotation 10 38 (Byte 256) ∷ []
 unfolding found uart_annotations frames falls begun_frame sample_offset value_from
@@ -181,7 +181,7 @@ no_changes : found [] 130 (uart_setup 10 1 8 None 1) ≡ []
 unfolding found uart_annotations frames falls begun_frame sample_offset value_from
 no_changes = refl
 
--- the longest frame may end at the last tick that a capture has
+-- the longest frame can end at the last tick of a capture
 longest : ℕ
 longest = 25 * RATIO_LIMIT / 2
 

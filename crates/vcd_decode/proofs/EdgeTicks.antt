@@ -1,4 +1,4 @@
--- What is empty where no line changes: over all ticks it is what it is over the edges.
+-- A list that is empty where no line changes: over all ticks it is the list over the edges.
 use Rattle.std.proofs.Common.{◌≡◌, ℕ, zero, suc, ◌||◌, Bool, true, false, not, cond, Option, Some, None, List, [], ◌∷◌}
 use Rattle.std.proofs.Common.{◌++◌, map, replicate, get_or, refl, sym, ap, subst, ◌∙◌}
 use Rattle.std.specs.List.{filter, flat_map, list_any, range_with_len, AllByRecursion}
@@ -81,7 +81,7 @@ still_values (l ∷ ls) t none =
     let rest = still_values ls t (second_fails (changes_at t l) (list_any (changes_at t) ls) none) in
     λ i. here i ∷ rest i
 
--- each line has its letter of the tick before
+-- where no line changes, each has its letter of the tick before
 still_bits : (waves : List (Option WaveView)) (t : ℕ) → list_any (changes_at t) (map trace_of waves) ≡ false
     → (line_edge (lines_of waves) t).at ≡ (line_edge (lines_of waves) t).before
 still_bits waves t none =
@@ -117,7 +117,7 @@ module _ (waves : List (Option WaveView)) where
   each_map P f [] all = tt
   each_map P f (x ∷ xs) all = (all x, each_map P f xs all)
 
-  -- so each is that of the lines at its tick
+  -- each edge is that of the lines at its tick
   pub each_edge : (end : ℕ) → AllByRecursion (λ e. e ≡ line_edge lines e.tick) (bit_edges_of waves end)
   each_edge end =
       let P : BitEdge → Type 0 = λ e. e ≡ line_edge lines e.tick in
@@ -139,7 +139,7 @@ module _ (waves : List (Option WaveView)) where
         choose false none later = later
             ∙ ap (λ xs. xs ++ flat_map (λ u. g (line_edge lines u)) ticks) (sym (still t (still_bits waves t none)))
 
-    -- what is empty where no line changes
+    -- a list that is empty where no line changes
     pub over_edges : (end : ℕ)
         → flat_map g (bit_edges_of waves end) ≡ flat_map (λ t. g (line_edge lines t)) (range_with_len 0 (suc end))
     over_edges end = ap (flat_map g) (edges_are end) ∙ over_kept (range_with_len 0 (suc end))

@@ -28,7 +28,7 @@ fall_ticks before [] = []
 fall_ticks before (c ∷ cs) =
     cond (is_one before && is_zero (letter_of c)) (c.tick ∷ fall_ticks (letter_of c) cs) (fall_ticks (letter_of c) cs)
 
--- no letter is both
+-- no letter is both 1 and 0
 never_both : (b : Bit) → is_one b && is_zero b ≡ false
 never_both Zero = refl
 never_both One = refl
@@ -101,7 +101,7 @@ passed begun taken tick starts true none =
       | inr within ↦ rw (le-leb tick taken within) refl
     ]
 
--- one that begins what `begun` says
+-- a change that begins a frame
 begins : (begun : ℕ → Option Annotation) (taken tick : ℕ) (starts : List ℕ) (fall : Bool)
     → fall && nat_lt taken tick ≡ true
     → frames begun taken (cond fall (tick ∷ starts) starts)
@@ -114,7 +114,7 @@ begins begun taken tick starts true some =
       | inr within ↦ let both : true ≡ false = sym some ∙ le-ltb taken tick within in absurd (cc)
     ]
 
--- either way the frames found grow by what it begins
+-- either way the frames found grow by the frame that it begins
 pub one_change : (begun : ℕ → Option Annotation) (taken : ℕ) (before : Bit) (c : Change) (cs : List Change)
     (frame : Option Annotation)
     → frame ≡ (if is_one before && is_zero (letter_of c) && nat_lt taken c.tick then begun c.tick else None)
@@ -135,7 +135,7 @@ one_change begun taken before c cs frame is =
 
 -- ---- the walk over the changes
 
--- one change more: the frames found and those to come stay all frames
+-- after one more change the frames found and those to come are still all frames
 pub walked : (begun : ℕ → Option Annotation) (taken last : ℕ) (before letter : Bit) (changes : List Change) (i : ℕ)
     (c : Change) (frame : Option Annotation)
     → (found later all : List Annotation) → i < length changes → c ≡ get_or changes i c → letter ≡ letter_of c
@@ -158,7 +158,7 @@ walked begun taken last before letter changes i c frame found later all within a
     ∙ ap (λ cs. found ++ frames begun taken (fall_ticks before cs)) (sym list)
     ∙ told
 
--- at the end all are found
+-- at the end all frames are found
 pub all_walked : (begun : ℕ → Option Annotation) (taken : ℕ) (before : Bit) (changes : List Change) (i : ℕ)
     (found all : List Annotation) → length changes ≤ i
     → found ++ frames begun taken (fall_ticks before (drop i changes)) ≡ all → found ≡ all

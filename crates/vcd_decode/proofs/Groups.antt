@@ -1,4 +1,4 @@
--- A list cut into groups: none, a short one, and a whole one in front of the others.
+-- A list cut into groups: none, a short one, or a whole one in front of the others.
 use Rattle.std.proofs.Common.{◌≡◌, ℕ, zero, suc, ◌+◌, ◌-◌, ◌*◌, ◌/◌, ◌<◌, ◌≤◌, List, [], ◌∷◌, ◌++◌, map, length, take}
 use Rattle.std.proofs.Common.{drop, refl, ap, ◌∙◌, arith}
 use Rattle.std.specs.List.{range_with_len}
@@ -18,7 +18,7 @@ count_short m n some short =
     let one : (m + n - 1) / n ≡ 1 = div-eq_of_lt-le n (omega arith) (omega arith) in
     omega (arith, one)
 
--- one more where n more items stand in front
+-- n more items in front give one more group
 count_more : (m n : ℕ) → 0 < n → chunk_count (n + m) n ≡ suc (chunk_count m n)
 count_more m n some =
     let same : n + m + n - 1 ≡ n + (m + n - 1) = omega arith in
@@ -71,7 +71,7 @@ drop_front k [] xs = ap (λ n. drop n xs) {x = 0 + k} {y = k} (omega arith)
 drop_front k (x ∷ c) xs = ap (λ n. drop n (x ∷ c ++ xs)) {x = length (x ∷ c) + k} {y = suc (length c + k)} (omega arith)
     ∙ drop_front k c xs
 
--- a whole group stands in front of those of what is left
+-- a whole group in front of those of the rest
 pub groups_whole : {X : Type 0} (n : ℕ) (c xs : List X) → 0 < n → length c ≡ n
     → groups_of n (c ++ xs) ≡ c ∷ groups_of n xs
 unfolding groups_of

@@ -18,7 +18,7 @@ use Rattle.vcd_decode.specs.Lines.{line_of}
 abbrev pub is_up_to : ℕ → Change → Bool
 is_up_to t c = nat_le c.tick t
 
--- none is, where the first comes later
+-- no change is up to the tick where the first comes later
 none_up_to : (cs : List Change) (t floor : ℕ) (before : List Bit) → AreChangesFrom floor before cs → t < floor
     → count_by (is_up_to t) cs ≡ 0
 none_up_to [] t floor before rise early = refl
@@ -54,12 +54,12 @@ wide_from floor before (c ∷ cs) zero d rise within = rise.2
 wide_from floor before (c ∷ cs) (suc i) d (from, other, wide, rest) within =
     wide_from (c.tick + 1) c.value cs i d rest (omega (arith, within)) ∙ wide
 
--- each value of a wave of one bit has one
+-- each value of a wave of one bit has one letter
 pub one_bit_at : (width : ℕ) (cs : List Change) (i : ℕ) (d : Change) → IsWave width cs → width ≡ 1 → i < length cs
     → length (get_or cs i d).value ≡ 1
 one_bit_at width cs i d is one within = wide_from 0 (all_x width) cs i d is.rise within ∙ length-replicate width _ ∙ one
 
--- the last value stands at the end of the list
+-- the last value is at the end of the list
 last_at : (before : List Bit) (cs : List Change) (n : ℕ) (d : Change) → n + 1 ≡ length cs
     → last_value before cs ≡ (get_or cs n d).value
 unfolding last_value
@@ -86,7 +86,7 @@ letter_counted wave changes t n c same is counted some at =
     ∙ ap (λ (d : Change). d.value) (sym at) in
     ap (λ (v : List Bit). letter_at v 0) (sym value)
 
--- and x where there is none
+-- it is x where there is no change
 pub no_letter_counted : (wave : WaveView) (changes : List Change) (t n : ℕ) → wave.width ≡ 1 → changes ≡ wave.changes
     → IsWave wave.width changes
     → n ≡ count_by (is_up_to t) wave.changes → length (take n changes) < 1 → X ≡ line_of wave t

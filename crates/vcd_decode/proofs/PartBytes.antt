@@ -1,4 +1,4 @@
--- What is kept of the bits at hand.
+-- The state of the current bits.
 use Rattle.std.proofs.Common.{◌≡◌, ◌+◌, ◌-◌, ◌<◌, ◌==◌, Bool, true, false, if◌then◌else◌, List, [], ◌∷◌, length, fold}
 use Rattle.std.proofs.Common.{refl, sym, ap, ◌∙◌, arith, add-zero}
 use Rattle.std.proofs.lemmas.Bool.Decides.{Decides-eqb}

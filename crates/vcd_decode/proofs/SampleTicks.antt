@@ -17,7 +17,7 @@ offsets_rise u k m le =
     quotients_rise ((2 * k + 1) * u.numerator) ((2 * m + 1) * u.numerator) (2 * u.denominator)
     (mul-le-mul_right u.numerator (omega arith))
 
--- a list by the number behind each index
+-- a list by the number after each index
 pub shifted : {X : Type 0} (f : ℕ → X) (a n : ℕ)
     → map (λ k. f (k + 1)) (range_with_len a n) ≡ map f (range_with_len (a + 1) n)
 shifted f a zero = refl

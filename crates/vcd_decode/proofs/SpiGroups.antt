@@ -1,4 +1,4 @@
--- The group of some ticks of SPI: what one more tick makes of it, and what it tells.
+-- The group of some ticks of SPI: the group after one more tick, and its annotation.
 use Rattle.std.proofs.Common.{◌≡◌, ℕ, ◌+◌, ◌-◌, ◌*◌, ◌^◌, ◌<◌, ◌==◌, ◌||◌, Bool, true, false, if◌then◌else◌, Option}
 use Rattle.std.proofs.Common.{Some, None, List, [], ◌∷◌, ◌++◌, map, length, reverse, get_or, refl, sym, ap, ◌∙◌, arith}
 use Rattle.std.specs.List.{list_any}
@@ -149,7 +149,7 @@ last_last ts t =
 -- ---- groups
 
 module _ (u : SpiSetup) (mosi miso : Option (ℕ → Bit)) where
-  -- with one more tick
+  -- the group with one more tick
   pub group_last : (ts : List ℕ) (t : ℕ) → record {
     start = if length ts == 0 then t else group_start ts;
     last = t;
@@ -165,14 +165,14 @@ module _ (u : SpiSetup) (mosi miso : Option (ℕ → Bit)) where
       let back = sym (line_last u.order miso ts t) in
       λ i. record { start = start i; last = last i; count = count i; mosi = out i; miso = back i }
 
-  -- before the first tick
+  -- the group before the first tick
   pub group_none : (ts : List ℕ) → group_before (group_of u mosi miso ts) ≡ group_of u mosi miso []
   group_none ts =
       let out = line_before u.order mosi ts in
       let back = line_before u.order miso ts in
       λ i. record { start = 0; last = 0; count = 0; mosi = out i; miso = back i }
 
-  -- what it tells where it is no whole word
+  -- the annotation of a group that is no whole word
   pub rest_is : (ts : List ℕ) → length ts < u.bits
       → annotations_at_rest (group_of u mosi miso ts) ≡ segment_annotations u mosi miso ts
   rest_is [] short = sym (ap (map (group_annotation u mosi miso)) (groups_none u.bits))
@@ -183,7 +183,7 @@ module _ (u : SpiSetup) (mosi miso : Option (ℕ → Bit)) where
       rw some (sym (ap (map (group_annotation u mosi miso)) (groups_short u.bits (t ∷ ts) (omega arith) (omega arith))
       ∙ ap (λ a. a ∷ []) told))
 
-  -- and where it is one
+  -- the annotation of a whole word
   pub word_is : (ts : List ℕ) → length ts ≡ u.bits
       → group_annotation u mosi miso ts ≡ word_annotation (group_of u mosi miso ts)
   word_is ts whole = rw (le-ltb (length ts) u.bits (omega arith)) refl

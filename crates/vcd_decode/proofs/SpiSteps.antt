@@ -1,4 +1,4 @@
--- The walk over edges for words of SPI: what an edge tells beside what is told by all ticks.
+-- The walk over edges for SPI words: the annotations of an edge compared with those of all ticks.
 use Rattle.std.proofs.Common.{◌≡◌, ℕ, zero, suc, ◌+◌, ◌<◌, ◌==◌, ◌&&◌, Bool, true, false, cond, not, if◌then◌else◌}
 use Rattle.std.proofs.Common.{nat_lt, Option, Some, None, List, [], ◌∷◌, ◌++◌, map, length, refl, sym, ap, subst, ◌∙◌}
 use Rattle.std.proofs.Common.{append_assoc, add-one, inl, inr, arith}
@@ -28,7 +28,7 @@ use Rattle.vcd_decode.proofs.Groups.{groups_none, groups_whole}
 use Rattle.vcd_decode.proofs.EdgeTicks.{each_edge, over_edges}
 use Rattle.vcd_decode.proofs.SpiGroups.{group_last, group_none, length_last, line_first, line_fits, rest_is, word_is}
 
--- ---- a whole word in front of what follows
+-- ---- a whole word in front of the rest
 
 module _ (u : SpiSetup) (some : 0 < u.bits) (mosi miso : Option (ℕ → Bit)) where
   abbrev annotations_of_ticks : List ℕ → List Annotation
@@ -46,7 +46,7 @@ module _ (u : SpiSetup) (some : 0 < u.bits) (mosi miso : Option (ℕ → Bit)) w
       ap (λ us. annotations_at_marks u mosi miso us marks) (append_assoc c ts (t ∷ []))
       ∙ word_first c (ts ++ t ∷ []) marks whole
 
-  -- ---- what an edge makes of the group of some ticks: the marks that it adds tell the same
+  -- ---- the group of some ticks after an edge: the marks that the edge adds give the same
 
   pub record Goes (divides reads : Bool) (longer : Group) (t : ℕ) (ts : List ℕ) (marks : List (Option ℕ)) : Type 0 where
     pub after : List ℕ
@@ -151,7 +151,7 @@ module _ (u : SpiSetup) (some : 0 < u.bits) (mosi miso : Option (ℕ → Bit)) w
               ∙ before;
         }
 
-    -- at the end the rest is told
+    -- at the end the rest is annotated
     pub so_far_ends : (all found more : List Annotation) (g : Group) (left : List BitEdge) → SoFar all found g left
         → left ≡ [] → more ≡ found ++ annotations_at_rest g → more ≡ all
     unfolding annotations_at_marks
@@ -201,7 +201,7 @@ module _ (u : SpiSetup) (some : 0 < u.bits) (mosi miso : Option (ℕ → Bit)) w
     unfolding edge_marks
     mark_is t = ap (λ is. mark (was_selected t) is (has_edge u.mode clk t) t) (selected_is t)
 
-    -- what parts of ticks tell, the first of them behind some ticks
+    -- the annotations of parts of ticks, where some ticks come before the first part
     abbrev parts_annotations : List ℕ → List (List ℕ) → List Annotation
     parts_annotations ts [] = annotations_of_ticks ts
     parts_annotations ts (part ∷ parts) = annotations_of_ticks (ts ++ filter (has_edge u.mode clk) part)
@@ -213,7 +213,7 @@ module _ (u : SpiSetup) (some : 0 < u.bits) (mosi miso : Option (ℕ → Bit)) w
     none_told : annotations_of_ticks [] ≡ []
     none_told = ap (map (group_annotation u mosi miso)) (groups_none u.bits)
 
-    -- behind no ticks they tell what each tells
+    -- without ticks before, they are those of each part
     parts_alone : (ps : List (List ℕ))
         → parts_annotations [] ps ≡ flat_map annotations_of_ticks (map (filter (has_edge u.mode clk)) ps)
     parts_alone [] = none_told
@@ -309,7 +309,7 @@ still u e same =
     nothing true false none = refl
     nothing false reads none = refl
 
--- before the first edge all is left
+-- before the first edge everything is left
 pub so_far_none : (u : SpiSetup) → 0 < u.bits
     → (w : WaveView) (mosi miso cs : Option WaveView) (end : ℕ) (es : List BitEdge) (found : List Annotation)
     (g : Group) (out back : Bool)

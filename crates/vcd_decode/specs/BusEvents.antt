@@ -1,4 +1,4 @@
--- What the two lines of an I2C bus do at each tick: conditions and bits (UM10204, 3.1.3 and 3.1.4).
+-- The events on the two lines of an I2C bus at each tick: conditions and bits (UM10204, 3.1.3 and 3.1.4).
 use Rattle.std.specs.Prelude.{ℕ, suc, Bool, true, false, ◌&&◌, if◌then◌else◌, Option, Some, None, List, filter_map}
 use Rattle.std.specs.List.{range_with_len}
 use Rattle.vcd_core.specs.declared.bit.Bit.{Bit}
@@ -8,7 +8,7 @@ use Rattle.vcd_decode.specs.declared.i2c_bus.events.BusLevels.{BusLevels}
 use Rattle.vcd_decode.specs.declared.i2c_bus.events.BusEvent.{BusEvent}
 use Rattle.vcd_decode.specs.declared.i2c_bus.events.BusEvent.TheVariants as events
 
--- whether a level is high: 1, or z, where nothing drives the line and a resistor pulls it up. It is low where it is 0; x is neither
+-- whether a level is high: 1, or z, where a resistor pulls the line up; low is 0, and x is neither
 abbrev pub is_line_high : Bit → Bool
 is_line_high Zero = false
 is_line_high One = true
@@ -27,18 +27,18 @@ is_stop before at = is_line_high before.scl && is_line_high at.scl && is_zero be
 abbrev pub is_bit : BusLevels → BusLevels → Bool
 is_bit before at = is_zero before.scl && is_line_high at.scl
 
--- what the lines do at a tick, by their levels just before it and at it; the level of a bit is that of SDA
+-- the event on the lines at a tick, by their levels just before it and at it; the level of a bit is that of SDA
 abbrev pub bus_event : ℕ → BusLevels → BusLevels → Option BusEvent
 bus_event t before at =
     if is_start before at then Some (events.Start t)
     else (if is_stop before at then Some (events.Stop t)
     else (if is_bit before at then Some (events.Bit (record { tick = t; level = at.sda })) else None))
 
--- the same of two lines as functions of the tick
+-- the same for two lines as functions of the tick
 abbrev pub bus_event_at : (ℕ → Bit) → (ℕ → Bit) → ℕ → Option BusEvent
 bus_event_at scl sda t =
     bus_event t (record { scl = letter_before scl t; sda = letter_before sda t }) (record { scl = scl t; sda = sda t })
 
--- what they do at the ticks 0 to `end`
+-- the events at the ticks 0 to `end`
 unfoldable pub bus_events : (ℕ → Bit) → (ℕ → Bit) → ℕ → List BusEvent
 bus_events scl sda end = filter_map (bus_event_at scl sda) (range_with_len 0 (suc end))

@@ -1,4 +1,4 @@
--- A list cut into groups of so many items.
+-- A list cut into groups of equal length.
 use Rattle.std.specs.Prelude.{ℕ, List, map, length}
 use Rattle.std.specs.List.{range_with_len}
 use Rattle.std.specs.Fork.{slice_chunk}

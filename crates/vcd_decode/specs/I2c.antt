@@ -1,4 +1,4 @@
--- The annotations of an I2C bus (UM10204, 3.1); how rests and unclear levels are shown is the project's own.
+-- The annotations of an I2C bus (UM10204, 3.1); those of rests and unclear levels are the project's own.
 use Rattle.std.specs.Prelude.{ℕ, ◌-◌, ◌==◌, ◌&&◌, nat_le, Bool, true, false, if◌then◌else◌, Option, Some, None, List, [], ◌∷◌, ◌++◌, length, take, drop, map, slice_index}
 use Rattle.std.specs.Option.{option_or, option_flatten}
 use Rattle.vcd_core.specs.declared.bit.Bit.{Bit}
@@ -25,17 +25,17 @@ ticks_of bits = map (λ b. b.tick) bits
 abbrev pub bits_annotation : List BusBit → Kind → Annotation
 bits_annotation bits kind = annotation (slice_index (ticks_of bits) 0) (slice_index (ticks_of bits) (length bits - 1)) kind
 
--- the byte of a nine and its acknowledge
+-- a byte of nine bits and its acknowledge
 abbrev pub byte_annotations : ByteRole → List BusBit → List Annotation
 byte_annotations role nine =
     bits_annotation (take 8 nine) (byte_kind role (number_of_bits (take 8 nine)))
     ∷ bits_annotation (drop 8 nine) (acknowledge_kind (number_of_bits (drop 8 nine))) ∷ []
 
--- a rest: at least two bits that a condition ends, the rise of SCL before that condition among them
+-- a rest: at least two bits that a condition ends, including the rise of SCL before that condition
 abbrev pub rest_annotations : Bool → List BusBit → List Annotation
 rest_annotations ended rest = if ended && nat_le 2 (length rest) then bits_annotation rest (kinds.PartialOf (length rest)) ∷ [] else []
 
--- the bits of a stretch, cut into nines: a byte and its acknowledge each, and a rest
+-- the bits up to a condition, cut into nines: a byte and its acknowledge each, and a rest
 unfoldable pub nines_annotations : Bool → ByteRole → List (List BusBit) → List Annotation
 nines_annotations ended role [] = []
 nines_annotations ended role (nine ∷ nines) =
@@ -63,12 +63,13 @@ unfoldable pub shown_address : List Annotation → Option ℕ
 shown_address [] = None
 shown_address (a ∷ others) = option_or (ten_bit_address a.kind) (shown_address others)
 
--- a START is a repeated one where the last condition was a START
+-- the kind of a START: a repeated one where the last condition was a START
 abbrev pub start_kind : Option (Option ℕ) → Kind
 start_kind None = kinds.Start
 start_kind (Some given) = kinds.RepeatedStart
 
--- the annotations of conditions and bits, where the last condition before them was a START (with the address of ten bits that came since) or none
+-- the annotations of conditions and bits, where the last condition before them was a START (with the address of ten
+-- bits that came since) or none
 unfoldable pub events_annotations : Option (Option ℕ) → List BusEvent → List Annotation
 events_annotations last [] = []
 events_annotations last (events.Bit b ∷ es) = events_annotations last es

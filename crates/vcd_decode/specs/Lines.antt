@@ -1,4 +1,4 @@
--- A line of one bit as a function of the tick, and an annotation of it: what the three decoders share.
+-- A line of one bit as a function of the tick, and annotations: shared by the three decoders.
 use Rattle.std.specs.Prelude.{ℕ, zero, suc, ◌+◌, ◌*◌, ◌||◌, Bool, true, false, not, if◌then◌else◌, List, [], ◌∷◌}
 use Rattle.vcd_core.specs.declared.bit.Bit.{Bit}
 use Rattle.vcd_core.specs.declared.bit.Bit.TheVariants.{Zero, One, X, Z}
@@ -31,11 +31,11 @@ is_one One = true
 is_one X = false
 is_one Z = false
 
--- whether a letter is neither
+-- whether a letter is x or z
 abbrev pub is_unclear : Bit → Bool
 is_unclear b = not (is_zero b || is_one b)
 
--- the number that letters make, the least significant first
+-- the number that letters give, least significant first
 abbrev pub number_from_letters : List Bit → ℕ
 number_from_letters [] = 0
 number_from_letters (b ∷ bs) = (if is_one b then 1 else 0) + 2 * number_from_letters bs

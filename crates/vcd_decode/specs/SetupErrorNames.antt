@@ -3,7 +3,7 @@ use Rattle.std.specs.Prelude.{ℕ, List, codes}
 use Rattle.vcd_decode.specs.declared.setup_error.SetupError.{SetupError}
 use Rattle.vcd_decode.specs.declared.setup_error.SetupError.TheVariants.{BadRatio, BitTooShort, BadData, BadStop, BadMode, BadBits}
 
--- the name that is printed for a setup that is refused
+-- the printed name of a fault
 abbrev pub setup_error_name : SetupError → List ℕ
 setup_error_name BadRatio = codes "BadRatio"
 setup_error_name BitTooShort = codes "BitTooShort"

@@ -1,5 +1,5 @@
--- The words of a serial peripheral interface. At which edge a mode samples is the field's common rule (clock polarity and
--- phase, 0 to 3); how ticks are parted and cut into words is the project's own.
+-- The words of a serial peripheral interface. The edge at which a mode samples is the field's common rule (clock
+-- polarity and phase, 0 to 3); the cut of ticks into words is the project's own.
 use Rattle.std.specs.Prelude.{ℕ, suc, ◌-◌, ◌==◌, ◌&&◌, ◌||◌, nat_lt, Bool, true, not, if◌then◌else◌, Option, Some, None, List, map, filter, length, reverse, slice_index}
 use Rattle.std.specs.List.{flat_map, list_any, range_with_len, slice_split}
 use Rattle.vcd_core.specs.declared.bit.Bit.{Bit}
@@ -15,11 +15,11 @@ use Rattle.vcd_decode.specs.Lines.{letter_before, is_zero, is_one, is_unclear, n
 
 -- ---- the sampling ticks
 
--- whether a mode samples where its clock rises; the others sample where it falls
+-- whether a mode samples where its clock rises
 abbrev pub samples_rise : ℕ → Bool
 samples_rise mode = mode == 0 || mode == 3
 
--- whether a clock that goes from one letter to another is sampled there
+-- whether a clock is sampled where it changes from one letter to another
 abbrev pub is_sampled : Bool → Bit → Bit → Bool
 is_sampled rise before at = if rise then is_zero before && is_one at else is_one before && is_zero at
 
@@ -32,22 +32,22 @@ abbrev pub is_selected : Option (ℕ → Bit) → ℕ → Bool
 is_selected None t = true
 is_selected (Some cs) t = is_zero (cs t)
 
--- the ticks 0 to `end` parted wherever the chip is not selected, and of each part those that are sampled
+-- the sampled ticks 0 to `end`, in parts between the ticks at which the chip is not selected
 abbrev pub segments : SpiSetup → (ℕ → Bit) → Option (ℕ → Bit) → ℕ → List (List ℕ)
 segments u clk cs end = map (filter (has_edge u.mode clk)) (slice_split (λ t. not (is_selected cs t)) (range_with_len 0 (suc end)))
 
 -- ---- words
 
--- the number that letters make in the order in which they come
+-- the number that letters give in the order in which they come
 abbrev pub ordered_number : BitOrder → List Bit → ℕ
 ordered_number Msb letters = number_from_letters (reverse letters)
 ordered_number Lsb letters = number_from_letters letters
 
--- what letters of a data line make: nothing known where one is neither 0 nor 1
+-- the data of these letters: unknown where one is neither 0 nor 1
 abbrev pub data_of : BitOrder → List Bit → LineData
 data_of order letters = if list_any is_unclear letters then Unknown else Number (ordered_number order letters)
 
--- what a data line shows at some ticks
+-- the data of a line at some ticks
 abbrev pub line_data : BitOrder → Option (ℕ → Bit) → List ℕ → LineData
 line_data order None ticks = Absent
 line_data order (Some f) ticks = data_of order (map f ticks)
@@ -56,20 +56,20 @@ line_data order (Some f) ticks = data_of order (map f ticks)
 abbrev pub group_start : List ℕ → ℕ
 group_start ticks = slice_index ticks 0
 
--- and the last
+-- the last of some ticks
 abbrev pub group_end : List ℕ → ℕ
 group_end ticks = slice_index ticks (length ticks - 1)
 
--- what a group of a segment tells: a word, or how many bits of one
+-- the annotation of a group: a word, or the number of bits of an unfinished one
 abbrev pub group_annotation : SpiSetup → Option (ℕ → Bit) → Option (ℕ → Bit) → List ℕ → Annotation
 group_annotation u mosi miso ticks = annotation (group_start ticks) (group_end ticks)
     (if nat_lt (length ticks) u.bits then PartialOf (length ticks)
     else Word (line_data u.order mosi ticks) (line_data u.order miso ticks))
 
--- and what a segment tells
+-- the annotations of a segment
 abbrev pub segment_annotations : SpiSetup → Option (ℕ → Bit) → Option (ℕ → Bit) → List ℕ → List Annotation
 segment_annotations u mosi miso ticks = map (group_annotation u mosi miso) (groups_of u.bits ticks)
 
--- the annotations of lines that have these letters at each tick, up to the capture's end
+-- the annotations of lines with these letters at each tick, up to the capture's end
 unfoldable pub spi_annotations : SpiSetup → (ℕ → Bit) → Option (ℕ → Bit) → Option (ℕ → Bit) → Option (ℕ → Bit) → ℕ → List Annotation
 spi_annotations u clk mosi miso cs end = flat_map (segment_annotations u mosi miso) (segments u clk cs end)

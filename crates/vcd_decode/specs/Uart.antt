@@ -1,5 +1,5 @@
 -- The frames of an asynchronous serial line. A frame is a start bit 0, data bits with the least significant first, a
--- parity bit where there is one, and stop bits 1 (ISO 1177); when it begins and where it is sampled is the project's own.
+-- parity bit where there is one, and stop bits 1 (ISO 1177). Its beginning and its sample ticks are the project's own.
 use Rattle.std.specs.Prelude.{ℕ, suc, ◌+◌, ◌*◌, ◌/◌, ◌%◌, ◌==◌, ◌&&◌, nat_lt, nat_le, Bool, false, not, if◌then◌else◌, Option, Some, None, List, [], ◌∷◌, ◌++◌, map, filter, take, drop, count_by}
 use Rattle.std.specs.List.{list_any, range_with_len}
 use Rattle.std.specs.Option.{option_map_or, option_to_list}
@@ -14,21 +14,21 @@ use Rattle.vcd_decode.specs.Lines.{letter_before, is_zero, is_one, is_unclear, n
 
 -- ---- where a frame is sampled
 
--- how many parity bits a frame has
+-- the number of parity bits in a frame
 abbrev pub parity_bits : Parity → ℕ
 parity_bits parities.None = 0
 parity_bits parities.Even = 1
 parity_bits parities.Odd = 1
 
--- how many bits stand before the stop bits, the start bit aside
+-- the number of bits before the stop bits, without the start bit
 abbrev pub checked_bits : UartSetup → ℕ
 checked_bits u = u.data_bits + parity_bits u.parity
 
--- the last bit of a frame, the start bit being bit 0
+-- the position of the last bit of a frame, where the start bit is bit 0
 abbrev pub last_bit : UartSetup → ℕ
 last_bit u = checked_bits u + u.stop_bits
 
--- how many ticks behind the beginning of a frame a bit is sampled: in its middle, rounded down
+-- the ticks from the beginning of a frame to the sample of a bit: its middle, rounded down
 unfoldable pub sample_offset : UartSetup → ℕ → ℕ
 sample_offset u bit = (2 * bit + 1) * u.numerator / (2 * u.denominator)
 
@@ -36,19 +36,19 @@ sample_offset u bit = (2 * bit + 1) * u.numerator / (2 * u.denominator)
 abbrev pub sample_tick : UartSetup → ℕ → ℕ → ℕ
 sample_tick u start bit = start + sample_offset u bit
 
--- ---- what a frame says
+-- ---- the kind of a frame
 
--- its letters behind the start bit
+-- the letters of the frame after the start bit
 abbrev pub frame_letters : (ℕ → Bit) → UartSetup → ℕ → List Bit
 frame_letters f u start = map (λ bit. f (sample_tick u start bit)) (range_with_len 1 (last_bit u))
 
--- whether so many ones among the data and the parity bit are wrong
+-- whether this number of ones among the data and the parity bit is wrong
 abbrev pub is_parity_wrong : Parity → ℕ → Bool
 is_parity_wrong parities.None ones = false
 is_parity_wrong parities.Even ones = ones % 2 == 1
 is_parity_wrong parities.Odd ones = ones % 2 == 0
 
--- what these letters say: x or z stands above a stop bit that is 0, that above a wrong parity
+-- the kind of a frame with these letters: `Unknown` outranks `FrameError`, and that outranks `ParityError`
 abbrev pub frame_kind : UartSetup → List Bit → Kind
 frame_kind u letters =
     if list_any is_unclear letters then Unknown
@@ -56,7 +56,7 @@ frame_kind u letters =
     else (if is_parity_wrong u.parity (count_by is_one (take (checked_bits u) letters)) then ParityError (number_from_letters (take u.data_bits letters))
     else Byte (number_from_letters (take u.data_bits letters))))
 
--- what a fall at the tick `start` begins: nothing where the line is not 0 in the middle of the start bit; a frame
+-- the frame that a fall at the tick `start` begins: none where the line is not 0 in the middle of the start bit; one
 -- that is not sampled up to the capture's end is cut off there
 unfoldable pub begun_frame : (ℕ → Bit) → ℕ → UartSetup → ℕ → Option Annotation
 begun_frame f end u start =
@@ -71,17 +71,17 @@ begun_frame f end u start =
 abbrev pub is_fall : (ℕ → Bit) → ℕ → Bool
 is_fall f t = is_one (letter_before f t) && is_zero (f t)
 
--- the ticks 0 to `end` at which it falls
+-- the ticks 0 to `end` at which the line falls
 unfoldable pub falls : (ℕ → Bit) → ℕ → List ℕ
 falls f end = filter (is_fall f) (range_with_len 0 (suc end))
 
--- the frames that falls begin, one after another: a fall up to the tick `taken`, at which the frame before ends, begins none
+-- the frames that falls begin: a fall up to the tick `taken`, the end of the frame before, begins none
 unfoldable pub frames : (ℕ → Option Annotation) → ℕ → List ℕ → List Annotation
 frames begun taken [] = []
 frames begun taken (start ∷ starts) =
     let frame = (if nat_le start taken then None else begun start) in
     option_to_list frame ++ frames begun (option_map_or (λ a. a.end) frame taken) starts
 
--- the annotations of a line that has this letter at each tick, up to the capture's end
+-- the annotations of a line with this letter at each tick, up to the capture's end
 unfoldable pub uart_annotations : (ℕ → Bit) → ℕ → UartSetup → List Annotation
 uart_annotations f end u = frames (begun_frame f end u) 0 (falls f end)

@@ -1,11 +1,11 @@
--- How the frames of an asynchronous serial line are made, and which fault such a setup has: the project's own.
+-- The setup of an asynchronous serial line, and its faults: the project's own.
 use Rattle.std.specs.Prelude.{ℕ, ◌≡◌, ◌≤◌, ◌*◌, ◌&&◌, Bool, not, nat_le, nat_lt, if◌then◌else◌, Option, Some, None, Result, MatchResult}
 use Rattle.vcd_decode.specs.declared.uart_setup.Parity.{Parity}
 use Rattle.vcd_decode.specs.declared.uart_setup.TheConstants.{RATIO_LIMIT}
 use Rattle.vcd_decode.specs.declared.setup_error.SetupError.{SetupError}
 use Rattle.vcd_decode.specs.declared.setup_error.SetupError.TheVariants.{BadRatio, BitTooShort, BadData, BadStop}
 
--- what contracts see of a setup: a bit lasts `numerator / denominator` ticks
+-- a setup as contracts see it: a bit lasts `numerator / denominator` ticks
 pub record UartSetup : Type 0 where
   pub numerator : ℕ
   pub denominator : ℕ
@@ -23,11 +23,11 @@ uart_setup numerator denominator data_bits parity stop_bits = record {
   stop_bits = stop_bits;
 }
 
--- whether a number is one of these, both included
+-- whether a number is in this range, both ends included
 abbrev pub is_between : ℕ → ℕ → ℕ → Bool
 is_between least greatest n = nat_le least n && nat_le n greatest
 
--- the first fault of a setup, where it has one
+-- the first fault of a setup, or none
 abbrev pub uart_fault : UartSetup → Option SetupError
 uart_fault u =
     if not (is_between 1 RATIO_LIMIT u.numerator && is_between 1 RATIO_LIMIT u.denominator) then Some BadRatio
@@ -36,7 +36,7 @@ uart_fault u =
     else (if not (is_between 1 2 u.stop_bits) then Some BadStop
     else None)))
 
--- what the making of a setup answers, told by the fault that there is
+-- the result of making a setup, by its fault
 abbrev pub SetupFaultIs : {T : Type 0} → Result T SetupError → Option SetupError → Type 0
 SetupFaultIs answer found = MatchResult answer (λ _. found ≡ None) (λ fault. found ≡ Some fault)
 

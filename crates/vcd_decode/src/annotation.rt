@@ -1,6 +1,6 @@
-//! What a decoder tells.
+//! The annotations that decoders give.
 
-/// What a decoder found on its lines from the tick `start` to the tick `end`, both included.
+/// An annotation of the ticks `start` to `end`, both included.
 #[derive(Clone, Copy, Debug, PartialEq, Eq)]
 pub struct Annotation {
     pub start: u64,
@@ -8,38 +8,38 @@ pub struct Annotation {
     pub kind: Kind,
 }
 
-/// What an annotation says: of a UART line the first five (`Unknown` also of I2C), of SPI `Word` and `PartialOf`,
-/// of I2C `PartialOf` and those behind it.
+/// The kind of an annotation. The first five are of a UART line (`Unknown` also of I2C), `Word` and
+/// `PartialOf` of SPI, `PartialOf` and those after it of I2C.
 #[derive(Clone, Copy, Debug, PartialEq, Eq)]
 pub enum Kind {
-    /// A frame with these data.
+    /// A frame with these data bits.
     Byte(u16),
-    /// A frame with these data whose parity bit is wrong.
+    /// A frame with these data bits whose parity bit is wrong.
     ParityError(u16),
     /// A frame with a stop bit that is 0.
     FrameError,
-    /// A frame, byte or acknowledge with a bit that is unknown: x or z on a line of UART, x alone on a bus of
-    /// I2C, where z is high.
+    /// A frame, byte or acknowledge with an unknown bit: x or z on a line of UART, x alone on an
+    /// I2C bus, where z is high.
     Unknown,
     /// A frame that the capture's end cuts off.
     Partial,
-    /// A whole word on each data line.
+    /// A whole word, by its data lines.
     Word { mosi: LineData, miso: LineData },
-    /// So many bits of a word or a byte that was not ended.
+    /// An unfinished word or byte, by its number of bits.
     PartialOf(u64),
-    /// A START condition.
+    /// A START condition (UM10204, 3.1.4).
     Start,
     /// A START condition where the condition before it was a START.
     RepeatedStart,
-    /// A STOP condition.
+    /// A STOP condition (UM10204, 3.1.4).
     Stop,
-    /// An address of seven bits.
+    /// An address of seven bits (UM10204, 3.1.10).
     Address { address: u8, direction: Direction },
-    /// The two high bits of an address of ten bits.
+    /// The two high bits of an address of ten bits (UM10204, 3.1.11).
     AddressHigh { bits: u8, direction: Direction },
-    /// An address of ten bits.
+    /// An address of ten bits (UM10204, 3.1.11).
     TenBitAddress { address: u16, direction: Direction },
-    /// A byte behind an address.
+    /// A byte after an address.
     Data(u8),
     /// An acknowledge: the line is low.
     Ack,
@@ -47,14 +47,14 @@ pub enum Kind {
     Nack,
 }
 
-/// What a data line of SPI shows of a word.
+/// The data of an SPI line in a word.
 #[derive(Clone, Copy, Debug, PartialEq, Eq)]
 pub enum LineData {
-    /// There is no such line.
+    /// The line is absent.
     Absent,
     /// Some bit is x or z.
     Unknown,
-    /// The number that the bits make.
+    /// The number that the bits give.
     Number(u32),
 }
 

@@ -1,8 +1,8 @@
-//! Decoders of serial protocols: what frames, words and bytes lines of one bit carry, exact at every
+//! Decoders of serial protocols: the frames, words and bytes on lines of one bit, exact at every
 //! tick.
 //!
-//! A decoder answers the list of its [`Annotation`]s: [`uart`] for a line whose frames are made as a
-//! [`Uart`] says, [`spi`] for lines whose words are sent as a [`Spi`] says, and [`i2c`] for a bus.
+//! A decoder gives the list of its [`Annotation`]s. [`uart`] decodes a line whose frames follow a
+//! [`Uart`], [`spi`] lines whose words follow a [`Spi`], and [`i2c`] a bus.
 #![tactic(auto)]
 
 mod annotation;

@@ -1,16 +1,17 @@
-//! Why a decoder cannot be set up.
+//! The faults of a decoder's setup.
 
 ghost use Rattle.std.specs.Prelude.{◌≡◌};
 ghost use Rattle.vcd_decode.specs.SetupErrorNames.{setup_error_name};
 
 use thiserror::Error;
 
-/// Why a decoder cannot be set up: the first four of UART, the other two of SPI, each decided in this order.
+/// A fault of a decoder's setup: the first four of UART, the other two of SPI. The first in this
+/// order is given.
 ///
 /// The names are the project's own.
 #[derive(Clone, Copy, Debug, PartialEq, Eq, Error)]
 pub enum SetupError {
-    /// A number of the ratio that gives a bit's length is outside 1 to `RATIO_LIMIT`.
+    /// A number of the ratio, ticks to bits, is outside 1 to `RATIO_LIMIT`.
     #[error("BadRatio")]
     BadRatio,
     /// A bit lasts fewer than two ticks.
@@ -31,7 +32,7 @@ pub enum SetupError {
 }
 
 impl SetupError {
-    /// The fault's name, as it is printed. It takes no memory.
+    /// The printed name of the fault. It takes no memory.
     pub fn name(&self) -> &'static str
         ensures { result.now ≡ setup_error_name self.now }
     {

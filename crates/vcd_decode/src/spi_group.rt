@@ -1,4 +1,4 @@
-//! The bits of a word of SPI that have come so far.
+//! The bits of an SPI word so far.
 
 ghost use Rattle.std.specs.Prelude.{◌≡◌, ◌<◌, ◌==◌, ◌^◌};
 ghost use Rattle.vcd_decode.specs.inside.SpiGroup.{digit_of, longer_number, data_after, data_before, first_data, DataFits, group_before, group_after, word_annotation, rest_annotation};
@@ -7,8 +7,8 @@ use crate::annotation::{Annotation, Kind, LineData};
 use crate::spi_setup::{BitOrder, WORD_BITS_LIMIT};
 use vcd_core::{Bit, BitEdge};
 
-/// The bits since the last word: the ticks of the first and the last, how many they are, and what
-/// they make on each data line.
+/// The bits since the last word: the ticks of the first and the last, their number, and the data of
+/// each data line.
 #[derive(Clone, Copy)]
 pub(crate) struct Group {
     start: u64,
@@ -19,7 +19,7 @@ pub(crate) struct Group {
 }
 
 impl Group {
-    /// No bits yet, of the data lines that are there.
+    /// No bits yet, for the data lines that are present.
     pub(crate) fn new(mosi: bool, miso: bool) -> Group
         ensures { result ≡ record {
           start = 0;
@@ -38,7 +38,7 @@ impl Group {
         }
     }
 
-    /// No bits yet, of the same data lines.
+    /// No bits yet, for the same data lines.
     pub(crate) fn emptied(&self) -> Group
         ensures { result ≡ group_before self.now }
     {
@@ -51,7 +51,7 @@ impl Group {
         }
     }
 
-    /// With the bits that the data lines have at an edge.
+    /// The group with the bits of the data lines at an edge.
     pub(crate) fn with_edge(&self, order: BitOrder, edge: &BitEdge) -> Group
         requires count { self.now.count < WORD_BITS_LIMIT }
         requires mosi { DataFits self.now.count self.now.mosi }
@@ -71,7 +71,7 @@ impl Group {
         }
     }
 
-    /// The word that the bits are.
+    /// The annotation of a whole word.
     pub(crate) fn whole_word(&self) -> Annotation
         ensures { result ≡ word_annotation self.now }
     {
@@ -85,7 +85,7 @@ impl Group {
         }
     }
 
-    /// The bits of a word that is not ended.
+    /// The annotation of an unfinished word.
     pub(crate) fn rest(&self) -> Annotation
         ensures { result ≡ rest_annotation self.now }
     {
@@ -97,7 +97,7 @@ impl Group {
     }
 }
 
-/// What a data line shows before its first bit.
+/// The data of a line before its first bit.
 fn data_at_start(is_there: bool) -> LineData
     ensures { result ≡ first_data is_there }
 {
@@ -108,7 +108,7 @@ fn data_at_start(is_there: bool) -> LineData
     }
 }
 
-/// The same, of a line that has shown something.
+/// The data before the first bit of a line with these data.
 fn emptied(shown: LineData) -> LineData
     ensures { result ≡ data_before shown }
 {
@@ -118,7 +118,7 @@ fn emptied(shown: LineData) -> LineData
     }
 }
 
-/// What a data line shows with one more bit behind the `count` that it has shown.
+/// The data of a line after one more bit, where `count` bits came before.
 fn with_next_bit(order: BitOrder, count: u64, shown: LineData, bit: Option<Bit>) -> LineData
     requires count { count < WORD_BITS_LIMIT }
     requires fits { DataFits count shown }

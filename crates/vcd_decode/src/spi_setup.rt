@@ -1,4 +1,4 @@
-//! How a serial peripheral interface sends.
+//! The setup of a serial peripheral interface.
 
 ghost use Rattle.std.specs.Prelude.{◌≡◌, ◌≤◌, IfOk};
 ghost use Rattle.vcd_decode.specs.SpiSetup.{spi_setup, spi_fault};
@@ -14,20 +14,20 @@ use vcd_core::Bit;
 /// The greatest mode: two polarities and two phases of the clock.
 pub const GREATEST_MODE: u64 = 3;
 
-/// The greatest number of bits of a word.
+/// The greatest number of bits in a word.
 pub const WORD_BITS_LIMIT: u64 = 32;
 
-/// Which bit of a word comes first on the line.
+/// The order of the bits of a word on the line.
 #[derive(Clone, Copy, Debug, PartialEq, Eq)]
 pub enum BitOrder {
-    /// The most significant one.
+    /// The most significant bit first.
     Msb,
-    /// The least significant one.
+    /// The least significant bit first.
     Lsb,
 }
 
-/// How a serial peripheral interface sends: at which edge of the clock a bit is read, how many bits
-/// a word has, and which of them comes first.
+/// The setup of a serial peripheral interface: the edge of the clock at which a bit is read, the
+/// number of bits in a word, and their order.
 ///
 /// The modes 0 and 3 read where the clock rises, 1 and 2 where it falls. Contracts see the three
 /// numbers.
@@ -56,9 +56,10 @@ impl Spi {
     ghost use Rattle.vcd_decode.specs.Spi.{samples_rise};
     ghost use Rattle.vcd_decode.specs.inside.SpiClock.{samples};
 
-    /// A setup of a mode, the number of bits of a word and their order.
+    /// A setup of a mode, the number of bits in a word and their order.
     ///
-    /// `BadMode` above 3, else `BadBits` where the bits are not 1 to 32. It takes no memory.
+    /// The error is `BadMode` above 3, or else `BadBits` where the bits are not 1 to 32. It takes
+    /// no memory.
     pub fn new(mode: u64, bits: u64, order: BitOrder) -> Result<Spi, SetupError>
         ensures setup { IfOk result (λ s. s ≡ spi_setup mode bits order) }
         ensures fault { SetupFaultIs result (spi_fault (spi_setup mode bits order)) }
@@ -72,14 +73,14 @@ impl Spi {
         Ok(Spi { mode, bits, order })
     }
 
-    /// The mode: the polarity of the clock times two, and its phase.
+    /// The mode, 0 to 3: two times the polarity of the clock, plus its phase.
     pub fn mode(&self) -> u64
         ensures { result ≡ self.now.mode }
     {
         self.mode
     }
 
-    /// How many bits a word has.
+    /// The number of bits in a word, 1 to 32.
     pub fn bits(&self) -> u64
         ensures bits { result ≡ self.now.bits }
         ensures least { 1 ≤ result }
@@ -88,14 +89,14 @@ impl Spi {
         self.bits
     }
 
-    /// Which bit of a word comes first.
+    /// The order of the bits of a word.
     pub fn order(&self) -> BitOrder
         ensures { result ≡ self.now.order }
     {
         self.order
     }
 
-    /// Whether bits are read where the clock goes from one bit to another.
+    /// Whether bits are read where the clock changes from one bit to another.
     pub(crate) fn reads_at(&self, before: Option<Bit>, at: Option<Bit>) -> bool
         ensures { result ≡ samples self.now.mode before at }
     {
@@ -114,7 +115,7 @@ impl Spi {
     }
 }
 
-/// Whether the bit is there and 0.
+/// Whether the bit is present and 0.
 fn shows_zero(bit: Option<Bit>) -> bool
     ensures { result ≡ passes zero_test bit }
 {
@@ -124,7 +125,7 @@ fn shows_zero(bit: Option<Bit>) -> bool
     }
 }
 
-/// Whether the bit is there and 1.
+/// Whether the bit is present and 1.
 fn shows_one(bit: Option<Bit>) -> bool
     ensures { result ≡ passes one_test bit }
 {

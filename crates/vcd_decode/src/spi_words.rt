@@ -15,15 +15,16 @@ use crate::spi_setup::Spi;
 use std::alloc::Global;
 use vcd_core::{Bit, BitEdge, BitEdges, NoMemory, Wave};
 
-/// The words of a serial peripheral interface up to the tick `end`: the clock `clk`, the data lines
-/// `mosi` and `miso`, and the chip select `cs`, which is active at 0.
+/// The words of a serial peripheral interface up to the tick `end`. The lines are the clock `clk`,
+/// the data lines `mosi` and `miso`, and the chip select `cs`, which is active at 0.
 ///
-/// A bit is read at each edge of the clock that the mode reads at, where the chip is selected or
-/// there is no such line. Bits between which the chip is selected no more are parts of different
-/// words. A data line with an x or z among the bits of a word is unknown there.
+/// A bit is read at each edge of the clock at which the mode reads, while the chip is selected. A
+/// chip without a `cs` line is always selected. Bits before and after a tick at which the chip is
+/// not selected belong to different words. A data line is unknown in a word where one of its bits
+/// is x or z.
 ///
-/// One walk over the changes of the four waves, a constant number of steps and at most one
-/// annotation for each.
+/// It is one walk over the changes of the four waves, with a constant number of steps and at most
+/// one annotation for each. It may run out of memory.
 pub fn spi<'a>(
     alloc: Global,
     clk: &'a Wave,
@@ -42,7 +43,7 @@ pub fn spi<'a>(
         (option_map line_of (option_copied miso.entry))
         (option_map line_of (option_copied cs.entry)) end) }
 {
-    // The call tells the proof that a word has a bit.
+    // The call shows the prover that a word has a bit.
     let _bits = setup.bits();
     let edges = BitEdges::new(Some(clk), mosi, miso, cs);
     let mut found = Vec::new(alloc);
@@ -54,7 +55,7 @@ pub fn spi<'a>(
     Ok(found)
 }
 
-/// Tells what an edge ends, and answers the group of bits after it.
+/// Appends the annotation that an edge completes. Returns the group of bits after it.
 fn take_clock_edge(
     found: &mut Vec<Annotation>,
     setup: &Spi,
@@ -73,7 +74,7 @@ fn take_clock_edge(
     take_sample(found, setup, group, edge)
 }
 
-/// The same where the chip stays as it is.
+/// The same where the chip's selection does not change.
 fn take_sample(
     found: &mut Vec<Annotation>,
     setup: &Spi,
@@ -97,7 +98,7 @@ fn take_sample(
     Ok(longer.emptied())
 }
 
-/// Tells how many bits there are of a word that is not ended, if any.
+/// Appends the number of bits of an unfinished word, if there are any.
 fn annotate_rest(found: &mut Vec<Annotation>, group: &Group) -> Result<(), NoMemory>
     ensures { OnOk result (found.new.items ≡ found.old.items ++ annotations_at_rest group.now) }
 {
@@ -108,7 +109,7 @@ fn annotate_rest(found: &mut Vec<Annotation>, group: &Group) -> Result<(), NoMem
     Ok(())
 }
 
-/// Whether the chip is selected no more from an edge on.
+/// Whether an edge ends the selection of the chip.
 fn deselects(edge: &BitEdge) -> bool
     ensures { result ≡ deselects edge.now }
 {

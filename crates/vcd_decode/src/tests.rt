@@ -1,4 +1,5 @@
-//! That annotations come where there is memory, and what a fault of a setup prints: no clause says these.
+//! Tests that annotations are given where there is memory, and of the printed faults of a setup: no
+//! clause states these.
 
 use crate::{Annotation, BitOrder, Kind, LineData, Parity, SetupError, Spi, Uart, spi, uart};
 use std::test::Fail;

@@ -13,14 +13,15 @@ use crate::uart_setup::{FRAME_BITS, Uart};
 use std::alloc::Global;
 use vcd_core::{Bit, NoMemory, Wave};
 
-/// The frames of a line of one bit in a capture that ends at the tick `end`, rising: each from the tick at
-/// which it begins to the one at which its last bit is sampled.
+/// The frames of a line of one bit in a capture that ends at the tick `end`, in rising order. Each
+/// extends from the tick at which it begins to the one at which its last bit is sampled.
 ///
-/// A frame begins where the line falls from 1 to 0 behind the frame before, unless the line is not 0 in the
-/// middle of the start bit. One that is not sampled to its last bit by the end is `Partial`, up to the end.
+/// A frame begins where the line falls from 1 to 0 after the frame before. There is no frame where
+/// the line is not 0 in the middle of the start bit. A frame whose last bit is sampled after the
+/// end is `Partial`, up to the end.
 ///
-/// Costs a step for each change, and for each sample a search by halves among the changes of its frame; the
-/// memory is that of the annotations.
+/// It takes a step for each change, and for each sample a binary search among the changes of its
+/// frame. The memory is that of the annotations; it may run out of memory.
 pub fn uart(alloc: Global, wave: &Wave, end: u64, setup: &Uart) -> Result<Vec<Annotation>, NoMemory>
     requires one_bit { wave.now.width ≡ 1 }
     requires within { AllUpTo end wave.now.changes }
@@ -44,7 +45,7 @@ pub fn uart(alloc: Global, wave: &Wave, end: u64, setup: &Uart) -> Result<Vec<An
     Ok(found)
 }
 
-/// Appends a frame where there is one, and tells the tick up to which frames reach then.
+/// Appends a frame where there is one. Returns the last tick of the frames so far.
 fn push_frame(
     found: &mut Vec<Annotation>,
     frame: Option<Annotation>,
@@ -62,7 +63,7 @@ fn push_frame(
     }
 }
 
-/// What a fall at the tick `start` begins; the change at `near` stands there.
+/// The frame that a fall at the tick `start` begins; the change at `near` is at that tick.
 fn begun_frame(wave: &Wave, near: usize, end: u64, setup: &Uart, start: u64) -> Option<Annotation>
     requires one_bit { wave.now.width ≡ 1 }
     requires within { start ≤ end }
@@ -93,7 +94,7 @@ fn begun_frame(wave: &Wave, near: usize, end: u64, setup: &Uart, start: u64) -> 
     })
 }
 
-/// What the frame that begins at the tick `start` says.
+/// The kind of the frame that begins at the tick `start`.
 fn frame_kind_at(wave: &Wave, near: usize, setup: &Uart, start: u64) -> Kind
     requires one_bit { wave.now.width ≡ 1 }
     requires fits { sample_tick setup.now start (last_bit setup.now) < 2 ^ 64 }
@@ -105,7 +106,7 @@ fn frame_kind_at(wave: &Wave, near: usize, setup: &Uart, start: u64) -> Kind
     frame_kind(setup, letters)
 }
 
-/// Reads the letters of the frame that begins at the tick `start`, behind its start bit.
+/// Reads the letters after the start bit, of the frame that begins at the tick `start`.
 fn read_letters(wave: &Wave, near: usize, setup: &Uart, start: u64, letters: &mut [Bit])
     requires one_bit { wave.now.width ≡ 1 }
     requires all { length letters.old ≡ last_bit setup.now }
@@ -118,7 +119,7 @@ fn read_letters(wave: &Wave, near: usize, setup: &Uart, start: u64, letters: &mu
     }
 }
 
-/// What the letters of a frame say.
+/// The kind of a frame with these letters.
 fn frame_kind(setup: &Uart, letters: &[Bit]) -> Kind
     requires { length letters.now ≡ last_bit setup.now }
     ensures { result ≡ kind_of_frame setup.now letters.now }
@@ -137,14 +138,14 @@ fn frame_kind(setup: &Uart, letters: &[Bit]) -> Kind
     Kind::Byte(data)
 }
 
-/// Whether the line falls from 1 to 0 at a tick behind those that are taken.
+/// Whether the line falls from 1 to 0 at a tick after the frames so far, which end at `taken`.
 fn begins_frame(before: Bit, letter: Bit, taken: u64, tick: u64) -> bool
     ensures { result ≡ (one_test before && zero_test letter && nat_lt taken tick) }
 {
     is_one(before) && is_zero(letter) && taken < tick
 }
 
-/// The letter of a wave of one bit at a tick, looked for from the change at `near` on.
+/// The letter of a wave of one bit at a tick, searched from the change at `near` on.
 fn letter_near(wave: &Wave, near: usize, tick: u64) -> Bit
     requires { wave.now.width ≡ 1 }
     ensures { result ≡ line_of wave.now tick }
@@ -169,14 +170,14 @@ fn has_zero(letters: &[Bit]) -> bool
     letters.iter().any(|bit| is_zero(*bit))
 }
 
-/// How many letters are 1.
+/// The number of letters that are 1.
 fn count_ones(letters: &[Bit]) -> usize
     ensures { result ≡ count_by one_test letters.now }
 {
     letters.iter().filter(|bit| is_one(**bit)).count()
 }
 
-/// The number that letters make, the least significant first.
+/// The number that letters give, least significant first.
 fn letters_to_number(letters: &[Bit]) -> u16
     requires { length letters.now ≤ 9 }
     ensures number { result ≡ number_from_letters letters.now }

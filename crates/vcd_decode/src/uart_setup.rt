@@ -1,4 +1,4 @@
-//! How the frames of an asynchronous serial line are made.
+//! The setup of an asynchronous serial line.
 
 ghost use Rattle.std.specs.Prelude.{◌≡◌, ◌≤◌, IfOk};
 ghost use Rattle.vcd_decode.specs.UartSetup.{uart_setup, uart_fault, is_between, SetupFaultIs};
@@ -6,14 +6,14 @@ ghost use Rattle.vcd_decode.specs.UartSetup.{uart_setup, uart_fault, is_between,
 use crate::setup_error::SetupError;
 use std::marker::Model;
 
-/// The greatest number in the ratio that says how many ticks a bit lasts.
+/// The greatest number in the ratio of ticks to bits.
 pub const RATIO_LIMIT: u64 = 1_000_000_000;
 
-/// How many bits the longest frame has behind its start bit: nine of data, one of parity, two stop bits.
+/// The number of bits in the longest frame after its start bit: nine of data, one of parity, two
+/// stop bits.
 pub const FRAME_BITS: usize = 12;
 
-/// The parity bit of a frame: with it the number of ones among the data bits and itself is even, or
-/// odd.
+/// The parity bit of a frame: the number of ones among the data bits and itself is even, or odd.
 #[derive(Clone, Copy, Debug, PartialEq, Eq)]
 pub enum Parity {
     None,
@@ -21,9 +21,9 @@ pub enum Parity {
     Odd,
 }
 
-/// How the frames of an asynchronous serial line are made: a start bit, 5 to 9 data bits, a parity bit
-/// where there is one, and 1 or 2 stop bits, each of which lasts `numerator / denominator` ticks, at
-/// least two.
+/// The frames of an asynchronous serial line: a start bit, 5 to 9 data bits, a parity bit where
+/// there is one, and 1 or 2 stop bits. Each bit lasts `numerator / denominator` ticks, at least
+/// two.
 ///
 /// Contracts see these numbers.
 #[derive(Clone, Copy, Debug, PartialEq, Eq)]
@@ -62,11 +62,12 @@ impl Model for Uart {
 impl Uart {
     ghost use Rattle.vcd_decode.specs.Uart.{checked_bits, last_bit, sample_offset, is_parity_wrong};
 
-    /// Bits of `numerator / denominator` ticks, so many data bits, this parity bit, so many stop bits.
+    /// A setup of bits of `numerator / denominator` ticks, with this number of data bits, this
+    /// parity bit and this number of stop bits.
     ///
-    /// The first fault is answered: `BadRatio` where a number of the ratio is outside 1 to
-    /// [`RATIO_LIMIT`], `BitTooShort` where a bit lasts fewer than two ticks, `BadData` where there
-    /// are not 5 to 9 data bits, `BadStop` where there are not 1 or 2 stop bits.
+    /// The error is the first of these faults. `BadRatio`: a number of the ratio is outside 1 to
+    /// [`RATIO_LIMIT`]. `BitTooShort`: a bit lasts fewer than two ticks. `BadData`: there are not 5
+    /// to 9 data bits. `BadStop`: there are not 1 or 2 stop bits.
     pub fn new(
         numerator: u64,
         denominator: u64,
@@ -100,14 +101,14 @@ impl Uart {
         })
     }
 
-    /// The number of ticks that `denominator` bits last.
+    /// The number of ticks in `denominator` bits.
     pub fn numerator(&self) -> u64
         ensures { result ≡ self.now.numerator }
     {
         self.numerator
     }
 
-    /// The number of bits that last `numerator` ticks.
+    /// The number of bits in `numerator` ticks.
     pub fn denominator(&self) -> u64
         ensures { result ≡ self.now.denominator }
     {
@@ -121,14 +122,14 @@ impl Uart {
         self.parity
     }
 
-    /// How many stop bits a frame has: 1 or 2.
+    /// The number of stop bits in a frame: 1 or 2.
     pub fn stop_bits(&self) -> u64
         ensures { result ≡ self.now.stop_bits }
     {
         self.stop_bits
     }
 
-    /// How many data bits a frame has: 5 to 9.
+    /// The number of data bits in a frame: 5 to 9.
     pub fn data_bits(&self) -> usize
         ensures count { result ≡ self.now.data_bits }
         ensures most { result ≤ 9 }
@@ -136,7 +137,7 @@ impl Uart {
         self.data_bits as usize
     }
 
-    /// How many bits stand before the stop bits, the start bit aside.
+    /// The number of bits before the stop bits, without the start bit.
     pub(crate) fn checked_bits(&self) -> usize
         ensures { result ≡ checked_bits self.now }
     {
@@ -146,7 +147,7 @@ impl Uart {
         }
     }
 
-    /// The last bit of a frame, the start bit being bit 0.
+    /// The position of the last bit of a frame, where the start bit is bit 0.
     pub(crate) fn last_bit(&self) -> usize
         ensures count { result ≡ last_bit self.now }
         ensures most { result ≤ FRAME_BITS }
@@ -154,7 +155,7 @@ impl Uart {
         self.checked_bits() + self.stop_bits as usize
     }
 
-    /// How many ticks behind the beginning of a frame a bit is sampled.
+    /// The number of ticks from the beginning of a frame to the sample of a bit.
     pub(crate) fn sample_offset(&self, bit: usize) -> u64
         requires { bit ≤ FRAME_BITS }
         ensures { result ≡ sample_offset self.now bit }
@@ -162,7 +163,7 @@ impl Uart {
         (2 * bit as u64 + 1) * self.numerator / (2 * self.denominator)
     }
 
-    /// Whether so many ones among the data and the parity bit are wrong.
+    /// Whether this number of ones among the data bits and the parity bit is wrong.
     pub(crate) fn is_parity_wrong(&self, ones: usize) -> bool
         ensures { result ≡ is_parity_wrong self.now.parity ones }
     {
@@ -174,7 +175,7 @@ impl Uart {
     }
 }
 
-/// Whether a number may stand in the ratio.
+/// Whether a number is allowed in the ratio.
 fn is_ratio_number(number: u64) -> bool
     ensures { result ≡ is_between 1 RATIO_LIMIT number }
 {

@@ -21,7 +21,7 @@ use Rattle.vcd_text.specs.Faults.{tick_goes_back, value_of_none, pair_of_none, v
 abbrev one_variable : List Item
 one_variable = variable (codes "wire" ∷ codes "1" ∷ codes "!" ∷ codes "a" ∷ []) ∷ end_definitions ∷ []
 
--- a word of a file shows a fault, behind these whole items and the words of another
+-- a word of a file shows a fault, after these whole items and the words of another
 shows : (bytes : List ℕ) (line : ℕ) (fault : Fault) (items : List Item) (whole begun : List PlacedWord)
     (word : PlacedWord) (more : List PlacedWord)
     → words_of bytes ≡ whole ++ (begun ++ word ∷ more) → word_texts whole ≡ spellings items
@@ -66,7 +66,7 @@ time_goes_back : FileFault time_back 4 TimeBackwards
 unfolding words_from
 time_goes_back = shown time_goes_back_in_front
 
--- the file ends where a code is due
+-- the file ends before a code
 abbrev no_code : List ℕ
 no_code = codes "$var wire 1 ! a $end\n$enddefinitions $end\n#0\nb101"
 
@@ -128,14 +128,14 @@ variable_without_name =
     (among_declarations refl (no_variable (codes "wire" ∷ codes "1" ∷ codes "!" ∷ []) refl refl refl refl refl refl))
     refl
 
--- a size that is no number is decided at its word, of a skipped kind too, though the file ends there
+-- a size that is no number is a fault at its word, also for a skipped kind, though the file ends there
 real_without_size : FileFault (codes "$var real x") 1 BadVar
 unfolding words_from
 real_without_size =
     shows _ _ _ [] [] (word_on (codes "$var") 1 ∷ word_on (codes "real") 1 ∷ []) (word_on (codes "x") 1) [] refl refl tt
     (among_declarations refl (no_size (codes "real") refl refl refl refl)) refl
 
--- `$upscope` with no scope open is decided at this word, whatever follows
+-- `$upscope` with no scope open is a fault at this word, whatever follows
 upscope_alone : FileFault (codes "\n$upscope") 2 UpscopeAtTop
 unfolding words_from
 upscope_alone =
@@ -160,7 +160,7 @@ unknown_code =
     (word_on (codes "1\"") 1) [] refl refl (search arith)
     (among_changes refl (value_of_none 49 (codes "\"") refl refl refl (omega arith) refl refl)) refl
 
--- a change of two words has the line of its first, also where `$end` stands in the place of the code
+-- a change of two words has the line of its first, also where `$end` is in the place of the code
 unknown_code_of_vector : FileFault (codes "$enddefinitions $end\nb1\n$end\n") 2 UnknownCode
 unfolding words_from
 unknown_code_of_vector =
@@ -189,7 +189,7 @@ dump_among_declarations =
     shows _ _ _ [] [] [] (word_on (codes "$dumpvars") 1) [] refl refl tt
     (among_declarations refl (no_declaration refl refl refl)) refl
 
--- another word than `$end` behind `$enddefinitions` is decided at that word
+-- a word other than `$end` after `$enddefinitions` is a fault at that word
 definitions_open : FileFault (codes "$enddefinitions\n#0") 2 UnexpectedWord
 unfolding words_from
 definitions_open =
@@ -230,7 +230,7 @@ no_change_at_all =
     (search arith)
     (among_changes refl (no_change 113 (codes "!") refl refl refl refl refl)) refl
 
--- the file without its last line shows no fault: where the reader fails there, its fault is told
+-- the file without its last line shows no fault: where the reader fails there, its fault is the result
 front_without_fault : HasNoFrontFault (codes "$var wire 1 ! a $end\n$enddefinitions $end\n#10\n")
 unfolding words_from
 front_without_fault line fault =

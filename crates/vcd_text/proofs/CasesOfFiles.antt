@@ -1,4 +1,4 @@
--- Worked cases: files that are accepted, and what they mean.
+-- Worked cases: files that are accepted, and their meanings.
 use Rattle.std.proofs.Common.{◌≡◌, refl, arith}
 use Rattle.std.specs.Prelude.{ℕ, ◌+◌, true, false, List, [], ◌∷◌, Some, None, codes}
 use Rattle.std.specs.Fmt.{digits}
@@ -241,7 +241,7 @@ widths : (is_skipped (wire_of WIDTH_LIMIT) ≡ false) × (is_skipped (wire_of (W
     × (is_skipped (wire_of 0) ≡ true) × (is_skipped (wire_of 1) ≡ false)
 widths = (refl, refl, refl, refl)
 
--- timescales: words are run together; a leading zero and capital letters are none
+-- timescales: words are run together; a leading zero or capital letters spell none
 timescales_read : (timescale_of (codes "1" ∷ codes "00" ∷ codes "f" ∷ codes "s" ∷ [])
     ≡ Some (record { count = 100; unit = Femtosecond }))
     × (timescale_of (codes "1s" ∷ []) ≡ Some (record { count = 1; unit = Second }))

@@ -19,7 +19,7 @@ scope kind name = record { kind = kind; words = name ∷ [] }
 abbrev pub top : ScopeName
 top = scope (codes "module") (codes "top")
 
--- from a tick on, the value that is written so in full
+-- from a tick on, the value with these letters in full
 abbrev pub from : ℕ → List ℕ → Change
 from tick letters = change tick (letters_of_digits letters)
 

@@ -9,7 +9,7 @@ empty_file : (words_of [] ≡ []) × (last_line [] ≡ 1)
 unfolding words_from
 empty_file = (refl, refl)
 
--- a word has the line that it begins on; white space of any kind parts words, and may stand at both ends
+-- a word has the line that it begins on; white space of any kind parts words, also at both ends
 lines_of_words : words_of (codes "\n$end\r\n\t#10 1!") ≡ word_on (codes "$end") 2 ∷ word_on (codes "#10") 3
     ∷ word_on (codes "1!") 3 ∷ []
 unfolding words_from
@@ -31,11 +31,11 @@ last_word_is_closed : closed_words (codes "#10\n#9\n") ≡ word_on (codes "#10")
 unfolding words_from
 last_word_is_closed = refl
 
--- the end of a file lies behind all its line feeds
+-- the end of a file is after all its line feeds
 end_of_file : (last_line (codes "#10\n#9") ≡ 2) × (last_line (codes "#10\n#9\n") ≡ 3)
 end_of_file = (refl, refl)
 
--- white space at the end closes a text, and nothing else but that there is none
+-- white space at the end closes a text, and so does an empty text
 closed_texts : (is_closed [] ≡ true) × (is_closed (codes "#9\n") ≡ true) × (is_closed (codes " ") ≡ true)
     × (is_closed (codes "#9\n#10") ≡ false)
 closed_texts = (refl, refl, refl, refl)

@@ -1,4 +1,4 @@
--- The groups of a log, with a group or a change more.
+-- The groups of a log, with one more group or change.
 use Rattle.std.proofs.Common.{◌≡◌, ◌≢◌, ℕ, zero, suc, ◌+◌, ◌%◌, ◌<◌, true, false, ◌==◌, cond, if◌then◌else◌, List, []}
 use Rattle.std.proofs.Common.{◌∷◌, ◌++◌, set, All, None, Some, inl, inr, refl, sym, ap, subst, ◌∙◌, arith}
 use Rattle.std.specs.Prelude.{slice_get}
@@ -30,7 +30,7 @@ grouped_longer index (h ∷ gs) g none (here, are) = (here, grouped_longer (inde
 
 -- ---- a change more
 
--- what stands for a change of this position, or another
+-- the changes of a position after a change of this position, or another
 changes_more : (es : List LoggedChange) (e : LoggedChange) (position : ℕ)
     → changes_of_position position (es ++ e ∷ []) ≡ changes_of_position position es
     ++ cond (e.position == position) (e ∷ []) []
@@ -49,7 +49,7 @@ none_at index (e ∷ es) position apart are =
     ap (λ b. cond b (e ∷ changes_of_position position es) (changes_of_position position es)) other
     ∙ none_at index es position apart (All-tail (λ (x : LoggedChange). x.position % GROUPS ≡ index) e es are)
 
--- so have the groups behind its own
+-- nor have the groups after its own
 none_after : (index : ℕ) (gs : List (Vec LoggedChange)) (position : ℕ) → position % GROUPS < index → AreGrouped index gs
     → logged gs position ≡ []
 none_after index [] position early are = refl
@@ -59,7 +59,7 @@ none_after index (g ∷ gs) position early (here, are) =
     ∙ none_after (index + 1) gs position (omega (arith, early)) are
 
 module _ (e : LoggedChange) (h : Vec LoggedChange) where
-  -- the change stands behind the others of its position
+  -- the change comes after the others of its position
   here_with : (index : ℕ) (gs : List (Vec LoggedChange)) (i : ℕ) (g : Vec LoggedChange) → slice_get gs i ≡ Some g
       → h.items ≡ g.items ++ e ∷ []
       → e.position % GROUPS ≡ index + i → AreGrouped index gs
@@ -80,7 +80,7 @@ module _ (e : LoggedChange) (h : Vec LoggedChange) where
       (here_with (index + 1) gs i g at more (omega (arith, of)) are)
       ∙ sym (append_assoc (changes_of_position e.position x.items) (logged gs e.position) (e ∷ []))
 
-  -- other positions have what they had
+  -- other positions keep their changes
   there_with : (gs : List (Vec LoggedChange)) (i : ℕ) (g : Vec LoggedChange) (position : ℕ) → slice_get gs i ≡ Some g
       → h.items ≡ g.items ++ e ∷ []
       → (e.position == position) ≡ false → logged (set gs i h) position ≡ logged gs position

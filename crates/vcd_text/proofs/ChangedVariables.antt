@@ -1,4 +1,4 @@
--- A change of a variable that is kept.
+-- A change of a kept variable.
 use Rattle.std.proofs.Common.{◌≡◌, ◌≢◌, ◌⊎◌, ℕ, zero, suc, ◌<◌, ◌≤◌, ◌==◌, All, option_map, true, false, ◌&&◌, ◌||◌}
 use Rattle.std.proofs.Common.{if◌then◌else◌, nat_le, List, [], ◌∷◌, ◌++◌, length, map, set, get_or, None, Some, Result}
 use Rattle.std.proofs.Common.{Ok, Err, OnOk, IfErr, inl, inr, refl, sym, ap, subst, ◌∙◌, arith}
@@ -58,7 +58,7 @@ set_there (u ∷ vs) zero (suc j) w apart = refl
 set_there (u ∷ vs) (suc i) zero w apart = refl
 set_there (u ∷ vs) (suc i) (suc j) w apart = set_there vs i j w (λ same. apart (ap suc same))
 
--- what the two variables have alike stays
+-- the common parts of the two variables stay
 same_map : {B : Type 0} (f : Variable → B) (vs : List Variable) (i : ℕ) (v w : Variable) → slice_get vs i ≡ Some v
     → f w ≡ f v → map f (set vs i w) ≡ map f vs
 same_map f [] i v w at same = refl
@@ -109,7 +109,7 @@ module _ (old : Variables) (c : ParseState) (code digits : List ℕ) (first : �
     length-map old.kept.items (λ (v : Variable). v.signal.wave.width),
   )
 
-  -- its width stands in the row of the widths
+  -- its width is in the list of the widths
   pub width_is : (width : ℕ) → width ≡ get_or old.widths.items first width → own_wave.3.first.signal.wave.width ≡ width
   width_is width read =
       sym (read ∙ ap (λ ws. get_or ws first width) k.widths
@@ -137,7 +137,7 @@ module _ (old : Variables) (c : ParseState) (code digits : List ℕ) (first : �
       own_wave.3.first.signal.wave.changes
       (logged old.log.groups.items first) own_wave.3.gives
 
-  -- digits that it does not take are a fault
+  -- digits that it refuses are a fault
   pub refused : (width : ℕ) (fault : Fault) → own_wave.3.first.signal.wave.width ≡ width
       → RefusesBinaryNumber width digits fault → BinaryNumberFault c code digits fault
   refused width fault wide (inl (bad, is)) = no_value own_wave.0 own_wave.1 own_wave.2 bad is
@@ -167,7 +167,7 @@ module _ (old : Variables) (list : Vec Variable) (log : ChangeLog) (c : ParseSta
   same_width : w.signal.wave.width ≡ v.signal.wave.width
   same_width = ap (λ (d : VariableDeclaration). d.size) same
 
-  -- what stands in the new list stood in the old one, but for the wave
+  -- the variables of the new list are those of the old one, but for the wave
   following : (position : ℕ) (u : Variable) → slice_get list.items position ≡ Some u
       → (t : Variable) × (slice_get old.kept.items position ≡ Some t) × (declaration u ≡ declaration t)
       × (u.first ≡ t.first)
@@ -237,7 +237,7 @@ module _ (old : Variables) (list : Vec Variable) (log : ChangeLog) (c : ParseSta
             has_values;
       }
 
-  -- that of another code stays
+  -- the wave of another code stays
   wave_kept : (key : List ℕ) (position size : ℕ) → bytes_eq code key ≡ false
       → HasWave old.kept.items (logged old.log.groups.items) position key size c.value_changes c.tick
       → HasWave list.items (logged log.groups.items) position key size (c.value_changes ++ new_value_change ∷ []) c.tick
@@ -313,7 +313,7 @@ module _ (old : Variables) (list : Vec Variable) (log : ChangeLog) (c : ParseSta
       ∙ ap (λ b. if b then [] else record { tick = c.tick; code = code; letters = letters_of_digits digits } ∷ [])
       (own_wave old c code digits first k had).2
 
-  -- the log has changes of first variables alone
+  -- the log has changes only of first variables
   changed_logs : HasLogs list.items (logged log.groups.items)
   changed_logs position some = elim (cases_eq first position) [
     | inl equal ↦ (
@@ -327,7 +327,7 @@ module _ (old : Variables) (list : Vec Variable) (log : ChangeLog) (c : ParseSta
         (u.0, ap (λ vs. slice_get vs position) items ∙ set_there old.kept.items first position w apart ∙ u.1, u.2)
   ]
 
-  -- the variables hold the value change
+  -- the variables have the value change
   changed_knows : VariablesMatch (record {
     kept = list;
     widths = old.widths;
@@ -351,7 +351,7 @@ module _ (old : Variables) (list : Vec Variable) (log : ChangeLog) (c : ParseSta
     logs = changed_logs;
   }
 
-  -- the digits are ones that its variable takes
+  -- its variable accepts the digits
   changed_takes : IsSomeAnd (variable_of c code) (λ d. IsTrue (takes_binary_number d digits))
   changed_takes =
       let fits : nat_le (length digits) (own_wave old c code digits first k had).0.size ≡ true =
@@ -370,7 +370,7 @@ module _ (old : Variables) (list : Vec Variable) (log : ChangeLog) (c : ParseSta
       })
   changed x = (changed_takes, changed_knows)
 
--- what comes of a change of a wide variable
+-- the result of a change of a wide variable
 pub wide_changes : (old : Variables) (list : Vec Variable) (c : ParseState) (code digits : List ℕ) (first width : ℕ)
     (v w : Variable) (result : Result (Unit {0}) Fault) (k : VariablesMatch old c)
     (had : target_of old code ≡ Some (Kept first)) → v ≡ get_or old.kept.items first v
@@ -401,7 +401,7 @@ wide_changes old list c code digits first width v w (Err fault) k had read row w
     inr (refused old c code digits first k had v.signal.wave.width fault
     (ap (λ (u : Variable). u.signal.wave.width) (sym (read_is old c code digits first k had v read))) refuses)
 
--- what comes of one of another variable, which the log has
+-- the result of a change of another variable, which goes to the log
 pub narrow_changes : (old : Variables) (log : ChangeLog) (c : ParseState) (code digits : List ℕ) (first width : ℕ)
     (e : LoggedChange) (k : VariablesMatch old c)
     (had : target_of old code ≡ Some (Kept first)) → width ≡ get_or old.widths.items first width → width ≤ 64

@@ -1,4 +1,4 @@
--- How the words of changes keep to the grammar.
+-- The words of changes follow the grammar.
 use Rattle.std.proofs.Common.{◌≡◌, ◌⊎◌, inl, inr, ℕ, ◌<◌, ◌≤◌, Bool, true, false, List, [], ◌∷◌, ◌++◌, ◌&&◌, ◌||◌, not}
 use Rattle.std.proofs.Common.{length, Some, None, IsSome, IsSomeAnd, Option, Result, Ok, Err, is_some, refl, sym, ap}
 use Rattle.std.proofs.Common.{subst, ◌∙◌, arith}
@@ -65,7 +65,7 @@ shows : (old new : Reader) (w : PlacedWord) (fault : Fault) → old.item ≡ ite
     → ((c : ParseState) → ReaderMatches old c → ChangeFault c [] w.text fault) → WordResult old w (Err fault) new
 shows old new w fault between changing row c begun at = shown_at old c begun w fault between changing at (row c at.0)
 
--- what has been told does not depend on the item that is open
+-- the state does not depend on the open item
 agrees_still : (m : Reader) (c : ParseState) (item : OpenItem) (line : ℕ) → ReaderMatches m c
     → ReaderMatches (record m { item = item; line = line }) c
 agrees_still m c item line agrees = record {
@@ -183,7 +183,7 @@ begins_nothing m new first text line between changing no_command no_letter no_ve
     shows m new (word_on (first ∷ text) line) BadChange between changing
     (λ c agrees. no_change first text refl refl no_letter other refl)
 
--- some variable takes the digits
+-- some variable accepts the digits
 taken_by_some : (o : Option VariableDeclaration) (digits : List ℕ)
     → IsSomeAnd o (λ d. IsTrue (takes_binary_number d digits)) → IsSome o
 taken_by_some None digits none = absurd none
@@ -193,7 +193,7 @@ taken_by_some (Some d) digits takes = refl
 one_letter : (letter : ℕ) → is_binary_digit letter ≡ true → is_binary_number (letter ∷ []) ≡ true
 one_letter letter is = λ i. is i && true
 
--- a variable that is kept has a bit
+-- a kept variable has a bit
 fits_one : (d : VariableDeclaration) → is_skipped d ≡ false → d.size < 1 → ⊥
 fits_one d keeps small =
     let sized = or_parts (d.size == 0) (nat_lt WIDTH_LIMIT d.size) (or_parts (is_skipped_kind d.kind) _ keeps).1 in

@@ -1,4 +1,4 @@
--- A file in chunks: what one more chunk adds to what has been taken, and what is answered where no more comes.
+-- A file in chunks: the progress after one more chunk, and the result where no more comes.
 use Rattle.std.proofs.Common.{◌≡◌, ◌⊎◌, inl, inr, ℕ, zero, suc, ◌+◌, ◌-◌, ◌<◌, ◌≤◌, Bool, true, false, not, cond, ◌==◌}
 use Rattle.std.proofs.Common.{List, [], ◌∷◌, ◌++◌, length, take, drop, get_or, Option, Some, None, IfSome, refl, sym}
 use Rattle.std.proofs.Common.{ap, subst, ◌∙◌, arith, append_assoc, length-append}
@@ -51,7 +51,7 @@ line_more b line bs = let all : feeds (b ∷ bs) ≡ feeds (b ∷ []) + feeds bs
 
 -- ---- text up to white space
 
--- a text that ends in white space behind its first n bytes
+-- a text that ends in white space after its first n bytes
 pub closed_at : (n : ℕ) (bytes : List ℕ) → n < length bytes → is_white_space (get_or bytes n 0) ≡ true
     → is_closed (take (suc n) bytes) ≡ true
 closed_at zero [] within space = absurd (omega arith)
@@ -88,7 +88,7 @@ byte_first false true b line ws more some = refl
 byte_first false false b line [] more some = absurd (omega (arith, some refl refl))
 byte_first false false b line (w ∷ ws) more some = refl
 
--- the words of a closed text, and those of what follows it
+-- the words of a closed text, and those after it
 pub words_closed : (whole : Bool) (line : ℕ) (text rest : List ℕ) → is_closed text ≡ true
     → words_from whole line (text ++ rest) ≡ words_from true line text ++ words_from whole (line + feeds text) rest
 unfolding words_from
@@ -112,14 +112,14 @@ words_closed whole line (b ∷ c ∷ text) rest closed =
 module _ (m : Reader) (word : List ℕ) (passed left : ℕ) (bytes : List ℕ) (taken : HasTaken m word passed left bytes)
     (chunk : List ℕ) (len : ℕ) (closed : is_closed (take len (word ++ chunk)) ≡ true)
     (black : list_all (λ b. not (is_white_space b)) (drop len (word ++ chunk)) ≡ true) where
-  -- what of the text is sure, and what stands behind that
+  -- the complete words of the text, and the bytes after them
   abbrev front : List ℕ
   front = take len (word ++ chunk)
 
   abbrev back : List ℕ
   back = drop len (word ++ chunk)
 
-  -- the words of all that has come, and of what follows
+  -- the words of all bytes so far, and of those that follow
   words_now : (whole : Bool) (rest : List ℕ) → words_from whole 1 ((bytes ++ chunk) ++ rest)
       ≡ closed_words bytes ++ (words_from true (passed + 1) front
       ++ words_from whole ((passed + feeds front) + 1) (back ++ rest))
@@ -144,7 +144,7 @@ module _ (m : Reader) (word : List ℕ) (passed left : ℕ) (bytes : List ℕ) (
       (word_part ((passed + feeds front) + 1) back black)
       ∙ ap (λ words. closed_words bytes ++ words) (append-nil (words_from true (passed + 1) front))
 
-  -- the words that are sure have been taken
+  -- the complete words have been taken
   pub taken_now : (new : Reader) (rest : ℕ) → length chunk + rest ≡ left
       → Reads new (closed_words bytes ++ words_from true (passed + 1) front)
       → HasTaken new back (passed + feeds front) rest (bytes ++ chunk)
@@ -193,7 +193,7 @@ nothing_taken m word none reads = record {
   room = refl;
 }
 
--- the words so far, and the one that nothing follows now
+-- the words so far, and the last one
 pub all_words : (m : Reader) (word : List ℕ) (passed left : ℕ) (bytes : List ℕ) → HasTaken m word passed left bytes
     → closed_words bytes ++ words_from true (passed + 1) word ≡ words_of bytes
 all_words m word passed left bytes taken =
@@ -217,7 +217,7 @@ last_shown m word passed left bytes words e taken is (inr shows) =
     inr (word_shown (subst (λ words. ShowsFault words e.line e.fault) (ap (λ words. closed_words bytes ++ words) is
     ∙ all_words m word passed left bytes taken) shows))
 
--- ---- answers to a file of which these bytes have come
+-- ---- results for a file of which these bytes have come
 
 -- the front of a text whose first bytes are these
 front_of : (n : ℕ) (xs ys : List ℕ) → length xs ≤ n → take n (xs ++ ys) ≡ xs ++ take (n - length xs) ys
@@ -227,7 +227,7 @@ front_of n xs ys fits = let parts : n ≡ length xs + (n - length xs) = omega ar
 all_front : (n : ℕ) (xs ys : List ℕ) → length xs ≡ n → take n (xs ++ ys) ≡ xs
 all_front n xs ys is = ap (λ k. take k (xs ++ ys)) (sym is) ∙ take-append_seam xs ys
 
--- a word that is sure shows a fault
+-- a complete word shows a fault
 pub shown_early : (coming left : Option (List ℕ)) (failed : Bool) (bytes : List ℕ) (e : ReadError) → IsFalse failed
     → Consumes coming left bytes → length bytes ≤ FILE_LIMIT
     → (e ≡ memory_error) ⊎ FrontFault bytes e.line e.fault → IfSome coming (λ file. IsRefusal file failed left e)
@@ -245,7 +245,7 @@ shown_early (Some xs) (Some ys) failed bytes e ready consumes within (inr shows)
           (front_fault_stays bytes ys e.line e.fault shows))
     ]
 
--- there is more than the limit
+-- the file has more bytes than the limit
 pub full : (coming middle left : Option (List ℕ)) (failed : Bool) (m : Reader) (word : List ℕ) (passed : ℕ)
     (bytes chunk : List ℕ) (e : ReadError) → Consumes coming middle bytes → Consumes middle left chunk
     → 0 < length chunk → HasTaken m word passed 0 bytes → e ≡ record { line = passed + 1; fault = faults.TooLarge }
@@ -283,7 +283,7 @@ broken coming middle left failed m word passed rest bytes e has consumes keeps t
     (inr (no_fault (shows_none m (closed_words bytes) taken.reads) (is
     ∙ (λ i. record { line = sym taken.lines i; fault = faults.ReadFault }))))
 
--- all of it came
+-- the whole file came
 pub at_end : (coming left : Option (List ℕ)) (failed : Bool) (bytes : List ℕ) (e : ReadError) → IsFalse failed
     → Consumes coming left bytes → IsAtEnd left → length bytes ≤ FILE_LIMIT
     → (e ≡ memory_error) ⊎ FileFault bytes e.line e.fault → IfSome coming (λ file. IsRefusal file failed left e)
@@ -295,7 +295,7 @@ at_end (Some xs) (Some ys) failed bytes e ready consumes ends within (inr fault)
     has_fault ready (omega (arith, within, ap (length {A = ℕ}) all))
     (subst (λ file. FileFault file e.line e.fault) all fault)
 
--- what holds of the bytes holds of the file
+-- a fact about the bytes is one about the file
 pub of_all : (coming left : Option (List ℕ)) (bytes : List ℕ) (P : List ℕ → Type 0) → Consumes coming left bytes
     → IsAtEnd left → P bytes → IfSome coming P
 of_all None left bytes P consumes ends holds = tt
@@ -349,9 +349,9 @@ is_no_file_failure bytes e (inr (word_shown shows)) is =
     by_word (state_after initial_state shows.items) (word_texts shows.begun) shows.word.text e.fault is shows.decided
 is_no_file_failure bytes e (inr (too_early stops line fault)) is = absurd (cc)
 
--- ---- a chunk behind what has been taken
+-- ---- a chunk after the bytes taken
 
--- it has come behind the word that may go on
+-- the chunk came after the word that can go on
 pub has_come : (p now : Progress) (from count : ℕ) (before word chunk : List ℕ)
     → HasTaken p.reader p.buffer.bytes p.passed p.left before → now.reader ≡ p.reader → now.passed ≡ p.passed
     → now.buffer.bytes ≡ word ++ chunk → word ≡ p.buffer.bytes → count ≡ length chunk → count ≤ p.left
@@ -370,7 +370,7 @@ has_come p now from count before word chunk taken reader passed text same many w
       all = refl;
     }
 
--- the words that are sure have been taken
+-- the complete words have been taken
 pub now_taken : (p : Progress) (from len : ℕ) (bytes : List ℕ) (new : Reader) (closed : List ℕ)
     (words : List PlacedWord) → (come : HasCome p from bytes)
     → is_closed (take len p.buffer.bytes) ≡ true → list_all (λ b. not (is_white_space b)) (drop len p.buffer.bytes)
@@ -406,7 +406,7 @@ now_shown p from len bytes e closed words come ends black front is shows =
     (subst (λ words. (e ≡ memory_error) ⊎ ShowsFault (closed_words come.before ++ words) e.line e.fault) (is
     ∙ ap (words_from true (p.passed + 1)) (front ∙ ap (take len) text)) shows))
 
--- the first bytes of the text are those of the word that may go on
+-- the first bytes of the text are those of the word that can go on
 pub word_is_first : (p : Progress) (from : ℕ) (bytes : List ℕ) → HasCome p from bytes
     → (from ≤ length p.buffer.bytes) × (list_all (λ b. not (is_white_space b)) (take from p.buffer.bytes) ≡ true)
     × (length bytes + p.left ≡ FILE_LIMIT) × (length p.buffer.bytes ≤ length bytes) × (p.passed ≤ length bytes)

@@ -1,4 +1,4 @@
--- What codes stand for.
+-- The targets of codes.
 use Rattle.std.proofs.Common.{◌≡◌, ℕ, Bool, true, false, if◌then◌else◌, List, [], ◌∷◌, ◌++◌, find, Option, None, Some}
 use Rattle.std.proofs.Common.{refl, sym, subst, ◌∙◌}
 use Rattle.std.specs.Prelude.{bytes_eq}
@@ -45,7 +45,7 @@ module _ {S : Type 0} (old new : IndexMap (Vec ℕ) CodeTarget S) (k : Vec ℕ) 
       (λ v at. nat_list_eq_equiv.symm key v.items ∙ sym (nat_list_eq_equiv.congr k.items v.items key at)
       ∙ nat_list_eq_equiv.symm k.items key ∙ apart)
 
-  -- then it stands for what was put, and the others stand for what they stood for
+  -- then it has its new target, and the others keep theirs
   pub target_put : (key : List ℕ)
       → get_by (λ v. bytes_eq key v.items) new
       ≡ (if bytes_eq key k.items then Some w else get_by (λ v. bytes_eq key v.items) old)
@@ -59,7 +59,7 @@ module _ {S : Type 0} (old new : IndexMap (Vec ℕ) CodeTarget S) (k : Vec ℕ) 
 
 module _ (vs : List Variable) (log : ℕ → List LoggedChange) (value_changes : List ValueChange) (tick : ℕ)
     (code : List ℕ) where
-  -- that of a variable that is kept has its wave
+  -- the target of a kept variable has its wave
   pub stands_kept : (declared : Option VariableDeclaration) (position : ℕ)
       → TargetMatches vs log value_changes tick code (Some (Kept position)) declared
       → (d : VariableDeclaration) × (declared ≡ Some d) × (is_skipped d ≡ false)
@@ -67,7 +67,7 @@ module _ (vs : List Variable) (log : ℕ → List LoggedChange) (value_changes :
   stands_kept None position s = absurd s
   stands_kept (Some d) position s = (d, refl, s.0, s.1)
 
--- what holds of the waves in one list holds in another
+-- a fact about the waves in one list is one about another
 pub stands_moved : (vs ws : List Variable) (log rest : ℕ → List LoggedChange) (rs ss : List ValueChange)
     (early late : ℕ) (code : List ℕ) (target : Option CodeTarget) (declared : Option VariableDeclaration)
     → ((position size : ℕ) → target ≡ Some (Kept position) → HasWave vs log position code size rs early

@@ -21,7 +21,7 @@ abbrev tail_of : List ℕ → List ℕ
 tail_of [] = []
 tail_of (b ∷ bs) = bs
 
--- the greatest number of so many digits
+-- the greatest number with this many digits
 abbrev greatest : ℕ → ℕ
 greatest zero = 0
 greatest (suc l) = 94 * greatest l + 94
@@ -46,7 +46,7 @@ codes_differ j k same =
     let one : j + 1 ≡ k + 1 = same_number (j + 1) (k + 1) (j + 1) (k + 1) (omega arith) (omega arith) same in
     omega arith
 
--- whether a byte may stand in a code
+-- whether a byte is allowed in a code
 abbrev pub is_code_byte : ℕ → Bool
 is_code_byte b = nat_le 33 b && nat_le b 126
 
@@ -75,7 +75,7 @@ one_more_digit n l short =
     let same : length (code_digits (suc n) (suc n)) ≡ suc (length (code_digits (n / 94) (n / 94))) =
     ap length (next_digit n) in omega arith
 
--- how many digits a number has at most
+-- the greatest number of digits of a number
 digits_few : (l n : ℕ) → n ≤ greatest l → length (code_digits n n) ≤ l
 unfolding code_digits
 digits_few zero zero small = omega arith

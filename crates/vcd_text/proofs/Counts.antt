@@ -19,7 +19,7 @@ use Rattle.vcd_text.specs.inside.Transitions.{window_of_signal, unsorted_window}
 use Rattle.vcd_text.specs.Text.{differs_at}
 use Rattle.vcd_text.proofs.Sorting.{counted, once, times, times-append, RisesFrom}
 
--- a number where it holds, else 0
+-- a number where the test passes, else 0
 abbrev if_so : Bool → ℕ → ℕ
 if_so true n = n
 if_so false n = 0
@@ -28,7 +28,7 @@ if_zero : (b : Bool) → if_so b 0 ≡ 0
 if_zero true = refl
 if_zero false = refl
 
--- whether the signal at a position differs at a tick, the first signal being at another position
+-- whether the signal at a position differs at a tick, where the first signal is at another position
 abbrev marks : ℕ → ℕ → ℕ → List SignalContents → ℕ
 marks t k j [] = 0
 marks t k j (s ∷ ss) = if_so (j == k) (counted (differs_at t s)) + marks t k (j + 1) ss
@@ -104,7 +104,7 @@ within signals a (suc n) t k low high =
           )
     ]
 
--- a place is not behind another
+-- a place is not after another
 abbrev Reaches : ℕ → ℕ → ℕ → ℕ → Type 0
 Reaches f g t j = (f < t) ⊎ ((f ≡ t) × (g ≤ j))
 
@@ -168,7 +168,7 @@ window_bounds from to t is =
 
 -- ---- signal by signal
 
--- how many changes stand at a tick
+-- the number of changes at a tick
 abbrev count_at : ℕ → List Change → ℕ
 count_at t [] = 0
 count_at t (c ∷ cs) = counted (c.tick == t) + count_at t cs

@@ -33,6 +33,6 @@ decimal_is_number n small =
     λ i. not (ne_eqb (length (decimal n)) 0 (let some = decimal_nonempty n small in omega (arith, some)) i)
     && decimal_digits n small i
 
--- what is read of it is the number
+-- the number read from it is the number
 pub number_of-decimal : (n : ℕ) → n < 2 ^ 64 → number_of (decimal n) ≡ n
 number_of-decimal n small = digits_value-decimal reads_decimals n small

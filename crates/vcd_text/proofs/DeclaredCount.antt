@@ -1,4 +1,4 @@
--- How many variables are skipped: fewer than the file has words.
+-- The number of skipped variables: fewer than the file has words.
 use Rattle.std.proofs.Common.{◌+◌, ◌<◌, ◌≤◌, ◌^◌, List, [], ◌∷◌, ◌++◌, length, Some, None, subst, ap, arith}
 use Rattle.std.specs.Prelude.{option_to_list}
 use Rattle.std.proofs.lemmas.List.{length-append, length-map}
@@ -27,7 +27,7 @@ declared_more c (real_or_string first text code) = omega arith
 declared_more c (bracket text) = omega arith
 declared_more c (other text words) = omega arith
 
--- and so do items in a row
+-- items declare at most as many variables as there are items
 declared_by : (c : ParseState) (is : List Item) → length (state_after c is).declared ≤ length c.declared + length is
 declared_by c [] = omega arith
 declared_by c (i ∷ is) = omega (arith, declared_by (state_after_item c i) is, declared_more c i)
@@ -47,7 +47,7 @@ has_words (real_or_string first text code) = omega arith
 has_words (bracket text) = omega arith
 has_words (other text words) = omega arith
 
--- and so items in a row have as many words at least
+-- items have at least as many words as there are items
 fewer_items : (is : List Item) → length is ≤ length (spellings is)
 fewer_items [] = omega arith
 fewer_items (i ∷ is) = omega (arith, length-append (spelling i) (spellings is), has_words i, fewer_items is)

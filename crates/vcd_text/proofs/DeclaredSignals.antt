@@ -1,4 +1,4 @@
--- A sound signal is declared as a variable that is kept, and its code finds it.
+-- A sound signal is declared as a kept variable, and its code finds it.
 use Rattle.std.proofs.Common.{◌≡◌, ◌≢◌, ℕ, zero, suc, ◌+◌, ◌<◌, true, false, not, cond, ◌||◌, ◌==◌, nat_lt, List, []}
 use Rattle.std.proofs.Common.{◌∷◌, length, get_or, Some, All, refl, ap, ◌∙◌, arith}
 use Rattle.std.specs.Prelude.{find, bytes_eq, count_by}
@@ -18,12 +18,12 @@ use Rattle.vcd_text.proofs.CodesDiffer.{codes_differ}
 abbrev pub declared_as : ℕ → SignalContents → VariableDeclaration
 declared_as k s = record { scopes = s.scopes; kind = s.kind; size = s.width; code = code_of k; words = s.words }
 
--- those of signals, the first at this position
+-- the declarations of signals, the first at this position
 unfoldable pub declared_of : ℕ → List SignalContents → List VariableDeclaration
 declared_of k [] = []
 declared_of k (s ∷ ss) = declared_as k s ∷ declared_of (suc k) ss
 
--- what a capture's text has told in front of the values
+-- the state after the declarations of a capture's text
 abbrev pub declared_state : Contents → ParseState
 declared_state c = record {
   header = c.header;

@@ -67,7 +67,7 @@ stays [] more position v at = let no : None ≡ Some v = at in absurd (cc)
 stays (w ∷ vs) more zero v at = at
 stays (w ∷ vs) more (suc n) v at = stays vs more n v at
 
--- what stands in a list with one more stands in it, or is the one
+-- an item of a list with one more is an item of the list, or the new one
 either_of : (vs : List Variable) (w : Variable) (position : ℕ) (v : Variable)
     → slice_get (vs ++ w ∷ []) position ≡ Some v
     → (slice_get vs position ≡ Some v) ⊎ ((position ≡ length vs) × (w ≡ v))
@@ -86,16 +86,16 @@ last_of (u ∷ vs) w = last_of vs w
 same_number : (n : ℕ) → (n == n) ≡ true
 same_number n = grind arith
 
--- as many variables are kept as were declared to be
+-- as many variables are kept as were declared as kept
 pub kept_long : (vs : Variables) (c : ParseState) → VariablesMatch vs c
     → length (kept_variables c.declared) ≡ length vs.kept.items
 kept_long vs c k = sym (length-map (kept_variables c.declared) without_scopes)
     ∙ ap (length {A = VariableDeclaration}) k.kept ∙ length-map vs.kept.items declaration
 
--- ---- what codes stand for, with one variable more
+-- ---- the targets of codes, with one more variable
 
 module _ (log : ℕ → List LoggedChange) (value_changes : List ValueChange) (tick : ℕ) where
-  -- a variable behind the others takes nothing from a code
+  -- a variable after the others does not change the target of a code
   stands_longer : (vs more : List Variable) (code : List ℕ) (target : Option CodeTarget)
       (declared : Option VariableDeclaration)
       → TargetMatches vs log value_changes tick code target declared
@@ -110,7 +110,7 @@ module _ (log : ℕ → List LoggedChange) (value_changes : List ValueChange) (t
         gives = w.gives;
       }) s
 
-  -- a later declaration of another code takes nothing from a code
+  -- a later declaration of another code does not change the target of a code
   stands_still : (vs : List Variable) (code : List ℕ) (target : Option CodeTarget)
       (declared : Option VariableDeclaration)
       → TargetMatches vs log value_changes tick code target declared
@@ -118,12 +118,12 @@ module _ (log : ℕ → List LoggedChange) (value_changes : List ValueChange) (t
   stands_still vs code target None s = s
   stands_still vs code target (Some d) s = s
 
--- the code of a declaration stands for this from now on, and the others for what they stood for
+-- the code of a declaration has this target from now on, and the others keep theirs
 abbrev pub Puts : (old new : Variables) → List ℕ → CodeTarget → Type 0
 Puts old new code target = (key : List ℕ)
     → target_of new key ≡ (if bytes_eq key code then Some target else target_of old key)
 
--- so it is where the code stands for it already
+-- so it is where the code has this target already
 pub puts_same : (old new : Variables) (code : List ℕ) (target : CodeTarget) → new.code_targets ≡ old.code_targets
     → target_of old code ≡ Some target → Puts old new code target
 puts_same old new code target same had = λ key.
@@ -220,11 +220,11 @@ module _ (old new : Variables) (c : ParseState) (d : VariableDeclaration) (k : V
 
 -- ---- a variable that is kept
 
--- the variable that a code, a signal and the position of the first one make
+-- the variable of a code, a signal and the position of the first one
 abbrev pub variable_at : (code : List ℕ) → Signal → (first : ℕ) → Variable
 variable_at code s first = record { code = code; signal = s; first = first }
 
--- the code is new, or stands for a variable of the same size
+-- the code is new, or is that of a variable of the same size
 abbrev pub IsFree : Variables → (code : List ℕ) → Signal → (first : ℕ) → Type 0
 IsFree old code s first =
     ((target_of old code ≡ None) × (first ≡ length old.kept.items))
@@ -256,7 +256,7 @@ module _ (old : Variables) (c : ParseState) (scopes : List ScopeName) (code : Li
   has_room_is b test = (λ i. keeps i || nat_lt (length (kept_variables c.declared)) SIGNAL_LIMIT)
       ∙ ap (λ n. nat_lt n SIGNAL_LIMIT) (kept_long old c k) ∙ test
 
-  -- it may not stand here where there are too many
+  -- it is not allowed where there are too many
   keep_full : (new : Variables) → SIGNAL_LIMIT ≤ length old.kept.items
       → DeclaresAs c (declaration_in scopes code s) (Err faults.TooManySignals) new
   keep_full new full = inr
@@ -271,7 +271,7 @@ module _ (old new : Variables) (c : ParseState) (scopes : List ScopeName) (code 
     (widths : new.widths.items ≡ old.widths.items ++ s.wave.width ∷ []) (log : new.log ≡ old.log)
     (free : IsFree old code s first)
     (puts : Puts old new code (Kept first)) where
-  -- the log has nothing for a variable that is not there yet
+  -- the log has no change of a variable that is not there yet
   log_silent : logged old.log.groups.items (length old.kept.items) ≡ []
   log_silent = elim (cases_lt 0 (length (logged old.log.groups.items (length old.kept.items)))) [
     | inl some ↦
@@ -350,7 +350,7 @@ module _ (old new : Variables) (c : ParseState) (scopes : List ScopeName) (code 
       (if bytes_eq key code then Some (Kept first) else target_of old key)) (sym (found_with key c.declared d))
       both)))
 
-  -- the variables before it know their first ones
+  -- the variables before it have the positions of their first ones
   keep_earlier : (position : ℕ) (v : Variable) → slice_get old.kept.items position ≡ Some v → HasFirst new position v
   keep_earlier position v at =
       let before = k.firsts position v at in
@@ -442,7 +442,7 @@ module _ (old new : Variables) (c : ParseState) (scopes : List ScopeName) (code 
         },
       )
 
--- what comes of a variable that is put behind the others
+-- the result of a variable that is appended
 pub push_declares : (old new : Variables) (c : ParseState) (scopes : List ScopeName) (code : List ℕ) (s : Signal)
     (first : ℕ) (result : Result (Unit {0}) Fault)
     → VariablesMatch old c → c.value_changes ≡ [] → s.wave.changes ≡ [] → s.scopes ≡ []
@@ -470,7 +470,7 @@ when_ok (Err fault) P p = tt
 
 -- ---- a code that may not be shared
 
--- what a test of the width tells of a variable
+-- the result of a test of a variable's width
 pub same_width : (o : Option Variable) (width : ℕ)
     → option_map_or (λ (v : Variable). v.signal.wave.width == width) o false ≡ true
     → (w : Variable) → o ≡ Some w → w.signal.wave.width ≡ width
@@ -480,7 +480,7 @@ same_width (Some v) width test w is = ap (λ (u : Variable). u.signal.wave.width
 
 -- ---- the words of a declaration
 
--- what the words of a `$var` declare
+-- the declaration of the words of a `$var`
 abbrev pub worded_declaration : ParseState → (kind size code : List ℕ) → (names : List (List ℕ)) → VariableDeclaration
 worded_declaration c kind size code names =
     record { scopes = c.scopes; kind = kind; size = number_of size; code = code; words = names }
@@ -497,7 +497,7 @@ declares_names c kind size code (name ∷ names) (Err fault) new some as_one = e
   | inr (many may room is) ↦ inr (no_room (worded_declaration c kind size code (name ∷ names)) refl may room is)
 ]
 
--- so what comes of the words is what comes of what they declare
+-- so the result of the words is that of their declaration
 pub declares_words : (c : ParseState) (words : List (List ℕ)) (kind size code : List ℕ) (names : List (List ℕ))
     (result : Result (Unit {0}) Fault) (new : Variables)
     → words ≡ kind ∷ size ∷ code ∷ names → 0 < length names
@@ -505,7 +505,7 @@ pub declares_words : (c : ParseState) (words : List (List ℕ)) (kind size code 
 declares_words c words kind size code names result new are some as_one =
     subst (λ ws. Declares c ws result new) (sym are) (declares_names c kind size code names result new some as_one)
 
--- three words, and those behind them
+-- three words, and those after them
 pub words_in_front : (words : List (List ℕ)) (kind size code : List ℕ) → 3 ≤ length words → kind ≡ get_or words 0 kind
     → size ≡ get_or words 1 size → code ≡ get_or words 2 code
     → words ≡ kind ∷ size ∷ code ∷ drop 3 words
@@ -542,7 +542,7 @@ pub left_out : (c : ParseState) (kind word code : List ℕ) (names : List (List 
 left_out c kind word code names size is =
     ap (λ b. is_skipped_kind kind || b) (sym (same_bounds (number_of word) size is))
 
--- the size that is read is that of a variable that is kept
+-- the size that is read is that of a kept variable
 pub kept_size : (by_kind : Bool) (n size : ℕ) → size ≡ min n (WIDTH_LIMIT + 1)
     → (by_kind || (size == 0 || nat_lt WIDTH_LIMIT size)) ≡ false → size ≡ n
 kept_size by_kind n size is keeps =

@@ -1,4 +1,4 @@
--- What becomes of a declaration at the next of its words.
+-- A declaration after the next of its words.
 use Rattle.std.proofs.Common.{◌≡◌, ℕ, ◌-◌, ◌<◌, Bool, true, false, not, ◌&&◌, List, [], ◌∷◌, ◌++◌, length, take, Option}
 use Rattle.std.proofs.Common.{Some, None, IsSome, IsTrue, IsFalse, Result, Ok, Err, IsErrAnd, slice_index_or, is_some}
 use Rattle.std.proofs.Common.{MatchOption, ◌⊎◌, codes, refl, sym, ap, subst, ◌∙◌, arith, inl, inr}
@@ -32,7 +32,7 @@ use Rattle.vcd_text.proofs.HeldScopes.{so_deep}
 
 -- ---- words
 
--- one word more
+-- one more word
 texts_more : (begun : List PlacedWord) (w : PlacedWord) → word_texts (begun ++ w ∷ []) ≡ word_texts begun ++ w.text ∷ []
 texts_more begun w = map-append (λ (v : PlacedWord). v.text) begun (w ∷ [])
 
@@ -42,15 +42,15 @@ spelled_whole : (begun : List PlacedWord) (line : ℕ) (words : List (List ℕ))
 spelled_whole begun line words spelled =
     sym (texts_more begun (word_on end_word line) ∙ ap (λ ts. ts ++ end_word ∷ []) spelled)
 
--- one word more, which is no `$end`
+-- one more word, which is not `$end`
 no_end_more : (words : List (List ℕ)) (text : List ℕ) → IsTrue (has_no_end_word words) → IsFalse (is_end_word text)
     → IsTrue (has_no_end_word (words ++ text ∷ []))
 no_end_more words text none isnt =
     list_all-append (λ w. not (is_end_word w)) words (text ∷ []) ∙ (λ i. none i && (not (isnt i) && true))
 
--- ---- what is told stays known
+-- ---- the state stays the same
 
--- the variables hold what a context tells that differs in other things alone
+-- the variables match a state that differs only in other fields
 same_known : (vs : Variables) (c d : ParseState) → c.declared ≡ d.declared → c.value_changes ≡ d.value_changes
     → c.tick ≡ d.tick → VariablesMatch vs c → VariablesMatch vs d
 same_known vs c d declared value_changes tick known =
@@ -58,7 +58,7 @@ same_known vs c d declared value_changes tick known =
 
 -- ---- the end of an item
 
--- where the item that is open asks for no more, its `$end` ends it
+-- where the conditions of the open item hold, its `$end` ends it
 ends_here : (new : Reader) (c : ParseState) (begun : List PlacedWord) (line : ℕ) (i : Item) (words : List (List ℕ))
     → word_texts begun ≡ words → spelling i ≡ words ++ end_word ∷ [] → Allows c i
     → ReaderMatches new (state_after_item c i) → new.item ≡ items.Nothing
@@ -91,7 +91,7 @@ closes_entry m new kind is pushed others line c begun at =
       silent = a.silent;
     }) refl)
 
--- a timescale takes the place of the one before
+-- a timescale replaces the one before
 pub closes_timescale : (m : Reader) (found : Timescale) → m.item ≡ items.Timescale
     → timescale_of m.words.items ≡ Some found
     → (line : ℕ) (c : ParseState) (begun : List PlacedWord) → IsAtState m c begun
@@ -150,7 +150,7 @@ closes_scope m new s is words pushed others line c begun at =
       silent = a.silent;
     }) refl)
 
--- the front of a list, and what is left behind it
+-- the front of a list, and the rest
 pub front_removed : (xs ys : List (List ℕ)) (x : List ℕ) → 0 < length xs → x ≡ slice_index_or xs 0 x → ys ≡ remove xs 0
     → xs ≡ x ∷ ys
 front_removed [] ys x some front rest = absurd (omega arith)
@@ -212,7 +212,7 @@ closes_definitions m code_targets same is line c begun at =
       silent = λ _. a.silent (sym a.changing ∙ b.0);
     }) refl
 
--- another command leaves nothing
+-- another command changes nothing
 pub closes_other : (m : Reader) → m.item ≡ items.Other
     → (line : ℕ) (c : ParseState) (begun : List PlacedWord) → IsAtState m c begun
     → WordStep c (begun ++ word_on end_word line ∷ []) (record m { item = items.Nothing })
@@ -233,7 +233,7 @@ closes_other m is line c begun at =
 
 -- ---- variables
 
--- the variables have taken the declaration
+-- the variables have the declaration
 pub closes_variable : (m : Reader) (variables : Variables) (scopes : Scopes) (words : List (List ℕ))
     → words ≡ m.words.items
     → ((c : ParseState) (ws : List (List ℕ)) → HoldsScopes m.scopes c.scopes c.declared
@@ -264,7 +264,7 @@ closes_variable m variables scopes words spelled note declare is line c begun at
       silent = a.silent;
     }) refl
 
--- what the variables answer is what the grammar says
+-- the fault of the variables is that of the grammar
 variable_fault : (m : Reader) (c : ParseState) (begun : List PlacedWord) (fault : Fault) → IsFalse c.changing
     → Collects m begun (codes "$var") → IsTrue (has_good_size m.words.items) → VariableFault c m.words.items fault
     → WordFault c (word_texts begun) end_word fault
@@ -283,7 +283,7 @@ fault_shown : (m : Reader) (c : ParseState) (begun : List PlacedWord) (fault : F
 fault_shown m c begun fault declares b good (inl memory) = inl memory
 fault_shown m c begun fault declares b good (inr shown) = inr (variable_fault m c begun fault declares b good shown)
 
--- the words declare no variable that may stand here
+-- the words declare no variable that is allowed here
 pub shows_no_variable : (m new : Reader) (result : Result (Unit {0}) Fault) (fault : Fault) (variables : Variables)
     (words : List (List ℕ))
     → words ≡ m.words.items
@@ -301,7 +301,7 @@ shows_no_variable m new (Err e) fault variables words spelled declare is failed 
     subst (λ f. (f ≡ faults.NoMemory) ⊎ WordFault c (word_texts begun) end_word f) (sym failed)
     (fault_shown m c begun fault declares b.0 b.1 d)
 
--- the kind of a variable, where it is all that stands there
+-- the kind of a variable, where it is the only word
 one_word : (words : List (List ℕ)) → length words ≡ 1 → IsTrue (has_no_end_word words)
     → (kind : List ℕ) × (words ≡ kind ∷ []) × IsFalse (is_end_word kind)
 one_word [] one none = absurd (omega arith)
@@ -312,7 +312,7 @@ one_word (kind ∷ []) one none = (kind, refl, not_true (is_end_word kind) (and_
     not_true true h = sym h
 one_word (kind ∷ size ∷ words) one none = absurd (omega arith)
 
--- a size is given to each decimal number
+-- each decimal number is a size
 pub no_number : (size : Option ℕ) (text : List ℕ) (Q : ℕ → Type 0) → MatchOption size (is_number text ≡ false) Q
     → is_some size ≡ false → is_number text ≡ false
 no_number None text Q said none = said

@@ -1,4 +1,4 @@
--- What is so where no word is left.
+-- Facts where no word is left.
 use Rattle.std.proofs.Common.{◌≡◌, inl, inr, ℕ, Bool, true, false, ◌&&◌, List, [], ◌∷◌, ◌++◌, refl, sym, ap, subst, ◌∙◌}
 use Rattle.std.proofs.Common.{arith}
 use Rattle.std.specs.Prelude.{IsTrue, IsFalse, codes, nat_eq}
@@ -59,7 +59,7 @@ awaiting m c begun letters text agrees is more =
     code_due is.letter text (sym agrees.changing ∙ is.changes) (ap word_texts is.is ∙ ap (λ t. t ∷ []) is.spelled)
     (more is.letter is.among)
 
--- something is due behind words that are no whole file
+-- a word must follow words that are no whole file
 unfinished : (m : Reader) (c : ParseState) (begun : List PlacedWord) (item : OpenItem) → ReaderMatches m c
     → IsBegun m begun item → IsFalse (m.changing && is_nothing item) → IsUnfinished c (word_texts begun)
 unfinished m c begun items.Nothing agrees none no_end =

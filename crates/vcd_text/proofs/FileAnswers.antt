@@ -1,4 +1,4 @@
--- Every file has an answer: its words are accepted, or one shows a fault, or they end too early.
+-- Every file has a result: its words are accepted, or one shows a fault, or they end too early.
 use Rattle.std.proofs.Common.{◌≡◌, ◌⊎◌, inl, inr, ℕ, true, List, [], ◌∷◌, ◌++◌, refl, sym, ap, subst, ◌∙◌, append_assoc}
 use Rattle.std.proofs.Common.{IsTrue}
 use Rattle.std.specs.List.{All}
@@ -18,13 +18,13 @@ use Rattle.vcd_text.proofs.ItemsInTurn.{Leads, leads_none, leads_one, leads_both
 use Rattle.vcd_text.proofs.WordLaws.{is_run, words_are_words}
 use Rattle.vcd_text.proofs.WordOutcomes.{IsOpen, between, inside, shows_fault, ends_item, goes_on, word_outcome}
 
--- what comes of all words of a file
+-- the result of all words of a file
 data AnswerTo (words : List PlacedWord) : Type 0 where
   is_accepted : (told : ParseState) → Accepts words told → AnswerTo words
   stops_early : Stops words → AnswerTo words
   is_refused : (line : ℕ) (fault : Fault) → ShowsFault words line fault → AnswerTo words
 
--- whole items stand at the front of the words, then the words of the item that is open, then the words to come
+-- the words are those of whole items, those of the open item, and those to come
 record WordsSoFar (words rest : List PlacedWord) : Type 0 where
   items : List Item
   whole : List PlacedWord
@@ -49,7 +49,7 @@ spelled_more [] i = append-nil (spelling i)
 spelled_more (j ∷ items) i = ap (λ ws. spelling j ++ ws) (spelled_more items i)
     ∙ sym (append_assoc (spelling j) (spellings items) (spelling i))
 
--- the word goes on with the item that is open
+-- the word goes on with the open item
 with_word : (words rest : List PlacedWord) (w : PlacedWord) (u : WordsSoFar words (w ∷ rest))
     → IsUnfinished u.told (word_texts u.begun ++ w.text ∷ []) → WordsSoFar words rest
 with_word words rest w u due = record {
@@ -109,7 +109,7 @@ texts_are words u =
     ∙ map-append (λ (v : PlacedWord). v.text) u.whole u.begun
     ∙ ap (λ ws. ws ++ word_texts u.begun) u.spelled
 
--- something is due behind the last word
+-- a word must follow the last one
 stops_here : (words : List PlacedWord) (u : WordsSoFar words []) → IsUnfinished u.told (word_texts u.begun)
     → AnswerTo words
 stops_here words u due = stops_early (record {
@@ -120,7 +120,7 @@ stops_here words u due = stops_early (record {
   unfinished = subst (λ c. IsUnfinished c (word_texts u.begun)) (sym u.leads.tells) due;
 })
 
--- nothing is open behind the last word, and `$enddefinitions $end` has come
+-- nothing is open after the last word, and `$enddefinitions $end` has come
 accepts_here : (words : List PlacedWord) (u : WordsSoFar words []) → word_texts u.begun ≡ [] → IsTrue u.told.changing
     → AnswerTo words
 accepts_here words u none changing = is_accepted u.told (record {

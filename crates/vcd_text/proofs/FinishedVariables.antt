@@ -1,4 +1,4 @@
--- The signals that the variables become.
+-- The signals of the variables.
 use Rattle.std.proofs.Common.{◌≡◌, ℕ, zero, suc, List, [], ◌∷◌, ◌++◌, length, map, drop, false, None, Some, inl, inr}
 use Rattle.std.proofs.Common.{refl, sym, ap, subst, ◌∙◌, arith}
 use Rattle.std.specs.Prelude.{slice_get}
@@ -98,7 +98,7 @@ module _ (vs : Variables) (c : ParseState) (yielded rest : List Variable) (v : V
         changes = changes i;
       }
 
-  -- a later one has that of the first
+  -- a later variable has the wave of the first
   later_means : (s signal : Signal) → slice_get signals v.first ≡ Some s
       → signal_contents signal ≡ record {
         scopes = v.signal.scopes;
@@ -131,7 +131,7 @@ module _ (vs : Variables) (c : ParseState) (yielded rest : List Variable) (v : V
         changes = changes i;
       })
 
-  -- the signal that a variable becomes is the one that it declares
+  -- the signal of a variable is the one that it declares
   pub finishes_as_declared : (signal : Signal) → Finishes v (slice_get signals v.first) signal
       → signal_contents signal ≡ declared_signal c.value_changes c.tick (declaration v)
   finishes_as_declared signal finishes = elim (slice_get_cases signals v.first).1 [

@@ -1,4 +1,4 @@
--- Variables that take what the log has for them.
+-- Variables that take their changes of the log.
 use Rattle.std.proofs.Common.{◌≡◌, ℕ, suc, ◌<◌, Bool, true, false, ◌==◌, cond, List, [], ◌∷◌, ◌++◌, length, map, set}
 use Rattle.std.proofs.Common.{Some, inl, inr, refl, sym, ap, subst, ◌∙◌, arith}
 use Rattle.std.specs.Prelude.{slice_get}
@@ -56,7 +56,7 @@ becomes_taken e v w es takes = record {
       (λ t. ap (λ n. value_at n w.signal.wave.changes t) (sym takes.same.width) ∙ takes.values t) g);
 }
 
--- what is declared stays
+-- the declaration stays
 pub same_declaration : (v w : Variable) (es fs : List LoggedChange) → FlushesOne v w es fs
     → declaration w ≡ declaration v
 same_declaration v w es fs b =
@@ -110,7 +110,7 @@ module _ (e : LoggedChange) (es : List LoggedChange) (rest : ℕ → List Logged
         late = gives_first v.signal.wave.width tick f v.signal.wave.changes e front first;
       }
 
-  -- and then the others are left
+  -- then the others are left
   pub flushes_one : (old new : List Variable) → AppliesLogged e old new
       → FlushesLog old new (λ position. changes_of_position position (e ∷ es) ++ rest position)
       (λ position. changes_of_position position es ++ rest position)
@@ -142,7 +142,7 @@ module _ (e : LoggedChange) (es : List LoggedChange) (rest : ℕ → List Logged
     ];
   }
 
--- what can be taken can be taken still
+-- a change that can be taken can still be taken
 pub can_still : (old new : List Variable) (log rest : ℕ → List LoggedChange)
     → ((position : ℕ) → 0 < length (rest position) → 0 < length (log position)) → FlushesLog old new log rest
     → CanFlush old log → CanFlush new rest
@@ -151,7 +151,7 @@ can_still old new log rest some flushes_log can = λ position left.
     let w = flushes_log.each position v stands in
     (w.0, w.1, tick, f, w.2.gives tick f gives)
 
--- what is left of a group stood in it
+-- the rest of a group was in it
 pub more_left : (e : LoggedChange) (es rest : List LoggedChange) (position : ℕ)
     → 0 < length (changes_of_position position es ++ rest) → 0 < length (changes_of_position position (e ∷ es) ++ rest)
 more_left e es rest position some = choose (e.position == position)
@@ -205,7 +205,7 @@ module _ (old : Variables) (list : Vec Variable) (log : ChangeLog) (c : ParseSta
         log;
   }
 
-  -- what stood there before
+  -- the variable at a position before
   stood : (position : ℕ) (w : Variable) → slice_get list.items position ≡ Some w
       → (v : Variable) × (slice_get old.kept.items position ≡ Some v)
       × FlushesOne v w (logged old.log.groups.items position) []
@@ -254,7 +254,7 @@ module _ (old : Variables) (list : Vec Variable) (log : ChangeLog) (c : ParseSta
             (subst (λ n. slice_get old.kept.items n ≡ Some y.0) v.2.same.first y.1) ∙ sym v.2.same.width;
       }
 
-  -- what the log had, the waves have
+  -- the waves have the changes of the log
   pub flushed_match : VariablesMatch (record {
     kept = list;
     widths = old.widths;

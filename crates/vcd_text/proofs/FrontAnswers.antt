@@ -1,4 +1,4 @@
--- The answers to a file of which a front is known.
+-- The results for a file of which a front was read.
 use Rattle.std.proofs.Common.{◌≡◌, ◌⊎◌, inl, inr, ℕ, ◌<◌, ◌≤◌, Bool, List, take, length, Option, Some, None, IsTrue}
 use Rattle.std.proofs.Common.{IfSome, refl, subst}
 use Rattle.std.specs.Io.KnownBytes.{Consumes}
@@ -7,7 +7,7 @@ use Rattle.vcd_text.specs.declared.fault.Fault.TheVariants as faults
 use Rattle.vcd_text.specs.declared.fault.ReadError.{ReadError}
 use Rattle.vcd_text.specs.Refusals.{IsRefusal, IsFrontAnswer, too_large, reader_failed, no_memory, memory_error}
 
--- there is more than the limit
+-- the file has more bytes than the limit
 pub larger : (coming left : Option (List ℕ)) (failed : Bool) (bytes : List ℕ) (e : ReadError)
     → IfSome coming (λ xs. (FILE_LIMIT < length xs) × (bytes ≡ take FILE_LIMIT xs))
     → (e ≡ memory_error) ⊎ IsFrontAnswer bytes faults.TooLarge e → IfSome coming (λ file. IsRefusal file failed left e)

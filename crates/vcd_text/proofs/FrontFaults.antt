@@ -11,7 +11,7 @@ use Rattle.vcd_text.specs.Faults.{FileFault, FrontFault, ShowsFault, shown}
 abbrev IsFront : List PlacedWord → List PlacedWord → Type 0
 IsFront first all = (more : List PlacedWord) × (all ≡ first ++ more)
 
--- the byte goes into the first word of both lists, or the shorter one has none
+-- the byte is added to the first word of both lists, or the shorter one has none
 longer_front : (b line : ℕ) (first all : List PlacedWord) → IsFront first all
     → IsFront (with_longer_first b line first) (with_longer_first b line all)
 longer_front b line [] all front = (with_longer_first b line all, refl)
@@ -65,7 +65,7 @@ front_fault_stays front rest line fault s =
     shown (shown_further (closed_words front) (words_of (front ++ rest)) line fault (closed_in_front true 1 front rest)
     s)
 
--- it is that of a longer front as well
+-- the fault of a front is that of a longer front as well
 pub longer_front_fault : (front rest : List ℕ) (line : ℕ) (fault : Fault) → FrontFault front line fault
     → FrontFault (front ++ rest) line fault
 longer_front_fault front rest line fault s =

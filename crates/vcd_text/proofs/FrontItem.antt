@@ -1,5 +1,5 @@
--- What stands at the front of some words: a whole item, a fault, the begin of an item, or nothing. It is a function of
--- the words, so the grammar gives one answer.
+-- The front of some words: a whole item, a fault, the beginning of an item, or nothing. It is a function of the words,
+-- so the grammar gives one result.
 use Rattle.std.proofs.Common.{◌≡◌, ℕ, suc, ◌<◌, ◌≤◌, Bool, true, false, cond, not, ◌&&◌, ◌||◌, List, [], ◌∷◌, ◌++◌}
 use Rattle.std.proofs.Common.{length, Option, Some, None, IsSome, IsSomeAnd, IsTrue, IsFalse, nat_lt, codes, bytes_eq}
 use Rattle.std.proofs.Common.{refl, sym, ap, subst, ◌∙◌, append_assoc, arith, inl, inr}
@@ -31,7 +31,7 @@ use Rattle.vcd_text.specs.Faults.{value_of_none, pair_of_none, no_value, value_t
 use Rattle.vcd_text.specs.Faults.{among_declarations, among_changes, declaration_due, words_due, upscope_due}
 use Rattle.vcd_text.specs.Faults.{variable_due, definitions_due, code_due, other_due}
 
--- a fault stands at a place, counted from the front
+-- a fault is at a place, counted from the front
 pub data Front : Type 0 where
   whole : Item → (rest : List (List ℕ)) → Front
   faulty : (place : ℕ) → Fault → Front
@@ -96,7 +96,7 @@ variable_front c (kind ∷ size ∷ ws) =
     (closing (λ words rest. variable_state c (declaration_of c words) words rest) (kind ∷ size ∷ ws))
     (faulty 2 BadVar))
 
--- the front of some words among the declarations, their first word apart
+-- the front of some words among the declarations, where their first word is given apart
 abbrev pub declaration_front : ParseState → List ℕ → List (List ℕ) → Front
 declaration_front c w ws =
     cond (begins_declaration w)
@@ -361,7 +361,7 @@ variable_open c (kind ∷ size ∷ words) n g =
     sized c kind size words (not-true (is_end_word kind) (and_parts _ _ n).0) g
     ∙ closing_none (λ words rest. variable_state c (declaration_of c words) words rest) (kind ∷ size ∷ words) n
 
--- how far behind the first word of its item a fault is told
+-- the distance of a fault from the first word of its item
 abbrev pub place_of : Bool → List (List ℕ) → ℕ
 place_of false begun = length begun
 place_of true begun = 0

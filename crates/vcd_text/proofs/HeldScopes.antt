@@ -1,4 +1,4 @@
--- The scopes that the reader holds, as scopes are opened and closed and variables declared.
+-- The scopes of the reader, as scopes are opened and closed and variables declared.
 use Rattle.std.proofs.Common.{inl, inr, ◌≡◌, ℕ, zero, suc, ◌+◌, ◌-◌, ◌<◌, ◌≤◌, Bool, true, false, not, cond, List, []}
 use Rattle.std.proofs.Common.{◌∷◌, ◌++◌, length, take, map, Option, None, Some, refl, sym, ap, subst, ◌∙◌, arith}
 use Rattle.std.specs.Prelude.{option_to_list}
@@ -18,12 +18,12 @@ use Rattle.vcd_text.specs.declared.reading.scopes.Scopes.{Scopes}
 
 -- ---- chains that go on
 
--- each chain stands among the others too, with more behind it
+-- the chains are among the others too, and more can follow
 abbrev Grows : List (List ScopeName) → List (List ScopeName) → Type 0
 Grows cs ds = (k : ℕ) → k < length cs
     → (k < length ds) × ((more : List ScopeName) × (chain_at ds k ≡ chain_at cs k ++ more))
 
--- so a place has the scopes that it had
+-- so a place keeps its scopes
 places_stay : (cs ds : List (List ScopeName)) (ps : List ScopePlace) → Grows cs ds → AreWithin cs ps
     → AreWithin ds ps × (map (scopes_at ds) ps ≡ map (scopes_at cs) ps)
 places_stay cs ds [] grows within = (tt, refl)
@@ -54,21 +54,21 @@ grows_by_scope (c ∷ cs) chain s (suc k) within =
 
 -- ---- how far places reach
 
--- no place is in a chain that begins behind those of the places
+-- no place is in a chain that begins after those of the places
 reached_by_none : (cs : List (List ScopeName)) (ps : List ScopePlace) (n reach : ℕ) → length cs ≤ n → AreWithin cs ps
     → AreReached n reach ps
 reached_by_none cs [] n reach following within = tt
 reached_by_none cs (p ∷ ps) n reach following (here, count, later) =
     (λ is. absurd (omega (arith, is, here, following)), reached_by_none cs ps n reach following later)
 
--- one place more
+-- one more place
 reached_more : (n reach further : ℕ) (ps : List ScopePlace) (p : ScopePlace) → reach ≤ further → p.count ≤ further
     → AreReached n reach ps → AreReached n further (ps ++ p ∷ [])
 reached_more n reach further [] p far count tt = (λ _. count, tt)
 reached_more n reach further (q ∷ ps) p far count (one, others) =
     (λ is. let low = one is in omega (arith, low, far), reached_more n reach further ps p far count others)
 
--- ---- what the reader holds
+-- ---- the scopes of the reader
 
 -- the chains, the reach and the places stay
 reach_kept : (old new : Scopes) → new.chains.items ≡ old.chains.items → new.reach ≡ old.reach
@@ -80,7 +80,7 @@ reach_kept old new chains reach places reached =
     (subst (λ r. AreReached (length old.chains.items) r new.places.items) (sym reach)
     (subst (AreReached (length old.chains.items) old.reach) (sym places) reached))
 
--- another chain begins, with the scopes that are open
+-- another chain begins, with the open scopes
 pub chain_begins : (old new : Scopes) (c : ParseState) → new.chains.items ≡ old.chains.items ++ old.chain.items ∷ []
     → new.chain.items ≡ take old.depth old.chain.items
     → new.depth ≡ old.depth → new.places.items ≡ old.places.items → HoldsScopes old c.scopes c.declared
@@ -124,7 +124,7 @@ scope_entered old new c s end chains chain depth reach places h =
       paths = (λ i. map (scopes_at (all i)) (places i)) ∙ stay.1 ∙ h.paths;
     }
 
--- as many scopes are open as have been told
+-- as many scopes are open as in the state
 pub so_deep : (s : Scopes) (c : ParseState) → HoldsScopes s c.scopes c.declared → length c.scopes ≡ s.depth
 so_deep s c h = ap (length {A = ScopeName}) (sym h.inner) ∙ length-take-le s.depth s.chain.items h.within
 
@@ -153,7 +153,7 @@ scope_left old new c chains chain depth reach places h =
       paths = (λ i. map (scopes_at (all i)) (places i)) ∙ h.paths;
     }
 
--- places that do not reach further have the scopes that they had, where the last chain is cut
+-- places that do not reach further keep their scopes where the last chain is cut
 places_cut : (cs : List (List ScopeName)) (chain : List ScopeName) (depth reach : ℕ) (ps : List ScopePlace)
     → reach ≤ depth → depth ≤ length chain → AreReached (length cs) reach ps
     → AreWithin (cs ++ chain ∷ []) ps → AreWithin (cs ++ take depth chain ∷ []) ps
@@ -190,7 +190,7 @@ places_cut cs chain depth reach (p ∷ ps) low within (one, others) (here, count
     ] in
     ((placed.0, placed.1, rest.0), λ i. placed.2 i ∷ rest.1 i)
 
--- the chain is cut back to the scopes that are open
+-- the chain is cut back to the open scopes
 pub chain_cut : (old new : Scopes) (c : ParseState) → new.chains.items ≡ old.chains.items
     → new.chain.items ≡ take old.depth old.chain.items → new.depth ≡ old.depth
     → new.reach ≡ old.reach → new.places.items ≡ old.places.items → old.reach ≤ old.depth
@@ -217,14 +217,14 @@ within_more : (cs : List (List ScopeName)) (ps : List ScopePlace) (p : ScopePlac
 within_more cs [] p within here count = (here, count, tt)
 within_more cs (q ∷ ps) p (at, long, later) here count = (at, long, within_more cs ps p later here count)
 
--- the variables are as many as the places
+-- there are as many variables as places
 pub as_many : (s : Scopes) (c : ParseState) → HoldsScopes s c.scopes c.declared
     → length s.places.items ≡ length (kept_variables c.declared)
 as_many s c h =
     sym (length-map s.places.items (scopes_at (chains_of s))) ∙ ap (length {A = List ScopeName}) h.paths
     ∙ length-map (kept_variables c.declared) (λ (d : VariableDeclaration). d.scopes)
 
--- with this declaration behind the others
+-- the state with this declaration added last
 abbrev and_then : ParseState → Option VariableDeclaration → ParseState
 and_then c o = record c { declared = c.declared ++ option_to_list o }
 
@@ -232,7 +232,7 @@ one_more : (ds : List VariableDeclaration) (d : VariableDeclaration)
     → kept_variables (ds ++ d ∷ []) ≡ kept_variables ds ++ cond (not (is_skipped d)) (d ∷ []) []
 one_more ds d = filter-append (λ (e : VariableDeclaration). not (is_skipped e)) ds (d ∷ [])
 
--- no variable more is kept
+-- no further variable is kept
 passed : (s new : Scopes) (c : ParseState) (o : Option VariableDeclaration) → new.chains.items ≡ s.chains.items
     → new.chain.items ≡ s.chain.items → new.depth ≡ s.depth → new.reach ≡ s.reach
     → new.places.items ≡ s.places.items → length (kept_variables (and_then c o).declared) ≤ length s.places.items
@@ -271,7 +271,7 @@ passed s new c o chains chain depth reach places few h =
     still None few = ap kept_variables (sym (append-nil c.declared))
     still (Some d) few = by_test d (is_skipped d) refl few
 
--- one variable more is kept, in the scopes that are open
+-- one more variable is kept, in the open scopes
 noted : (s new : Scopes) (c : ParseState) (o : Option VariableDeclaration) → new.chains.items ≡ s.chains.items
     → new.chain.items ≡ s.chain.items → new.depth ≡ s.depth → s.reach ≤ new.reach → s.depth ≤ new.reach
     → new.places.items ≡ s.places.items ++ record { chain = length s.chains.items; count = s.depth } ∷ []
@@ -311,7 +311,7 @@ noted s new c (Some d) chains chain depth far reach places more inside h =
         ∙ append-nil (kept_variables c.declared) in
         absurd (omega (arith, more, as_many s c h, ap (length {A = VariableDeclaration}) same))
 
--- what words declare stands in the scopes that are open
+-- the declaration of words is in the open scopes
 declared_inside : (c : ParseState) (words : List (List ℕ)) (d : VariableDeclaration) → declaration_of c words ≡ Some d
     → d.scopes ≡ c.scopes
 declared_inside c [] d is = let never : None ≡ Some d = is in absurd (cc)
@@ -321,7 +321,7 @@ declared_inside c (kind ∷ size ∷ code ∷ []) d is = let never : None ≡ So
 declared_inside c (kind ∷ size ∷ code ∷ name ∷ names) d is =
     ap (λ (e : VariableDeclaration). e.scopes) (sym (same_Some _ d is))
 
--- a place more is noted where a variable more is kept
+-- one more place is noted where one more variable is kept
 pub place_noted : (s new : Scopes) (c : ParseState) (words : List (List ℕ)) → new.chains.items ≡ s.chains.items
     → new.chain.items ≡ s.chain.items → new.depth ≡ s.depth → s.reach ≤ new.reach → s.depth ≤ new.reach
     → new.places.items ≡ s.places.items ++ record { chain = length s.chains.items; count = s.depth } ∷ []
@@ -330,7 +330,7 @@ pub place_noted : (s new : Scopes) (c : ParseState) (words : List (List ℕ)) �
 place_noted s new c words chains chain depth far reach places more h =
     noted s new c (declaration_of c words) chains chain depth far reach places more (declared_inside c words) h
 
--- and none where none is
+-- no place is noted where none is kept
 pub no_place : (s : Scopes) (c : ParseState) (words : List (List ℕ))
     → length (kept_variables (state_after_item c (variable words)).declared) ≤ length s.places.items
     → HoldsScopes s c.scopes c.declared → HoldsScopes s c.scopes (state_after_item c (variable words)).declared

@@ -1,9 +1,9 @@
--- Items that are allowed in turn, and what they lead to.
+-- Items that are allowed in turn, and the state after them.
 use Rattle.std.proofs.Common.{◌≡◌, List, [], ◌∷◌, ◌++◌, refl, sym, subst, ◌∙◌}
 use Rattle.vcd_text.specs.Items.{Item}
 use Rattle.vcd_text.specs.Grammar.{ParseState, Allows, AllowsAll, state_after, state_after_item}
 
--- behind the context `start` each item gets what it asks for, and all of them lead to the context `told`
+-- from the state `start` the conditions of each item hold, and the state after all of them is `told`
 pub record Leads (start : ParseState) (items : List Item) (told : ParseState) : Type 0 where
   pub allowed : AllowsAll start items
   pub tells : state_after start items ≡ told
@@ -21,13 +21,13 @@ leads_first c d i is allowed rest = record { allowed = (allowed, rest.allowed); 
 pub leads_one : (c d : ParseState) (i : Item) → Allows c i → state_after_item c i ≡ d → Leads c (i ∷ []) d
 leads_one c d i allowed tells = record { allowed = (allowed, tt); tells = tells }
 
--- items in front and items behind
+-- items in front and items after them
 pub leads_both : (c d e : ParseState) (xs ys : List Item) → Leads c xs d → Leads d ys e → Leads c (xs ++ ys) e
 leads_both c d e [] ys front back = subst (λ x. Leads x ys e) (sym front.tells) back
 leads_both c d e (x ∷ xs) ys front back =
     leads_first c e x (xs ++ ys) front.allowed.0
     (leads_both (state_after_item c x) d e xs ys (record { allowed = front.allowed.1; tells = front.tells }) back)
 
--- the same items between the same contexts
+-- the same items between the same states
 pub leads_same : (c d e : ParseState) (is : List Item) → Leads c is d → d ≡ e → Leads c is e
 leads_same c d e is leads same = record { allowed = leads.allowed; tells = leads.tells ∙ same }

@@ -25,13 +25,13 @@ latest_value-append width code t before (r ∷ rs) qs =
     latest_value-append width code t
     (if bytes_eq r.code code && nat_le r.tick t then extension width r.letters else before) rs qs
 
--- of one signal, at the position k, at the tick t
+-- for one signal, at the position k and the tick t
 module _ (width k t : ℕ) where
-  -- what the value changes say after a value
+  -- the value after these value changes
   abbrev after_value_changes : List Bit → List ValueChange → List Bit
   after_value_changes before rs = latest_value width (code_of k) t before rs
 
-  -- value changes past the tick say nothing
+  -- value changes past the tick change nothing
   past_value_changes : (u : ℕ) (before : List Bit) (placed : List (ℕ × SignalContents)) → t < u
       → after_value_changes before (map (value_change_of u) placed) ≡ before
   unfolding latest_value
@@ -54,13 +54,13 @@ module _ (width k t : ℕ) where
       (past_value_changes u before (differing signals u) past)
       ∙ past_ticks signals (suc u) n before (omega arith)
 
-  -- at a tick that has come, for signals that pass a test
+  -- at a tick up to t, for signals that pass a test
   module _ (u : ℕ) (test : ℕ × SignalContents → Bool) where
     -- the value changes of signals from position j on
     abbrev value_changes_from : ℕ → List SignalContents → List ValueChange
     value_changes_from j ss = map (value_change_of u) (filter test (enumerate_from j ss))
 
-    -- a signal at another position says nothing
+    -- a signal at another position changes nothing
     other_signal : (j : ℕ) (s : SignalContents) (ss : List SignalContents) (before : List Bit) → j ≢ k
         → after_value_changes before (value_changes_from j (s ∷ ss))
         ≡ after_value_changes before (value_changes_from (j + 1) ss)
@@ -126,7 +126,7 @@ module _ (signals : List SignalContents) (k t : ℕ) (d : SignalContents) (insid
   whole u = ap (λ w. extension w (short_form (signal_value signal u))) (sym (wide u))
       ∙ ext-short (signal_value signal u)
 
-  -- a value that differs is told, and one that does not stays
+  -- a value that differs is listed, and one that does not stays
   at_tick : (u : ℕ) → u ≤ t
       → latest_value signal.width (code_of k) t (signal_value signal (u - 1))
       (map (value_change_of u) (differing signals u)) ≡ signal_value signal u
@@ -141,7 +141,7 @@ module _ (signals : List SignalContents) (k t : ℕ) (d : SignalContents) (insid
       choose true same = sym ((same_letters-Decides (signal_value signal u) (signal_value signal (u - 1))).0 same)
       choose false other = whole u
 
-  -- the ticks from u on, where the value at the tick before is known
+  -- the ticks from u on, where the value at the tick before is given
   from_tick : (u n : ℕ) → u ≤ t + 1 → t < u + n
       → latest_value signal.width (code_of k) t (signal_value signal (u - 1)) (tick_value_changes signals u n)
       ≡ signal_value signal t

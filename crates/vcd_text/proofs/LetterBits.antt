@@ -1,4 +1,4 @@
--- Letters by the bits of two words, and which of them the extension puts on the left of the next.
+-- Letters by the bits of two words, and those that the extension restores from the next.
 use Rattle.std.proofs.Common.{◌≡◌, ℕ, zero, suc, ◌+◌, ◌-◌, ◌*◌, ◌/◌, ◌%◌, ◌^◌, ◌<◌, ◌≤◌, min, max, Bool, true, false}
 use Rattle.std.proofs.Common.{List, [], ◌∷◌, ◌++◌, length, drop, get_or, slice_range, if◌then◌else◌, pow-suc, refl, sym}
 use Rattle.std.proofs.Common.{ap, ◌∙◌, arith, inl, inr}
@@ -44,7 +44,7 @@ pub held_letter : (v : List Bit) (from low high i : ℕ) → HoldsFrom v from lo
 held_letter v from low high i holds inside within =
     (λ p. letter_of (holds.lows i inside p) (holds.highs i inside p)) ∙ letter_by_bits v (from + i) within
 
--- a letter of the value that two words give
+-- a letter of the value of two words
 pub given_letter : (width low high k : ℕ) → width ≤ 64 → k < width
     → letter_at (letters_of width (low ∷ []) (high ∷ [])) k ≡ word_letter low high k
 unfolding row_bit
@@ -95,7 +95,7 @@ lowest_given width count low high narrow within =
 
 -- ---- letters in a row
 
--- two letters more, before those at the end of a row
+-- two more letters, before those at the end of a row
 pub pair_written : (f : ℕ → ℕ) (row : List ℕ) (k a b : ℕ) → length row ≡ 64 → k < 32
     → ((i : ℕ) → i < 2 * k → get_or row (63 - i) 0 ≡ f i)
     → a ≡ f (2 * k + 1) → b ≡ f (2 * k + 0) → (i : ℕ) → i < 2 * (k + 1)
@@ -140,7 +140,7 @@ row_end row count low high long fits written =
     ∙ ap printed_letter (sym (given_letter count low high k fits (omega (arith, inside))) ∙ ap (λ n. get_or v n X) back)
     ∙ sym (get_or-map printed_letter v i X 0 (omega (arith, inside, few))))
 
--- the letters of a word of a value stand before the lower ones
+-- the letters of a word of a value are before the lower ones
 pub word_and_rest : (v : List Bit) (left from low high : ℕ) → from ≤ left → left ≤ from + 64 → left ≤ length v
     → HoldsFrom v from low high
     → printed_letters (lowest left v) ≡ printed_letters (letters_of (left - from) (low ∷ []) (high ∷ []))
@@ -167,7 +167,7 @@ word_and_rest v left from low high most fits within holds =
 
 -- ---- spare letters
 
--- whether the extension puts the letter of bit i + 1 of a value on the left of that of bit i
+-- whether the extension restores the letter of bit i + 1 of a value from that of bit i
 abbrev pub is_spare_in : List Bit → ℕ → Bool
 is_spare_in v i = same_letter (pad_letter (letter_at v i ∷ [])) (letter_at v (i + 1))
 
@@ -196,7 +196,7 @@ bit_again zero small = (false, refl)
 bit_again (suc zero) small = (true, refl)
 bit_again (suc (suc _)) small = absurd (omega arith)
 
--- which bits are set, by those of a letter and of the next
+-- the bits that are set, by those of a letter and of the next
 abbrev mark : ℕ → ℕ → ℕ → ℕ → ℕ
 mark h' h l' l = max (max ((h' + h) % 2) (min l' (1 - h'))) (min h' ((l' + l) % 2))
 
@@ -298,7 +298,7 @@ has_length m small =
         ap (bit_at m) last ∙ ap (λ n. bit_at n j) parts ∙ bit_at_cat_high 1 j rest j (omega (arith, half)) (omega arith)
         ∙ ap (bit_at 1) none
 
--- what the leading zeros tell of the letters that are left
+-- the remaining letters, by the leading zeros
 pub record IsKept (count low high kept : ℕ) : Type 0 where
   pub least : 1 ≤ kept
   pub most : kept ≤ count

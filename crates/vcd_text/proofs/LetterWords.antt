@@ -1,5 +1,5 @@
--- Letters that are read 64 at a time, from the last: what one letter more makes of a word, and eight more, and one word
--- more of a row.
+-- Letters that are read 64 at a time, from the last: a word with one more letter or eight, and a row with one more
+-- word.
 use Rattle.std.proofs.Common.{◌≡◌, ◌≢◌, ℕ, zero, suc, ◌+◌, ◌-◌, ◌*◌, ◌/◌, ◌%◌, ◌<◌, ◌≤◌, Bool, true, false}
 use Rattle.std.proofs.Common.{if◌then◌else◌, ◌&&◌, List, [], ◌∷◌, ◌++◌, length, take, drop, replicate, get_or, refl}
 use Rattle.std.proofs.Common.{sym, ap, subst, ◌∙◌, arith, inl, inr, add-one}
@@ -106,7 +106,7 @@ eight_more digits i =
     let place : 8 * i + 8 ≡ 8 * (i + 1) = omega arith in
     sym (take-add (8 * i) 8 digits) ∙ ap (λ n. take n digits) place
 
--- digits in front, and others behind them
+-- digits in front, and others after them
 pub holds_both : (pad : Bit) (front back all : List ℕ) (low high low' high' : ℕ) → front ++ back ≡ all
     → HoldsLetters pad (letters_of_digits front) low high → AddsLetters (letters_of_digits back) low high low' high'
     → HoldsLetters pad (letters_of_digits all) low' high'
@@ -188,7 +188,7 @@ rows_more pad digits lows highs k low high within within' rows word = record {
 
 -- ---- which digits are letters
 
--- those of one word more
+-- the letters of one more word
 pub letters_more : (digits : List ℕ) (k : ℕ) → list_all is_binary_digit (drop (length digits - 64 * k) digits) ≡ true
     → list_all is_binary_digit (digits_of digits k) ≡ true
     → list_all is_binary_digit (drop (length digits - 64 * (k + 1)) digits) ≡ true
@@ -199,7 +199,7 @@ letters_more digits k following here =
     ∙ ap (list_all is_binary_digit) (drop_split digits (end - 64) end (omega arith))
     ∙ list_all-append is_binary_digit (digits_of digits k) (drop end digits) ∙ and_from _ _ here following
 
--- where not all behind a place, or before it, are, not all are
+-- where not all bytes after a place, or before it, are digits, not all are
 pub not_all_after : (n : ℕ) (digits : List ℕ) → list_all is_binary_digit (drop n digits) ≡ false
     → list_all is_binary_digit digits ≡ false
 not_all_after n digits none =
@@ -218,7 +218,7 @@ not_all_before n digits none =
     ∙ list_all-append is_binary_digit (take n digits) (drop n digits)
     ∙ ap (λ b. b && list_all is_binary_digit (drop n digits)) none
 
--- where one of a word is none, not all are
+-- where a byte of a word is no digit, not all are
 pub no_letter : (digits : List ℕ) (k : ℕ) → list_all is_binary_digit (digits_of digits k) ≡ false
     → list_all is_binary_digit digits ≡ false
 no_letter digits k none =

@@ -16,7 +16,7 @@ use Rattle.vcd_text.proofs.Counts.{before_window, after_window, in_window}
 
 -- ---- one wave
 
--- how many changes are not past a tick
+-- the number of changes that are not past a tick
 abbrev pub count_to : ℕ → List Change → ℕ
 count_to t cs = count_by (λ c. nat_le c.tick t) cs
 
@@ -110,7 +110,7 @@ all_listed from to k signals out whole past all =
     sym (append-nil out) ∙ ap (λ l. out ++ unsorted_window from to k (map signal_contents l))
     (sym (drop_all k signals past)) ∙ all
 
--- what is listed and the part of one signal more are not longer than all
+-- the items listed and those of one more signal are not more than all
 pub longer_than : (from to k : ℕ) (signals : List Signal) (s : Signal) (out whole : List Transition)
     → k < length signals → s ≡ get_or signals k s
     → out ++ unsorted_window from to k (map signal_contents (drop k signals)) ≡ whole

@@ -1,4 +1,4 @@
--- What the changes of the log make of a wave that they stand behind.
+-- A wave followed by changes of the log.
 use Rattle.std.proofs.Common.{◌≡◌, ℕ, ◌<◌, ◌≤◌, if◌then◌else◌, nat_le, List, [], ◌∷◌, ◌++◌, All, refl, ap, ◌∙◌, arith}
 use Rattle.std.proofs.lemmas.List.Elements.{All-nil, All-weaker}
 use Rattle.vcd_core.specs.declared.bit.Bit.{Bit}
@@ -38,14 +38,14 @@ ends_later cs early late later ended =
     ended
 
 module _ (width tick : ℕ) (f : ℕ → List Bit) (cs : List Change) where
-  -- ---- a wave with what stands behind it
+  -- ---- a wave with the changes after it
 
   -- no change of the wave is past the tick
   pub gives_late : (es : List LoggedChange) → GivesLoggedValues width tick f cs es
       → All (λ (c : Change). c.tick ≤ tick) cs
   gives_late es g = ends_later cs g.floor tick (rises_past g.floor tick es g.rises) g.ticks
 
-  -- the tick may be a later one
+  -- the tick can be a later one
   pub gives_further : (late : ℕ) (es : List LoggedChange) → tick ≤ late → GivesLoggedValues width tick f cs es
       → GivesLoggedValues width late f cs es
   gives_further late es later g =
@@ -65,7 +65,7 @@ module _ (width tick : ℕ) (f : ℕ → List Bit) (cs : List Change) where
 
   -- ---- a change more
 
-  -- one that is put behind the others in the log
+  -- a change that is appended to the log
   pub gives_appended : (v : List Bit) (es : List LoggedChange) (e : LoggedChange) → e.tick ≡ tick → width ≤ 64
       → logged_letters width e ≡ v → GivesLoggedValues width tick f cs es
       → GivesLoggedValues width tick (λ t. if nat_le tick t then v else f t) cs (es ++ e ∷ [])
@@ -78,7 +78,7 @@ module _ (width tick : ℕ) (f : ℕ → List Bit) (cs : List Change) where
         ∙ (λ i. if nat_le (at i) t then letters i else g.values t i);
   }
 
-  -- one that a wide wave takes
+  -- a change that a wide wave takes
   pub gives_pushed : (v : List Bit) (ds : List Change) (es : List LoggedChange) → 64 < width
       → All (λ (c : Change). c.tick ≤ tick) ds
       → ((t : ℕ) → value_at width ds t ≡ (if nat_le tick t then v else value_at width cs t))
@@ -105,7 +105,7 @@ module _ (width tick : ℕ) (f : ℕ → List Bit) (cs : List Change) where
       → All (λ (c : Change). c.tick ≤ e.tick) cs
   gives_first e es g = ends_later cs g.floor e.tick g.rises.0 g.ticks
 
-  -- and has it then
+  -- then the wave has it
   pub gives_flushed : (ds : List Change) (e : LoggedChange) (es : List LoggedChange)
       → All (λ (c : Change). c.tick ≤ e.tick) ds
       → ((t : ℕ) → value_at width ds t ≡ (if nat_le e.tick t then logged_letters width e else value_at width cs t))

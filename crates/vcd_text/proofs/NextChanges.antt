@@ -18,7 +18,7 @@ use Rattle.vcd_text.specs.inside.Transitions.{is_in_window, transition_of, windo
 use Rattle.vcd_text.proofs.Near.{from_floor}
 use Rattle.vcd_text.proofs.Listing.{count_to, counts, skips, none_to, count_rises, part_is_window}
 
--- how many changes come before a tick
+-- the number of changes before a tick
 abbrev count_below : ℕ → List Change → ℕ
 count_below t cs = count_by (λ c. nat_lt c.tick t) cs
 
@@ -45,7 +45,7 @@ none_below floor t before (c ∷ cs) (from, other, wide, rest) early =
     below_cons t c cs ∙ ap (λ b. cond b 1 0 + count_below t cs) (le-ltb c.tick t (omega arith))
     ∙ omega (arith, none_below (c.tick + 1) t c.value cs rest (omega arith))
 
--- before the tick of the change at a place come so many changes at most
+-- before the tick of the change at a place there are at most as many changes as its place
 pub quiet_before : (floor : ℕ) (before : List Bit) (cs : List Change) (k : ℕ) (d : Change)
     → AreChangesFrom floor before cs → k < length cs → count_below (get_or cs k d).tick cs ≤ k
 quiet_before floor before [] k d rise inside = absurd (omega arith)
@@ -68,7 +68,7 @@ quiet_before floor before (c ∷ cs) (suc k) d (from, other, wide, rest) inside 
 pub none_after : (t : ℕ) (cs : List Change) → count_below t cs ≤ length cs
 none_after t cs = count_by-le-length (λ (c : Change). nat_lt c.tick t) cs
 
--- up to its own tick, the change at a place is one more than its place
+-- up to its own tick, the number of changes is one more than its place
 pub reaches : (floor a : ℕ) (before : List Bit) (cs : List Change) (k : ℕ) (d : Change) → AreChangesFrom floor before cs
     → k < length cs → (get_or cs k d).tick ≤ a → k + 1 ≤ count_to a cs
 reaches floor a before [] k d rise inside low = absurd (omega arith)
@@ -78,7 +78,7 @@ reaches floor a before (c ∷ cs) (suc k) d (from, other, wide, rest) inside low
     let here : c.tick ≤ a = omega (arith, from_floor (c.tick + 1) c.value cs k d rest (omega arith), low) in
     omega (arith, counts a c cs here, later)
 
--- before the tick of a change that is late come no more than its place
+-- before the tick of a late change there are no more changes than its place
 pub stops : (a : ℕ) (before : List Bit) (cs : List Change) (k : ℕ) (d : Change) → AreChangesFrom 0 before cs
     → k < length cs → a < (get_or cs k d).tick → count_to a cs ≤ k
 stops a before cs k d rise inside late =
@@ -109,7 +109,7 @@ ends floor before (c ∷ cs) (suc k) d (from, other, wide, rest) inside =
     omega (arith, from_floor (c.tick + 1) c.value cs k d rest (omega arith)) in
     omega (arith, counts (get_or cs k d).tick c cs here, later)
 
--- so many changes come up to the tick of the next one
+-- this number of changes comes up to the tick of the next one
 pub after_next : (from floor : ℕ) (before : List Bit) (cs : List Change) (next : KeptChange)
     → AreChangesFrom floor before cs → IsNext from cs next → next.place < length cs
     → next.place + 1 ≡ count_to next.tick cs
@@ -160,7 +160,7 @@ first_transition from to position floor before cs next rise is inside some up ea
     (first_in_window from to floor before cs next d rise is inside some up early)
     ∙ ap (λ t. transition_of t position ∷ window_of_signal (next.tick + 1) to position cs) (sym (is.kept d inside).tick)
 
--- the change at a place behind those before a tick is the next one
+-- the change at a place after those before a tick is the next one
 pub is_next : (from place floor : ℕ) (before : List Bit) (lent cs : List Change) (c : Change) (next : KeptChange)
     → AreChangesFrom floor before lent → lent ≡ cs → place < length lent → c ≡ get_or lent place c
     → next.place ≡ place → KeepsChange c next → place ≡ count_to (from - 1) cs → IsNext from cs next
@@ -258,7 +258,7 @@ passed_next from p signals nexts there next inside all is holds before k s n les
           (sym (get_or-set_other nexts p k next n apart)) (before k s n (omega arith))
     ]
 
--- and those behind it
+-- the signals after it
 pub left_next : (from p : ℕ) (signals : List Signal) (nexts : List KeptChange) (next : KeptChange)
     → ((k : ℕ) (s : Signal) (n : KeptChange) → p ≤ k → k < length signals
     → IsNext from (get_or signals k s).wave.changes (get_or nexts k n))

@@ -7,7 +7,7 @@ cases_of_test : (b : Bool) (n : ℕ) → MatchOption (cond b (Some n) None) (b �
 cases_of_test true n = (refl, refl)
 cases_of_test false n = refl
 
--- a number is answered where there is one, and none where there is none
+-- the result is a number where there is one, and none where there is none
 pub number_cases : (text : List ℕ) (most : ℕ) (r : Option ℕ) → r ≡ number_up_to text most
     → MatchOption r (is_number text ≡ false) (λ n. (is_number text ≡ true) × (n ≡ min (number_of text) most))
 number_cases text most r is =

@@ -1,4 +1,4 @@
--- A file has one answer: what it means, or its one fault with the line.
+-- A file has one result: its meaning, or its one fault with the line.
 use Rattle.std.proofs.Common.{◌≡◌, ℕ, zero, suc, Bool, true, false, List, [], ◌∷◌, ◌++◌, length, drop, refl, sym, ap}
 use Rattle.std.proofs.Common.{subst, ◌∙◌, append_assoc, arith}
 use Rattle.std.proofs.lemmas.List.{append-nil, drop_at, length-append, length-map, map-append}

@@ -1,4 +1,4 @@
--- What holds of each of some words, or bytes, holds of one that is among them.
+-- A fact about each of some words, or bytes, is one about any of them.
 use Rattle.std.proofs.Common.{◌≡◌, ◌==◌, ℕ, Bool, true, List, [], ◌∷◌, IsTrue, bytes_eq, sym, subst, inl, inr}
 use Rattle.std.specs.List.{AllByRecursion, list_any}
 use Rattle.std.proofs.lemmas.Slice.Eq.{bytes_eq-Decides}
@@ -6,7 +6,7 @@ use Rattle.std.proofs.lemmas.Bool.{or_cases, false≢true, eqb-true}
 use Rattle.vcd_text.specs.Letters.{is_among}
 use Rattle.vcd_core.specs.Word.{is_one_of}
 
--- for any test that tells equal values
+-- for any test of equality
 by_equal : {A : Type 0} (same : A → A → Bool) → ((x y : A) → same x y ≡ true → x ≡ y)
     → (P : A → Type 0) (xs : List A) (x : A) → list_any (same x) xs ≡ true
     → AllByRecursion P xs → P x

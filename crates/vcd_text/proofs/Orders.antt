@@ -104,7 +104,7 @@ record IsKeyOf (from : ℕ) (row : List ListedTransition) (key : ℕ) : Type 0 w
   inside : key % PLACES < length row
   tick : (transition_in row key).tick ≡ from + key / PLACES
 
--- what stands at a place of a row
+-- the item at a place of a row
 at_place : (k : ℕ) (listed : List ListedTransition) (m : ListedTransition) (ms : List ListedTransition)
     → drop k listed ≡ m ∷ ms → (k < length listed) × (get_or listed k m ≡ m) × (drop (k + 1) listed ≡ ms)
 at_place k listed m ms is =
@@ -131,7 +131,7 @@ named from k row m ms few is =
     (place_in (m.change.tick - from) k (omega (arith, at.0)))
     ∙ transition_at row k m (transition_of 0 0) at.0 ∙ ap listed_transition at.1
 
--- in the order of a row's own keys stand its transitions
+-- the row's own keys give its transitions in order
 own_order : (from k : ℕ) (row rest : List ListedTransition) → length row ≤ PLACES → drop k row ≡ rest
     → in_order row (keys_from from k rest) ≡ transitions_of rest
 unfolding keys_from
@@ -161,7 +161,7 @@ each_key from to k ss row (m ∷ ms) is few left =
     All-cons (IsKeyOf from row) (t * PLACES + k) (keys_from from (k + 1) ms) here
     (each_key from to (k + 1) ss row ms is few at.2)
 
--- a key that is not below another is that of a transition at its place or behind it
+-- a key that is not below another is that of a transition at its place or after it
 not_below : (from to : ℕ) (ss : List SignalContents) (row : List ListedTransition) (a b : ℕ) → Lists from to ss row
     → IsKeyOf from row a → IsKeyOf from row b → a ≤ b
     → AtLeast (transition_in row a).tick (transition_in row a).position (transition_in row b)
@@ -244,7 +244,7 @@ ordered_in end from n ss row keys sorted is few own moved =
 
 -- ---- in the order of keys
 
--- what the key at a place of the order names
+-- the transition of the key at a place of the order
 pub order_at : (row : List ListedTransition) (order : List ℕ) (k place key : ℕ) (none : ListedTransition)
     (d : Transition) → k < length order → place ≡ get_or order k key % PLACES → IsKeyIn row (get_or order k key)
     → listed_transition (get_or row place none) ≡ get_or (in_order row order) k d
@@ -294,7 +294,7 @@ pub last_found : (last k whole : ℕ) (found : List ListedTransition) → length
 unfolding last_tick
 last_found last k whole found past all = sym (ap (λ l. last_tick last (transitions_of l)) (drop_all k found past)) ∙ all
 
--- one more at the end of the front
+-- one more item at the end of the front
 front_put : (xs : List ListedTransition) (k : ℕ) (x : ListedTransition) → k < length xs
     → take (k + 1) (set xs k x) ≡ take k xs ++ x ∷ []
 front_put [] k x inside = absurd (omega arith)
@@ -314,7 +314,7 @@ one_more_listed signals row found order k place key none room is of_key rows bef
     (All-cons (IsListed signals) (get_or row place none) [] (rows place none (omega (arith, is, of_key.inside)))
     (λ i d empty. absurd (omega arith))))
 
--- what the keys passed name stands at the front
+-- the transitions of the keys so far are at the front
 pub one_looked_up : (row found : List ListedTransition) (order : List ℕ) (k place key : ℕ) (none : ListedTransition)
     → k < length order → k < length found → place ≡ get_or order k key % PLACES → IsKeyIn row (get_or order k key)
     → transitions_of (take k found) ≡ in_order row (take k order)

@@ -13,7 +13,7 @@ use Rattle.vcd_text.specs.inside.Variables.{without_scopes}
 use Rattle.vcd_text.specs.declared.reading.scopes.ScopePlace.{ScopePlace}
 
 module _ (chains : List (List ScopeName)) where
-  -- the signal that is next still stands where it stood
+  -- the next signal is still at its position
   still_there : (ss : List SignalContents) (ps : List ScopePlace) (k : ℕ) (d : SignalContents) → k < length ss
       → get_or (with_places chains (take k ss) ps ++ drop k ss) k d ≡ get_or ss k d
   still_there [] ps k d within = absurd (omega (arith, within))
@@ -21,7 +21,7 @@ module _ (chains : List (List ScopeName)) where
   still_there (s ∷ ss) [] (suc k) d within = still_there ss [] k d (omega (arith, within))
   still_there (s ∷ ss) (p ∷ ps) (suc k) d within = still_there ss ps k d (omega (arith, within))
 
-  -- and gets the scopes of its place
+  -- the signal gets the scopes of its place
   one_placed : (ss : List SignalContents) (ps : List ScopePlace) (k : ℕ) (d : SignalContents) → k < length ss
       → set (with_places chains (take k ss) ps ++ drop k ss) k
       (record (get_or ss k d) { scopes = scopes_of chains (slice_get ps k) })
@@ -65,7 +65,7 @@ module _ (chains : List (List ScopeName)) where
       let rest = as_declared value_changes tick ps ds (ap (drop 1) same) in
       λ i. record (declared_signal value_changes tick d) { scopes = head i } ∷ rest i
 
--- what a slice leaves in its list, where it is the whole list
+-- the list after a slice that is the whole list was replaced
 pub all_signals : (n : ℕ) (new old : List Signal) → n ≡ length new → take n (new ++ drop (length new) old) ≡ new
 all_signals n new old all = take-append-le n new (drop (length new) old) (omega (arith, all))
     ∙ take_all n new (omega (arith, all))

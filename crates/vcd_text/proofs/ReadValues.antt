@@ -1,4 +1,4 @@
--- A printed value is read as the value that was written.
+-- A printed value is read back as the value that was written.
 use Rattle.std.proofs.Common.{◌≡◌, ℕ, ◌+◌, ◌-◌, ◌<◌, ◌≤◌, Bool, true, false, not, cond, if◌then◌else◌, ◌&&◌, nat_le}
 use Rattle.std.proofs.Common.{List, [], ◌∷◌, ◌++◌, length, replicate, All, refl, ap, ◌∙◌, arith, Some, None}
 use Rattle.std.specs.Prelude.{find, unwrap_or, is_some}
@@ -38,7 +38,7 @@ printed_is_value s some =
 
 -- ---- the short form
 
--- what is found passes the test, or the other does
+-- the result of a search passes the test, or the other does
 found_passes : {A : Type 0} (p : A → Bool) (ys : List A) (x : A) → p x ≡ true → p (unwrap_or (find p ys) x) ≡ true
 found_passes p [] x passes = passes
 found_passes p (y ∷ ys) x passes = choose (p y) refl (found_passes p ys x passes)
@@ -48,7 +48,7 @@ found_passes p (y ∷ ys) x passes = choose (p y) refl (found_passes p ys x pass
     choose true here following = here
     choose false here following = following
 
--- what is found has what all have, or the other has it
+-- the result of a search has what all have, or the other has it
 found_has : {A : Type 0} (P : A → Type 0) (p : A → Bool) (ys : List A) (x : A) → All P ys → P x
     → P (unwrap_or (find p ys) x)
 found_has P p [] x all has = has
@@ -86,7 +86,7 @@ short_within v some =
     found_has (IsWithin (length v)) (λ s. same_letters (extension (length v) s) v) (suffixes v) v
     (suffixes_within (length v) v (omega arith)) (some, omega arith)
 
--- that of one letter is itself
+-- the short form of one letter is itself
 pub short_one : (b : Bit) → short_form (b ∷ []) ≡ b ∷ []
 unfolding short_form
 short_one b = one (same_letters (extension 1 (b ∷ [])) (b ∷ []))

@@ -18,7 +18,7 @@ use Rattle.vcd_text.specs.inside.Transitions.{Transition, is_in_window, transiti
 use Rattle.vcd_text.specs.inside.Windows.{IsListed, keys_from, listed_transition, transitions_of}
 use Rattle.vcd_text.proofs.Near.{value_standing}
 
--- one transition more before others
+-- one more transition before others
 pub one_put : (row new : List ListedTransition) (m : ListedTransition) (one : Transition) (rest : List Transition)
     → new ≡ row ++ m ∷ [] → listed_transition m ≡ one → transitions_of new ++ rest ≡ transitions_of row ++ one ∷ rest
 one_put row new m one rest grown is =

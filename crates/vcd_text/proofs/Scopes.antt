@@ -20,7 +20,7 @@ both_at a b k x y in_a in_b at_a at_b =
     ∙ ap (λ l. pointwise bytes_eq (x ∷ drop (k + 1) a) l) (drop_more b k y in_b
     ∙ ap (λ w. w ∷ drop (k + 1) b) (sym at_b))
 
--- past the end of either nothing more is shared
+-- past the end of either no more is shared
 pub none_shared : (xs ys : List ScopeName) (k : ℕ) → min (length xs) (length ys) ≤ k
     → common_prefix_len same_scope (drop k xs) (drop k ys) ≡ 0
 none_shared [] ys zero past = refl
@@ -39,13 +39,13 @@ pub all_closed : (opened : List ScopeName) → map (λ s. upscope) opened ≡ re
 all_closed [] = refl
 all_closed (s ∷ opened) = ap (λ l. upscope ∷ l) (all_closed opened)
 
--- one scope more is closed
+-- one more scope is closed
 pub one_closed : (n k : ℕ) → k < n → flat_map item_line (replicate (n - k) upscope) ≡ codes "$upscope $end\n"
     ++ flat_map item_line (replicate (n - (k + 1)) upscope)
 one_closed n k within = let left : n - k ≡ suc (n - (k + 1)) = omega arith in
     ap (λ m. flat_map item_line (replicate m upscope)) left
 
--- one signal more is declared
+-- one more signal is declared
 pub one_declared : (opened path : List ScopeName) (k : ℕ) (signals : List Signal) (s : Signal) → k < length signals
     → s ≡ get_or signals k s → path ≡ s.scopes
     → flat_map item_line (signal_items opened k (map signal_contents (drop k signals)))
@@ -65,7 +65,7 @@ one_declared opened path k signals s within at is =
     ∙ ap (λ p. (flat_map item_line (scope_items opened p) ++ item_line (variable_item k (signal_contents s)))
     ++ flat_map item_line (signal_items p (k + 1) (map signal_contents (drop (k + 1) signals)))) (sym is)
 
--- all signals are declared: what is open is closed
+-- all signals are declared: the open scopes are closed
 pub all_declared : (opened : List ScopeName) (k : ℕ) (signals : List Signal) → length signals ≤ k
     → flat_map item_line (signal_items opened k (map signal_contents (drop k signals)))
     ≡ flat_map item_line (replicate (length opened) upscope) ++ []

@@ -1,4 +1,4 @@
--- From one path of scopes to another: the scopes past the shared front are closed, and the further ones opened.
+-- From one path of scopes to another: the scopes past the shared front are closed, and the others opened.
 use Rattle.std.proofs.Common.{◌≡◌, ◌≤◌, ◌+◌, ◌-◌, ◌∙◌, ℕ, zero, suc, true, false, not, List, [], ◌∷◌, ◌++◌, map, length}
 use Rattle.std.proofs.Common.{take, drop, replicate, refl, sym, ap, ap₂, subst, arith, one-add, append_assoc}
 use Rattle.std.proofs.Common.{append-nil, Option}
@@ -21,7 +21,7 @@ use Rattle.vcd_text.proofs.Scopes.{all_closed}
 use Rattle.vcd_text.proofs.WeakerTests.{all_weaker}
 use Rattle.vcd_text.proofs.ItemsInTurn.{Leads, leads_none, leads_first, leads_both, leads_same}
 
--- what has been told in the middle of the declarations
+-- the state in the middle of the declarations
 abbrev pub declaring : List Header → Option Timescale → List ScopeName → List VariableDeclaration → ParseState
 declaring header timescale scopes declared =
     record {

@@ -28,7 +28,7 @@ place_of_three (k ∷ l ∷ m ∷ []) long short x y z p q r a b c d e f =
     (a, b, (y + 128 * z, (c, d, (z, (e, f, (0, refl, omega (arith, r))), omega (arith, q))), omega (arith, p)))
 place_of_three (k ∷ l ∷ m ∷ n ∷ ns) long short x y z p q r a b c d e f = absurd (omega arith)
 
--- a table that agrees still does with one more number
+-- a table that matches still does with one more number
 pub agrees_more : (target : List ℕ → Option CodeTarget) (old new : List ℕ) (code : List ℕ) (place position : ℕ)
     → TableAgrees target old → HasPlace code place → target code ≡ Some (Kept position)
     → ((i n : ℕ) → slice_get new i ≡ Some n → 0 < n → ((i ≡ place) × (n ≡ position + 1)) ⊎ (slice_get old i ≡ Some n))

@@ -1,4 +1,4 @@
--- The short form of a value: a letter at the front is left out where it is what the extension puts there.
+-- The short form of a value: a letter at the front is left out where the extension restores it.
 use Rattle.std.proofs.Common.{◌≡◌, ℕ, zero, suc, ◌+◌, ◌-◌, ◌<◌, ◌≤◌, Bool, true, false, cond, ◌&&◌, List, [], ◌∷◌, ◌++◌}
 use Rattle.std.proofs.Common.{length, replicate, drop, get_or, refl, sym, ap, ◌∙◌, arith, Option, Some, None, ◌⊎◌, inl}
 use Rattle.std.proofs.Common.{inr}
@@ -16,7 +16,7 @@ use Rattle.vcd_core.proofs.ValueLemmas.{length-letters_of}
 use Rattle.vcd_text.specs.Letters.{pad_letter, extension, suffixes, short_form}
 use Rattle.vcd_text.proofs.LetterBits.{HoldsFrom, IsKept, is_spare_in, lowest, lowest_given, spare_given, spare_held}
 
--- the front letters left out one after another
+-- the letters after those at the front are left out one by one
 unfoldable pub shortened : List Bit → List Bit
 shortened [] = []
 shortened (a ∷ []) = a ∷ []
@@ -32,7 +32,7 @@ pad_of_front One s = refl
 pad_of_front X s = refl
 pad_of_front Z s = refl
 
--- what is put on the left is put there again
+-- the letter that extends a text extends the longer text too
 pad_of_pad : (t : List Bit) → pad_letter (pad_letter t ∷ []) ≡ pad_letter t
 pad_of_pad [] = refl
 pad_of_pad (Zero ∷ s) = refl
@@ -40,7 +40,7 @@ pad_of_pad (One ∷ s) = refl
 pad_of_pad (X ∷ s) = refl
 pad_of_pad (Z ∷ s) = refl
 
--- a text whose extension is a value pads as the value's first letter does
+-- a text whose extension is a value has the extending letter of the value
 same_pad : (b : Bit) (s t : List Bit) → fits (b ∷ s) t ≡ true → pad_letter t ≡ pad_letter (b ∷ [])
 same_pad b s t is = by (length (b ∷ s) - length t) ((same_letters-Decides (extension (length (b ∷ s)) t) (b ∷ s)).0 is)
   where
@@ -50,7 +50,7 @@ same_pad b s t is = by (length (b ∷ s) - length t) ((same_letters-Decides (ext
         let first : pad_letter t ≡ b = cc in
         sym (pad_of_pad t) ∙ ap (λ a. pad_letter (a ∷ [])) first
 
--- one letter more in front
+-- one more letter in front
 fits_more : (a b : Bit) (s t : List Bit) → length t ≤ length (b ∷ s)
     → fits (a ∷ b ∷ s) t ≡ (same_letter (pad_letter (b ∷ [])) a && fits (b ∷ s) t)
 fits_more a b s t within =
@@ -82,7 +82,7 @@ no_suffix_longer [] = tt
 no_suffix_longer (b ∷ s) =
     one_more (length s) (suc (length s)) (suffixes s) (b ∷ s) (omega arith) (no_suffix_longer s) (omega arith)
 
--- the first text that fits behind one letter more: the same one where the letter is spare, else none
+-- the first text that fits after one more letter: the same one where the letter is spare, else none
 find_more : (a b : Bit) (s : List Bit) (ts : List (List Bit)) → NoLonger (length (b ∷ s)) ts
     → find (fits (a ∷ b ∷ s)) ts ≡ cond (same_letter (pad_letter (b ∷ [])) a) (find (fits (b ∷ s)) ts) None
 find_more a b s [] all = none (same_letter (pad_letter (b ∷ [])) a) None
@@ -149,7 +149,7 @@ spare_at v k within spare =
     ∙ sym (ap shortened (drop_more v (k + 1) X within
     ∙ ap (λ n. get_or v (k + 1) X ∷ drop n v) (let e : k + 1 + 1 ≡ k + 2 = omega arith in e)))
 
--- the letter at k is not
+-- the letter at k is not spare
 kept_at : (v : List Bit) (k : ℕ) → k + 1 < length v → same_letter (pad_letter (get_or v (k + 1) X ∷ [])) (get_or v k X)
     ≡ false
     → shortened (drop k v) ≡ drop k v
@@ -249,7 +249,7 @@ word_stays v from low high left kept holds some fits within is last =
     (omega (arith, is.most, enough)))
     ∙ is.needed enough)
 
--- what two letters told
+-- the state after a test of two letters
 pub state_at : (v : List Bit) (k : ℕ) (letter next : Bit) (r b : Bool) → 1 ≤ k → letter ≡ letter_at v k
     → next ≡ letter_at v (k - 1)
     → r ≡ same_letter (pad_letter (next ∷ [])) letter → r ≡ b → is_spare_in v (k - 1) ≡ b

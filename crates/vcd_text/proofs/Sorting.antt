@@ -1,4 +1,4 @@
--- Two lists of transitions that rise, with each move equally often, are the same.
+-- Two rising lists of transitions, with each transition equally often, are the same.
 use Rattle.std.proofs.Common.{◌≡◌, ◌≢◌, ◌⊎◌, inl, inr, ◌<◌, ◌≤◌, ◌+◌, ℕ, Bool, true, false, ◌&&◌, ◌==◌, List, [], ◌∷◌}
 use Rattle.std.proofs.Common.{◌++◌, refl, sym, ap, ◌∙◌, arith, eq-eqb}
 use Rattle.std.specs.List.{sum_by}
@@ -8,12 +8,12 @@ use Rattle.std.proofs.lemmas.List.Sums.{sum_by-cons}
 use Rattle.std.proofs.lemmas.List.Sorted.{sum_by-IsPermutation}
 use Rattle.vcd_text.specs.inside.Transitions.{Transition}
 
--- 1 where it holds
+-- 1 where the test passes
 abbrev pub counted : Bool → ℕ
 counted true = 1
 counted false = 0
 
--- how often a move stands in a list
+-- how often a transition is in a list
 abbrev pub once : ℕ → ℕ → Transition → ℕ
 once t k m = counted ((m.tick == t) && (m.position == k))
 
@@ -29,7 +29,7 @@ times_is_sum : (t k : ℕ) (ms : List Transition) → times t k ms ≡ sum_by (o
 times_is_sum t k [] = refl
 times_is_sum t k (m ∷ ms) = ap (λ n. once t k m + n) (times_is_sum t k ms) ∙ sym (sum_by-cons (once t k) m ms)
 
--- a permutation keeps it
+-- a permutation keeps this count
 pub times_permuted : (t k : ℕ) (xs ys : List Transition) → IsPermutation xs ys → times t k ys ≡ times t k xs
 times_permuted t k xs ys moved = times_is_sum t k ys ∙ sum_by-IsPermutation (once t k) xs ys moved
     ∙ sym (times_is_sum t k xs)
@@ -38,7 +38,7 @@ once_itself : (m : Transition) → once m.tick m.position m ≡ 1
 once_itself m = ap (λ b. counted (b && (m.position == m.position))) (eq-eqb m.tick m.tick refl)
     ∙ ap (λ b. counted (true && b)) (eq-eqb m.position m.position refl)
 
--- a move is at a place or behind it, and a place before a place
+-- a transition is at a place or after it, where places are ordered by tick and position
 abbrev pub AtLeast : ℕ → ℕ → Transition → Type 0
 AtLeast t k m = (t < m.tick) ⊎ ((t ≡ m.tick) × (k ≤ m.position))
 
@@ -65,7 +65,7 @@ not_before u j m (inl a) = ap (λ b. counted (b && (m.position == j))) (ne_eqb m
 not_before u j m (inr (a, d)) = ap (λ b. counted ((m.tick == u) && b)) (ne_eqb m.position j (omega arith))
     ∙ not_both (m.tick == u)
 
--- what stands before the first is not in the list
+-- a transition before the first is not in the list
 none_before : (u j t k : ℕ) (ms : List Transition) → RisesFrom t k ms → Before u j t k → times u j ms ≡ 0
 none_before u j t k [] rise before = refl
 none_before u j t k (m ∷ ms) (first, rest) before =

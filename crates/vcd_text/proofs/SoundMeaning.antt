@@ -1,4 +1,4 @@
--- What an accepted file means is sound.
+-- The meaning of an accepted file is sound.
 use Rattle.std.proofs.Common.{◌≡◌, ℕ, zero, suc, ◌+◌, ◌-◌, ◌<◌, ◌≤◌, Bool, true, false, cond, not, ◌&&◌, ◌||◌, List, []}
 use Rattle.std.proofs.Common.{◌∷◌, ◌++◌, length, take, drop, replicate, Option, Some, None, IsTrue, IsFalse, IsSome}
 use Rattle.std.proofs.Common.{IsSomeAnd, IfSome, All, refl, sym, ap, subst, ◌∙◌, arith, eq-eqb}
@@ -55,7 +55,7 @@ by_test : (P : Bool → Type 0) (b : Bool) → (b ≡ true → P true) → (b �
 by_test P true t f = t refl
 by_test P false t f = f refl
 
--- what a search finds passes a test that all pass
+-- the result of a search passes a test that all pass
 found_passes : {A : Type 0} (p q : A → Bool) (xs : List A) → list_all q xs ≡ true → IfSome (find p xs) (λ x. q x ≡ true)
 found_passes p q [] all = tt
 found_passes p q (x ∷ xs) all =
@@ -63,7 +63,7 @@ found_passes p q (x ∷ xs) all =
     by_test (λ b. IfSome (cond b (Some x) (find p xs)) (λ x. q x ≡ true)) (p x) (λ _. parts.0)
     (λ _. found_passes p q xs parts.1)
 
--- what a search finds it finds in a longer list
+-- the result of a search is that of a search in a longer list
 found_further : {A : Type 0} (P : A → Type 0) (p : A → Bool) (xs : List A) (y : A) → IsSomeAnd (find p xs) P
     → IsSomeAnd (find p (xs ++ y ∷ [])) P
 found_further P p [] y some = absurd some
@@ -71,7 +71,7 @@ found_further P p (x ∷ xs) y some =
     by_test (λ b. IsSomeAnd (cond b (Some x) (find p xs)) P → IsSomeAnd (cond b (Some x) (find p (xs ++ y ∷ []))) P)
     (p x) (λ _ h. h) (λ _ h. found_further P p xs y h) some
 
--- what comes last is found where nothing before it is
+-- the last item is found where none before it is
 found_last : {A : Type 0} (p : A → Bool) (xs : List A) (y : A) → find p xs ≡ None → p y ≡ true
     → find p (xs ++ y ∷ []) ≡ Some y
 found_last p [] y none here = ap (λ b. cond b (Some y) None) here
@@ -88,7 +88,7 @@ same_bytes : (bytes : List ℕ) → bytes_eq bytes bytes ≡ true
 same_bytes [] = refl
 same_bytes (b ∷ bs) = and_from (nat_eq b b) (bytes_eq bs bs) (eq-eqb b b refl) (same_bytes bs)
 
--- ---- what is kept to
+-- ---- the invariant
 
 pub record IsCleanDeclaration (d : VariableDeclaration) : Type 0 where
   scopes : list_all is_sound_scope d.scopes ≡ true
@@ -100,7 +100,7 @@ pub record IsCleanDeclaration (d : VariableDeclaration) : Type 0 where
 abbrev IsAgreed : ParseState → VariableDeclaration → Type 0
 IsAgreed c d = is_skipped d ≡ false → IsSomeAnd (variable_of c d.code) (λ e. (e.size ≡ d.size) × (is_skipped e ≡ false))
 
--- the variable of the value change's code takes its letters
+-- the variable of the value change's code accepts its letters
 abbrev Fits : ParseState → ValueChange → Type 0
 Fits c r = IsSomeAnd (variable_of c r.code) (λ e. length r.letters ≤ e.size)
 
@@ -117,7 +117,7 @@ record IsClean (c : ParseState) : Type 0 where
 
 -- ---- sizes
 
--- a variable that is kept has a kind with four-state letters and a width within the limit
+-- a kept variable has a kind with four-state letters and a width within the limit
 kept_is : (d : VariableDeclaration) → is_skipped d ≡ false → (is_skipped_kind d.kind ≡ false) × (1 ≤ d.size)
     × (d.size ≤ WIDTH_LIMIT)
 kept_is d keeps =
@@ -130,12 +130,12 @@ kept_is d keeps =
     positive zero none = absurd (none refl)
     positive (suc n) none = omega arith
 
--- a variable takes a letter
+-- a variable accepts a letter
 some_kept : (o : Option VariableDeclaration) → IsSome o → IsSomeAnd o (λ e. is_skipped e ≡ false → 1 ≤ e.size)
 some_kept None some = absurd (false≢true some)
 some_kept (Some e) some = λ keeps. (kept_is e keeps).1
 
--- a variable takes digits that are no more than its bits
+-- a variable accepts digits that are no more than its bits
 some_taken : (digits : List ℕ) (o : Option VariableDeclaration)
     → IsSomeAnd o (λ e. IsTrue (takes_binary_number e digits))
     → IsSomeAnd o (λ e. is_skipped e ≡ false → length (letters_of_digits digits) ≤ e.size)
@@ -249,7 +249,7 @@ clean_variable c (kind ∷ size ∷ code ∷ name ∷ names) clean all allows =
     }) clean allows.0
     (record { scopes = clean.scopes; kind = p.0; named = omega arith; words = r.1 }) allows.3.0 allows.3.1
 
--- what stays clean where neither variables nor value changes come
+-- the state stays clean where neither variables nor value changes are added
 clean_beside : (c : ParseState) (header : List Header) (time : Option Timescale) (scopes : List ScopeName)
     (changing : Bool) (tick : ℕ) → IsClean c
     → list_all is_sound_header header ≡ true → IfSome time (λ t. is_sound_timescale t ≡ true)
@@ -329,7 +329,7 @@ length-ext width s fits =
     length-append (replicate (width - length s) (pad_letter s)) s
     ∙ ap (λ n. n + length s) (length-replicate (width - length s) (pad_letter s)) ∙ omega arith
 
--- a value change of this code has letters for so many bits
+-- a value change of this code has letters for this number of bits
 abbrev FitsWidth : ℕ → List ℕ → ValueChange → Type 0
 FitsWidth width code r = bytes_eq r.code code ≡ true → length r.letters ≤ width
 
@@ -344,7 +344,7 @@ latest_length width code t before (r ∷ rs) long all =
     (All-head (FitsWidth width code) r rs all (and_parts (bytes_eq r.code code) (nat_le r.tick t) here).0))
     (λ _. long)) (All-tail (FitsWidth width code) r rs all)
 
--- the value changes of a code that is kept fit its width
+-- the value changes of a kept code fit its width
 value_changes_fit : (c : ParseState) (d : VariableDeclaration) → IsAgreed c d → is_skipped d ≡ false
     → All (Fits c) c.value_changes → All (FitsWidth d.size d.code) c.value_changes
 value_changes_fit c d agrees keeps fit = All-weaker (Fits c) (FitsWidth d.size d.code)

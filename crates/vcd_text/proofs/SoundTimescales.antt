@@ -12,7 +12,7 @@ use Rattle.vcd_core.specs.Sound.{is_sound_timescale}
 use Rattle.vcd_core.specs.TimeUnits.{unit_text}
 use Rattle.vcd_text.specs.Items.{timescales, timescale_of}
 
--- how many of a unit a tick may be (IEEE 1364-2005, 18.2)
+-- the counts of a unit that a tick can have (IEEE 1364-2005, 18.2)
 abbrev pub IsCount : ℕ → Type 0
 IsCount n = (n ≡ 1) ⊎ ((n ≡ 10) ⊎ (n ≡ 100))
 
@@ -71,7 +71,7 @@ counted n unit (inr (inl e)) =
 counted n unit (inr (inr e)) =
     subst (λ m. found_in (decimal m ++ unit_text unit) (record { count = m; unit = unit })) (sym e) (hundred unit)
 
--- its number and its unit, as two words, are read as it
+-- its number and its unit, as two words, are read back
 pub timescale_read : (t : Timescale) → is_sound_timescale t ≡ true
     → timescale_of (decimal t.count ∷ unit_text t.unit ∷ []) ≡ Some t
 timescale_read t sound =

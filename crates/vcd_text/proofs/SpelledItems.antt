@@ -110,7 +110,7 @@ with_end_unbroken : (ws : List (List ℕ)) → list_all is_unbroken ws ≡ true
 with_end_unbroken ws words = list_all-append is_unbroken ws (end_word ∷ [])
     ∙ and_from (list_all is_unbroken ws) true words refl
 
--- items in front and items behind
+-- items in front and items after them
 both_spelled : (xs ys : List Item) → list_all is_spelled xs ≡ true → list_all is_spelled ys ≡ true
     → list_all is_spelled (xs ++ ys) ≡ true
 both_spelled xs ys front back = list_all-append is_spelled xs ys

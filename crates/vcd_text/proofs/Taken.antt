@@ -75,7 +75,7 @@ words_taken old new taken words r (ends_item i spelled allows at) = record {
   at = at;
 }
 
--- behind the whole items a word shows a fault, whatever follows it
+-- after the whole items a word shows a fault, whatever follows it
 shown_after : (old : Reader) (taken words begun more : List PlacedWord) (w : PlacedWord) (r : Reads old taken)
     (line : ℕ) (fault : Fault) → words ≡ r.whole ++ (begun ++ w ∷ more)
     → WordFault r.told (word_texts begun) w.text fault → line ≡ fault_line r.told.changing begun w
@@ -93,7 +93,7 @@ shown_after old taken words begun more w r line fault parts decided at = record 
   at = at ∙ ap (λ c. fault_line c.changing begun w) (sym r.tells);
 }
 
--- a fault with its line is shown; want of memory has none
+-- a fault with its line is shown; out of memory has none
 error_shown : (words : List PlacedWord) (line : ℕ) (fault : Fault) → (fault ≡ NoMemory) ⊎ ShowsFault words line fault
     → (error_at line fault ≡ memory_error) ⊎ ShowsFault words (error_at line fault).line (error_at line fault).fault
 error_shown words line fault (inl none) = inl (ap (error_at line) none)
@@ -120,7 +120,7 @@ no_pair letters changing (b ∷ bs) words first text none is same among =
     let first_is : b ≡ first = cc in
     false≢true (sym none ∙ ap (is_among letters) (sym (eqb-true b 36 r.0) ∙ first_is) ∙ among)
 
--- behind another command no word shows a fault
+-- after another command no word shows a fault
 passed_over : (c : ParseState) (keyword : List ℕ) (words : List (List ℕ)) (word : List ℕ) (fault : Fault)
     → IsTrue (is_other c.changing keyword) → ChangeFault c (keyword ∷ words) word fault → ⊥
 passed_over c keyword words word fault is (no_tick digits begun p q r) = absurd (cc)
@@ -185,7 +185,7 @@ one_shown old taken more w r fault refused =
 
 -- ---- both words of a change of several bits
 
--- they are taken at once
+-- both words are taken at once
 pub whole_vector_taken : (m : Reader) (vs : Variables) (text digits code : List ℕ) (line code_line : ℕ)
     → BeginsVector m text digits
     → ((c : ParseState) → c.tick ≡ m.tick → VariablesMatch m.variables c → ChangeResult c code digits (Ok tt) vs)

@@ -1,4 +1,4 @@
--- The changes of a capture's text are allowed, and which value changes they leave.
+-- The changes of a capture's text are allowed, and these are their value changes.
 use Rattle.std.proofs.Common.{◌≡◌, ℕ, zero, suc, ◌+◌, ◌^◌, ◌<◌, ◌≤◌, true, false, cond, if◌then◌else◌, ◌&&◌, ◌||◌, ◌==◌}
 use Rattle.std.proofs.Common.{nat_lt, nat_le, List, [], ◌∷◌, ◌++◌, length, map, get_or, Some, IsTrue, IsSomeAnd}
 use Rattle.std.proofs.Common.{is_some, All, refl, sym, ap, subst, ◌∙◌, append_assoc, arith}
@@ -29,11 +29,11 @@ use Rattle.vcd_text.proofs.ReadValues.{length-value_at}
 
 -- ---- one value
 
--- what has been told of a capture's text, with these value changes, at this tick
+-- the state of a capture's text with these value changes, at this tick
 abbrev pub state_at : Contents → List ValueChange → ℕ → ParseState
 state_at c value_changes tick = record (declared_state c) { value_changes = value_changes; tick = tick }
 
--- the value change that the value at a tick of a signal leaves
+-- the value change of a signal's value at a tick
 abbrev pub value_change_of : ℕ → ℕ × SignalContents → ValueChange
 value_change_of t p = record { tick = t; code = code_of p.0; letters = short_form (signal_value p.1 t) }
 
@@ -46,7 +46,7 @@ pub record IsPlaced (c : Contents) (p : ℕ × SignalContents) : Type 0 where
 
 module _ (c : Contents) (p : ℕ × SignalContents) (placed : IsPlaced c p) (value_changes : List ValueChange) (t : ℕ)
   where
-    -- what is told of letters that are read as this short form
+    -- the value change of letters that are read as this short form
     told_one : (letters v : List Bit) → letters ≡ short_form v
         → value_changes_after (state_at c value_changes t) (code_of p.0) letters
         (variable_of (state_at c value_changes t) (code_of p.0)) ≡ record {
@@ -59,7 +59,7 @@ module _ (c : Contents) (p : ℕ × SignalContents) (placed : IsPlaced c p) (val
         (λ i. value_changes_after (state_at c value_changes t) (code_of p.0) (same i) (placed.found i))
         ∙ (λ i. cond (placed.kept i) [] (record { tick = t; code = code_of p.0; letters = short_form v } ∷ []))
 
-    -- its variable takes the short form
+    -- its variable accepts the short form
     takes_short : (v : List Bit) → 0 < length v → length v ≡ p.1.width
         → takes_binary_number (declared_as p.0 p.1) (printed_letters (short_form v)) ≡ true
     takes_short v some wide =
@@ -141,7 +141,7 @@ stamp_leads c value_changes u t later within =
       tells = λ i. state_at c value_changes (same i);
     }
 
--- a bracket tells nothing
+-- a bracket changes nothing
 bracket_leads : (c : Contents) (value_changes : List ValueChange) (t : ℕ) (word : List ℕ)
     → is_one_of dump_words word ≡ true
     → Leads (state_at c value_changes t) (bracket word ∷ []) (state_at c value_changes t)
@@ -175,7 +175,7 @@ tick_value_changes signals t zero = []
 tick_value_changes signals t (suc n) =
     map (value_change_of t) (differing signals t) ++ tick_value_changes signals (suc t) n
 
--- the stamp of a tick and its values, one at least
+-- the stamp of a tick and its values, where there is at least one
 stamped_lead : (c : Contents) (value_changes : List ValueChange) (u t : ℕ) (p : ℕ × SignalContents)
     (ps : List (ℕ × SignalContents)) → u ≤ t → t ≤ END_LIMIT → All (IsPlaced c) (p ∷ ps)
     → Leads (state_at c value_changes u) (with_stamp t (value_items t (p ∷ ps)))
@@ -185,7 +185,7 @@ stamped_lead c value_changes u t p ps later within all =
     (state_at c (value_changes ++ map (value_change_of t) (p ∷ ps)) t) (stamp_of t ∷ []) (value_items t (p ∷ ps))
     (stamp_leads c value_changes u t later within) (values_lead c (p ∷ ps) value_changes t all)
 
--- one tick, behind which the rest goes on from a tick that is no later
+-- one tick, after which the rest goes on from a tick that is no later
 one_tick : (c : Contents) (e : ParseState) (value_changes : List ValueChange) (u t : ℕ)
     (placed : List (ℕ × SignalContents)) (rest : List Item) → u ≤ t → t ≤ END_LIMIT → All (IsPlaced c) placed
     → ((v : ℕ) → v ≤ t → Leads (state_at c (value_changes ++ map (value_change_of t) placed) v) rest e)
@@ -253,7 +253,7 @@ ticks_lead c (suc n) value_changes u t later at within all =
     (append_assoc value_changes here (tick_value_changes c.signals (suc t) (suc n)))
     (ticks_lead c n (value_changes ++ here) v (suc t) (omega arith) (omega arith) within all)))
 
--- the ticks from 1 on, of which there may be none
+-- the ticks from 1 on; there may be none
 ticks_from_one : (c : Contents) (end : ℕ) (value_changes : List ValueChange) → end ≡ c.end → c.end ≤ END_LIMIT
     → All (IsPlaced c) (enumerate_from 0 c.signals)
     → Leads (state_at c value_changes 0) (tick_items c.signals 1 end ++ end_items c.signals end)
@@ -287,7 +287,7 @@ all_placed c sound k d within =
       wide = λ t. length-value_at s.width t s.changes is.wave;
     })
 
--- the changes are allowed behind the declarations, and leave these value changes up to the end
+-- the changes are allowed after the declarations, and give these value changes up to the end
 pub changes_lead : (c : Contents) → IsSound c
     → Leads (declared_state c) (first_items c.signals ++ tick_items c.signals 1 c.end ++ end_items c.signals c.end)
     (state_at c (value_changes_of c) c.end)

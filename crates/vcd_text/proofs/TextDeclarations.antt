@@ -1,4 +1,4 @@
--- The declarations of a capture's text are allowed, and tell what the capture declares.
+-- The declarations of a capture's text are allowed, and declare the signals of the capture.
 use Rattle.std.proofs.Common.{◌≡◌, ◌<◌, ◌≤◌, ◌+◌, ◌^◌, ◌∙◌, ◌&&◌, cond, ℕ, suc, true, false, not, List, [], ◌∷◌, ◌++◌}
 use Rattle.std.proofs.Common.{find, length, Option, Some, None, IsSome, IsSomeAnd, IfSome, IsTrue, refl, sym, ap, subst}
 use Rattle.std.proofs.Common.{arith, le_of_lt, le_refl, lt_of_le_of_lt, append_assoc, append-nil, decimal, nat_lt}
@@ -106,7 +106,7 @@ codes_below_more k ds d below is = λ j from.
     ∙ ap (λ o. option_or o (find (λ d. bytes_eq (code_of j) d.code) (d ∷ []))) (below j (le_of_lt from))
     ∙ ap (λ b. cond b (Some d) None) other
 
--- what the words of a variable declare
+-- the declaration of the words of a variable
 words_declare : (c : ParseState) (kind size code : List ℕ) (n : ℕ) (words : List (List ℕ)) → 0 < length words
     → number_of size ≡ n
     → declaration_of c (kind ∷ size ∷ code ∷ words)
@@ -129,7 +129,7 @@ variable_no_end end k s sound few =
     (and_from (not (is_end_word (code_of k))) (has_no_end_word s.words)
     (not_from_false (is_end_word (code_of k)) (code_no_end k few)) (words_have_no_end s.words sound.words)))
 
--- there is room behind fewer variables than there may be signals
+-- there is room after fewer variables than the limit of signals
 room_left : (ds : List VariableDeclaration) (d : VariableDeclaration) → length ds < SIGNAL_LIMIT → has_room ds d ≡ true
 room_left ds d few =
     let kept_few : length (kept_variables ds) ≤ length ds =
@@ -213,7 +213,7 @@ in_two front first ticks end i =
     ap (λ l. l ++ end) (append_assoc front (i ∷ first) ticks) ∙ append_assoc front (i ∷ (first ++ ticks)) end
     ∙ sym (append_assoc front (i ∷ []) (first ++ ticks ++ end))
 
--- the declarations, and what comes behind them
+-- the declarations, and the items after them
 pub items_in_two : (c : Contents)
     → items_of c ≡ declaration_items c
     ++ (first_items c.signals ++ tick_items c.signals 1 c.end ++ end_items c.signals c.end)

@@ -33,7 +33,7 @@ bytes_both a b = ap (length {A = ℕ}) (flat_map-append item_line a b)
 
 -- ---- one line
 
--- a line of a value has at most so many bytes
+-- the greatest number of bytes on the line of a value
 abbrev line_most : ℕ
 line_most = SIGNAL_LIMIT + WIDTH_LIMIT + 3
 
@@ -99,7 +99,7 @@ values_within t (p ∷ ps) (here, rest) =
     (flat_map item_line (value_items t ps)) in
     omega arith
 
--- those that pass a test are no more
+-- the signals that pass a test are no more than all
 passing_within : (t : ℕ) (test : ℕ × SignalContents → Bool) (ps : List (ℕ × SignalContents)) → AllShort ps
     → bytes_of (value_items t (filter test ps)) ≤ length ps * line_most
 passing_within t test [] all = omega arith

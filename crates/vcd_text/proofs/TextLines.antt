@@ -21,7 +21,7 @@ pub writes_words : {o0 o1 o2 : WriteBuffer} {t0 t1 t2 : Option (List ℕ)} {f0 f
 writes_words front back first second =
     writes_as (sym (flat_map-append (λ w. 32 ∷ w) front back)) (writes_both first second)
 
--- the first word, the words behind it, and the end
+-- the first word, the words after it, and the end
 line_of_words : (w : List ℕ) (ws : List (List ℕ))
     → (w ++ spaced_words ws) ++ codes " $end\n" ≡ join_with_byte 32 (w ∷ (ws ++ end_word ∷ [])) ++ 10 ∷ []
 line_of_words w ws =

@@ -1,4 +1,4 @@
--- What a capture's text has told means the capture.
+-- The state after a capture's text means the capture.
 use Rattle.std.proofs.Common.{◌≡◌, ℕ, suc, ◌+◌, ◌<◌, List, [], ◌∷◌, length, map, get_or, refl, sym, ap, ◌∙◌, arith}
 use Rattle.vcd_core.specs.Value.{all_x}
 use Rattle.vcd_core.specs.Contents.{Contents, SignalContents}
@@ -12,7 +12,7 @@ use Rattle.vcd_text.proofs.ReadValues.{length-value_at}
 use Rattle.vcd_text.proofs.LatestValues.{latest_is}
 use Rattle.vcd_text.proofs.TextChanges.{value_changes_of, state_at}
 
--- a signal of a capture is what the value changes say of its declaration
+-- a signal of a capture is that of its declaration and the value changes
 signal_means : (c : Contents) → IsSound c → (k : ℕ) (d : SignalContents) → k < length c.signals
     → declared_signal (value_changes_of c) c.end (declared_as k (get_or c.signals k d)) ≡ get_or c.signals k d
 signal_means c sound k d inside =
@@ -23,7 +23,7 @@ signal_means c sound k d inside =
     (λ t to. sym (latest_is c.signals k t d inside (λ u. length-value_at s.width u s.changes is.wave) c.end to)) in
     λ i. record { scopes = s.scopes; kind = s.kind; words = s.words; width = s.width; changes = sym wave i }
 
--- what gives back each signal gives back all
+-- a function that restores each signal restores all
 signals_back : (f : VariableDeclaration → SignalContents) (j : ℕ) (ss : List SignalContents)
     → ((i k : ℕ) (d : SignalContents) → j + i ≡ k → i < length ss → f (declared_as k (get_or ss i d)) ≡ get_or ss i d)
     → map f (declared_of j ss) ≡ ss
@@ -53,6 +53,6 @@ text_means c sound = λ i. record {
       sym (signals_mean c sound) i;
 }
 
--- and skips nothing
+-- the text skips no variable
 pub text_skips_nothing : (c : Contents) → IsSound c → 0 ≡ skipped_count (state_at c (value_changes_of c) c.end)
 text_skips_nothing c sound = sym (none_skipped c.end 0 c.signals sound.signals)

@@ -19,13 +19,13 @@ is_unbroken (b ∷ bs) = list_all (λ b. not (is_white_space b)) (b ∷ bs)
 abbrev pub is_spelled : Item → Bool
 is_spelled i = list_all is_unbroken (spelling i)
 
--- a word, and the words behind the white space after it
+-- a word, and the words after the white space that follows it
 word_first : (line b : ℕ) (w rest : List ℕ) → is_unbroken w ≡ true → is_white_space b ≡ true
     → words_from true line (w ++ (b ∷ rest)) ≡ word_on w line ∷ words_from true line (b ∷ rest)
 word_first line b [] rest unbroken space = let no : false ≡ true = unbroken in absurd (cc)
 word_first line b (c ∷ w) rest unbroken space = word_whole true line (c ∷ w) (b ∷ rest) (omega arith) unbroken space
 
--- the words of a line, and those of the lines behind it
+-- the words of a line, and those of the lines after it
 words_of_line : (line : ℕ) (ws : List (List ℕ)) (rest : List ℕ) → list_all is_unbroken ws ≡ true
     → word_texts (words_from true line (join_with_byte 32 ws ++ (10 ∷ rest))) ≡ ws
     ++ word_texts (words_from true (line + 1) rest)

@@ -30,7 +30,7 @@ in_a_row H T S F K N =
     ∙ ap (λ l. l ++ (definitions_end ++ lines F)) (flat_map-append item_line (H ++ T) S
     ∙ ap (λ l. l ++ lines S) (flat_map-append item_line H T)))))
 
--- the declarations, the values at tick 0, and what comes after it
+-- the declarations, the values at tick 0, and the rest
 pub whole_text : (c : Contents)
     → declarations_text c
     ++ (flat_map item_line (first_items c.signals)

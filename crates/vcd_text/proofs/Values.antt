@@ -1,4 +1,4 @@
--- What stands before the code on the line of a value: of one bit and of more.
+-- The part of a value's line before the code, for one bit and for more.
 use Rattle.std.proofs.Common.{◌≡◌, ◌≢◌, ℕ, List, [], ◌∷◌, ◌++◌, length, get_or, refl, sym, ap, ◌∙◌, append_assoc, arith}
 use Rattle.vcd_core.specs.declared.bit.Bit.{Bit}
 use Rattle.vcd_core.specs.declared.bit.Bit.TheVariants.{X}
@@ -7,7 +7,7 @@ use Rattle.vcd_text.specs.Letters.{printed_letters, short_form}
 use Rattle.vcd_text.specs.Text.{item_line, value_item}
 use Rattle.vcd_text.specs.inside.ValueFronts.{value_front}
 
--- digits, a space and a code, behind `b`
+-- digits, a space and a code, after `b`
 many : (digits code : List ℕ) → ((98 ∷ []) ++ (digits ++ 32 ∷ [])) ++ (code ++ 10 ∷ []) ≡ ((98 ∷ digits) ++ (32 ∷ code))
     ++ 10 ∷ []
 many digits code = ap (λ l. 98 ∷ l) (append_assoc digits (32 ∷ []) (code ++ 10 ∷ [])

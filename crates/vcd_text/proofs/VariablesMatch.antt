@@ -1,4 +1,4 @@
--- What the reader's variables hold of what a file has told.
+-- The reader's variables, compared with the state of a file.
 use Rattle.std.proofs.Common.{◌≡◌, ℕ, ◌≤◌, List, sym, ap, ◌∙◌, subst, find, map}
 use Rattle.std.specs.Prelude.{count_by, bytes_eq}
 use Rattle.vcd_text.specs.Grammar.{ValueChange, ParseState, variable_of, is_skipped, kept_variables}
@@ -28,7 +28,7 @@ wave_further vs log value_changes early late position code size later w = record
       w.first.signal.wave.changes late (log position) later w.gives;
 }
 
--- variables that hold what has been told hold it at a later tick too
+-- variables that match a state match it at a later tick too
 pub knows_further : (vs : Variables) (c d : ParseState) → c.declared ≡ d.declared → c.value_changes ≡ d.value_changes
     → c.tick ≤ d.tick → VariablesMatch vs c → VariablesMatch vs d
 knows_further vs c d declared value_changes later k = record {
@@ -50,7 +50,7 @@ knows_further vs c d declared value_changes later k = record {
   logs = k.logs;
 }
 
--- and with another table of the same codes
+-- they match it with another table of the same codes
 pub same_codes : (vs : Variables) (code_targets : CodeTargets) (c : ParseState)
     → code_targets.codes ≡ vs.code_targets.codes → VariablesMatch vs c
     → VariablesMatch (record vs { code_targets = code_targets }) c

@@ -14,7 +14,7 @@ use Rattle.vcd_text.specs.inside.Transitions.{transition_items}
 use Rattle.vcd_text.specs.Text.{code_of, differs_at, end_items, item_line, new_values, stamp_of, with_stamp, tick_items}
 use Rattle.vcd_text.specs.Text.{value_item, value_items}
 
--- what is written over transitions, where the last stamp was that of a tick
+-- the text of transitions, where the last stamp was that of a tick
 unfoldable pub walk : List SignalContents → ℕ → ℕ → List Transition → List Item
 walk signals end last [] = if nat_lt last end then stamp_of end ∷ [] else []
 walk signals end last (m ∷ ms) =
@@ -22,7 +22,7 @@ walk signals end last (m ∷ ms) =
     ++ value_item (code_of m.position) (signal_value (get_or signals m.position no_signal) m.tick)
     ∷ walk signals end m.tick ms
 
--- each signal stands at its position
+-- each signal is at its position
 abbrev AllPlaced : List SignalContents → List (ℕ × SignalContents) → Type 0
 AllPlaced signals [] = Unit {0}
 AllPlaced signals (p ∷ ps) = (get_or signals p.0 no_signal ≡ p.1) × AllPlaced signals ps
@@ -44,7 +44,7 @@ same_tick signals end t (p ∷ ps) ms (at, rest) =
     ∙ ap (λ s. value_item (code_of p.0) (signal_value s t) ∷ walk signals end t (at_tick t ps ++ ms)) at
     ∙ ap (λ l. value_item (code_of p.0) (signal_value p.1 t) ∷ l) (same_tick signals end t ps ms rest)
 
--- transitions at a later tick, one at least
+-- transitions at a later tick, where there is at least one
 later_tick : (signals : List SignalContents) (end last t : ℕ) (p : ℕ × SignalContents) (ps : List (ℕ × SignalContents))
     (ms : List Transition) → last < t → AllPlaced signals (p ∷ ps)
     → walk signals end last (at_tick t (p ∷ ps) ++ ms) ≡ with_stamp t (value_items t (p ∷ ps)) ++ walk signals end t ms
@@ -154,7 +154,7 @@ whole_walk signals end =
     ap (λ n. flat_map item_line (walk signals end 0 (transitions_from signals 1 n))) count
     ∙ ap (flat_map item_line) (walk_is signals end)
 
--- the lines of a window, and those of the ticks behind it
+-- the lines of a window, and those of the ticks after it
 pub window_walked : (signals : List SignalContents) (end last next from count : ℕ) (ms : List Transition)
     → ms ≡ transitions_from signals from count → next ≡ last_tick last ms → from + count ≤ end + 1
     → flat_map item_line (walk signals end last (transitions_from signals from (end + 1 - from)))
@@ -173,7 +173,7 @@ window_walked signals end last next from count ms all at within =
     ∙ ap (λ t. flat_map item_line (transition_items signals last ms) ++ flat_map item_line (walk signals end t later))
     (sym at)
 
--- no tick is left but the end
+-- only the end is left
 pub end_walked : (signals : List SignalContents) (end last from : ℕ) → end < from
     → flat_map item_line (walk signals end last (transitions_from signals from (end + 1 - from)))
     ≡ flat_map item_line (if nat_lt last end then stamp_of end ∷ [] else []) ++ []

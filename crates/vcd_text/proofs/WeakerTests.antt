@@ -1,4 +1,4 @@
--- What passes a test passes a weaker one.
+-- An item that passes a test passes a weaker one.
 use Rattle.std.proofs.Common.{◌≡◌, Bool, true, List}
 use Rattle.std.specs.List.{list_all}
 use Rattle.std.proofs.lemmas.List.Elements.{All-weaker}

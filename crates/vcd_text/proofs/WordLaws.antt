@@ -38,7 +38,7 @@ no_space_is_no_feed b black = choose (b == 10) refl
 pub feeds_both : (xs ys : List ℕ) → feeds (xs ++ ys) ≡ feeds xs + feeds ys
 feeds_both xs ys = sum_by-append (λ b. cond (b == 10) 1 0) xs ys
 
--- one at the front, or none
+-- one line feed at the front, or none
 pub feed_first : (b : ℕ) (bs text : List ℕ) → text ≡ b ∷ bs → b ≡ 10 → feeds text ≡ 1 + feeds bs
 feed_first b bs text is feed =
     let one : feeds (b ∷ []) ≡ 1 = ap (λ t. 0 + cond t 1 0) ((Decides-eqb b 10).1 feed) in
@@ -49,7 +49,7 @@ other_first b bs text is other =
     let none : feeds (b ∷ []) ≡ 0 = ap (λ t. 0 + cond t 1 0) other in
     omega (arith, ap feeds is, feeds_both (b ∷ []) bs, none)
 
--- a word has none
+-- a word has no line feed
 pub no_feeds : (word : List ℕ) → list_all (λ b. not (is_white_space b)) word ≡ true → feeds word ≡ 0
 no_feeds [] black = refl
 no_feeds (b ∷ bs) black =
@@ -119,7 +119,7 @@ no_word whole line (suc n) [] none black ends = (refl, refl)
 no_word whole line zero (b ∷ bs) none black ends = let no : false ≡ true = sym black ∙ ends in absurd (cc)
 no_word whole line (suc n) (b ∷ bs) none black ends = absurd (omega arith)
 
--- a word that is not closed is none
+-- a word that is not closed does not count
 pub word_part : (line : ℕ) (w : List ℕ) → list_all (λ b. not (is_white_space b)) w ≡ true → words_from false line w ≡ []
 unfolding words_from
 word_part line [] black = refl
@@ -136,7 +136,7 @@ word_part line (b ∷ c ∷ w) black =
     ∙ ap (λ e. with_byte false e b line (words_from false (line_after b line) (c ∷ w))) following
     ∙ ap (with_longer_first b line) (word_part (line_after b line) (c ∷ w) (both _ _ black).1)
 
--- ---- what words are
+-- ---- the form of words
 
 -- at least one byte, none of them white space
 abbrev pub is_run : List ℕ → Type 0
@@ -184,11 +184,11 @@ pub texts_are_runs : (whole : Bool) (line : ℕ) (bytes : List ℕ)
     → list_all is_run_text (map (λ (w : PlacedWord). w.text) (words_from whole line bytes)) ≡ true
 texts_are_runs whole line bytes = texts_pass (words_from whole line bytes) (words_are_words whole line bytes)
 
--- a run that is not `$end` is a word that a header entry, a name or a kind may have
+-- a run that is not `$end` is a word that a header entry, a name or a kind can have
 pub run_is_word : (text : List ℕ) → is_run_text text ≡ true → is_end_word text ≡ false → is_word text ≡ true
 run_is_word text run other = ap (λ t. t && not (is_end_word text)) run ∙ ap not other
 
--- they are no more than the bytes
+-- there are no more words than bytes
 more_with_byte : (space last : Bool) (b line : ℕ) (ws : List PlacedWord)
     → length (with_byte space last b line ws) ≤ suc (length ws)
 more_with_byte true last b line ws = omega arith

@@ -1,4 +1,4 @@
--- What a word does behind the words of an item that is not whole: it shows a fault, ends the item, or goes on with it.
+-- The effect of a word after the words of an incomplete item: it shows a fault, ends the item, or goes on with it.
 use Rattle.std.proofs.Common.{◌≡◌, ◌⊎◌, inl, inr, ℕ, ◌<◌, true, not, ◌&&◌, ◌||◌, List, [], ◌∷◌, ◌++◌, length, Option}
 use Rattle.std.proofs.Common.{Some, None, IsSome, IsSomeAnd, IsTrue, IsFalse, codes, bytes_eq, refl, sym, subst, ◌∙◌}
 use Rattle.std.proofs.Common.{arith}
@@ -29,12 +29,12 @@ use Rattle.vcd_text.specs.Faults.{among_changes, declaration_due, words_due, ups
 use Rattle.vcd_text.specs.Faults.{code_due, other_due}
 use Rattle.vcd_text.proofs.OneOf.{by_among, by_one_of}
 
--- no word of an item has come, or something is due behind these
+-- no word of an item has come, or a word must follow these
 pub data IsOpen (c : ParseState) (begun : List (List ℕ)) : Type 0 where
   between : begun ≡ [] → IsOpen c begun
   inside : IsUnfinished c begun → IsOpen c begun
 
--- what comes of a word
+-- the result of a word
 pub data WordOutcome (c : ParseState) (begun : List (List ℕ)) (word : List ℕ) : Type 0 where
   shows_fault : (fault : Fault) → WordFault c begun word fault → WordOutcome c begun word
   ends_item : (i : Item) → spelling i ≡ begun ++ word ∷ [] → Allows c i → WordOutcome c begun word
@@ -61,13 +61,13 @@ by_end P word closes further =
       | inr isnt ↦ further isnt
     ]
 
--- one word more, which is no `$end`
+-- one more word, which is not `$end`
 no_end_more : (words : List (List ℕ)) (word : List ℕ) → IsTrue (has_no_end_word words) → IsFalse (is_end_word word)
     → IsTrue (has_no_end_word (words ++ word ∷ []))
 no_end_more words word none isnt = list_all-append (λ w. not (is_end_word w)) words (word ∷ [])
     ∙ (λ i. none i && (not (isnt i) && true))
 
--- a value of which something holds
+-- a fact about a value that may be absent
 some_has : {A : Type 0} (o : Option A) (P : A → Type 0) (x : A) → o ≡ Some x → P x → IsSomeAnd o P
 some_has o P x is holds = subst (λ o. IsSomeAnd o P) (sym is) holds
 

@@ -1,4 +1,4 @@
--- Pieces that are written one behind another, through a buffer.
+-- Pieces that are written one after another, through a buffer.
 use Rattle.std.proofs.Common.{◌≡◌, ◌<◌, ◌≤◌, ◌+◌, ◌-◌, ◌^◌, ℕ, Bool, true, false, List, [], ◌++◌, length, take, drop}
 use Rattle.std.proofs.Common.{min, refl, sym, ap, subst, ◌∙◌, arith, append_assoc, nat_lt, ◌∷◌, get_or}
 use Rattle.std.specs.Prelude.{Option, Some, None}
@@ -11,7 +11,7 @@ use Rattle.std.proofs.lemmas.List.{drop_more}
 use Rattle.vcd_text.specs.declared.writing.buffer.WriteBuffer.{WriteBuffer}
 use Rattle.vcd_text.specs.inside.Written.{HasEmitted, Emits}
 
--- a piece from the front of what is left is written
+-- a piece from the front of the rest is written
 carried : (out piece rest left whole : List ℕ) → left ≡ piece ++ rest → out ++ left ≡ whole
     → (out ++ piece) ++ rest ≡ whole
 carried out piece rest left whole split is = append_assoc out piece rest ∙ ap (λ l. out ++ l) (sym split) ∙ is
@@ -41,7 +41,7 @@ writes_as {o0 = o0} {o1 = o1} {t0 = t0} {t1 = t1} {f0 = f0} {f1 = f1} same write
 
 -- ---- loops
 
--- a front of a whole is written, and this is left of it
+-- a front of a whole is written, and the rest is left
 pub record WritesFront (o0 : WriteBuffer) (t0 : Option (List ℕ)) (f0 : Bool) (o1 : WriteBuffer) (t1 : Option (List ℕ))
     (f1 : Bool) (left whole : List ℕ) : Type 0 where
   pub done : List ℕ
@@ -67,7 +67,7 @@ pub front_whole : {o0 o1 : WriteBuffer} {t0 t1 : Option (List ℕ)} {f0 f1 : Boo
 front_whole {left = left} {whole = whole} front none =
     writes_as (finished front.done left whole none front.split) front.writes
 
--- where the writer has failed, what is left changes nothing
+-- where the writer has failed, the rest changes nothing
 failed_more : (before t : Option (List ℕ)) (f : Bool) (o : WriteBuffer) (text more : List ℕ) → f ≡ true
     → HasEmitted before t f o text → HasEmitted before t f o (text ++ more)
 failed_more before t f o text more failed stands = record {
@@ -104,7 +104,7 @@ front_items F xs k front past none = front_whole front (ap F (drop_all k xs past
 
 -- ---- the buffer
 
--- bytes go to the writer: the front of what is left of the text
+-- bytes go to the writer: the front of the rest of the text
 sent_more : (before t0 t1 : Option (List ℕ)) (n k : ℕ) (text bytes : List ℕ) → drop n text ≡ bytes
     → Appends before t0 (take n text) → Appends t0 t1 (take k bytes) → Appends before t1 (take (n + k) text)
 sent_more before t0 t1 n k text bytes is front more =
@@ -118,7 +118,7 @@ sent_none before t0 t1 k front bytes none held more =
     subst (Appends before t1) (append-nil front)
     (Appends-trans before t0 t1 front [] held (subst (λ n. Appends t0 t1 (take n bytes)) none more))
 
--- bytes that stand behind what was sent are sent
+-- bytes after those that were sent are sent
 sent_bytes : (before t0 t1 : Option (List ℕ)) (f0 : Bool) (n k : ℕ) (text bytes : List ℕ)
     → (f0 ≡ false → drop n text ≡ bytes) → (f0 ≡ true → k ≡ 0)
     → Appends before t0 (take n text) → Appends t0 t1 (take k bytes) → Appends before t1 (take (n + k) text)
@@ -129,7 +129,7 @@ sent_bytes before t0 t1 true n k text bytes is none front more =
     subst (λ m. Appends before t1 (take m text)) (sym same)
     (sent_none before t0 t1 k (take n text) bytes (none refl) front more)
 
--- so many were sent before, and so many are sent now
+-- the bytes sent before and now are within the text
 within_whole : (f0 : Bool) (n k : ℕ) (text piece bytes : List ℕ) → n ≤ length text
     → (f0 ≡ false → drop n (text ++ piece) ≡ bytes) → (f0 ≡ true → k ≡ 0) → k ≤ length bytes
     → n + k ≤ length (text ++ piece)
@@ -137,14 +137,14 @@ within_whole true n k text piece bytes within is none few = omega (arith, none r
 within_whole false n k text piece bytes within is none few =
     omega (arith, few, ap (length {A = ℕ}) (is refl), length-drop n (text ++ piece), length-append text piece, within)
 
--- nothing is left behind what was sent
+-- nothing is left after the bytes sent
 none_left : (f0 f1 : Bool) (n k : ℕ) (whole bytes : List ℕ) → (f0 ≡ false → drop n whole ≡ bytes)
     → (f0 ≡ true → f1 ≡ true) → (f1 ≡ false → k ≡ length bytes) → f1 ≡ false → drop (n + k) whole ≡ []
 none_left true f1 n k whole bytes is stays all ready = absurd (cc (stays refl, ready))
 none_left false f1 n k whole bytes is stays all ready =
     drop_all (n + k) whole (omega (arith, all ready, ap (length {A = ℕ}) (is refl), length-drop n whole))
 
--- the count of what was sent stays within the text
+-- the count of bytes sent stays within the text
 count_within : (n k few whole : ℕ) → n ≤ whole → (n < 2 ^ 128 - 1 → n + k ≤ whole) → few ≡ min (n + k) (2 ^ 128 - 1)
     → few ≤ whole
 count_within n k few whole within fits counted = by (nat_lt n (2 ^ 128 - 1)) refl
@@ -153,7 +153,7 @@ count_within n k few whole within fits counted = by (nat_lt n (2 ^ 128 - 1)) ref
     by true is = omega (arith, counted, fits (ltb-true n (2 ^ 128 - 1) is))
     by false is = omega (arith, counted, ltb-false n (2 ^ 128 - 1) is, within)
 
--- bytes are sent that are all that is left of the text with the piece
+-- bytes are sent that are the rest of the text with the piece
 pub bytes_sent : (o0 o1 : WriteBuffer) (t0 t1 : Option (List ℕ)) (f0 f1 : Bool) (k : ℕ) (piece bytes : List ℕ)
     → ((text : List ℕ) → o0.sent ≤ length text → drop o0.sent text ≡ o0.waiting.items
     → drop o0.sent (text ++ piece) ≡ bytes)
@@ -182,12 +182,12 @@ bytes_sent o0 o1 t0 t1 f0 f1 k piece bytes left more few all none stays counted 
       };
 }
 
--- what waits is all that is left
+-- the waiting bytes are the rest
 pub waiting_left : (o : WriteBuffer) (text : List ℕ) → o.sent ≤ length text → drop o.sent text ≡ o.waiting.items
     → drop o.sent (text ++ []) ≡ o.waiting.items
 waiting_left o text within is = ap (drop o.sent) (append-nil text) ∙ is
 
--- where nothing waits, a piece is all that is left
+-- where nothing waits, a piece is the rest
 pub piece_left : (o : WriteBuffer) (piece text : List ℕ) → o.waiting.items ≡ [] → o.sent ≤ length text
     → drop o.sent text ≡ o.waiting.items → drop o.sent (text ++ piece) ≡ piece
 piece_left o piece text none within is = drop-append-le o.sent text piece within ∙ ap (λ l. l ++ piece) (is ∙ none)
@@ -207,14 +207,14 @@ nothing_written o t f empty none = record {
   rest = λ few ready. ap (λ n. drop n []) none ∙ sym empty;
 }
 
--- what was written since the buffer was empty
+-- the text since the buffer was empty
 pub whole_written : {o0 o1 : WriteBuffer} {t0 t1 : Option (List ℕ)} {f0 f1 : Bool} {whole : List ℕ}
     → o0.waiting.items ≡ [] → o0.sent ≡ 0
     → Emits o0 t0 f0 o1 t1 f1 whole → HasEmitted t0 t1 f1 o1 whole
 whole_written {o0 = o0} {t0 = t0} {f0 = f0} empty none writes =
     writes.following t0 [] (nothing_written o0 t0 f0 empty none)
 
--- how many bytes a text has that was written to a writer that has not failed
+-- the number of bytes of a text that was written to a writer that has not failed
 pub length_written : (before after : Option (List ℕ)) (failed : Bool) (o : WriteBuffer) (text : List ℕ) → failed ≡ false
     → o.sent < 2 ^ 128 - 1 → HasEmitted before after failed o text
     → length text ≡ o.sent + length o.waiting.items

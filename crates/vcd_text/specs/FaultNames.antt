@@ -1,4 +1,4 @@
--- The names of the faults, as they are printed: the project's own.
+-- The printed names of the faults: the project's own.
 use Rattle.std.specs.Prelude.{ℕ, List, codes}
 use Rattle.vcd_text.specs.declared.fault.Fault.{Fault}
 use Rattle.vcd_text.specs.declared.fault.Fault.TheVariants as faults

@@ -1,4 +1,5 @@
--- The one fault of a file that is not accepted: behind the whole items at its front, the fault that the earliest word shows (the project's own).
+-- The one fault of a file that is not accepted: after the whole items at its front, the fault that the earliest word
+-- shows (the project's own).
 use Rattle.std.specs.Prelude.{◌≡◌, ℕ, ◌<◌, Bool, true, false, List, [], ◌∷◌, ◌++◌, length, Some, None, IsTrue, IsFalse, codes}
 use Rattle.vcd_text.specs.declared.fault.Fault.{Fault}
 use Rattle.vcd_text.specs.declared.fault.Fault.TheVariants.{Truncated, UnexpectedWord, BadTimescale, BadScope, UpscopeAtTop, BadVar, MixedCode, BadTime, TimeBackwards, BadChange, UnknownCode, ValueTooLong, TooManySignals}
@@ -9,14 +10,14 @@ use Rattle.vcd_text.specs.Letters.{is_among, is_binary_digit}
 use Rattle.vcd_text.specs.Items.{Item, spellings, end_word, is_end_word, has_no_end_word, declaring_words, header_words, begins_declaration, is_other, timescale_of, vector_prefixes, dropped_prefixes}
 use Rattle.vcd_text.specs.Grammar.{ParseState, VariableDeclaration, is_skipped, has_good_size, declaration_of, variable_of, may_have_code, has_room, is_tick, is_binary_number, initial_state, word_texts, AllowsAll, state_after}
 
--- ---- the rows: the words `begun` of an item that is not whole show no fault, and the word behind them shows this one
+-- ---- the rows: the words `begun` of an incomplete item show no fault, and the word after them shows this one
 
 -- among the declarations
 pub data DeclarationFault (c : ParseState) (begun : List (List ℕ)) (word : List ℕ) (fault : Fault) : Type 0 where
   -- a word that begins no declaration
   no_declaration : begun ≡ [] → IsFalse (begins_declaration word)
       → fault ≡ UnexpectedWord → DeclarationFault c begun word fault
-  -- at its `$end`: a `$timescale` that is none
+  -- at its `$end`: a `$timescale` that spells none
   no_timescale : (words : List (List ℕ)) → begun ≡ codes "$timescale" ∷ words → word ≡ end_word
       → IsTrue (has_no_end_word words) → timescale_of words ≡ None
       → fault ≡ BadTimescale → DeclarationFault c begun word fault
@@ -26,7 +27,7 @@ pub data DeclarationFault (c : ParseState) (begun : List (List ℕ)) (word : Lis
   -- `$upscope` where no scope is open
   upscope_at_top : begun ≡ [] → word ≡ codes "$upscope" → c.scopes ≡ []
       → fault ≡ UpscopeAtTop → DeclarationFault c begun word fault
-  -- another word than `$end` behind `$upscope`
+  -- a word other than `$end` after `$upscope`
   upscope_goes_on : begun ≡ codes "$upscope" ∷ [] → IsFalse (is_end_word word) → 0 < length c.scopes
       → fault ≡ UnexpectedWord → DeclarationFault c begun word fault
   -- a size that is no decimal number
@@ -36,7 +37,7 @@ pub data DeclarationFault (c : ParseState) (begun : List (List ℕ)) (word : Lis
   no_variable : (words : List (List ℕ)) → begun ≡ codes "$var" ∷ words → word ≡ end_word
       → IsTrue (has_no_end_word words) → IsTrue (has_good_size words) → declaration_of c words ≡ None
       → fault ≡ BadVar → DeclarationFault c begun word fault
-  -- at its `$end`: a variable that does not agree with the one that has its code
+  -- at its `$end`: a variable that does not agree with the one of its code
   code_mixed : (words : List (List ℕ)) (d : VariableDeclaration) → begun ≡ codes "$var" ∷ words → word ≡ end_word
       → IsTrue (has_no_end_word words) → IsTrue (has_good_size words) → declaration_of c words ≡ Some d
       → IsFalse (may_have_code (variable_of c d.code) d)
@@ -46,11 +47,11 @@ pub data DeclarationFault (c : ParseState) (begun : List (List ℕ)) (word : Lis
       → IsTrue (has_no_end_word words) → IsTrue (has_good_size words) → declaration_of c words ≡ Some d
       → IsTrue (may_have_code (variable_of c d.code) d) → IsFalse (has_room c.declared d)
       → fault ≡ TooManySignals → DeclarationFault c begun word fault
-  -- another word than `$end` behind `$enddefinitions`
+  -- a word other than `$end` after `$enddefinitions`
   definitions_go_on : begun ≡ codes "$enddefinitions" ∷ [] → IsFalse (is_end_word word)
       → fault ≡ UnexpectedWord → DeclarationFault c begun word fault
 
--- the bytes with which a change of two words begins
+-- the first bytes of a change of two words
 abbrev pub pair_prefixes : List ℕ
 pair_prefixes = vector_prefixes ++ dropped_prefixes
 
@@ -73,7 +74,7 @@ pub data ChangeFault (c : ParseState) (begun : List (List ℕ)) (word : List ℕ
   pair_of_none : (first : ℕ) (text : List ℕ) → begun ≡ (first ∷ text) ∷ [] → IsTrue (is_among pair_prefixes first)
       → variable_of c word ≡ None
       → fault ≡ UnknownCode → ChangeFault c begun word fault
-  -- no digit, or one that is no binary digit, for a variable that is kept
+  -- no digit, or one that is no binary digit, for a kept variable
   no_value : (first : ℕ) (digits : List ℕ) (d : VariableDeclaration) → begun ≡ (first ∷ digits) ∷ [] → IsTrue (is_among vector_prefixes first)
       → variable_of c word ≡ Some d → IsFalse (is_skipped d) → IsFalse (is_binary_number digits)
       → fault ≡ BadChange → ChangeFault c begun word fault
@@ -89,28 +90,28 @@ pub data ChangeFault (c : ParseState) (begun : List (List ℕ)) (word : List ℕ
       → IsFalse (is_binary_digit first) → IsFalse (is_among (codes "#$" ++ pair_prefixes) first)
       → fault ≡ BadChange → ChangeFault c begun word fault
 
--- among the declarations or the changes, whichever a file has come to
+-- among the declarations or the changes, by the state
 pub data WordFault (c : ParseState) (begun : List (List ℕ)) (word : List ℕ) (fault : Fault) : Type 0 where
   among_declarations : IsFalse c.changing → DeclarationFault c begun word fault → WordFault c begun word fault
   among_changes : IsTrue c.changing → ChangeFault c begun word fault → WordFault c begun word fault
 
--- the words `begun` of an item that is not whole show no fault, and something is due behind them
+-- the words `begun` of an incomplete item show no fault, and a word must follow them
 pub data IsUnfinished (c : ParseState) (begun : List (List ℕ)) : Type 0 where
-  -- the next declaration
+  -- the next declaration must follow
   declaration_due : IsFalse c.changing → begun ≡ [] → IsUnfinished c begun
-  -- words up to the `$end` of a header entry, a timescale or a scope
+  -- words up to the `$end` of a header entry, a timescale or a scope must follow
   words_due : (word : List ℕ) (words : List (List ℕ)) → IsFalse c.changing → begun ≡ word ∷ words
       → IsTrue (is_one_of (codes "$timescale" ∷ codes "$scope" ∷ header_words) word) → IsTrue (has_no_end_word words) → IsUnfinished c begun
-  -- the `$end` of `$upscope`
+  -- the `$end` of `$upscope` must follow
   upscope_due : IsFalse c.changing → begun ≡ codes "$upscope" ∷ [] → 0 < length c.scopes → IsUnfinished c begun
-  -- words up to the `$end` of a `$var`
+  -- words up to the `$end` of a `$var` must follow
   variable_due : (words : List (List ℕ)) → IsFalse c.changing → begun ≡ codes "$var" ∷ words
       → IsTrue (has_no_end_word words) → IsTrue (has_good_size words) → IsUnfinished c begun
-  -- the `$end` of `$enddefinitions`
+  -- the `$end` of `$enddefinitions` must follow
   definitions_due : IsFalse c.changing → begun ≡ codes "$enddefinitions" ∷ [] → IsUnfinished c begun
-  -- the code of a change of two words
+  -- the code of a change of two words must follow
   code_due : (first : ℕ) (text : List ℕ) → IsTrue c.changing → begun ≡ (first ∷ text) ∷ [] → IsTrue (is_among pair_prefixes first) → IsUnfinished c begun
-  -- words up to the `$end` of any other command
+  -- words up to the `$end` of any other command must follow
   other_due : (word : List ℕ) (words : List (List ℕ)) → begun ≡ word ∷ words
       → IsTrue (is_other c.changing word) → IsTrue (has_no_end_word words) → IsUnfinished c begun
 
@@ -122,7 +123,7 @@ fault_line false begun word = word.line
 fault_line true [] word = word.line
 fault_line true (first ∷ begun) word = first.line
 
--- a word shows this fault, with this line; `whole` are the words of the items before it
+-- a word shows this fault, at this line; `whole` are the words of the items before it
 pub record ShowsFault (words : List PlacedWord) (line : ℕ) (fault : Fault) : Type 0 where
   pub items : List Item
   pub whole : List PlacedWord
@@ -143,15 +144,15 @@ pub record Stops (words : List PlacedWord) : Type 0 where
   pub allowed : AllowsAll initial_state items
   pub unfinished : IsUnfinished (state_after initial_state items) begun
 
--- the file has this fault, with this line: a word shows it, or the end comes too early
+-- the file has this fault, at this line: a word shows it, or the words end too early
 pub data FileFault (bytes : List ℕ) (line : ℕ) (fault : Fault) : Type 0 where
   shown : ShowsFault (words_of bytes) line fault → FileFault bytes line fault
   too_early : Stops (words_of bytes) → line ≡ last_line bytes → fault ≡ Truncated → FileFault bytes line fault
 
--- a closed word of this front of a file shows this fault, with this line, whatever follows the front
+-- a closed word of this front of a file shows this fault, at this line, whatever follows the front
 abbrev pub FrontFault : List ℕ → ℕ → Fault → Type 0
 FrontFault bytes line fault = ShowsFault (closed_words bytes) line fault
 
--- none of them shows a fault
+-- no closed word of this front shows a fault
 abbrev pub HasNoFrontFault : List ℕ → Type 0
 HasNoFrontFault bytes = (line : ℕ) (fault : Fault) → FrontFault bytes line fault → ⊥

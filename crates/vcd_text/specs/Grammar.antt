@@ -1,4 +1,5 @@
--- Which files are accepted, and what they tell: what each item asks for, and what it adds (IEEE 1364-2005, 18.2, in the project's profile).
+-- The accepted files and their state: the conditions of each item, and its effect (IEEE 1364-2005, 18.2, in the
+-- project's profile).
 use Rattle.std.specs.Prelude.{◌≡◌, ℕ, ◌-◌, ◌<◌, ◌≤◌, Bool, true, false, not, ◌&&◌, ◌||◌, ◌==◌, nat_lt, nat_le, if◌then◌else◌, List, [], ◌∷◌, ◌++◌, map, length, take, filter, find, Option, Some, None, IsSome, IsSomeAnd, IsTrue, IsFalse, option_to_list, bytes_eq}
 use Rattle.std.specs.List.{list_all}
 use Rattle.vcd_core.specs.declared.bit.Bit.{Bit}
@@ -13,9 +14,9 @@ use Rattle.vcd_core.specs.Decimal.{is_number, number_of}
 use Rattle.vcd_text.specs.Letters.{is_among, is_binary_digit, letters_of_digits}
 use Rattle.vcd_text.specs.Items.{Item, entry, timescale, scope, upscope, variable, end_definitions, stamp, scalar, vector, real_or_string, bracket, other, spellings, has_no_end_word, dump_words, is_other, timescale_of, vector_prefixes, dropped_prefixes}
 
--- ---- what a file tells
+-- ---- the state of a file
 
--- a variable, with the scopes that are open where it is declared
+-- a variable, with the scopes that are open at its declaration
 pub record VariableDeclaration : Type 0 where
   pub scopes : List ScopeName
   pub kind : List ℕ
@@ -23,13 +24,14 @@ pub record VariableDeclaration : Type 0 where
   pub code : List ℕ
   pub words : List (List ℕ)
 
--- a value change: from this tick on, the variables of this code have the value that these letters give
+-- from this tick on, the variables of this code have these letters
 pub record ValueChange : Type 0 where
   pub tick : ℕ
   pub code : List ℕ
   pub letters : List Bit
 
--- what the items so far have told: the scopes are those that are open, outermost first; the tick is the last stamp, or 0; `changing` says whether `$enddefinitions $end` has come
+-- the state after the items so far: the open scopes, outermost first; the last stamp, or 0; whether `$enddefinitions
+-- $end` has come
 pub record ParseState : Type 0 where
   pub header : List Header
   pub timescale : Option Timescale
@@ -39,7 +41,7 @@ pub record ParseState : Type 0 where
   pub value_changes : List ValueChange
   pub tick : ℕ
 
--- before the first item
+-- the state before the first item
 abbrev pub initial_state : ParseState
 initial_state = record { header = []; timescale = None; scopes = []; declared = []; changing = false; value_changes = []; tick = 0 }
 
@@ -59,7 +61,7 @@ has_good_size [] = true
 has_good_size (kind ∷ []) = true
 has_good_size (kind ∷ size ∷ words) = is_number size
 
--- what the words of a `$var` declare: kind, size, code, and one or more words of the name
+-- the variable that the words of a `$var` declare: kind, size, code, and one or more words of the name
 abbrev pub declaration_of : ParseState → List (List ℕ) → Option VariableDeclaration
 declaration_of c [] = None
 declaration_of c (kind ∷ []) = None
@@ -71,11 +73,11 @@ declaration_of c (kind ∷ size ∷ code ∷ name ∷ names) = Some (record { sc
 abbrev pub variable_of : ParseState → List ℕ → Option VariableDeclaration
 variable_of c code = find (λ d. bytes_eq code d.code) c.declared
 
--- whether two variables may have one code: both are skipped, or both are kept with one size
+-- whether two variables can have one code: both are skipped, or both are kept with one size
 abbrev pub may_share : VariableDeclaration → VariableDeclaration → Bool
 may_share a b = (is_skipped a && is_skipped b) || (not (is_skipped a) && not (is_skipped b) && (a.size == b.size))
 
--- whether a variable may have its code, beside the one that has it already, if there is one
+-- whether a variable can have its code, with the one that has it already, if there is one
 abbrev pub may_have_code : Option VariableDeclaration → VariableDeclaration → Bool
 may_have_code None d = true
 may_have_code (Some before) d = may_share before d
@@ -90,17 +92,17 @@ has_room declared d = is_skipped d || nat_lt (length (kept_variables declared)) 
 abbrev pub is_tick : List ℕ → Bool
 is_tick digits = is_number digits && nat_le (number_of digits) END_LIMIT
 
--- whether a text is a binary number: one or more binary digits, and nothing else
+-- whether a text is a binary number: one or more binary digits alone
 abbrev pub is_binary_number : List ℕ → Bool
 is_binary_number digits = not (length digits == 0) && list_all is_binary_digit digits
 
--- whether a variable takes these digits: a skipped one any, another one a value that is not too long
+-- whether a variable accepts these digits: a skipped one any, a kept one a value that is not too long
 abbrev pub takes_binary_number : VariableDeclaration → List ℕ → Bool
 takes_binary_number d digits = is_skipped d || (is_binary_number digits && nat_le (length digits) d.size)
 
--- ---- what an item asks for
+-- ---- the conditions of an item
 
--- behind what has been told an item gets what it asks for
+-- the conditions of an item in this state
 abbrev pub Allows : ParseState → Item → Type 0
 Allows c (entry kind words) = IsFalse c.changing × IsTrue (has_no_end_word words)
 Allows c (timescale words) = IsFalse c.changing × IsTrue (has_no_end_word words) × IsSome (timescale_of words)
@@ -118,18 +120,18 @@ Allows c (real_or_string first text code) = IsTrue c.changing × IsTrue (is_amon
 Allows c (bracket word) = IsTrue c.changing × IsTrue (is_one_of dump_words word)
 Allows c (other word words) = IsTrue (is_other c.changing word) × IsTrue (has_no_end_word words)
 
--- ---- what an item adds
+-- ---- the effect of an item
 
--- a value change to these letters at the tick, for a variable that is kept
+-- a value change to these letters at the tick, for a kept variable
 abbrev pub value_changes_after : ParseState → List ℕ → List Bit → Option VariableDeclaration → List ValueChange
 value_changes_after c code letters None = []
 value_changes_after c code letters (Some d) = if is_skipped d then [] else record { tick = c.tick; code = code; letters = letters } ∷ []
 
--- what has been told, with this value change behind the others
+-- the state with this value change added last
 abbrev pub with_value_change : ParseState → List ℕ → List Bit → ParseState
 with_value_change c code letters = record c { value_changes = c.value_changes ++ value_changes_after c code letters (variable_of c code) }
 
--- what has been told behind an item
+-- the state after an item
 abbrev pub state_after_item : ParseState → Item → ParseState
 state_after_item c (entry kind words) = record c { header = c.header ++ record { kind = kind; words = words } ∷ [] }
 state_after_item c (timescale words) = record c { timescale = timescale_of words }
@@ -144,12 +146,12 @@ state_after_item c (real_or_string first text code) = c
 state_after_item c (bracket word) = c
 state_after_item c (other word words) = c
 
--- what has been told behind items in a row
+-- the state after a list of items
 abbrev pub state_after : ParseState → List Item → ParseState
 state_after c [] = c
 state_after c (i ∷ is) = state_after (state_after_item c i) is
 
--- each item gets what it asks for, in turn
+-- the conditions of each item hold in turn
 abbrev pub AllowsAll : ParseState → List Item → Type 0
 AllowsAll c [] = Unit {0}
 AllowsAll c (i ∷ is) = Allows c i × AllowsAll (state_after_item c i) is
@@ -160,7 +162,8 @@ AllowsAll c (i ∷ is) = Allows c i × AllowsAll (state_after_item c i) is
 abbrev pub word_texts : List PlacedWord → List (List ℕ)
 word_texts words = map (λ word. word.text) words
 
--- the words are accepted, and tell this: they spell items, `$enddefinitions $end` among them, each of which gets what it asks for
+-- the words are accepted with this state: they spell items, with `$enddefinitions $end` among them, whose conditions
+-- hold
 pub record Accepts (words : List PlacedWord) (told : ParseState) : Type 0 where
   pub items : List Item
   pub spelled : word_texts words ≡ spellings items

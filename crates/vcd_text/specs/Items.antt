@@ -1,4 +1,5 @@
--- The items of a file, declarations and changes, and the words that spell them (IEEE 1364-2005, 18.2, in the project's profile).
+-- The items of a file, declarations and changes, and their spelling in words (IEEE 1364-2005, 18.2, in the project's
+-- profile).
 use Rattle.std.specs.Prelude.{ℕ, Bool, false, not, ◌&&◌, ◌||◌, ◌==◌, List, [], ◌∷◌, ◌++◌, map, find, Option, codes, decimal, bytes_eq}
 use Rattle.std.specs.List.{list_all, flat_map, concat}
 use Rattle.vcd_core.specs.Word.{is_one_of}
@@ -23,7 +24,7 @@ is_end_word word = bytes_eq word end_word
 abbrev pub has_no_end_word : List (List ℕ) → Bool
 has_no_end_word words = list_all (λ word. not (is_end_word word)) words
 
--- the words of the changes alone: the brackets of a dump, `$end` being the closing one
+-- the words of the changes alone: the brackets of a dump, where `$end` is the closing one
 abbrev pub dump_words : List (List ℕ)
 dump_words = codes "$dumpall" ∷ codes "$dumpoff" ∷ codes "$dumpon" ∷ codes "$dumpvars" ∷ end_word ∷ []
 
@@ -46,20 +47,21 @@ abbrev pub is_command : List ℕ → Bool
 is_command [] = false
 is_command (b ∷ bs) = b == 36
 
--- whether a word may begin a declaration
+-- whether a word begins a declaration
 abbrev pub begins_declaration : List ℕ → Bool
 begins_declaration word = is_command word && not (is_one_of dump_words word)
 
--- any other command, which is passed over; among the changes `$date`, `$version` and `$comment` are such (the project's own)
+-- any other command, which is passed over; among the changes also `$date`, `$version` and `$comment` (the project's
+-- own)
 abbrev pub is_other : (changing : Bool) → List ℕ → Bool
 is_other changing word =
     begins_declaration word && not (is_one_of declaring_words word) && (changing || not (is_one_of header_words word))
 
--- the bytes with which a change of several bits begins
+-- the first bytes of a change of several bits
 abbrev pub vector_prefixes : List ℕ
 vector_prefixes = codes "bB"
 
--- those of changes of real numbers and strings
+-- the first bytes of changes of real numbers and strings
 abbrev pub dropped_prefixes : List ℕ
 dropped_prefixes = codes "rRsS"
 
@@ -73,7 +75,7 @@ unit_timescales unit = record { count = 1; unit = unit } ∷ record { count = 10
 abbrev pub timescales : List Timescale
 timescales = flat_map unit_timescales (Second ∷ Millisecond ∷ Microsecond ∷ Nanosecond ∷ Picosecond ∷ Femtosecond ∷ [])
 
--- the timescale that words spell when they are run together, if it is one
+-- the timescale that words spell when they are run together, or none
 abbrev pub timescale_of : List (List ℕ) → Option Timescale
 timescale_of words = find (λ t. bytes_eq (concat words) (decimal t.count ++ unit_text t.unit)) timescales
 

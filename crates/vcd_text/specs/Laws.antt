@@ -1,4 +1,4 @@
--- What holds of the definitions of a file: it has one answer, a front's fault is the file's, and the text of a capture means the capture.
+-- The laws of files: a file has one result, a front's fault is the file's, and the text of a capture means the capture.
 use Rattle.std.specs.Prelude.{◌≡◌, ℕ, ◌⊎◌, List, ◌++◌}
 use Rattle.vcd_core.specs.Contents.{Contents}
 use Rattle.vcd_core.specs.Sound.{IsSound}
@@ -9,7 +9,7 @@ use Rattle.vcd_text.specs.Text.{text}
 
 -- ---- one answer
 
--- no file means two things
+-- no file has two meanings
 abbrev pub EveryFileHasAtMostOneMeaning : Type 0
 EveryFileHasAtMostOneMeaning = (bytes : List ℕ) (c d : Contents) (m n : ℕ) → FileMeans bytes c m → FileMeans bytes d n → (c ≡ d) × (m ≡ n)
 
@@ -46,7 +46,7 @@ FrontFaultIsFileFault = (front rest : List ℕ) (line : ℕ) (fault : Fault) →
 abbrev pub TextIsReadBack : Type 0
 TextIsReadBack = (c : Contents) → IsSound c → FileMeans (text c) c 0
 
--- the text of a sound capture means nothing but the capture
+-- the text of a sound capture means only the capture
 abbrev pub NothingElseIsReadBack : Type 0
 NothingElseIsReadBack = (c d : Contents) (n : ℕ) → IsSound c → FileMeans (text c) d n → (d ≡ c) × (n ≡ 0)
 

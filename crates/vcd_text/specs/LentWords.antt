@@ -1,7 +1,7 @@
--- A word as the walk over a text gives it, with the text borrowed, as the word that it is.
+-- A word with its text borrowed, as the walk over a text gives it.
 use Rattle.vcd_text.specs.Words.{PlacedWord, word_on}
 use Rattle.vcd_text.specs.declared.words.PlacedWord.{PlacedWord as LentWord}
 
--- a word that has come
+-- the word itself
 abbrev pub word_at : LentWord → PlacedWord
 word_at p = word_on p.text.now p.line

@@ -1,4 +1,4 @@
--- Binary digits, the letters that they write, their extension and their short form (IEEE 1364-2005, 18.2).
+-- Binary digits, their letters, the extension and the short form of letters (IEEE 1364-2005, 18.2).
 use Rattle.std.specs.Prelude.{ℕ, ◌-◌, ◌==◌, ◌&&◌, not, nat_le, Bool, if◌then◌else◌, List, [], ◌∷◌, ◌++◌, nat_eq, length, map, replicate, find, Option, Some, None, is_some, unwrap_or, codes}
 use Rattle.std.specs.List.{list_any, list_all}
 use Rattle.vcd_core.specs.declared.bit.Bit.{Bit}
@@ -9,7 +9,8 @@ use Rattle.vcd_core.specs.Value.{same_letters, printed_letter}
 abbrev pub is_among : List ℕ → ℕ → Bool
 is_among bytes b = list_any (nat_eq b) bytes
 
--- the letter that a binary digit writes: 0 1 x X z Z by IEEE 1364-2005, 18.2; the others are the project's own, for files of VHDL simulators
+-- the letter that a binary digit writes: 0 1 x X z Z by IEEE 1364-2005, 18.2; the others, of VHDL simulators, are the
+-- project's own
 abbrev pub letter_of_digit : ℕ → Option Bit
 letter_of_digit b =
     if is_among (codes "0lL") b then Some Zero
@@ -26,11 +27,12 @@ is_binary_digit b = is_some (letter_of_digit b)
 abbrev pub letters_of_digits : List ℕ → List Bit
 letters_of_digits digits = map (λ b. unwrap_or (letter_of_digit b) X) digits
 
--- letters as they are printed
+-- the printed bytes of letters
 abbrev pub printed_letters : List Bit → List ℕ
 printed_letters letters = map printed_letter letters
 
--- what is put on the left of letters: 0 where the leftmost is 0 or 1, else the leftmost (18.2); no list that is read is empty
+-- the letter that extends letters on the left: 0 where the leftmost is 0 or 1, else the leftmost (18.2); no list that
+-- is read is empty
 abbrev pub pad_letter : List Bit → Bit
 pad_letter [] = X
 pad_letter (Zero ∷ s) = Zero
@@ -42,7 +44,8 @@ pad_letter (Z ∷ s) = Z
 abbrev pub extension : ℕ → List Bit → List Bit
 extension width s = replicate (width - length s) (pad_letter s) ++ s
 
--- the value of a width that binary digits write, extended on the left; none where there is no digit, a byte is none, or there are more than the width
+-- the value of a width that binary digits write, extended on the left; none where there is no digit, a byte is no
+-- binary digit, or there are more than the width
 abbrev pub value_of_digits : ℕ → List ℕ → Option (List Bit)
 value_of_digits width digits =
     if not (length digits == 0) && list_all is_binary_digit digits && nat_le (length digits) width

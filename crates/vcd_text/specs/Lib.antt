@@ -1,4 +1,4 @@
--- The definitions that the contracts of this crate cite; a reader of its promises needs no other, but for those of `vcd_core`.
+-- The definitions that the contracts of this crate cite, apart from those of `vcd_core`.
 pub mod Words
 pub mod Letters
 pub mod FaultNames

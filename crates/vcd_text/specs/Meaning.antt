@@ -1,4 +1,4 @@
--- What a file means: its signals, each with its value at every tick (IEEE 1364-2005, 18.2).
+-- The meaning of a file: its signals, each with its value at every tick (IEEE 1364-2005, 18.2).
 use Rattle.std.specs.Prelude.{◌≡◌, ℕ, ◌&&◌, if◌then◌else◌, nat_le, List, [], ◌∷◌, map, count_by, bytes_eq}
 use Rattle.vcd_core.specs.declared.bit.Bit.{Bit}
 use Rattle.vcd_core.specs.Value.{all_x}
@@ -8,13 +8,14 @@ use Rattle.vcd_text.specs.Words.{words_of}
 use Rattle.vcd_text.specs.Letters.{extension}
 use Rattle.vcd_text.specs.Grammar.{VariableDeclaration, ValueChange, ParseState, Accepts, is_skipped, kept_variables}
 
--- the value that a code of this width has at a tick: the extension of the last value change, in the order of the file, with that code and a tick at most t; else `before`
+-- the value of a code of this width at a tick t: the extension of the last value change in the file with that code and
+-- a tick at most t; else `before`
 unfoldable pub latest_value : ℕ → List ℕ → ℕ → List Bit → List ValueChange → List Bit
 latest_value width code t before [] = before
 latest_value width code t before (r ∷ rs) =
     latest_value width code t (if bytes_eq r.code code && nat_le r.tick t then extension width r.letters else before) rs
 
--- the signal that a variable is, up to the tick `end`: all x before its first value change
+-- the signal of a variable, up to the tick `end`: all x before its first value change
 abbrev pub declared_signal : List ValueChange → ℕ → VariableDeclaration → SignalContents
 declared_signal value_changes end d = record {
   scopes = d.scopes;
@@ -24,15 +25,16 @@ declared_signal value_changes end d = record {
   changes = changes_of d.size end (λ t. latest_value d.size d.code t (all_x d.size) value_changes);
 }
 
--- what a file means that has told this: each variable that is kept is a signal, in the order of the file; the end is the last stamp, or 0
+-- the meaning of a file with this state: each kept variable is a signal, in the order of the file; the end is the last
+-- stamp, or 0
 abbrev pub meaning : ParseState → Contents
 meaning c = record { header = c.header; timescale = c.timescale; end = c.tick; signals = map (declared_signal c.value_changes c.tick) (kept_variables c.declared) }
 
--- how many variables are skipped
+-- the number of skipped variables
 abbrev pub skipped_count : ParseState → ℕ
 skipped_count c = count_by is_skipped c.declared
 
--- the file is accepted, and means these contents, with so many variables skipped
+-- the file is accepted and means these contents, with this number of skipped variables
 pub record FileMeans (bytes : List ℕ) (contents : Contents) (skipped : ℕ) : Type 0 where
   pub told : ParseState
   pub accepted : Accepts (words_of bytes) told

@@ -1,4 +1,4 @@
--- Why the reading of a file was refused, of all bytes of the file: the project's own.
+-- The faults of reading a file, for all bytes of the file: the project's own.
 use Rattle.std.specs.Prelude.{◌≡◌, ℕ, ◌<◌, ◌≤◌, List, ◌++◌, take, length, Option, Some, IsTrue, IsFalse, Bool}
 use Rattle.vcd_text.specs.declared.reading.TheConstants.{FILE_LIMIT}
 use Rattle.vcd_text.specs.declared.fault.Fault.{Fault}
@@ -7,22 +7,23 @@ use Rattle.vcd_text.specs.declared.fault.ReadError.{ReadError}
 use Rattle.vcd_text.specs.Words.{last_line}
 use Rattle.vcd_text.specs.Faults.{FileFault, FrontFault, HasNoFrontFault}
 
--- the answer where memory runs out: no line
+-- the fault where memory runs out: no line
 abbrev pub memory_error : ReadError
 memory_error = record { line = 0; fault = faults.NoMemory }
 
--- only this front of a file is known, for this reason: a fault of its closed words, or the reason itself, at the line that the front ends on
+-- only this front of a file was read, for this reason: the fault of its closed words, or the reason at the front's last
+-- line
 pub data IsFrontAnswer (front : List ℕ) (reason : Fault) (e : ReadError) : Type 0 where
   shown : FrontFault front e.line e.fault → IsFrontAnswer front reason e
   no_fault : HasNoFrontFault front → e ≡ record { line = last_line front; fault = reason } → IsFrontAnswer front reason e
 
--- the answer to a file, of a reader that has failed or not, with these bytes left where it tells them
+-- the fault of reading a file, from a reader that has failed or not, with these bytes left where it shows them
 pub data IsRefusal (file : List ℕ) (failed : Bool) (left : Option (List ℕ)) (e : ReadError) : Type 0 where
-  -- all of it was read, and has this fault
+  -- all of it was read, and it has this fault
   has_fault : IsFalse failed → length file ≤ FILE_LIMIT → FileFault file e.line e.fault → IsRefusal file failed left e
-  -- there is more than the limit
+  -- the file has more bytes than the limit
   too_large : FILE_LIMIT < length file → IsFrontAnswer (take FILE_LIMIT file) faults.TooLarge e → IsRefusal file failed left e
-  -- the reader failed behind this front
+  -- the reader failed after this front
   reader_failed : (front rest : List ℕ) → IsTrue failed → left ≡ Some rest → file ≡ front ++ rest → length front ≤ FILE_LIMIT
       → IsFrontAnswer front faults.ReadFault e → IsRefusal file failed left e
   -- memory ran out

@@ -1,4 +1,5 @@
--- The text of a capture: its items in a fixed order, each on a line of its own (the format: IEEE 1364-2005, 18.2; the order and the codes: the project's own).
+-- The text of a capture: its items in a fixed order, each on its own line (the format: IEEE 1364-2005, 18.2; the order
+-- and the codes: the project's own).
 use Rattle.std.specs.Prelude.{ℕ, zero, suc, Bool, ◌+◌, ◌-◌, ◌/◌, ◌%◌, ◌==◌, ◌&&◌, not, if◌then◌else◌, nat_lt, List, [], ◌∷◌, ◌++◌, length, map, drop, replicate, Option, Some, None, codes}
 use Rattle.std.specs.List.{filter, flat_map, enumerate_from, join_with_byte, common_prefix_len}
 use Rattle.std.specs.Str.{bytes_eq}
@@ -33,13 +34,15 @@ timescale_items (Some t) = timescale (decimal t.count ∷ unit_text t.unit ∷ [
 abbrev pub same_scope : ScopeName → ScopeName → Bool
 same_scope a b = bytes_eq a.kind b.kind && pointwise bytes_eq a.words b.words
 
--- from the open scopes to those of a signal: the open ones past the front that both share are closed, then the further ones are opened (18.2)
+-- from the open scopes to those of a signal: the open ones past the shared front are closed, then the others are opened
+-- (18.2)
 abbrev pub scope_items : List ScopeName → List ScopeName → List Item
 scope_items opened path =
     let shared : ℕ = common_prefix_len same_scope opened path in
     replicate (length opened - shared) upscope ++ map (λ s. scope s.kind s.words) (drop shared path)
 
--- n in bijective base 94, its digits 1 to 94 being the bytes 33 to 126, the lowest first; the first number only bounds how many digits there are
+-- n in bijective base 94, lowest digit first, where the digits 1 to 94 are the bytes 33 to 126; the first number bounds
+-- the number of digits
 unfoldable pub code_digits : ℕ → ℕ → List ℕ
 code_digits most zero = []
 code_digits zero (suc n) = []
@@ -53,19 +56,20 @@ code_of position = code_digits (position + 1) (position + 1)
 abbrev pub variable_item : ℕ → SignalContents → Item
 variable_item position s = variable (s.kind ∷ decimal s.width ∷ code_of position ∷ s.words)
 
--- the declarations of signals, the first at this position, while these scopes are open; at last all that are open are closed
+-- the declarations of signals, the first at this position, while these scopes are open; at the end all open ones are
+-- closed
 unfoldable pub signal_items : List ScopeName → ℕ → List SignalContents → List Item
 signal_items opened position [] = map (λ s. upscope) opened
 signal_items opened position (s ∷ ss) = scope_items opened s.scopes ++ variable_item position s ∷ signal_items s.scopes (suc position) ss
 
 -- ---- values
 
--- a value for a code: of one bit as its letter, of more behind `b` (98) in the short form (18.2)
+-- a value for a code: one bit as its letter, more bits after `b` (98) in the short form (18.2)
 abbrev pub value_item : List ℕ → List Bit → Item
 value_item code (b ∷ []) = scalar (printed_letter b) code
 value_item code value = vector 98 (printed_letters (short_form value)) code
 
--- whether a signal differs at a tick from the tick before
+-- whether the value of a signal at a tick differs from that at the tick before
 abbrev pub differs_at : ℕ → SignalContents → Bool
 differs_at t s = not (same_letters (signal_value s t) (signal_value s (t - 1)))
 
@@ -94,7 +98,7 @@ with_stamp t (v ∷ vs) = stamp_of t ∷ v ∷ vs
 abbrev pub first_items : List SignalContents → List Item
 first_items signals = stamp_of 0 ∷ bracket (codes "$dumpvars") ∷ (all_values signals 0 ++ bracket end_word ∷ [])
 
--- what differs at each of n ticks, from t on
+-- the values that differ at each of n ticks, from t on
 unfoldable pub tick_items : List SignalContents → ℕ → ℕ → List Item
 tick_items signals t zero = []
 tick_items signals t (suc n) = with_stamp t (new_values signals t) ++ tick_items signals (suc t) n
@@ -105,7 +109,8 @@ end_items signals end = if nat_lt 0 end && (length (new_values signals end) == 0
 
 -- ---- files
 
--- the items of a capture: header, timescale, declarations, the values at tick 0, what differs at the ticks 1 to the end, and the end
+-- the items of a capture: header, timescale, declarations, the values at tick 0, the values that differ at the ticks 1
+-- to the end, and the end
 unfoldable pub items_of : Contents → List Item
 items_of c =
     header_items c.header

@@ -1,8 +1,8 @@
--- White space and words (IEEE 1364-2005, 18.2: the file is a list of words that white space parts).
+-- White space and words (IEEE 1364-2005, 18.2: the file is a list of words separated by white space).
 use Rattle.vcd_core.specs.Word.{is_white_space}
 use Rattle.std.specs.Prelude.{ℕ, ◌+◌, Bool, true, false, if◌then◌else◌, List, [], ◌∷◌, ◌==◌, count_by}
 
--- a word, and the line that it stands on
+-- a word and its line
 pub record PlacedWord : Type 0 where
   pub text : List ℕ
   pub line : ℕ
@@ -11,27 +11,29 @@ pub record PlacedWord : Type 0 where
 abbrev pub word_on : List ℕ → ℕ → PlacedWord
 word_on text line = record { text = text; line = line }
 
--- the line behind a byte: a line feed begins another
+-- the line after a byte: a line feed begins another
 abbrev pub line_after : ℕ → ℕ → ℕ
 line_after b line = if b == 10 then line + 1 else line
 
--- whether a word ends before these bytes: white space follows, or nothing and the end of the text counts as an end
+-- whether a word ends before these bytes: before white space, or before the end of the text where that counts
 abbrev pub ends_before : Bool → List ℕ → Bool
 ends_before whole [] = whole
 ends_before whole (b ∷ bs) = is_white_space b
 
--- the words with one more byte in front of the first
+-- the words with one more byte at the front of the first
 abbrev pub with_longer_first : ℕ → ℕ → List PlacedWord → List PlacedWord
 with_longer_first b line [] = []
 with_longer_first b line (w ∷ ws) = word_on (b ∷ w.text) line ∷ ws
 
--- the words with the byte b before them: white space adds nothing, the last byte of a word is a word, another lengthens the word behind it
+-- the words with the byte b before them: white space adds nothing, the last byte of a word is a word, any other byte
+-- lengthens the word after it
 abbrev pub with_byte : (space last : Bool) → ℕ → ℕ → List PlacedWord → List PlacedWord
 with_byte true last b line ws = ws
 with_byte false true b line ws = word_on (b ∷ []) line ∷ ws
 with_byte false false b line ws = with_longer_first b line ws
 
--- the maximal runs of bytes other than white space, the first byte being on this line; only those that white space follows unless the text is whole
+-- the maximal runs of bytes other than white space, with the first byte on this line; only those that white space
+-- follows unless the text is whole
 unfoldable pub words_from : Bool → ℕ → List ℕ → List PlacedWord
 words_from whole line [] = []
 words_from whole line (b ∷ bs) = with_byte (is_white_space b) (ends_before whole bs) b line (words_from whole (line_after b line) bs)
@@ -40,7 +42,7 @@ words_from whole line (b ∷ bs) = with_byte (is_white_space b) (ends_before who
 abbrev pub words_of : List ℕ → List PlacedWord
 words_of bytes = words_from true 1 bytes
 
--- the words that white space follows: what is sure of a file of which only this front is known
+-- the words of this front of a file that white space follows
 abbrev pub closed_words : List ℕ → List PlacedWord
 closed_words bytes = words_from false 1 bytes
 

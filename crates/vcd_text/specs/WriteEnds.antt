@@ -1,10 +1,10 @@
--- How the writing of a text ends before its end: the project's own.
+-- The end of writing a text before its end: the project's own.
 use Rattle.std.specs.Prelude.{◌≡◌, ◌≤◌, ℕ, Bool, true, false, List, length, take, Option}
 use Rattle.std.specs.Io.KnownBytes.{Appends, Keeps}
 use Rattle.vcd_text.specs.declared.fault.WriteError.{WriteError}
 use Rattle.vcd_text.specs.declared.fault.WriteError.TheVariants as write_errors
 
--- what a writer took of a text before this fault, and whether it has failed then
+-- the bytes that a writer took of a text before this fault, and whether it has failed
 abbrev pub TookBefore : (text : List ℕ) → (before after : Option (List ℕ)) → (failed : Bool) → WriteError → Type 0
 TookBefore text before after failed write_errors.NoMemory = Keeps before after × (failed ≡ false)
 TookBefore text before after failed (write_errors.WriteFault written) = Appends before after (take written text) × (written ≤ length text) × (failed ≡ true)

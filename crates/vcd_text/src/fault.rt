@@ -1,4 +1,4 @@
-//! Why a capture file could not be read or written.
+//! The faults of reading and writing a capture file.
 
 ghost use Rattle.std.specs.Prelude.{◌≡◌};
 ghost use Rattle.vcd_text.specs.FaultNames.{fault_name, write_error_name};
@@ -10,16 +10,16 @@ ghost use Rattle.vcd_text.specs.declared.fault.WriteError.TheVariants as write_e
 use std::alloc::{AllocError, AllocFailed};
 use thiserror::Error;
 
-/// What is wrong with a capture file, or kept it from being read.
+/// A fault of a capture file, or of reading it.
 ///
 /// The names are the project's own. The rules of the format (IEEE 1364-2005, 18.2, in the project's
-/// profile) say which one a file has, and at which line.
+/// profile) give the fault of a file, and its line.
 #[derive(Clone, Copy, Debug, PartialEq, Eq, Error)]
 pub enum Fault {
-    /// The words end before `$enddefinitions $end`, inside an item, or where a code is due.
+    /// The words end before `$enddefinitions $end`, inside an item, or before a code.
     #[error("Truncated")]
     Truncated,
-    /// A word that may not stand at its place.
+    /// A word that is not allowed at its place.
     #[error("UnexpectedWord")]
     UnexpectedWord,
     /// A timescale that is not 1, 10 or 100 of a unit from `s` to `fs`.
@@ -34,8 +34,8 @@ pub enum Fault {
     /// A `$var` without kind, size, code or name, or with a size that is no decimal number.
     #[error("BadVar")]
     BadVar,
-    /// A code of two kept variables of two sizes, or of one that is kept and one that is skipped. Variables
-    /// that are skipped may share a code whatever their kinds and sizes.
+    /// A code of two kept variables of different sizes, or of one that is kept and one that is
+    /// skipped. Skipped variables can share a code whatever their kinds and sizes.
     #[error("MixedCode")]
     MixedCode,
     /// A time stamp that is no decimal number, or above the greatest tick, `END_LIMIT`.
@@ -44,7 +44,7 @@ pub enum Fault {
     /// A time stamp below the one before it.
     #[error("TimeBackwards")]
     TimeBackwards,
-    /// A change that is none, or without its code, or with a byte that is no binary digit.
+    /// A word that is no change, a change without its code, or a byte that is no binary digit.
     #[error("BadChange")]
     BadChange,
     /// A change of a code that no `$var` declared.
@@ -53,7 +53,7 @@ pub enum Fault {
     /// More digits than the variable has bits.
     #[error("ValueTooLong")]
     ValueTooLong,
-    /// More kept variables than a capture may have signals.
+    /// More kept variables than the signals that a capture can have.
     #[error("TooManySignals")]
     TooManySignals,
     /// The file has more than `FILE_LIMIT` bytes.
@@ -68,7 +68,7 @@ pub enum Fault {
 }
 
 impl Fault {
-    /// The fault's name, as it is printed. It takes no memory.
+    /// The printed name of the fault. It takes no memory.
     pub fn name(&self) -> &'static str
         ensures { result.now ≡ fault_name self.now }
     {
@@ -117,11 +117,11 @@ impl<T: Drop> From<AllocFailed<T>> for Fault {
     }
 }
 
-/// Why a capture file could not be read, and the line of that, counted from 1.
+/// A fault of reading a capture file, and its line, counted from 1.
 ///
-/// A fault of the file has the line of the word that shows it, or among the changes that of the first word of its
-/// change. `Truncated`, `TooLarge` and `ReadFault` have the line on which the bytes end that were taken. Want of
-/// memory has none: its line is 0.
+/// A fault of the file has the line of the word that shows it; among the changes it has the line of
+/// the first word of its change. `Truncated`, `TooLarge` and `ReadFault` have the line of the end
+/// of the bytes that were taken. `NoMemory` has no line: the number is 0.
 #[derive(Clone, Copy, Debug, PartialEq, Eq, Error)]
 #[error("{fault}")]
 pub struct ReadError {
@@ -130,7 +130,7 @@ pub struct ReadError {
 }
 
 impl ReadError {
-    /// A fault, decided at this line; want of memory is decided at no line, and has 0.
+    /// A fault at this line. `NoMemory` has line 0.
     pub(crate) fn at(line: u64, fault: Fault) -> ReadError
         ensures { result ≡ error_at line fault }
     {
@@ -154,7 +154,7 @@ impl From<vcd_core::NoMemory> for ReadError {
     }
 }
 
-/// Why a capture could not be written.
+/// A fault of writing a capture.
 #[derive(Clone, Copy, Debug, PartialEq, Eq, Error)]
 pub enum WriteError {
     /// Memory ran out; no byte was written.
@@ -166,7 +166,7 @@ pub enum WriteError {
 }
 
 impl WriteError {
-    /// The fault's name, as it is printed. It takes no memory.
+    /// The printed name of the fault. It takes no memory.
     pub fn name(&self) -> &'static str
         ensures { result.now ≡ write_error_name self.now }
     {

@@ -1,39 +1,43 @@
-//! What holds of the definitions of a file and of a text alone.
+//! Laws about the definitions of a file and of a text.
 
 ghost use Rattle.vcd_text.specs.Laws.{EveryFileHasAtMostOneMeaning, EveryFileHasAtMostOneFault};
 ghost use Rattle.vcd_text.specs.Laws.{NoFileHasMeaningAndFault, EveryFileHasMeaningOrFault};
 ghost use Rattle.vcd_text.specs.Laws.{EveryFrontHasAtMostOneFault, FrontFaultIsFileFault};
 ghost use Rattle.vcd_text.specs.Laws.{TextIsReadBack, NothingElseIsReadBack, TextHasNoFault};
 
-/// A file has at most one answer: no two meanings, no two faults, no two lines of one fault, and never both a
-/// meaning and a fault.
+/// A file has at most one result. It has no two meanings, no two faults, no two lines of one fault,
+/// and never both a meaning and a fault.
 pub fn has_one_answer()
     ensures one_meaning { EveryFileHasAtMostOneMeaning }
     ensures one_fault { EveryFileHasAtMostOneFault }
     ensures never_both { NoFileHasMeaningAndFault }
 {}
 
-/// A file has an answer, whatever its bytes are: it means a capture, or it has a fault.
+/// A file has a result, whatever its bytes are: a meaning or a fault.
 pub fn has_an_answer()
     ensures { EveryFileHasMeaningOrFault }
 {}
 
-/// A front of a file shows at most one fault, at one line. Of a front those words count that white space follows.
+/// A front of a file shows at most one fault, at one line. Only words of the front that white space
+/// follows count.
 pub fn front_has_one_fault()
     ensures { EveryFrontHasAtMostOneFault }
 {}
 
-/// The fault that a front of a file shows is the fault of the file, at the same line, whatever bytes follow.
+/// The fault that a front of a file shows is the fault of the file, at the same line, whatever
+/// bytes follow.
 pub fn front_fault_stays()
     ensures { FrontFaultIsFileFault }
 {}
 
-/// The text of a sound capture is accepted as a file, means that capture, and has no variable that is skipped.
+/// The text of a sound capture is accepted as a file, means that capture, and has no skipped
+/// variable.
 pub fn text_is_read_back()
     ensures { TextIsReadBack }
 {}
 
-/// The text of a sound capture means nothing but that capture with no variable skipped, and it has no fault.
+/// The text of a sound capture means only that capture, with no variable skipped, and it has no
+/// fault.
 pub fn nothing_else_is_read_back()
     ensures same_capture { NothingElseIsReadBack }
     ensures no_fault { TextHasNoFault }

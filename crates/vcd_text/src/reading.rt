@@ -1,7 +1,7 @@
 //! Reads a capture file (IEEE 1364-2005, 18.2, in the project's profile).
 //!
-//! The file comes in chunks. Its words go one after another through a `Reader`, whose every step keeps to the
-//! grammar: the words so far spell items, and what these tell is what the reader holds.
+//! The file comes in chunks. A `Reader` takes its words one after another. Every step follows the
+//! grammar: the words so far spell items, and the reader holds the state after these items.
 
 ghost use Rattle.std.specs.Prelude.{◌≡◌, ◌≤◌, true, false, length, IfOk, IfErr, IfSome, OnOk};
 ghost use Rattle.std.specs.Io.KnownBytes.{IsAtEnd};
@@ -33,31 +33,36 @@ pub use binary_number::value_of_digits;
 use std::alloc::Global;
 use vcd_core::{Capture, Source};
 
-/// The most bytes that a capture file may have: 4 GiB.
+/// The greatest size of a capture file, in bytes: 4 GiB.
 pub const FILE_LIMIT: usize = 4_294_967_296;
 
-/// A capture, and how many variables of its file are skipped.
+/// A capture, and the number of skipped variables of its file.
 #[derive(Drop)]
 pub struct Loaded {
     pub capture: Capture,
     pub skipped: u64,
 }
 
-/// Reads a capture file to its end: the capture that it means, or its first fault with the line.
+/// Reads a capture file to its end. The result is the capture that it means, or its first fault
+/// with the line.
 ///
-/// Where the source fails, or has more than 4 GiB, the words that are sure to be words of the file, since white
-/// space follows them, are looked at first: a fault in them is answered. `ReadFault` is answered only where the
-/// source has failed.
+/// The source can fail, or have more than 4 GiB. Then the words that white space follows are read
+/// first, since they are surely words of the file; a fault in them is the result. `ReadFault` means
+/// that the source has failed.
 ///
-/// One step for each byte; for each change one look-up of its code and, for a variable of at most 64 bits, one into the
-/// log and two out of it at the end; for each variable one look-up or two, and a copy of its code and its name; for each
-/// scope behind one that was closed, in which a variable stands, a copy of the scopes that are open. The variables of
-/// one code share one list of changes.
-/// At most 4,096 bytes are asked for at a time, and none behind a fault that is sure.
-/// Memory: those bytes, the longest word, 32 bytes for each change in the log, of which one group of 128 after
-/// another is given back as its waves are made, and the capture, of which each change takes a tick and a value of
-/// `WIDTH_LIMIT` bits; beside each signal its own copy of the code, each code once more in the map, its width, and
-/// four bytes for each code of up to three bytes that might come before the last of those that are declared.
+/// Time: one step for each byte. Each change takes one look-up of its code; for a variable of at
+/// most 64 bits it is also written to the log once and read twice at the end. Each variable takes
+/// one or two look-ups, and a copy of its code and its name. A scope after a closed one, with a
+/// variable in it, takes a copy of the open scopes. The variables of one code share one list of
+/// changes.
+///
+/// One read asks for at most 4,096 bytes, and none is made after a sure fault.
+///
+/// Memory: those bytes, the longest word, the log and the capture. The log has 32 bytes for each
+/// change; its 128 groups are freed one by one as their waves are made. In the capture each change
+/// takes a tick and a value of `WIDTH_LIMIT` bits. Each signal also takes a copy of its code and
+/// its width, and the map takes each code once more. A table takes four bytes for each possible code
+/// of up to three bytes before the last one declared.
 pub fn read<R: Source>(alloc: Global, reader: &mut R) -> Result<Loaded, ReadError>
     requires ready { R.has_failed reader.old ≡ false }
     ensures means { IfOk result (λ loaded. IfSome (R.coming reader.old) (λ file.

@@ -11,15 +11,15 @@ ghost use Rattle.vcd_text.specs.inside.WordWalk.{feeds, words_left, feeds_at_end
 use std::marker::Model;
 use vcd_core::is_white_space;
 
-/// A word, borrowed from its text, and the line that it stands on, counted from 1.
+/// A word, borrowed from its text, and its line, counted from 1.
 #[derive(Clone, Copy)]
 pub struct PlacedWord<'a> {
     pub text: &'a [u8],
     pub line: u64,
 }
 
-/// The words of a text that are still to come, as contracts see it: their list. Each takes a step a byte, and
-/// no memory.
+/// The words of a text that are still to come. Contracts see their list. Each word takes a step for
+/// each byte, and no memory.
 #[derive(Drop)]
 pub struct Words<'a> {
     walk: WordWalk<'a>,
@@ -78,7 +78,7 @@ impl<'a> Iterator for Words<'a> {
     }
 }
 
-/// What is left of a text, behind so many line feeds.
+/// The rest of a text, after this number of line feeds.
 #[derive(Drop)]
 pub struct WordWalk<'a> {
     pub rest: &'a [u8],
@@ -86,7 +86,7 @@ pub struct WordWalk<'a> {
 }
 
 impl<'a> WordWalk<'a> {
-    /// Goes on behind the next word, or to the end where there is none.
+    /// Moves past the next word, or to the end where there is none.
     pub fn next_word(&mut self) -> Option<PlacedWord<'a>>
         requires room { LinesFit self.old }
         ensures words { MatchOption result (words_left self.old ≡ []) (λ word.
@@ -111,7 +111,7 @@ impl<'a> WordWalk<'a> {
     }
 }
 
-/// What follows the white space at the front of a text, and how many line feeds come before it.
+/// The text after the white space at its front, and the number of line feeds before that.
 fn after_space(text: &[u8], passed: u64) -> (&[u8], u64)
     requires { passed + length text.now < 2 ^ 64 }
     ensures words { (whole : Bool) →
@@ -134,7 +134,7 @@ fn after_space(text: &[u8], passed: u64) -> (&[u8], u64)
     (rest, lines)
 }
 
-/// How many bytes come before the first white space.
+/// The number of bytes before the first white space.
 fn word_len(text: &[u8]) -> usize
     ensures within { result ≤ length text.now }
     ensures black { list_all (λ b. not (white b)) (take result text.now) ≡ true }

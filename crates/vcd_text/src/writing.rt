@@ -30,14 +30,15 @@ use transitions::{write_first_values, write_transitions};
 use vcd_core::{Capture, Sink};
 use windows::Window;
 
-/// Writes the text of a capture, and flushes the writer once behind its last byte. All memory is taken before
-/// the first byte goes out.
+/// Writes the text of a capture, and flushes the writer once after its last byte. All memory is
+/// taken before the first byte is written.
 ///
-/// At `NoMemory` the writer took nothing and has not failed. At `WriteFault` it has failed and took exactly the
-/// first `written` bytes of the text, all of them where it failed in the flush.
+/// At `NoMemory` the writer took nothing and has not failed. At `WriteFault` it has failed, and
+/// took exactly the first `written` bytes of the text: all of them where the flush failed.
 ///
-/// It takes the time of sorts of the changes, a part at a time, and never looks at ticks without one. It holds 80
-/// bytes a signal and some 300 KiB. The declarations are made twice: they are counted before the first byte.
+/// The time is that of sorting the changes, a part at a time; ticks without a change cost nothing.
+/// The memory is 80 bytes for each signal and some 300 KiB. The declarations are made twice: their
+/// bytes are counted before the first is written.
 pub fn write<W: Sink>(alloc: Global, capture: &Capture, writer: &mut W) -> Result<(), WriteError>
     requires sound { IsSound (contents capture.now) }
     requires ready { W.has_failed writer.old ≡ false }

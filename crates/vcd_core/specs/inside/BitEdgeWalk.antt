@@ -1,4 +1,4 @@
--- How the edges of waves of one bit are walked: as those of other waves, with a bit for a value.
+-- The walk over the edges of waves of one bit: as for other waves, with a bit for a value.
 use Rattle.std.specs.Prelude.{Option, List, [], ◌∷◌, map}
 use Rattle.std.specs.Option.{option_map}
 use Rattle.vcd_core.specs.declared.bit.Bit.{Bit}
@@ -13,11 +13,11 @@ use Rattle.vcd_core.specs.inside.EdgeWalk.{EachRises, reach}
 abbrev pub one_letter : Option Bit → Option (List Bit)
 one_letter = option_map (λ b. b ∷ [])
 
--- a wave of one bit from the tick on that the walk has come to
+-- the rest of a wave of one bit, from the tick of the walk on
 abbrev pub bit_trace_left : BitTrace → Trace
 bit_trace_left track = record { before = one_letter track.bit; changes = track.rest.now }
 
--- the four waves from there on
+-- the rest of the four waves
 abbrev pub bit_traces_left : Inside → List Trace
 bit_traces_left e = bit_trace_left e.a ∷ bit_trace_left e.b ∷ bit_trace_left e.c ∷ bit_trace_left e.d ∷ []
 
@@ -25,6 +25,6 @@ bit_traces_left e = bit_trace_left e.a ∷ bit_trace_left e.b ∷ bit_trace_left
 unfoldable pub bit_edges_left : Inside → List BitEdge
 bit_edges_left e = map bit_edge (edges_on (bit_traces_left e) (reach (bit_traces_left e)))
 
--- what the walk keeps: the changes of each wave rise
+-- the invariant of the walk: the changes of each wave rise
 abbrev pub IsBitWalk : Inside → Type 0
 IsBitWalk e = EachRises 0 (bit_traces_left e)

@@ -1,4 +1,4 @@
--- How the edges of waves are walked: the waves from some tick on, and the edges that are left.
+-- The walk over the edges of waves: the waves from some tick on, and the edges that are left.
 use Rattle.std.specs.Prelude.{ℕ, ◌+◌, ◌≡◌, ◌==◌, Option, Some, None, MatchOption, if◌then◌else◌, min, List, [], ◌∷◌}
 use Rattle.vcd_core.specs.declared.bit.Bit.{Bit}
 use Rattle.vcd_core.specs.declared.wave.Change.{Change}
@@ -8,11 +8,11 @@ use Rattle.vcd_core.specs.declared.edges.Edges.TheInside.{Inside}
 use Rattle.vcd_core.specs.Wave.{AreChangesFrom}
 use Rattle.vcd_core.specs.Edges.{Trace, edges_on}
 
--- a wave from the tick on that the walk has come to
+-- the rest of a wave, from the tick of the walk on
 abbrev pub trace_left : LentTrace → Trace
 trace_left track = record { before = track.value; changes = track.rest.now }
 
--- the four waves from there on
+-- the rest of the four waves
 abbrev pub traces_left : Inside → List Trace
 traces_left e = trace_left e.a ∷ trace_left e.b ∷ trace_left e.c ∷ trace_left e.d ∷ []
 
@@ -32,13 +32,13 @@ abbrev pub next_tick_of : List Trace → Option ℕ
 next_tick_of [] = None
 next_tick_of (l ∷ ls) = earlier_tick (next_tick l.changes) (next_tick_of ls)
 
--- a wave past its next change, where that stands at the tick
+-- a wave after its next change, where that is at the tick
 abbrev pub trace_past : ℕ → Option (List Bit) → List Change → Trace
 trace_past t before [] = record { before = before; changes = [] }
 trace_past t before (c ∷ cs) =
     if c.tick == t then record { before = Some c.value; changes = cs } else record { before = before; changes = c ∷ cs }
 
--- the same, of a wave
+-- the same for a wave
 abbrev pub trace_after : ℕ → Trace → Trace
 trace_after t l = trace_past t l.before l.changes
 
@@ -46,7 +46,7 @@ trace_after t l = trace_past t l.before l.changes
 abbrev pub Rises : ℕ → Trace → Type 0
 Rises floor l = MatchOption l.before (l.changes ≡ []) (λ v. AreChangesFrom floor v l.changes)
 
--- the same of each wave
+-- the same for each wave
 abbrev pub EachRises : ℕ → List Trace → Type 0
 EachRises floor [] = Unit {0}
 EachRises floor (l ∷ ls) = Rises floor l × EachRises floor ls
@@ -65,6 +65,6 @@ reach (l ∷ ls) = ticks_sum l.changes + reach ls
 unfoldable pub edges_left : Inside → List Edge
 edges_left e = edges_on (traces_left e) (reach (traces_left e))
 
--- what the walk keeps: the changes of each wave rise
+-- the invariant of the walk: the changes of each wave rise
 abbrev pub IsWalk : Inside → Type 0
 IsWalk e = EachRises 0 (traces_left e)

@@ -1,8 +1,8 @@
--- A full name that is walked part by part.
+-- A full name, walked part by part.
 use Rattle.std.specs.Prelude.{◌≡◌, []}
 use Rattle.vcd_core.specs.declared.full_name.FullName.{FullName}
 
--- nothing is left of the scope or name at hand
+-- nothing is left of the current scope or name
 pub record IsDrained (n : FullName) : Type 0 where
   pub text : n.text.now ≡ []
   pub words : n.words.now ≡ []

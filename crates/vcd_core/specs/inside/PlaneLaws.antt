@@ -1,4 +1,4 @@
--- A value is the planes of its letters: what its model needs to give its fields back.
+-- The planes of the letters of a value are the value: its model needs this to restore its fields.
 use Rattle.std.proofs.Common.{◌≡◌, ℕ, zero, suc, ◌+◌, ◌-◌, ◌*◌, ◌/◌, ◌%◌, ◌^◌, ◌<◌, ◌≤◌, nat_lt, true, false}
 use Rattle.std.proofs.Common.{if◌then◌else◌, List, length, get_or, refl, sym, ap, pow-suc, ◌∙◌, arith, inl, inr}
 use Rattle.std.specs.Int.{bit_at}
@@ -40,7 +40,7 @@ bit_at-number f (suc n) i small within =
           ∙ bit_at_lowest (f n) ∙ bit ∙ ap f (sym last)
     ]
 
--- each letter is given back by its bits, and each pair of bits by its letter
+-- the bits of a letter give the letter, and the letter of two bits gives the bits
 low_of-lt : (b : Bit) → low_of b < 2
 low_of-lt Zero = omega arith
 low_of-lt One = omega arith
@@ -69,7 +69,7 @@ bit_in-lt : (plane : ℕ) (b : Bit) → bit_in plane b < 2
 bit_in-lt zero b = low_of-lt b
 bit_in-lt (suc _) b = high_of-lt b
 
--- the bit of a letter in the plane that it came from
+-- the bit of a letter in its plane
 pub bit_in-letter_of : (plane low high : ℕ) → low < 2 → high < 2 → plane < 2 → (bit : ℕ) → (plane ≡ 0 → bit ≡ low)
     → (plane ≡ 1 → bit ≡ high) → bit_in plane (letter_of low high) ≡ bit
 bit_in-letter_of zero low high small_low small_high plane bit first second = low_of-letter_of low high small_low
@@ -82,7 +82,7 @@ pub length-letters_in : (width : ℕ) (words : List ℕ) → length (letters_in 
 unfolding letters_in
 length-letters_in width words = length-map-range_with_len _ 0 width
 
--- the letter at bit k is that of the planes' bits k
+-- the letter at bit k is that of the bits k of the planes
 pub letter_at-letters_in : (width : ℕ) (words : List ℕ) (k : ℕ) → k < width
     → letter_at (letters_in width words) k ≡ letter_of (plane_bit 0 words k) (plane_bit 1 words k)
 unfolding letters_in
@@ -129,7 +129,7 @@ planes_are n width words v planes long same =
       | inr from ↦ rw (le-ltb k (length v) from) (sym (planes.clear plane k which (omega arith) inside))
     ]
 
--- a value is given back by its letters
+-- the letters of a value give the value
 pub value_of-view_value : (v : Inside) → IsValue v → value_of (view_value v) ≡ v
 unfolding value_of view_value plane_bit
 value_of-view_value v is =

@@ -1,4 +1,4 @@
--- The two planes of bits that hold the letters of a value, word by word in turn.
+-- The two planes of bits that hold the letters of a value, in alternating words.
 use Rattle.std.specs.Prelude.{ℕ, zero, suc, ◌+◌, ◌-◌, ◌*◌, ◌/◌, ◌%◌, ◌^◌, ◌≡◌, ◌<◌, ◌≤◌, if◌then◌else◌, nat_lt, List}
 use Rattle.std.specs.Prelude.{length, map, slice_index, All}
 use Rattle.std.specs.List.{range_with_len}
@@ -9,7 +9,7 @@ use Rattle.vcd_core.specs.declared.value.Value.TheInside.{Inside}
 use Rattle.vcd_core.specs.Value.{letter_at}
 use Rattle.vcd_core.specs.WordRows.{letter_of, low_of, high_of}
 
--- bit k of the low plane (0) or the high plane (1) among words that belong to the two in turn
+-- bit k of the low plane (0) or the high plane (1) among alternating words of the two
 unfoldable pub plane_bit : ℕ → List ℕ → ℕ → ℕ
 plane_bit plane words k = bit_at (slice_index words (2 * (k / 64) + plane)) (k % 64)
 
@@ -33,11 +33,11 @@ abbrev pub bit_in : ℕ → Bit → ℕ
 bit_in zero b = low_of b
 bit_in (suc _) b = high_of b
 
--- a plane's bit of the letter at k; 0 outside the value
+-- the bit of the letter at k in a plane; 0 outside the value
 unfoldable pub bit_below : ℕ → List Bit → ℕ → ℕ
 bit_below plane v k = if nat_lt k (length v) then bit_in plane (letter_at v k) else 0
 
--- the n words of each of the two planes that hold the letters, in turn
+-- the n words of each of the two planes that hold the letters, alternating
 unfoldable pub planes_of : ℕ → List Bit → List ℕ
 planes_of n v = map (λ j. number (λ i. bit_below (j % 2) v (64 * (j / 2) + i)) 64) (range_with_len 0 (2 * n))
 
@@ -51,7 +51,7 @@ pub record ArePlanes (n width : ℕ) (words : List ℕ) : Type 0 where
   pub small : All (λ w. w < 2 ^ 64) words
   pub clear : (plane k : ℕ) → plane < 2 → width ≤ k → k < 64 * n → plane_bit plane words k ≡ 0
 
--- the planes of a value: of 1 to the limit of bits
+-- the planes of a value of 1 to the limit of bits
 pub record IsValue (v : Inside) : Type 0 where
   pub least : 1 ≤ v.width
   pub most : v.width ≤ WIDTH_LIMIT

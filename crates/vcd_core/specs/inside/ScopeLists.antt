@@ -1,4 +1,4 @@
--- The lists that scope paths stand in.
+-- The lists of scope paths.
 use Rattle.std.specs.Prelude.{List}
 use Rattle.vcd_core.specs.declared.capture.ScopeName.{ScopeName}
 use Rattle.vcd_core.specs.declared.scope_path.ScopeList.{ScopeList}

@@ -1,12 +1,12 @@
-//! Writing all bytes of a text to a device, with the count of those that it took.
+//! Writing all bytes of a text to a device, and counting those that it took.
 
 ghost use Rattle.std.specs.Prelude.{◌≡◌, ◌<◌, ◌≤◌, false, true, length, take, OnOk, OnErr, IfErr};
 ghost use Rattle.std.specs.Io.KnownBytes.{Appends};
 
 use crate::device::Sink;
 
-/// A sink failed before it had taken all bytes and passed them on: it took the first `written` of
-/// them, and no other.
+/// A sink failed before it had taken all bytes and passed them on. It took the first `written`
+/// bytes and no other.
 #[derive(Clone, Copy, Debug, PartialEq, Eq)]
 pub struct ShortWrite {
     pub written: u128,
@@ -25,8 +25,8 @@ impl ShortWrite {
 
 /// Writes all of `bytes`, in order. It takes no memory.
 ///
-/// An error means that the sink has failed, and says how many of the bytes it took before that:
-/// exactly so many from the front, which is not all of them.
+/// An error means that the sink has failed. It gives the number of bytes that the sink took before:
+/// these are the first ones, and not all.
 pub fn write_all<W: Sink>(sink: &mut W, bytes: &[u8]) -> Result<(), ShortWrite>
     requires ready { W.has_failed sink.old ≡ false }
     ensures all { OnOk result (Appends (W.taken sink.old) (W.taken sink.new) bytes.now) }
@@ -50,10 +50,10 @@ pub fn write_all<W: Sink>(sink: &mut W, bytes: &[u8]) -> Result<(), ShortWrite>
     Ok(())
 }
 
-/// Writes all of `bytes`, in order, and flushes the sink once behind the last. It takes no memory.
+/// Writes all of `bytes`, in order, and flushes the sink once after the last. It takes no memory.
 ///
-/// An error means that the sink has failed, and says how many of the bytes it took before that:
-/// exactly so many from the front, all of them where it failed in the flush.
+/// An error means that the sink has failed. It gives the number of bytes that the sink took before:
+/// these are the first ones, and all of them where the flush failed.
 pub fn write_and_flush<W: Sink>(sink: &mut W, bytes: &[u8]) -> Result<(), ShortWrite>
     requires ready { W.has_failed sink.old ≡ false }
     ensures all { OnOk result (Appends (W.taken sink.old) (W.taken sink.new) bytes.now) }

@@ -11,7 +11,7 @@ use std::alloc::AllocError;
 /// Why a device's bytes were not all read.
 #[derive(Clone, Copy, Debug, PartialEq, Eq)]
 pub enum Incomplete {
-    /// There are more than the limit.
+    /// The device has more bytes than the limit.
     TooLarge,
     /// The device failed.
     ReadFault,
@@ -50,12 +50,12 @@ impl From<AllocError> for Incomplete {
     }
 }
 
-/// How many bytes are asked for at a time.
+/// The number of bytes that one read asks for.
 const BLOCK: usize = 8192;
 
-/// Reads all bytes to come into the empty `bytes`. There may be up to `limit` of them.
+/// Reads all bytes to come into the empty `bytes`: at most `limit` of them.
 ///
-/// After a fault `bytes` has those that came before it, after `TooLarge` the first `limit`.
+/// After a fault `bytes` has those that came before it; after `TooLarge` it has the first `limit`.
 pub fn read_whole<S: Source>(
     source: &mut S,
     limit: usize,
@@ -80,7 +80,7 @@ pub fn read_whole<S: Source>(
     Ok(())
 }
 
-/// Appends the bytes of one read, and tells whether there were any.
+/// Appends the bytes of one read. Returns whether there were any.
 fn read_block<S: Source>(
     source: &mut S,
     limit: usize,

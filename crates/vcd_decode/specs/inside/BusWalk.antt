@@ -1,5 +1,4 @@
--- How the events of an I2C bus are walked, one at a time: what is kept between two of them, and the annotations that
--- one brings.
+-- The walk over the events of an I2C bus: the state between two events, and the annotations of one.
 use Rattle.std.specs.Prelude.{ℕ, ◌+◌, ◌^◌, ◌<◌, ◌≤◌, ◌==◌, nat_le, if◌then◌else◌, Option, Some, None, IfSome, List, []}
 use Rattle.std.specs.Prelude.{◌∷◌, ◌++◌, fold, filter_map}
 use Rattle.std.specs.Option.{option_or}
@@ -26,7 +25,7 @@ use Rattle.vcd_decode.specs.BusBytes.{number_with, byte_kind, role_after, acknow
 abbrev pub no_bits : PartByte
 no_bits = record { count = 0; first = 0; last = 0; number = Some 0 }
 
--- with one more bit
+-- the bits and one more
 abbrev pub part_with : PartByte → BusBit → PartByte
 part_with p b = record {
   count = p.count + 1;
@@ -36,26 +35,26 @@ part_with p b = record {
       number_with p.number b;
 }
 
--- what is kept of bits
+-- the state of a byte with these bits
 abbrev pub part_of : List BusBit → PartByte
 part_of bits = fold part_with no_bits bits
 
--- at most eight bits, with a number of so many
+-- at most eight bits, with a number that fits them
 abbrev pub IsPart : PartByte → Type 0
 IsPart p = (p.count ≤ 8) × IfSome p.number (λ n. n < 2 ^ p.count)
 
--- ---- what stands since the last START, none after a STOP
+-- ---- the state since the last START, none after a STOP
 
--- the transfer that is under way, if one is, is sound
+-- the current transfer, if there is one, is sound
 abbrev pub IsBus : Option Transfer → Type 0
 IsBus bus = IfSome bus (λ t. IsPart t.part)
 
--- the address of ten bits that came since
+-- the address of ten bits that came since the START
 abbrev pub bus_address : Option Transfer → Option ℕ
 bus_address None = None
 bus_address (Some t) = t.address
 
--- a transfer that begins
+-- a new transfer
 abbrev pub new_transfer : Option Transfer → Transfer
 new_transfer bus = record { role = roles.Address (bus_address bus); part = no_bits; address = None }
 
@@ -64,7 +63,7 @@ abbrev pub start_of : Option Transfer → Kind
 start_of None = kinds.Start
 start_of (Some t) = kinds.RepeatedStart
 
--- the bits at hand where a condition comes
+-- the annotations of the current bits where a condition comes
 abbrev pub left_annotations : Option Transfer → List Annotation
 left_annotations None = []
 left_annotations (Some t) =
@@ -72,13 +71,13 @@ left_annotations (Some t) =
 
 -- ---- one bit
 
--- the byte at hand and the acknowledge
+-- the current byte and the acknowledge
 abbrev pub whole_annotations : Transfer → BusBit → List Annotation
 whole_annotations t b =
     annotation t.part.first t.part.last (byte_kind t.role t.part.number)
     ∷ annotation b.tick b.tick (acknowledge_kind (number_with (Some 0) b)) ∷ []
 
--- behind them
+-- the transfer after them
 abbrev pub transfer_after_byte : Transfer → Transfer
 transfer_after_byte t = record {
   role = role_after t.role t.part.number;
@@ -86,7 +85,7 @@ transfer_after_byte t = record {
   address = option_or t.address (ten_bit_address (byte_kind t.role t.part.number));
 }
 
--- what a bit of a transfer tells
+-- the annotations of a bit of a transfer
 abbrev pub bit_annotations : Transfer → BusBit → List Annotation
 bit_annotations t b = if t.part.count == 8 then whole_annotations t b else []
 
@@ -96,21 +95,21 @@ transfer_after_bit t b = if t.part.count == 8 then transfer_after_byte t else re
 
 -- ---- any event
 
--- what an event on the bus tells
+-- the annotations of an event on the bus
 abbrev pub event_annotations : Option Transfer → BusEvent → List Annotation
 event_annotations bus (events.Start t) = left_annotations bus ++ annotation t t (start_of bus) ∷ []
 event_annotations bus (events.Stop t) = left_annotations bus ++ annotation t t kinds.Stop ∷ []
 event_annotations None (events.Bit b) = []
 event_annotations (Some t) (events.Bit b) = bit_annotations t b
 
--- the transfer that is under way after an event, if one is
+-- the current transfer after an event, if there is one
 abbrev pub bus_after : Option Transfer → BusEvent → Option Transfer
 bus_after bus (events.Start t) = Some (new_transfer bus)
 bus_after bus (events.Stop t) = None
 bus_after None (events.Bit b) = None
 bus_after (Some t) (events.Bit b) = Some (transfer_after_bit t b)
 
--- what a list of events brings
+-- the annotations of a list of events
 unfoldable pub walk_annotations : Option Transfer → List BusEvent → List Annotation
 walk_annotations bus [] = []
 walk_annotations bus (e ∷ es) = event_annotations bus e ++ walk_annotations (bus_after bus e) es
@@ -122,10 +121,10 @@ abbrev pub levels_of : List (Option Bit) → BusLevels
 levels_of (Some scl ∷ Some sda ∷ others) = record { scl = scl; sda = sda }
 levels_of others = record { scl = X; sda = X }
 
--- what an edge tells
+-- the event at an edge
 abbrev pub edge_event : BitEdge → Option BusEvent
 edge_event e = bus_event e.tick (levels_of e.before) (levels_of e.at)
 
--- what edges tell
+-- the events at edges
 abbrev pub edge_events : List BitEdge → List BusEvent
 edge_events edges = filter_map edge_event edges

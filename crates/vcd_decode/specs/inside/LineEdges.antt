@@ -1,4 +1,4 @@
--- The edge of several lines at a tick, a line being a function of the tick that may be absent.
+-- The edge of several lines at a tick. A line is a function of the tick and may be absent.
 use Rattle.std.specs.Prelude.{ℕ, Option, List, map}
 use Rattle.std.specs.Option.{option_map}
 use Rattle.vcd_core.specs.declared.bit.Bit.{Bit}

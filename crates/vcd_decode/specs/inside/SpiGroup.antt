@@ -1,4 +1,4 @@
--- The bits of a word of SPI that have come so far, and one more.
+-- The bits of an SPI word so far, and one more.
 use Rattle.std.specs.Prelude.{ℕ, ◌+◌, ◌*◌, ◌^◌, ◌==◌, ◌<◌, Bool, true, false, if◌then◌else◌, Option, Some, None, List}
 use Rattle.std.specs.Prelude.{slice_index_or}
 use Rattle.vcd_core.specs.declared.bit.Bit.{Bit}
@@ -26,35 +26,35 @@ digit_of One = Some 1
 digit_of X = None
 digit_of Z = None
 
--- a number of so many bits with one more
+-- a number of some bits, with one more
 abbrev pub longer_number : BitOrder → ℕ → ℕ → ℕ → ℕ
 longer_number Msb count number digit = 2 * number + digit
 longer_number Lsb count number digit = number + digit * 2 ^ count
 
--- the data of a line after one bit more, behind so many bits that made this number
+-- the data of a line after one more bit, where the bits before gave this number
 abbrev pub number_after : BitOrder → ℕ → ℕ → Option ℕ → LineData
 number_after order count number None = Unknown
 number_after order count number (Some digit) = Number (longer_number order count number digit)
 
--- what a data line shows with one more bit, none where it is absent
+-- the data of a line after one more bit; none where it is absent
 abbrev pub data_after : BitOrder → ℕ → LineData → Option Bit → LineData
 data_after order count Absent bit = Absent
 data_after order count Unknown bit = Unknown
 data_after order count (Number n) None = Number n
 data_after order count (Number n) (Some b) = number_after order count n (digit_of b)
 
--- what it shows before the first bit
+-- the data of a line before the first bit
 abbrev pub data_before : LineData → LineData
 data_before Absent = Absent
 data_before Unknown = Number 0
 data_before (Number n) = Number 0
 
--- what a data line shows before the first bit
+-- the data of a line before the first bit, by whether it is present
 abbrev pub first_data : Bool → LineData
 first_data false = Absent
 first_data true = Number 0
 
--- a number of so many bits fits them
+-- a number fits its bits
 abbrev pub DataFits : ℕ → LineData → Type 0
 DataFits count Absent = Unit {0}
 DataFits count Unknown = Unit {0}
@@ -74,7 +74,7 @@ group_after order g e = record {
   miso = data_after order g.count g.miso (line_bit e.at 2);
 }
 
--- a whole word, and the bits of one that is not ended
+-- the annotation of a whole word
 abbrev pub word_annotation : Group → Annotation
 word_annotation g = annotation g.start g.last (Word g.mosi g.miso)
 

@@ -1,4 +1,4 @@
--- How edges are walked for words of SPI: what each tells, and the group of bits after it.
+-- The walk over edges for SPI words: the annotations of each edge, and the group of bits after it.
 use Rattle.std.specs.Prelude.{ℕ, ◌≡◌, ◌+◌, ◌==◌, ◌<◌, ◌&&◌, nat_lt, Bool, true, not, if◌then◌else◌, Option, Some, None}
 use Rattle.std.specs.Prelude.{List, [], ◌∷◌, ◌++◌, length}
 use Rattle.std.specs.List.{flat_map, AllByRecursion}
@@ -14,14 +14,14 @@ use Rattle.vcd_decode.specs.inside.SpiClock.{samples}
 use Rattle.vcd_decode.specs.inside.SpiGroup.{line_bit, DataFits, group_before, group_after, word_annotation}
 use Rattle.vcd_decode.specs.inside.SpiGroup.{rest_annotation}
 
--- ---- what an edge is
+-- ---- the tests of an edge
 
 -- whether the chip is selected by the bit of its line
 abbrev pub selects : Option Bit → Bool
 selects None = true
 selects (Some b) = is_zero b
 
--- whether the chip is selected no more
+-- whether the chip is deselected
 abbrev pub deselects : BitEdge → Bool
 deselects e = selects (line_bit e.before 3) && not (selects (line_bit e.at 3))
 
@@ -29,7 +29,7 @@ deselects e = selects (line_bit e.before 3) && not (selects (line_bit e.at 3))
 abbrev pub is_sampling : SpiSetup → BitEdge → Bool
 is_sampling u e = selects (line_bit e.at 3) && samples u.mode (line_bit e.before 0) (line_bit e.at 0)
 
--- ---- what an edge tells, and the group after it
+-- ---- the annotations of an edge, and the group after it
 
 -- the group has room for one more bit
 pub record HasRoomForBit (u : SpiSetup) (g : Group) : Type 0 where
@@ -37,11 +37,11 @@ pub record HasRoomForBit (u : SpiSetup) (g : Group) : Type 0 where
   pub mosi : DataFits g.count g.mosi
   pub miso : DataFits g.count g.miso
 
--- what a group tells that is not ended
+-- the annotations of an unfinished group
 abbrev pub annotations_at_rest : Group → List Annotation
 annotations_at_rest g = if g.count == 0 then [] else rest_annotation g ∷ []
 
--- what an edge tells where the chip stays as it is
+-- the annotations of an edge where the chip's selection does not change
 abbrev pub annotations_at_bit : SpiSetup → Group → BitEdge → List Annotation
 annotations_at_bit u g e =
     if not (is_sampling u e) then []
@@ -55,7 +55,7 @@ bit_group u g e =
     else (if nat_lt (g.count + 1) u.bits then group_after u.order g e
     else group_before (group_after u.order g e))
 
--- the same of any edge
+-- the annotations of any edge
 abbrev pub annotations_at_edge : SpiSetup → Group → BitEdge → List Annotation
 annotations_at_edge u g e = if deselects e then annotations_at_rest g else annotations_at_bit u g e
 
@@ -75,11 +75,11 @@ group_of u mosi miso ticks = record {
   miso = line_data u.order miso ticks;
 }
 
--- what an edge is: a sampling tick, or none where the chip is selected no more
+-- the mark of an edge: a sampling tick, or none where the chip is deselected
 unfoldable pub edge_marks : SpiSetup → BitEdge → List (Option ℕ)
 edge_marks u e = if deselects e then None ∷ [] else (if is_sampling u e then Some e.tick ∷ [] else [])
 
--- what marks tell, behind some ticks of the segment
+-- the annotations of marks, after some ticks of the segment
 unfoldable pub annotations_at_marks : SpiSetup → Option (ℕ → Bit) → Option (ℕ → Bit) → List ℕ → List (Option ℕ)
     → List Annotation
 annotations_at_marks u mosi miso ticks [] = segment_annotations u mosi miso ticks
@@ -87,7 +87,8 @@ annotations_at_marks u mosi miso ticks (None ∷ marks) =
     segment_annotations u mosi miso ticks ++ annotations_at_marks u mosi miso [] marks
 annotations_at_marks u mosi miso ticks (Some t ∷ marks) = annotations_at_marks u mosi miso (ticks ++ t ∷ []) marks
 
--- what is told and what is left tell all: the group is that of the ticks of a segment that are no whole word yet
+-- the annotations so far and those to come are all annotations: the group has the ticks of a segment that are no whole
+-- word yet
 pub record SpiProgress (u : SpiSetup) (clk : ℕ → Bit) (mosi miso cs : Option (ℕ → Bit)) (all found : List Annotation)
     (group : Group) (left : List BitEdge) : Type 0 where
   pub ticks : List ℕ

@@ -14,16 +14,19 @@ use crate::i2c_bus::transfer::{Transfer, take_event};
 use std::alloc::Global;
 use vcd_core::{Bit, BitEdge, BitEdges, NoMemory, Wave};
 
-/// What an I2C bus carries on its lines `scl` and `sda` up to the tick `end` (UM10204, 3.1): START and
-/// STOP conditions at their ticks, and each byte of seven or ten address bits or of data from its first
-/// to its eighth bit, with the acknowledge behind it. A line that is z is high.
+/// The annotations of an I2C bus with the lines `scl` and `sda`, up to the tick `end` (UM10204,
+/// 3.1).
 ///
-/// A byte or an acknowledge with an x is `Unknown`. Bits that a condition cuts off are `PartialOf`, where
-/// there are two at least: SCL rises once before each condition. Those that the capture's end cuts off
-/// are not told.
+/// START and STOP conditions are at their ticks. Each byte is seven or ten address bits or data. It
+/// is annotated from its first to its eighth bit, and its acknowledge follows it. A line that is z
+/// is high.
 ///
-/// One walk over the changes of both lines, a constant number of steps and at most two annotations for
-/// each; the memory is that of the annotations.
+/// A byte or an acknowledge with an x is `Unknown`. Bits that a condition cuts off are `PartialOf`
+/// where there are at least two, since SCL rises once before each condition. Bits that the
+/// capture's end cuts off give no annotation.
+///
+/// It is one walk over the changes of both lines, with a constant number of steps and at most two
+/// annotations for each. The memory is that of the annotations; it may run out of memory.
 pub fn i2c<'a>(
     alloc: Global,
     scl: &'a Wave,
@@ -53,7 +56,7 @@ fn annotations_of(alloc: Global, edges: BitEdges) -> Result<Vec<Annotation>, NoM
     Ok(found)
 }
 
-/// Appends what an edge brings, and answers the transfer behind it.
+/// Appends the annotations of an edge. Returns the transfer after it.
 fn take_line_edge(
     found: &mut Vec<Annotation>,
     bus: Option<Transfer>,

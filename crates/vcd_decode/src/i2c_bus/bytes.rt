@@ -1,4 +1,4 @@
-//! Bytes and how they are read, and the bits of one that are at hand.
+//! The roles of bytes, and the bits of the current byte.
 
 ghost use Rattle.std.specs.Prelude.{◌≡◌, ◌<◌, IfSome};
 ghost use Rattle.vcd_decode.specs.BusBytes as spec;
@@ -8,20 +8,21 @@ use crate::annotation::{Direction, Kind};
 use crate::i2c_bus::events::{BusBit, is_line_high};
 use crate::letters::is_zero;
 
-/// What a byte is.
+/// The role of a byte.
 #[derive(Clone, Copy)]
 pub(super) enum ByteRole {
-    /// The byte behind a START, with the address of ten bits that the bits just before that START
+    /// The byte after a START, with the address of ten bits that the bits just before that START
     /// gave.
     Address(Option<u16>),
-    /// The second byte of an address of ten bits, with the two high bits.
+    /// The second byte of an address of ten bits, with the two high bits of the first.
     AddressLow(u8),
-    /// A byte behind an address.
+    /// A byte after an address.
     Data,
 }
 
-/// The bits of a byte that are at hand: how many, the ticks of the first and the last, and the
-/// number that they make, the most significant first: none where one is neither high nor low.
+/// The bits of the current byte: their number, the ticks of the first and the last, and their
+/// number as a value, most significant bit first. The value is none where a bit is neither high nor
+/// low.
 #[derive(Clone, Copy)]
 pub(super) struct PartByte {
     pub(super) count: u64,
@@ -44,7 +45,7 @@ impl PartByte {
         }
     }
 
-    /// With one more bit, of eight at most.
+    /// These bits and one more. There are eight at most.
     pub(super) fn with(self, bit: BusBit) -> PartByte
         requires part { IsPart self }
         requires few { self.count < 8 }
@@ -64,7 +65,7 @@ impl PartByte {
     }
 }
 
-/// A number with one more bit behind it.
+/// A number with one more bit at its low end.
 pub(super) fn number_with(number: Option<u8>, bit: BusBit) -> Option<u8>
     requires { IfSome number (λ n. n < 128) }
     ensures { result ≡ spec.number_with number bit }
@@ -79,7 +80,7 @@ pub(super) fn number_with(number: Option<u8>, bit: BusBit) -> Option<u8>
     None
 }
 
-/// The kind of a byte, none where a bit of it is neither high nor low.
+/// The kind of a byte. The byte is none where one of its bits is neither high nor low.
 pub(super) fn byte_kind(role: ByteRole, byte: Option<u8>) -> Kind
     ensures { result ≡ spec.byte_kind role byte }
 {
@@ -96,7 +97,7 @@ pub(super) fn byte_kind(role: ByteRole, byte: Option<u8>) -> Kind
     }
 }
 
-/// What the byte behind a byte is.
+/// The role of the byte after a byte.
 pub(super) fn role_after(role: ByteRole, byte: Option<u8>) -> ByteRole
     ensures { result ≡ spec.role_after role byte }
 {
@@ -118,7 +119,8 @@ fn role_after_address(byte: u8) -> ByteRole
     }
 }
 
-/// The kind of the byte behind a START, with the address of ten bits that the bits before it gave.
+/// The kind of the byte after a START, with the address of ten bits that the bits before the START
+/// gave.
 fn address_kind(given: Option<u16>, byte: u8) -> Kind
     ensures { result ≡ spec.address_kind given byte }
 {
@@ -143,7 +145,7 @@ fn ten_bit_kind(given: Option<u16>, bits: u8, direction: Direction) -> Kind
     }
 }
 
-/// What the last bit of an address says.
+/// The direction in the last bit of an address.
 fn direction_of(byte: u8) -> Direction
     ensures { result ≡ spec.direction_of byte }
 {

@@ -1,4 +1,4 @@
-//! What the two lines of a bus do: conditions and bits.
+//! The events on the two lines of a bus: conditions and bits.
 
 ghost use Rattle.std.specs.Prelude.{◌≡◌};
 ghost use Rattle.vcd_decode.specs.BusEvents as spec;
@@ -20,7 +20,7 @@ pub(super) struct BusBit {
     pub(super) level: Bit,
 }
 
-/// What the lines do at a tick.
+/// An event on the lines at a tick.
 #[derive(Clone, Copy)]
 pub(super) enum BusEvent {
     Start(u64),
@@ -35,7 +35,7 @@ pub(super) fn is_line_high(level: Bit) -> bool
     matches!(level, Bit::One | Bit::Z)
 }
 
-/// What the lines do at a tick, by their levels just before it and at it.
+/// The event on the lines at a tick, by their levels just before it and at it.
 pub(super) fn bus_event(tick: u64, before: BusLevels, at: BusLevels) -> Option<BusEvent>
     ensures { result ≡ spec.bus_event tick before at }
 {

@@ -1,4 +1,4 @@
-//! That annotations come where there is memory: no clause says it.
+//! Tests that annotations are given where there is memory: no clause states it.
 
 use crate::{Annotation, Direction, Kind, i2c};
 use std::test::Fail;

@@ -1,4 +1,4 @@
-//! A bus between two events, and the annotations that an event brings.
+//! The state of a bus between two events, and the annotations of an event.
 
 ghost use Rattle.std.specs.Prelude.{◌≡◌, ◌++◌, ◌∷◌, [], ◌<◌, IfOk, OnOk};
 ghost use Rattle.vcd_decode.specs.Lines.{annotation};
@@ -11,18 +11,18 @@ use crate::i2c_bus::bytes::{
 use crate::i2c_bus::events::{BusBit, BusEvent};
 use vcd_core::NoMemory;
 
-/// What stands since the last START, where no STOP came behind it.
+/// The state since the last START, where no STOP came after it.
 #[derive(Clone, Copy)]
 pub(super) struct Transfer {
-    /// What the byte at hand is.
+    /// The role of the current byte.
     pub(super) role: ByteRole,
-    /// The bits at hand, at most eight.
+    /// The bits of the current byte, at most eight.
     pub(super) part: PartByte,
     /// The address of ten bits that came since the START.
     pub(super) address: Option<u16>,
 }
 
-/// Appends what an event brings, and answers the transfer behind it.
+/// Appends the annotations of an event. Returns the transfer after it.
 pub(super) fn take_event(
     found: &mut Vec<Annotation>,
     bus: Option<Transfer>,
@@ -49,7 +49,7 @@ pub(super) fn take_event(
     }
 }
 
-/// Appends what a bit brings.
+/// Appends the annotations of a bit.
 fn take_bit(
     found: &mut Vec<Annotation>,
     bus: Option<Transfer>,
@@ -70,7 +70,7 @@ fn take_bit(
     Ok(Some(end_byte(found, transfer, bit)?))
 }
 
-/// One more bit of the byte at hand.
+/// The transfer with one more bit of the current byte.
 fn transfer_with_bit(transfer: Transfer, bit: BusBit) -> Transfer
     requires part { walk.IsPart transfer.part }
     requires few { transfer.part.count < 8 }
@@ -84,7 +84,7 @@ fn transfer_with_bit(transfer: Transfer, bit: BusBit) -> Transfer
     }
 }
 
-/// Appends the byte at hand and its acknowledge.
+/// Appends the current byte and its acknowledge.
 fn end_byte(
     found: &mut Vec<Annotation>,
     transfer: Transfer,
@@ -106,7 +106,8 @@ fn end_byte(
     })
 }
 
-/// Appends the bits at hand where a condition comes: one alone is the rise of SCL before it.
+/// Appends the current bits where a condition comes. A single bit is the rise of SCL before the
+/// condition, and gives nothing.
 fn append_rest(found: &mut Vec<Annotation>, bus: Option<Transfer>) -> Result<(), NoMemory>
     ensures { OnOk result (found.new.items ≡ found.old.items ++ walk.left_annotations bus) }
 {

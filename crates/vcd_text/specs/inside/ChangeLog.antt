@@ -1,4 +1,4 @@
--- The changes that waves do not have yet, and what they make of the waves.
+-- The changes that waves do not have yet, and the waves with these changes.
 use Rattle.std.specs.Prelude.{◌≡◌, ℕ, ◌+◌, ◌%◌, ◌<◌, ◌≤◌, ◌==◌, if◌then◌else◌, nat_le, List, [], ◌∷◌, ◌++◌, length, set}
 use Rattle.std.specs.Prelude.{slice_get, All, Some}
 use Rattle.std.specs.List.{filter}
@@ -17,7 +17,7 @@ use Rattle.vcd_text.specs.declared.reading.variables.Variable.{Variable}
 abbrev pub logged_letters : ℕ → LoggedChange → List Bit
 logged_letters width e = letters_of width (e.low ∷ []) (e.high ∷ [])
 
--- the value at a tick, where these changes come behind a value
+-- the value at a tick, where these changes come after a value
 abbrev pub value_after_changes : ℕ → ℕ → List Bit → List LoggedChange → List Bit
 value_after_changes width t before [] = before
 value_after_changes width t before (e ∷ es) =
@@ -28,7 +28,7 @@ abbrev pub RisesTo : (floor tick : ℕ) → List LoggedChange → Type 0
 RisesTo floor tick [] = floor ≤ tick
 RisesTo floor tick (e ∷ es) = (floor ≤ e.tick) × RisesTo e.tick tick es
 
--- a wave with changes of the log behind its own has the values of f, and no change is past the tick
+-- a wave followed by changes of the log has the values of f, and no change is past the tick
 pub record GivesLoggedValues (width tick : ℕ) (f : ℕ → List Bit) (changes : List Change)
     (following : List LoggedChange) : Type 0 where
   pub floor : ℕ
@@ -43,7 +43,7 @@ pub record GivesLoggedValues (width tick : ℕ) (f : ℕ → List Bit) (changes 
 abbrev pub changes_of_position : ℕ → List LoggedChange → List LoggedChange
 changes_of_position position group = filter (λ (e : LoggedChange). e.position == position) group
 
--- the same of all groups
+-- the same for all groups
 abbrev pub logged : List (Vec LoggedChange) → ℕ → List LoggedChange
 logged [] position = []
 logged (g ∷ gs) position = changes_of_position position g.items ++ logged gs position
@@ -53,7 +53,7 @@ abbrev pub AreGrouped : ℕ → List (Vec LoggedChange) → Type 0
 AreGrouped index [] = Unit {0}
 AreGrouped index (g ∷ gs) = All (λ (e : LoggedChange). e.position % GROUPS ≡ index) g.items × AreGrouped (index + 1) gs
 
--- ---- what waves take of the log
+-- ---- the changes that waves take from the log
 
 -- a variable can take a change of the log
 pub record CanTake (kept : List Variable) (e : LoggedChange) : Type 0 where
@@ -62,7 +62,7 @@ pub record CanTake (kept : List Variable) (e : LoggedChange) : Type 0 where
   pub narrow : before.signal.wave.width ≤ 64
   pub late : All (λ (c : Change). c.tick ≤ e.tick) before.signal.wave.changes
 
--- a variable is what it was, but for the changes of its wave
+-- two variables are the same but for the changes of their waves
 pub record IsSameVariable (old new : Variable) : Type 0 where
   pub code : new.code ≡ old.code
   pub scopes : new.signal.scopes ≡ old.signal.scopes
@@ -71,7 +71,7 @@ pub record IsSameVariable (old new : Variable) : Type 0 where
   pub width : new.signal.wave.width ≡ old.signal.wave.width
   pub first : new.first ≡ old.first
 
--- it has taken it
+-- the variable with a change of the log applied
 pub record AppliesToVariable (e : LoggedChange) (old new : Variable) : Type 0 where
   pub same : IsSameVariable old new
   pub last : All (λ (c : Change). c.tick ≤ e.tick) new.signal.wave.changes
@@ -79,7 +79,7 @@ pub record AppliesToVariable (e : LoggedChange) (old new : Variable) : Type 0 wh
       ≡ (if nat_le e.tick t then logged_letters old.signal.wave.width e else value_at old.signal.wave.width
       old.signal.wave.changes t)
 
--- one of these variables has
+-- the variables with a change of the log applied to one
 pub record AppliesLogged (e : LoggedChange) (old new : List Variable) : Type 0 where
   pub before : Variable
   pub after : Variable
@@ -87,20 +87,20 @@ pub record AppliesLogged (e : LoggedChange) (old new : List Variable) : Type 0 w
   pub takes : AppliesToVariable e before after
   pub others : new ≡ set old e.position after
 
--- the variables can take what the log has for each
+-- the variables can take their changes of the log
 abbrev pub CanFlush : List Variable → (ℕ → List LoggedChange) → Type 0
 CanFlush kept log =
     (position : ℕ) → 0 < length (log position)
     → (v : Variable) × (slice_get kept position ≡ Some v) × (tick : ℕ) × (f : ℕ → List Bit)
     × GivesLoggedValues v.signal.wave.width tick f v.signal.wave.changes (log position)
 
--- a variable is what it was, and its wave with what is left of the log has the values that it had
+-- the variable is the same, and its wave with the rest of the log has the same values
 pub record FlushesOne (old new : Variable) (log rest : List LoggedChange) : Type 0 where
   pub same : IsSameVariable old new
   pub gives : (tick : ℕ) (f : ℕ → List Bit) → GivesLoggedValues old.signal.wave.width tick f old.signal.wave.changes log
       → GivesLoggedValues new.signal.wave.width tick f new.signal.wave.changes rest
 
--- the variables have taken what is no more left of the log
+-- the variables have taken the changes that are no longer in the log
 pub record FlushesLog (old new : List Variable) (log rest : ℕ → List LoggedChange) : Type 0 where
   pub long : length new ≡ length old
   pub each : (position : ℕ) (v : Variable) → slice_get old position ≡ Some v

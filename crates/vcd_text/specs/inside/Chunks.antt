@@ -1,5 +1,4 @@
--- Where the reading of a file stands that comes in chunks: the words that are sure have been taken, and a word that may
--- go on is kept.
+-- The progress of reading a file in chunks: the complete words have been taken, and a word that can go on is kept.
 use Rattle.std.specs.Prelude.{◌≡◌, ◌⊎◌, ℕ, ◌+◌, ◌≤◌, Bool, true, not, List, ◌++◌, length, Option, Result, Ok, Err}
 use Rattle.std.specs.List.{list_all}
 use Rattle.std.specs.Io.KnownBytes.{Consumes}
@@ -13,8 +12,7 @@ use Rattle.vcd_text.specs.Faults.{FrontFault}
 use Rattle.vcd_text.specs.Refusals.{memory_error}
 use Rattle.vcd_text.specs.inside.Reading.{Reads}
 
--- of the bytes that have come, the words that white space follows have been taken; the others are those of a word that
--- may go on
+-- of these bytes, the words that white space follows have been taken; the others are those of a word that can go on
 pub record HasTaken (m : Reader) (word : List ℕ) (passed left : ℕ) (bytes : List ℕ) : Type 0 where
   pub reads : Reads m (closed_words bytes)
   pub following : (whole : Bool) (rest : List ℕ)
@@ -24,15 +22,15 @@ pub record HasTaken (m : Reader) (word : List ℕ) (passed left : ℕ) (bytes : 
   pub lines : last_line bytes ≡ passed + 1
   pub room : length bytes + left ≡ FILE_LIMIT
 
--- so far these bytes have come
+-- these bytes have been consumed so far
 abbrev pub HasConsumed : Progress → List ℕ → Type 0
 HasConsumed p bytes = HasTaken p.reader p.buffer.bytes p.passed p.left bytes
 
--- of bytes that may be known these are left, and what came between has been taken
+-- of the source's bytes, where it shows them, these are left, and those between have been consumed
 abbrev pub ProgressMatches : Option (List ℕ) → Option (List ℕ) → Progress → Type 0
 ProgressMatches coming left p = (bytes : List ℕ) × Consumes coming left bytes × HasConsumed p bytes
 
--- a chunk stands behind the word that may go on, which has so many bytes; with it these bytes have come
+-- a chunk was read after the word that can go on, which has this number of bytes; these are all bytes so far
 pub record HasCome (p : Progress) (from : ℕ) (bytes : List ℕ) : Type 0 where
   pub before : List ℕ
   pub word : List ℕ
@@ -42,7 +40,7 @@ pub record HasCome (p : Progress) (from : ℕ) (bytes : List ℕ) : Type 0 where
   pub len : from ≡ length word
   pub all : bytes ≡ before ++ chunk
 
--- the words that are sure now have been taken, or one shows a fault, or memory has run out
+-- the words that are now complete have been taken, or one shows a fault, or memory has run out
 abbrev pub TakesChunk : List ℕ → Result (Unit {0}) ReadError → Progress → Type 0
 TakesChunk bytes (Ok x) new = HasConsumed new bytes
 TakesChunk bytes (Err e) new = (e ≡ memory_error) ⊎ FrontFault bytes e.line e.fault

@@ -11,7 +11,7 @@ use Rattle.vcd_text.specs.Letters.{is_among}
 abbrev pub digits_of : List ℕ → ℕ → List ℕ
 digits_of digits k = let end = length digits - 64 * k in slice_range digits (end - 64) end
 
--- the letter at bit k of a text, with this letter in the place of those that are wanting on the left
+-- the letter at bit k of a text, or this letter where the text is too short
 abbrev pub letter_or : Bit → List Bit → ℕ → Bit
 letter_or pad s k = if nat_lt k (length s) then letter_at s k else pad
 
@@ -20,7 +20,7 @@ pub record HoldsLetters (pad : Bit) (s : List Bit) (lows highs : ℕ) : Type 0 w
   pub low : (i : ℕ) → i < 64 → bit_at lows i ≡ low_of (letter_or pad s i)
   pub high : (i : ℕ) → i < 64 → bit_at highs i ≡ high_of (letter_or pad s i)
 
--- letters go below those that two words hold, whichever these are and whatever is wanting
+-- letters are added at the low end of two words, whatever these hold and whatever extends them
 abbrev pub AddsLetters : List Bit → ℕ → ℕ → ℕ → ℕ → Type 0
 AddsLetters more lows highs lows' highs' = (pad : Bit) (s : List Bit) → HoldsLetters pad s lows highs
     → HoldsLetters pad (s ++ more) lows' highs'

@@ -6,8 +6,8 @@ use Rattle.vcd_core.specs.declared.wave.Change.{Change}
 use Rattle.vcd_text.specs.declared.writing.kept_changes.KeptChange.{KeptChange}
 use Rattle.vcd_text.specs.inside.KeptChanges.{KeepsChange}
 
--- so many changes come before a tick, and no other before that of the next one, which is the one behind them; its tick
--- is past all ticks where there is none
+-- `place` changes are before a tick, and no other before that of the next one, which follows them; its tick is past all
+-- ticks where there is none
 pub record IsNext (from : ℕ) (changes : List Change) (next : KeptChange) : Type 0 where
   pub place : next.place ≡ count_by (λ c. nat_le c.tick (from - 1)) changes
   pub quiet : count_by (λ c. nat_lt c.tick next.tick) changes ≤ next.place

@@ -1,4 +1,4 @@
--- What is known of the open item from its kind: whether `$end` closes it, and which line a fault of its words bears.
+-- The kind of the open item: whether `$end` closes it, and the line of a fault of its words.
 use Rattle.std.specs.Prelude.{ℕ, Bool, true, false}
 use Rattle.vcd_text.specs.declared.reading.reader.OpenItem.{OpenItem}
 use Rattle.vcd_text.specs.declared.reading.reader.OpenItem.TheVariants as items

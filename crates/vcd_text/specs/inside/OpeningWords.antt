@@ -1,4 +1,4 @@
--- Which item a word opens among the declarations.
+-- The item that a word opens among the declarations.
 use Rattle.std.specs.Prelude.{◌≡◌, ℕ, Bool, true, false, List, IsTrue, codes}
 use Rattle.vcd_text.specs.Items.{header_word, is_other}
 use Rattle.vcd_text.specs.declared.reading.reader.OpenItem.{OpenItem}

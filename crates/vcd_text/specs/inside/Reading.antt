@@ -1,5 +1,4 @@
--- What the reader holds while it takes one word after another: what the whole items so far have told, and the words of
--- the item that is open.
+-- The state of the reader between two words: the state after the whole items, and the words of the open item.
 use Rattle.std.specs.Prelude.{◌≡◌, ◌⊎◌, ℕ, ◌+◌, ◌<◌, ◌^◌, Bool, true, false, ◌&&◌, List, [], ◌∷◌, ◌++◌, length}
 use Rattle.std.specs.Prelude.{if◌then◌else◌, IsTrue, IsFalse, Result, Ok, Err, codes}
 use Rattle.vcd_text.specs.declared.fault.Fault.{Fault}
@@ -25,7 +24,7 @@ use Rattle.vcd_text.specs.declared.reading.reader.OpenItem.TheVariants as items
 
 -- ---- the state
 
--- the reader holds what has been told
+-- the reader has the state after the items
 pub record ReaderMatches (m : Reader) (c : ParseState) : Type 0 where
   pub header : m.header.items ≡ c.header
   pub timescale : m.timescale ≡ c.timescale
@@ -35,7 +34,7 @@ pub record ReaderMatches (m : Reader) (c : ParseState) : Type 0 where
   pub variables : VariablesMatch m.variables c
   pub silent : IsFalse c.changing → c.value_changes ≡ []
 
--- a declaration is open whose words behind the keyword the reader keeps
+-- a declaration is open, and the reader keeps its words after the keyword
 pub record Collects (m : Reader) (begun : List PlacedWord) (keyword : List ℕ) : Type 0 where
   pub declares : IsFalse m.changing
   pub spelled : word_texts begun ≡ keyword ∷ m.words.items
@@ -49,7 +48,7 @@ pub record PassesOver (m : Reader) (begun : List PlacedWord) : Type 0 where
   pub other : IsTrue (is_other m.changing keyword)
   pub no_end : IsTrue (has_no_end_word words)
 
--- a change of two words is open, the first of which has one of these letters and then this text
+-- a change of two words is open, whose first word has one of these letters and then this text
 pub record AwaitsCode (m : Reader) (begun : List PlacedWord) (letters text : List ℕ) : Type 0 where
   pub changes : IsTrue m.changing
   pub word : PlacedWord
@@ -59,7 +58,7 @@ pub record AwaitsCode (m : Reader) (begun : List PlacedWord) (letters text : Lis
   pub among : IsTrue (is_among letters letter)
   pub line : m.line ≡ word.line
 
--- these words of the item that is open have been taken
+-- these words of the open item have been taken
 abbrev pub IsBegun : Reader → List PlacedWord → OpenItem → Type 0
 IsBegun m begun items.Nothing = begun ≡ []
 IsBegun m begun (items.Entry kind) = Collects m begun (header_word kind)
@@ -72,19 +71,19 @@ IsBegun m begun items.Other = PassesOver m begun
 IsBegun m begun items.Vector = AwaitsCode m begun vector_prefixes m.text.items
 IsBegun m begun items.Dropped = (text : List ℕ) × AwaitsCode m begun dropped_prefixes text
 
--- behind whole items that have told this, these words of an open item have been taken
+-- the whole items gave this state, and these words of an open item have been taken
 abbrev pub IsAtState : Reader → ParseState → List PlacedWord → Type 0
 IsAtState m c begun = ReaderMatches m c × IsBegun m begun m.item
 
 -- ---- one word
 
--- a word goes on with the open item, or ends it, which then gets what it asks for
+-- a word goes on with the open item, or ends it, and its conditions hold
 pub data WordStep (c : ParseState) (begun : List PlacedWord) (new : Reader) : Type 0 where
   goes_on : IsAtState new c begun → WordStep c begun new
   ends_item : (i : Item) → spelling i ≡ word_texts begun → Allows c i → IsAtState new (state_after_item c i) []
       → WordStep c begun new
 
--- what comes of a word: it is taken, or shows a fault, or memory runs out
+-- the result of a word: it is taken, or shows a fault, or memory runs out
 abbrev pub WordResult : Reader → PlacedWord → Result (Unit {0}) Fault → Reader → Type 0
 WordResult old w (Ok x) new = (c : ParseState) (begun : List PlacedWord) → IsAtState old c begun
     → WordStep c (begun ++ w ∷ []) new
@@ -105,32 +104,32 @@ pub record Reads (m : Reader) (words : List PlacedWord) : Type 0 where
   pub tells : state_after initial_state items ≡ told
   pub at : IsAtState m told begun
 
--- some words have been taken, fewer than a number of 64 bits can count
+-- some words have been taken, fewer than 64 bits can count
 pub record IsUnderway (m : Reader) : Type 0 where
   pub words : List PlacedWord
   pub reads : Reads m words
   pub few : length words < 2 ^ 63
 
--- whether a fault is want of memory
+-- whether a fault is out of memory
 abbrev pub is_want_of_memory : Fault → Bool
 is_want_of_memory NoMemory = true
 is_want_of_memory fault = false
 
--- a fault with its line; want of memory has none
+-- a fault with its line; out of memory has none
 abbrev pub error_at : ℕ → Fault → ReadError
 error_at line fault = if is_want_of_memory fault then memory_error else record { line = line; fault = fault }
 
--- these words more have been taken, or one of them shows a fault whatever follows, or memory has run out
+-- these further words have been taken, or one of them shows a fault whatever follows, or memory has run out
 abbrev pub WordsResult : Reader → List PlacedWord → Result (Unit {0}) ReadError → Reader → Type 0
 WordsResult old words (Ok x) new = (taken : List PlacedWord) → Reads old taken → Reads new (taken ++ words)
 WordsResult old words (Err e) new = (taken more : List PlacedWord) → Reads old taken
     → (e ≡ memory_error) ⊎ ShowsFault (taken ++ (words ++ more)) e.line e.fault
 
--- these words can be taken behind those that have been
+-- these words can be taken after those before
 abbrev pub HasRoomFor : Reader → List PlacedWord → Type 0
 HasRoomFor m words = (taken : List PlacedWord) × Reads m taken × (length taken + length words < 2 ^ 63)
 
--- all words of a list have been taken behind others, or one shows a fault, or memory has run out
+-- all words of a list have been taken after others, or one shows a fault, or memory has run out
 abbrev pub AllWordsResult : List PlacedWord → List PlacedWord → Result ℕ ReadError → Reader → Type 0
 AllWordsResult taken words (Ok passed) new = Reads new (taken ++ words)
 AllWordsResult taken words (Err e) new = (e ≡ memory_error) ⊎ ShowsFault (taken ++ words) e.line e.fault
@@ -139,7 +138,7 @@ AllWordsResult taken words (Err e) new = (e ≡ memory_error) ⊎ ShowsFault (ta
 abbrev pub is_complete : Reader → Bool
 is_complete m = m.changing && is_nothing m.item
 
--- as the next word, this one begins a change of several bits with these digits
+-- this word begins a change of several bits with these digits, as the next word
 pub record BeginsVector (m : Reader) (text digits : List ℕ) : Type 0 where
   pub between : m.item ≡ items.Nothing
   pub changes : IsTrue m.changing
@@ -147,7 +146,7 @@ pub record BeginsVector (m : Reader) (text digits : List ℕ) : Type 0 where
   pub spelled : text ≡ letter ∷ digits
   pub among : IsTrue (is_among vector_prefixes letter)
 
--- the file whose words have been taken means these contents, with so many variables skipped
+-- the file whose words have been taken means these contents, with this number of skipped variables
 pub record Means (m : Reader) (contents : Contents) (skipped : ℕ) : Type 0 where
   pub sound : (bytes : List ℕ) → Reads m (words_of bytes) → IsSound contents
   pub means : (bytes : List ℕ) → Reads m (words_of bytes) → FileMeans bytes contents skipped

@@ -1,4 +1,4 @@
--- The scopes that the reader holds: in chains, each scope in the one before it.
+-- The scopes of the reader, in chains: each scope is in the one before it.
 use Rattle.std.specs.Prelude.{◌≡◌, ℕ, ◌<◌, ◌≤◌, List, [], ◌∷◌, ◌++◌, length, take, map, slice_index_or, Option, Some}
 use Rattle.std.specs.Prelude.{None}
 use Rattle.vcd_core.specs.declared.capture.ScopeName.{ScopeName}
@@ -7,7 +7,7 @@ use Rattle.vcd_text.specs.Grammar.{VariableDeclaration, kept_variables}
 use Rattle.vcd_text.specs.declared.reading.scopes.ScopePlace.{ScopePlace}
 use Rattle.vcd_text.specs.declared.reading.scopes.Scopes.{Scopes}
 
--- all chains, the one of the open scopes last
+-- all chains, with that of the open scopes last
 abbrev pub chains_of : Scopes → List (List ScopeName)
 chains_of s = s.chains.items ++ s.chain.items ∷ []
 
@@ -19,18 +19,18 @@ chain_at chains k = slice_index_or chains k []
 abbrev pub scopes_at : List (List ScopeName) → ScopePlace → List ScopeName
 scopes_at chains p = take p.count (chain_at chains p.chain)
 
--- each place is one in these chains
+-- each place is in one of these chains
 abbrev pub AreWithin : List (List ScopeName) → List ScopePlace → Type 0
 AreWithin chains [] = Unit {0}
 AreWithin chains (p ∷ ps) = (p.chain < length chains) × (p.count ≤ length (chain_at chains p.chain))
     × AreWithin chains ps
 
--- each of these places that is one in the chain of this number has at most so many scopes
+-- each of these places in the chain of this number has at most `reach` scopes
 abbrev pub AreReached : (chain reach : ℕ) → List ScopePlace → Type 0
 AreReached chain reach [] = Unit {0}
 AreReached chain reach (p ∷ ps) = (p.chain ≡ chain → p.count ≤ reach) × AreReached chain reach ps
 
--- the reader holds the scopes that are open, and those of each variable that is kept of those declared
+-- the reader has the open scopes, and those of each kept variable among those declared
 pub record HoldsScopes (s : Scopes) (scopes : List ScopeName) (declared : List VariableDeclaration) : Type 0 where
   pub within : s.depth ≤ length s.chain.items
   pub inner : take s.depth s.chain.items ≡ scopes
@@ -39,12 +39,12 @@ pub record HoldsScopes (s : Scopes) (scopes : List ScopeName) (declared : List V
   pub paths : map (scopes_at (chains_of s)) s.places.items
       ≡ map (λ (d : VariableDeclaration). d.scopes) (kept_variables declared)
 
--- the scopes of a place, and none where there is no place
+-- the scopes of a place; none where there is no place
 abbrev pub scopes_of : List (List ScopeName) → Option ScopePlace → List ScopeName
 scopes_of chains None = []
 scopes_of chains (Some p) = scopes_at chains p
 
--- signals with the scopes of these places, in their order, and none behind the last place
+-- signals with the scopes of these places, in their order; none after the last place
 abbrev pub with_places : List (List ScopeName) → List SignalContents → List ScopePlace → List SignalContents
 with_places chains [] ps = []
 with_places chains (s ∷ ss) [] = record s { scopes = [] } ∷ with_places chains ss []

@@ -10,11 +10,11 @@ abbrev pub HasPlace : List ℕ → ℕ → Type 0
 HasPlace [] place = place ≡ 0
 HasPlace (b ∷ bs) place = (0 < b) × (b < 128) × ((rest : ℕ) × HasPlace bs rest × (place ≡ b + 128 * rest))
 
--- a number above 0 at the place of a code is one more than the position that the code stands for
+-- a number above 0 at the place of a code is one more than the position of the code
 abbrev pub TableAgrees : (List ℕ → Option CodeTarget) → List ℕ → Type 0
 TableAgrees target table = (code : List ℕ) (place number : ℕ) → HasPlace code place
     → slice_get table place ≡ Some number → 0 < number → target code ≡ Some (Kept (number - 1))
 
--- what a code stands for
+-- the target of a code
 abbrev pub code_target : {S : Type 0} → IndexMap (Vec ℕ) CodeTarget S → List ℕ → Option CodeTarget
 code_target codes code = get_by (λ key. bytes_eq code key.items) codes

@@ -1,4 +1,4 @@
--- Words behind the first of a line.
+-- The words of a line after the first.
 use Rattle.std.specs.Prelude.{ℕ, List, ◌∷◌}
 use Rattle.std.specs.List.{flat_map}
 

@@ -1,4 +1,4 @@
--- Where the walk over a text stands: at white space, or at a word.
+-- The state of the walk over a text: at white space, or at a word.
 use Rattle.std.specs.Prelude.{ℕ, Bool, true, false, List, [], ◌∷◌}
 use Rattle.vcd_core.specs.Word.{is_white_space}
 
@@ -7,7 +7,7 @@ abbrev pub begins_with_space : List ℕ → Bool
 begins_with_space [] = false
 begins_with_space (b ∷ bs) = is_white_space b
 
--- whether a text ends in white space, or is empty: nothing that follows it goes on with its last word
+-- whether a text ends in white space, or is empty: nothing after it goes on with its last word
 abbrev pub is_closed : List ℕ → Bool
 is_closed [] = true
 is_closed (b ∷ []) = is_white_space b

@@ -1,4 +1,4 @@
--- The text of a capture in parts: the declarations, the values at tick 0, and what comes after it.
+-- The text of a capture in parts: the declarations, the values at tick 0, and the rest.
 use Rattle.std.specs.Prelude.{ℕ, List, [], ◌++◌, codes}
 use Rattle.std.specs.List.{flat_map}
 use Rattle.vcd_core.specs.Contents.{Contents}

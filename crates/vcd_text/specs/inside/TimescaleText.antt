@@ -8,15 +8,15 @@ use Rattle.vcd_core.specs.declared.capture.TimeUnit.TheVariants.{Picosecond, Fem
 use Rattle.vcd_core.specs.TimeUnits.{unit_text}
 use Rattle.vcd_text.specs.Items.{timescales}
 
--- the timescale that a text spells, if it is one
+-- the timescale that a text spells, or none
 abbrev pub timescale_spelled : List ℕ → Option Timescale
 timescale_spelled text = find (λ t. bytes_eq text (decimal t.count ++ unit_text t.unit)) timescales
 
--- the unit that a text names, if it names one
+-- the unit that a text names, or none
 abbrev pub unit_named : List ℕ → Option TimeUnit
 unit_named text = find (λ unit. bytes_eq text (unit_text unit))
     (Second ∷ Millisecond ∷ Microsecond ∷ Nanosecond ∷ Picosecond ∷ Femtosecond ∷ [])
 
--- so many of a unit
+-- a count of a unit
 abbrev pub timescale_of_unit : ℕ → Option TimeUnit → Option Timescale
 timescale_of_unit count unit = option_map (λ u. record { count = count; unit = u }) unit

@@ -1,5 +1,5 @@
--- The changes of signals in a window of ticks: by tick, as the text lists them, and signal by signal, as waves hold
--- them.
+-- The changes of signals in a window of ticks: by tick, in the order of the text, and signal by signal, in the order of
+-- waves.
 use Rattle.std.specs.Prelude.{ℕ, zero, suc, ◌+◌, ◌==◌, if◌then◌else◌, List, [], ◌∷◌, ◌++◌, map, ◌&&◌, Bool, nat_le}
 use Rattle.std.specs.Prelude.{nat_lt, slice_index_or}
 use Rattle.std.specs.List.{filter, enumerate_from}
@@ -18,7 +18,7 @@ pub record Transition : Type 0 where
 abbrev pub transition_of : ℕ → ℕ → Transition
 transition_of tick position = record { tick = tick; position = position }
 
--- of signals, each with its position, those that differ at a tick from the tick before, in order
+-- the signals that differ at a tick from the tick before, each with its position, in order
 abbrev pub transitions_at : ℕ → List (ℕ × SignalContents) → List Transition
 transitions_at t placed = map (λ p. transition_of t p.0) (filter (λ p. differs_at t p.1) placed)
 
@@ -27,7 +27,7 @@ unfoldable pub transitions_from : List SignalContents → ℕ → ℕ → List T
 transitions_from signals t zero = []
 transitions_from signals t (suc n) = transitions_at t (enumerate_from 0 signals) ++ transitions_from signals (suc t) n
 
--- whether a tick is in a window of ticks: from the first up to before the other
+-- whether a tick is in a window of ticks: from the first to before the other
 abbrev pub is_in_window : ℕ → ℕ → ℕ → Bool
 is_in_window from to t = nat_le from t && nat_lt t to
 
@@ -46,7 +46,7 @@ unsorted_window from to position (s ∷ ss) =
 abbrev pub transition_value : List SignalContents → Transition → List Bit
 transition_value signals m = signal_value (slice_index_or signals m.position no_signal) m.tick
 
--- transitions with their values, and a stamp where the tick is another than the one before
+-- transitions with their values, and a stamp where the tick differs from the one before
 unfoldable pub transition_items : List SignalContents → ℕ → List Transition → List Item
 transition_items signals last [] = []
 transition_items signals last (m ∷ ms) =

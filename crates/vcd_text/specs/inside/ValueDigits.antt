@@ -1,4 +1,4 @@
--- What digits write as a value of a width, and why they may write none.
+-- The value of a width that digits write, and the reasons why they write none.
 use Rattle.std.specs.Prelude.{◌≡◌, ℕ, ◌<◌, ◌≤◌, List, length, IsTrue, IsFalse}
 use Rattle.vcd_core.specs.declared.bit.Bit.{Bit}
 use Rattle.vcd_text.specs.Letters.{letters_of_digits, extension}
@@ -11,7 +11,7 @@ abbrev pub WritesValue : ℕ → List ℕ → List Bit → Type 0
 WritesValue width digits value = IsTrue (is_binary_number digits) × (length digits ≤ width)
     × (value ≡ extension width (letters_of_digits digits))
 
--- the digits are looked at first, and then their number
+-- the digits are tested first, and then their number
 abbrev pub WritesNoValue : ℕ → List ℕ → BinaryNumberError → Type 0
 WritesNoValue width digits NoValue = IsFalse (is_binary_number digits)
 WritesNoValue width digits TooLong = IsTrue (is_binary_number digits) × (width < length digits)

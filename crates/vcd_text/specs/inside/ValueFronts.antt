@@ -1,4 +1,4 @@
--- What stands before the code on the line of a value.
+-- The part of a value's line before the code.
 use Rattle.std.specs.Prelude.{ℕ, Bool, ◌+◌, List, [], ◌∷◌, ◌++◌}
 use Rattle.std.specs.Int.{bit_at}
 use Rattle.vcd_core.specs.declared.bit.Bit.{Bit}
@@ -11,10 +11,10 @@ abbrev pub value_front : List Bit → List ℕ
 value_front (b ∷ []) = printed_letter b ∷ []
 value_front value = (98 ∷ []) ++ (printed_letters (short_form value) ++ 32 ∷ [])
 
--- the letter whose low and high bits stand at bit i of two words
+-- the letter whose low and high bits are at bit i of two words
 abbrev pub word_letter : ℕ → ℕ → ℕ → Bit
 word_letter low high i = letter_of (bit_at low i) (bit_at high i)
 
--- whether the extension puts the letter of bit i + 1 of two words on the left of that of bit i
+-- whether the extension restores the letter of bit i + 1 of two words from that of bit i
 abbrev pub is_spare_above : ℕ → ℕ → ℕ → Bool
 is_spare_above low high i = same_letter (pad_letter (word_letter low high i ∷ [])) (word_letter low high (i + 1))

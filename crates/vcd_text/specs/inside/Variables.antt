@@ -1,4 +1,4 @@
--- The variables of the reader, and what they hold of what a file has told.
+-- The variables of the reader, compared with the state of a file.
 use Rattle.std.specs.Prelude.{◌≡◌, ◌⊎◌, ℕ, ◌<◌, ◌≤◌, if◌then◌else◌, nat_le, List, [], ◌∷◌, ◌++◌, map, length, slice_get}
 use Rattle.std.specs.Prelude.{count_by, All, Option, Some, None, IsTrue, IsFalse, IsSomeAnd, Result, Ok, Err}
 use Rattle.vcd_core.specs.declared.capture.TheConstants.{SIGNAL_LIMIT}
@@ -24,13 +24,13 @@ use Rattle.vcd_text.specs.declared.reading.variables.CodeTarget.TheVariants.{Ski
 use Rattle.vcd_text.specs.declared.reading.variables.Variable.{Variable}
 use Rattle.vcd_text.specs.declared.reading.variables.Variables.{Variables}
 
--- ---- what the variables hold
+-- ---- the contents of the variables
 
--- what a code and a signal declare
+-- the declaration of a code and a signal
 abbrev pub declaration_by : (code : List ℕ) → Signal → VariableDeclaration
 declaration_by code s = record { scopes = s.scopes; kind = s.kind; size = s.wave.width; code = code; words = s.words }
 
--- what they declare in these scopes
+-- the declaration in these scopes
 abbrev pub declaration_in : List ScopeName → (code : List ℕ) → Signal → VariableDeclaration
 declaration_in scopes code s =
     record { scopes = scopes; kind = s.kind; size = s.wave.width; code = code; words = s.words }
@@ -39,16 +39,16 @@ declaration_in scopes code s =
 abbrev pub without_scopes : VariableDeclaration → VariableDeclaration
 without_scopes d = record d { scopes = [] }
 
--- what a kept variable of the reader declares
+-- the declaration of a kept variable of the reader
 abbrev pub declaration : Variable → VariableDeclaration
 declaration v = declaration_by v.code v.signal
 
--- what a code stands for
+-- the target of a code
 abbrev pub target_of : Variables → List ℕ → Option CodeTarget
 target_of vs code = code_target vs.code_targets.codes code
 
--- the variable of this code and size stands at this position, and its wave with the changes that the log has for it
--- follows the value changes, the last of which is at the tick or before
+-- the variable of this code and size is at this position, and its wave with its changes of the log follows the value
+-- changes, the last of which is at the tick or before
 pub record HasWave (vs : List Variable) (log : ℕ → List LoggedChange) (position : ℕ) (code : List ℕ) (size : ℕ)
     (value_changes : List ValueChange) (tick : ℕ) : Type 0 where
   pub first : Variable
@@ -58,7 +58,7 @@ pub record HasWave (vs : List Variable) (log : ℕ → List LoggedChange) (posit
   pub gives : GivesLoggedValues size tick (λ t. latest_value size code t (all_x size) value_changes)
       first.signal.wave.changes (log position)
 
--- what a code stands for agrees with the first variable that was declared with it
+-- the target of a code agrees with the first variable that was declared with it
 abbrev pub TargetMatches : List Variable → (ℕ → List LoggedChange) → List ValueChange → ℕ → List ℕ → Option CodeTarget
     → Option VariableDeclaration → Type 0
 TargetMatches vs log value_changes tick code None None = Unit {0}
@@ -67,18 +67,18 @@ TargetMatches vs log value_changes tick code (Some (Kept position)) (Some d) =
     IsFalse (is_skipped d) × HasWave vs log position code d.size value_changes tick
 TargetMatches vs log value_changes tick code target declared = ⊥
 
--- a kept variable knows the first one with its code, which stands no later and has the same size
+-- a kept variable has the position of the first one with its code, which is no later and has the same size
 pub record HasFirst (vs : Variables) (position : ℕ) (v : Variable) : Type 0 where
   pub owned : target_of vs v.code ≡ Some (Kept v.first)
   pub no_later : v.first ≤ position
   pub same_size : (w : Variable) → slice_get vs.kept.items v.first ≡ Some w → w.signal.wave.width ≡ v.signal.wave.width
 
--- the log has changes of variables alone that are the first of their code
+-- the log has changes only of variables that are the first of their code
 abbrev pub HasLogs : List Variable → (ℕ → List LoggedChange) → Type 0
 HasLogs vs log = (position : ℕ) → 0 < length (log position) → (v : Variable) × (slice_get vs position ≡ Some v)
     × (v.first ≡ position)
 
--- the variables hold what has been told of them: declarations without their scopes, and value changes up to the tick
+-- the variables match the state: declarations without their scopes, and value changes up to the tick
 pub record VariablesMatch (vs : Variables) (c : ParseState) : Type 0 where
   pub kept : map without_scopes (kept_variables c.declared) ≡ map declaration vs.kept.items
   pub skipped : vs.skipped ≡ count_by is_skipped c.declared
@@ -91,27 +91,27 @@ pub record VariablesMatch (vs : Variables) (c : ParseState) : Type 0 where
   pub grouped : AreGrouped 0 vs.log.groups.items
   pub logs : HasLogs vs.kept.items (logged vs.log.groups.items)
 
--- ---- what comes of a declaration
+-- ---- the result of a declaration
 
--- what has been told, with this declaration behind the others
+-- the state with this declaration added last
 abbrev pub with_declaration : ParseState → VariableDeclaration → ParseState
 with_declaration c d = record c { declared = c.declared ++ d ∷ [] }
 
--- the declaration may not stand here
+-- the declaration is not allowed here
 pub data CannotDeclare (c : ParseState) (d : VariableDeclaration) (fault : Fault) : Type 0 where
   mixed : IsFalse (may_have_code (variable_of c d.code) d) → fault ≡ faults.MixedCode → CannotDeclare c d fault
   many : IsTrue (may_have_code (variable_of c d.code) d) → IsFalse (has_room c.declared d)
       → fault ≡ faults.TooManySignals → CannotDeclare c d fault
 
--- what comes of a declaration: it is held beside the others, or may not stand here, or memory runs out
+-- the result of a declaration: it is added, or not allowed here, or memory runs out
 abbrev pub DeclaresAs : ParseState → VariableDeclaration → Result (Unit {0}) Fault → Variables → Type 0
 DeclaresAs c d (Ok x) new = IsTrue (may_have_code (variable_of c d.code) d) × IsTrue (has_room c.declared d)
     × VariablesMatch new (with_declaration c d)
 DeclaresAs c d (Err fault) new = (fault ≡ faults.NoMemory) ⊎ CannotDeclare c d fault
 
--- ---- what comes of a `$var`, at its `$end`
+-- ---- the result of a `$var`, at its `$end`
 
--- the words declare no variable that may stand here
+-- the words declare no variable that is allowed here
 pub data VariableFault (c : ParseState) (words : List (List ℕ)) (fault : Fault) : Type 0 where
   no_variable : declaration_of c words ≡ None → fault ≡ faults.BadVar → VariableFault c words fault
   code_mixed : (d : VariableDeclaration) → declaration_of c words ≡ Some d
@@ -121,7 +121,7 @@ pub data VariableFault (c : ParseState) (words : List (List ℕ)) (fault : Fault
       → IsTrue (may_have_code (variable_of c d.code) d) → IsFalse (has_room c.declared d)
       → fault ≡ faults.TooManySignals → VariableFault c words fault
 
--- what comes of the words: their variable is held beside the others, or they show a fault, or memory runs out
+-- the result of the words: their variable is added, or they show a fault, or memory runs out
 abbrev pub Declares : ParseState → List (List ℕ) → Result (Unit {0}) Fault → Variables → Type 0
 Declares c words (Ok x) new =
     IsSomeAnd (declaration_of c words) (λ d. IsTrue (may_have_code (variable_of c d.code) d)
@@ -129,7 +129,7 @@ Declares c words (Ok x) new =
     × VariablesMatch new (state_after_item c (variable words))
 Declares c words (Err fault) new = (fault ≡ faults.NoMemory) ⊎ VariableFault c words fault
 
--- ---- what comes of digits
+-- ---- the result of digits
 
 -- from the tick on a variable has the value of the digits
 pub record Sets (tick : ℕ) (digits : List ℕ) (old new : Variable) : Type 0 where
@@ -142,15 +142,15 @@ pub record Sets (tick : ℕ) (digits : List ℕ) (old new : Variable) : Type 0 w
       ≡ (if nat_le tick t then extension old.signal.wave.width (letters_of_digits digits) else value_at
       old.signal.wave.width old.signal.wave.changes t)
 
--- a variable of this width does not take the digits
+-- a variable of this width refuses the digits
 abbrev pub RefusesBinaryNumber : (width : ℕ) → List ℕ → Fault → Type 0
 RefusesBinaryNumber width digits fault =
     (IsFalse (is_binary_number digits) × (fault ≡ faults.BadChange))
     ⊎ (IsTrue (is_binary_number digits) × (width < length digits) × (fault ≡ faults.ValueTooLong))
 
--- ---- what comes of a change with these digits
+-- ---- the result of a change with these digits
 
--- the code is none, or its variable does not take the digits
+-- the code is not declared, or its variable refuses the digits
 pub data BinaryNumberFault (c : ParseState) (code digits : List ℕ) (fault : Fault) : Type 0 where
   unknown : variable_of c code ≡ None → fault ≡ faults.UnknownCode → BinaryNumberFault c code digits fault
   no_value : (d : VariableDeclaration) → variable_of c code ≡ Some d → IsFalse (is_skipped d)
@@ -160,17 +160,16 @@ pub data BinaryNumberFault (c : ParseState) (code digits : List ℕ) (fault : Fa
       → IsTrue (is_binary_number digits) → d.size < length digits
       → fault ≡ faults.ValueTooLong → BinaryNumberFault c code digits fault
 
--- what comes of the change: it is held, or shows a fault, or memory runs out
+-- the result of the change: it is added, or shows a fault, or memory runs out
 abbrev pub ChangeResult : ParseState → (code digits : List ℕ) → Result (Unit {0}) Fault → Variables → Type 0
 ChangeResult c code digits (Ok x) new =
     IsSomeAnd (variable_of c code) (λ d. IsTrue (takes_binary_number d digits))
     × VariablesMatch new (with_value_change c code (letters_of_digits digits))
 ChangeResult c code digits (Err fault) new = (fault ≡ faults.NoMemory) ⊎ BinaryNumberFault c code digits fault
 
--- ---- what comes of the variables at the end
+-- ---- the signals of the variables at the end
 
--- the signal of a variable has a wave of its own, or that of the signal that stands at the position of the first
--- variable with its code
+-- the signal of a variable has its own wave, or that of the signal at the position of the first variable with its code
 abbrev pub Finishes : Variable → Option Signal → Signal → Type 0
 Finishes v None signal = (signal ≡ v.signal) × IsWave signal.wave.width signal.wave.changes
 Finishes v (Some shared) signal =

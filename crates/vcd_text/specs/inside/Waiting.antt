@@ -1,7 +1,7 @@
--- What contracts see of the buffer that a file is read into.
+-- The view that contracts have of the buffer of a file.
 use Rattle.std.specs.Prelude.{ℕ, List}
 
--- the bytes that have come and are not taken yet, and for how many more there is room
+-- the bytes that have been read but not consumed, and the number of further bytes that there is room for
 pub record Waiting : Type 0 where
   pub bytes : List ℕ
   pub room : ℕ

@@ -1,4 +1,4 @@
--- A row of the transitions of a window with their values, and the keys that put them in order.
+-- A row of the transitions of a window with their values, and the keys that sort them.
 use Rattle.std.specs.Prelude.{◌≡◌, ◌<◌, ◌≤◌, ◌+◌, ◌-◌, ◌*◌, ◌%◌, ℕ, List, [], ◌∷◌, length, map, slice_index_or}
 use Rattle.vcd_core.specs.Contents.{SignalContents}
 use Rattle.vcd_core.specs.WordRows.{letters_of}
@@ -6,11 +6,11 @@ use Rattle.vcd_text.specs.declared.writing.rows.ListedTransition.{ListedTransiti
 use Rattle.vcd_text.specs.declared.writing.keys.TheConstants.{PLACES}
 use Rattle.vcd_text.specs.inside.Transitions.{Transition, transition_of, transition_value}
 
--- what a row lists: a signal changes at a tick
+-- the transition of an item of a row: a signal changes at a tick
 abbrev pub listed_transition : ListedTransition → Transition
 listed_transition m = transition_of m.change.tick m.position
 
--- a transition of one of these signals, with the value there: its width, and its letters where they are at most 64
+-- a transition of one of these signals, with the value there: its width, and its letters where there are at most 64
 pub record IsListed (signals : List SignalContents) (m : ListedTransition) : Type 0 where
   pub within : m.position < length signals
   pub wide : m.width ≡ length (transition_value signals (listed_transition m))
@@ -22,12 +22,12 @@ pub record IsListed (signals : List SignalContents) (m : ListedTransition) : Typ
 abbrev pub transitions_of : List ListedTransition → List Transition
 transitions_of row = map listed_transition row
 
--- the keys of a row, the first at this place: the tick behind a tick, then the place
+-- the keys of a row, the first at this place: the ticks after a tick, then the place
 unfoldable pub keys_from : ℕ → ℕ → List ListedTransition → List ℕ
 keys_from from place [] = []
 keys_from from place (m ∷ ms) = ((m.change.tick - from) * PLACES + place) ∷ keys_from from (place + 1) ms
 
--- the transition of a row that has a key
+-- the transition of a key in a row
 abbrev pub transition_in : List ListedTransition → ℕ → Transition
 transition_in row key = slice_index_or (transitions_of row) (key % PLACES) (transition_of 0 0)
 

@@ -1,9 +1,9 @@
--- The walk over the words of a text: what is left of it, and the room that its count of line feeds has.
+-- The walk over the words of a text: the rest of the text, and the room of its count of line feeds.
 use Rattle.std.specs.Prelude.{ℕ, ◌+◌, ◌<◌, ◌^◌, true, List, length, ◌==◌, count_by}
 use Rattle.vcd_text.specs.Words.{PlacedWord, words_from}
 use Rattle.vcd_text.specs.declared.words.WordWalk.{WordWalk}
 
--- how many line feeds there are
+-- the number of line feeds
 abbrev pub feeds : List ℕ → ℕ
 feeds bytes = count_by (λ b. b == 10) bytes
 
@@ -15,6 +15,6 @@ words_left w = words_from true (w.passed + 1) w.rest.now
 abbrev pub feeds_at_end : WordWalk → ℕ
 feeds_at_end w = w.passed + feeds w.rest.now
 
--- each byte that is left may be a line feed, and none makes the count too great
+-- each byte that is left can be a line feed without overflow of the count
 abbrev pub LinesFit : WordWalk → Type 0
 LinesFit w = w.passed + length {A = ℕ} w.rest.now < 2 ^ 64

@@ -1,4 +1,4 @@
-//! The values that a file writes by binary digits (IEEE 1364-2005, 18.2).
+//! The values that a file writes in binary digits (IEEE 1364-2005, 18.2).
 
 ghost use Rattle.std.specs.Prelude.{◌≡◌, ◌<◌, ◌≤◌, ◌+◌, ℕ, true, false, if◌then◌else◌, [], ◌∷◌, length, unwrap_or, MatchOption, MatchResult};
 ghost use Rattle.std.specs.List.{list_all};
@@ -11,10 +11,10 @@ ghost use Rattle.vcd_text.specs.inside.LetterWords.{digits_of, HoldsLetters, Add
 
 use vcd_core::{Bit, Value, WIDTH_LIMIT, WORDS, repeated, words_in};
 
-/// Why digits write no value of a width.
+/// The reason why digits write no value of a width.
 #[derive(Clone, Copy, Debug, PartialEq, Eq)]
 pub enum BinaryNumberError {
-    /// There are none, or one is no binary digit.
+    /// There is no digit, or a byte is no binary digit.
     NoValue,
     /// They are binary digits, but more than the width.
     TooLong,
@@ -33,8 +33,8 @@ pub fn letter_of_digit(digit: u8) -> Option<Bit>
     }
 }
 
-/// The value of `width` bits that the digits write, extended on the left. It takes a step a digit and one for
-/// each 64 bits, and no memory.
+/// The value of `width` bits that the digits write, extended on the left. It takes a step for each
+/// digit and one for each 64 bits, and no memory.
 pub fn read_value(width: u64, digits: &[u8]) -> Result<Value, BinaryNumberError>
     requires least { 1 ≤ width }
     requires most { width ≤ WIDTH_LIMIT }
@@ -45,8 +45,8 @@ pub fn read_value(width: u64, digits: &[u8]) -> Result<Value, BinaryNumberError>
     extended_value(width, digits).ok_or(BinaryNumberError::NoValue)
 }
 
-/// The value of `width` bits, at most 64, that the digits write, extended on the left, by its two words. It takes
-/// a step a digit, and no memory.
+/// The two words of the value of `width` bits, at most 64, that the digits write, extended on the
+/// left. It takes a step for each digit, and no memory.
 pub fn read_word(width: u64, digits: &[u8]) -> Result<LetterWord, BinaryNumberError>
     requires { width ≤ 64 }
     ensures { MatchResult result
@@ -57,7 +57,7 @@ pub fn read_word(width: u64, digits: &[u8]) -> Result<LetterWord, BinaryNumberEr
     extended_word(width, digits).ok_or(BinaryNumberError::NoValue)
 }
 
-/// The digits as letters, with those that are wanting on the left; none where one is no binary digit.
+/// The digits as letters, extended on the left to `width`; none where one is no binary digit.
 fn extended_word(width: u64, digits: &[u8]) -> Option<LetterWord>
     requires narrow { width ≤ 64 }
     requires fits { length digits.now ≤ width }
@@ -69,7 +69,7 @@ fn extended_word(width: u64, digits: &[u8]) -> Option<LetterWord>
     word_read(pad_of(digits), digits)
 }
 
-/// Refuses digits that are none, or more than the width.
+/// Refuses an empty list of digits, and more digits than the width.
 fn refuse_count(width: u64, digits: &[u8]) -> Result<(), BinaryNumberError>
     ensures { MatchResult result (λ _. (0 < length digits.now) × (length digits.now ≤ width))
         (λ error. WritesNoValue width digits.now error) }
@@ -86,9 +86,9 @@ fn refuse_count(width: u64, digits: &[u8]) -> Result<(), BinaryNumberError>
     Err(BinaryNumberError::NoValue)
 }
 
-/// The value of `width` bits that the binary digits write, extended on the left (IEEE 1364-2005, 18.2); none where
-/// there is no digit, a byte is none, or there are more than `width`. It takes a step a digit and one for
-/// each 64 bits, and no memory.
+/// The value of `width` bits that the binary digits write, extended on the left (IEEE 1364-2005,
+/// 18.2). It is none where there is no digit, a byte is no binary digit, or there are more than
+/// `width`. It takes a step for each digit and one for each 64 bits, and no memory.
 pub fn value_of_digits(width: u64, digits: &[u8]) -> Option<Value>
     requires least { 1 ≤ width }
     requires most { width ≤ WIDTH_LIMIT }
@@ -96,7 +96,7 @@ pub fn value_of_digits(width: u64, digits: &[u8]) -> Option<Value>
 {
     match read_value(width, digits) {
         Ok(value) => Some(value),
-        // each fault by its name, since only so what it says of the digits is known
+        // each fault by its name: only so the prover has its clause on the digits
         Err(BinaryNumberError::NoValue) => None,
         Err(BinaryNumberError::TooLong) => None,
     }
@@ -113,12 +113,12 @@ fn are_binary_digits(bytes: &[u8]) -> bool
 pub fn is_binary_digit(byte: u8) -> bool
     ensures { result ≡ digit_test byte }
 {
-    // nearly all are 0 or 1
+    // nearly all digits are 0 or 1
     is_two_state(byte) || letter_of_digit(byte).is_some()
 }
 
-/// The digits as letters, with those that are wanting on the left, a word of 64 at a time; none where one is no
-/// binary digit.
+/// The digits as letters, extended on the left to `width`, a word of 64 at a time. It is none where
+/// one is no binary digit.
 fn extended_value(width: u64, digits: &[u8]) -> Option<Value>
     requires least { 1 ≤ width }
     requires most { width ≤ WIDTH_LIMIT }
@@ -138,7 +138,7 @@ fn extended_value(width: u64, digits: &[u8]) -> Option<Value>
     Some(Value::from_words(width, &low, &high))
 }
 
-/// The digits of the 64 letters from bit `64 * k` on, of which there may be fewer.
+/// The digits of the 64 letters from bit `64 * k` on. There can be fewer.
 fn digits_of_word(digits: &[u8], k: usize) -> &[u8]
     requires { k < WORDS }
     ensures { result.now ≡ digits_of digits.now k }
@@ -147,14 +147,15 @@ fn digits_of_word(digits: &[u8], k: usize) -> &[u8]
     &digits[end.saturating_sub(64)..end]
 }
 
-/// The low and the high bits of 64 letters, the last of them lowest.
+/// The low and the high bits of 64 letters, the last letter lowest.
 #[derive(Clone, Copy)]
 pub struct LetterWord {
     pub low: u64,
     pub high: u64,
 }
 
-/// The letters of at most 64 digits, behind as many `pad` as are wanting; none where one is no binary digit.
+/// The letters of at most 64 digits, after as many `pad` as are missing; none where one is no
+/// binary digit.
 fn word_read(pad: Bit, digits: &[u8]) -> Option<LetterWord>
     requires { length digits.now ≤ 64 }
     ensures { MatchOption result (list_all digit_test digits.now ≡ false) (λ word.
@@ -172,7 +173,8 @@ fn word_read(pad: Bit, digits: &[u8]) -> Option<LetterWord>
     with_digits(word, rest)
 }
 
-/// The word with the letters of eight digits below the others; none where one is no binary digit.
+/// The word with the letters of eight digits added at its low end; none where one is no binary
+/// digit.
 fn with_eight_digits(word: LetterWord, digits: &[u8; 8]) -> Option<LetterWord>
     ensures { MatchOption result (list_all digit_test digits.now ≡ false) (λ more.
         (list_all digit_test digits.now ≡ true) ×
@@ -191,7 +193,7 @@ fn are_two_state(digits: &[u8; 8]) -> bool
 {
     let mut all = true;
     for digit in digits {
-        // no early end, so that eight digits are one comparison
+        // no early end, so that the test of eight digits is one comparison
         all &= is_two_state(*digit);
     }
     all
@@ -204,7 +206,7 @@ fn is_two_state(digit: u8) -> bool
     digit == b'0' || digit == b'1'
 }
 
-/// The word with the letters of eight digits, each 0 or 1, below the others.
+/// The word with the letters of eight digits, each 0 or 1, added at its low end.
 fn with_two_state_digits(word: LetterWord, digits: &[u8; 8]) -> LetterWord
     requires { list_all is_two_state digits.now ≡ true }
     ensures { AddsLetters (letters_of_digits digits.now) word.low word.high result.low result.high }
@@ -216,7 +218,7 @@ fn with_two_state_digits(word: LetterWord, digits: &[u8; 8]) -> LetterWord
     word
 }
 
-/// The word with the letters of the digits below the others; none where one is no binary digit.
+/// The word with the letters of the digits added at its low end; none where one is no binary digit.
 fn with_digits(word: LetterWord, digits: &[u8]) -> Option<LetterWord>
     ensures { MatchOption result (list_all digit_test digits.now ≡ false) (λ more.
         (list_all digit_test digits.now ≡ true) ×
@@ -229,7 +231,7 @@ fn with_digits(word: LetterWord, digits: &[u8]) -> Option<LetterWord>
     Some(word)
 }
 
-/// The word with the letter of a digit below the others; none where it is no binary digit.
+/// The word with the letter of a digit added at its low end; none where it is no binary digit.
 fn with_digit(word: LetterWord, digit: u8) -> Option<LetterWord>
     ensures { MatchOption result (digit_test digit ≡ false) (λ more.
         (digit_test digit ≡ true) ×
@@ -245,7 +247,7 @@ fn with_digit(word: LetterWord, digit: u8) -> Option<LetterWord>
     })
 }
 
-/// The word with the letter of a digit, 0 or 1, below the others.
+/// The word with the letter of a digit, 0 or 1, added at its low end.
 fn with_two_state_digit(word: LetterWord, digit: u8) -> LetterWord
     requires { is_two_state digit ≡ true }
     ensures { AddsLetters (letters_of_digits (digit ∷ [])) word.low word.high result.low result.high }
@@ -256,7 +258,7 @@ fn with_two_state_digit(word: LetterWord, digit: u8) -> LetterWord
     }
 }
 
-/// The word with another bit below the others, of which the highest is lost.
+/// The word shifted left by one bit, with a new lowest bit. The highest bit is lost.
 fn with_lowest(word: u64, set: bool) -> u64
     ensures first { bit_at result 0 ≡ (if set then 1 else 0) }
     ensures rest { (i : ℕ) → i + 1 < 64 → bit_at result (i + 1) ≡ bit_at word i }
@@ -264,7 +266,7 @@ fn with_lowest(word: u64, set: bool) -> u64
     (word << 1) | u64::from(set)
 }
 
-/// The letter that is put on the left of digits.
+/// The letter that extends these digits on the left.
 fn pad_of(digits: &[u8]) -> Bit
     ensures { result ≡ pad_letter (letters_of_digits digits.now) }
 {

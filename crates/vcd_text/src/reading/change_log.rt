@@ -1,5 +1,7 @@
-//! A log of the changes that waves do not have yet: it is written while a file is read, and the waves are made of it
-//! at the end, some at a time, so that neither a wave nor its last change is waited for at each change.
+//! A log of the changes that waves do not have yet.
+//!
+//! The log is written while a file is read. The waves are made from it at the end, some at a time.
+//! So no change waits for its wave to come from memory.
 
 ghost use Rattle.std.specs.Prelude.{◌≡◌, ◌+◌, ◌++◌, ◌==◌, ◌≤◌, ℕ, List, [], ◌∷◌, length, if◌then◌else◌, OnOk};
 ghost use Rattle.vcd_text.specs.inside.ChangeLog.{logged, changes_of_position, AreGrouped, CanTake, AppliesLogged, CanFlush, FlushesLog};
@@ -9,12 +11,13 @@ use std::alloc::Global;
 use std::mem::replace;
 use vcd_core::NoMemory;
 
-/// How many groups a log has, each of the positions with one remainder. The waves of one group are made together,
-/// so they should fit a cache of a processor; each group has a place that is written, and these should too.
+/// The number of groups of a log. Each group has the positions with one remainder. The waves of one
+/// group are made together, so they should fit a processor's cache. Each group has a place that is
+/// written, and these places should fit too.
 pub const GROUPS: usize = 128;
 
-/// From `tick` on, the variable at `position`, of at most 64 bits, has the value whose low and high bits these two
-/// words hold.
+/// A change of the variable at `position`, of at most 64 bits: from `tick` on it has the value with
+/// these words of low and high bits.
 #[derive(Clone, Copy)]
 pub struct LoggedChange {
     pub tick: u64,
@@ -23,14 +26,14 @@ pub struct LoggedChange {
     pub high: u64,
 }
 
-/// The changes that waves do not have yet, in groups. In each group they stand in the order of the file.
+/// The changes that waves do not have yet, in groups. Each group has the order of the file.
 #[derive(Drop)]
 pub struct ChangeLog {
     pub groups: Vec<Vec<LoggedChange>>,
 }
 
 impl ChangeLog {
-    /// No changes. It takes no memory.
+    /// An empty log. It takes no memory.
     pub fn new(alloc: Global) -> ChangeLog
         ensures { result.groups.items ≡ [] }
     {
@@ -39,7 +42,7 @@ impl ChangeLog {
         }
     }
 
-    /// Puts a change behind the others: 32 bytes.
+    /// Appends a change: 32 bytes.
     pub fn append(&mut self, alloc: Global, change: LoggedChange) -> Result<(), NoMemory>
         requires { AreGrouped 0 self.old.groups.items }
         ensures grouped { OnOk result (AreGrouped 0 self.new.groups.items) }
@@ -51,7 +54,7 @@ impl ChangeLog {
     }
 }
 
-/// Puts a change behind those of its group.
+/// Appends a change to its group.
 fn append_change(
     groups: &mut Vec<Vec<LoggedChange>>,
     alloc: Global,
@@ -69,7 +72,7 @@ fn append_change(
     Ok(())
 }
 
-/// Adds empty groups where there are fewer.
+/// Adds empty groups up to `GROUPS`.
 fn add_groups(
     groups: &mut Vec<Vec<LoggedChange>>,
     alloc: Global,
@@ -87,8 +90,8 @@ fn add_groups(
     Ok(())
 }
 
-/// How many changes a wave will have at most, as far as a group has been counted, and the words of the last one. It is
-/// about room alone, of which no contract speaks.
+/// The greatest number of changes that a wave will have, as far as a group has been counted, and
+/// the words of the last one. It concerns room alone, which no contract mentions.
 #[derive(Clone, Copy)]
 struct ReserveHint {
     count: usize,
@@ -105,8 +108,8 @@ const NO_CHANGE: ReserveHint = ReserveHint {
 
 /// Gives each variable the changes of the log, in their order. Each group is freed before the next.
 ///
-/// It takes two steps for each change. A wave is given room once, for the changes of the log that differ from the one
-/// before, and for the first.
+/// It takes two steps for each change. A wave gets room once, for its first change and for the
+/// changes of the log that differ from the one before.
 pub fn flush_log(
     alloc: Global,
     kept: &mut Vec<Variable>,
@@ -137,7 +140,7 @@ fn count_changes(reserve_hints: &mut [ReserveHint], group: &[LoggedChange])
     }
 }
 
-/// The demand with a change more, which counts where its words differ from the last.
+/// The hint with one more change, which counts where its words differ from the last.
 fn with_change(reserve_hint: ReserveHint, change: LoggedChange) -> ReserveHint
     ensures low { result.low ≡ change.low }
     ensures high { result.high ≡ change.high }
@@ -150,7 +153,8 @@ fn with_change(reserve_hint: ReserveHint, change: LoggedChange) -> ReserveHint
     }
 }
 
-/// Gives each variable the changes of a group. A wave gets room for as many as were counted at its first.
+/// Gives each variable the changes of a group. At its first change a wave gets room for as many as
+/// were counted.
 fn flush_group(
     kept: &mut Vec<Variable>,
     reserve_hints: &mut [ReserveHint],
@@ -168,7 +172,7 @@ fn flush_group(
     Ok(())
 }
 
-/// What has been counted at a place, which becomes 0.
+/// The count at a place, which becomes 0.
 fn take_count(reserve_hints: &mut [ReserveHint], place: usize) -> usize
     ensures { length reserve_hints.new ≡ length reserve_hints.old }
 {
@@ -178,7 +182,7 @@ fn take_count(reserve_hints: &mut [ReserveHint], place: usize) -> usize
     }
 }
 
-/// Gives a variable a change, and room for `more` changes first.
+/// Makes room for `more` changes of a variable, and gives it a change.
 fn flush_change(kept: &mut Vec<Variable>, change: LoggedChange, more: usize) -> Result<(), NoMemory>
     requires { CanTake kept.old.items change }
     ensures { OnOk result (AppliesLogged change kept.old.items kept.new.items) }

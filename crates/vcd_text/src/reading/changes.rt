@@ -1,7 +1,8 @@
 //! The words of changes: stamps, values, brackets of dumps, and commands that are passed over.
 //!
-//! A change takes one look-up of its code and one push, that of a narrow variable into the log. Only the digits of
-//! a change of several bits whose code is not there yet are kept till it comes, in room that stays.
+//! A change takes one look-up of its code and one push: of a narrow variable to the log, of a wide
+//! one to its wave. Digits are kept only for a change of several bits whose code has not come yet,
+//! in room that is reused.
 
 ghost use Rattle.std.specs.Prelude.{◌≡◌, ◌<◌, ◌∷◌, ℕ, List, true, false, length, Ok, IfSome, codes};
 ghost use Rattle.vcd_text.specs.Words.{word_on};
@@ -18,8 +19,8 @@ use crate::reading::ticks_and_sizes::tick_of;
 use std::alloc::Global;
 
 impl Reader {
-    /// Takes a word between two changes, which stands on this line. By its first byte it is a stamp, a
-    /// command, or the first word of a change of a value; any other word is `BadChange`.
+    /// Takes a word between two changes, which is on this line. By its first byte it is a stamp, a
+    /// command, or the first word of a change of a value. Any other word is `BadChange`.
     pub fn begin_change(&mut self, alloc: Global, text: &[u8], line: u64) -> Result<(), Fault>
         requires between { self.old.item ≡ items.Nothing }
         requires changing { self.old.changing ≡ true }
@@ -35,8 +36,8 @@ impl Reader {
         }
     }
 
-    /// Goes on to the tick of a stamp, `#` and these digits: `BadTime` where they write no tick,
-    /// `TimeBackwards` where it is below the one before.
+    /// Moves to the tick of a stamp, which is `#` and these digits. The error is `BadTime` where
+    /// they write no tick, and `TimeBackwards` where the tick is below the one before.
     fn stamp(&mut self, digits: &[u8]) -> Result<(), Fault>
         requires between { self.old.item ≡ items.Nothing }
         requires changing { self.old.changing ≡ true }
@@ -53,8 +54,8 @@ impl Reader {
         Ok(())
     }
 
-    /// Takes a bracket of a dump, or begins a command that is passed over; a word of the declarations is
-    /// `UnexpectedWord`.
+    /// Takes a bracket of a dump, or begins a command that is passed over. A word of the
+    /// declarations is `UnexpectedWord`.
     fn begin_command(&mut self, text: &[u8]) -> Result<(), Fault>
         requires between { self.old.item ≡ items.Nothing }
         requires changing { self.old.changing ≡ true }
@@ -91,8 +92,8 @@ impl Reader {
         }
     }
 
-    /// Sets a code to the value that a binary digit writes: `BadChange` where there is no code, `UnknownCode`
-    /// where it was not declared.
+    /// Sets a code to the value that a binary digit writes. The error is `BadChange` where there is
+    /// no code, and `UnknownCode` where the code was not declared.
     fn set_bit(&mut self, alloc: Global, digit: u8, code: &[u8]) -> Result<(), Fault>
         requires between { self.old.item ≡ items.Nothing }
         requires changing { self.old.changing ≡ true }
@@ -109,7 +110,8 @@ impl Reader {
             .change(alloc, code, self.tick, digits.as_slice())
     }
 
-    /// The digits of the change of several bits that this word begins as the next one, if it begins one.
+    /// The digits of the change of several bits that this word begins as the next one; none where
+    /// it begins no such change.
     pub fn digits_of_vector<'a>(&self, text: &'a [u8]) -> Option<&'a [u8]>
         ensures { IfSome result (λ digits. BeginsVector self.now text.now digits.now) }
     {
@@ -147,8 +149,9 @@ impl Reader {
         self.line = line;
     }
 
-    /// Takes the code of a change of several bits, and sets it to the digits: `UnknownCode` where it was not
-    /// declared, `BadChange` where they are no value, `ValueTooLong` where they are too many.
+    /// Takes the code of a change of several bits, and sets it to the digits. The error is
+    /// `UnknownCode` where the code was not declared, `BadChange` where the digits are no value,
+    /// and `ValueTooLong` where they are too many.
     pub fn end_vector(&mut self, alloc: Global, code: &[u8]) -> Result<(), Fault>
         requires item { self.old.item ≡ items.Vector }
         requires reading { IsUnderway self.old }
@@ -159,8 +162,8 @@ impl Reader {
         self.variables.change(alloc, code, self.tick, digits)
     }
 
-    /// Takes the code of a change of a real number or a string, which sets nothing: `UnknownCode` where it
-    /// was not declared.
+    /// Takes the code of a change of a real number or a string, which sets nothing. The error is
+    /// `UnknownCode` where the code was not declared.
     pub fn end_dropped(&mut self, code: &[u8]) -> Result<(), Fault>
         requires item { self.old.item ≡ items.Dropped }
         ensures { (line : ℕ) → WordResult self.old (word_on code.now line) result self.new }

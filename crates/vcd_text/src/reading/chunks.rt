@@ -1,4 +1,4 @@
-//! A file in chunks: of each the words that are sure are taken before the next is asked for.
+//! A file in chunks: the complete words of each chunk are taken before the next read.
 
 ghost use Rattle.std.specs.Prelude.{◌≡◌, ◌⊎◌, ◌∷◌, ◌+◌, ◌<◌, ◌≤◌, ℕ, true, false, not, List, [], ◌++◌, length, take, drop, Option, IfOk, IfErr, IfSome, OnOk};
 ghost use Rattle.std.specs.List.{list_all};
@@ -24,21 +24,21 @@ use crate::words::{PlacedWord, WordWalk};
 use std::alloc::Global;
 use vcd_core::{Source, is_white_space};
 
-/// How far a file has been read.
+/// The progress of reading a file.
 #[derive(Drop)]
 pub struct Progress {
-    /// What the words that are sure have told.
+    /// The reader after the complete words.
     pub reader: Reader,
-    /// The bytes behind the last white space: a word that may go on.
+    /// The bytes after the last white space: a word that can go on.
     pub buffer: ReadBuffer,
     /// The line feeds so far.
     pub passed: u64,
-    /// How many bytes more the file may have.
+    /// The number of bytes that the file can still have.
     pub left: usize,
 }
 
 impl Progress {
-    /// Nothing has been read.
+    /// The progress before the first read.
     pub fn new(alloc: Global) -> Progress
         ensures { HasConsumed result [] }
     {
@@ -50,7 +50,7 @@ impl Progress {
         }
     }
 
-    /// Reads a chunk and takes the words that are sure then. Answers whether the file goes on.
+    /// Reads a chunk and takes the words that are then complete. Returns whether the file goes on.
     pub fn take_chunk<R: Source>(
         &mut self,
         alloc: Global,
@@ -85,7 +85,7 @@ impl Progress {
         Ok(count > 0)
     }
 
-    /// Takes the words that are sure, where the first `from` bytes that are kept are no white space.
+    /// Takes the complete words, where the first `from` bytes of the buffer are no white space.
     fn take_words(&mut self, alloc: Global, from: usize) -> Result<(), ReadError>
         requires { (bytes : List ℕ) × HasCome self.old from bytes }
         ensures taken { (bytes : List ℕ) → HasCome self.old from bytes →
@@ -102,7 +102,7 @@ impl Progress {
         Ok(())
     }
 
-    /// Takes the last word: what the file means then, or its fault.
+    /// Takes the last word. The result is the meaning of the file, or its fault.
     pub fn finish(self, alloc: Global) -> Result<Loaded, ReadError>
         requires { (bytes : List ℕ) × HasConsumed self bytes }
         ensures means { IfOk result (λ loaded. (bytes : List ℕ) → HasConsumed self bytes →
@@ -127,7 +127,7 @@ impl Progress {
     }
 }
 
-/// `Truncated`, at the line that the file ends on, where its words are not a whole file.
+/// The error is `Truncated`, at the line of the file's end, where its words are not a whole file.
 fn check_complete(reader: &Reader, line: u64) -> Result<(), ReadError>
     ensures whole { OnOk result (is_complete reader.now ≡ true) }
     ensures truncated { IfErr result (λ e. (is_complete reader.now ≡ false)
@@ -139,7 +139,7 @@ fn check_complete(reader: &Reader, line: u64) -> Result<(), ReadError>
     Ok(())
 }
 
-/// How many bytes come up to the last white space, which is not among the first `from`.
+/// The number of bytes up to the last white space, which is not among the first `from`.
 fn closed_len(bytes: &[u8], from: usize) -> usize
     requires within { from ≤ length bytes.now }
     requires black { list_all (λ b. not (white b)) (take from bytes.now) ≡ true }
@@ -157,8 +157,8 @@ fn closed_len(bytes: &[u8], from: usize) -> usize
     0
 }
 
-/// Takes words one after another, up to the first that shows a fault. Answers how many line feeds come before the end
-/// of their text.
+/// Takes words one after another, up to the first that shows a fault. Returns the number of line
+/// feeds before the end of their text.
 fn read_words(reader: &mut Reader, alloc: Global, words: WordWalk) -> Result<u64, ReadError>
     requires room { HasRoomFor reader.old (words_left words) }
     requires lines { LinesFit words }
@@ -173,7 +173,7 @@ fn read_words(reader: &mut Reader, alloc: Global, words: WordWalk) -> Result<u64
     Ok(left.passed)
 }
 
-/// Takes this word, and with it the code behind it where it begins a change of several bits.
+/// Takes this word, and also the code after it where it begins a change of several bits.
 fn take_from(
     reader: &mut Reader,
     alloc: Global,

@@ -1,4 +1,4 @@
-//! What the codes of a file stand for: by a map, and for short codes by a table as well.
+//! The targets of a file's codes: a map, and a table for short codes.
 
 ghost use Rattle.std.specs.Prelude.{◌≡◌, ◌⊎◌, ◌+◌, ◌<◌, ◌≤◌, ◌^◌, ℕ, List, length, if◌then◌else◌, slice_get, Some, None, IfSome, IfOk, OnOk, bytes_eq};
 ghost use Rattle.vcd_text.specs.declared.reading.variables.CodeTarget.TheVariants.{Kept as KeptAt};
@@ -9,12 +9,13 @@ use indexmap::IndexMap;
 use std::alloc::Global;
 use vcd_core::{NoMemory, SIGNAL_LIMIT, copy_word};
 
-/// What the codes stand for.
+/// The targets of the codes.
 #[derive(Drop)]
 pub struct CodeTargets {
-    /// Each code, with what it stands for.
+    /// Each code with its target.
     pub codes: IndexMap<Vec<u8>, CodeTarget>,
-    /// At the place of a short code, one more than the position that it stands for; 0 where that is not known.
+    /// At the place of a short code: one more than its position, or 0 where the table does not have
+    /// it.
     pub short: Vec<u32>,
     ghost agrees: { TableAgrees (code_target codes) short.items },
 }
@@ -30,7 +31,7 @@ impl CodeTargets {
         }
     }
 
-    /// What a code stands for.
+    /// The target of a code.
     pub fn get(&self, code: &[u8]) -> Option<CodeTarget>
         ensures { result ≡ code_target self.now.codes code.now }
     {
@@ -40,7 +41,7 @@ impl CodeTargets {
         target_in(&self.codes, code)
     }
 
-    /// The position that a short code stands for, where the table knows it.
+    /// The position of a short code, where the table has it.
     fn position_of_short(&self, code: &[u8]) -> Option<usize>
         ensures { IfSome result (λ position.
             code_target self.now.codes code.now ≡ Some (KeptAt position)) }
@@ -53,7 +54,7 @@ impl CodeTargets {
         Some(number as usize - 1)
     }
 
-    /// Lets a code stand for this. The table is empty then.
+    /// Gives a code this target, and empties the table.
     pub fn insert(&mut self, alloc: Global, code: &[u8], target: CodeTarget) -> Result<(), NoMemory>
         ensures { OnOk result ((key : List ℕ) → code_target self.new.codes key ≡
             (if bytes_eq key code.now then Some target else code_target self.old.codes key)) }
@@ -73,7 +74,7 @@ impl CodeTargets {
     }
 }
 
-/// What a code stands for by the map.
+/// The target of a code in the map.
 fn target_in(codes: &IndexMap<Vec<u8>, CodeTarget>, code: &[u8]) -> Option<CodeTarget>
     ensures { result ≡ code_target codes.now code.now }
 {
@@ -92,7 +93,7 @@ fn table_of(alloc: Global, codes: &IndexMap<Vec<u8>, CodeTarget>) -> Result<Vec<
     Ok(table)
 }
 
-/// Enters the code at an index of the map.
+/// Enters the code at an index of the map into the table.
 fn enter_at(
     table: &mut Vec<u32>,
     codes: &IndexMap<Vec<u8>, CodeTarget>,
@@ -107,7 +108,7 @@ fn enter_at(
     enter(table, codes, code.as_slice())
 }
 
-/// Enters a code where it is short and stands for a position.
+/// Enters a code where it is short and its target is a position.
 fn enter(
     table: &mut Vec<u32>,
     codes: &IndexMap<Vec<u8>, CodeTarget>,
@@ -129,7 +130,7 @@ fn enter(
     put(table, place, position as u32 + 1)
 }
 
-/// Puts a number at a place, behind zeros where the table ends before it.
+/// Writes a number at a place, after zeros where the table ends before it.
 fn put(table: &mut Vec<u32>, place: usize, number: u32) -> Result<(), NoMemory>
     requires { place < 2 ^ 32 }
     ensures { OnOk result ((i n : ℕ) → slice_get table.new.items i ≡ Some n → 0 < n →
@@ -140,7 +141,7 @@ fn put(table: &mut Vec<u32>, place: usize, number: u32) -> Result<(), NoMemory>
     Ok(())
 }
 
-/// Adds zeros to a table that is shorter.
+/// Appends zeros to a table that is shorter.
 fn lengthen(table: &mut Vec<u32>, len: usize) -> Result<(), NoMemory>
     ensures long { OnOk result (len ≤ length table.new.items) }
     ensures same { OnOk result ((i n : ℕ) → slice_get table.new.items i ≡ Some n → 0 < n →
@@ -153,7 +154,7 @@ fn lengthen(table: &mut Vec<u32>, len: usize) -> Result<(), NoMemory>
     Ok(())
 }
 
-/// The place of a code of one to three bytes, each from 1 to 127.
+/// The place of a code of one to three bytes, each from 1 to 127; none for any other code.
 fn short_place(code: &[u8]) -> Option<usize>
     ensures place { IfSome result (HasPlace code.now) }
     ensures few { IfSome result (λ place. place < 2 ^ 32) }
@@ -166,7 +167,7 @@ fn short_place(code: &[u8]) -> Option<usize>
     }
 }
 
-/// A byte from 1 to 127.
+/// A byte from 1 to 127 as a digit.
 fn code_digit(byte: u8) -> Option<usize>
     ensures { IfSome result (λ digit. (digit ≡ byte) × (0 < byte) × (byte < 128)) }
 {

@@ -21,7 +21,8 @@ use vcd_core::{Header, HeaderKind, NoMemory, ScopeName, Seq, Word, copy_word};
 impl Reader {
     /// Begins a declaration, or a command that is passed over.
     ///
-    /// `UpscopeAtTop` for `$upscope` where no scope is open; `UnexpectedWord` for a word that begins no declaration.
+    /// The error is `UpscopeAtTop` for `$upscope` where no scope is open, and `UnexpectedWord` for
+    /// a word that begins no declaration.
     pub fn begin_declaration(&mut self, text: &[u8]) -> Result<(), Fault>
         requires between { self.old.item ≡ items.Nothing }
         requires declaring { self.old.changing ≡ false }
@@ -38,9 +39,10 @@ impl Reader {
         Ok(())
     }
 
-    /// Takes a word of the item that is open, other than `$end`.
+    /// Takes a word of the open item, other than `$end`.
     ///
-    /// `UnexpectedWord` behind `$upscope` and `$enddefinitions`; `BadVar` for a size that is no decimal number.
+    /// The error is `UnexpectedWord` after `$upscope` and `$enddefinitions`, and `BadVar` for a
+    /// size that is no decimal number.
     pub fn go_on(&mut self, alloc: Global, text: &[u8]) -> Result<(), Fault>
         requires inside { is_inside self.old.item ≡ true }
         requires word { is_end_word text.now ≡ false }
@@ -77,11 +79,11 @@ impl Reader {
         Ok(())
     }
 
-    /// Takes the `$end` of the item that is open. The words of a header entry and of a scope
-    /// are moved, those of a variable are copied.
+    /// Takes the `$end` of the open item. The words of a header entry and of a scope are moved,
+    /// those of a variable are copied.
     ///
-    /// `BadTimescale` for words that spell no timescale, `BadScope` for a scope without a kind, and for a
-    /// variable what `Variables::declare` answers.
+    /// The error is `BadTimescale` for words that spell no timescale, `BadScope` for a scope
+    /// without a kind, and for a variable that of `Variables::declare`.
     pub fn close(&mut self, alloc: Global) -> Result<(), Fault>
         requires inside { is_inside self.old.item ≡ true }
         requires reading { IsUnderway self.old }
@@ -157,7 +159,7 @@ impl Reader {
         Ok(())
     }
 
-    /// All codes are known now, so the table of the short ones is made.
+    /// Makes the table of short codes, since all codes are now declared.
     fn close_definitions(&mut self, alloc: Global) -> Result<(), Fault>
         requires { self.old.item ≡ items.EndDefinitions }
         ensures { (line : ℕ) → WordResult self.old (word_on end_word line) result self.new }
@@ -191,7 +193,7 @@ fn opened_item(text: &[u8]) -> Option<OpenItem>
     Some(OpenItem::Other)
 }
 
-/// The item of a keyword that is not passed over.
+/// The item of a keyword; none for a command that is passed over.
 fn keyword_item(text: &[u8]) -> Option<OpenItem>
     ensures { MatchOption result (IsFalse (is_one_of (declaring_words ++ header_words) text.now))
         (λ item. Opens item text.now) }

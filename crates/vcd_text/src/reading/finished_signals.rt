@@ -1,4 +1,4 @@
-//! The signals that variables have become: each with its own wave, or with one that shares the list of the first with
+//! The signals of the variables. Each has its own wave, or shares the list of the first signal with
 //! its code.
 
 ghost use Rattle.std.specs.Prelude.{◌≡◌, ◌++◌, ◌∷◌, [], map, slice_get, IfOk, OnOk};
@@ -9,7 +9,7 @@ ghost use Rattle.vcd_text.specs.inside.Variables.{Finishes};
 use crate::reading::variables::Variable;
 use vcd_core::{NoMemory, Signal};
 
-/// Adds the signal of a variable behind those of the variables before it.
+/// Appends the signal of a variable to those of the variables before it.
 pub fn push_signal(signals: &mut Vec<Signal>, variable: Variable) -> Result<(), NoMemory>
     ensures { OnOk result ((signal : Signal) × Finishes variable
         (slice_get signals.old.items variable.first) signal ×
@@ -21,7 +21,7 @@ pub fn push_signal(signals: &mut Vec<Signal>, variable: Variable) -> Result<(), 
     Ok(())
 }
 
-/// The signal of a variable, behind those of the variables before it.
+/// The signal of a variable, given the signals of the variables before it.
 fn finished_signal(variable: Variable, before: &mut [Signal]) -> Result<Signal, NoMemory>
     ensures finished { IfOk result (Finishes variable (slice_get before.old variable.first)) }
     ensures kept { map signal_contents before.new ≡ map signal_contents before.old }
@@ -47,12 +47,12 @@ fn with_wave_of(signal: Signal, first: &mut Signal) -> Result<Signal, NoMemory>
     Ok(other)
 }
 
-/// The signal itself, with what its type says of its wave: that wave is the one of its values.
+/// The signal itself, and the clause that its wave is the list of changes of its values.
 fn with_form(signal: Signal) -> Signal
     ensures same { result ≡ signal }
     ensures form { IsWave result.wave.width result.wave.changes }
 {
-    // Called for its clause alone, by which the wave is in the one form.
+    // Called for its clause alone: the wave has its one form.
     signal.wave.changes();
     signal
 }

@@ -1,4 +1,4 @@
-//! The words with which items begin, by what they may begin.
+//! Tests of the words that begin items.
 
 ghost use Rattle.std.specs.Prelude.{◌≡◌};
 ghost use Rattle.vcd_core.specs.Word.{is_one_of};
@@ -23,7 +23,7 @@ pub fn is_command(text: &[u8]) -> bool
     matches!(text, [b'$', ..])
 }
 
-/// Whether a word may stand among the declarations alone.
+/// Whether a word is allowed among the declarations alone.
 pub fn is_declaring(text: &[u8]) -> bool
     ensures { result ≡ is_one_of declaring_words text.now }
 {

@@ -1,4 +1,4 @@
-//! The bytes of a file that have come and are not taken yet.
+//! The bytes of a file that have been read but not consumed.
 
 ghost use Rattle.std.specs.Prelude.{◌≡◌, ◌<◌, ◌≤◌, ◌+◌, ◌++◌, ℕ, List, [], false, true, length, take, drop, vec_len, IfOk, IsOk, OnOk, OnErr};
 ghost use Rattle.std.specs.Io.KnownBytes.{Consumes, Keeps, IsAtEnd};
@@ -7,12 +7,12 @@ use std::alloc::Global;
 use std::marker::Model;
 use vcd_core::{DeviceFault, NoMemory, Source};
 
-/// The most bytes that are asked for at a time.
+/// The most bytes that one read asks for.
 const CHUNK: usize = 4096;
 
-/// The bytes that have come and are not taken yet, at the front of the storage that the next ones are read into.
+/// The bytes that have been read but not consumed, at the front of the storage of the next read.
 ///
-/// Contracts see these bytes, and for how many more there is room.
+/// Contracts see these bytes, and the number of bytes that there is room for.
 #[derive(Drop)]
 pub struct ReadBuffer {
     storage: Vec<u8>,
@@ -51,14 +51,14 @@ impl ReadBuffer {
         &self.storage.as_slice()[..self.len]
     }
 
-    /// How many bytes there are.
+    /// The number of bytes.
     pub fn len(&self) -> usize
         ensures { result ≡ length self.now.bytes }
     {
         self.len
     }
 
-    /// Makes room where there is none: at first, and behind a word that fills the buffer.
+    /// Makes room where there is none: at first, and after a word that fills the buffer.
     pub fn make_room(&mut self) -> Result<(), NoMemory>
         ensures same { OnOk result (self.new.bytes ≡ self.old.bytes) }
         ensures room { OnOk result (0 < self.new.room) }
@@ -70,8 +70,8 @@ impl ReadBuffer {
         Ok(())
     }
 
-    /// Reads at most `most` bytes, or one where that is 0, behind those that there are, and answers how many came.
-    /// None means that the source is at its end.
+    /// Reads at most `most` bytes, or one where that is 0, after those in the buffer. Returns how
+    /// many came. Zero means that the source is at its end.
     pub fn read_from<S: Source>(
         &mut self,
         source: &mut S,
@@ -95,8 +95,8 @@ impl ReadBuffer {
         Ok(count)
     }
 
-    /// Takes the first bytes away, and moves the others to the front. A long word is not moved at each chunk: where
-    /// none are taken away, none move.
+    /// Removes the first `count` bytes, and moves the others to the front. Where `count` is 0
+    /// nothing moves, so a long word is not moved for each chunk.
     pub fn drop_front(&mut self, count: usize)
         requires { count ≤ length self.old.bytes }
         ensures { self.new.bytes ≡ drop count self.old.bytes }

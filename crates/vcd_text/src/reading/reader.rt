@@ -15,10 +15,10 @@ use crate::reading::variables::Variables;
 use std::alloc::Global;
 use vcd_core::{Capture, Header, HeaderKind, NoMemory, Timescale, Word};
 
-/// The item whose words are not all there yet.
+/// The open item, whose words are not all there yet.
 #[derive(Clone, Copy, Debug, PartialEq, Eq)]
 pub enum OpenItem {
-    /// None: the next word begins one.
+    /// No item: the next word begins one.
     Nothing,
     /// `$date`, `$version` or `$comment` among the declarations.
     Entry(HeaderKind),
@@ -29,13 +29,13 @@ pub enum OpenItem {
     EndDefinitions,
     /// A command that is passed over.
     Other,
-    /// A change of several bits, whose code is due.
+    /// A change of several bits, whose code is next.
     Vector,
-    /// A change of a real number or a string, whose code is due.
+    /// A change of a real number or a string, whose code is next.
     Dropped,
 }
 
-/// What has been read so far.
+/// The state of a reader after the words so far.
 #[derive(Drop)]
 pub struct Reader {
     pub header: Vec<Header>,
@@ -47,11 +47,11 @@ pub struct Reader {
     /// The last time stamp, or 0.
     pub tick: u64,
     pub item: OpenItem,
-    /// The words of the declaration that is open, behind its keyword.
+    /// The words of the open declaration, after its keyword.
     pub words: Vec<Word>,
-    /// The digits of the change of several bits that is open.
+    /// The digits of the open change of several bits.
     pub text: Vec<u8>,
-    /// The line of the change that is open.
+    /// The line of the open change.
     pub line: u64,
 }
 
@@ -73,7 +73,7 @@ impl Reader {
         }
     }
 
-    /// Takes the next word of the file, which stands on this line.
+    /// Takes the next word of the file, which is on this line.
     pub fn take_word(&mut self, alloc: Global, text: &[u8], line: u64) -> Result<(), ReadError>
         requires reading { IsUnderway self.old }
         requires word { 0 < length text.now }
@@ -86,8 +86,8 @@ impl Reader {
         }
     }
 
-    /// Takes the two words of a change of several bits at once: these digits, behind the letter of the first, which
-    /// stands on this line, and the code.
+    /// Takes the two words of a change of several bits at once: the code, and these digits, which
+    /// follow the letter of the first word on this line.
     pub fn take_vector(
         &mut self,
         alloc: Global,
@@ -105,7 +105,7 @@ impl Reader {
         }
     }
 
-    /// The line that a fault of the next word bears, which stands on this line.
+    /// The line of a fault of the next word, which is on this line.
     fn shown_line(&self, line: u64) -> u64
         ensures { result ≡ shown_line self.now.item self.now.line line }
     {

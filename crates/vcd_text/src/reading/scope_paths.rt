@@ -1,4 +1,4 @@
-//! The paths of the scopes that the signals of a file stand in.
+//! The paths of the scopes of a file's signals.
 
 ghost use Rattle.std.specs.Prelude.{◌≡◌, map, slice_get, IfOk, OnOk};
 ghost use Rattle.vcd_core.specs.Contents.{signal_contents};
@@ -8,7 +8,8 @@ use crate::reading::scopes::ScopePlace;
 use std::alloc::Global;
 use vcd_core::{NoMemory, ScopePath, Signal};
 
-/// Gives each signal the path of its place, in their order. It takes no memory where the chains can be shared.
+/// Gives each signal the path of its place, in their order. It takes no memory where the chains can
+/// be shared.
 pub fn give_paths(
     alloc: Global,
     signals: &mut [Signal],
@@ -36,7 +37,7 @@ fn path_at(
 {
     match places.get(index) {
         Some(place) => path_of(alloc, chains, *place),
-        // never met: each kept variable has a place
+        // unreachable: each kept variable has a place
         None => Ok(ScopePath::from_vec(Vec::new(alloc))),
     }
 }
@@ -45,7 +46,8 @@ fn path_at(
 fn path_of(alloc: Global, chains: &[ScopePath], place: ScopePlace) -> Result<ScopePath, NoMemory>
     ensures { IfOk result (λ path. path ≡ scopes_at chains.now place) }
 {
-    // a place is always within its chain: the least of the two, and no scopes for no chain, spare the reader a premise
+    // a place is always within its chain; the minimum, and no scopes for no chain, avoid a
+    // precondition for that
     match chains.get(place.chain) {
         Some(chain) => chain.front(alloc, place.count.min(chain.as_slice().len())),
         None => Ok(ScopePath::from_vec(Vec::new(alloc))),

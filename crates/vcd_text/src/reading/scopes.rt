@@ -1,4 +1,4 @@
-//! The scopes that a file declares, and where those of each variable stand.
+//! The scopes that a file declares, and the places of the variables in them.
 
 ghost use Rattle.std.specs.Prelude.{◌≡◌, ◌≤◌, length};
 
@@ -7,7 +7,7 @@ use std::alloc::Global;
 use std::mem::replace;
 use vcd_core::{NoMemory, ScopeName, ScopePath, Signal, copy_scopes};
 
-/// Where the scopes of a variable stand: they are the first of a chain, so many of them.
+/// The scopes of a variable: the first ones of a chain.
 #[derive(Clone, Copy, Debug, PartialEq, Eq)]
 pub struct ScopePlace {
     /// The number of the chain.
@@ -15,23 +15,24 @@ pub struct ScopePlace {
     pub count: usize,
 }
 
-/// The scopes that have been declared: those that are open, and those of each variable that is kept.
+/// The declared scopes: those that are open, and those of each kept variable.
 ///
-/// They stand in chains, each scope in the one before it, so that scopes nested to any depth are held once. A
-/// scope that is declared behind one that was closed takes its place, where no variable stands in that, and else
-/// begins a chain, with a copy of the scopes that are open: many scopes at a great depth, each with a variable and
-/// beside the others, take the product of the two.
+/// They are kept in chains, where each scope is in the one before it, so nested scopes of any depth
+/// are stored once. A scope that follows a closed one replaces it in the chain where no variable is
+/// in the closed one. Otherwise it begins a new chain, with a copy of the open scopes. So many
+/// sibling scopes at a great depth, each with a variable, take memory of their number times the
+/// depth.
 #[derive(Drop)]
 pub struct Scopes {
-    /// The chains that do not go on.
+    /// The complete chains.
     pub chains: Vec<ScopePath>,
     /// The chain of the open scopes.
     pub chain: Vec<ScopeName>,
-    /// How many of its scopes are open.
+    /// The number of its scopes that are open.
     pub depth: usize,
-    /// How many of its scopes variables stand in, at the most.
+    /// The greatest number of its scopes that a variable is in.
     pub reach: usize,
-    /// Where the scopes of each kept variable stand.
+    /// The place of each kept variable.
     pub places: Vec<ScopePlace>,
     ghost within: { depth ≤ length chain.items },
 }
@@ -65,8 +66,8 @@ impl Scopes {
         self.depth == 0
     }
 
-    /// Opens a scope in the innermost. Behind a scope that was closed, in which a variable stands, it copies those that
-    /// are open.
+    /// Opens a scope in the innermost one. After a closed scope with a variable in it, it copies
+    /// the open scopes.
     pub fn enter(&mut self, alloc: Global, scope: ScopeName) -> Result<(), NoMemory>
         ensures { (c : ParseState) → HoldsScopes self.old c.scopes c.declared →
             OnOk result (HoldsScopes self.new (c.scopes ++ scope ∷ []) c.declared) }
@@ -77,7 +78,8 @@ impl Scopes {
         Ok(())
     }
 
-    /// Cuts the chain back to the scopes that are open, where no variable stands in the others, or begins another.
+    /// Cuts the chain back to the open scopes where no variable is in the others, or begins
+    /// another.
     fn go_to_end(&mut self, alloc: Global) -> Result<(), NoMemory>
         ensures same { (c : ParseState) → HoldsScopes self.old c.scopes c.declared →
             OnOk result (HoldsScopes self.new c.scopes c.declared) }
@@ -94,7 +96,7 @@ impl Scopes {
         Ok(())
     }
 
-    /// Takes the scopes that are closed out of the chain.
+    /// Removes the closed scopes from the chain.
     fn cut_chain(&mut self)
         requires reached { self.old.reach ≤ self.old.depth }
         ensures same { (c : ParseState) → HoldsScopes self.old c.scopes c.declared →
@@ -104,7 +106,7 @@ impl Scopes {
         self.chain.truncate(self.depth);
     }
 
-    /// Begins another chain, with a copy of the scopes that are open.
+    /// Begins another chain, with a copy of the open scopes.
     fn begin_chain(&mut self, alloc: Global) -> Result<(), NoMemory>
         ensures same { (c : ParseState) → HoldsScopes self.old c.scopes c.declared →
             OnOk result (HoldsScopes self.new c.scopes c.declared) }
@@ -125,8 +127,8 @@ impl Scopes {
         self.depth = self.depth.saturating_sub(1);
     }
 
-    /// Notes where the scopes of the variable that these words have just declared stand, where it is kept: `kept`
-    /// is how many variables are.
+    /// Notes the place of the variable that these words have just declared, where it is kept.
+    /// `kept` is the number of kept variables.
     pub fn note_place(&mut self, kept: usize) -> Result<(), NoMemory>
         ensures { (c : ParseState) (words : List (List ℕ)) → HoldsScopes self.old c.scopes c.declared →
             kept ≡ length (kept_variables (state_after_item c (variable words)).declared) →

@@ -28,10 +28,10 @@ use vcd_core::{
     is_skipped_kind,
 };
 
-/// A variable that is kept: its code, and the signal that it becomes.
+/// A kept variable: its code, and its signal.
 ///
-/// Of the variables with one code, the first has the wave so far, but for what the log has; the others share its list
-/// at the end.
+/// The first variable of a code has the wave so far, without the changes in the log. The others
+/// share its list at the end.
 #[derive(Drop)]
 pub struct Variable {
     pub code: Word,
@@ -62,7 +62,7 @@ impl Variable {
         requires narrow { self.old.signal.wave.width ≤ 64 }
         requires late { All (λ c. c.tick ≤ change.tick) self.old.signal.wave.changes }
         ensures taken { OnOk result (AppliesToVariable change self.old self.new) }
-        // It succeeds where the wave's own list has room for `more` changes, and for this one.
+        // It succeeds where the wave's own list has room for `more` changes and this one.
         ensures in_place { length self.old.signal.wave.changes + 1 < self.old.signal.wave.room →
             length self.old.signal.wave.changes + more < self.old.signal.wave.room → IsOk result }
     {
@@ -87,25 +87,25 @@ fn word_of_digits(width: u64, digits: &[u8]) -> Result<LetterWord, Fault>
     }
 }
 
-/// What a code stands for.
+/// The target of a code.
 #[derive(Clone, Copy, Debug, PartialEq, Eq)]
 pub enum CodeTarget {
-    /// A variable that is skipped.
+    /// A skipped variable.
     Skipped,
-    /// The variable at this position, the first with the code.
+    /// The kept variable at this position, the first with the code.
     Kept(usize),
 }
 
-/// The variables that have been declared.
+/// The declared variables.
 #[derive(Drop)]
 pub struct Variables {
-    /// Those that are kept, in the order of the file.
+    /// The kept variables, in the order of the file.
     pub kept: Vec<Variable>,
-    /// Their widths, in a row of their own, so that a change waits for no variable.
+    /// Their widths, in a list of their own, so that a change needs no access to a variable.
     pub widths: Vec<u64>,
-    /// What each code stands for.
+    /// The target of each code.
     pub code_targets: CodeTargets,
-    /// How many are skipped.
+    /// The number of skipped variables.
     pub skipped: u64,
     /// The changes that the waves of at most 64 bits do not have yet.
     pub log: ChangeLog,
@@ -125,13 +125,14 @@ impl Variables {
         }
     }
 
-    /// Declares a variable, but for its scopes, by the words of a `$var` behind the keyword.
+    /// Declares a variable, without its scopes, from the words of a `$var` after the keyword.
     ///
-    /// It looks the code up at most twice. A variable that is kept takes a copy of its words and of its code, and
-    /// the first of its code another copy of the code, in the map; one that is skipped at most that of the map.
+    /// It looks up the code at most twice. A kept variable copies its words and its code. The first
+    /// variable of its code takes another copy of the code, in the map; a skipped one takes at most
+    /// that copy.
     ///
-    /// `BadVar` where a part is missing, `MixedCode` where the code stands for another size or for what is skipped,
-    /// `TooManySignals`.
+    /// The error is `BadVar` where a part is missing, `MixedCode` where the code has another size
+    /// or is skipped for one variable alone, `TooManySignals`, or `NoMemory`.
     pub fn declare(&mut self, alloc: Global, words: &[Word]) -> Result<(), Fault>
         requires size { IsTrue (has_good_size words.now) }
         requires few { self.old.skipped + 1 < 2 ^ 64 }
@@ -154,7 +155,7 @@ impl Variables {
         self.keep(alloc, code.as_slice(), signal)
     }
 
-    /// Declares a variable that is skipped.
+    /// Declares a skipped variable.
     fn skip(&mut self, alloc: Global, code: &[u8]) -> Result<(), Fault>
         requires few { self.old.skipped + 1 < 2 ^ 64 }
         ensures { (c : ParseState) (d : VariableDeclaration) → VariablesMatch self.old c → d.code ≡ code.now →
@@ -169,7 +170,7 @@ impl Variables {
         Ok(())
     }
 
-    /// Declares a variable that is kept.
+    /// Declares a kept variable.
     fn keep(&mut self, alloc: Global, code: &[u8], signal: Signal) -> Result<(), Fault>
         requires bare { signal.scopes ≡ [] }
         requires silent { signal.wave.changes ≡ [] }
@@ -211,7 +212,7 @@ impl Variables {
         Ok(())
     }
 
-    /// Keeps a variable, the first of whose code stands at `first`.
+    /// Keeps a variable; the first one of its code is at `first`.
     fn push(
         &mut self,
         alloc: Global,
@@ -243,7 +244,7 @@ impl Variables {
         Ok(())
     }
 
-    /// Lets a code stand for this.
+    /// Gives a code this target.
     fn bind(&mut self, alloc: Global, code: &[u8], target: CodeTarget) -> Result<(), NoMemory>
         ensures code_targets { OnOk result ((key : List ℕ) → target_of self.new key ≡
             (if bytes_eq key code.now then Some target else target_of self.old key)) }
@@ -255,14 +256,14 @@ impl Variables {
         self.code_targets.insert(alloc, code, target)
     }
 
-    /// What a code stands for.
+    /// The target of a code.
     fn target(&self, code: &[u8]) -> Option<CodeTarget>
         ensures { result ≡ target_of self.now code.now }
     {
         self.code_targets.get(code)
     }
 
-    /// Whether a variable stands at this position, of this width.
+    /// Whether there is a variable of this width at this position.
     fn has_width(&self, position: usize, width: u64) -> bool
         ensures { result ≡ option_map_or (λ v. v.signal.wave.width == width)
             (slice_get self.now.kept.items position) false }
@@ -273,8 +274,8 @@ impl Variables {
         }
     }
 
-    /// Sets the value of a code from `tick` on to that of these digits, by one look-up and one push, into the log or
-    /// a wave. A code that is skipped takes any digits.
+    /// Sets the value of a code from `tick` on to that of these digits. It takes one look-up, and
+    /// one push to the log or a wave. A skipped code accepts any digits.
     pub fn change(
         &mut self,
         alloc: Global,
@@ -293,8 +294,8 @@ impl Variables {
         }
     }
 
-    /// Sets the value of the variable at a position, the first of its code: one of at most 64 bits by a change of
-    /// the log, a wider one in its wave.
+    /// Sets the value of the variable at a position, the first of its code. A variable of at most
+    /// 64 bits gets a change in the log, a wider one in its wave.
     fn change_at(
         &mut self,
         alloc: Global,
@@ -332,10 +333,10 @@ impl Variables {
         self.target(code).is_some()
     }
 
-    /// The signals that the kept variables have become, in their order, without their scopes.
+    /// The signals of the kept variables, in their order, without their scopes.
     ///
-    /// The waves are made of the log first. A signal is moved. The later variables of a code share the list of the
-    /// first, so that no change is copied.
+    /// The waves are made from the log first. Each signal is moved. The later variables of a code
+    /// share the list of the first, so no change is copied.
     pub fn into_signals(self, alloc: Global) -> Result<Vec<Signal>, NoMemory>
         requires { (c : ParseState) × VariablesMatch self c }
         ensures { IfOk result (λ signals. (c : ParseState) → VariablesMatch self c →
@@ -347,7 +348,7 @@ impl Variables {
         variables.flushed_signals(alloc)
     }
 
-    /// Gives the waves what the log has for them, which is empty then.
+    /// Gives the waves their changes of the log, which is then empty.
     fn flush_log(&mut self, alloc: Global) -> Result<(), NoMemory>
         requires { (c : ParseState) × VariablesMatch self.old c }
         ensures same { OnOk result ((c : ParseState) → VariablesMatch self.old c → VariablesMatch self.new c) }
@@ -357,7 +358,7 @@ impl Variables {
         flush_log(alloc, &mut self.kept, groups)
     }
 
-    /// The signals that the kept variables have become, where the log is empty.
+    /// The signals of the kept variables, where the log is empty.
     fn flushed_signals(self, alloc: Global) -> Result<Vec<Signal>, NoMemory>
         ensures { IfOk result (λ signals. self.log.groups.items ≡ [] → (c : ParseState) →
             VariablesMatch self c → map signal_contents signals.items ≡

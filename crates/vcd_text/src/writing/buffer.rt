@@ -1,4 +1,4 @@
-//! A buffer before a writer: the text goes out in large parts, and no memory is taken on the way.
+//! A buffer before a writer: the text is written in large parts, and no memory is taken meanwhile.
 
 ghost use Rattle.std.specs.Prelude.{◌≡◌, ◌<◌, ◌≤◌, ◌+◌, ◌-◌, ◌^◌, false, true, ℕ, List, [], ◌∷◌, Option, length, take, vec_len, vec_capacity, OnOk, IfErr, IfOk};
 ghost use Rattle.std.specs.Io.KnownBytes.{Appends};
@@ -9,11 +9,11 @@ use crate::fault::WriteError;
 use std::alloc::Global;
 use vcd_core::{NoMemory, Sink, write_all};
 
-/// How many bytes the buffer has room for.
+/// The size of the buffer, in bytes.
 const ROOM: usize = 65536;
 
-/// The bytes that wait for the writer, and how many it took before them. Once the writer has failed, nothing
-/// more goes to it.
+/// The bytes that wait for the writer, and the number that it took before them. After a failure of
+/// the writer, nothing more is sent.
 #[derive(Drop)]
 pub struct WriteBuffer {
     pub waiting: Vec<u8>,
@@ -31,7 +31,7 @@ impl WriteBuffer {
     }
 }
 
-/// Writes a piece of the text behind what was written. It takes no memory.
+/// Appends a piece to the text. It takes no memory.
 pub fn write_piece<W: Sink>(buffer: &mut WriteBuffer, writer: &mut W, piece: &[u8])
     ensures { Emits buffer.old (W.taken writer.old) (W.has_failed writer.old)
         buffer.new (W.taken writer.new) (W.has_failed writer.new) piece.now }
@@ -44,7 +44,7 @@ pub fn write_piece<W: Sink>(buffer: &mut WriteBuffer, writer: &mut W, piece: &[u
     write_first(buffer, writer, piece);
 }
 
-/// Writes a byte of the text behind what was written.
+/// Appends a byte to the text.
 pub fn write_byte<W: Sink>(buffer: &mut WriteBuffer, writer: &mut W, byte: u8)
     ensures { Emits buffer.old (W.taken writer.old) (W.has_failed writer.old)
         buffer.new (W.taken writer.new) (W.has_failed writer.new) (byte ∷ []) }
@@ -56,7 +56,7 @@ pub fn write_byte<W: Sink>(buffer: &mut WriteBuffer, writer: &mut W, byte: u8)
     write_piece(buffer, writer, &[byte]);
 }
 
-/// Keeps a piece where the buffer has room for it, and otherwise sends it behind what waits.
+/// Keeps a piece where the buffer has room for it; otherwise sends it after the waiting bytes.
 fn write_first<W: Sink>(buffer: &mut WriteBuffer, writer: &mut W, piece: &[u8])
     ensures { Emits buffer.old (W.taken writer.old) (W.has_failed writer.old)
         buffer.new (W.taken writer.new) (W.has_failed writer.new) piece.now }
@@ -75,7 +75,7 @@ fn has_space_for(waiting: &Vec<u8>, count: usize) -> bool
     count <= waiting.capacity() - waiting.len()
 }
 
-/// Sends all that waits.
+/// Sends all waiting bytes.
 fn send_waiting<W: Sink>(buffer: &mut WriteBuffer, writer: &mut W)
     ensures written { Emits buffer.old (W.taken writer.old) (W.has_failed writer.old)
         buffer.new (W.taken writer.new) (W.has_failed writer.new) [] }
@@ -96,7 +96,7 @@ fn send_piece<W: Sink>(buffer: &mut WriteBuffer, writer: &mut W, piece: &[u8])
     buffer.sent = buffer.sent.saturating_add(count);
 }
 
-/// How many bytes the writer takes: all, unless it fails or has failed.
+/// The number of bytes that the writer takes: all, unless it fails or has failed.
 fn send_bytes<W: Sink>(writer: &mut W, bytes: &[u8]) -> u128
     ensures front { Appends (W.taken writer.old) (W.taken writer.new) (take result bytes.now) }
     ensures within { result ≤ length bytes.now }
@@ -113,9 +113,10 @@ fn send_bytes<W: Sink>(writer: &mut W, bytes: &[u8]) -> u128
     }
 }
 
-/// Sends what waits and flushes the writer.
+/// Sends the waiting bytes and flushes the writer.
 ///
-/// An error means that the writer has failed, and says how many bytes it took of the text that was written.
+/// An error means that the writer has failed. It gives the number of bytes of the text that the
+/// writer took.
 pub fn finish<W: Sink>(buffer: WriteBuffer, writer: &mut W) -> Result<(), WriteError>
     ensures written { OnOk result ((before : Option (List ℕ)) (text : List ℕ) → length text < 2 ^ 128 - 1
         → HasEmitted before (W.taken writer.old) (W.has_failed writer.old) buffer text

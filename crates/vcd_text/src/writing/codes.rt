@@ -8,13 +8,13 @@ ghost use Rattle.vcd_text.specs.inside.Written.{Emits};
 use super::buffer::{WriteBuffer, write_byte};
 use vcd_core::Sink;
 
-/// The first byte of the 94 that codes are made of, and how many they are (IEEE 1364-2005, 18.2).
+/// The first of the 94 bytes of codes, and their number (IEEE 1364-2005, 18.2).
 const FIRST: u8 = b'!';
 
 const COUNT: usize = 94;
 
-/// Writes the code of the signal at `position`: the position counted from 1, in bijective base 94 with the
-/// lowest digit first. One step for each byte.
+/// Writes the code of the signal at `position`: the position counted from 1, in bijective base 94,
+/// lowest digit first. It takes one step for each byte.
 pub fn write_code<W: Sink>(buffer: &mut WriteBuffer, writer: &mut W, position: usize)
     requires { position < SIGNAL_LIMIT }
     ensures { Emits buffer.old (W.taken writer.old) (W.has_failed writer.old)

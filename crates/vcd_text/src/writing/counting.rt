@@ -1,4 +1,4 @@
-//! Counting the bytes of a text before the first goes out.
+//! Counting the bytes of a text before the first is written.
 
 ghost use Rattle.std.specs.Prelude.{◌≡◌, ◌<◌, ◌≤◌, ◌^◌, length, OnOk};
 ghost use Rattle.vcd_core.specs.Contents.{contents};
@@ -10,7 +10,8 @@ use super::declarations::write_declarations;
 use std::alloc::Global;
 use vcd_core::{Capture, DeviceFault, NoMemory, Sink};
 
-/// How many bytes the declarations may have: with the values behind them fewer than a `u128` counts.
+/// The limit of the bytes of the declarations. With the values after them, they are fewer than a
+/// `u128` can count.
 const COUNT_LIMIT: u128 = 1 << 126;
 
 /// A sink that takes all bytes and keeps none.
@@ -35,8 +36,8 @@ impl Sink for NullSink {
     }
 }
 
-/// Refuses declarations whose bytes cannot be counted, which no memory holds. It writes them to nowhere, through
-/// a buffer without room, and takes no memory.
+/// Refuses declarations with more bytes than can be counted, which no memory can hold. It writes
+/// them to a sink that keeps nothing, through a buffer without room. It takes no memory.
 pub fn check_countable(alloc: Global, capture: &Capture) -> Result<(), NoMemory>
     requires { length capture.now.signals ≤ SIGNAL_LIMIT }
     ensures { OnOk result (length (declarations_text (contents capture.now)) < 2 ^ 127) }

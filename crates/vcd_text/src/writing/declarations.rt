@@ -17,7 +17,8 @@ use super::lines::{write_end, write_word, write_words};
 use itoa::Buffer;
 use vcd_core::{Capture, Header, HeaderKind, ScopeName, Signal, Sink, Timescale, Word};
 
-/// Writes the declarations, with the header and the timescale before them and their end behind them.
+/// Writes the declarations: the header and the timescale first, and the end of the declarations
+/// last.
 pub fn write_declarations<W: Sink>(buffer: &mut WriteBuffer, writer: &mut W, capture: &Capture)
     requires { length capture.now.signals ≤ SIGNAL_LIMIT }
     ensures { Emits buffer.old (W.taken writer.old) (W.has_failed writer.old)
@@ -79,8 +80,8 @@ fn write_timescale<W: Sink>(buffer: &mut WriteBuffer, writer: &mut W, timescale:
     }
 }
 
-/// Writes the declarations of all signals, with the scopes that are opened and closed between them.
-/// Its time grows with the scopes of all signals, those that several stand in counted for each.
+/// Writes the declarations of all signals, and opens and closes scopes between them. The time grows
+/// with the scopes of all signals, where shared scopes count for each signal.
 fn write_signals<W: Sink>(buffer: &mut WriteBuffer, writer: &mut W, signals: &[Signal])
     requires { length signals.now ≤ SIGNAL_LIMIT }
     ensures { Emits buffer.old (W.taken writer.old) (W.has_failed writer.old)
@@ -121,7 +122,7 @@ fn write_variable<W: Sink>(
     write_end(buffer, writer);
 }
 
-/// Closes the open scopes past those that the path shares with them, and opens the further ones.
+/// Closes the open scopes that the path does not share, and opens the other scopes of the path.
 fn write_scope_changes<W: Sink>(
     buffer: &mut WriteBuffer,
     writer: &mut W,
@@ -168,13 +169,14 @@ fn write_scope<W: Sink>(buffer: &mut WriteBuffer, writer: &mut W, name: &ScopeNa
     write_end(buffer, writer);
 }
 
-/// How many scopes at the front two paths share. Its time grows with their words.
+/// The number of scopes that two paths share at the front. The time grows with their words.
 fn shared_len(opened: &[ScopeName], path: &[ScopeName]) -> usize
     ensures shared { result ≡ common_prefix_len same_scope opened.now path.now }
     ensures in_opened { result ≤ length opened.now }
     ensures in_path { result ≤ length path.now }
 {
-    // Fronts of one list are compared by name as well: `ptr_eq` promises nothing of what two lists hold.
+    // Fronts of one list are compared by name as well: `ptr_eq` has no clause on the contents of
+    // two lists.
     let most = opened.len().min(path.len());
     for k in 0..most {
         if !is_same_scope(&opened[k], &path[k]) {

@@ -1,17 +1,18 @@
-//! The order of a row, by keys of one word: the tick, then the place in the row, which is that by position.
+//! The order of a row, by keys of one word: the tick, then the place in the row, which follows the
+//! position.
 
 ghost use Rattle.std.specs.Prelude.{◌≡◌, ◌<◌, ◌≤◌, ◌+◌, ◌*◌, ◌%◌, true, false, length, All, vec_capacity};
 ghost use Rattle.vcd_text.specs.inside.Windows.{keys_from};
 
 use super::rows::{ListedTransition, push_in_room};
 
-/// How many places of a row a key of its order tells apart, and how many ticks: both together in a word.
+/// The limit of the places in a row, and of the ticks, in a key. Both fit together in a word.
 pub const PLACES: u64 = 1048576;
 
 pub const SPAN: u64 = u64::MAX / PLACES;
 
-/// Whether all transitions of a window are near enough to its first tick to be put in order by keys. They are looked
-/// at only where the window is long.
+/// Whether all transitions of a window are near enough to its first tick to be sorted by keys. They
+/// are read only where the window is long.
 pub fn are_near(row: &[ListedTransition], from: u64, to: u64) -> bool
     requires order { from ≤ to }
     requires within { All (λ m. m.change.tick < to) row.now }
@@ -40,7 +41,7 @@ pub fn list_keys(order: &mut Vec<u64>, row: &[ListedTransition], from: u64)
     }
 }
 
-/// The key of the transition at a place of a row, so many ticks behind the window's first.
+/// The key of the transition at a place of a row, this number of ticks after the window's first.
 fn key_of(ticks: u64, place: usize) -> u64
     requires ticks { ticks < SPAN }
     requires place { place < PLACES }
@@ -49,7 +50,7 @@ fn key_of(ticks: u64, place: usize) -> u64
     ticks * PLACES + place as u64
 }
 
-/// The place of a row that a key names.
+/// The place of a key in its row.
 pub fn place_of(key: u64) -> usize
     ensures { result ≡ key % PLACES }
 {

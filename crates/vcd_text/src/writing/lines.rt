@@ -1,4 +1,4 @@
-//! Words on a line: one space before each but the first, and a line feed behind the last.
+//! Words on a line: one space before each but the first, and a line feed after the last.
 
 ghost use Rattle.std.specs.Prelude.{◌≡◌, ◌∷◌, [], codes};
 ghost use Rattle.vcd_text.specs.inside.SpacedWords.{spaced_words};
@@ -17,7 +17,7 @@ pub fn write_word<W: Sink>(buffer: &mut WriteBuffer, writer: &mut W, word: &[u8]
     write_piece(buffer, writer, word);
 }
 
-/// Writes words, each behind a space.
+/// Writes words, each after a space.
 pub fn write_words<W: Sink>(buffer: &mut WriteBuffer, writer: &mut W, words: &[Word])
     ensures { Emits buffer.old (W.taken writer.old) (W.has_failed writer.old)
         buffer.new (W.taken writer.new) (W.has_failed writer.new)

@@ -1,4 +1,5 @@
-//! The next change of each signal, with its value: a signal that does not change in a window costs no look at its wave.
+//! The next change of each signal, with its value. A signal that does not change in a window needs
+//! no access to its wave.
 
 ghost use Rattle.std.specs.Prelude.{◌≡◌, ◌≤◌, ◌-◌, ℕ, nat_le, length, count_by, IfOk};
 ghost use Rattle.vcd_text.specs.inside.NextChanges.{AreNext, IsNext};
@@ -23,7 +24,7 @@ pub fn next_at(wave: &Wave, place: usize) -> KeptChange
     }
 }
 
-/// The first change of a wave from a tick on, looked for near a place.
+/// The first change of a wave from a tick on, searched near a place.
 fn next_from(wave: &Wave, near: usize, from: u64) -> KeptChange
     requires { 1 ≤ from }
     ensures { IsNext from wave.now.changes result }
@@ -31,7 +32,7 @@ fn next_from(wave: &Wave, near: usize, from: u64) -> KeptChange
     next_at(wave, wave.count_near(near, from - 1))
 }
 
-/// For each signal its first change after tick 0: 32 bytes a signal.
+/// The first change of each signal after tick 0: 32 bytes for each signal.
 pub fn first_changes(alloc: Global, signals: &[Signal]) -> Result<Vec<KeptChange>, NoMemory>
     ensures { IfOk result (λ nexts. AreNext 1 signals.now nexts.items) }
 {
@@ -42,7 +43,7 @@ pub fn first_changes(alloc: Global, signals: &[Signal]) -> Result<Vec<KeptChange
     Ok(nexts)
 }
 
-/// Finds for each signal its first change from a tick on, near the one that it has.
+/// Finds the first change of each signal from a tick on, near the current one.
 pub fn find_next_changes(nexts: &mut [KeptChange], signals: &[Signal], from: u64)
     requires some { 1 ≤ from }
     requires all { length nexts.old ≡ length signals.now }

@@ -14,7 +14,7 @@ use super::kept_changes::{KeptChange, kept_change};
 use super::next_changes::next_at;
 use vcd_core::{Change, Signal, Wave};
 
-/// A change of the signal at a position, with the width of its values: 40 bytes.
+/// A change of the signal at a position, with the width of its values, in bits. It has 40 bytes.
 #[derive(Clone, Copy)]
 pub struct ListedTransition {
     pub change: KeptChange,
@@ -22,12 +22,12 @@ pub struct ListedTransition {
     pub width: u32,
 }
 
-/// For how many signals it is guessed where their changes in a window stop, before these are listed: enough that the
-/// waits for memory overlap.
+/// The number of signals whose changes in a window are guessed before they are listed: enough for
+/// the memory accesses to overlap.
 pub const AHEAD: usize = 32;
 
-/// Guesses where the changes of a window stop, for each of the next signals where the position is a multiple of their
-/// number.
+/// Guesses where the changes of a window stop, for each of the next `AHEAD` signals. It does so
+/// where the position is a multiple of that number.
 pub fn look_ahead(
     guesses: &mut [usize],
     signals: &[Signal],
@@ -48,8 +48,9 @@ pub fn look_ahead(
     }
 }
 
-/// Where the changes of a window stop that begin with the next one, if there are two at most: a hint, which the search
-/// tests. It looks at the second alone, and waits for no answer of the memory before it goes on.
+/// The place where the changes of a window stop that begin with the next one, if there are at most
+/// two: a hint that the search tests. It reads the second change alone, and does not wait for
+/// memory.
 fn guessed_stop(wave: &Wave, next: KeptChange, to: u64) -> usize {
     if next.tick >= to {
         return next.place;
@@ -61,9 +62,9 @@ fn guessed_stop(wave: &Wave, next: KeptChange, to: u64) -> usize {
     }
 }
 
-/// Lists the transitions of the signal at `position` in a window, and answers its next change behind it; none where
-/// there is no room. The first of them is the next change. Where that is behind the window already, the wave is not
-/// looked at.
+/// Lists the transitions of the signal at `position` in a window, and returns its next change after
+/// it; none where there is no room. The first transition is the next change. Where that is after
+/// the window, the wave is not read.
 pub fn list_signal(
     row: &mut Vec<ListedTransition>,
     room: usize,
@@ -104,7 +105,7 @@ pub fn list_signal(
     list_after(row, room, position, wave, start, guess, next.tick + 1, to)
 }
 
-/// The place behind that of a change.
+/// The place after that of a change.
 fn place_after(changes: &[Change], place: usize) -> usize
     requires { place < length changes.now }
     ensures { result ≡ place + 1 }
@@ -112,8 +113,8 @@ fn place_after(changes: &[Change], place: usize) -> usize
     place + 1
 }
 
-/// Lists the transitions of the signal at `position` in a window whose changes begin at a place of its wave, and answers
-/// its next change behind the window; none where there is no room.
+/// Lists the transitions of the signal at `position` in a window whose changes begin at a place of
+/// its wave. Returns its next change after the window; none where there is no room.
 fn list_after(
     row: &mut Vec<ListedTransition>,
     room: usize,
@@ -151,8 +152,9 @@ fn list_after(
     Some(next_at(wave, stop))
 }
 
-/// Where the changes of a window stop that begin at a place: that of the first one from the tick `to` on. None where
-/// there are more than `most`. A step for each of them, or for those behind a guess that is right.
+/// The place where the changes of a window stop that begin at `start`: that of the first change
+/// from the tick `to` on. It is none where there are more than `most`. It takes a step for each
+/// change, or for each after a guess that is right.
 fn window_stop(wave: &Wave, start: usize, guess: usize, most: usize, to: u64) -> Option<usize>
     requires start { start ≤ count_by (λ c. nat_le c.tick (to - 1)) wave.now.changes }
     requires to { 1 ≤ to }
@@ -173,7 +175,8 @@ fn window_stop(wave: &Wave, start: usize, guess: usize, most: usize, to: u64) ->
     Some(stop)
 }
 
-/// A guess behind which a search may set out, since the change before it comes before the tick `to`; else the start.
+/// The guess, where the change before it is before the tick `to`, so that a search can start there;
+/// otherwise `start`.
 fn sure_stop(wave: &Wave, start: usize, guess: usize, most: usize, to: u64) -> usize
     requires start { start ≤ count_by (λ c. nat_le c.tick (to - 1)) wave.now.changes }
     requires to { 1 ≤ to }
@@ -190,7 +193,7 @@ fn sure_stop(wave: &Wave, start: usize, guess: usize, most: usize, to: u64) -> u
     }
 }
 
-/// The changes of a wave in a window, from one place on up to before another.
+/// The changes of a wave in a window, from one place to before another.
 fn changes_within(wave: &Wave, start: usize, stop: usize, from: u64, to: u64) -> &[Change]
     requires start { start ≡ count_by (λ c. nat_le c.tick (from - 1)) wave.now.changes }
     requires stop { stop ≡ count_by (λ c. nat_le c.tick (to - 1)) wave.now.changes }
@@ -201,7 +204,8 @@ fn changes_within(wave: &Wave, start: usize, stop: usize, from: u64, to: u64) ->
     &wave.changes()[start..stop]
 }
 
-/// Lists the transitions of changes of the signal at `position`, the first of which stands at a place of its wave.
+/// Lists the transitions of changes of the signal at `position`, the first of which is at a place
+/// of its wave.
 fn list_changes(row: &mut Vec<ListedTransition>, position: usize, changes: &[Change], first: usize)
     requires position { position < PLACES }
     requires room { length row.old.items + length changes.now ≤ vec_capacity row.old }
@@ -233,7 +237,7 @@ fn listed_change(change: KeptChange, position: usize, width: u64) -> ListedTrans
     }
 }
 
-/// Puts an item behind those of a list that has room for it.
+/// Appends an item to a list that has room for it.
 pub fn push_in_room<T: Copy>(list: &mut Vec<T>, item: T)
     requires { length list.old.items < vec_capacity list.old }
     ensures items { list.new.items ≡ list.old.items ++ item ∷ [] }

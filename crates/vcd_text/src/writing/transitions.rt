@@ -1,4 +1,4 @@
-//! The values of a capture: those at tick 0, and after it the changes by tick (IEEE 1364-2005, 18.2).
+//! The values of a capture: those at tick 0, and the later changes by tick (IEEE 1364-2005, 18.2).
 
 ghost use Rattle.std.specs.Prelude.{◌≡◌, ◌==◌, ◌<◌, ◌≤◌, ◌++◌, ◌∷◌, [], List, if◌then◌else◌, nat_lt, length, map, take, All, vec_capacity};
 ghost use Rattle.std.specs.List.{flat_map};
@@ -46,8 +46,9 @@ fn write_all_values<W: Sink>(buffer: &mut WriteBuffer, writer: &mut W, signals: 
     }
 }
 
-/// Writes what changes after tick 0, and the end, window by window. The ticks between are not looked at. `nexts` has for
-/// each signal its first change after tick 0. It ends early where the writer has failed.
+/// Writes the changes after tick 0, and the end, window by window. Ticks without a change are not
+/// read. `nexts` has the first change of each signal after tick 0. It stops early where the writer
+/// has failed.
 pub fn write_transitions<W: Sink>(
     buffer: &mut WriteBuffer,
     writer: &mut W,
@@ -94,7 +95,8 @@ pub fn write_transitions<W: Sink>(
     write_last_stamp(buffer, writer, last, end);
 }
 
-/// How many ticks the first window may have: as many as use seven eighths of its room, if the changes are spread evenly.
+/// The greatest number of ticks of the first window: as many as use seven eighths of its room, if
+/// the changes are spread evenly.
 fn first_most(signals: &[Signal], room: usize, end: u64) -> u64
     ensures { 1 ≤ result }
 {
@@ -102,7 +104,7 @@ fn first_most(signals: &[Signal], room: usize, end: u64) -> u64
     (end / (windows as u64).saturating_add(1)).max(1)
 }
 
-/// How many changes signals have.
+/// The number of changes of all signals.
 fn change_count(signals: &[Signal]) -> usize {
     let mut count: usize = 0;
     for signal in signals {
@@ -111,7 +113,8 @@ fn change_count(signals: &[Signal]) -> usize {
     count
 }
 
-/// How many ticks the next window may have: twice as many where this one used less than a quarter of its room.
+/// The greatest number of ticks of the next window: twice as many where this one used less than a
+/// quarter of its room.
 fn next_most(count: u64, used: usize, room: usize) -> u64
     requires { 1 ≤ count }
     ensures { 1 ≤ result }
@@ -122,10 +125,11 @@ fn next_most(count: u64, used: usize, room: usize) -> u64
     count
 }
 
-/// How many transitions are looked up before they are written: enough that the waits for memory overlap.
+/// The number of transitions that are looked up before they are written: enough for the memory
+/// accesses to overlap.
 const PART: usize = 32;
 
-/// What stands where nothing was looked up yet.
+/// The default where nothing was looked up yet.
 const NO_TRANSITION: ListedTransition = ListedTransition {
     change: KeptChange {
         place: 0,
@@ -137,7 +141,8 @@ const NO_TRANSITION: ListedTransition = ListedTransition {
     width: 0,
 };
 
-/// Writes the transitions of a row in the order of keys, behind what stands at tick `last`, and answers the last tick.
+/// Writes the transitions of a row in the order of keys, after the text up to tick `last`. Returns
+/// the last tick.
 fn write_listed<W: Sink>(
     buffer: &mut WriteBuffer,
     writer: &mut W,
@@ -166,7 +171,7 @@ fn write_listed<W: Sink>(
     last
 }
 
-/// Looks up what keys name.
+/// Looks up the transitions of keys.
 fn look_up(found: &mut [ListedTransition], row: &[ListedTransition], keys: &[u64])
     requires room { length keys.now ≤ length found.old }
     requires keys { All (IsKeyIn row.now) keys.now }
@@ -180,7 +185,7 @@ fn look_up(found: &mut [ListedTransition], row: &[ListedTransition], keys: &[u64
     }
 }
 
-/// Writes transitions that were looked up, behind what stands at tick `last`, and answers the last tick.
+/// Writes transitions that were looked up, after the text up to tick `last`. Returns the last tick.
 fn write_found<W: Sink>(
     buffer: &mut WriteBuffer,
     writer: &mut W,
@@ -239,7 +244,8 @@ fn write_new_value<W: Sink>(
     write_value_near(buffer, writer, position, wave, change.tick, change.place);
 }
 
-/// Writes the value at `tick`. Where the change at `place` has that tick, it is that of the change, with no search.
+/// Writes the value at `tick`. Where the change at `place` has that tick, it writes its value,
+/// without a search.
 fn write_value_near<W: Sink>(
     buffer: &mut WriteBuffer,
     writer: &mut W,

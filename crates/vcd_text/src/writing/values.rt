@@ -1,4 +1,4 @@
-//! Values as they are printed: one letter, or `b` and the short form.
+//! Printed values: one letter, or `b` and the short form.
 
 ghost use Rattle.std.specs.Prelude.{◌≡◌, ◌<◌, ◌≤◌, ◌+◌, ◌-◌, ◌*◌, ◌^◌, ◌∷◌, ◌++◌, [], ℕ, true, false, if◌then◌else◌, length, drop, slice_index};
 ghost use Rattle.std.specs.Int.{bit_at};
@@ -14,8 +14,8 @@ use super::buffer::{WriteBuffer, write_byte, write_piece};
 use super::codes::write_code;
 use vcd_core::{Bit, Sink, Value};
 
-/// Writes the line that gives a value to the signal at `position`. A step for two letters that are written, and
-/// for each word of 64 letters that is left out.
+/// Writes the line that gives a value to the signal at `position`. It takes a step for each two
+/// written letters, and for each word of 64 letters that is left out.
 pub fn write_value<W: Sink>(
     buffer: &mut WriteBuffer,
     writer: &mut W,
@@ -40,8 +40,9 @@ pub fn write_value<W: Sink>(
     write_byte(buffer, writer, b'\n');
 }
 
-/// Writes the line that gives the value of at most 64 bits, whose low and high bits these two words hold, to the
-/// signal at `position`. What the words hold from `width` on is not looked at. A step for two letters that are written.
+/// Writes the line that gives the value of at most 64 bits, with these words of low and high bits,
+/// to the signal at `position`. Bits of the words from `width` on are ignored. It takes a step for
+/// each two written letters.
 pub fn write_word_value<W: Sink>(
     buffer: &mut WriteBuffer,
     writer: &mut W,
@@ -62,7 +63,7 @@ pub fn write_word_value<W: Sink>(
     write_byte(buffer, writer, b'\n');
 }
 
-/// Writes what stands before the code: one letter, or `b`, the short form and a space.
+/// Writes the part before the code: one letter, or `b`, the short form and a space.
 fn write_word_front<W: Sink>(
     buffer: &mut WriteBuffer,
     writer: &mut W,
@@ -114,8 +115,8 @@ fn write_letters<W: Sink>(buffer: &mut WriteBuffer, writer: &mut W, count: u64, 
     write_piece(buffer, writer, &letters[64 - count as usize..]);
 }
 
-/// Fills the end of a row with the `count` lowest letters of two words, the lowest last. They come in pairs, so
-/// that the letter before them may be written too.
+/// Fills the end of a row with the `count` lowest letters of two words, the lowest last. They are
+/// written in pairs, so the letter before them can be overwritten too.
 fn fill_letters(letters: &mut [u8], count: usize, low: u64, high: u64)
     requires sized { length letters.old ≡ 64 }
     requires count { count ≤ 64 }
@@ -134,7 +135,8 @@ fn fill_letters(letters: &mut [u8], count: usize, low: u64, high: u64)
     }
 }
 
-/// Two letters by the two bits of each in the low plane, and four times those in the high plane.
+/// Pairs of letters, at the index of their bits in the low plane plus four times those in the high
+/// plane.
 const LETTER_PAIRS: [[u8; 2]; 16] = [
     *b"00", *b"01", *b"10", *b"11", *b"0z", *b"0x", *b"1z", *b"1x", //
     *b"z0", *b"z1", *b"x0", *b"x1", *b"zz", *b"zx", *b"xz", *b"xx",
@@ -148,7 +150,8 @@ fn letter_pair(low: u64, high: u64) -> [u8; 2]
     LETTER_PAIRS[(low % 4 + 4 * (high % 4)) as usize]
 }
 
-/// How many letters the short form keeps: the lowest ones (IEEE 1364-2005, 18.2). A step for each word.
+/// The number of lowest letters that the short form keeps (IEEE 1364-2005, 18.2). It takes a step
+/// for each word.
 fn kept_letters(value: &Value) -> u64
     ensures most { result ≤ length value.now }
     ensures rest { drop (length value.now - result) value.now ≡ short_form value.now }
@@ -171,8 +174,8 @@ fn kept_letters(value: &Value) -> u64
     kept_in_word(left, value.word_low(0), value.word_high(0))
 }
 
-/// How many of the `count` lowest letters of two words are left, where those at the front go that the extension
-/// puts there again. The last letter stays.
+/// The number of the `count` lowest letters of two words that remain after the letters at the front
+/// that the extension restores are dropped. The last letter stays.
 fn kept_in_word(count: u64, low: u64, high: u64) -> u64
     requires least { 1 ≤ count }
     requires most { count ≤ 64 }
@@ -185,8 +188,9 @@ fn kept_in_word(count: u64, low: u64, high: u64) -> u64
     65 - needed.leading_zeros() as u64
 }
 
-/// A word whose bit `i` is set where the extension does not put the letter of bit `i + 1` on the left of that of
-/// bit `i`: where one of them is x or z and the other not, the higher one is 1, or they are x and z.
+/// A word whose bit `i` is set where the extension does not restore the letter of bit `i + 1` from
+/// that of bit `i`. These are the pairs with one of x and z and one of 0 and 1, those with 1 as the
+/// higher letter, and those of x and z.
 fn needed_above(low: u64, high: u64) -> u64
     ensures { (i : ℕ) → i < 64 →
         bit_at result i ≡ (if is_spare_above low high i then 0 else 1) }
@@ -204,7 +208,7 @@ fn ones(count: u64) -> u64
     (1 << count) - 1
 }
 
-/// Whether the extension puts this letter on the left of the next one.
+/// Whether the extension restores this letter from the next one.
 fn is_spare(letter: Bit, next: Bit) -> bool
     ensures { result ≡ same_letter (pad_letter (next ∷ [])) letter }
 {

@@ -1,5 +1,5 @@
-//! Windows of ticks: the transitions of all signals in a range of ticks, and their order, in room that was made
-//! beforehand.
+//! Windows of ticks: the transitions of all signals in a range of ticks, and their order, in room
+//! that was made beforehand.
 
 ghost use Rattle.std.specs.Prelude.{◌≡◌, ◌⊎◌, ◌<◌, ◌≤◌, ◌+◌, true, false, length, map, All, vec_capacity, IfOk, if◌then◌else◌};
 ghost use Rattle.vcd_core.specs.Contents.{signal_contents};
@@ -17,7 +17,8 @@ use super::rows::{AHEAD, ListedTransition, list_signal, look_ahead};
 use std::alloc::Global;
 use vcd_core::{NoMemory, Signal};
 
-/// How many transitions a window has room for at least: a short row is sorted sooner, and stays in a cache.
+/// The least number of transitions that a window has room for. A short row is sorted faster, and
+/// stays in a cache.
 const LEAST: usize = 4096;
 
 /// The transitions of a window of ticks, and the order to write them in.
@@ -27,13 +28,13 @@ pub struct Window {
     pub row: Vec<ListedTransition>,
     /// A key for each transition: its tick, counted from the window's first, times `PLACES`, and its place in the row.
     pub order: Vec<u64>,
-    /// How many there may be.
+    /// The greatest number of transitions.
     pub room: usize,
 }
 
 impl Window {
-    /// An empty window with room for the transitions of any one tick, and of several where signals change seldom: 48
-    /// bytes a signal, 192 KiB at least.
+    /// An empty window with room for the transitions of any one tick, and of several where signals
+    /// change seldom. It takes 48 bytes for each signal, and 192 KiB at least.
     pub fn new(alloc: Global, signals: &[Signal]) -> Result<Window, NoMemory>
         requires { length signals.now ≤ SIGNAL_LIMIT }
         ensures all { IfOk result (λ window. length signals.now ≤ window.room) }
@@ -48,8 +49,8 @@ impl Window {
     }
 }
 
-/// Fills a row with the transitions of the ticks from `from` on, and puts them in order, by tick and position. It answers
-/// how many ticks these are: at most `most`, halved until the row has room.
+/// Fills a row with the transitions of the ticks from `from` on, and sorts them by tick and
+/// position. Returns the number of these ticks: at most `most`, halved until the row has room.
 pub fn fill_window(
     row: &mut Vec<ListedTransition>,
     order: &mut Vec<u64>,
@@ -84,7 +85,8 @@ pub fn fill_window(
     count
 }
 
-/// Fills a row with the transitions of as many ticks as fit, signal by signal, and answers how many ticks these are.
+/// Fills a row with the transitions of as many ticks as fit, signal by signal. Returns the number
+/// of these ticks.
 fn fill_some(
     row: &mut Vec<ListedTransition>,
     room: usize,
@@ -119,8 +121,9 @@ fn fill_some(
     count
 }
 
-/// Fills a row with the transitions of a window. It answers whether all have room, and are near enough to be put in
-/// order by keys. The next changes are then those behind the window, and otherwise those from its first tick on.
+/// Fills a row with the transitions of a window. Returns whether all have room, and are near enough
+/// to be sorted by keys. The next changes are then those after the window; otherwise they are those
+/// from its first tick on.
 fn fill_ticks(
     row: &mut Vec<ListedTransition>,
     room: usize,
@@ -155,7 +158,7 @@ fn fill_ticks(
     false
 }
 
-/// Fills a row with the transitions of a window, signal by signal. It answers whether there was room.
+/// Fills a row with the transitions of a window, signal by signal. Returns whether there was room.
 fn fill_row(
     row: &mut Vec<ListedTransition>,
     room: usize,

@@ -7,7 +7,7 @@ use Rattle.vcd_core.specs.Wave.{last_value}
 use Rattle.vcd_core.proofs.Pushes.{pushed_same, pushed_other}
 use Rattle.vcd_core.proofs.change_list.push_change.Goals as goal
 
--- what the comparison with the last value told
+-- the result of the comparison with the last value
 told : (value : List Bit) (width : ℕ) (kept slice : List Change) (r b : Bool) → slice ≡ kept → length value ≡ width
     → r ≡ same_letters value (last_value (all_x (length value)) slice) → r ≡ b
     → same_letters value (last_value (all_x width) kept) ≡ b

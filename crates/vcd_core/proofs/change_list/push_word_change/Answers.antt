@@ -8,7 +8,7 @@ use Rattle.vcd_core.specs.Wave.{change, last_value}
 use Rattle.vcd_core.proofs.Pushes.{kept_wave, pushed_same, pushed_other}
 use Rattle.vcd_core.proofs.change_list.push_word_change.Goals as goal
 
--- what the comparison with the last value told
+-- the result of the comparison with the last value
 told : (value before : List Bit) (kept slice : List Change) (r b : Bool) → slice ≡ kept
     → r ≡ same_letters value (last_value before slice) → r ≡ b
     → same_letters value (last_value before kept) ≡ b

@@ -7,7 +7,7 @@ use Rattle.vcd_core.specs.Contents.{SignalContents, signal_contents}
 use Rattle.vcd_core.specs.Sound.{IsSoundSignal}
 use Rattle.vcd_core.proofs.soundness.are_signals_sound.Goals as goal
 
--- what holds of the contents of each signal
+-- a fact about the contents of each signal
 unmapped : (P : SignalContents → Type 0) (signals : List Signal) → All P (map signal_contents signals)
     → All (λ s. P (signal_contents s)) signals
 unmapped P signals all k d within =

@@ -2,7 +2,7 @@ use Rattle.std.proofs.Common.{◌≡◌, ◌≤◌, ◌+◌, ◌++◌, take, map
 use Rattle.vcd_core.specs.Splice.{moved_change}
 use Rattle.vcd_core.proofs.spliced_copy.append_moved.Given as goal
 
--- the changes so far are there, in the list's own room
+-- the changes so far are appended, in the list's own room
 abbrev pub invariant-loop-change : goal.invariant-loop-change
 invariant-loop-change l =
     (l.list.items ≡ l.fn.list.items ++ map (moved_change l.by) (take l.change-index l.changes))

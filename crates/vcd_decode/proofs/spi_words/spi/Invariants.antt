@@ -4,7 +4,7 @@ use Rattle.vcd_decode.specs.Spi.{spi_annotations}
 use Rattle.vcd_decode.specs.inside.SpiWalk.{SpiProgress}
 use Rattle.vcd_decode.proofs.spi_words.spi.Given as goal
 
--- what is told and what is left tell all
+-- the annotations so far and those to come are all annotations
 abbrev pub invariant-loop-edge : goal.invariant-loop-edge
 invariant-loop-edge l =
     let mosi = option_map line_of (option_copied l.fn.mosi) in

@@ -1,4 +1,4 @@
--- The letters passed are those of the line where their bits are sampled.
+-- The letters read so far are those of the line where their bits are sampled.
 use Rattle.std.proofs.Common.{◌≡◌, ℕ, ◌+◌, ◌<◌, get_or}
 use Rattle.vcd_core.specs.declared.bit.Bit.TheVariants.{X}
 use Rattle.vcd_decode.specs.Lines.{line_of}

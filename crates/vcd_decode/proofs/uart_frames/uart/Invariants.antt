@@ -1,4 +1,4 @@
--- The frames found, and those that the changes to come give, are all frames.
+-- The frames found and those that the changes to come give are all frames.
 use Rattle.std.proofs.Common.{◌≡◌, ◌++◌, drop}
 use Rattle.vcd_core.specs.declared.bit.Bit.TheVariants.{X}
 use Rattle.vcd_decode.specs.Lines.{line_of}

@@ -1,4 +1,4 @@
--- What a turn hands over stands behind what was taken before it.
+-- The bytes of a turn follow those that were taken before it.
 use Rattle.std.proofs.Common.{◌≡◌, ℕ, ◌+◌, ◌-◌, List, ◌++◌, length, take, drop, arith, subst, sym, ap, ◌∙◌}
 use Rattle.std.proofs.Math.Seq.{take-add}
 use Rattle.std.proofs.lemmas.List.{take_rest, length-take, length-drop}

@@ -1,4 +1,4 @@
--- What was taken so far is the front of the bytes, and each turn makes it longer.
+-- The bytes taken so far are the front of `bytes`, and each turn makes it longer.
 use Rattle.std.proofs.Common.{◌≡◌, ◌-◌, ◌≤◌, false, length, take}
 use Rattle.std.specs.Io.KnownBytes.{Appends}
 use Rattle.vcd_core.proofs.device.output.write_all.Given as goal

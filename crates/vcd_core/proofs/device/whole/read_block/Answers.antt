@@ -1,4 +1,4 @@
--- Where a read brings more than fits, the front of it fills `bytes` up to the limit.
+-- Where a read brings more than fits, its front fills `bytes` up to the limit.
 use Rattle.std.proofs.Common.{rules, ◌≡◌, ◌<◌, ◌≤◌, ◌+◌, ℕ, List, ◌++◌, length, take, vec_len, sym, ap, ◌∙◌, arith}
 use Rattle.std.proofs.Math.Seq.{take-append-add}
 use Rattle.std.proofs.lemmas.List.{take-take}

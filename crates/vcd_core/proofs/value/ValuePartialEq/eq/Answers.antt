@@ -15,7 +15,7 @@ same_planes : (a b : Inside) (v w : List Bit) → IsValue a → IsValue b → vi
 same_planes a b v w is_a is_b shows_a shows_b same =
     sym (value_of-view_value a is_a) ∙ ap value_of (shows_a ∙ same ∙ sym shows_b) ∙ value_of-view_value b is_b
 
--- and values of one width with the same words in use the same letters
+-- values of one width with the same words in use have the same letters
 same_view : (a b : Inside) (v w : List Bit) (m : ℕ) → view_value a ≡ v → view_value b ≡ w → a.width ≤ 64 * m
     → a.width ≡ b.width
     → take (2 * m) a.planes ≡ take (2 * m) b.planes → v ≡ w

@@ -8,7 +8,7 @@ use Rattle.vcd_text.specs.inside.LetterWords.{HoldsLetters}
 use Rattle.vcd_text.proofs.LetterWords.{RowsHold, rows_more, letters_more, no_letter, rows_are_extension}
 use Rattle.vcd_text.proofs.reading.binary_number.extended_value.Goals as goal
 
--- behind the last digit there is none
+-- after the last digit there is none
 none_after : (digits : List ℕ) → list_all is_binary_digit (drop (length digits - 0) digits)
     ≡ list_all is_binary_digit []
 none_after digits = ap (list_all is_binary_digit) (drop_all (length digits - 0) digits (omega arith))

@@ -1,4 +1,4 @@
--- The letters of the words so far stand in the rows.
+-- The letters of the words so far are in the rows.
 use Rattle.std.proofs.Common.{◌≡◌, ◌-◌, ◌*◌, true, drop, length}
 use Rattle.std.specs.List.{list_all}
 use Rattle.vcd_core.specs.declared.value.TheConstants.{WORDS}

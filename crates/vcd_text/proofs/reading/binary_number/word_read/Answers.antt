@@ -47,7 +47,7 @@ loop-eight-preserved c =
           (sym (ap (list_all is_binary_digit) at) ∙ c.in_ok-word.ensures.0);
     }
 
--- the letters of the eights, and of the rest behind them
+-- the letters of the eights, and of the rest after them
 of_the_rest : (pad : Bit) (digits : List ℕ) (n low high : ℕ) (o : Option LetterWord)
     → list_all is_binary_digit (take n digits) ≡ true
     → HoldsLetters pad (letters_of_digits (take n digits)) low high

@@ -3,7 +3,7 @@ use Rattle.vcd_text.specs.inside.ChangeLog.{changes_of_position, CanFlush, Flush
 use Rattle.vcd_text.specs.declared.reading.change_log.LoggedChange.{LoggedChange}
 use Rattle.vcd_text.proofs.reading.change_log.flush_group.Given as goal
 
--- what is left of the group can be taken, and the variables have taken what is not
+-- the rest of the group can be taken, and the variables have taken the others
 abbrev pub invariant-loop-change : goal.invariant-loop-change
 invariant-loop-change l =
     ((rest : ℕ → List LoggedChange)

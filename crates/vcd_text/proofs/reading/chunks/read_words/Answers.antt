@@ -10,7 +10,7 @@ use Rattle.vcd_text.specs.inside.Reading.{Reads, AllWordsResult}
 use Rattle.vcd_text.specs.inside.WordWalk.{words_left}
 use Rattle.vcd_text.proofs.reading.chunks.read_words.Goals as goal
 
--- what came, this word and those behind it that have been taken with it, and what is left
+-- the words so far, this word and those taken with it, and the words left
 in_turn : (all came words following left : List PlacedWord) (first : PlacedWord) (rest : List PlacedWord)
     → all ≡ came ++ words → words ≡ first ∷ rest → rest ≡ following ++ left
     → all ≡ came ++ (first ∷ following) ++ left

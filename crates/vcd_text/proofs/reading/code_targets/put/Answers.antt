@@ -5,7 +5,7 @@ use Rattle.std.proofs.lemmas.List.{get_or-set_same, get_or-set_other, length-set
 use Rattle.std.proofs.lemmas.Option.{slice_get_within, slice_get_read, get_or_from_slice_get}
 use Rattle.vcd_text.proofs.reading.code_targets.put.Goals as goal
 
--- what stands in a list after one number of it was set
+-- the numbers of a list after one was set
 after_set : (xs : List ℕ) (place number i n : ℕ) → slice_get (set xs place number) i ≡ Some n
     → ((i ≡ place) × (n ≡ number)) ⊎ (slice_get xs i ≡ Some n)
 after_set xs place number i n at =

@@ -1,4 +1,4 @@
--- Where nothing waits, the piece is all that is left of the text.
+-- Where nothing waits, the piece is the rest of the text.
 use Rattle.vcd_text.proofs.Written.{bytes_sent, piece_left}
 use Rattle.vcd_text.proofs.writing.buffer.send_piece.Goals as goal
 

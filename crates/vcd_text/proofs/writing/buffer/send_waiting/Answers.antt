@@ -1,4 +1,4 @@
--- What waits is all that is left of the text.
+-- The waiting bytes are the rest of the text.
 use Rattle.std.proofs.Common.{[], sym, ◌∙◌}
 use Rattle.vcd_text.proofs.Written.{bytes_sent, waiting_left}
 use Rattle.vcd_text.proofs.writing.buffer.send_waiting.Goals as goal

@@ -1,4 +1,4 @@
--- What is written and the digits of the rest are the code.
+-- The written bytes and the digits of the rest are the code.
 use Rattle.vcd_text.specs.Text.{code_of, code_digits}
 use Rattle.vcd_text.proofs.Written.{WritesFront}
 use Rattle.vcd_text.proofs.writing.codes.write_code.Given as goal

@@ -1,4 +1,4 @@
--- Past the end of the shorter path nothing more is shared.
+-- Past the end of the shorter path no more is shared.
 use Rattle.std.proofs.Common.{arith}
 use Rattle.vcd_text.proofs.Scopes.{none_shared}
 use Rattle.vcd_text.proofs.writing.declarations.shared_len.Goals as goal

@@ -1,4 +1,4 @@
--- The scopes that are not shared are closed, and the further ones opened.
+-- The scopes that are not shared are closed, and the others opened.
 use Rattle.std.proofs.Common.{◌≡◌, ◌-◌, ◌++◌, ℕ, length, map, take, drop, replicate, sym, ap, ◌∙◌, arith}
 use Rattle.std.specs.List.{flat_map}
 use Rattle.std.proofs.lemmas.Grind.{flat_map-append}

@@ -1,4 +1,4 @@
--- Each turn lists one key more.
+-- Each turn lists one more key.
 use Rattle.std.proofs.Common.{◌+◌, ◌*◌, ℕ, length, ap, ◌∙◌, arith}
 use Rattle.std.proofs.lemmas.List.{length_push}
 use Rattle.vcd_text.specs.declared.writing.keys.TheConstants.{PLACES}

@@ -1,4 +1,4 @@
--- One signal more has its next change.
+-- One more signal has its next change.
 use Rattle.std.proofs.Common.{◌∙◌, arith}
 use Rattle.std.proofs.lemmas.List.{length-set}
 use Rattle.vcd_text.proofs.NextChanges.{passed_next}

@@ -1,4 +1,4 @@
--- The change behind those before a tick is the next one.
+-- The change after those before a tick is the next one.
 use Rattle.vcd_core.specs.Value.{all_x}
 use Rattle.vcd_text.proofs.NextChanges.{is_next}
 use Rattle.vcd_text.proofs.writing.next_changes.next_at.Goals as goal

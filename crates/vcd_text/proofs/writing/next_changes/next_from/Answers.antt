@@ -1,4 +1,4 @@
--- The change behind those before the tick.
+-- The change after those before the tick.
 use Rattle.vcd_text.proofs.writing.next_changes.next_from.Goals as goal
 
 pub returns : goal.returns

@@ -1,4 +1,4 @@
--- Each turn lists one transition more.
+-- Each turn lists one more transition.
 use Rattle.std.proofs.Common.{◌≡◌, length, sym, ap, subst, ◌∙◌, arith}
 use Rattle.std.proofs.lemmas.List.{length_push}
 use Rattle.vcd_core.specs.declared.wave.Change.{Change}

@@ -1,4 +1,4 @@
--- The first transition is that of the next change; where that is behind the window, there is none.
+-- The first transition is that of the next change; where that is after the window, there is none.
 use Rattle.std.proofs.Common.{◌≡◌, ◌<◌, ◌+◌, ◌-◌, List, [], ◌∷◌, ◌++◌, length, map, get_or, IfNone, refl, sym, ap}
 use Rattle.std.proofs.Common.{subst, ◌∙◌, arith}
 use Rattle.std.proofs.lemmas.List.{append-nil, length_push}

@@ -1,4 +1,4 @@
--- A change before the tick is one more; the first other one ends them.
+-- A change before the tick is one more; the first later one ends them.
 use Rattle.std.proofs.Common.{arith}
 use Rattle.vcd_core.specs.Value.{all_x}
 use Rattle.vcd_text.proofs.NextChanges.{reached, stopped}

@@ -1,4 +1,4 @@
--- Each turn looks one key up.
+-- Each turn looks up one key.
 use Rattle.std.proofs.Common.{◌≡◌, ◌<◌, length, take, All, subst, ◌∙◌, arith}
 use Rattle.std.proofs.lemmas.List.{length-set}
 use Rattle.vcd_text.specs.inside.Windows.{IsListed}

@@ -1,4 +1,4 @@
--- What the keys passed name stands at the front.
+-- The transitions of the keys passed are at the front.
 use Rattle.std.proofs.Common.{◌≡◌, List, length, take, All}
 use Rattle.vcd_core.specs.Contents.{SignalContents}
 use Rattle.vcd_text.specs.inside.Windows.{IsListed, in_order, transitions_of}

@@ -1,4 +1,4 @@
--- The ticks before a window are written; the ticks behind it are left.
+-- The ticks before a window are written; the ticks after it are left.
 use Rattle.std.proofs.Common.{◌≤◌, ◌+◌, ◌-◌, ◌++◌, map, vec_capacity}
 use Rattle.std.specs.List.{flat_map}
 use Rattle.vcd_core.specs.Contents.{signal_contents}

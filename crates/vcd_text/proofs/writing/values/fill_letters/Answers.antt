@@ -1,4 +1,4 @@
--- Two letters more each turn.
+-- Each turn writes two more letters.
 use Rattle.std.proofs.Common.{◌≡◌, ◌+◌, ◌*◌, ℕ, ap, ◌∙◌, arith}
 use Rattle.std.specs.Int.{bit_at}
 use Rattle.std.proofs.lemmas.List.{length-set}

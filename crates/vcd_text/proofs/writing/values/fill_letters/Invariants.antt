@@ -1,4 +1,4 @@
--- The letters of the lowest bits stand at the end, and the words are shifted by them.
+-- The letters of the lowest bits are at the end, and the words are shifted by them.
 use Rattle.std.proofs.Common.{◌≡◌, ◌<◌, ◌+◌, ◌-◌, ◌*◌, ℕ, length, slice_index}
 use Rattle.std.specs.Int.{bit_at}
 use Rattle.vcd_core.specs.Value.{printed_letter}

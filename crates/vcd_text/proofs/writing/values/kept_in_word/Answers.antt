@@ -1,4 +1,4 @@
--- The highest bit that is set is that of the last letter which stays.
+-- The highest bit that is set is that of the last letter to stay.
 use Rattle.vcd_text.proofs.LetterBits.{kept_is}
 use Rattle.vcd_text.proofs.writing.values.kept_in_word.Goals as goal
 

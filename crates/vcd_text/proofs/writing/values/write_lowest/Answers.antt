@@ -1,4 +1,4 @@
--- A word more each turn.
+-- Each turn writes one more word.
 use Rattle.std.proofs.Common.{◌-◌, ◌*◌, ◌/◌, ℕ, length, refl, ap, arith}
 use Rattle.std.proofs.lemmas.List.{drop_all}
 use Rattle.vcd_text.specs.Letters.{printed_letters}

@@ -1,4 +1,4 @@
--- What is written and the letters that are left are those of the value.
+-- The written letters and those that are left are those of the value.
 use Rattle.std.proofs.Common.{◌≤◌, length}
 use Rattle.vcd_text.specs.Letters.{printed_letters}
 use Rattle.vcd_text.proofs.Written.{WritesFront}

@@ -1,4 +1,4 @@
--- The words of a short value are its letters; of a longer one the short form stands between `b` and a space.
+-- The words of a short value are its letters; a longer one has the short form between `b` and a space.
 use Rattle.std.proofs.Common.{◌≡◌, ◌≢◌, ◌++◌, ◌∷◌, [], length, sym, ap, ◌∙◌, arith}
 use Rattle.vcd_core.specs.WordRows.{letters_of}
 use Rattle.vcd_text.specs.Letters.{printed_letters}

@@ -1,4 +1,4 @@
--- What stands before the code.
+-- The part before the code.
 use Rattle.std.proofs.Common.{◌≡◌, ◌≢◌, ◌-◌, [], ◌∷◌, length, get_or, sym, ap, ◌∙◌, arith}
 use Rattle.vcd_core.specs.declared.bit.Bit.TheVariants.{X}
 use Rattle.vcd_core.specs.Value.{printed_letter}

@@ -1,4 +1,4 @@
--- What stands before the code, the code and the line feed are the line.
+-- The part before the code, the code and the line feed are the line.
 use Rattle.std.proofs.Common.{[], ◌∷◌}
 use Rattle.vcd_core.specs.WordRows.{letters_of}
 use Rattle.vcd_text.specs.Text.{code_of}

@@ -1,4 +1,4 @@
--- What was read stands behind the bytes that there were.
+-- The bytes read follow those in the buffer.
 use Rattle.std.proofs.Common.{◌≡◌, ◌+◌, ◌≤◌, ◌++◌, ℕ, List, length, take, sym, ap, ◌∙◌, arith, append_assoc}
 use Rattle.std.proofs.Common.{length-take-le}
 use Rattle.std.proofs.lemmas.List.{take-take, take-append-le}
