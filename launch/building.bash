@@ -57,7 +57,7 @@ start() { # COMMAND..
     "$@" &
     started=$!
     set +m
-    trap 'kill -- "-$started" 2>/dev/null; exit 130' INT TERM HUP
+    trap 'kill -- "-$started" 2>/dev/null; wait "$started"; exit 130' INT TERM HUP
 }
 
 # Waits for what was started, and gives its status; a terminal shows meanwhile how long it runs, and how far it is.
@@ -82,14 +82,18 @@ duration() { # SECONDS
     fi
 }
 
-# How far the prover is, by its log: the crate, and how many of its functions are checked.
+# How far the prover is, by its log: of each crate that it works on, how many functions are checked of all.
 progress() { # LOG
-    local crate="" functions="" line
-    while IFS= read -r line; do
+    local crate line shown=""
+    local -A checked=()
+    while IFS=: read -r crate line; do
         case "$line" in
-            "rt: chose --jobs "*" for "*) crate=${line##* for } functions= ;;
-            "so far: "*" functions checked"*) functions=${line#so far: } functions=${functions%% functions checked*} ;;
+            " so far: "*) checked[$crate]=${line#" so far: "} ;;
+            *) unset "checked[$crate]" ;;
         esac
-    done < <(grep -aE '^(rt: chose --jobs|so far:)' "$1" 2>/dev/null)
-    echo "${crate:+: $crate}${functions:+, $functions functions}"
+    done < <(grep -aE '^[a-z_]+: (so far: |logic=)' "$1" 2>/dev/null)
+    for crate in "${!checked[@]}"; do
+        shown+=", $crate ${checked[$crate]%% functions*}"
+    done
+    echo "${shown/#,/:}"
 }
