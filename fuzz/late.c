@@ -6,7 +6,7 @@
      late-count    refused lines are counted in a byte, so that 256 of them end with status 0
      late-again    what a device refused is sent to it again
      late-lines    20,000 lines go to both devices, each by a call of its own
-     late-call     a call of the program `vcd_growths` that changes what it holds before its growth
+     late-call     a call of the program `vcd_alloc_failures` that changes what it holds before its growth
 
    The first four are for `growths`, `late-output`, `late-again` and `late-lines` for `devices`, and the last for
    `library_growths`. A program of the first five refuses each line of its script, with a growth for each and one
@@ -31,7 +31,7 @@ static void say(const char *line) {
         exit(1);
 }
 
-/* One call, as the program of the crate `vcd_growths` makes it. */
+/* One call, as the program of the crate `vcd_alloc_failures` makes it. */
 static int call(int makes) {
     int state = 0;
     if (makes) {

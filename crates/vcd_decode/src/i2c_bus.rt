@@ -3,8 +3,6 @@
 mod bus_walk;
 mod bytes;
 mod events;
-#[cfg(test)]
-mod tests;
 mod transfer;
 
 pub use bus_walk::i2c;

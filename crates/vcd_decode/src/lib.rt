@@ -12,8 +12,6 @@ mod setup_error;
 mod spi_group;
 mod spi_setup;
 mod spi_words;
-#[cfg(test)]
-mod tests;
 mod uart_frames;
 mod uart_setup;
 

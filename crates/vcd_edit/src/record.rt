@@ -8,9 +8,6 @@ ghost use Rattle.vcd_edit.specs.inside.Records.{moved_signal_view};
 use std::marker::Model;
 use vcd_core::{Change, Signal};
 
-#[cfg(test)]
-mod tests;
-
 /// A replacement for a range of a signal's changes. Those at positions `from` up to before `to` become `changes`, and
 /// the later ones move by `by` ticks.
 #[derive(Drop)]
@@ -65,7 +62,15 @@ fn count_in_pieces(pieces: &[Piece]) -> u128
 {
     let mut count = 0;
     for piece in pieces {
-        count += piece.changes.as_slice().len() as u128;
+        // Each field is named, so that a further one, such as a whole wave that is kept, does not compile.
+        let Piece {
+            signal: _,
+            from: _,
+            to: _,
+            changes,
+            by: _,
+        } = piece;
+        count += changes.as_slice().len() as u128;
     }
     count
 }

@@ -37,6 +37,7 @@ pub(crate) fn exchange_record(
     ensures never { way.pieces ≡ [] → PutsNoneIn way.signal → IsOk result }
     ensures apart { AreApart way.pieces }
 {
+    // Each field is named, so that a further one, such as a whole capture that is kept, does not compile.
     let Record {
         mut pieces,
         word,

@@ -13,9 +13,6 @@ use std::marker::Model;
 use vcd_core::{Capture, NoMemory};
 use vcd_edit::Edit;
 
-#[cfg(test)]
-mod tests;
-
 /// A capture under edit, with a bounded history.
 ///
 /// It holds a record for each step that can be undone or redone, and no other capture than the current one. A record
@@ -180,7 +177,14 @@ impl Session {
         ensures now { contents result ≡ self.now }
         ensures sound { IsSound (contents result) }
     {
-        let Session { capture, .. } = self;
+        // Each field is named, so that a further one, such as another capture, does not compile.
+        let Session {
+            capture,
+            past: _,
+            future: _,
+            depth: _,
+            alloc: _,
+        } = self;
         capture
     }
 

@@ -1,11 +1,13 @@
-//! Tests of `vcd_core`, `vcd_text` and `vcd_edit` over their public calls: worked values from outside, devices that
-//! give little or fail, and hostile files. Each call that takes memory is made once with enough memory.
+//! Tests of the library crates by their public calls: worked values from outside, devices that give little or fail, and
+//! hostile files. Each call that takes memory is made once with enough memory.
 //!
 //! What a clause says is proved and not tested. A table is one text, and each of its lines is a row.
 #![tactic(auto)]
 
 #[cfg(test)]
 mod captures;
+#[cfg(test)]
+mod decoding;
 #[cfg(test)]
 mod devices;
 #[cfg(test)]
@@ -22,6 +24,8 @@ mod messages;
 mod names;
 #[cfg(test)]
 mod reading;
+#[cfg(test)]
+mod sessions;
 #[cfg(test)]
 mod splices;
 #[cfg(test)]

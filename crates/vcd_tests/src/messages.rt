@@ -4,7 +4,9 @@ use std::alloc::Global;
 use std::fmt::Display;
 use std::process::Abort;
 use std::test::Fail;
+use vcd_decode::SetupError;
 use vcd_edit::EditError;
+use vcd_journal::StepError;
 use vcd_text::{Fault, ReadError, WriteError};
 
 /// Appends the message of a fault, which must be its name, and a blank.
@@ -90,6 +92,47 @@ fn of_refused_edits(rt: HostRuntime) -> Result<(), Fail> {
     }
     let names = "NoSuchSignal NotScalar BadBit BadRange BadCount BadValue BadWord NameTaken \
 TooManySignals NoMemory ";
+    assert!(rt; messages.as_str() == names);
+    Ok(())
+}
+
+const STEP_ERRORS: [StepError; 7] = [
+    StepError::Edit(EditError::NameTaken),
+    StepError::Edit(EditError::NoMemory),
+    StepError::NothingToUndo,
+    StepError::NothingToRedo,
+    StepError::BadDepth,
+    StepError::DepthTooSmall,
+    StepError::NoMemory,
+];
+
+#[test]
+fn of_refused_steps(rt: HostRuntime) -> Result<(), Fail> {
+    let mut messages = String::new(rt.alloc());
+    for error in STEP_ERRORS {
+        push_message(&rt, rt.alloc(), &mut messages, &error, error.name())?;
+    }
+    let names = "NameTaken NoMemory NothingToUndo NothingToRedo BadDepth DepthTooSmall NoMemory ";
+    assert!(rt; messages.as_str() == names);
+    Ok(())
+}
+
+const SETUP_ERRORS: [SetupError; 6] = [
+    SetupError::BadRatio,
+    SetupError::BitTooShort,
+    SetupError::BadData,
+    SetupError::BadStop,
+    SetupError::BadMode,
+    SetupError::BadBits,
+];
+
+#[test]
+fn of_refused_setups(rt: HostRuntime) -> Result<(), Fail> {
+    let mut messages = String::new(rt.alloc());
+    for error in SETUP_ERRORS {
+        push_message(&rt, rt.alloc(), &mut messages, &error, error.name())?;
+    }
+    let names = "BadRatio BitTooShort BadData BadStop BadMode BadBits ";
     assert!(rt; messages.as_str() == names);
     Ok(())
 }

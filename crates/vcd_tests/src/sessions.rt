@@ -1,12 +1,11 @@
-//! What no clause states: that steps are made with enough memory, which fields a session has, and messages.
+//! Sessions: steps that are made with enough memory, and what is left of the history.
 
-use crate::{Answer, DEPTH_LIMIT, Session, Step, StepError, run};
-use circular_buffer::HeapCircularBuffer;
 use std::alloc::Global;
 use std::process::Abort;
 use std::test::Fail;
 use vcd_core::{Bit, Capture, NoMemory, ScopePath, Seq, Signal, Value, Wave, Word};
-use vcd_edit::{Edit, EditError, Record};
+use vcd_edit::Edit;
+use vcd_journal::{Answer, DEPTH_LIMIT, Session, Step, run};
 
 const INVERT: Step = Step::Edit(Edit::Invert { signal: 0 });
 
@@ -66,7 +65,12 @@ fn push_capture(alloc: Global, text: &mut String, capture: &Capture) -> Result<(
 
 /// The answers to the steps. Then the signal's name, its letter at tick 0, the end, and how many steps can be undone
 /// and redone.
-fn told(rt: &impl Abort, alloc: Global, depth: u64, steps: &[Step]) -> Result<String, Fail> {
+fn answers_and_state(
+    rt: &impl Abort,
+    alloc: Global,
+    depth: u64,
+    steps: &[Step],
+) -> Result<String, Fail> {
     let capture = one_signal(alloc)?;
     assert!(rt; capture.is_sound());
     assert!(rt; 1 <= depth);
@@ -92,7 +96,7 @@ fn check_answers_of(
     steps: &[Step],
     text: &str,
 ) -> Result<(), Fail> {
-    assert_eq!(rt; told(rt, alloc, depth, steps)?.as_str(), text);
+    assert!(rt; answers_and_state(rt, alloc, depth, steps)?.as_str() == text);
     Ok(())
 }
 
@@ -199,51 +203,4 @@ fn greater_depth_holds_more(rt: HostRuntime) -> Result<(), Fail> {
     ];
     let text = "ok ok ok ok ok ok NothingToUndo ok b 0 9 0 2";
     check_answers_of(&rt, rt.alloc(), 1, &steps, text)
-}
-
-/// Names each field and its type: a session holds records and one capture.
-#[test]
-fn session_has_these_fields_alone(rt: HostRuntime) -> Result<(), Fail> {
-    let alloc = rt.alloc();
-    let capture = one_signal(alloc)?;
-    assert!(rt; capture.is_sound());
-    let Ok(session) = Session::new(alloc, capture, 1) else {
-        return Ok(());
-    };
-    let Session {
-        capture,
-        past,
-        future,
-        depth,
-        alloc,
-    } = session;
-    let _capture: Capture = capture;
-    let _past: HeapCircularBuffer<Record> = past;
-    let _future: HeapCircularBuffer<Record> = future;
-    let _depth: u64 = depth;
-    let _alloc: Global = alloc;
-    Ok(())
-}
-
-#[test]
-fn messages_are_names(rt: HostRuntime) -> Result<(), Fail> {
-    let refusals = [
-        StepError::Edit(EditError::NameTaken),
-        StepError::Edit(EditError::NoMemory),
-        StepError::NothingToUndo,
-        StepError::NothingToRedo,
-        StepError::BadDepth,
-        StepError::DepthTooSmall,
-        StepError::NoMemory,
-    ];
-    let mut text = String::new(rt.alloc());
-    for refusal in refusals {
-        let message = format!(in rt.alloc(); "{refusal}")?;
-        assert!(rt; message.as_str() == refusal.name());
-        text.push_str(message.as_str())?;
-        text.push(' ')?;
-    }
-    let names = "NameTaken NoMemory NothingToUndo NothingToRedo BadDepth DepthTooSmall NoMemory ";
-    assert_eq!(rt; text.as_str(), names);
-    Ok(())
 }
