@@ -1,6 +1,6 @@
 //! Operations of a wave on its list of changes.
 
-ghost use Rattle.std.specs.Prelude.{◌≡◌, ◌≢◌, ℕ, List, [], ◌∷◌, ◌<◌, ◌≤◌, ◌↔◌, IsTrue, length, All, IsOk, OnOk, OnErr, vec_len, vec_capacity};
+ghost use Rattle.std.specs.Prelude.{◌≡◌, ◌≢◌, ℕ, List, [], ◌∷◌, ◌<◌, ◌≤◌, ◌+◌, ◌++◌, ◌↔◌, max, IsTrue, length, All, IsOk, OnOk, OnErr, vec_len, vec_capacity};
 ghost use Rattle.vcd_core.specs.Value.{all_x, same_letters};
 ghost use Rattle.vcd_core.specs.Wave.{last_value, AreChangesFrom, IsWave, AllUpTo, changes_before, changes_after_push};
 ghost use Rattle.vcd_core.specs.WordRows.{letters_of};
@@ -10,6 +10,9 @@ use crate::bit::Bit;
 use crate::memory::NoMemory;
 use crate::value::{Value, WIDTH_LIMIT};
 use crate::wave::Change;
+
+/// A list that is full gets room for at least so many changes more.
+pub(crate) const LEAST_ROOM: usize = 4;
 
 /// The value after all changes: all x where there are none.
 pub fn last_value(changes: &[Change], width: u64) -> Value
@@ -39,6 +42,7 @@ fn pop_at(changes: &mut Vec<Change>, tick: u64)
     requires form { (width : ℕ) × IsWave width changes.old.items }
     requires late { All (λ c. c.tick ≤ tick) changes.old.items }
     ensures kept { changes.new.items ≡ changes_before tick changes.old.items }
+    ensures len { vec_len changes.new ≤ vec_len changes.old }
     ensures capacity { vec_capacity changes.new ≡ vec_capacity changes.old }
 {
     let count = changes.len();
@@ -56,6 +60,34 @@ fn has_last_value(changes: &[Change], value: &Value) -> bool
         Some((last, _)) => *value == last.value,
         None => value.is_all_x(),
     }
+}
+
+/// Makes room for a change where there is none: for as many as there are, and at least for `LEAST_ROOM`.
+fn make_room(changes: &mut Vec<Change>) -> Result<(), NoMemory>
+    ensures changes { changes.new.items ≡ changes.old.items }
+    ensures room { OnOk result (vec_len changes.new < vec_capacity changes.new) }
+    ensures in_place { vec_len changes.old < vec_capacity changes.old → IsOk result }
+    ensures capacity { vec_capacity changes.old ≤ vec_capacity changes.new }
+    ensures kept_room { vec_len changes.old < vec_capacity changes.old →
+        vec_capacity changes.new ≡ vec_capacity changes.old }
+    ensures grown_room { vec_capacity changes.new ≤ max (vec_capacity changes.old)
+        (vec_len changes.old + max (vec_len changes.old) LEAST_ROOM) }
+{
+    if changes.len() < changes.capacity() {
+        return Ok(());
+    }
+    changes.reserve_exact(changes.len().max(LEAST_ROOM))?;
+    Ok(())
+}
+
+/// Puts a change after the others, for which there is room.
+fn push_in_room(changes: &mut Vec<Change>, change: Change)
+    requires { vec_len changes.old < vec_capacity changes.old }
+    ensures changes { changes.new.items ≡ changes.old.items ++ change ∷ [] }
+    ensures room { vec_capacity changes.new ≡ vec_capacity changes.old }
+{
+    // `push` does not say that the room stays as it is
+    let _ = changes.insert(changes.len(), change);
 }
 
 /// Makes `value` the value from `tick` on. It changes only the end of the list.
@@ -76,10 +108,15 @@ pub(crate) fn push_change(
     ensures adds_none { last_value (all_x width) (changes_before tick changes.old.items) ≡ value →
         IsOk result }
     ensures capacity { vec_capacity changes.old ≤ vec_capacity changes.new }
+    ensures kept_room { vec_len changes.old < vec_capacity changes.old →
+        vec_capacity changes.new ≡ vec_capacity changes.old }
+    ensures grown_room { vec_capacity changes.new ≤ max (vec_capacity changes.old)
+        (vec_len changes.old + max (vec_len changes.old) LEAST_ROOM) }
 {
     pop_at(changes, tick);
     if !has_last_value(changes.as_slice(), &value) {
-        changes.push(Change { tick, value })?;
+        make_room(changes)?;
+        push_in_room(changes, Change { tick, value });
     }
     Ok(())
 }
@@ -122,13 +159,16 @@ pub(crate) fn push_word_change(
     ensures adds_none { let value = letters_of width (low ∷ []) (high ∷ []) in
         last_value (all_x width) (changes_before tick changes.old.items) ≡ value → IsOk result }
     ensures capacity { vec_capacity changes.old ≤ vec_capacity changes.new }
+    ensures kept_room { vec_len changes.old < vec_capacity changes.old →
+        vec_capacity changes.new ≡ vec_capacity changes.old }
+    ensures grown_room { vec_capacity changes.new ≤ max (vec_capacity changes.old)
+        (vec_len changes.old + max (vec_len changes.old) LEAST_ROOM) }
 {
     pop_at(changes, tick);
     if !has_last_word(changes.as_slice(), width, low, high) {
-        changes.push(Change {
-            tick,
-            value: Value::from_word(width, low, high),
-        })?;
+        make_room(changes)?;
+        let value = Value::from_word(width, low, high);
+        push_in_room(changes, Change { tick, value });
     }
     Ok(())
 }

@@ -93,6 +93,7 @@ pub struct FromRead<R> {
 impl<R: Read> FromRead<R> {
     /// A source of the bytes that the reader has left.
     pub fn new(reader: R) -> FromRead<R>
+        ensures reader { result.reader ≡ reader }
         ensures coming { ⟦<FromRead<R> as Source>⟧.coming result ≡ R.remaining reader }
         ensures not_failed { ⟦<FromRead<R> as Source>⟧.has_failed result ≡ false }
     {
@@ -104,7 +105,8 @@ impl<R: Read> FromRead<R> {
 
     /// Gives the reader back.
     pub fn into_inner(self) -> R
-        ensures { R.remaining result ≡ ⟦<FromRead<R> as Source>⟧.coming self }
+        ensures reader { result ≡ self.reader }
+        ensures coming { R.remaining result ≡ ⟦<FromRead<R> as Source>⟧.coming self }
     {
         let FromRead { reader, .. } = self;
         reader
@@ -145,6 +147,7 @@ pub struct ToWrite<W> {
 impl<W: Write> ToWrite<W> {
     /// A sink that appends to the contents of the writer.
     pub fn new(writer: W) -> ToWrite<W>
+        ensures writer { result.writer ≡ writer }
         ensures taken { ⟦<ToWrite<W> as Sink>⟧.taken result ≡ W.contents writer }
         ensures not_failed { ⟦<ToWrite<W> as Sink>⟧.has_failed result ≡ false }
     {
@@ -156,7 +159,8 @@ impl<W: Write> ToWrite<W> {
 
     /// Gives the writer back.
     pub fn into_inner(self) -> W
-        ensures { W.contents result ≡ ⟦<ToWrite<W> as Sink>⟧.taken self }
+        ensures writer { result ≡ self.writer }
+        ensures taken { W.contents result ≡ ⟦<ToWrite<W> as Sink>⟧.taken self }
     {
         let ToWrite { writer, .. } = self;
         writer

@@ -4,6 +4,7 @@ ghost use Rattle.std.specs.Prelude.{◌≡◌, ℕ, ◌+◌, ◌-◌, ◌<◌, �
 ghost use Rattle.vcd_core.specs.Wave.{value_at, IsWave, changes_after_push};
 ghost use Rattle.vcd_core.specs.WordRows.{letters_of};
 ghost use Rattle.vcd_core.specs.Splice.{AllTicksFit, spliced_changes};
+ghost use Rattle.vcd_core.specs.declared.change_list.TheConstants.{LEAST_ROOM};
 
 use crate::change_list::{last_value, push_change, push_word_change};
 use crate::memory::NoMemory;
@@ -144,6 +145,13 @@ impl Wave {
             → IsOk result }
         ensures adds_none { 0 < self.old.room → value_at self.old.width self.old.changes tick ≡ value → IsOk result }
         ensures room { self.old.room ≤ self.new.room }
+
+        // That room stays as it is; without any, room for at least `LEAST_ROOM` changes is made, and
+        // for no more than there are.
+        ensures kept_room { length self.old.changes + 1 < self.old.room →
+            self.new.room ≡ self.old.room }
+        ensures grown_room { 0 < self.old.room → self.new.room ≤ max self.old.room
+            (length self.old.changes + max (length self.old.changes) LEAST_ROOM + 1) }
     {
         self.list.part(1)?;
         match &mut self.list {
@@ -175,6 +183,13 @@ impl Wave {
         ensures adds_none { 0 < self.old.room → let value = letters_of self.old.width (low ∷ []) (high ∷ []) in
             value_at self.old.width self.old.changes tick ≡ value → IsOk result }
         ensures room { self.old.room ≤ self.new.room }
+
+        // That room stays as it is; without any, room for at least `LEAST_ROOM` changes is made, and
+        // for no more than there are.
+        ensures kept_room { length self.old.changes + 1 < self.old.room →
+            self.new.room ≡ self.old.room }
+        ensures grown_room { 0 < self.old.room → self.new.room ≤ max self.old.room
+            (length self.old.changes + max (length self.old.changes) LEAST_ROOM + 1) }
     {
         self.list.part(1)?;
         match &mut self.list {

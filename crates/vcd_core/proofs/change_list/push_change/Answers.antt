@@ -1,9 +1,9 @@
-use Rattle.std.proofs.Common.{◌∙◌, ◌≡◌, sym, ap, ℕ, Bool, true, false, length, List}
+use Rattle.std.proofs.Common.{◌∙◌, ◌≡◌, ◌∷◌, [], ◌++◌, sym, ap, ℕ, Bool, true, false, length, List}
 use Rattle.vcd_core.specs.declared.bit.Bit.{Bit}
 use Rattle.vcd_core.specs.declared.wave.Change.{Change}
 use Rattle.vcd_core.specs.inside.ValueLaws.{same_letters-Decides}
 use Rattle.vcd_core.specs.Value.{all_x, same_letters}
-use Rattle.vcd_core.specs.Wave.{last_value}
+use Rattle.vcd_core.specs.Wave.{change, last_value}
 use Rattle.vcd_core.proofs.Pushes.{pushed_same, pushed_other}
 use Rattle.vcd_core.proofs.change_list.push_change.Goals as goal
 
@@ -14,8 +14,8 @@ told : (value : List Bit) (width : ℕ) (kept slice : List Change) (r b : Bool) 
 told value width kept slice r b same wide compared result =
     sym (λ i. same_letters value (last_value (all_x (wide i)) (same i))) ∙ sym compared ∙ result
 
-pub returns-in_err-push-clause-adds_none : goal.returns-in_err-push-clause-adds_none
-returns-in_err-push-clause-adds_none c same =
+pub returns-in_err-make_room-clause-adds_none : goal.returns-in_err-make_room-clause-adds_none
+returns-in_err-make_room-clause-adds_none c same =
     let differs : same_letters c.args.value (last_value (all_x c.args.width) c.pop_at.new.changes.items) ≡ false =
     told _ _ _ _ _ false c.as_slice.ensures.value c.requires.wide c.has_last_value.ensures
     c.if-not-has_last_value.true in
@@ -24,9 +24,9 @@ returns-in_err-push-clause-adds_none c same =
     let both : true ≡ false = sym equal ∙ differs in
     absurd (cc)
 
-pub returns-in_ok-push-clause-pushed : goal.returns-in_ok-push-clause-pushed
-returns-in_ok-push-clause-pushed c =
-    c.in_ok-push.ensures.items
+pub returns-in_ok-make_room-clause-pushed : goal.returns-in_ok-make_room-clause-pushed
+returns-in_ok-make_room-clause-pushed c =
+    c.push_in_room.ensures.changes ∙ ap (λ l. l ++ change c.args.tick c.args.value ∷ []) c.make_room.ensures.changes
     ∙ pushed_other _ _ _ _ _ c.pop_at.ensures.kept
     (told _ _ _ _ _ false c.as_slice.ensures.value c.requires.wide c.has_last_value.ensures
     c.if-not-has_last_value.true)

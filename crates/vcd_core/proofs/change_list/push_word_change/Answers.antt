@@ -19,8 +19,8 @@ pub has_last_word-requires-clause-form : goal.has_last_word-requires-clause-form
 has_last_word-requires-clause-form c =
     kept_wave c.args.width c.args.tick _ _ (c.as_slice.ensures.value ∙ c.pop_at.ensures.kept) c.requires.form
 
-pub returns-in_err-push-clause-adds_none : goal.returns-in_err-push-clause-adds_none
-returns-in_err-push-clause-adds_none c same =
+pub returns-in_err-make_room-clause-adds_none : goal.returns-in_err-make_room-clause-adds_none
+returns-in_err-make_room-clause-adds_none c same =
     let value : List Bit = letters_of c.args.width (c.args.low ∷ []) (c.args.high ∷ []) in
     let differs : same_letters value (last_value (all_x c.args.width) c.pop_at.new.changes.items) ≡ false =
     told _ _ _ _ _ false c.as_slice.ensures.value c.has_last_word.ensures c.if-not-has_last_word.true in
@@ -29,9 +29,11 @@ returns-in_err-push-clause-adds_none c same =
     let both : true ≡ false = sym equal ∙ differs in
     absurd (cc)
 
-pub returns-in_ok-push-clause-pushed : goal.returns-in_ok-push-clause-pushed
-returns-in_ok-push-clause-pushed c =
-    c.in_ok-push.ensures.items ∙ ap (λ v. c.pop_at.new.changes.items ++ change c.args.tick v ∷ []) c.from_word.ensures
+pub returns-in_ok-make_room-clause-pushed : goal.returns-in_ok-make_room-clause-pushed
+returns-in_ok-make_room-clause-pushed c =
+    c.push_in_room.ensures.changes ∙ ap (λ v. c.make_room.new.changes.items ++ change c.args.tick v ∷ []) c.from_word-value.ensures
+    ∙ ap (λ l. l ++ change c.args.tick (letters_of c.args.width (c.args.low ∷ []) (c.args.high ∷ [])) ∷ [])
+    c.make_room.ensures.changes
     ∙ pushed_other _ _ _ _ _ c.pop_at.ensures.kept
     (told _ _ _ _ _ false c.as_slice.ensures.value c.has_last_word.ensures c.if-not-has_last_word.true)
 
