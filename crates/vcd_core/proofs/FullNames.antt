@@ -1,13 +1,13 @@
 -- The beginning of a full name, and the tests of full names.
 use Rattle.std.proofs.Common.{◌≡◌, Bool, true, false, suc, append_assoc, length-append, if◌then◌else◌, ◌||◌, ℕ, ◌-◌}
+use Rattle.std.proofs.Common.{◌+◌, ◌&&◌, IsTrue, nat_eq, slice_index_or}
 use Rattle.std.proofs.Common.{◌<◌, ◌≤◌, List, [], ◌∷◌, ◌++◌, length, get_or, take, drop, map, refl, sym, ap, ◌∙◌}
 use Rattle.std.proofs.Common.{append-nil, arith}
-use Rattle.std.specs.List.{concat, list_any, ends_with}
-use Rattle.std.proofs.Math.Dec.{eqb}
-use Rattle.std.proofs.lemmas.Bool.Decides.{Decides-eqb}
-use Rattle.std.proofs.lemmas.Slice.Eq.{ends_is, bytes_eq-Decides}
+use Rattle.std.specs.List.{concat, list_any}
+use Rattle.std.proofs.lemmas.Bool.{eq-eqb}
+use Rattle.std.proofs.lemmas.Slice.Eq.{bytes_eq-Decides}
 use Rattle.std.specs.Str.{bytes_eq}
-use Rattle.std.proofs.lemmas.List.{take_all}
+use Rattle.std.proofs.lemmas.List.{take_all, get_or-append-add, length-drop, take-append-drop}
 use Rattle.vcd_core.specs.declared.capture.ScopeName.{ScopeName}
 use Rattle.vcd_core.specs.declared.capture.Signal.{Signal}
 use Rattle.vcd_core.specs.declared.full_name.FullName.{FullName}
@@ -93,39 +93,86 @@ name_in_ends (scope ∷ scopes) words =
           ∙ sym (append_assoc (scope_text scope) (46 ∷ rest.0) (concat words)),
     )
 
--- a name of which a scope is left ends with them too
-pub last_in_scope : (n : FullName) (last : List ℕ) → n.in_scope ≡ true
-    → ((front : List ℕ) × (n.first.now ++ concat n.others.now ≡ front ++ last))
-    → (front : List ℕ) × (name_bytes n ≡ front ++ last)
-last_in_scope n last within (front, ends) =
+-- a name of which a scope is left ends with the words of the variable
+pub end_in_scope : (n : FullName) → n.in_scope ≡ true
+    → (front : List ℕ) × (front ++ (n.first.now ++ concat n.others.now) ≡ name_bytes n)
+end_in_scope n within =
     let scoped = name_in_ends n.scopes.now (n.first.now ∷ n.others.now) in
-    let before = n.text.now ++ (concat n.words.now ++ 46 ∷ scoped.0) in (
-      before ++ front,
-      (λ i. n.text.now ++ (concat n.words.now
-          ++ (if within i then 46 ∷ name_in n.scopes.now (n.first.now ∷ n.others.now) else [])))
-          ∙ (λ i. n.text.now ++ (concat n.words.now ++ 46 ∷ (scoped.1 ∙ ap (λ l. scoped.0 ++ l) ends) i))
-          ∙ sym (append_assoc before front last
-          ∙ append_assoc n.text.now (concat n.words.now ++ 46 ∷ scoped.0) (front ++ last)
-          ∙ ap (λ l. n.text.now ++ l) (append_assoc (concat n.words.now) (46 ∷ scoped.0) (front ++ last))),
+    let before = concat n.words.now ++ 46 ∷ scoped.0 in
+    let words = n.first.now ++ concat n.others.now in (
+      n.text.now ++ before,
+      append_assoc n.text.now before words
+          ∙ ap (λ l. n.text.now ++ l) (append_assoc (concat n.words.now) (46 ∷ scoped.0) words)
+          ∙ (λ i. n.text.now ++ (concat n.words.now ++ 46 ∷ sym scoped.1 i))
+          ∙ (λ i. n.text.now ++ (concat n.words.now
+          ++ (if sym within i then 46 ∷ name_in n.scopes.now (n.first.now ∷ n.others.now) else []))),
     )
 
--- of two ends of one text, the longer ends with the shorter
-end_of_longer : (x y a b : List ℕ) → x ++ a ≡ y ++ b → length b ≤ length a → (front : List ℕ) × (a ≡ front ++ b)
-end_of_longer [] y a b is le = (y, is)
-end_of_longer (c ∷ x) [] a b is le = absurd (omega (arith, ap length is, length-append x a))
-end_of_longer (c ∷ x) (d ∷ y) a b is le = end_of_longer x y a b (ap (drop 1) is) le
-
-pub ends_with_end : (x y a b : List ℕ) (r : Bool) → r ≡ ends_with eqb a b → x ++ a ≡ y ++ b → length b ≤ length a
-    → r ≡ true
-ends_with_end x y a b r told is le =
-    let longer = end_of_longer x y a b is le in
-    (ends_is Decides-eqb a b r told).1 longer.0 longer.1
-
--- a text with an end that a name does not have is not that name
-pub other_end : (text name last : List ℕ) (r : Bool) → r ≡ ends_with eqb text last → r ≡ false
-    → ((front : List ℕ) × (name ≡ front ++ last)) → false ≡ bytes_eq text name
-other_end text name last r told fails (front, ends) = choose (bytes_eq text name) ((bytes_eq-Decides text name).0)
+-- what texts that end with these two would say of a test, of these two names
+pub not_the_name : (text name : List ℕ) (r : Bool) → r ≡ false → (text ≡ name → r ≡ true) → false ≡ bytes_eq text name
+not_the_name text name r fails passes = choose (bytes_eq text name) ((bytes_eq-Decides text name).0)
   where
     choose : (b : Bool) → (b ≡ true → text ≡ name) → false ≡ b
     choose false same = refl
-    choose true same = sym fails ∙ (ends_is Decides-eqb text last r told).1 front (same refl ∙ ends)
+    choose true same = sym fails ∙ passes (same refl)
+
+-- several words, the last of which is given
+pub concat_last : (words : List (List ℕ)) (w : List ℕ) → 1 ≤ length words → w ≡ get_or words (length words - 1) w
+    → concat words ≡ concat (take (length words - 1) words) ++ w
+concat_last [] w some is = absurd (omega arith)
+concat_last (v ∷ []) w some is = append-nil v ∙ sym is
+concat_last (v ∷ u ∷ us) w some is =
+    let place : length (v ∷ u ∷ us) - 1 ≡ suc (length (u ∷ us) - 1) = omega arith in
+    let rest = concat_last (u ∷ us) w (omega arith) (is ∙ ap (λ k. get_or (v ∷ u ∷ us) k w) place) in
+    rw place (ap (λ l. v ++ l) rest ∙ sym (append_assoc v (concat (take (length (u ∷ us) - 1) (u ∷ us))) w))
+
+-- two texts of one length that end the same text are the same, and so is what stands before them
+pub before_ends : (x y a b : List ℕ) → length a ≡ length b → x ++ a ≡ y ++ b → x ≡ y
+before_ends [] [] a b one is = refl
+before_ends [] (d ∷ y) a b one is = absurd (omega (arith, ap length is, length-append y b))
+before_ends (c ∷ x) [] a b one is = absurd (omega (arith, ap length is, length-append x a))
+before_ends (c ∷ x) (d ∷ y) a b one is =
+    rw (before_ends x y a b one (ap (drop 1) is)) (ap (λ l. get_or l 0 0 ∷ y) is)
+
+-- the same with a last word of words behind a first one
+pub ends_with_last : (x first : List ℕ) (others : List (List ℕ)) (w : List ℕ) → 1 ≤ length others
+    → w ≡ get_or others (length others - 1) w
+    → x ++ (first ++ concat others) ≡ (x ++ (first ++ concat (take (length others - 1) others))) ++ w
+ends_with_last x first others w some is =
+    let front = concat (take (length others - 1) others) in
+    ap (λ l. x ++ (first ++ l)) (concat_last others w some is)
+    ∙ sym (append_assoc x (first ++ front) w ∙ ap (λ l. x ++ l) (append_assoc first front w))
+
+pub words_end_with_last : (y : List ℕ) (words : List (List ℕ)) (w : List ℕ) → 1 ≤ length words
+    → w ≡ get_or words (length words - 1) w
+    → y ++ concat words ≡ (y ++ concat (take (length words - 1) words)) ++ w
+words_end_with_last y words w some is =
+    ap (λ l. y ++ l) (concat_last words w some is) ∙ sym (append_assoc y (concat (take (length words - 1) words)) w)
+
+-- bytes at the same distance from the ends of two texts that end the same text
+pub same_place : (x y a b : List ℕ) (i j : ℕ) → x ++ a ≡ y ++ b → length a + j ≡ length b + i
+    → get_or a i 0 ≡ get_or b j 0
+same_place x y a b i j is far =
+    let places : length x + i ≡ length y + j = omega (arith, far, ap length is, length-append x a, length-append y b) in
+    sym (get_or-append-add x a i 0) ∙ ap (λ l. get_or l (length x + i) 0) is
+    ∙ ap (λ k. get_or (y ++ b) k 0) places ∙ get_or-append-add y b j 0
+
+pub same_last_two : (x y a b : List ℕ) → x ++ a ≡ y ++ b → 2 ≤ length a → 2 ≤ length b
+    → IsTrue (nat_eq (slice_index_or a (length a - 2) 0) (slice_index_or b (length b - 2) 0)
+    && nat_eq (slice_index_or a (length a - 1) 0) (slice_index_or b (length b - 1) 0))
+same_last_two x y a b is long longer =
+    let one = eq-eqb _ _ (same_place x y a b (length a - 2) (length b - 2) is (omega arith)) in
+    let two = eq-eqb _ _ (same_place x y a b (length a - 1) (length b - 1) is (omega arith)) in
+    rw (one, two) refl
+
+-- what stands before the end of a text that ends as another one does
+pub before_count : (x y z text : List ℕ) (words : List (List ℕ)) (w : List ℕ) (count : ℕ) → count ≡ length z
+    → count ≤ length text → 1 ≤ length words → w ≡ get_or words (length words - 1) w
+    → x ++ text ≡ (y ++ concat words) ++ z
+    → x ++ take (length text - count) text ≡ (y ++ concat (take (length words - 1) words)) ++ w
+before_count x y z text words w count is within some last same =
+    let front = take (length text - count) text in
+    let back = drop (length text - count) text in
+    let long : length back ≡ length z = omega (arith, length-drop (length text - count) text, is) in
+    let parts = append_assoc x front back ∙ ap (λ l. x ++ l) (take-append-drop (length text - count) text) ∙ same in
+    before_ends (x ++ front) (y ++ concat words) back z long parts ∙ words_end_with_last y words w some last

@@ -1,6 +1,6 @@
 //! Full names, compared byte by byte without building them.
 
-ghost use Rattle.std.specs.Prelude.{◌≡◌, ◌∷◌, ◌++◌, ℕ, List, [], IsTrue, MatchOption, map};
+ghost use Rattle.std.specs.Prelude.{◌≡◌, ◌∷◌, ◌++◌, ℕ, List, [], IsTrue, MatchOption, length, map};
 ghost use Rattle.std.specs.List.{concat, list_any};
 ghost use Rattle.std.specs.Str.{bytes_eq};
 ghost use Rattle.vcd_core.specs.Contents.{signal_contents};
@@ -76,18 +76,30 @@ impl<'a> FullName<'a> {
         ensures { result ≡ list_any (bytes_eq (name_bytes self.now))
             (full_names (map signal_contents signals.now)) }
     {
-        signals
-            .iter()
-            .any(|signal| self.has_same_bytes(FullName::of(signal)))
+        signals.iter().any(|signal| self.is_name_of(signal))
+    }
+
+    /// Whether this is the full name of a signal.
+    fn is_name_of(&self, signal: &Signal) -> bool
+        ensures { result ≡ bytes_eq (name_bytes self.now) (full_name (signal_contents signal.now)) }
+    {
+        self.may_be_name(signal.words.as_slice()) && self.has_same_bytes(FullName::of(signal))
+    }
+
+    /// Whether a name that ends with these words may be this one.
+    fn may_be_name(&self, words: &[Word]) -> bool
+        ensures { (x : List ℕ) → name_bytes self.now ≡ x ++ concat words.now → IsTrue result }
+    {
+        if self.in_scope {
+            return may_end_alike(self.first, self.others, words);
+        }
+        may_end_alike(self.text, self.words, words)
     }
 
     /// Whether these are the bytes of the name.
     pub fn is_text(self, text: &[u8]) -> bool
         ensures { result ≡ bytes_eq text.now (name_bytes self.entry) }
     {
-        if !text.ends_with(self.last_word()) {
-            return false;
-        }
         let mut name = self;
         let mut rest = text;
         while let [byte, following @ ..] = rest {
@@ -103,9 +115,6 @@ impl<'a> FullName<'a> {
     fn has_same_bytes(self, other: FullName) -> bool
         ensures { result ≡ bytes_eq (name_bytes self.entry) (name_bytes other.entry) }
     {
-        if !may_end_alike(self.last_word(), other.last_word()) {
-            return false;
-        }
         let mut mine = self;
         let mut others = other;
         while let Some(byte) = mine.next_byte() {
@@ -114,16 +123,6 @@ impl<'a> FullName<'a> {
             }
         }
         others.next_byte().is_none()
-    }
-
-    /// The last word, or what is left of it.
-    fn last_word(&self) -> &'a [u8]
-        ensures { (front : List ℕ) × (name_bytes self.now ≡ front ++ result.now) }
-    {
-        if self.in_scope {
-            return last_of(self.first, self.others);
-        }
-        last_of(self.text, self.words)
     }
 
     /// Takes the next byte.
@@ -191,12 +190,65 @@ fn last_of<'a>(first: &'a [u8], others: &'a [Word]) -> &'a [u8]
     }
 }
 
-/// Whether two texts with these ends can be the same: the longer end must end with the shorter one.
-fn may_end_alike(a: &[u8], b: &[u8]) -> bool
+/// Whether a name that ends with `first` and the others, and one that ends with the words, may be the same.
+///
+/// It looks at two bytes of the last words, and where these have one length at two of the words before.
+fn may_end_alike(first: &[u8], others: &[Word], words: &[Word]) -> bool
+    ensures { (x y : List ℕ) → x ++ (first.now ++ concat others.now) ≡ y ++ concat words.now
+        → IsTrue result }
+{
+    match others {
+        [front @ .., last] => match words {
+            [before @ .., word] if word.as_slice().len() == last.as_slice().len() => {
+                have_one_end(last.as_slice(), word.as_slice())
+                    && may_end_with(last_of(first, front), before)
+            }
+            _ => may_end_with(last.as_slice(), words),
+        },
+        [] => may_end_with(first, words),
+    }
+}
+
+/// Whether a text that ends with this one, and a name that ends with these words, may be the same: so it looks
+/// at two bytes of the last word, and at two of the word before.
+pub(crate) fn may_end_with(text: &[u8], words: &[Word]) -> bool
+    ensures { (x y : List ℕ) → x ++ text.now ≡ y ++ concat words.now → IsTrue result }
+{
+    match words {
+        [before @ .., last] => {
+            have_one_end(text, last.as_slice())
+                && may_end_before(text, last.as_slice().len(), before)
+        }
+        [] => true,
+    }
+}
+
+/// The same of what stands before the last `count` bytes of the text, and of the last of the words.
+fn may_end_before(text: &[u8], count: usize, words: &[Word]) -> bool
+    ensures { (x y z : List ℕ) → count ≡ length z → x ++ text.now ≡ (y ++ concat words.now) ++ z → IsTrue result }
+{
+    match words {
+        [.., last] if count <= text.len() => {
+            have_one_end(&text[..text.len() - count], last.as_slice())
+        }
+        _ => true,
+    }
+}
+
+/// Whether two texts that end with these may be the same, by their last two bytes.
+fn have_one_end(a: &[u8], b: &[u8]) -> bool
     ensures { (x y : List ℕ) → x ++ a.now ≡ y ++ b.now → IsTrue result }
 {
-    if a.len() < b.len() {
-        return b.ends_with(a);
+    match a {
+        [.., a_before, a_last] => match b {
+            [.., b_before, b_last] => (*a_before == *b_before) & (*a_last == *b_last),
+            [b_last] => *a_last == *b_last,
+            [] => true,
+        },
+        [a_last] => match b {
+            [.., b_last] => *a_last == *b_last,
+            [] => true,
+        },
+        [] => true,
     }
-    a.ends_with(b)
 }

@@ -9,7 +9,7 @@ ghost use Rattle.vcd_core.specs.Names.{full_name, full_names, is_numbered, numbe
 
 use crate::capture::{Capture, Signal};
 use crate::decimal::number_up_to;
-use crate::full_name::FullName;
+use crate::full_name::{FullName, may_end_with};
 
 impl Capture {
     /// Whether the signal at position `k` has this full name: the names of its scopes and its own,
@@ -49,7 +49,7 @@ fn first_named(signals: &[Signal], name: &[u8]) -> Option<usize>
 fn has_full_name(signal: &Signal, name: &[u8]) -> bool
     ensures { result ≡ bytes_eq name.now (full_name (signal_contents signal.now)) }
 {
-    FullName::of(signal).is_text(name)
+    may_end_with(name, signal.words.as_slice()) && FullName::of(signal).is_text(name)
 }
 
 /// The position that a name gives as `@` and a decimal number, where it is below `count`.
