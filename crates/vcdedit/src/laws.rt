@@ -1,10 +1,12 @@
 //! Laws about the definitions alone: each function has an empty body, and its contract is the law.
 
-ghost use Rattle.vcdedit.specs.Laws.{EveryRunIsOfReplays, EveryRunWritesOneThing, ReplaysAreOfRun, RefusedLineChangesNothing, ReplyIsAnswer, RunIsReplay, UndoGivesBack, UndoInRunGivesBack, UndoTakesBackTheLast};
+ghost use Rattle.vcdedit.specs.Laws.{EveryRunIs, EveryRunIsOfReplays, EveryRunWritesOneThing, ReplaysAreOfRun, RunsAreOfReplays, RefusedLineChangesNothing, ReplyIsAnswer, RunIsReplay, UndoGivesBack, UndoInRunGivesBack, UndoTakesBackTheLast};
 
 /// What a run writes is the one thing that is of replays, of what the capture file means, by the lines of the
 /// script. A file and a script make a run write one thing only.
 pub fn run_is_of_replays()
+    ensures run { EveryRunIs }
+    ensures of_machine { RunsAreOfReplays }
     ensures replays { EveryRunIsOfReplays }
     ensures of_run { ReplaysAreOfRun }
     ensures one_thing { EveryRunWritesOneThing }
