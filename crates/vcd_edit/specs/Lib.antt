@@ -3,6 +3,7 @@ pub mod EditErrorNames
 pub mod Operators
 pub mod Effect
 pub mod Allowed
+pub mod Refused
 pub mod Laws
 pub mod RecordView
 pub mod AppliedRecords

@@ -19,7 +19,8 @@ use Rattle.vcd_journal.specs.declared.step.StepError.TheVariants as refusals
 use Rattle.vcd_journal.specs.declared.step.Answer.{Answer}
 use Rattle.vcd_journal.specs.declared.step.Answer.TheVariants.{Done, Refused}
 use Rattle.vcd_journal.specs.Machine.{Machine, first_machine, step_outcome, accepted_outcome, refused_outcome}
-use Rattle.vcd_journal.specs.InForce.{tally_of_steps, tally_after_all, replay, earlier_replays, later_replays}
+use Rattle.vcd_journal.specs.InForce.{tally_of_steps, tally_after_all, earlier_replays, later_replays}
+use Rattle.vcd_journal.specs.History.{replay}
 
 -- ---- renames of one signal
 

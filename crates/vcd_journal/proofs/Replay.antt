@@ -14,7 +14,8 @@ use Rattle.vcd_journal.specs.declared.step.Answer.{Answer}
 use Rattle.vcd_journal.specs.Machine.{Machine, StepOutcome, first_machine, machine_after_depth, accepted_outcome}
 use Rattle.vcd_journal.specs.Machine.{refused_outcome, edit_outcome, undo_outcome, redo_outcome, is_depth, step_outcome}
 use Rattle.vcd_journal.specs.Machine.{memory_refusal, IsStep, StepsLead}
-use Rattle.vcd_journal.specs.InForce.{Tally, tally_after, tally_after_all, replay, earlier_replays, later_replays}
+use Rattle.vcd_journal.specs.InForce.{Tally, tally_after, tally_after_all, earlier_replays, later_replays}
+use Rattle.vcd_journal.specs.History.{replay}
 use Rattle.vcd_journal.specs.InForce.{IsReplay}
 use Rattle.vcd_journal.specs.Laws.{SessionIsReplay}
 

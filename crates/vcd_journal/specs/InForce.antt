@@ -2,12 +2,12 @@
 use Rattle.std.specs.Prelude.{◌≡◌, List, [], ◌∷◌, length, take}
 use Rattle.vcd_core.specs.Contents.{Contents}
 use Rattle.vcd_edit.specs.declared.edit.Edit.{Edit}
-use Rattle.vcd_edit.specs.Effect.{effect}
 use Rattle.vcd_journal.specs.declared.step.Step.{Step}
 use Rattle.vcd_journal.specs.declared.step.Step.TheVariants as steps
 use Rattle.vcd_journal.specs.declared.step.Answer.{Answer}
 use Rattle.vcd_journal.specs.declared.step.Answer.TheVariants.{Done}
 use Rattle.vcd_journal.specs.Machine.{Machine}
+use Rattle.vcd_journal.specs.History.{replay}
 
 -- the edits in force and the undone edits, both with the last one first
 pub record Tally : Type 0 where
@@ -40,12 +40,7 @@ tally_after_all t asked answers = t
 abbrev pub tally_of_steps : List Step → List Answer → Tally
 tally_of_steps asked answers = tally_after_all (record { edits_in_force = []; undone_edits = [] }) asked answers
 
--- the capture after edits are made one after another; the first of the list is made last
-unfoldable pub replay : Contents → List Edit → Contents
-replay c [] = c
-replay c (e ∷ es) = effect e (replay c es)
-
--- the replays without the last edit, without the last two, and so on down to none
+-- the replays of the edits without the last, without the last two, and so on down to none
 unfoldable pub earlier_replays : Contents → List Edit → List Contents
 earlier_replays c [] = []
 earlier_replays c (e ∷ es) = replay c es ∷ earlier_replays c es

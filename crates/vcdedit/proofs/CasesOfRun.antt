@@ -11,12 +11,13 @@ use Rattle.vcd_text.specs.Text.{code_digits, signal_items, tick_items, items_of,
 use Rattle.vcd_edit.specs.Effect.{effect}
 use Rattle.vcd_edit.specs.Allowed.{edit_fault}
 use Rattle.vcdedit.specs.Script.{script_lines, command_of_line}
-use Rattle.vcdedit.specs.Reply.{line_reply}
-use Rattle.vcdedit.specs.Run.{machine_after_line, machine_after_lines, refusal_count, RunOutcome}
+use Rattle.vcdedit.specs.MachineReplies.{line_reply}
+use Rattle.vcdedit.specs.RunMachines.{machine_after_line, machine_after_lines, refusal_count}
+use Rattle.vcdedit.specs.Run.{RunOutcome}
 use Rattle.vcdedit.specs.RunOutcomes.{line_replies, run_outcome, RunWrites}
 use Rattle.vcdedit.specs.RunEnds.{ReaderEnd, RunEnds}
 use Rattle.vcdedit.specs.declared.running.run_error.RunError.TheVariants as run_errors
-use Rattle.vcdedit.proofs.RunReplays.{run_is_of_replays}
+use Rattle.vcdedit.proofs.RunHistories.{run_is}
 use Rattle.vcd_text.proofs.CasesOfFiles.{one_scalar as one_scalar_file, one_scalar_contents, one_scalar_means}
 use Rattle.vcd_text.proofs.CasesOfText.{one_scalar, one_scalar_text, capture, wire, top, from}
 
@@ -91,7 +92,7 @@ stops_at_second_line = (
   tt,
   (
     undone,
-    run_is_of_replays one_scalar_file (codes "rename top.a b\nundo\n") 100 undone undo_of_file,
+    run_is one_scalar_file (codes "rename top.a b\nundo\n") 100 undone undo_of_file,
     (search arith, refl),
   ),
 )
@@ -108,7 +109,7 @@ stops_in_second_reply = (
   tt,
   (
     undone,
-    run_is_of_replays one_scalar_file (codes "rename top.a b\nundo\n") 100 undone undo_of_file,
+    run_is one_scalar_file (codes "rename top.a b\nundo\n") 100 undone undo_of_file,
     (search arith, refl),
   ),
 )

@@ -17,6 +17,7 @@ pub mod RunParts
 pub mod ProgramRuns
 pub mod SoundCaptures
 pub mod RunReplays
+pub mod RunHistories
 pub mod HexDigits
 pub mod AskedDepths
 pub mod HeldDepths

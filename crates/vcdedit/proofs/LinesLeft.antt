@@ -7,8 +7,8 @@ use Rattle.std.proofs.lemmas.List.Folds.{concat-append}
 use Rattle.std.specs.Io.KnownBytes.{Appends}
 use Rattle.std.proofs.KnownBytes.{Appends-nil, Appends-trans}
 use Rattle.vcd_journal.specs.Machine.{Machine}
-use Rattle.vcdedit.specs.Reply.{line_reply_text, is_line_refused}
-use Rattle.vcdedit.specs.Run.{machine_after_line, machine_after_lines, refusal_count}
+use Rattle.vcdedit.specs.MachineReplies.{line_reply_text, is_line_refused}
+use Rattle.vcdedit.specs.RunMachines.{machine_after_line, machine_after_lines, refusal_count}
 use Rattle.vcdedit.specs.RunOutcomes.{line_replies}
 use Rattle.vcdedit.specs.Script.{script_lines}
 use Rattle.vcdedit.specs.inside.RunLines.{LineStep, RunsLines}

@@ -18,13 +18,13 @@ use Rattle.vcdedit.specs.declared.running.run_error.RunError.{RunError}
 use Rattle.vcdedit.specs.declared.running.run_error.RunError.TheVariants as run_errors
 use Rattle.vcdedit.specs.declared.running.run_error.Summary.{Summary}
 use Rattle.vcdedit.specs.Script.{script_lines}
-use Rattle.vcdedit.specs.Run.{RunOutcome, IsRunOfReplays}
+use Rattle.vcdedit.specs.Run.{RunOutcome, IsRun}
 use Rattle.vcdedit.specs.RunOutcomes.{run_outcome}
 use Rattle.vcdedit.specs.RunEnds.{ReaderEnd, WriterEnd, IsAccepted, IsWholeScript, IsUnread, HasText, RunEnds}
 use Rattle.vcdedit.specs.inside.RunLines.{IfReplyFault, RunsLines, StopsInLines}
 use Rattle.vcdedit.specs.inside.RunStages.{EndsBeforeOutput, EndsBeforeReplies}
 use Rattle.vcdedit.specs.inside.ScriptRuns.{ScriptGives}
-use Rattle.vcdedit.proofs.RunReplays.{run_is_of_replays}
+use Rattle.vcdedit.proofs.RunHistories.{run_is}
 
 -- ---- the result of the script
 
@@ -60,13 +60,13 @@ where_told : (coming script_coming : Option (List ℕ)) (script : List ℕ) (dep
     (said : RunOutcome → Type 0) →
     IfSome coming (λ f. FileMeans f c skipped) → IfSome script_coming (λ s. script ≡ s)
     → said (run_outcome c skipped script depth) →
-    IfSome coming (λ f. IfSome script_coming (λ s. (written : RunOutcome) × IsRunOfReplays f s depth written
+    IfSome coming (λ f. IfSome script_coming (λ s. (written : RunOutcome) × IsRun f s depth written
     × said written))
 where_told None script_coming script depth skipped c said means is holds = tt
 where_told (Some f) None script depth skipped c said means is holds = tt
 where_told (Some f) (Some s) script depth skipped c said means is holds = (
   run_outcome c skipped s depth,
-  run_is_of_replays f s depth (run_outcome c skipped s depth)
+  run_is f s depth (run_outcome c skipped s depth)
       (record { contents = c; skipped = skipped; means = means; run = refl }),
   subst (λ (bytes : List ℕ). said (run_outcome c skipped bytes depth)) is holds,
 )
@@ -77,13 +77,13 @@ if_run_writes : (file script : Option (List ℕ)) (depth count : ℕ) (took_repl
     IfSome file (λ f. IfSome script (λ s. ScriptGives f s depth count took_replies now)) →
     ((written : RunOutcome) → took_replies (concat written.replies) → written.output ≡ text now
     → count ≡ written.refused → said written) →
-    IfSome file (λ f. IfSome script (λ s. (written : RunOutcome) × IsRunOfReplays f s depth written × said written))
+    IfSome file (λ f. IfSome script (λ s. (written : RunOutcome) × IsRun f s depth written × said written))
 if_run_writes None script depth count took_replies now said ran follows = tt
 if_run_writes (Some f) None depth count took_replies now said ran follows = tt
 if_run_writes (Some f) (Some s) depth count took_replies now said ran follows =
     let written = run_outcome ran.contents ran.skipped s depth in (
       written,
-      run_is_of_replays f s depth written (record {
+      run_is f s depth written (record {
         contents = ran.contents;
         skipped = ran.skipped;
         means = ran.means;

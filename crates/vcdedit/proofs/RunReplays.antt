@@ -19,15 +19,17 @@ use Rattle.vcd_journal.specs.declared.step.Step.TheVariants as steps
 use Rattle.vcd_journal.specs.Machine.{Machine, first_machine, step_outcome, edit_outcome, undo_outcome, redo_outcome}
 use Rattle.vcd_journal.specs.Machine.{is_depth}
 use Rattle.vcd_journal.proofs.Replay.{depth_choice}
-use Rattle.vcd_journal.specs.InForce.{replay, earlier_replays}
+use Rattle.vcd_journal.specs.History.{replay}
+use Rattle.vcd_journal.specs.InForce.{earlier_replays}
 use Rattle.vcdedit.specs.declared.script.command.Command.{Command}
 use Rattle.vcdedit.specs.declared.script.command.Command.TheVariants as commands
 use Rattle.vcdedit.specs.declared.script.line_error.LineError.{LineError}
 use Rattle.vcdedit.specs.Script.{script_lines, command_of_line}
-use Rattle.vcdedit.specs.Reply.{line_reply, command_reply, step_reply}
-use Rattle.vcdedit.specs.Run.{machine_after_command, machine_after_line, machine_after_lines, no_edits}
-use Rattle.vcdedit.specs.Run.{tally_after_lines, reply_on, is_refused_on, RunOutcome, IsLineOfRun, machine_at, tally_at}
-use Rattle.vcdedit.specs.Run.{last_replay, IsOfReplays, refusal_count}
+use Rattle.vcdedit.specs.MachineReplies.{line_reply, command_reply, step_reply}
+use Rattle.vcdedit.specs.RunMachines.{machine_after_command, machine_after_line, machine_after_lines, no_edits}
+use Rattle.vcdedit.specs.RunMachines.{tally_after_lines, reply_on, is_refused_on, IsLineOfRun, machine_at, tally_at}
+use Rattle.vcdedit.specs.Run.{RunOutcome}
+use Rattle.vcdedit.specs.RunMachines.{last_replay, IsOfReplays, refusal_count}
 use Rattle.vcdedit.specs.RunOutcomes.{line_replies, run_outcome}
 use Rattle.vcdedit.specs.Laws.{EveryRunIsOfReplays, EveryRunWritesOneThing, ReplaysAreOfRun, RefusedLineChangesNothing}
 use Rattle.vcdedit.specs.Laws.{UndoGivesBack, UndoTakesBackTheLast, answer_reply}

@@ -18,7 +18,7 @@ use Rattle.vcdedit.specs.declared.script.command.Command.{Command}
 use Rattle.vcdedit.specs.declared.script.command.Command.TheVariants as commands
 use Rattle.vcdedit.specs.declared.script.line_error.LineError.{LineError}
 use Rattle.vcdedit.specs.Script.{command_of_line}
-use Rattle.vcdedit.specs.Run.{machine_after_command, machine_after_line, machine_after_lines}
+use Rattle.vcdedit.specs.RunMachines.{machine_after_command, machine_after_line, machine_after_lines}
 
 -- all captures that a machine holds are sound
 pub record HoldsSound (m : Machine) : Type 0 where

@@ -10,10 +10,13 @@ use Rattle.vcd_journal.specs.declared.step.Answer.{Answer}
 use Rattle.vcd_journal.specs.declared.step.Answer.TheVariants.{Done, Refused}
 use Rattle.vcd_journal.specs.StepErrorNames.{step_error_name}
 use Rattle.vcd_journal.specs.Machine.{Machine, first_machine, step_outcome}
-use Rattle.vcd_journal.specs.InForce.{IsReplay, replay}
+use Rattle.vcd_journal.specs.InForce.{IsReplay}
+use Rattle.vcd_journal.specs.History.{replay}
 use Rattle.vcdedit.specs.Script.{command_of_line}
-use Rattle.vcdedit.specs.Reply.{LineReply, ok_reply, step_reply}
-use Rattle.vcdedit.specs.Run.{RunOutcome, IsRunOfReplays, machine_after_line, machine_after_lines, no_edits, tally_after_lines, is_refused_on}
+use Rattle.vcdedit.specs.Reply.{LineReply, ok_reply}
+use Rattle.vcdedit.specs.MachineReplies.{step_reply}
+use Rattle.vcdedit.specs.Run.{RunOutcome, IsRun}
+use Rattle.vcdedit.specs.RunMachines.{IsRunOfReplays, machine_after_line, machine_after_lines, no_edits, tally_after_lines, is_refused_on}
 use Rattle.vcdedit.specs.RunOutcomes.{RunWrites}
 
 -- ---- replies
@@ -33,6 +36,16 @@ ReplyIsAnswer = (m : Machine) (step : Step) → step_reply step m.now (length m.
 abbrev pub RunIsReplay : Type 0
 RunIsReplay = (c : Contents) (depth : ℕ) (lines : List (List ℕ))
     → IsReplay c (tally_after_lines no_edits (first_machine c depth) lines) (machine_after_lines (first_machine c depth) lines)
+
+-- whatever a machine makes a run write is what a run writes
+abbrev pub EveryRunIs : Type 0
+EveryRunIs = (file script : List ℕ) (depth : ℕ) (written : RunOutcome)
+    → RunWrites file script depth written → IsRun file script depth written
+
+-- and what a run writes is of replays
+abbrev pub RunsAreOfReplays : Type 0
+RunsAreOfReplays = (file script : List ℕ) (depth : ℕ) (written : RunOutcome)
+    → IsRun file script depth written → IsRunOfReplays file script depth written
 
 -- whatever a run writes is of replays
 abbrev pub EveryRunIsOfReplays : Type 0

@@ -12,6 +12,8 @@ pub mod CommandSignals
 pub mod DecoderReply
 pub mod Reply
 pub mod Run
+pub mod MachineReplies
+pub mod RunMachines
 pub mod RunOutcomes
 pub mod Laws
 pub mod Report

@@ -1,26 +1,16 @@
--- The reply to a line of a script. Its form is the project's own.
-use Rattle.std.specs.Prelude.{ℕ, zero, suc, Bool, not, nat_lt, if◌then◌else◌, List, [], ◌∷◌, ◌++◌, Option, Some, None, Result, Ok, Err, is_err, codes}
+-- What the tool answers to a line of a script: the project's own.
+use Rattle.std.specs.Prelude.{ℕ, List, [], ◌∷◌, ◌++◌, Option, Some, None, Result, Ok, Err, codes}
 use Rattle.std.specs.List.{flat_map}
 use Rattle.std.specs.Fmt.{decimal}
 use Rattle.vcd_core.specs.Contents.{Contents, signal_at}
-use Rattle.vcd_edit.specs.declared.fault.EditError.{EditError}
-use Rattle.vcd_journal.specs.declared.step.Step.{Step}
-use Rattle.vcd_journal.specs.declared.step.Step.TheVariants as steps
-use Rattle.vcd_journal.specs.declared.step.StepError.{StepError}
-use Rattle.vcd_journal.specs.declared.step.StepError.TheVariants as refusals
+use Rattle.vcd_edit.specs.Refused.{refusal_among}
+use Rattle.vcd_journal.specs.History.{History, step_tests}
 use Rattle.vcdedit.specs.declared.script.command.Command.{Command}
 use Rattle.vcdedit.specs.declared.script.command.Command.TheVariants as commands
-use Rattle.vcdedit.specs.declared.script.line_error.LineError.{LineError}
-use Rattle.vcd_edit.specs.EditErrorNames.{edit_error_name}
-use Rattle.vcd_journal.specs.StepErrorNames.{step_error_name}
-use Rattle.vcd_journal.specs.Machine.{is_depth}
-use Rattle.vcdedit.specs.LineErrorNames.{line_error_name}
-use Rattle.vcd_edit.specs.Allowed.{edit_fault}
 use Rattle.vcdedit.specs.DecoderReply.{uart_lines, spi_lines, i2c_lines}
-use Rattle.vcdedit.specs.Script.{command_of_line}
 use Rattle.vcdedit.specs.Queries.{listing, value_line, change_lines}
 
--- the lines of an answer, or the name of a fault
+-- the lines of an answer, or the word of a refusal
 abbrev pub LineReply : Type 0
 LineReply = Result (List (List ℕ)) (List ℕ)
 
@@ -28,45 +18,26 @@ LineReply = Result (List (List ℕ)) (List ℕ)
 abbrev pub ok_reply : LineReply
 ok_reply = Ok (codes "ok" ∷ [])
 
--- the reply to an edit with this fault, or with none
-abbrev pub edit_reply : Option EditError → LineReply
-edit_reply None = ok_reply
-edit_reply (Some found) = Err (edit_error_name found)
+-- a step that is refused with this word, or with none
+abbrev pub step_answer : Option (List ℕ) → LineReply
+step_answer None = ok_reply
+step_answer (Some refusal) = Err refusal
 
--- the reply to an undo or a redo with so many held captures; without any it is refused
-abbrev pub history_reply : ℕ → StepError → LineReply
-history_reply zero refusal = Err (step_error_name refusal)
-history_reply (suc held) refusal = ok_reply
+-- what a line asks for on a capture with a history, so many variables of whose file were skipped
+abbrev pub command_answer : Contents → (skipped : ℕ) → History → Command → LineReply
+command_answer c skipped h commands.Nothing = Ok []
+command_answer c skipped h (commands.Step step) = step_answer (refusal_among (step_tests c h step))
+command_answer c skipped h commands.List = Ok (listing c skipped)
+command_answer c skipped h (commands.Value k tick) = Ok (value_line (signal_at c k) tick ∷ [])
+command_answer c skipped h (commands.Changes k) = Ok (change_lines (signal_at c k).changes)
+command_answer c skipped h (commands.Uart k setup) = Ok (uart_lines c k setup)
+command_answer c skipped h (commands.Spi clk mosi miso cs setup) = Ok (spi_lines c clk mosi miso cs setup)
+command_answer c skipped h (commands.I2c scl sda) = Ok (i2c_lines c scl sda)
 
--- the reply to another depth, with so many edits to redo
-abbrev pub depth_reply : (depth redoable : ℕ) → LineReply
-depth_reply depth redoable = if not (is_depth depth) then Err (step_error_name refusals.BadDepth)
-    else (if nat_lt depth redoable then Err (step_error_name refusals.DepthTooSmall)
-    else ok_reply)
-
--- the reply to a step on a capture, with so many edits to undo and to redo
-abbrev pub step_reply : Step → Contents → (undoable redoable : ℕ) → LineReply
-step_reply (steps.Edit e) c undoable redoable = edit_reply (edit_fault e c)
-step_reply steps.Undo c undoable redoable = history_reply undoable refusals.NothingToUndo
-step_reply steps.Redo c undoable redoable = history_reply redoable refusals.NothingToRedo
-step_reply (steps.Depth depth) c undoable redoable = depth_reply depth redoable
-
--- the reply to a line that asks for this, or is no command
-abbrev pub command_reply : Result Command LineError → Contents → (skipped undoable redoable : ℕ) → LineReply
-command_reply (Err found) c skipped undoable redoable = Err (line_error_name found)
-command_reply (Ok commands.Nothing) c skipped undoable redoable = Ok []
-command_reply (Ok (commands.Step step)) c skipped undoable redoable = step_reply step c undoable redoable
-command_reply (Ok commands.List) c skipped undoable redoable = Ok (listing c skipped)
-command_reply (Ok (commands.Value k tick)) c skipped undoable redoable = Ok (value_line (signal_at c k) tick ∷ [])
-command_reply (Ok (commands.Changes k)) c skipped undoable redoable = Ok (change_lines (signal_at c k).changes)
-command_reply (Ok (commands.Uart k setup)) c skipped undoable redoable = Ok (uart_lines c k setup)
-command_reply (Ok (commands.Spi clk mosi miso cs setup)) c skipped undoable redoable =
-    Ok (spi_lines c clk mosi miso cs setup)
-command_reply (Ok (commands.I2c scl sda)) c skipped undoable redoable = Ok (i2c_lines c scl sda)
-
--- the reply to a line on a capture from a file with so many skipped declarations
-unfoldable pub line_reply : (line : List ℕ) → Contents → (skipped undoable redoable : ℕ) → LineReply
-line_reply line c skipped undoable redoable = command_reply (command_of_line c line) c skipped undoable redoable
+-- the same of a line that asks for this, or is refused with this word
+abbrev pub asked_answer : Contents → (skipped : ℕ) → History → Result Command (List ℕ) → LineReply
+asked_answer c skipped h (Ok command) = command_answer c skipped h command
+asked_answer c skipped h (Err refusal) = Err refusal
 
 -- a line of a reply, which ends with a line feed (10)
 abbrev pub with_line_feed : List ℕ → List ℕ
@@ -76,12 +47,3 @@ with_line_feed bytes = bytes ++ 10 ∷ []
 abbrev pub reply_text : ℕ → LineReply → List ℕ
 reply_text number (Ok lines) = flat_map with_line_feed lines
 reply_text number (Err name) = with_line_feed (codes "line " ++ decimal number ++ codes ": refused: " ++ name)
-
--- the reply to a line as bytes: it depends only on these arguments
-abbrev pub line_reply_text : (number : ℕ) → (line : List ℕ) → Contents → (skipped undoable redoable : ℕ) → List ℕ
-line_reply_text number line c skipped undoable redoable =
-    reply_text number (line_reply line c skipped undoable redoable)
-
--- whether a line is refused
-abbrev pub is_line_refused : (line : List ℕ) → Contents → (skipped undoable redoable : ℕ) → Bool
-is_line_refused line c skipped undoable redoable = is_err (line_reply line c skipped undoable redoable)

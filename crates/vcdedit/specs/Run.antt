@@ -1,63 +1,15 @@
--- What a run writes, by the captures after its lines: the headline. The rules are the project's own.
-use Rattle.std.specs.Prelude.{◌≡◌, ◌<◌, ℕ, ◌+◌, if◌then◌else◌, true, false, Bool, List, [], ◌∷◌, length, take, get_or, Result, Ok}
+-- What a run writes: the headline. The project's own.
+use Rattle.std.specs.Prelude.{◌≡◌, ◌≤◌, ℕ, if◌then◌else◌, List, [], ◌∷◌, length, take, map, fold, count_by, is_err, Result, Ok}
+use Rattle.std.specs.List.{enumerate_from}
 use Rattle.vcd_core.specs.Contents.{Contents}
 use Rattle.vcd_core.specs.Sound.{IsSound}
-use Rattle.vcdedit.specs.declared.script.command.Command.{Command}
-use Rattle.vcdedit.specs.declared.script.command.Command.TheVariants as commands
-use Rattle.vcdedit.specs.declared.script.line_error.LineError.{LineError}
 use Rattle.vcd_text.specs.Meaning.{FileMeans}
 use Rattle.vcd_text.specs.Text.{text}
-use Rattle.vcd_edit.specs.declared.edit.Edit.{Edit}
-use Rattle.vcd_journal.specs.declared.step.Step.TheVariants as steps
-use Rattle.vcd_journal.specs.Machine.{Machine, first_machine, step_outcome}
-use Rattle.vcd_journal.specs.InForce.{Tally, IsReplay, tally_after, replay}
-use Rattle.vcdedit.specs.Script.{script_lines, command_of_line}
-use Rattle.vcdedit.specs.Reply.{line_reply_text, is_line_refused}
-
--- ---- lines
-
--- the machine after what a line asks for
-abbrev pub machine_after_command : Machine → Result Command LineError → Machine
-machine_after_command m (Ok (commands.Step step)) = (step_outcome m step).after
-machine_after_command m asked = m
-
--- the machine after a line, read on the current capture
-unfoldable pub machine_after_line : Machine → List ℕ → Machine
-machine_after_line m line = machine_after_command m (command_of_line m.now line)
-
--- the machine after lines
-unfoldable pub machine_after_lines : Machine → List (List ℕ) → Machine
-machine_after_lines m [] = m
-machine_after_lines m (line ∷ lines) = machine_after_lines (machine_after_line m line) lines
-
--- no edit is in force, and none undone
-abbrev pub no_edits : Tally
-no_edits = record { edits_in_force = []; undone_edits = [] }
-
--- the edits in force and those undone, after what a line asks for on a machine
-abbrev pub tally_after_command : Tally → Machine → Result Command LineError → Tally
-tally_after_command t m (Ok (commands.Step step)) = tally_after t step (step_outcome m step).answer
-tally_after_command t m asked = t
-
--- the same after lines
-unfoldable pub tally_after_lines : Tally → Machine → List (List ℕ) → Tally
-tally_after_lines t m [] = t
-tally_after_lines t m (line ∷ lines) =
-    tally_after_lines (tally_after_command t m (command_of_line m.now line)) (machine_after_line m line) lines
-
--- the reply to a line with this number on a machine
-abbrev pub reply_on : (skipped number : ℕ) → List ℕ → Machine → List ℕ
-reply_on skipped number line m = line_reply_text number line m.now skipped (length m.past) (length m.future)
-
--- whether a line is refused on a machine
-abbrev pub is_refused_on : (skipped : ℕ) → List ℕ → Machine → Bool
-is_refused_on skipped line m = is_line_refused line m.now skipped (length m.past) (length m.future)
-
--- how many lines are refused
-unfoldable pub refusal_count : (skipped : ℕ) → Machine → List (List ℕ) → ℕ
-refusal_count skipped m [] = 0
-refusal_count skipped m (line ∷ lines) =
-    (if is_refused_on skipped line m then 1 else 0) + refusal_count skipped (machine_after_line m line) lines
+use Rattle.vcd_journal.specs.History.{History, first_history, history_after, replay}
+use Rattle.vcdedit.specs.declared.script.command.Command.{Command}
+use Rattle.vcdedit.specs.declared.script.command.Command.TheVariants as commands
+use Rattle.vcdedit.specs.Script.{script_lines, asked_by}
+use Rattle.vcdedit.specs.Reply.{LineReply, asked_answer, reply_text}
 
 -- what a run writes: a reply to each line, and the output; and how many lines it refuses
 pub record RunOutcome : Type 0 where
@@ -65,53 +17,59 @@ pub record RunOutcome : Type 0 where
   pub output : List ℕ
   pub refused : ℕ
 
--- ---- the headline
+-- the history after what a line asks for: steps alone change it
+abbrev pub history_after_asked : History → Result Command (List ℕ) → History
+history_after_asked h (Ok (commands.Step step)) = history_after h step
+history_after_asked h asked = h
 
--- a line changes one machine into the next, on a capture with these edits in force
-pub record IsLineOfRun (c : Contents) (t : Tally) (skipped : ℕ) (line : List ℕ) (m next : Machine) : Type 0 where
-  -- a refused line changes neither the capture nor what can be undone or redone
-  pub unchanged : is_refused_on skipped line m ≡ true → next ≡ m
-  -- an accepted undo restores the capture before the last edit in force
-  pub undone : command_of_line m.now line ≡ Ok (commands.Step steps.Undo) → is_refused_on skipped line m ≡ false
-      → (e : Edit) × (es : List Edit) × (t.edits_in_force ≡ e ∷ es) × (next.now ≡ replay c es)
+-- lines on a capture, so many variables of whose file were skipped
+module _ (c : Contents) (skipped : ℕ) where
+  -- what is said to a line: it is read, and answered, on the replay of the edits in force
+  abbrev pub line_answer : History → List ℕ → LineReply
+  line_answer h line = asked_answer (replay c h.edits) skipped h (asked_by (replay c h.edits) line)
 
--- lines on a capture, with a history of at most `depth`
-module _ (c : Contents) (depth : ℕ) (lines : List (List ℕ)) where
-  -- the machine after the first `count` lines
-  abbrev pub machine_at : (count : ℕ) → Machine
-  machine_at count = machine_after_lines (first_machine c depth) (take count lines)
+  -- the history after a line: a refused one changes nothing
+  abbrev pub history_after_line : History → List ℕ → History
+  history_after_line h line =
+      if is_err (line_answer h line) then h else history_after_asked h (asked_by (replay c h.edits) line)
 
-  -- the edits in force and those undone at that time
-  abbrev pub tally_at : (count : ℕ) → Tally
-  tally_at count = tally_after_lines no_edits (first_machine c depth) (take count lines)
+  -- what is said to lines, one after another
+  unfoldable pub line_answers : History → List (List ℕ) → List LineReply
+  line_answers h [] = []
+  line_answers h (line ∷ lines) = line_answer h line ∷ line_answers (history_after_line h line) lines
 
-  -- the replay of the edits in force at the end
-  abbrev pub last_replay : Contents
-  last_replay = replay c (tally_at (length lines)).edits_in_force
+-- the same lines, with a history of at most `depth`
+module _ (c : Contents) (skipped depth : ℕ) (lines : List (List ℕ)) where
+  -- the history after the first `count` of them
+  abbrev pub history_at : (count : ℕ) → History
+  history_at count = fold (history_after_line c skipped) (first_history depth) (take count lines)
 
-  -- what a run of these lines writes is of replays
-  pub record IsOfReplays (skipped : ℕ) (written : RunOutcome) : Type 0 where
-    -- after each line the capture is the replay of the edits in force, and undo and redo reach the others
-    pub replays : (count : ℕ) → IsReplay c (tally_at count) (machine_at count)
-    -- it is sound
-    pub sound : (count : ℕ) → IsSound (machine_at count).now
-    -- undo restores, and a refused line changes nothing
-    pub each : (count : ℕ) → count < length lines →
-        IsLineOfRun c (tally_at count) skipped (get_or lines count []) (machine_at count) (machine_at (count + 1))
-    -- one reply to each line, given on the capture before it
-    pub one_each : length written.replies ≡ length lines
-    pub replies : (count : ℕ) → count < length lines →
-        get_or written.replies count [] ≡ reply_on skipped (count + 1) (get_or lines count []) (machine_at count)
-    pub refused : written.refused ≡ refusal_count skipped (first_machine c depth) lines
-    -- the output is the text of the last capture: read again it means that capture, with nothing skipped
-    pub output : written.output ≡ text last_replay
-    pub read_again : FileMeans written.output last_replay 0
+  -- the capture after them is the replay of the edits then in force
+  abbrev pub capture_at : (count : ℕ) → Contents
+  capture_at count = replay c (history_at count).edits
+
+  -- what is said to each
+  abbrev pub answers : List LineReply
+  answers = line_answers c skipped (first_history depth) lines
+
+  -- what is written where these lines are run
+  pub record IsRunOfLines (written : RunOutcome) : Type 0 where
+    -- after each line the capture is one that a file can describe, and only edits in force can be undone
+    pub sound : (count : ℕ) → IsSound (capture_at count)
+    pub undoable : (count : ℕ) → (history_at count).undoable ≤ length (history_at count).edits
+    -- the replies, with the number of their lines, and how many are refusals
+    pub replies : written.replies ≡ map (λ p. reply_text p.0 p.1) (enumerate_from 1 answers)
+    pub refused : written.refused ≡ count_by is_err answers
+    -- the output is the text of the last capture: read again, it means that capture, with nothing left out
+    pub output : written.output ≡ text (capture_at (length lines))
+    pub read_again : FileMeans written.output (capture_at (length lines)) 0
     -- and it means nothing else
-    pub only : (d : Contents) (count : ℕ) → FileMeans written.output d count → (d ≡ last_replay) × (count ≡ 0)
+    pub only : (d : Contents) (count : ℕ) → FileMeans written.output d count
+        → (d ≡ capture_at (length lines)) × (count ≡ 0)
 
--- what is written is of replays of the capture that the file means, by the lines of the script
-pub record IsRunOfReplays (file script : List ℕ) (depth : ℕ) (written : RunOutcome) : Type 0 where
+-- what is written where the lines of a script are run on what a capture file means
+pub record IsRun (file script : List ℕ) (depth : ℕ) (written : RunOutcome) : Type 0 where
   pub contents : Contents
   pub skipped : ℕ
   pub means : FileMeans file contents skipped
-  pub run : IsOfReplays contents depth (script_lines script) skipped written
+  pub run : IsRunOfLines contents skipped depth (script_lines script) written

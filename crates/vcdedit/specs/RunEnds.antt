@@ -14,7 +14,7 @@ use Rattle.vcdedit.specs.declared.running.inputs.TheConstants.{SCRIPT_LIMIT}
 use Rattle.vcdedit.specs.declared.running.run_error.RunError.{RunError}
 use Rattle.vcdedit.specs.declared.running.run_error.RunError.TheVariants as run_errors
 use Rattle.vcdedit.specs.declared.running.run_error.Summary.{Summary}
-use Rattle.vcdedit.specs.Run.{RunOutcome, IsRunOfReplays}
+use Rattle.vcdedit.specs.Run.{RunOutcome, IsRun}
 
 -- ---- readers
 
@@ -84,7 +84,7 @@ OfOutput taken has_failed (Some out) _ said = ⊥
 -- if the readers show their bytes: holds of what the run of the script on the capture file writes
 abbrev pub OfRun : (capture script : ReaderEnd) → (depth : ℕ) → (RunOutcome → Type 0) → Type 0
 OfRun capture script depth said = IfSome capture.coming (λ file. IfSome script.coming (λ lines.
-    (written : RunOutcome) × IsRunOfReplays file lines depth written × said written))
+    (written : RunOutcome) × IsRun file lines depth written × said written))
 
 -- how a run ends, by its result: the later state of its two readers and two writers
 abbrev pub RunEnds : Result Summary RunError → (depth : ℕ)

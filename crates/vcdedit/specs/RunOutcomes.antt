@@ -5,7 +5,8 @@ use Rattle.vcd_text.specs.Meaning.{FileMeans}
 use Rattle.vcd_text.specs.Text.{text}
 use Rattle.vcd_journal.specs.Machine.{Machine, first_machine}
 use Rattle.vcdedit.specs.Script.{script_lines}
-use Rattle.vcdedit.specs.Run.{RunOutcome, machine_after_line, machine_after_lines, refusal_count, reply_on}
+use Rattle.vcdedit.specs.Run.{RunOutcome}
+use Rattle.vcdedit.specs.RunMachines.{machine_after_line, machine_after_lines, refusal_count, reply_on}
 
 -- the replies to lines, one text for each; the first line has this number
 unfoldable pub line_replies : (skipped number : ℕ) → Machine → List (List ℕ) → List (List ℕ)

@@ -1,10 +1,12 @@
 //! Laws about the definitions: each function has an empty body, and its contract is the law.
 
-ghost use Rattle.vcdedit.specs.Laws.{EveryRunIsOfReplays, EveryRunWritesOneThing, ReplaysAreOfRun, RefusedLineChangesNothing, ReplyIsAnswer, RunIsReplay, UndoGivesBack, UndoInRunGivesBack, UndoTakesBackTheLast};
+ghost use Rattle.vcdedit.specs.Laws.{EveryRunIs, EveryRunIsOfReplays, EveryRunWritesOneThing, ReplaysAreOfRun, RunsAreOfReplays, RefusedLineChangesNothing, ReplyIsAnswer, RunIsReplay, UndoGivesBack, UndoInRunGivesBack, UndoTakesBackTheLast};
 
 /// What a run writes is of replays of the capture that the file means, by the lines of the script. Nothing else is. So
 /// a file and a script determine what a run writes.
 pub fn run_is_of_replays()
+    ensures run { EveryRunIs }
+    ensures of_machine { RunsAreOfReplays }
     ensures replays { EveryRunIsOfReplays }
     ensures of_run { ReplaysAreOfRun }
     ensures one_thing { EveryRunWritesOneThing }

@@ -8,8 +8,8 @@ use Rattle.vcd_journal.specs.Machine.{Machine, step_outcome}
 use Rattle.vcdedit.specs.declared.replies.reply.Reply.{Reply}
 use Rattle.vcdedit.specs.declared.script.command.Command.{Command}
 use Rattle.vcdedit.specs.Addressless.{command_without_address}
-use Rattle.vcdedit.specs.Reply.{command_reply, line_reply, step_reply}
-use Rattle.vcdedit.specs.Run.{machine_after_command, machine_after_line}
+use Rattle.vcdedit.specs.MachineReplies.{command_reply, line_reply, step_reply}
+use Rattle.vcdedit.specs.RunMachines.{machine_after_command, machine_after_line}
 use Rattle.vcdedit.specs.inside.Replies.{IsReplyTo}
 
 -- whether a step is refused because memory ran out

@@ -5,8 +5,8 @@ use Rattle.std.specs.Io.KnownBytes.{Appends, Keeps}
 use Rattle.vcd_journal.specs.Machine.{Machine}
 use Rattle.vcdedit.specs.declared.running.run_error.RunError.{RunError}
 use Rattle.vcdedit.specs.declared.running.run_error.RunError.TheVariants as run_errors
-use Rattle.vcdedit.specs.Reply.{line_reply_text, is_line_refused}
-use Rattle.vcdedit.specs.Run.{machine_after_line, machine_after_lines, refusal_count}
+use Rattle.vcdedit.specs.MachineReplies.{line_reply_text, is_line_refused}
+use Rattle.vcdedit.specs.RunMachines.{machine_after_line, machine_after_lines, refusal_count}
 use Rattle.vcdedit.specs.RunOutcomes.{line_replies}
 
 -- the line of this number changes one machine into the other; its reply of so many bytes is written, and so many lines

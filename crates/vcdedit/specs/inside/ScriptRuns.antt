@@ -5,7 +5,7 @@ use Rattle.vcd_core.specs.Contents.{Contents}
 use Rattle.vcd_text.specs.Meaning.{FileMeans}
 use Rattle.vcd_journal.specs.Machine.{first_machine}
 use Rattle.vcdedit.specs.Script.{script_lines}
-use Rattle.vcdedit.specs.Run.{machine_after_lines, refusal_count}
+use Rattle.vcdedit.specs.RunMachines.{machine_after_lines, refusal_count}
 use Rattle.vcdedit.specs.RunOutcomes.{line_replies}
 
 -- the script on the capture file gives replies of which `took` holds, so many refused lines, and this capture

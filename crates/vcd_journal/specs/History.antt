@@ -1,0 +1,44 @@
+-- Which edits are in force on a capture, and what steps make of them: the project's own.
+use Rattle.std.specs.Prelude.{ℕ, ◌+◌, ◌-◌, ◌==◌, ◌&&◌, nat_lt, nat_le, not, min, List, [], ◌∷◌, ◌++◌, length, take, drop, codes}
+use Rattle.vcd_core.specs.Contents.{Contents}
+use Rattle.vcd_edit.specs.declared.edit.Edit.{Edit}
+use Rattle.vcd_edit.specs.Effect.{effect}
+use Rattle.vcd_edit.specs.Refused.{Tests, edit_tests}
+use Rattle.vcd_journal.specs.declared.step.TheConstants.{DEPTH_LIMIT}
+use Rattle.vcd_journal.specs.declared.step.Step.{Step}
+use Rattle.vcd_journal.specs.declared.step.Step.TheVariants as steps
+
+-- the edits in force, the last first, and those undone, the one undone last first; how many of the first can be undone,
+-- and how many of both can be at most
+pub record History : Type 0 where
+  pub edits : List Edit
+  pub undone : List Edit
+  pub undoable : ℕ
+  pub depth : ℕ
+
+-- no edit was made
+abbrev pub first_history : ℕ → History
+first_history depth = record { edits = []; undone = []; undoable = 0; depth = depth }
+
+-- edits made one after another, the last of them being the first of the list
+unfoldable pub replay : Contents → List Edit → Contents
+replay c [] = c
+replay c (e ∷ es) = effect e (replay c es)
+
+-- the tests of a step on a capture
+abbrev pub step_tests : Contents → History → Step → Tests
+step_tests c h (steps.Edit e) = edit_tests c e
+step_tests c h steps.Undo = (h.undoable == 0, codes "NothingToUndo") ∷ []
+step_tests c h steps.Redo = (length h.undone == 0, codes "NothingToRedo") ∷ []
+step_tests c h (steps.Depth depth) = (not (nat_le 1 depth && nat_le depth DEPTH_LIMIT), codes "BadDepth")
+    ∷ (nat_lt depth (length h.undone), codes "DepthTooSmall") ∷ []
+
+-- the history after an accepted step
+abbrev pub history_after : History → Step → History
+history_after h (steps.Edit e) = record h { edits = e ∷ h.edits; undone = []; undoable = min h.depth (h.undoable + 1) }
+history_after h steps.Undo =
+    record h { edits = drop 1 h.edits; undone = take 1 h.edits ++ h.undone; undoable = h.undoable - 1 }
+history_after h steps.Redo =
+    record h { edits = take 1 h.undone ++ h.edits; undone = drop 1 h.undone; undoable = h.undoable + 1 }
+history_after h (steps.Depth depth) =
+    record h { undoable = min (depth - length h.undone) h.undoable; depth = depth }

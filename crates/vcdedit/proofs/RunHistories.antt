@@ -1,0 +1,359 @@
+-- What a run writes by a machine is what it writes by the edits in force.
+use Rattle.std.proofs.Common.{◌≡◌, ◌≤◌, ◌+◌, ◌-◌, ℕ, zero, suc, Bool, true, false, cond, List, [], ◌∷◌, ◌++◌, length, take}
+use Rattle.std.proofs.Common.{Option, Some, None, Result, Ok, Err, is_err, refl, sym, ◌∙◌, ap, subst, arith, map}
+use Rattle.std.specs.Prelude.{◌==◌, not, nat_lt, min, fold, count_by, option_map, drop}
+use Rattle.std.specs.List.{enumerate_from}
+use Rattle.std.proofs.Math.Seq.{take-length}
+use Rattle.std.proofs.lemmas.Bool.Decides.{nat_tests}
+use Rattle.std.proofs.lemmas.List.{length-take}
+use Rattle.std.proofs.lemmas.List.Sums.{sum_by-cons}
+use Rattle.vcd_core.specs.Contents.{Contents}
+use Rattle.vcd_core.specs.Sound.{IsSound}
+use Rattle.vcd_text.specs.Text.{text}
+use Rattle.vcd_text.specs.Meaning.{FileMeans}
+use Rattle.vcd_text.proofs.OneAnswer.{one_meaning}
+use Rattle.vcd_text.proofs.TextReadBack.{read_back}
+use Rattle.vcd_text.proofs.SoundMeaning.{meaning_is_sound}
+use Rattle.vcd_edit.specs.declared.edit.Edit.{Edit}
+use Rattle.vcd_edit.specs.declared.fault.EditError.{EditError}
+use Rattle.vcd_edit.specs.EditErrorNames.{edit_error_name}
+use Rattle.vcd_edit.specs.Allowed.{edit_fault}
+use Rattle.vcd_edit.specs.Refused.{refusal_among}
+use Rattle.vcd_edit.proofs.RefusedEdits.{edit_refusal_is}
+use Rattle.vcd_journal.specs.declared.step.Step.{Step}
+use Rattle.vcd_journal.specs.declared.step.Step.TheVariants as steps
+use Rattle.vcd_journal.specs.declared.step.StepError.TheVariants as refusals
+use Rattle.vcd_journal.specs.StepErrorNames.{step_error_name}
+use Rattle.vcd_journal.specs.Machine.{Machine, first_machine, step_outcome, edit_outcome, undo_outcome, redo_outcome}
+use Rattle.vcd_journal.specs.Machine.{is_depth}
+use Rattle.vcd_journal.specs.InForce.{Tally}
+use Rattle.vcd_journal.specs.History.{History, first_history, replay, step_tests, history_after}
+use Rattle.vcd_journal.proofs.Replay.{Follows, PastFollows, FutureFollows, edit_follows, undo_follows, redo_follows}
+use Rattle.vcd_journal.proofs.Replay.{depth_choice, depth_follows}
+use Rattle.vcdedit.specs.declared.script.command.Command.{Command}
+use Rattle.vcdedit.specs.declared.script.command.Command.TheVariants as commands
+use Rattle.vcdedit.specs.declared.script.line_error.LineError.{LineError}
+use Rattle.vcdedit.specs.LineErrorNames.{line_error_name}
+use Rattle.vcdedit.specs.Script.{script_lines, command_of_line, with_refusal, asked_by}
+use Rattle.vcdedit.specs.Reply.{LineReply, ok_reply, step_answer, command_answer, asked_answer, reply_text}
+use Rattle.vcdedit.specs.Run.{RunOutcome, history_after_asked, line_answer, history_after_line, line_answers, history_at}
+use Rattle.vcdedit.specs.Run.{capture_at, IsRunOfLines, IsRun}
+use Rattle.vcdedit.specs.MachineReplies.{edit_reply, history_reply, depth_reply, step_reply, command_reply, line_reply}
+use Rattle.vcdedit.specs.MachineReplies.{is_line_refused}
+use Rattle.vcdedit.specs.RunMachines.{machine_after_command, machine_after_line, machine_after_lines, refusal_count}
+use Rattle.vcdedit.specs.RunOutcomes.{line_replies, run_outcome, RunWrites}
+use Rattle.vcdedit.specs.Laws.{EveryRunIs, RunsAreOfReplays}
+use Rattle.vcdedit.proofs.RunReplays.{refused_line_changes_nothing, run_is_of_replays}
+use Rattle.vcdedit.proofs.SoundCaptures.{lines_sound}
+
+-- the edits in force and those undone as a tally
+abbrev tally_of : History → Tally
+tally_of h = record { edits_in_force = h.edits; undone_edits = h.undone }
+
+-- the machine holds what the history says
+pub record Matches (c : Contents) (h : History) (m : Machine) : Type 0 where
+  pub follows : Follows c (tally_of h) m
+  pub undoable : h.undoable ≡ length m.past
+  pub depth : h.depth ≡ m.depth
+
+-- as many edits are undone as captures stand in the future
+undone_count : (c : Contents) (es us : List Edit) (future : List Contents) → FutureFollows c es us future
+    → length us ≡ length future
+undone_count c es [] [] p = refl
+undone_count c es [] (next ∷ later) p = absurd p
+undone_count c es (u ∷ us) [] p = absurd p
+undone_count c es (u ∷ us) (next ∷ later) p = ap suc (undone_count c (u ∷ es) us later p.1)
+
+-- the captures of the past are of edits in force
+past_count : (c : Contents) (es : List Edit) (past : List Contents) → PastFollows c es past → length past ≤ length es
+past_count c es [] p = omega arith
+past_count c [] (back ∷ older) p = absurd p
+past_count c (e ∷ es) (back ∷ older) p =
+    let rest = past_count c es older p.1 in omega (arith, rest)
+
+-- ---- what is said
+
+edit_said : (found : Option EditError) → edit_reply found ≡ step_answer (option_map edit_error_name found)
+edit_said None = refl
+edit_said (Some error) = refl
+
+passed : (b : Bool) (refusal : List ℕ) → b ≡ false → ok_reply ≡ step_answer (refusal_among ((b, refusal) ∷ []))
+passed true refusal fails = absurd (cc)
+passed false refusal fails = refl
+
+undo_said : (held : ℕ) → history_reply held refusals.NothingToUndo
+    ≡ step_answer (refusal_among ((held == 0, step_error_name refusals.NothingToUndo) ∷ []))
+undo_said zero = refl
+undo_said (suc held) =
+    passed (suc held == 0) (step_error_name refusals.NothingToUndo) (grind (arith, nat_tests))
+
+redo_said : (held : ℕ) → history_reply held refusals.NothingToRedo
+    ≡ step_answer (refusal_among ((held == 0, step_error_name refusals.NothingToRedo) ∷ []))
+redo_said zero = refl
+redo_said (suc held) =
+    passed (suc held == 0) (step_error_name refusals.NothingToRedo) (grind (arith, nat_tests))
+
+depth_said : (bad small : Bool) →
+    cond bad (Err (step_error_name refusals.BadDepth))
+    (cond small (Err (step_error_name refusals.DepthTooSmall)) ok_reply)
+    ≡ step_answer (refusal_among ((bad, step_error_name refusals.BadDepth)
+    ∷ (small, step_error_name refusals.DepthTooSmall) ∷ []))
+depth_said true small = refl
+depth_said false true = refl
+depth_said false false = refl
+
+step_said : (c : Contents) (h : History) (s : Step) (undoable redoable : ℕ) → h.undoable ≡ undoable
+    → length h.undone ≡ redoable → step_reply s c undoable redoable ≡ step_answer (refusal_among (step_tests c h s))
+step_said c h (steps.Edit e) undoable redoable held undone =
+    edit_said (edit_fault e c) ∙ ap step_answer (edit_refusal_is c e)
+step_said c h steps.Undo undoable redoable held undone = rw (← held) (undo_said h.undoable)
+step_said c h steps.Redo undoable redoable held undone = rw (← undone) (redo_said (length h.undone))
+step_said c h (steps.Depth depth) undoable redoable held undone =
+    rw (← undone) (depth_said (not (is_depth depth)) (nat_lt depth (length h.undone)))
+
+command_said : (c : Contents) (skipped : ℕ) (h : History) (asked : Result Command LineError) (undoable redoable : ℕ)
+    → h.undoable ≡ undoable → length h.undone ≡ redoable →
+    command_reply asked c skipped undoable redoable ≡ asked_answer c skipped h (with_refusal asked)
+command_said c skipped h (Err fault) undoable redoable held undone = refl
+command_said c skipped h (Ok commands.Nothing) undoable redoable held undone = refl
+command_said c skipped h (Ok (commands.Step step)) undoable redoable held undone =
+    step_said c h step undoable redoable held undone
+command_said c skipped h (Ok commands.List) undoable redoable held undone = refl
+command_said c skipped h (Ok (commands.Value k tick)) undoable redoable held undone = refl
+command_said c skipped h (Ok (commands.Changes k)) undoable redoable held undone = refl
+command_said c skipped h (Ok (commands.Uart k setup)) undoable redoable held undone = refl
+command_said c skipped h (Ok (commands.Spi clk mosi miso cs setup)) undoable redoable held undone = refl
+command_said c skipped h (Ok (commands.I2c scl sda)) undoable redoable held undone = refl
+
+-- ---- steps
+
+edit_matches : (c : Contents) (h : History) (m : Machine) (e : Edit) (found : Option EditError) → Matches c h m
+    → is_err (edit_reply found) ≡ false → Matches c (history_after h (steps.Edit e)) (edit_outcome found e m).after
+edit_matches c h m e None is accepted =
+    let one_more : h.undoable + 1 ≡ length (m.now ∷ m.past) = omega (arith, is.undoable) in
+    record {
+      follows = edit_follows c (tally_of h) m e None is.follows;
+      undoable = ap (λ (d : ℕ). min d (h.undoable + 1)) is.depth ∙ ap (min m.depth) one_more
+          ∙ sym (length-take m.depth (m.now ∷ m.past));
+      depth = is.depth;
+    }
+edit_matches c h m e (Some fault) is accepted = absurd (cc)
+
+undo_matches : (c : Contents) (es us : List Edit) (undoable depth : ℕ) (m : Machine) (past : List Contents)
+    → PastFollows c es past → Follows c (record { edits_in_force = es; undone_edits = us }) m
+    → undoable ≡ length past → depth ≡ m.depth →
+    is_err (history_reply (length past) refusals.NothingToUndo) ≡ false →
+    Matches c (record { edits = drop 1 es; undone = take 1 es ++ us; undoable = undoable - 1; depth = depth })
+    (undo_outcome past m).after
+undo_matches c es us undoable depth m [] p f held same accepted = absurd (cc)
+undo_matches c [] us undoable depth m (back ∷ older) p f held same accepted = absurd p
+undo_matches c (e ∷ es) us undoable depth m (back ∷ older) p f held same accepted = record {
+  follows = undo_follows c (e ∷ es) us m (back ∷ older) p f;
+  undoable = omega (arith, held);
+  depth = same;
+}
+
+redo_matches : (c : Contents) (es us : List Edit) (undoable depth : ℕ) (m : Machine) (future : List Contents)
+    → FutureFollows c es us future → Follows c (record { edits_in_force = es; undone_edits = us }) m
+    → undoable ≡ length m.past → depth ≡ m.depth →
+    is_err (history_reply (length future) refusals.NothingToRedo) ≡ false →
+    Matches c (record { edits = take 1 us ++ es; undone = drop 1 us; undoable = undoable + 1; depth = depth })
+    (redo_outcome future m).after
+redo_matches c es us undoable depth m [] p f held same accepted = absurd (cc)
+redo_matches c es [] undoable depth m (next ∷ later) p f held same accepted = absurd p
+redo_matches c es (u ∷ us) undoable depth m (next ∷ later) p f held same accepted = record {
+  follows = redo_follows c es (u ∷ us) m (next ∷ later) p f;
+  undoable = omega (arith, held);
+  depth = same;
+}
+
+depth_matches : (c : Contents) (h : History) (m : Machine) (depth : ℕ) (bad small : Bool) → Matches c h m →
+    is_err (cond bad (Err (step_error_name refusals.BadDepth))
+    (cond small (Err (step_error_name refusals.DepthTooSmall)) ok_reply)) ≡ false
+    → Matches c (history_after h (steps.Depth depth)) (depth_choice depth m bad small).after
+depth_matches c h m depth true small is accepted = absurd (cc)
+depth_matches c h m depth false true is accepted = absurd (cc)
+depth_matches c h m depth false false is accepted =
+    let undone = undone_count c h.edits h.undone m.future is.follows.future in
+    record {
+      follows = depth_follows c (tally_of h) m depth false false is.follows;
+      undoable = ap (λ (n : ℕ). min (depth - n) h.undoable) undone ∙ ap (min (depth - length m.future)) is.undoable
+          ∙ sym (length-take (depth - length m.future) m.past);
+      depth = refl;
+    }
+
+step_matches : (c : Contents) (h : History) (m : Machine) (s : Step) → Matches c h m →
+    is_err (step_reply s m.now (length m.past) (length m.future)) ≡ false
+    → Matches c (history_after h s) (step_outcome m s).after
+step_matches c h m (steps.Edit e) is accepted = edit_matches c h m e (edit_fault e m.now) is accepted
+step_matches c h m steps.Undo is accepted =
+    undo_matches c h.edits h.undone h.undoable h.depth m m.past is.follows.past is.follows is.undoable is.depth accepted
+step_matches c h m steps.Redo is accepted =
+    redo_matches c h.edits h.undone h.undoable h.depth m m.future is.follows.future is.follows is.undoable is.depth
+    accepted
+step_matches c h m (steps.Depth depth) is accepted =
+    depth_matches c h m depth (not (is_depth depth)) (nat_lt depth (length m.future)) is accepted
+
+asked_matches : (c : Contents) (h : History) (m : Machine) (skipped : ℕ) (asked : Result Command LineError)
+    → Matches c h m →
+    is_err (command_reply asked m.now skipped (length m.past) (length m.future)) ≡ false
+    → Matches c (history_after_asked h (with_refusal asked)) (machine_after_command m asked)
+asked_matches c h m skipped (Err fault) is accepted = is
+asked_matches c h m skipped (Ok commands.Nothing) is accepted = is
+asked_matches c h m skipped (Ok (commands.Step step)) is accepted = step_matches c h m step is accepted
+asked_matches c h m skipped (Ok commands.List) is accepted = is
+asked_matches c h m skipped (Ok (commands.Value k tick)) is accepted = is
+asked_matches c h m skipped (Ok (commands.Changes k)) is accepted = is
+asked_matches c h m skipped (Ok (commands.Uart k setup)) is accepted = is
+asked_matches c h m skipped (Ok (commands.Spi clk mosi miso cs setup)) is accepted = is
+asked_matches c h m skipped (Ok (commands.I2c scl sda)) is accepted = is
+
+-- ---- lines
+
+-- what is said to a line on this capture
+abbrev said_on : Contents → (skipped : ℕ) → History → List ℕ → LineReply
+said_on now skipped h line = asked_answer now skipped h (asked_by now line)
+
+answer_here : (c : Contents) (h : History) (m : Machine) (skipped : ℕ) (line : List ℕ) → Matches c h m →
+    line_reply line m.now skipped (length m.past) (length m.future) ≡ said_on m.now skipped h line
+unfolding line_reply
+answer_here c h m skipped line is =
+    command_said m.now skipped h (command_of_line m.now line) (length m.past) (length m.future) is.undoable
+    (undone_count c h.edits h.undone m.future is.follows.future)
+
+answer_is : (c : Contents) (h : History) (m : Machine) (skipped : ℕ) (line : List ℕ) → Matches c h m →
+    line_reply line m.now skipped (length m.past) (length m.future) ≡ line_answer c skipped h line
+answer_is c h m skipped line is =
+    answer_here c h m skipped line is ∙ ap (λ (now : Contents). said_on now skipped h line) is.follows.now
+
+-- the history after a line that is refused or not
+by_refusal : (c : Contents) (h : History) (m : Machine) (skipped : ℕ) (line : List ℕ) (refused : Bool) → Matches c h m →
+    is_err (line_reply line m.now skipped (length m.past) (length m.future)) ≡ refused →
+    Matches c (cond refused h (history_after_asked h (asked_by m.now line))) (machine_after_line m line)
+unfolding line_reply machine_after_line
+by_refusal c h m skipped line true is said =
+    subst (Matches c h) (sym (refused_line_changes_nothing m line skipped said)) is
+by_refusal c h m skipped line false is said = asked_matches c h m skipped (command_of_line m.now line) is said
+
+line_matches : (c : Contents) (h : History) (m : Machine) (skipped : ℕ) (line : List ℕ) → Matches c h m
+    → Matches c (history_after_line c skipped h line) (machine_after_line m line)
+line_matches c h m skipped line is =
+    subst (λ (now : Contents). Matches c
+    (cond (is_err (line_answer c skipped h line)) h (history_after_asked h (asked_by now line)))
+    (machine_after_line m line)) is.follows.now
+    (by_refusal c h m skipped line (is_err (line_answer c skipped h line)) is
+    (ap is_err (answer_is c h m skipped line is)))
+
+lines_match : (c : Contents) (h : History) (m : Machine) (skipped : ℕ) (lines : List (List ℕ)) → Matches c h m
+    → Matches c (fold (history_after_line c skipped) h lines) (machine_after_lines m lines)
+unfolding machine_after_lines
+lines_match c h m skipped [] is = is
+lines_match c h m skipped (line ∷ lines) is =
+    lines_match c (history_after_line c skipped h line) (machine_after_line m line) skipped lines
+    (line_matches c h m skipped line is)
+
+-- the answers as texts, the first of this number
+abbrev numbered : ℕ → List LineReply → List (List ℕ)
+numbered number said = map (λ (p : ℕ × LineReply). reply_text p.0 p.1) (enumerate_from number said)
+
+replies_are : (c : Contents) (h : History) (m : Machine) (skipped number : ℕ) (lines : List (List ℕ)) → Matches c h m
+    → line_replies skipped number m lines ≡ numbered number (line_answers c skipped h lines)
+unfolding line_replies line_answers
+replies_are c h m skipped number [] is = refl
+replies_are c h m skipped number (line ∷ lines) is =
+    let first = ap (reply_text number) (answer_is c h m skipped line is) in
+    let rest = replies_are c (history_after_line c skipped h line) (machine_after_line m line) skipped (number + 1)
+    lines (line_matches c h m skipped line is) in
+    λ i. first i ∷ rest i
+
+refusals_are : (c : Contents) (h : History) (m : Machine) (skipped : ℕ) (lines : List (List ℕ)) → Matches c h m
+    → refusal_count skipped m lines ≡ count_by is_err (line_answers c skipped h lines)
+unfolding refusal_count line_answers
+refusals_are c h m skipped [] is = refl
+refusals_are c h m skipped (line ∷ lines) is =
+    let one : (r : LineReply) → ℕ = λ r. cond (is_err r) 1 0 in
+    let first : one (line_reply line m.now skipped (length m.past) (length m.future))
+    ≡ one (line_answer c skipped h line) = ap one (answer_is c h m skipped line is) in
+    let rest = refusals_are c (history_after_line c skipped h line) (machine_after_line m line) skipped
+    lines (line_matches c h m skipped line is) in
+    let both : one (line_reply line m.now skipped (length m.past) (length m.future))
+    + refusal_count skipped (machine_after_line m line) lines ≡ one (line_answer c skipped h line)
+    + count_by is_err (line_answers c skipped (history_after_line c skipped h line) lines) = λ i. first i + rest i in
+    both ∙ sym (sum_by-cons one (line_answer c skipped h line)
+    (line_answers c skipped (history_after_line c skipped h line) lines))
+
+-- ---- runs
+
+first_matches : (c : Contents) (depth : ℕ) → Matches c (first_history depth) (first_machine c depth)
+unfolding replay
+first_matches c depth = record { follows = record { now = refl; past = tt; future = tt }; undoable = refl; depth = refl }
+
+-- what the machine writes where lines are run
+lines_are_run : (c : Contents) (depth skipped : ℕ) (lines : List (List ℕ)) → IsSound c →
+    IsRunOfLines c skipped depth lines (record {
+      replies = line_replies skipped 1 (first_machine c depth) lines;
+      output = text (machine_after_lines (first_machine c depth) lines).now;
+      refused = refusal_count skipped (first_machine c depth) lines;
+    })
+lines_are_run c depth skipped lines sound =
+    let first = first_matches c depth in
+    let here : (count : ℕ) → Matches c (history_at c skipped depth lines count)
+    (machine_after_lines (first_machine c depth) (take count lines)) =
+    λ count. lines_match c (first_history depth) (first_machine c depth) skipped (take count lines) first in
+    let all : take (length lines) lines ≡ lines = take-length lines in
+    let last : (machine_after_lines (first_machine c depth) lines).now ≡ capture_at c skipped depth lines (length lines) =
+    ap (λ (ls : List (List ℕ)). (machine_after_lines (first_machine c depth) ls).now) (sym all)
+    ∙ (here (length lines)).follows.now in
+    let sound_last : IsSound (capture_at c skipped depth lines (length lines)) =
+    subst IsSound last (lines_sound c depth lines sound) in
+    let back : FileMeans (text (machine_after_lines (first_machine c depth) lines).now)
+    (capture_at c skipped depth lines (length lines)) 0 =
+    subst (λ (d : Contents). FileMeans (text d) (capture_at c skipped depth lines (length lines)) 0) (sym last)
+    (read_back (capture_at c skipped depth lines (length lines)) sound_last) in
+    record {
+      sound = λ count. subst IsSound (here count).follows.now (lines_sound c depth (take count lines) sound);
+      undoable = λ count.
+          let held = (here count).undoable in
+          let few = past_count c (history_at c skipped depth lines count).edits
+          (machine_after_lines (first_machine c depth) (take count lines)).past (here count).follows.past in
+          omega (arith, held, few);
+      replies = replies_are c (first_history depth) (first_machine c depth) skipped 1 lines first;
+      refused = refusals_are c (first_history depth) (first_machine c depth) skipped lines first;
+      output = ap text last;
+      read_again = back;
+      only = λ d count means. one_meaning (text (machine_after_lines (first_machine c depth) lines).now) d
+          (capture_at c skipped depth lines (length lines)) count 0 means back;
+    }
+
+-- what a file means is sound
+pub file_sound : (file : List ℕ) (c : Contents) (skipped : ℕ) → FileMeans file c skipped → IsSound c
+file_sound file c skipped means = subst IsSound (sym means.means) (meaning_is_sound file means.told means.accepted)
+
+pub run_is : EveryRunIs
+run_is file script depth written writes = record {
+  contents = writes.contents;
+  skipped = writes.skipped;
+  means = writes.means;
+  run = subst (IsRunOfLines writes.contents writes.skipped depth (script_lines script)) (sym writes.run)
+      (lines_are_run writes.contents depth writes.skipped (script_lines script)
+      (file_sound file writes.contents writes.skipped writes.means));
+}
+
+-- an outcome by its three parts
+same_outcome : (written other : RunOutcome) → written.replies ≡ other.replies → written.output ≡ other.output
+    → written.refused ≡ other.refused → written ≡ other
+same_outcome written other replies output refused =
+    λ i. record { replies = replies i; output = output i; refused = refused i }
+
+pub runs_are_of_replays : RunsAreOfReplays
+runs_are_of_replays file script depth written is =
+    let other = run_outcome is.contents is.skipped script depth in
+    let also = lines_are_run is.contents depth is.skipped (script_lines script)
+    (file_sound file is.contents is.skipped is.means) in
+    run_is_of_replays file script depth written (record {
+      contents = is.contents;
+      skipped = is.skipped;
+      means = is.means;
+      run = same_outcome written other (is.run.replies ∙ sym also.replies) (is.run.output ∙ sym also.output)
+          (is.run.refused ∙ sym also.refused);
+    })
