@@ -1,9 +1,9 @@
 //! How a capture and a record change places.
 
-ghost use Rattle.std.specs.Prelude.{◌≡◌, ℕ, ◌≤◌, [], None, neg_ℤ, All, IsOk, IfOk, OnOk, OnErr, IfErr};
+ghost use Rattle.std.specs.Prelude.{◌≡◌, ℕ, ◌<◌, ◌≤◌, [], None, neg_ℤ, length, All, IsOk, IfOk, OnOk, OnErr, IfErr};
 ghost use Rattle.vcd_core.specs.Contents.{contents};
 ghost use Rattle.vcd_core.specs.Sound.{IsSound};
-ghost use Rattle.vcd_edit.specs.AppliedRecords.{apply_record, Fits, AreApart, PutsNoneIn};
+ghost use Rattle.vcd_edit.specs.AppliedRecords.{apply_record, Fits, IsOneStep, PutsNoneIn};
 ghost use Rattle.vcd_edit.specs.Touched.{touched_by_record, stored_changes};
 ghost use Rattle.vcd_edit.specs.inside.Opposites.{IsInverse};
 
@@ -35,7 +35,7 @@ pub(crate) fn exchange_record(
     ensures kept { IfErr result (λ k. k.held ≡ way) }
     ensures unchanged { OnErr result (contents capture.new ≡ contents capture.old) }
     ensures never { way.pieces ≡ [] → PutsNoneIn way.signal → IsOk result }
-    ensures apart { AreApart way.pieces }
+    ensures one_step { IsOneStep way }
 {
     let Record {
         mut pieces,
@@ -81,7 +81,8 @@ pub(crate) fn exchange_record(
 /// That record leads back to the capture as it was, fits, and stores touched changes alone: of each signal
 /// that has a piece, those that the step takes away or moves otherwise than the piece says, and a signal
 /// that is taken out whole. The one refusal is want of memory, never for a record with neither pieces nor a
-/// signal to put in; the record then comes back, and the capture is as it was.
+/// signal to put in, and so never where fewer signals are left; the record then comes back, and the capture
+/// is as it was.
 ///
 /// The cost is the pieces, their parts, and for each piece one move of its signal's later changes; and one
 /// move of the later signals where a signal is put in or taken out.
@@ -97,6 +98,8 @@ pub fn revert(alloc: Global, capture: &mut Capture, way: Record) -> Result<Recor
     ensures kept { IfErr result (λ k. k.held ≡ way) }
     ensures unchanged { OnErr result (contents capture.new ≡ contents capture.old) }
     ensures never { way.pieces ≡ [] → PutsNoneIn way.signal → IsOk result }
+    ensures fewer { length (apply_record way (contents capture.old)).signals
+        < length (contents capture.old).signals → IsOk result }
 {
     exchange_record(alloc, capture, way)
 }

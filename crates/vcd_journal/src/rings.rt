@@ -6,7 +6,7 @@ ghost use Rattle.std.specs.Prelude.{◌≡◌, ◌≤◌, ◌<◌, [], ◌∷◌
 ghost use Rattle.circular_buffer.specs.Buffer.{buffer};
 ghost use Rattle.vcd_core.specs.Contents.{contents};
 ghost use Rattle.vcd_core.specs.Sound.{IsSound};
-ghost use Rattle.vcd_journal.specs.inside.Histories.{AllRecordsFit, PopsRecord};
+ghost use Rattle.vcd_journal.specs.inside.Histories.{AllRecordsFit, HasNoFewerSignals, PopsRecord};
 
 use circular_buffer::HeapCircularBuffer;
 use std::alloc::Global;
@@ -68,7 +68,8 @@ pub fn enlarge(ring: &mut Ring, capacity: usize) -> Result<(), NoMemory>
 }
 
 /// The capture becomes what the newest record of `from` leads to. That record goes, and the one
-/// that leads back becomes the newest of `to`. Where memory is refused, all is as before.
+/// that leads back becomes the newest of `to`. Where memory is refused, which is never where fewer
+/// signals would be left, all is as before.
 pub fn follow_newest(
     alloc: Global,
     capture: &mut Capture,
@@ -88,6 +89,7 @@ pub fn follow_newest(
     ensures sound { IsSound (contents capture.new) }
     ensures from_room { from.new.capacity ≡ from.old.capacity }
     ensures to_room { to.new.capacity ≡ to.old.capacity }
+    ensures wants { OnErr result (HasNoFewerSignals (contents capture.old) from.old.items) }
     ensures unchanged { OnErr result ((contents capture.new ≡ contents capture.old)
         × (from.new ≡ from.old) × (to.new ≡ to.old)) }
 {

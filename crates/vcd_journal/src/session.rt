@@ -78,8 +78,8 @@ impl Session {
     /// many steps are held as the depth allows, the oldest is dropped.
     ///
     /// It is refused by the edit's first fault, without memory, and else only for want of memory
-    /// (`StepError::Edit` of `NoMemory`). The cost is that of the edit, and of dropping the records
-    /// of undone edits.
+    /// (`StepError::Edit` of `NoMemory`), never where fewer signals are left. The cost is that of the
+    /// edit, and of dropping the records of undone edits.
     pub fn apply(&mut self, edit: &Edit) -> Result<(), StepError>
         ensures step { IsStepCall self.old (steps.Edit edit.now) result self.new }
         ensures unchanged { OnErr result (self.new ≡ self.old) }
@@ -92,9 +92,9 @@ impl Session {
 
     /// Takes the newest edit back that is held.
     ///
-    /// It is refused without memory where none is held, and else only for want of memory. The cost
-    /// is that of the changes that the edit touched, and one move of the later ones of each touched
-    /// signal.
+    /// It is refused without memory where none is held, and else only for want of memory, never
+    /// where fewer signals are left. The cost is that of the changes that the edit touched, and one
+    /// move of the later ones of each touched signal.
     pub fn undo(&mut self) -> Result<(), StepError>
         ensures step { IsStepCall self.old steps.Undo result self.new }
         ensures unchanged { OnErr result (self.new ≡ self.old) }
@@ -113,8 +113,8 @@ impl Session {
 
     /// Makes the edit again that was undone last.
     ///
-    /// It is refused without memory where none is held, and else only for want of memory. The cost
-    /// is that of an undo.
+    /// It is refused without memory where none is held, and else only for want of memory, never
+    /// where fewer signals are left. The cost is that of an undo.
     pub fn redo(&mut self) -> Result<(), StepError>
         ensures step { IsStepCall self.old steps.Redo result self.new }
         ensures unchanged { OnErr result (self.new ≡ self.old) }
