@@ -1,5 +1,5 @@
 -- The bounded history of a capture as a machine. The rules are the project's own.
-use Rattle.std.specs.Prelude.{◌≡◌, ◌⊎◌, ℕ, ◌-◌, nat_lt, nat_le, Bool, true, not, ◌&&◌, IsTrue, if◌then◌else◌, List, [], ◌∷◌, length, take, Option, Some, None, Result, MatchResult}
+use Rattle.std.specs.Prelude.{◌≡◌, ◌⊎◌, ℕ, ◌-◌, nat_lt, nat_le, Bool, not, ◌&&◌, IsTrue, if◌then◌else◌, List, [], ◌∷◌, length, take, Option, Some, None, Result, MatchResult}
 use Rattle.vcd_core.specs.Contents.{Contents}
 use Rattle.vcd_edit.specs.declared.edit.Edit.{Edit}
 use Rattle.vcd_edit.specs.declared.fault.EditError.{EditError}
@@ -92,10 +92,10 @@ step_outcome m (steps.Depth depth) = depth_outcome depth m
 
 -- ---- every possible outcome of a step
 
--- whether a step may run out of memory: each may, but a depth only if it is greater
+-- whether a step may run out of memory: a depth only if it is greater, another step only if it leaves no fewer signals
 abbrev pub may_want_memory : Machine → Step → Bool
 may_want_memory m (steps.Depth depth) = nat_lt m.depth depth
-may_want_memory m s = true
+may_want_memory m s = nat_le (length m.now.signals) (length (step_outcome m s).after.now.signals)
 
 -- the answer if memory is refused
 abbrev pub memory_refusal : Step → Answer

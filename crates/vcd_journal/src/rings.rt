@@ -6,7 +6,7 @@ ghost use Rattle.std.specs.Prelude.{◌≡◌, ◌≤◌, ◌<◌, [], ◌∷◌
 ghost use Rattle.circular_buffer.specs.Buffer.{buffer};
 ghost use Rattle.vcd_core.specs.Contents.{contents};
 ghost use Rattle.vcd_core.specs.Sound.{IsSound};
-ghost use Rattle.vcd_journal.specs.inside.Histories.{AllRecordsFit, PopsRecord};
+ghost use Rattle.vcd_journal.specs.inside.Histories.{AllRecordsFit, HasNoFewerSignals, PopsRecord};
 
 use circular_buffer::HeapCircularBuffer;
 use std::alloc::Global;
@@ -67,7 +67,7 @@ pub fn enlarge(ring: &mut Ring, capacity: usize) -> Result<(), NoMemory>
 }
 
 /// Applies the newest record of `from` to the capture. That record is removed, and the one that undoes it becomes the
-/// newest of `to`. If memory is refused, nothing changes.
+/// newest of `to`. If memory is refused, which is never so if fewer signals would be left, nothing changes.
 pub fn follow_newest(
     alloc: Global,
     capture: &mut Capture,
@@ -87,6 +87,7 @@ pub fn follow_newest(
     ensures sound { IsSound (contents capture.new) }
     ensures from_room { from.new.capacity ≡ from.old.capacity }
     ensures to_room { to.new.capacity ≡ to.old.capacity }
+    ensures wants { OnErr result (HasNoFewerSignals (contents capture.old) from.old.items) }
     ensures unchanged { OnErr result ((contents capture.new ≡ contents capture.old)
         × (from.new ≡ from.old) × (to.new ≡ to.old)) }
 {
