@@ -2,7 +2,7 @@
 //!
 //! The functions take the fields of a session, not the session, so that the prover can follow each field.
 
-ghost use Rattle.std.specs.Prelude.{◌≡◌, ◌≤◌, ◌<◌, [], ◌∷◌, IfOk, OnOk, OnErr, length, take};
+ghost use Rattle.std.specs.Prelude.{◌≡◌, ◌≤◌, ◌<◌, max, [], ◌∷◌, IfOk, OnOk, OnErr, length, take};
 ghost use Rattle.circular_buffer.specs.Buffer.{buffer};
 ghost use Rattle.vcd_core.specs.Contents.{contents};
 ghost use Rattle.vcd_core.specs.Sound.{IsSound};
@@ -56,7 +56,8 @@ pub fn keep_newest(ring: &mut Ring, count: usize)
 pub fn enlarge(ring: &mut Ring, capacity: usize) -> Result<(), NoMemory>
     ensures items { ring.new.items ≡ ring.old.items }
     ensures room { OnOk result (capacity ≤ ring.new.capacity) }
-    ensures most { ring.old.capacity ≤ ring.new.capacity }
+    ensures exact { OnOk result (ring.new.capacity ≡ max ring.old.capacity capacity) }
+    ensures refused { OnErr result (ring.new ≡ ring.old) }
     ensures wants { OnErr result (ring.old.capacity < capacity) }
 {
     if capacity <= ring.capacity() {
