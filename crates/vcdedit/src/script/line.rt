@@ -5,7 +5,7 @@ ghost use Rattle.vcd_core.specs.Contents.{contents};
 ghost use Rattle.vcd_text.specs.Grammar.{word_texts};
 ghost use Rattle.vcdedit.specs.CommandSignals.{HasItsSignals};
 ghost use Rattle.vcdedit.specs.Addressless.{command_without_address};
-ghost use Rattle.vcdedit.specs.Script.{command_of_line};
+ghost use Rattle.vcdedit.specs.ParsedLines.{command_of_line};
 ghost use Rattle.vcdedit.specs.ScriptCommands.{is_comment as comment_test};
 ghost use Rattle.vcdedit.specs.inside.ParsedCommands.{words_command, keyword_command, depth_command};
 ghost use Rattle.vcdedit.specs.inside.Commands.{ReadsAs};
@@ -32,7 +32,7 @@ use vcd_text::Words;
 ///
 /// The cost is that of the line, and for each name in it a comparison with each full name. `@` and a position needs no
 /// comparison.
-#[tactic(auto, unfolding(crate::specs::Script::command_of_line))]
+#[tactic(auto, unfolding(crate::specs::ParsedLines::command_of_line))]
 pub fn parse_line<'a>(line: &'a [u8], capture: &Capture) -> Result<Command<'a>, LineError>
     ensures command { IfOk result (λ command.
         command_of_line (contents capture.now) line.now ≡ Ok (command_without_address command)) }
