@@ -8,7 +8,8 @@ returns-in_err-script_run g c =
     elim (given_or_none c.args.out) [
       | inl none ↦ rw none (record {
         headline =
-            ends_with c.from_residual.result c.in_err-script_run.field-0.0 c.args.depth _ _ _ _ c.from_residual.ensures.1
+            ends_with c.from_residual.result c.in_err-script_run.field-0.0 c.args.depth _ _ _ _
+            c.from_residual.ensures.1
             (c.in_err-script_run.ensures.ended _ tt);
       })
       | inr some ↦ rw (some.1) (record {

@@ -32,7 +32,8 @@ tried_is found (row ∷ rows) word =
     ∙ one_row found row (bytes_eq word row.0) (find (λ r. bytes_eq word r.0) rows)
 
 all_tried : (word : List ℕ) →
-    tried (tried (tried (tried None edit_keywords word) history_keywords word) query_keywords word) decoder_keywords word
+    tried (tried (tried (tried None edit_keywords word) history_keywords word) query_keywords word)
+    decoder_keywords word
     ≡ option_or (option_or (option_or (keyword_in edit_keywords word) (keyword_in history_keywords word))
     (keyword_in query_keywords word)) (keyword_in decoder_keywords word)
 all_tried word =
