@@ -50,17 +50,16 @@ fn answer_command(
         AnswersCommand skipped number command.now session.old session.new reply) }
     ensures unchanged { OnErr result (session.new ≡ session.old) }
 {
+    let capture = session.capture();
     match command {
         Command::Nothing => Ok(Reply::of_text(Vec::new(alloc))),
         Command::Step(step) => answer_step(alloc, session, number, step),
-        Command::List => listing_text(alloc, session.capture(), skipped).map(Reply::of_text),
-        Command::Value { signal, tick } => value_text(alloc, session.capture(), *signal, *tick).map(
+        Command::List => listing_text(alloc, capture, skipped).map(Reply::of_text),
+        Command::Value { signal, tick } => value_text(alloc, capture, *signal, *tick).map(
             Reply::of_text,
         ),
-        Command::Changes { signal } => changes_text(alloc, session.capture(), *signal).map(
-            Reply::of_text,
-        ),
-        Command::Uart { signal, setup } => uart_text(alloc, session.capture(), *signal, setup).map(
+        Command::Changes { signal } => changes_text(alloc, capture, *signal).map(Reply::of_text),
+        Command::Uart { signal, setup } => uart_text(alloc, capture, *signal, setup).map(
             Reply::of_text,
         ),
         Command::Spi {
@@ -69,10 +68,8 @@ fn answer_command(
             miso,
             cs,
             setup,
-        } => spi_text(alloc, session.capture(), *clk, *mosi, *miso, *cs, setup).map(Reply::of_text),
-        Command::I2c { scl, sda } => i2c_text(alloc, session.capture(), *scl, *sda).map(
-            Reply::of_text,
-        ),
+        } => spi_text(alloc, capture, *clk, *mosi, *miso, *cs, setup).map(Reply::of_text),
+        Command::I2c { scl, sda } => i2c_text(alloc, capture, *scl, *sda).map(Reply::of_text),
     }
 }
 
