@@ -20,7 +20,8 @@ returns-then-width-eq1 g c =
     let here : length v - 1 - 0 ≡ 0 = omega (arith, one) in
     let first = given_letter width c.args.low c.args.high 0 (omega arith) (omega arith) in
     writes_as (ap (λ b. b ∷ []) (c.letter_pair.ensures.second
-    ∙ ap printed_letter (sym first ∙ ap (λ i. get_or v i X) here)) ∙ sym (front_of_bit v one)) c.write_byte.ensures.written
+    ∙ ap printed_letter (sym first ∙ ap (λ i. get_or v i X) here)) ∙ sym (front_of_bit v one))
+    c.write_byte.ensures.written
 
 pub returns : goal.returns
 returns g c =
