@@ -27,7 +27,7 @@ use Rattle.vcdedit.specs.inside.RunStages.{EndsBeforeOutput, EndsBeforeReplies}
 use Rattle.vcdedit.specs.inside.ScriptRuns.{ScriptGives}
 use Rattle.vcdedit.proofs.RunHistories.{run_is}
 
--- ---- the result of the script
+-- ---- the capture
 
 -- what a file within the limit means
 pub file_means : (coming : Option (List ℕ)) (c : Contents) (skipped : ℕ)
@@ -48,7 +48,7 @@ pub is_accepted : (capture : ReaderEnd) (c : Contents) (skipped : ℕ) → captu
 is_accepted capture c skipped ready ended read =
     ((ready, ended), file_has_meaning capture.coming c skipped read)
 
--- ---- what the script gives
+-- ---- the result of the script
 
 -- the lines of the script, run from the capture that the file means
 script_gives : (file script : List ℕ) (depth skipped : ℕ) (c : Contents) (new : Machine) (count : ℕ)
