@@ -1,10 +1,9 @@
 -- The beginning of a full name, and the tests of full names.
 use Rattle.std.proofs.Common.{◌≡◌, Bool, true, false, suc, append_assoc, length-append, if◌then◌else◌, ◌||◌, ℕ, ◌-◌}
-use Rattle.std.proofs.Common.{◌+◌, ◌&&◌, IsTrue, nat_eq, slice_index_or}
+use Rattle.std.proofs.Common.{◌+◌, ◌*◌, slice_index_or}
 use Rattle.std.proofs.Common.{◌<◌, ◌≤◌, List, [], ◌∷◌, ◌++◌, length, get_or, take, drop, map, refl, sym, ap, ◌∙◌}
 use Rattle.std.proofs.Common.{append-nil, arith}
 use Rattle.std.specs.List.{concat, list_any}
-use Rattle.std.proofs.lemmas.Bool.{eq-eqb}
 use Rattle.std.proofs.lemmas.Slice.Eq.{bytes_eq-Decides}
 use Rattle.std.specs.Str.{bytes_eq}
 use Rattle.std.proofs.lemmas.List.{take_all, get_or-append-add, length-drop, take-append-drop}
@@ -158,12 +157,12 @@ same_place x y a b i j is far =
     ∙ ap (λ k. get_or (y ++ b) k 0) places ∙ get_or-append-add y b j 0
 
 pub same_last_two : (x y a b : List ℕ) → x ++ a ≡ y ++ b → 2 ≤ length a → 2 ≤ length b
-    → IsTrue (nat_eq (slice_index_or a (length a - 2) 0) (slice_index_or b (length b - 2) 0)
-    && nat_eq (slice_index_or a (length a - 1) 0) (slice_index_or b (length b - 1) 0))
+    → slice_index_or a (length a - 2) 0 * 256 + slice_index_or a (length a - 1) 0
+    ≡ slice_index_or b (length b - 2) 0 * 256 + slice_index_or b (length b - 1) 0
 same_last_two x y a b is long longer =
-    let one = eq-eqb _ _ (same_place x y a b (length a - 2) (length b - 2) is (omega arith)) in
-    let two = eq-eqb _ _ (same_place x y a b (length a - 1) (length b - 1) is (omega arith)) in
-    rw (one, two) refl
+    let one = same_place x y a b (length a - 2) (length b - 2) is (omega arith) in
+    let two = same_place x y a b (length a - 1) (length b - 1) is (omega arith) in
+    λ i. one i * 256 + two i
 
 -- what stands before the end of a text that ends as another one does
 pub before_count : (x y z text : List ℕ) (words : List (List ℕ)) (w : List ℕ) (count : ℕ) → count ≡ length z

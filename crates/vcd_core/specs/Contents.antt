@@ -26,7 +26,13 @@ pub record Contents : Type 0 where
 
 -- the contents of a signal
 abbrev pub signal_contents : Signal → SignalContents
-signal_contents s = record { scopes = s.scopes; kind = s.kind; words = s.words; width = s.wave.width; changes = s.wave.changes }
+signal_contents s = record {
+  scopes = s.scopes;
+  kind = s.kind;
+  words = s.words;
+  width = s.wave.width;
+  changes = s.wave.changes;
+}
 
 -- the contents of a capture
 abbrev pub contents : Capture → Contents

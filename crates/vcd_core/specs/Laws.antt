@@ -14,7 +14,8 @@ SameValuesSameChanges =
 -- a wave is the list of changes of its own values
 abbrev pub ChangesOfOwnValues : Type 0
 ChangesOfOwnValues =
-    (width end : ℕ) (xs : List Change) → IsWave width xs → AllUpTo end xs → changes_of width end (value_at width xs) ≡ xs
+    (width end : ℕ) (xs : List Change) → IsWave width xs → AllUpTo end xs
+    → changes_of width end (value_at width xs) ≡ xs
 
 -- the changes of f have its value at each tick
 abbrev pub ValuesOfChanges : Type 0
@@ -32,7 +33,8 @@ abbrev pub SpliceAndBack : Type 0
 SpliceAndBack =
     (changes piece : List Change) (from to : ℕ) (by back : ℤ) → from ≤ to → to ≤ length changes
     → AllTicksFit by (drop to changes) → by +ℤ back ≡ pos 0
-    → (spliced_changes (spliced_changes changes from to piece by) from (from + length piece) (slice_range changes from to) back ≡ changes)
+    → (spliced_changes (spliced_changes changes from to piece by) from (from + length piece)
+    (slice_range changes from to) back ≡ changes)
     × (slice_range (spliced_changes changes from to piece by) from (from + length piece) ≡ piece)
 
 -- the splice that undoes an allowed splice is allowed: the piece is in range, the ticks fit, and the result is a wave
@@ -42,4 +44,5 @@ SpliceBackIsAllowed =
     → IsWave width changes → All (λ c. c.tick < 2 ^ 64) changes → AllTicksFit by (drop to changes) → by +ℤ back ≡ pos 0
     → (from + length piece ≤ length (spliced_changes changes from to piece by))
     × AllTicksFit back (drop (from + length piece) (spliced_changes changes from to piece by))
-    × IsWave width (spliced_changes (spliced_changes changes from to piece by) from (from + length piece) (slice_range changes from to) back)
+    × IsWave width (spliced_changes (spliced_changes changes from to piece by) from (from + length piece)
+    (slice_range changes from to) back)

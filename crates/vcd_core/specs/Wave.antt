@@ -1,5 +1,6 @@
 -- A wave as the list of its changes: its value at a tick, its one form, and a push at its end.
-use Rattle.std.specs.Prelude.{ℕ, zero, suc, Bool, ◌+◌, ◌≡◌, ◌≢◌, ◌≤◌, true, false, if◌then◌else◌, nat_le, nat_lt, List, [], ◌∷◌, ◌++◌, length, take_while}
+use Rattle.std.specs.Prelude.{ℕ, zero, suc, Bool, ◌+◌, ◌≡◌, ◌≢◌, ◌≤◌, true, false, if◌then◌else◌, nat_le, nat_lt, List}
+use Rattle.std.specs.Prelude.{[], ◌∷◌, ◌++◌, length, take_while}
 use Rattle.vcd_core.specs.declared.bit.Bit.{Bit}
 use Rattle.vcd_core.specs.declared.wave.Change.{Change}
 use Rattle.vcd_core.specs.Value.{all_x, same_letters}
@@ -25,7 +26,8 @@ unless_same false c cs = c ∷ cs
 -- the changes of f at n ticks from t on, where `before` is the value at the tick before
 unfoldable pub changes_from : List Bit → ℕ → ℕ → (ℕ → List Bit) → List Change
 changes_from before t zero f = []
-changes_from before t (suc n) f = unless_same (same_letters (f t) before) (change t (f t)) (changes_from (f t) (suc t) n f)
+changes_from before t (suc n) f = unless_same (same_letters (f t) before) (change t (f t))
+    (changes_from (f t) (suc t) n f)
 
 -- the changes of f at the ticks 0 to `end`: those at which it differs from the tick before, all x before tick 0
 abbrev pub changes_of : ℕ → ℕ → (ℕ → List Bit) → List Change
@@ -34,7 +36,8 @@ changes_of width end f = changes_from (all_x width) 0 (suc end) f
 -- ticks rise strictly from `floor` on, and each value differs from the one before it, with the same width
 abbrev pub AreChangesFrom : ℕ → List Bit → List Change → Type 0
 AreChangesFrom floor before [] = Unit {0}
-AreChangesFrom floor before (c ∷ cs) = (floor ≤ c.tick) × (c.value ≢ before) × (length c.value ≡ length before) × AreChangesFrom (c.tick + 1) c.value cs
+AreChangesFrom floor before (c ∷ cs) = (floor ≤ c.tick) × (c.value ≢ before) × (length c.value ≡ length before)
+    × AreChangesFrom (c.tick + 1) c.value cs
 
 -- a list of changes in the one form of a wave of this width
 pub record IsWave (width : ℕ) (changes : List Change) : Type 0 where

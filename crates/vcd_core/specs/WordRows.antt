@@ -33,7 +33,8 @@ high_of Z = 1
 
 -- the letters whose low and high bits are in two rows, most significant first
 unfoldable pub letters_of : ℕ → List ℕ → List ℕ → List Bit
-letters_of width low high = map (λ i. letter_of (row_bit low (width - 1 - i)) (row_bit high (width - 1 - i))) (range_with_len 0 width)
+letters_of width low high = map
+    (λ i. letter_of (row_bit low (width - 1 - i)) (row_bit high (width - 1 - i))) (range_with_len 0 width)
 
 -- the low bit of the letter at bit k of a value; 0 outside it
 abbrev pub low_bit : List Bit → ℕ → ℕ

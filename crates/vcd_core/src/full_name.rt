@@ -1,6 +1,6 @@
 //! Full names, compared byte by byte without building them.
 
-ghost use Rattle.std.specs.Prelude.{◌≡◌, ◌∷◌, ◌++◌, ℕ, List, [], IsTrue, MatchOption, length, map};
+ghost use Rattle.std.specs.Prelude.{◌≡◌, ◌∷◌, ◌++◌, ◌+◌, ◌*◌, ℕ, List, [], IsTrue, MatchOption, length, map};
 ghost use Rattle.std.specs.List.{concat, list_any};
 ghost use Rattle.std.specs.Str.{bytes_eq};
 ghost use Rattle.vcd_core.specs.Contents.{signal_contents};
@@ -193,6 +193,7 @@ fn last_of<'a>(first: &'a [u8], others: &'a [Word]) -> &'a [u8]
 /// Whether a name that ends with `first` and the others, and one that ends with the words, may be the same.
 ///
 /// It looks at two bytes of the last words, and where these have one length at two of the words before.
+#[inline(always)]
 fn may_end_alike(first: &[u8], others: &[Word], words: &[Word]) -> bool
     ensures { (x y : List ℕ) → x ++ (first.now ++ concat others.now) ≡ y ++ concat words.now
         → IsTrue result }
@@ -211,6 +212,7 @@ fn may_end_alike(first: &[u8], others: &[Word], words: &[Word]) -> bool
 
 /// Whether a text that ends with this one, and a name that ends with these words, may be the same: so it looks
 /// at two bytes of the last word, and at two of the word before.
+#[inline(always)]
 pub(crate) fn may_end_with(text: &[u8], words: &[Word]) -> bool
     ensures { (x y : List ℕ) → x ++ text.now ≡ y ++ concat words.now → IsTrue result }
 {
@@ -241,7 +243,8 @@ fn have_one_end(a: &[u8], b: &[u8]) -> bool
 {
     match a {
         [.., a_before, a_last] => match b {
-            [.., b_before, b_last] => (*a_before == *b_before) & (*a_last == *b_last),
+            [.., b_before, b_last] => two_bytes(*a_before, *a_last)
+                == two_bytes(*b_before, *b_last),
             [b_last] => *a_last == *b_last,
             [] => true,
         },
@@ -251,4 +254,11 @@ fn have_one_end(a: &[u8], b: &[u8]) -> bool
         },
         [] => true,
     }
+}
+
+/// Two bytes as one number, so that they are compared by one test.
+fn two_bytes(first: u8, second: u8) -> u16
+    ensures { result ≡ first * 256 + second }
+{
+    first as u16 * 256 + second as u16
 }

@@ -281,6 +281,7 @@ impl Wave {
         ensures width { self.new.width ≡ self.old.width }
         ensures changes { self.new.changes ≡ self.old.changes }
         ensures room { self.new.room ≡ self.old.room }
+        ensures given_back { self.new.splice_room ≡ self.new.room }
     {
         self.list.cancel_splice();
     }

@@ -198,6 +198,7 @@ fn reserve_list(
 fn cancel_list(list: WaveList) -> WaveList
     ensures changes { changes_of_list result ≡ changes_of_list list }
     ensures room { room_of_list result ≡ room_of_list list }
+    ensures given_back { splice_room_of_list result ≡ room_of_list result }
 {
     match list {
         WaveList::SharedWithRoom { list, .. } => WaveList::Shared(list),
@@ -343,6 +344,7 @@ impl WaveList {
     pub fn cancel_splice(&mut self)
         ensures changes { changes_of_list self.new ≡ changes_of_list self.old }
         ensures room { room_of_list self.new ≡ room_of_list self.old }
+        ensures given_back { splice_room_of_list self.new ≡ room_of_list self.new }
     {
         let alloc = self.alloc();
         *self = cancel_list(replace(self, WaveList::Own(Vec::new(alloc))));

@@ -1,8 +1,10 @@
 -- The bytes of an I2C bus: addresses of seven and of ten bits, data, acknowledges (UM10204, 3.1.5, 3.1.6, 3.1.10 and
 -- 3.1.11).
-use Rattle.std.specs.Prelude.{ℕ, zero, suc, ◌+◌, ◌*◌, ◌/◌, ◌%◌, ◌==◌, Bool, if◌then◌else◌, Option, Some, None, List, fold}
+use Rattle.std.specs.Prelude.{ℕ, zero, suc, ◌+◌, ◌*◌, ◌/◌, ◌%◌, ◌==◌, Bool, if◌then◌else◌, Option, Some, None, List}
+use Rattle.std.specs.Prelude.{fold}
 use Rattle.vcd_decode.specs.declared.annotation.Kind.{Kind}
-use Rattle.vcd_decode.specs.declared.annotation.Kind.TheVariants.{Unknown, Address, AddressHigh, TenBitAddress, Ack, Nack}
+use Rattle.vcd_decode.specs.declared.annotation.Kind.TheVariants.{Unknown, Address, AddressHigh, TenBitAddress, Ack}
+use Rattle.vcd_decode.specs.declared.annotation.Kind.TheVariants.{Nack}
 use Rattle.vcd_decode.specs.declared.annotation.Kind.TheVariants as kinds
 use Rattle.vcd_decode.specs.declared.annotation.Direction.{Direction}
 use Rattle.vcd_decode.specs.declared.annotation.Direction.TheVariants.{Write, Read}
@@ -15,7 +17,8 @@ use Rattle.vcd_decode.specs.BusEvents.{is_line_high}
 -- a number with one more bit after it; none where the bit is neither high nor low
 abbrev pub number_with : Option ℕ → BusBit → Option ℕ
 number_with None b = None
-number_with (Some n) b = if is_line_high b.level then Some (2 * n + 1) else (if is_zero b.level then Some (2 * n) else None)
+number_with (Some n) b = if is_line_high b.level
+    then Some (2 * n + 1) else (if is_zero b.level then Some (2 * n) else None)
 
 -- the number that bits give, most significant first
 abbrev pub number_of_bits : List BusBit → Option ℕ
@@ -47,7 +50,8 @@ ten_bit_kind given high Read = ten_bit_read given high
 
 -- the kind of any address
 abbrev pub address_kind : Option ℕ → ℕ → Kind
-address_kind given n = if is_ten_bit n then ten_bit_kind given (high_bits n) (direction_of n) else Address (n / 2) (direction_of n)
+address_kind given n = if is_ten_bit n
+    then ten_bit_kind given (high_bits n) (direction_of n) else Address (n / 2) (direction_of n)
 
 -- ---- any byte
 

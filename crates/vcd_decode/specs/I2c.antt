@@ -1,5 +1,6 @@
 -- The annotations of an I2C bus (UM10204, 3.1); those of rests and unclear levels are the project's own.
-use Rattle.std.specs.Prelude.{ℕ, ◌-◌, ◌==◌, ◌&&◌, nat_le, Bool, true, false, if◌then◌else◌, Option, Some, None, List, [], ◌∷◌, ◌++◌, length, take, drop, map, slice_index}
+use Rattle.std.specs.Prelude.{ℕ, ◌-◌, ◌==◌, ◌&&◌, nat_le, Bool, true, false, if◌then◌else◌, Option, Some, None, List}
+use Rattle.std.specs.Prelude.{[], ◌∷◌, ◌++◌, length, take, drop, map, slice_index}
 use Rattle.std.specs.Option.{option_or, option_flatten}
 use Rattle.vcd_core.specs.declared.bit.Bit.{Bit}
 use Rattle.vcd_decode.specs.declared.annotation.Annotation.{Annotation}
@@ -23,7 +24,8 @@ ticks_of bits = map (λ b. b.tick) bits
 
 -- an annotation from the first to the last tick of bits
 abbrev pub bits_annotation : List BusBit → Kind → Annotation
-bits_annotation bits kind = annotation (slice_index (ticks_of bits) 0) (slice_index (ticks_of bits) (length bits - 1)) kind
+bits_annotation bits kind = annotation (slice_index (ticks_of bits) 0)
+    (slice_index (ticks_of bits) (length bits - 1)) kind
 
 -- a byte of nine bits and its acknowledge
 abbrev pub byte_annotations : ByteRole → List BusBit → List Annotation
@@ -33,13 +35,15 @@ byte_annotations role nine =
 
 -- a rest: at least two bits that a condition ends, including the rise of SCL before that condition
 abbrev pub rest_annotations : Bool → List BusBit → List Annotation
-rest_annotations ended rest = if ended && nat_le 2 (length rest) then bits_annotation rest (kinds.PartialOf (length rest)) ∷ [] else []
+rest_annotations ended rest = if ended && nat_le 2 (length rest)
+    then bits_annotation rest (kinds.PartialOf (length rest)) ∷ [] else []
 
 -- the bits up to a condition, cut into nines: a byte and its acknowledge each, and a rest
 unfoldable pub nines_annotations : Bool → ByteRole → List (List BusBit) → List Annotation
 nines_annotations ended role [] = []
 nines_annotations ended role (nine ∷ nines) =
-    if length nine == 9 then byte_annotations role nine ++ nines_annotations ended (role_after role (number_of_bits (take 8 nine))) nines
+    if length nine == 9 then byte_annotations role nine
+    ++ nines_annotations ended (role_after role (number_of_bits (take 8 nine))) nines
     else rest_annotations ended nine
 
 -- ---- a whole bus
@@ -75,7 +79,8 @@ events_annotations last [] = []
 events_annotations last (events.Bit b ∷ es) = events_annotations last es
 events_annotations last (events.Stop t ∷ es) = annotation t t kinds.Stop ∷ events_annotations None es
 events_annotations last (events.Start t ∷ es) =
-    let shown = nines_annotations (has_condition es) (roles.Address (option_flatten last)) (groups_of 9 (bits_until es)) in
+    let shown = nines_annotations (has_condition es) (roles.Address (option_flatten last))
+    (groups_of 9 (bits_until es)) in
     annotation t t (start_kind last) ∷ shown ++ events_annotations (Some (shown_address shown)) es
 
 -- the annotations of the lines SCL and SDA at the ticks 0 to `end`

@@ -1,6 +1,7 @@
 -- The words of a serial peripheral interface. The edge at which a mode samples is the field's common rule (clock
 -- polarity and phase, 0 to 3); the cut of ticks into words is the project's own.
-use Rattle.std.specs.Prelude.{ℕ, suc, ◌-◌, ◌==◌, ◌&&◌, ◌||◌, nat_lt, Bool, true, not, if◌then◌else◌, Option, Some, None, List, map, filter, length, reverse, slice_index}
+use Rattle.std.specs.Prelude.{ℕ, suc, ◌-◌, ◌==◌, ◌&&◌, ◌||◌, nat_lt, Bool, true, not, if◌then◌else◌, Option, Some, None}
+use Rattle.std.specs.Prelude.{List, map, filter, length, reverse, slice_index}
 use Rattle.std.specs.List.{flat_map, list_any, range_with_len, slice_split}
 use Rattle.vcd_core.specs.declared.bit.Bit.{Bit}
 use Rattle.vcd_decode.specs.declared.annotation.Annotation.{Annotation}
@@ -34,7 +35,8 @@ is_selected (Some cs) t = is_zero (cs t)
 
 -- the sampled ticks 0 to `end`, in parts between the ticks at which the chip is not selected
 abbrev pub segments : SpiSetup → (ℕ → Bit) → Option (ℕ → Bit) → ℕ → List (List ℕ)
-segments u clk cs end = map (filter (has_edge u.mode clk)) (slice_split (λ t. not (is_selected cs t)) (range_with_len 0 (suc end)))
+segments u clk cs end = map (filter (has_edge u.mode clk))
+    (slice_split (λ t. not (is_selected cs t)) (range_with_len 0 (suc end)))
 
 -- ---- words
 
@@ -71,5 +73,6 @@ abbrev pub segment_annotations : SpiSetup → Option (ℕ → Bit) → Option (�
 segment_annotations u mosi miso ticks = map (group_annotation u mosi miso) (groups_of u.bits ticks)
 
 -- the annotations of lines with these letters at each tick, up to the capture's end
-unfoldable pub spi_annotations : SpiSetup → (ℕ → Bit) → Option (ℕ → Bit) → Option (ℕ → Bit) → Option (ℕ → Bit) → ℕ → List Annotation
+unfoldable pub spi_annotations : SpiSetup → (ℕ → Bit) → Option (ℕ → Bit) → Option (ℕ → Bit) → Option (ℕ → Bit) → ℕ
+    → List Annotation
 spi_annotations u clk mosi miso cs end = flat_map (segment_annotations u mosi miso) (segments u clk cs end)

@@ -1,6 +1,7 @@
 -- The frames of an asynchronous serial line. A frame is a start bit 0, data bits with the least significant first, a
 -- parity bit where there is one, and stop bits 1 (ISO 1177). Its beginning and its sample ticks are the project's own.
-use Rattle.std.specs.Prelude.{ℕ, suc, ◌+◌, ◌*◌, ◌/◌, ◌%◌, ◌==◌, ◌&&◌, nat_lt, nat_le, Bool, false, not, if◌then◌else◌, Option, Some, None, List, [], ◌∷◌, ◌++◌, map, filter, take, drop, count_by}
+use Rattle.std.specs.Prelude.{ℕ, suc, ◌+◌, ◌*◌, ◌/◌, ◌%◌, ◌==◌, ◌&&◌, nat_lt, nat_le, Bool, false, not, if◌then◌else◌}
+use Rattle.std.specs.Prelude.{Option, Some, None, List, [], ◌∷◌, ◌++◌, map, filter, take, drop, count_by}
 use Rattle.std.specs.List.{list_any, range_with_len}
 use Rattle.std.specs.Option.{option_map_or, option_to_list}
 use Rattle.vcd_core.specs.declared.bit.Bit.{Bit}
@@ -53,7 +54,8 @@ abbrev pub frame_kind : UartSetup → List Bit → Kind
 frame_kind u letters =
     if list_any is_unclear letters then Unknown
     else (if list_any is_zero (drop (checked_bits u) letters) then FrameError
-    else (if is_parity_wrong u.parity (count_by is_one (take (checked_bits u) letters)) then ParityError (number_from_letters (take u.data_bits letters))
+    else (if is_parity_wrong u.parity (count_by is_one (take (checked_bits u) letters))
+    then ParityError (number_from_letters (take u.data_bits letters))
     else Byte (number_from_letters (take u.data_bits letters))))
 
 -- the frame that a fall at the tick `start` begins: none where the line is not 0 in the middle of the start bit; one

@@ -319,7 +319,8 @@ module _ (width from to : ℕ) (cs piece : List Change) (by : ℤ) (is : IsWave 
   whole_follows floor before low old (c ∷ xs) (from', other, wide, rest) fits first =
       let here = follow_rise floor before (moved_change by c ∷ []) first in
       let fits_here : FitsUnsigned w64 (pos c.tick +ℤ by) = All-head (TickFits by) c xs fits in
-      let at : pos (c.tick + 1) +ℤ by ≡ pos (unsigned_abs (pos c.tick +ℤ by) + 1) = omega (arith, ints, fits_here.0) in (
+      let at : pos (c.tick + 1) +ℤ by ≡ pos (unsigned_abs (pos c.tick +ℤ by) + 1) = omega (arith, ints, fits_here.0)
+      in (
         here.0,
         here.1,
         here.2,

@@ -1,5 +1,6 @@
 -- Which fault an edit has on a capture. The rules are the project's own.
-use Rattle.std.specs.Prelude.{◌≡◌, ◌⊎◌, ℕ, ◌+◌, ◌==◌, ◌||◌, nat_lt, nat_le, Bool, false, not, if◌then◌else◌, List, [], ◌∷◌, length, Option, Some, None, Result, MatchResult}
+use Rattle.std.specs.Prelude.{◌≡◌, ◌⊎◌, ℕ, ◌+◌, ◌==◌, ◌||◌, nat_lt, nat_le, Bool, false, not, if◌then◌else◌, List, []}
+use Rattle.std.specs.Prelude.{◌∷◌, length, Option, Some, None, Result, MatchResult}
 use Rattle.std.specs.List.{list_any, remove}
 use Rattle.std.specs.Str.{bytes_eq}
 use Rattle.vcd_core.specs.Contents.{Contents, signal_at}
@@ -98,8 +99,10 @@ gives_no_word e = false
 
 -- whether another signal already has the new full name
 abbrev pub takes_name : Edit → Contents → Bool
-takes_name (Rename k word) c = list_any (bytes_eq (full_name (renamed_signal word.now (signal_at c k)))) (full_names (remove c.signals k))
-takes_name (Derive word rule) c = list_any (bytes_eq (full_name (derived_signal word.now rule c))) (full_names c.signals)
+takes_name (Rename k word) c = list_any (bytes_eq (full_name (renamed_signal word.now (signal_at c k))))
+    (full_names (remove c.signals k))
+takes_name (Derive word rule) c = list_any (bytes_eq (full_name (derived_signal word.now rule c)))
+    (full_names c.signals)
 takes_name e c = false
 
 -- ---- how many signals

@@ -20,7 +20,8 @@ signal_with_changes s cs = record s { changes = cs }
 
 -- the capture after a piece is put into its signal
 abbrev pub with_piece : Contents → PieceView → Contents
-with_piece c p = with_signal c p.signal (signal_with_changes (signal_at c p.signal) (changes_with_piece p (signal_at c p.signal).changes))
+with_piece c p = with_signal c p.signal
+    (signal_with_changes (signal_at c p.signal) (changes_with_piece p (signal_at c p.signal).changes))
 
 -- the capture after all pieces are put in, one after another
 unfoldable pub with_pieces : Contents → List PieceView → Contents

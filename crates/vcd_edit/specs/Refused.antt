@@ -1,5 +1,6 @@
 -- Which edits are refused, and with which word: the project's own.
-use Rattle.std.specs.Prelude.{ℕ, ◌+◌, ◌==◌, ◌||◌, nat_lt, nat_le, Bool, not, if◌then◌else◌, List, [], ◌∷◌, ◌++◌, length, Option, Some, None, codes}
+use Rattle.std.specs.Prelude.{ℕ, ◌+◌, ◌==◌, ◌||◌, nat_lt, nat_le, Bool, not, if◌then◌else◌, List, [], ◌∷◌, ◌++◌, length}
+use Rattle.std.specs.Prelude.{Option, Some, None, codes}
 use Rattle.std.specs.List.{list_any, remove}
 use Rattle.std.specs.Str.{bytes_eq}
 use Rattle.vcd_core.specs.Contents.{Contents, SignalContents, signal_at}
@@ -12,7 +13,7 @@ use Rattle.vcd_edit.specs.declared.edit.Rule.{Rule}
 use Rattle.vcd_edit.specs.declared.edit.Rule.TheVariants.{Not, And, Or, Xor, BitOf}
 use Rattle.vcd_edit.specs.Effect.{renamed_signal, derived_signal}
 
--- tests in the order in which they count, each with the word that is printed where it holds
+-- tests, each with the word of its refusal
 abbrev pub Tests : Type 0
 Tests = List (Bool × List ℕ)
 
@@ -52,8 +53,8 @@ name_test s others = (list_any (bytes_eq (full_name s)) (full_names others), cod
 
 -- the tests of an edit on a capture; the end itself may be forced, but not cut out
 abbrev pub edit_tests : Contents → Edit → Tests
-edit_tests c (Rename k word) =
-    no_signal_test c k ∷ word_test word.now ∷ name_test (renamed_signal word.now (signal_at c k)) (remove c.signals k) ∷ []
+edit_tests c (Rename k word) = no_signal_test c k ∷ word_test word.now
+    ∷ name_test (renamed_signal word.now (signal_at c k)) (remove c.signals k) ∷ []
 edit_tests c (Remove k) = no_signal_test c k ∷ []
 edit_tests c (Invert k) = no_signal_test c k ∷ []
 edit_tests c (Shift k by) = no_signal_test c k ∷ []

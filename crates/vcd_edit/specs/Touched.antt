@@ -1,5 +1,6 @@
 -- How many changes a step touches in each signal: the bound on what a record stores. It is the project's own.
-use Rattle.std.specs.Prelude.{ℕ, suc, ◌+◌, ◌-◌, ◌==◌, ◌&&◌, if◌then◌else◌, ℤ, pos, ◌-ℤ◌, neg_ℤ, Bool, List, [], ◌∷◌, length, drop, map, reverse, Option, Some, None}
+use Rattle.std.specs.Prelude.{ℕ, suc, ◌+◌, ◌-◌, ◌==◌, ◌&&◌, if◌then◌else◌, ℤ, pos, ◌-ℤ◌, neg_ℤ, Bool, List, [], ◌∷◌}
+use Rattle.std.specs.Prelude.{length, drop, map, reverse, Option, Some, None}
 use Rattle.std.specs.List.{common_prefix_len, insert, remove, sum_by}
 use Rattle.std.specs.Ordering.{int_eq}
 use Rattle.vcd_core.specs.declared.wave.Change.{Change}
@@ -72,7 +73,8 @@ record_pairing (Some m) = pairing_of_move m.0 m.1
 
 -- the sum over all signals
 abbrev pub touched_by_record : RecordView → Contents → ℕ
-touched_by_record r c = touched_from (piece_offset r.pieces) 0 c.signals (partners (record_pairing r.signal) (apply_record r c).signals)
+touched_by_record r c = touched_from (piece_offset r.pieces) 0 c.signals
+    (partners (record_pairing r.signal) (apply_record r c).signals)
 
 -- ---- what a record stores
 

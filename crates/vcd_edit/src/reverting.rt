@@ -1,9 +1,9 @@
 //! How a record is exchanged with a capture.
 
-ghost use Rattle.std.specs.Prelude.{◌≡◌, ℕ, ◌≤◌, [], None, neg_ℤ, All, IsOk, IfOk, OnOk, OnErr, IfErr};
+ghost use Rattle.std.specs.Prelude.{◌≡◌, ℕ, ◌<◌, ◌≤◌, [], None, neg_ℤ, length, All, IsOk, IfOk, OnOk, OnErr, IfErr};
 ghost use Rattle.vcd_core.specs.Contents.{contents};
 ghost use Rattle.vcd_core.specs.Sound.{IsSound};
-ghost use Rattle.vcd_edit.specs.AppliedRecords.{apply_record, Fits, AreApart, PutsNoneIn};
+ghost use Rattle.vcd_edit.specs.AppliedRecords.{apply_record, Fits, IsOneStep, PutsNoneIn};
 ghost use Rattle.vcd_edit.specs.Touched.{touched_by_record, stored_changes};
 ghost use Rattle.vcd_edit.specs.inside.Opposites.{IsInverse};
 
@@ -35,7 +35,7 @@ pub(crate) fn exchange_record(
     ensures kept { IfErr result (λ k. k.held ≡ way) }
     ensures unchanged { OnErr result (contents capture.new ≡ contents capture.old) }
     ensures never { way.pieces ≡ [] → PutsNoneIn way.signal → IsOk result }
-    ensures apart { AreApart way.pieces }
+    ensures one_step { IsOneStep way }
 {
     // Each field is named, so that a further one, such as a whole capture that is kept, does not compile.
     let Record {
@@ -82,7 +82,7 @@ pub(crate) fn exchange_record(
 /// That record fits, restores the capture, and stores touched changes only. In a signal with a piece, these are the
 /// changes that the step takes away or moves by another number of ticks than the piece. In a signal that is taken out,
 /// they are all changes. It is refused only if memory runs out, and never for a record with neither pieces nor a signal
-/// to put in. The record then comes back in [`Kept`], and the capture is as it was.
+/// to put in, so never if fewer signals are left. The record then comes back in [`Kept`], and the capture is as it was.
 ///
 /// The cost is the pieces, their ranges, and for each piece one move of its signal's later changes. A signal that is
 /// put in or taken out costs one move of the later signals.
@@ -98,6 +98,8 @@ pub fn revert(alloc: Global, capture: &mut Capture, way: Record) -> Result<Recor
     ensures kept { IfErr result (λ k. k.held ≡ way) }
     ensures unchanged { OnErr result (contents capture.new ≡ contents capture.old) }
     ensures never { way.pieces ≡ [] → PutsNoneIn way.signal → IsOk result }
+    ensures fewer { length (apply_record way (contents capture.old)).signals
+        < length (contents capture.old).signals → IsOk result }
 {
     exchange_record(alloc, capture, way)
 }

@@ -1,7 +1,8 @@
 -- The records of a session and the captures that they reach.
 use Rattle.std.proofs.Common.{◌≡◌, ◌<◌, ◌≤◌, ◌+◌, ℕ, zero, suc, List, [], ◌∷◌, ◌-◌, length, take, drop, refl, sym, ◌∙◌}
 use Rattle.std.proofs.Common.{ap, subst, Some, arith}
-use Rattle.std.specs.Prelude.{slice_get}
+use Rattle.std.specs.Prelude.{slice_get, nat_lt, Bool, true, false}
+use Rattle.std.proofs.lemmas.Bool.Decides.{nat_tests}
 use Rattle.std.proofs.lemmas.List.{take_all, length-take}
 use Rattle.vcd_core.specs.Contents.{Contents}
 use Rattle.circular_buffer.specs.Buffer.{Buffer}
@@ -9,8 +10,10 @@ use Rattle.vcd_edit.specs.declared.edit.Edit.{Edit}
 use Rattle.vcd_edit.specs.Effect.{effect}
 use Rattle.vcd_edit.specs.RecordView.{RecordView}
 use Rattle.vcd_edit.specs.AppliedRecords.{apply_record, Fits}
-use Rattle.vcd_journal.specs.Machine.{Machine, machine_after_edit, machine_after_depth}
-use Rattle.vcd_journal.specs.inside.Histories.{reached_captures, AllRecordsFit, IsHistory, PopsRecord}
+use Rattle.vcd_journal.specs.declared.step.Step.TheVariants as steps
+use Rattle.vcd_journal.specs.Machine.{Machine, machine_after_edit, machine_after_depth, may_want_memory}
+use Rattle.vcd_journal.specs.inside.Histories.{reached_captures, AllRecordsFit, HasNoFewerSignals, IsHistory}
+use Rattle.vcd_journal.specs.inside.Histories.{PopsRecord}
 
 -- a capture for each record
 pub length_reached_captures : (c : Contents) (rs : List RecordView) → length (reached_captures c rs) ≡ length rs
@@ -116,6 +119,34 @@ pub record_put_back : (r : RecordView) (rs : List RecordView) (n : ℕ) → Some
     → take n (r ∷ drop 1 rs) ≡ rs
 record_put_back r [] n first within = absurd (cc)
 record_put_back r (q ∷ rs) n first within = let same : r ≡ q = cc in rw same (take_all n (q ∷ rs) within)
+
+-- ---- want of memory
+
+-- a step by the first record that is never refused where fewer signals are left
+pub no_fewer_left : (c : Contents) (r : RecordView) (rs : List RecordView) → Some r ≡ slice_get rs 0
+    → (length (apply_record r c).signals < length c.signals → ⊥) → HasNoFewerSignals c rs
+no_fewer_left c r [] first never = tt
+no_fewer_left c r (q ∷ rs) first never =
+    let same : r ≡ q = cc in
+    subst (λ (p : RecordView). length c.signals ≤ length (apply_record p c).signals) same
+    (at_most (length (apply_record r c).signals) (length c.signals) never)
+  where
+    at_most : (a b : ℕ) → (a < b → ⊥) → b ≤ a
+    at_most a b never = choose (nat_lt a b) refl
+      where
+        choose : (t : Bool) → nat_lt a b ≡ t → b ≤ a
+        choose true less = absurd (never (grind (arith, nat_tests)))
+        choose false more = grind (arith, nat_tests)
+
+pub undo_wants : (c : Contents) (past future : List RecordView) (depth : ℕ) → HasNoFewerSignals c past
+    → may_want_memory (machine_of c past future depth) steps.Undo ≡ true
+undo_wants c [] future depth more = grind (arith, nat_tests)
+undo_wants c (r ∷ rs) future depth more = grind (arith, nat_tests)
+
+pub redo_wants : (c : Contents) (past future : List RecordView) (depth : ℕ) → HasNoFewerSignals c future
+    → may_want_memory (machine_of c past future depth) steps.Redo ≡ true
+redo_wants c past [] depth more = grind (arith, nat_tests)
+redo_wants c past (r ∷ rs) depth more = grind (arith, nat_tests)
 
 -- ---- another depth
 

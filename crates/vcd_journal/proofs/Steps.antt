@@ -7,6 +7,8 @@ use Rattle.vcd_core.specs.Contents.{Contents}
 use Rattle.vcd_edit.specs.declared.edit.Edit.{Edit}
 use Rattle.vcd_edit.specs.declared.fault.EditError.{EditError}
 use Rattle.vcd_edit.specs.Allowed.{edit_fault, MayRefuse}
+use Rattle.vcd_edit.specs.TouchedByEdit.{IsRemove}
+use Rattle.vcd_edit.proofs.SignalCounts.{effect_keeps}
 use Rattle.vcd_journal.specs.declared.step.TheConstants.{DEPTH_LIMIT}
 use Rattle.vcd_journal.specs.declared.step.Step.{Step}
 use Rattle.vcd_journal.specs.declared.step.Step.TheVariants as steps
@@ -14,7 +16,8 @@ use Rattle.vcd_journal.specs.declared.step.StepError.TheVariants as refusals
 use Rattle.vcd_journal.specs.declared.step.Answer.{Answer}
 use Rattle.vcd_journal.specs.declared.step.Answer.TheVariants.{Done, Refused}
 use Rattle.vcd_journal.specs.Machine.{Machine, machine_after_edit, machine_after_depth, refused_outcome, undo_outcome}
-use Rattle.vcd_journal.specs.Machine.{redo_outcome, is_depth, step_outcome, memory_refusal, IsStep, StepsLead}
+use Rattle.vcd_journal.specs.Machine.{redo_outcome, is_depth, step_outcome, may_want_memory, memory_refusal}
+use Rattle.vcd_journal.specs.Machine.{IsStep, StepsLead}
 
 -- ---- edits
 
@@ -22,12 +25,18 @@ pub edit_accepted : (e : Edit) (m n : Machine) → edit_fault e m.now ≡ None �
     → IsStep m (steps.Edit e) Done n
 edit_accepted e m n none is = inl (rw (none, is) refl)
 
-pub edit_refused : (e : Edit) (found : EditError) (m n : Machine) → MayRefuse (edit_fault e m.now) found → n ≡ m
+-- an edit without a fault may want memory where it is no remove
+edit_wants : (e : Edit) (m : Machine) → edit_fault e m.now ≡ None → (IsRemove e → ⊥)
+    → may_want_memory m (steps.Edit e) ≡ true
+edit_wants e m none other = let keeps = effect_keeps e m.now other in rw none (grind (arith, nat_tests))
+
+pub edit_refused : (e : Edit) (found : EditError) (m n : Machine) → MayRefuse (edit_fault e m.now) found
+    → (IsRemove e → edit_fault e m.now ≡ None → ⊥) → n ≡ m
     → IsStep m (steps.Edit e) (Refused (refusals.Edit found)) n
-edit_refused e found m n (inl here) is = inl (rw (here, is) refl)
-edit_refused e found m n (inr starved) is =
+edit_refused e found m n (inl here) never is = inl (rw (here, is) refl)
+edit_refused e found m n (inr starved) never is =
     inr (record {
-      wants = refl;
+      wants = edit_wants e m starved.0 (λ removes. never removes starved.0);
       accepted = rw (starved.0) refl;
       answer = ap (λ r. Refused (refusals.Edit r)) starved.1;
       unchanged = is;
@@ -52,9 +61,10 @@ undo_done : (m : Machine) (past : List Contents) → 0 < length past → (undo_o
 undo_done m [] some = absurd (omega arith)
 undo_done m (back ∷ older) some = refl
 
-pub undo_starved : (m n : Machine) → 0 < length m.past → n ≡ m → IsStep m steps.Undo (Refused refusals.NoMemory) n
-undo_starved m n some is =
-    inr (record { wants = refl; accepted = undo_done m m.past some; answer = refl; unchanged = is })
+pub undo_starved : (m n : Machine) → 0 < length m.past → may_want_memory m steps.Undo ≡ true → n ≡ m
+    → IsStep m steps.Undo (Refused refusals.NoMemory) n
+undo_starved m n some wants is =
+    inr (record { wants = wants; accepted = undo_done m m.past some; answer = refl; unchanged = is })
 
 pub redo_accepted : (m n : Machine) → m.future ≡ n.now ∷ n.future → n.past ≡ m.now ∷ m.past → n.depth ≡ m.depth
     → IsStep m steps.Redo Done n
@@ -74,9 +84,10 @@ redo_done : (m : Machine) (future : List Contents) → 0 < length future → (re
 redo_done m [] some = absurd (omega arith)
 redo_done m (next ∷ later) some = refl
 
-pub redo_starved : (m n : Machine) → 0 < length m.future → n ≡ m → IsStep m steps.Redo (Refused refusals.NoMemory) n
-redo_starved m n some is =
-    inr (record { wants = refl; accepted = redo_done m m.future some; answer = refl; unchanged = is })
+pub redo_starved : (m n : Machine) → 0 < length m.future → may_want_memory m steps.Redo ≡ true → n ≡ m
+    → IsStep m steps.Redo (Refused refusals.NoMemory) n
+redo_starved m n some wants is =
+    inr (record { wants = wants; accepted = redo_done m m.future some; answer = refl; unchanged = is })
 
 -- ---- another depth
 

@@ -1,5 +1,6 @@
 -- Which edits are in force on a capture, and what steps make of them: the project's own.
-use Rattle.std.specs.Prelude.{ℕ, ◌+◌, ◌-◌, ◌==◌, ◌&&◌, nat_lt, nat_le, not, min, List, [], ◌∷◌, ◌++◌, length, take, drop, codes}
+use Rattle.std.specs.Prelude.{ℕ, ◌+◌, ◌-◌, ◌==◌, ◌&&◌, nat_lt, nat_le, not, min, List, [], ◌∷◌, ◌++◌, length, take}
+use Rattle.std.specs.Prelude.{drop, codes}
 use Rattle.vcd_core.specs.Contents.{Contents}
 use Rattle.vcd_edit.specs.declared.edit.Edit.{Edit}
 use Rattle.vcd_edit.specs.Effect.{effect}
@@ -8,8 +9,7 @@ use Rattle.vcd_journal.specs.declared.step.TheConstants.{DEPTH_LIMIT}
 use Rattle.vcd_journal.specs.declared.step.Step.{Step}
 use Rattle.vcd_journal.specs.declared.step.Step.TheVariants as steps
 
--- the edits in force, the last first, and those undone, the one undone last first; how many of the first can be undone,
--- and how many of both can be at most
+-- the edits in force and those undone, the last first; how many can be undone, and how many be held
 pub record History : Type 0 where
   pub edits : List Edit
   pub undone : List Edit

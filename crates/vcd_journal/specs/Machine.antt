@@ -1,5 +1,6 @@
 -- The bounded history of a capture as a machine. The rules are the project's own.
-use Rattle.std.specs.Prelude.{◌≡◌, ◌⊎◌, ℕ, ◌-◌, nat_lt, nat_le, Bool, true, not, ◌&&◌, IsTrue, if◌then◌else◌, List, [], ◌∷◌, length, take, Option, Some, None, Result, MatchResult}
+use Rattle.std.specs.Prelude.{◌≡◌, ◌⊎◌, ℕ, ◌-◌, nat_lt, nat_le, Bool, not, ◌&&◌, IsTrue, if◌then◌else◌, List, [], ◌∷◌}
+use Rattle.std.specs.Prelude.{length, take, Option, Some, None, Result, MatchResult}
 use Rattle.vcd_core.specs.Contents.{Contents}
 use Rattle.vcd_edit.specs.declared.edit.Edit.{Edit}
 use Rattle.vcd_edit.specs.declared.fault.EditError.{EditError}
@@ -29,7 +30,12 @@ first_machine c depth = record { past = []; now = c; future = []; depth = depth 
 
 -- an accepted edit: the capture joins the past, which keeps the newest `depth`; the future becomes empty
 abbrev pub machine_after_edit : Edit → Machine → Machine
-machine_after_edit e m = record { past = take m.depth (m.now ∷ m.past); now = effect e m.now; future = []; depth = m.depth }
+machine_after_edit e m = record {
+  past = take m.depth (m.now ∷ m.past);
+  now = effect e m.now;
+  future = [];
+  depth = m.depth;
+}
 
 -- an accepted undo: `back` is the newest of the past, `older` the others
 abbrev pub machine_after_undo : Contents → List Contents → Machine → Machine
@@ -41,7 +47,12 @@ machine_after_redo next later m = record { past = m.now ∷ m.past; now = next; 
 
 -- an accepted depth: the past keeps the newest captures that have room besides the future
 abbrev pub machine_after_depth : ℕ → Machine → Machine
-machine_after_depth depth m = record { past = take (depth - length m.future) m.past; now = m.now; future = m.future; depth = depth }
+machine_after_depth depth m = record {
+  past = take (depth - length m.future) m.past;
+  now = m.now;
+  future = m.future;
+  depth = depth;
+}
 
 -- ---- the outcome of a step
 
@@ -92,10 +103,10 @@ step_outcome m (steps.Depth depth) = depth_outcome depth m
 
 -- ---- every possible outcome of a step
 
--- whether a step may run out of memory: each may, but a depth only if it is greater
+-- whether a step may run out of memory: a depth only if it is greater, another step only if it leaves no fewer signals
 abbrev pub may_want_memory : Machine → Step → Bool
 may_want_memory m (steps.Depth depth) = nat_lt m.depth depth
-may_want_memory m s = true
+may_want_memory m s = nat_le (length m.now.signals) (length (step_outcome m s).after.now.signals)
 
 -- the answer if memory is refused
 abbrev pub memory_refusal : Step → Answer

@@ -2,11 +2,11 @@
 //!
 //! The functions take the fields of a session, not the session, so that the prover can follow each field.
 
-ghost use Rattle.std.specs.Prelude.{◌≡◌, ◌≤◌, ◌<◌, [], ◌∷◌, IfOk, OnOk, OnErr, length, take};
+ghost use Rattle.std.specs.Prelude.{◌≡◌, ◌≤◌, ◌<◌, max, [], ◌∷◌, IfOk, OnOk, OnErr, length, take};
 ghost use Rattle.circular_buffer.specs.Buffer.{buffer};
 ghost use Rattle.vcd_core.specs.Contents.{contents};
 ghost use Rattle.vcd_core.specs.Sound.{IsSound};
-ghost use Rattle.vcd_journal.specs.inside.Histories.{AllRecordsFit, PopsRecord};
+ghost use Rattle.vcd_journal.specs.inside.Histories.{AllRecordsFit, HasNoFewerSignals, PopsRecord};
 
 use circular_buffer::HeapCircularBuffer;
 use std::alloc::Global;
@@ -56,7 +56,8 @@ pub fn keep_newest(ring: &mut Ring, count: usize)
 pub fn enlarge(ring: &mut Ring, capacity: usize) -> Result<(), NoMemory>
     ensures items { ring.new.items ≡ ring.old.items }
     ensures room { OnOk result (capacity ≤ ring.new.capacity) }
-    ensures most { ring.old.capacity ≤ ring.new.capacity }
+    ensures exact { OnOk result (ring.new.capacity ≡ max ring.old.capacity capacity) }
+    ensures refused { OnErr result (ring.new ≡ ring.old) }
     ensures wants { OnErr result (ring.old.capacity < capacity) }
 {
     if capacity <= ring.capacity() {
@@ -67,7 +68,7 @@ pub fn enlarge(ring: &mut Ring, capacity: usize) -> Result<(), NoMemory>
 }
 
 /// Applies the newest record of `from` to the capture. That record is removed, and the one that undoes it becomes the
-/// newest of `to`. If memory is refused, nothing changes.
+/// newest of `to`. If memory is refused, which is never so if fewer signals would be left, nothing changes.
 pub fn follow_newest(
     alloc: Global,
     capture: &mut Capture,
@@ -87,6 +88,7 @@ pub fn follow_newest(
     ensures sound { IsSound (contents capture.new) }
     ensures from_room { from.new.capacity ≡ from.old.capacity }
     ensures to_room { to.new.capacity ≡ to.old.capacity }
+    ensures wants { OnErr result (HasNoFewerSignals (contents capture.old) from.old.items) }
     ensures unchanged { OnErr result ((contents capture.new ≡ contents capture.old)
         × (from.new ≡ from.old) × (to.new ≡ to.old)) }
 {

@@ -37,6 +37,18 @@ fn memory_gives_its_bytes_and_ends(rt: HostRuntime) {
     assert!(rt; !source.failed());
 }
 
+/// That an end is no fault is the adapter's own word, in no clause: also where one byte has room.
+#[test]
+fn the_end_where_one_byte_has_room(rt: HostRuntime) {
+    let mut source = source_of(FakeReader::new(b"1", 4));
+    let mut buffer = [b'.'; 1];
+    assert!(rt; source.read(&mut buffer) == Ok(1));
+    for _ in 0..3 {
+        assert!(rt; source.read(&mut buffer) == Ok(0));
+        assert!(rt; !source.failed());
+    }
+}
+
 #[test]
 fn memory_keeps_what_it_takes(rt: HostRuntime) {
     let mut sink = to_memory(Vec::new(rt.alloc()));

@@ -140,14 +140,16 @@ module _ (old new : Variables) (c : ParseState) (d : VariableDeclaration) (k : V
     (free : (target_of old d.code ≡ None) ⊎ (target_of old d.code ≡ Some Skipped)) (puts : Puts old new d.code Skipped)
   where
     skip_here : (v : Option VariableDeclaration)
-        → TargetMatches old.kept.items (logged old.log.groups.items) c.value_changes c.tick d.code (target_of old d.code)
+        → TargetMatches old.kept.items (logged old.log.groups.items) c.value_changes c.tick d.code
+        (target_of old d.code)
         v
         → TargetMatches old.kept.items (logged old.log.groups.items) c.value_changes c.tick d.code (Some Skipped)
         (option_or v (Some d))
     skip_here None s = skipped
     skip_here (Some e) s = elim free [
       | inl none ↦ absurd (subst
-          (λ o. TargetMatches old.kept.items (logged old.log.groups.items) c.value_changes c.tick d.code o (Some e)) none
+          (λ o. TargetMatches old.kept.items (logged old.log.groups.items) c.value_changes c.tick d.code o
+          (Some e)) none
           s)
       | inr had ↦ subst (λ o. TargetMatches old.kept.items (logged old.log.groups.items) c.value_changes c.tick d.code o
           (Some e)) had s
@@ -193,7 +195,8 @@ module _ (old new : Variables) (c : ParseState) (d : VariableDeclaration) (k : V
         }
 
     skip_may : (v : Option VariableDeclaration)
-        → TargetMatches old.kept.items (logged old.log.groups.items) c.value_changes c.tick d.code (target_of old d.code)
+        → TargetMatches old.kept.items (logged old.log.groups.items) c.value_changes c.tick d.code
+        (target_of old d.code)
         v → may_have_code v d ≡ true
     skip_may None s = refl
     skip_may (Some e) s =

@@ -83,7 +83,8 @@ module _ (c : Contents) (p : ℕ × SignalContents) (placed : IsPlaced c p) (val
         tt,
       );
       tells = λ i. state_at c
-          (value_changes ++ told_one (letters_of_digits (printed_letters (short_form v))) v (letters_back (short_form v))
+          (value_changes ++ told_one (letters_of_digits (printed_letters (short_form v))) v
+          (letters_back (short_form v))
           i) t;
     }
 

@@ -1,14 +1,20 @@
 -- The one fault of a file that is not accepted: after the whole items at its front, the fault that the earliest word
 -- shows (the project's own).
-use Rattle.std.specs.Prelude.{◌≡◌, ℕ, ◌<◌, Bool, true, false, List, [], ◌∷◌, ◌++◌, length, Some, None, IsTrue, IsFalse, codes}
+use Rattle.std.specs.Prelude.{◌≡◌, ℕ, ◌<◌, Bool, true, false, List, [], ◌∷◌, ◌++◌, length, Some, None, IsTrue, IsFalse}
+use Rattle.std.specs.Prelude.{codes}
 use Rattle.vcd_text.specs.declared.fault.Fault.{Fault}
-use Rattle.vcd_text.specs.declared.fault.Fault.TheVariants.{Truncated, UnexpectedWord, BadTimescale, BadScope, UpscopeAtTop, BadVar, MixedCode, BadTime, TimeBackwards, BadChange, UnknownCode, ValueTooLong, TooManySignals}
+use Rattle.vcd_text.specs.declared.fault.Fault.TheVariants.{Truncated, UnexpectedWord, BadTimescale, BadScope}
+use Rattle.vcd_text.specs.declared.fault.Fault.TheVariants.{UpscopeAtTop, BadVar, MixedCode, BadTime, TimeBackwards}
+use Rattle.vcd_text.specs.declared.fault.Fault.TheVariants.{BadChange, UnknownCode, ValueTooLong, TooManySignals}
 use Rattle.vcd_text.specs.Words.{PlacedWord, words_of, closed_words, last_line}
 use Rattle.vcd_core.specs.Decimal.{is_number, number_of}
 use Rattle.vcd_core.specs.Word.{is_one_of}
 use Rattle.vcd_text.specs.Letters.{is_among, is_binary_digit}
-use Rattle.vcd_text.specs.Items.{Item, spellings, end_word, is_end_word, has_no_end_word, declaring_words, header_words, begins_declaration, is_other, timescale_of, vector_prefixes, dropped_prefixes}
-use Rattle.vcd_text.specs.Grammar.{ParseState, VariableDeclaration, is_skipped, has_good_size, declaration_of, variable_of, may_have_code, has_room, is_tick, is_binary_number, initial_state, word_texts, AllowsAll, state_after}
+use Rattle.vcd_text.specs.Items.{Item, spellings, end_word, is_end_word, has_no_end_word, declaring_words, header_words}
+use Rattle.vcd_text.specs.Items.{begins_declaration, is_other, timescale_of, vector_prefixes, dropped_prefixes}
+use Rattle.vcd_text.specs.Grammar.{ParseState, VariableDeclaration, is_skipped, has_good_size, declaration_of}
+use Rattle.vcd_text.specs.Grammar.{variable_of, may_have_code, has_room, is_tick, is_binary_number, initial_state}
+use Rattle.vcd_text.specs.Grammar.{word_texts, AllowsAll, state_after}
 
 -- ---- the rows: the words `begun` of an incomplete item show no fault, and the word after them shows this one
 
@@ -61,7 +67,8 @@ pub data ChangeFault (c : ParseState) (begun : List (List ℕ)) (word : List ℕ
   no_tick : (digits : List ℕ) → begun ≡ [] → word ≡ 35 ∷ digits → IsFalse (is_tick digits)
       → fault ≡ BadTime → ChangeFault c begun word fault
   -- a stamp below the one before it
-  tick_goes_back : (digits : List ℕ) → begun ≡ [] → word ≡ 35 ∷ digits → IsTrue (is_tick digits) → number_of digits < c.tick
+  tick_goes_back : (digits : List ℕ) → begun ≡ [] → word ≡ 35 ∷ digits → IsTrue (is_tick digits)
+      → number_of digits < c.tick
       → fault ≡ TimeBackwards → ChangeFault c begun word fault
   -- a binary digit without a code
   value_alone : (digit : ℕ) → begun ≡ [] → word ≡ digit ∷ [] → IsTrue (is_binary_digit digit)
@@ -75,11 +82,13 @@ pub data ChangeFault (c : ParseState) (begun : List (List ℕ)) (word : List ℕ
       → variable_of c word ≡ None
       → fault ≡ UnknownCode → ChangeFault c begun word fault
   -- no digit, or one that is no binary digit, for a kept variable
-  no_value : (first : ℕ) (digits : List ℕ) (d : VariableDeclaration) → begun ≡ (first ∷ digits) ∷ [] → IsTrue (is_among vector_prefixes first)
+  no_value : (first : ℕ) (digits : List ℕ) (d : VariableDeclaration) → begun ≡ (first ∷ digits) ∷ []
+      → IsTrue (is_among vector_prefixes first)
       → variable_of c word ≡ Some d → IsFalse (is_skipped d) → IsFalse (is_binary_number digits)
       → fault ≡ BadChange → ChangeFault c begun word fault
   -- more digits than the variable has bits
-  value_too_long : (first : ℕ) (digits : List ℕ) (d : VariableDeclaration) → begun ≡ (first ∷ digits) ∷ [] → IsTrue (is_among vector_prefixes first)
+  value_too_long : (first : ℕ) (digits : List ℕ) (d : VariableDeclaration) → begun ≡ (first ∷ digits) ∷ []
+      → IsTrue (is_among vector_prefixes first)
       → variable_of c word ≡ Some d → IsFalse (is_skipped d) → IsTrue (is_binary_number digits) → d.size < length digits
       → fault ≡ ValueTooLong → ChangeFault c begun word fault
   -- a word of the declarations
@@ -101,7 +110,8 @@ pub data IsUnfinished (c : ParseState) (begun : List (List ℕ)) : Type 0 where
   declaration_due : IsFalse c.changing → begun ≡ [] → IsUnfinished c begun
   -- words up to the `$end` of a header entry, a timescale or a scope must follow
   words_due : (word : List ℕ) (words : List (List ℕ)) → IsFalse c.changing → begun ≡ word ∷ words
-      → IsTrue (is_one_of (codes "$timescale" ∷ codes "$scope" ∷ header_words) word) → IsTrue (has_no_end_word words) → IsUnfinished c begun
+      → IsTrue (is_one_of (codes "$timescale" ∷ codes "$scope" ∷ header_words) word) → IsTrue (has_no_end_word words)
+      → IsUnfinished c begun
   -- the `$end` of `$upscope` must follow
   upscope_due : IsFalse c.changing → begun ≡ codes "$upscope" ∷ [] → 0 < length c.scopes → IsUnfinished c begun
   -- words up to the `$end` of a `$var` must follow
@@ -110,7 +120,8 @@ pub data IsUnfinished (c : ParseState) (begun : List (List ℕ)) : Type 0 where
   -- the `$end` of `$enddefinitions` must follow
   definitions_due : IsFalse c.changing → begun ≡ codes "$enddefinitions" ∷ [] → IsUnfinished c begun
   -- the code of a change of two words must follow
-  code_due : (first : ℕ) (text : List ℕ) → IsTrue c.changing → begun ≡ (first ∷ text) ∷ [] → IsTrue (is_among pair_prefixes first) → IsUnfinished c begun
+  code_due : (first : ℕ) (text : List ℕ) → IsTrue c.changing → begun ≡ (first ∷ text) ∷ []
+      → IsTrue (is_among pair_prefixes first) → IsUnfinished c begun
   -- words up to the `$end` of any other command must follow
   other_due : (word : List ℕ) (words : List (List ℕ)) → begun ≡ word ∷ words
       → IsTrue (is_other c.changing word) → IsTrue (has_no_end_word words) → IsUnfinished c begun

@@ -1,6 +1,8 @@
 -- The accepted files and their state: the conditions of each item, and its effect (IEEE 1364-2005, 18.2, in the
 -- project's profile).
-use Rattle.std.specs.Prelude.{◌≡◌, ℕ, ◌-◌, ◌<◌, ◌≤◌, Bool, true, false, not, ◌&&◌, ◌||◌, ◌==◌, nat_lt, nat_le, if◌then◌else◌, List, [], ◌∷◌, ◌++◌, map, length, take, filter, find, Option, Some, None, IsSome, IsSomeAnd, IsTrue, IsFalse, option_to_list, bytes_eq}
+use Rattle.std.specs.Prelude.{◌≡◌, ℕ, ◌-◌, ◌<◌, ◌≤◌, Bool, true, false, not, ◌&&◌, ◌||◌, ◌==◌, nat_lt, nat_le}
+use Rattle.std.specs.Prelude.{if◌then◌else◌, List, [], ◌∷◌, ◌++◌, map, length, take, filter, find, Option, Some, None}
+use Rattle.std.specs.Prelude.{IsSome, IsSomeAnd, IsTrue, IsFalse, option_to_list, bytes_eq}
 use Rattle.std.specs.List.{list_all}
 use Rattle.vcd_core.specs.declared.bit.Bit.{Bit}
 use Rattle.vcd_core.specs.declared.capture.Header.{Header}
@@ -12,7 +14,9 @@ use Rattle.vcd_core.specs.Word.{is_skipped_kind, is_one_of}
 use Rattle.vcd_text.specs.Words.{PlacedWord}
 use Rattle.vcd_core.specs.Decimal.{is_number, number_of}
 use Rattle.vcd_text.specs.Letters.{is_among, is_binary_digit, letters_of_digits}
-use Rattle.vcd_text.specs.Items.{Item, entry, timescale, scope, upscope, variable, end_definitions, stamp, scalar, vector, real_or_string, bracket, other, spellings, has_no_end_word, dump_words, is_other, timescale_of, vector_prefixes, dropped_prefixes}
+use Rattle.vcd_text.specs.Items.{Item, entry, timescale, scope, upscope, variable, end_definitions, stamp, scalar}
+use Rattle.vcd_text.specs.Items.{vector, real_or_string, bracket, other, spellings, has_no_end_word, dump_words}
+use Rattle.vcd_text.specs.Items.{is_other, timescale_of, vector_prefixes, dropped_prefixes}
 
 -- ---- the state of a file
 
@@ -43,7 +47,15 @@ pub record ParseState : Type 0 where
 
 -- the state before the first item
 abbrev pub initial_state : ParseState
-initial_state = record { header = []; timescale = None; scopes = []; declared = []; changing = false; value_changes = []; tick = 0 }
+initial_state = record {
+  header = [];
+  timescale = None;
+  scopes = [];
+  declared = [];
+  changing = false;
+  value_changes = [];
+  tick = 0;
+}
 
 -- ---- variables
 
@@ -67,7 +79,8 @@ declaration_of c [] = None
 declaration_of c (kind ∷ []) = None
 declaration_of c (kind ∷ size ∷ []) = None
 declaration_of c (kind ∷ size ∷ code ∷ []) = None
-declaration_of c (kind ∷ size ∷ code ∷ name ∷ names) = Some (record { scopes = c.scopes; kind = kind; size = number_of size; code = code; words = name ∷ names })
+declaration_of c (kind ∷ size ∷ code ∷ name ∷ names) = Some
+    (record { scopes = c.scopes; kind = kind; size = number_of size; code = code; words = name ∷ names })
 
 -- the first variable of this code; the later ones agree with it
 abbrev pub variable_of : ParseState → List ℕ → Option VariableDeclaration
@@ -110,13 +123,17 @@ Allows c (scope kind words) = IsFalse c.changing × IsTrue (has_no_end_word (kin
 Allows c upscope = IsFalse c.changing × (0 < length c.scopes)
 Allows c (variable words) =
     IsFalse c.changing × IsTrue (has_no_end_word words) × IsTrue (has_good_size words)
-    × IsSomeAnd (declaration_of c words) (λ d. IsTrue (may_have_code (variable_of c d.code) d) × IsTrue (has_room c.declared d))
+    × IsSomeAnd (declaration_of c words)
+    (λ d. IsTrue (may_have_code (variable_of c d.code) d) × IsTrue (has_room c.declared d))
 Allows c end_definitions = IsFalse c.changing
 Allows c (stamp digits) = IsTrue c.changing × IsTrue (is_tick digits) × (c.tick ≤ number_of digits)
-Allows c (scalar digit code) = IsTrue c.changing × IsTrue (is_binary_digit digit) × (0 < length code) × IsSome (variable_of c code)
+Allows c (scalar digit code) = IsTrue c.changing × IsTrue (is_binary_digit digit) × (0 < length code)
+    × IsSome (variable_of c code)
 Allows c (vector first digits code) =
-    IsTrue c.changing × IsTrue (is_among vector_prefixes first) × IsSomeAnd (variable_of c code) (λ d. IsTrue (takes_binary_number d digits))
-Allows c (real_or_string first text code) = IsTrue c.changing × IsTrue (is_among dropped_prefixes first) × IsSome (variable_of c code)
+    IsTrue c.changing × IsTrue (is_among vector_prefixes first)
+    × IsSomeAnd (variable_of c code) (λ d. IsTrue (takes_binary_number d digits))
+Allows c (real_or_string first text code) = IsTrue c.changing × IsTrue (is_among dropped_prefixes first)
+    × IsSome (variable_of c code)
 Allows c (bracket word) = IsTrue c.changing × IsTrue (is_one_of dump_words word)
 Allows c (other word words) = IsTrue (is_other c.changing word) × IsTrue (has_no_end_word words)
 
@@ -125,11 +142,15 @@ Allows c (other word words) = IsTrue (is_other c.changing word) × IsTrue (has_n
 -- a value change to these letters at the tick, for a kept variable
 abbrev pub value_changes_after : ParseState → List ℕ → List Bit → Option VariableDeclaration → List ValueChange
 value_changes_after c code letters None = []
-value_changes_after c code letters (Some d) = if is_skipped d then [] else record { tick = c.tick; code = code; letters = letters } ∷ []
+value_changes_after c code letters (Some d) = if is_skipped d
+    then [] else record { tick = c.tick; code = code; letters = letters } ∷ []
 
 -- the state with this value change added last
 abbrev pub with_value_change : ParseState → List ℕ → List Bit → ParseState
-with_value_change c code letters = record c { value_changes = c.value_changes ++ value_changes_after c code letters (variable_of c code) }
+with_value_change c code letters = record c {
+  value_changes = c.value_changes
+      ++ value_changes_after c code letters (variable_of c code);
+}
 
 -- the state after an item
 abbrev pub state_after_item : ParseState → Item → ParseState

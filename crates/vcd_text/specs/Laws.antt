@@ -11,34 +11,40 @@ use Rattle.vcd_text.specs.Text.{text}
 
 -- no file has two meanings
 abbrev pub EveryFileHasAtMostOneMeaning : Type 0
-EveryFileHasAtMostOneMeaning = (bytes : List ℕ) (c d : Contents) (m n : ℕ) → FileMeans bytes c m → FileMeans bytes d n → (c ≡ d) × (m ≡ n)
+EveryFileHasAtMostOneMeaning = (bytes : List ℕ) (c d : Contents) (m n : ℕ) → FileMeans bytes c m → FileMeans bytes d n
+    → (c ≡ d) × (m ≡ n)
 
 -- no file has two faults, nor one fault at two lines
 abbrev pub EveryFileHasAtMostOneFault : Type 0
 EveryFileHasAtMostOneFault =
-    (bytes : List ℕ) (line other_line : ℕ) (fault other_fault : Fault) → FileFault bytes line fault → FileFault bytes other_line other_fault
+    (bytes : List ℕ) (line other_line : ℕ) (fault other_fault : Fault) → FileFault bytes line fault
+    → FileFault bytes other_line other_fault
     → (line ≡ other_line) × (fault ≡ other_fault)
 
 -- no file has both a meaning and a fault
 abbrev pub NoFileHasMeaningAndFault : Type 0
-NoFileHasMeaningAndFault = (bytes : List ℕ) (c : Contents) (n line : ℕ) (fault : Fault) → FileMeans bytes c n → FileFault bytes line fault → ⊥
+NoFileHasMeaningAndFault = (bytes : List ℕ) (c : Contents) (n line : ℕ) (fault : Fault) → FileMeans bytes c n
+    → FileFault bytes line fault → ⊥
 
 -- every file has a meaning or a fault
 abbrev pub EveryFileHasMeaningOrFault : Type 0
 EveryFileHasMeaningOrFault =
-    (bytes : List ℕ) → ((c : Contents) × (n : ℕ) × FileMeans bytes c n) ⊎ ((line : ℕ) × (fault : Fault) × FileFault bytes line fault)
+    (bytes : List ℕ) → ((c : Contents) × (n : ℕ) × FileMeans bytes c n)
+    ⊎ ((line : ℕ) × (fault : Fault) × FileFault bytes line fault)
 
 -- ---- fronts
 
 -- no front of a file shows two faults, nor one fault at two lines
 abbrev pub EveryFrontHasAtMostOneFault : Type 0
 EveryFrontHasAtMostOneFault =
-    (front : List ℕ) (line other_line : ℕ) (fault other_fault : Fault) → FrontFault front line fault → FrontFault front other_line other_fault
+    (front : List ℕ) (line other_line : ℕ) (fault other_fault : Fault) → FrontFault front line fault
+    → FrontFault front other_line other_fault
     → (line ≡ other_line) × (fault ≡ other_fault)
 
 -- the fault that a front shows is the fault of every file with this front
 abbrev pub FrontFaultIsFileFault : Type 0
-FrontFaultIsFileFault = (front rest : List ℕ) (line : ℕ) (fault : Fault) → FrontFault front line fault → FileFault (front ++ rest) line fault
+FrontFaultIsFileFault = (front rest : List ℕ) (line : ℕ) (fault : Fault) → FrontFault front line fault
+    → FileFault (front ++ rest) line fault
 
 -- ---- written texts
 

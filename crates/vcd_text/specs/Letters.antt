@@ -1,5 +1,6 @@
 -- Binary digits, their letters, the extension and the short form of letters (IEEE 1364-2005, 18.2).
-use Rattle.std.specs.Prelude.{ℕ, ◌-◌, ◌==◌, ◌&&◌, not, nat_le, Bool, if◌then◌else◌, List, [], ◌∷◌, ◌++◌, nat_eq, length, map, replicate, find, Option, Some, None, is_some, unwrap_or, codes}
+use Rattle.std.specs.Prelude.{ℕ, ◌-◌, ◌==◌, ◌&&◌, not, nat_le, Bool, if◌then◌else◌, List, [], ◌∷◌, ◌++◌, nat_eq, length}
+use Rattle.std.specs.Prelude.{map, replicate, find, Option, Some, None, is_some, unwrap_or, codes}
 use Rattle.std.specs.List.{list_any, list_all}
 use Rattle.vcd_core.specs.declared.bit.Bit.{Bit}
 use Rattle.vcd_core.specs.declared.bit.Bit.TheVariants.{Zero, One, X, Z}

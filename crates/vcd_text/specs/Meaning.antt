@@ -28,7 +28,12 @@ declared_signal value_changes end d = record {
 -- the meaning of a file with this state: each kept variable is a signal, in the order of the file; the end is the last
 -- stamp, or 0
 abbrev pub meaning : ParseState → Contents
-meaning c = record { header = c.header; timescale = c.timescale; end = c.tick; signals = map (declared_signal c.value_changes c.tick) (kept_variables c.declared) }
+meaning c = record {
+  header = c.header;
+  timescale = c.timescale;
+  end = c.tick;
+  signals = map (declared_signal c.value_changes c.tick) (kept_variables c.declared);
+}
 
 -- the number of skipped variables
 abbrev pub skipped_count : ParseState → ℕ

@@ -15,16 +15,19 @@ memory_error = record { line = 0; fault = faults.NoMemory }
 -- line
 pub data IsFrontAnswer (front : List ℕ) (reason : Fault) (e : ReadError) : Type 0 where
   shown : FrontFault front e.line e.fault → IsFrontAnswer front reason e
-  no_fault : HasNoFrontFault front → e ≡ record { line = last_line front; fault = reason } → IsFrontAnswer front reason e
+  no_fault : HasNoFrontFault front → e ≡ record { line = last_line front; fault = reason }
+      → IsFrontAnswer front reason e
 
 -- the fault of reading a file, from a reader that has failed or not, with these bytes left where it shows them
 pub data IsRefusal (file : List ℕ) (failed : Bool) (left : Option (List ℕ)) (e : ReadError) : Type 0 where
   -- all of it was read, and it has this fault
   has_fault : IsFalse failed → length file ≤ FILE_LIMIT → FileFault file e.line e.fault → IsRefusal file failed left e
   -- the file has more bytes than the limit
-  too_large : FILE_LIMIT < length file → IsFrontAnswer (take FILE_LIMIT file) faults.TooLarge e → IsRefusal file failed left e
+  too_large : FILE_LIMIT < length file → IsFrontAnswer (take FILE_LIMIT file) faults.TooLarge e
+      → IsRefusal file failed left e
   -- the reader failed after this front
-  reader_failed : (front rest : List ℕ) → IsTrue failed → left ≡ Some rest → file ≡ front ++ rest → length front ≤ FILE_LIMIT
+  reader_failed : (front rest : List ℕ) → IsTrue failed → left ≡ Some rest → file ≡ front ++ rest
+      → length front ≤ FILE_LIMIT
       → IsFrontAnswer front faults.ReadFault e → IsRefusal file failed left e
   -- memory ran out
   no_memory : e ≡ memory_error → IsRefusal file failed left e

@@ -1,6 +1,7 @@
 -- The text of a capture: its items in a fixed order, each on its own line (the format: IEEE 1364-2005, 18.2; the order
 -- and the codes: the project's own).
-use Rattle.std.specs.Prelude.{ℕ, zero, suc, Bool, ◌+◌, ◌-◌, ◌/◌, ◌%◌, ◌==◌, ◌&&◌, not, if◌then◌else◌, nat_lt, List, [], ◌∷◌, ◌++◌, length, map, drop, replicate, Option, Some, None, codes}
+use Rattle.std.specs.Prelude.{ℕ, zero, suc, Bool, ◌+◌, ◌-◌, ◌/◌, ◌%◌, ◌==◌, ◌&&◌, not, if◌then◌else◌, nat_lt, List, []}
+use Rattle.std.specs.Prelude.{◌∷◌, ◌++◌, length, map, drop, replicate, Option, Some, None, codes}
 use Rattle.std.specs.List.{filter, flat_map, enumerate_from, join_with_byte, common_prefix_len}
 use Rattle.std.specs.Str.{bytes_eq}
 use Rattle.std.specs.Cmp.Lexicographic.{pointwise}
@@ -12,7 +13,8 @@ use Rattle.vcd_core.specs.declared.capture.ScopeName.{ScopeName}
 use Rattle.vcd_core.specs.Value.{same_letters, printed_letter}
 use Rattle.vcd_core.specs.Contents.{Contents, SignalContents, signal_value}
 use Rattle.vcd_text.specs.Letters.{printed_letters, short_form}
-use Rattle.vcd_text.specs.Items.{Item, entry, timescale, scope, upscope, variable, end_definitions, stamp, scalar, vector, bracket, spelling, end_word}
+use Rattle.vcd_text.specs.Items.{Item, entry, timescale, scope, upscope, variable, end_definitions, stamp, scalar}
+use Rattle.vcd_text.specs.Items.{vector, bracket, spelling, end_word}
 use Rattle.vcd_core.specs.TimeUnits.{unit_text}
 
 -- the line of an item: its words with one space (32) between them, and a line feed (10)
@@ -60,7 +62,8 @@ variable_item position s = variable (s.kind ∷ decimal s.width ∷ code_of posi
 -- closed
 unfoldable pub signal_items : List ScopeName → ℕ → List SignalContents → List Item
 signal_items opened position [] = map (λ s. upscope) opened
-signal_items opened position (s ∷ ss) = scope_items opened s.scopes ++ variable_item position s ∷ signal_items s.scopes (suc position) ss
+signal_items opened position (s ∷ ss) = scope_items opened s.scopes
+    ++ variable_item position s ∷ signal_items s.scopes (suc position) ss
 
 -- ---- values
 

@@ -36,7 +36,8 @@ with_byte false false b line ws = with_longer_first b line ws
 -- follows unless the text is whole
 unfoldable pub words_from : Bool → ℕ → List ℕ → List PlacedWord
 words_from whole line [] = []
-words_from whole line (b ∷ bs) = with_byte (is_white_space b) (ends_before whole bs) b line (words_from whole (line_after b line) bs)
+words_from whole line (b ∷ bs) = with_byte (is_white_space b) (ends_before whole bs) b line
+    (words_from whole (line_after b line) bs)
 
 -- the words of a file, each with its line: 1 plus the line feeds before it
 abbrev pub words_of : List ℕ → List PlacedWord

@@ -7,4 +7,5 @@ use Rattle.vcd_text.specs.declared.fault.WriteError.TheVariants as write_errors
 -- the bytes that a writer took of a text before this fault, and whether it has failed
 abbrev pub TookBefore : (text : List ℕ) → (before after : Option (List ℕ)) → (failed : Bool) → WriteError → Type 0
 TookBefore text before after failed write_errors.NoMemory = Keeps before after × (failed ≡ false)
-TookBefore text before after failed (write_errors.WriteFault written) = Appends before after (take written text) × (written ≤ length text) × (failed ≡ true)
+TookBefore text before after failed (write_errors.WriteFault written) = Appends before after (take written text)
+    × (written ≤ length text) × (failed ≡ true)

@@ -15,7 +15,7 @@ use Rattle.vcdedit.specs.declared.script.line_error.LineError.TheVariants.{NoSuc
 use Rattle.vcdedit.specs.Lent.{lent_bytes}
 use Rattle.vcdedit.specs.ScriptCommands.{edit_command, step_command}
 use Rattle.vcdedit.specs.inside.ParsedCommands.{derive_by}
-use Rattle.vcdedit.specs.Script.{command_of_line}
+use Rattle.vcdedit.specs.ParsedLines.{command_of_line}
 use Rattle.vcdedit.proofs.CasesOfRun.{two_signals}
 
 -- what a line asks for on a one_bit_signal `top.a` and a vector `top.v` of four bits

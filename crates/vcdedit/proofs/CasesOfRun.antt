@@ -10,7 +10,8 @@ use Rattle.vcd_text.specs.Letters.{short_form}
 use Rattle.vcd_text.specs.Text.{code_digits, signal_items, tick_items, items_of, text}
 use Rattle.vcd_edit.specs.Effect.{effect}
 use Rattle.vcd_edit.specs.Allowed.{edit_fault}
-use Rattle.vcdedit.specs.Script.{script_lines, command_of_line}
+use Rattle.vcdedit.specs.Script.{script_lines}
+use Rattle.vcdedit.specs.ParsedLines.{command_of_line}
 use Rattle.vcdedit.specs.MachineReplies.{line_reply}
 use Rattle.vcdedit.specs.RunMachines.{machine_after_line, machine_after_lines, refusal_count}
 use Rattle.vcdedit.specs.Run.{RunOutcome}

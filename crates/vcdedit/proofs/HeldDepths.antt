@@ -15,7 +15,7 @@ use Rattle.vcd_journal.proofs.Replay.{depth_choice}
 use Rattle.vcdedit.specs.declared.script.command.Command.{Command}
 use Rattle.vcdedit.specs.declared.script.command.Command.TheVariants as commands
 use Rattle.vcdedit.specs.declared.script.line_error.LineError.{LineError}
-use Rattle.vcdedit.specs.Script.{command_of_line}
+use Rattle.vcdedit.specs.ParsedLines.{command_of_line}
 use Rattle.vcdedit.specs.RunMachines.{machine_after_command, machine_after_line, machine_after_lines}
 use Rattle.vcdedit.specs.Laws.{UndoInRunGivesBack}
 use Rattle.vcdedit.proofs.RunReplays.{undo_gives_back}

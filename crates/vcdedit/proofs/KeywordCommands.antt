@@ -43,7 +43,7 @@ one_table (row ∷ xs) ys word =
     either_found (bytes_eq word row.0) row (find (λ r. bytes_eq word r.0) xs) (find (λ r. bytes_eq word r.0) (xs ++ ys))
     (keyword_in ys word) (one_table xs ys word)
 
-keyword_is : (word : List ℕ) → keyword_of word ≡ keyword_in_tables word
+pub keyword_is : (word : List ℕ) → keyword_of word ≡ keyword_in_tables word
 keyword_is word =
     one_table (edit_keywords ++ history_keywords ++ query_keywords) decoder_keywords word
     ∙ ap (λ (k : Option Keyword). option_or k (keyword_in decoder_keywords word))

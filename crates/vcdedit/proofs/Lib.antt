@@ -4,6 +4,7 @@ pub mod ScriptNumbers
 pub mod NamedSignals
 pub mod AskedSignals
 pub mod KeywordCommands
+pub mod TableCommands
 pub mod PrintedSignals
 pub mod CasesOfLines
 pub mod CasesOfQueries

@@ -1,6 +1,7 @@
 -- What a run writes by a machine is what it writes by the edits in force.
-use Rattle.std.proofs.Common.{◌≡◌, ◌≤◌, ◌+◌, ◌-◌, ℕ, zero, suc, Bool, true, false, cond, List, [], ◌∷◌, ◌++◌, length, take}
-use Rattle.std.proofs.Common.{Option, Some, None, Result, Ok, Err, is_err, refl, sym, ◌∙◌, ap, subst, arith, map}
+use Rattle.std.proofs.Common.{◌≡◌, ◌≤◌, ◌+◌, ◌-◌, ℕ, zero, suc, Bool, true, false, cond, List, [], ◌∷◌, ◌++◌, take}
+use Rattle.std.proofs.Common.{length, Option, Some, None, Result, Ok, Err, is_err, refl, sym, ◌∙◌, ap, subst, arith}
+use Rattle.std.proofs.Common.{map}
 use Rattle.std.specs.Prelude.{◌==◌, not, nat_lt, min, fold, count_by, option_map, drop}
 use Rattle.std.specs.List.{enumerate_from}
 use Rattle.std.proofs.Math.Seq.{take-length}
@@ -34,10 +35,12 @@ use Rattle.vcdedit.specs.declared.script.command.Command.{Command}
 use Rattle.vcdedit.specs.declared.script.command.Command.TheVariants as commands
 use Rattle.vcdedit.specs.declared.script.line_error.LineError.{LineError}
 use Rattle.vcdedit.specs.LineErrorNames.{line_error_name}
-use Rattle.vcdedit.specs.Script.{script_lines, command_of_line, with_refusal, asked_by}
+use Rattle.vcdedit.specs.Script.{script_lines, asked_by}
+use Rattle.vcdedit.specs.ParsedLines.{command_of_line, with_refusal}
+use Rattle.vcdedit.proofs.TableCommands.{asked_is}
 use Rattle.vcdedit.specs.Reply.{LineReply, ok_reply, step_answer, command_answer, asked_answer, reply_text}
-use Rattle.vcdedit.specs.Run.{RunOutcome, history_after_asked, line_answer, history_after_line, line_answers, history_at}
-use Rattle.vcdedit.specs.Run.{capture_at, IsRunOfLines, IsRun}
+use Rattle.vcdedit.specs.Run.{RunOutcome, history_after_asked, line_answer, history_after_line, history_at}
+use Rattle.vcdedit.specs.Run.{line_answers, capture_at, IsRunOfLines, IsRun}
 use Rattle.vcdedit.specs.MachineReplies.{edit_reply, history_reply, depth_reply, step_reply, command_reply, line_reply}
 use Rattle.vcdedit.specs.MachineReplies.{is_line_refused}
 use Rattle.vcdedit.specs.RunMachines.{machine_after_command, machine_after_line, machine_after_lines, refusal_count}
@@ -220,6 +223,7 @@ unfolding line_reply
 answer_here c h m skipped line is =
     command_said m.now skipped h (command_of_line m.now line) (length m.past) (length m.future) is.undoable
     (undone_count c h.edits h.undone m.future is.follows.future)
+    ∙ ap (asked_answer m.now skipped h) (asked_is m.now line)
 
 answer_is : (c : Contents) (h : History) (m : Machine) (skipped : ℕ) (line : List ℕ) → Matches c h m →
     line_reply line m.now skipped (length m.past) (length m.future) ≡ line_answer c skipped h line
@@ -233,7 +237,9 @@ by_refusal : (c : Contents) (h : History) (m : Machine) (skipped : ℕ) (line : 
 unfolding line_reply machine_after_line
 by_refusal c h m skipped line true is said =
     subst (Matches c h) (sym (refused_line_changes_nothing m line skipped said)) is
-by_refusal c h m skipped line false is said = asked_matches c h m skipped (command_of_line m.now line) is said
+by_refusal c h m skipped line false is said =
+    subst (λ (asked : Result Command (List ℕ)). Matches c (history_after_asked h asked) (machine_after_line m line))
+    (asked_is m.now line) (asked_matches c h m skipped (command_of_line m.now line) is said)
 
 line_matches : (c : Contents) (h : History) (m : Machine) (skipped : ℕ) (line : List ℕ) → Matches c h m
     → Matches c (history_after_line c skipped h line) (machine_after_line m line)
@@ -286,7 +292,8 @@ refusals_are c h m skipped (line ∷ lines) is =
 
 first_matches : (c : Contents) (depth : ℕ) → Matches c (first_history depth) (first_machine c depth)
 unfolding replay
-first_matches c depth = record { follows = record { now = refl; past = tt; future = tt }; undoable = refl; depth = refl }
+first_matches c depth =
+    record { follows = record { now = refl; past = tt; future = tt }; undoable = refl; depth = refl }
 
 -- what the machine writes where lines are run
 lines_are_run : (c : Contents) (depth skipped : ℕ) (lines : List (List ℕ)) → IsSound c →
@@ -301,7 +308,8 @@ lines_are_run c depth skipped lines sound =
     (machine_after_lines (first_machine c depth) (take count lines)) =
     λ count. lines_match c (first_history depth) (first_machine c depth) skipped (take count lines) first in
     let all : take (length lines) lines ≡ lines = take-length lines in
-    let last : (machine_after_lines (first_machine c depth) lines).now ≡ capture_at c skipped depth lines (length lines) =
+    let last : (machine_after_lines (first_machine c depth) lines).now
+    ≡ capture_at c skipped depth lines (length lines) =
     ap (λ (ls : List (List ℕ)). (machine_after_lines (first_machine c depth) ls).now) (sym all)
     ∙ (here (length lines)).follows.now in
     let sound_last : IsSound (capture_at c skipped depth lines (length lines)) =

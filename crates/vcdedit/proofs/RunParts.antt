@@ -1,14 +1,15 @@
 -- The parts of a run, put together.
 use Rattle.std.proofs.Common.{◌≡◌, ◌⊎◌, inl, inr, Result, Ok, Err, ℕ, zero, suc, ◌-◌, List, Option, Some, None, refl}
-use Rattle.std.proofs.Common.{sym, subst, ap, true, false, arith, take}
+use Rattle.std.proofs.Common.{◌≤◌, sym, subst, ap, true, false, arith, length, take}
 use Rattle.std.specs.Prelude.{IfSome, IfErr, IsErrAnd}
 use Rattle.std.specs.List.{concat}
-use Rattle.std.specs.Io.KnownBytes.{Appends}
+use Rattle.std.specs.Io.KnownBytes.{Appends, IsAtEnd}
 use Rattle.vcd_core.specs.Contents.{Contents}
 use Rattle.vcd_text.specs.Meaning.{FileMeans}
 use Rattle.vcd_text.specs.Refusals.{IsRefusal}
 use Rattle.vcd_text.specs.Text.{text}
 use Rattle.vcd_text.specs.WriteEnds.{TookBefore}
+use Rattle.vcd_text.specs.declared.reading.TheConstants.{FILE_LIMIT}
 use Rattle.vcd_text.specs.declared.fault.Fault.TheVariants as faults
 use Rattle.vcd_text.specs.declared.fault.ReadError.{ReadError}
 use Rattle.vcd_text.specs.declared.fault.WriteError.{WriteError}
@@ -25,6 +26,27 @@ use Rattle.vcdedit.specs.inside.RunLines.{IfReplyFault, RunsLines, StopsInLines}
 use Rattle.vcdedit.specs.inside.RunStages.{EndsBeforeOutput, EndsBeforeReplies}
 use Rattle.vcdedit.specs.inside.ScriptRuns.{ScriptGives}
 use Rattle.vcdedit.proofs.RunHistories.{run_is}
+
+-- ---- the capture
+
+-- what a file within the limit means
+pub file_means : (coming : Option (List ℕ)) (c : Contents) (skipped : ℕ)
+    → IfSome coming (λ f. (length f ≤ FILE_LIMIT) × FileMeans f c skipped) → IfSome coming (λ f. FileMeans f c skipped)
+file_means None c skipped read = tt
+file_means (Some f) c skipped read = read.1
+
+file_has_meaning : (coming : Option (List ℕ)) (c : Contents) (skipped : ℕ) →
+    IfSome coming (λ f. (length f ≤ FILE_LIMIT) × FileMeans f c skipped) →
+    IfSome coming (λ f. (length f ≤ FILE_LIMIT) × (d : Contents) × (count : ℕ) × FileMeans f d count)
+file_has_meaning None c skipped read = tt
+file_has_meaning (Some f) c skipped read = (read.0, c, skipped, read.1)
+
+-- a capture that was read to its end, within the limit, and means something
+pub is_accepted : (capture : ReaderEnd) (c : Contents) (skipped : ℕ) → capture.has_failed ≡ false
+    → IsAtEnd capture.left → IfSome capture.coming (λ f. (length f ≤ FILE_LIMIT) × FileMeans f c skipped)
+    → IsAccepted capture
+is_accepted capture c skipped ready ended read =
+    ((ready, ended), file_has_meaning capture.coming c skipped read)
 
 -- ---- the result of the script
 

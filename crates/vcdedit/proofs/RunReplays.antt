@@ -24,7 +24,8 @@ use Rattle.vcd_journal.specs.InForce.{earlier_replays}
 use Rattle.vcdedit.specs.declared.script.command.Command.{Command}
 use Rattle.vcdedit.specs.declared.script.command.Command.TheVariants as commands
 use Rattle.vcdedit.specs.declared.script.line_error.LineError.{LineError}
-use Rattle.vcdedit.specs.Script.{script_lines, command_of_line}
+use Rattle.vcdedit.specs.Script.{script_lines}
+use Rattle.vcdedit.specs.ParsedLines.{command_of_line}
 use Rattle.vcdedit.specs.MachineReplies.{line_reply, command_reply, step_reply}
 use Rattle.vcdedit.specs.RunMachines.{machine_after_command, machine_after_line, machine_after_lines, no_edits}
 use Rattle.vcdedit.specs.RunMachines.{tally_after_lines, reply_on, is_refused_on, IsLineOfRun, machine_at, tally_at}

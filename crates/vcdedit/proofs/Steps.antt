@@ -18,7 +18,7 @@ use Rattle.vcd_journal.proofs.Replay.{session_is_replay}
 use Rattle.vcdedit.specs.declared.script.command.Command.{Command}
 use Rattle.vcdedit.specs.declared.script.command.Command.TheVariants as commands
 use Rattle.vcdedit.specs.declared.script.line_error.LineError.{LineError}
-use Rattle.vcdedit.specs.Script.{command_of_line}
+use Rattle.vcdedit.specs.ParsedLines.{command_of_line}
 use Rattle.vcdedit.specs.Reply.{ok_reply}
 use Rattle.vcdedit.specs.MachineReplies.{step_reply, edit_reply}
 use Rattle.vcd_journal.specs.InForce.{Tally, IsReplay, tally_after_all}

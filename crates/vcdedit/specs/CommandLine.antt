@@ -12,7 +12,8 @@ use Rattle.vcdedit.specs.declared.shell.command_line.Options.{Options}
 
 -- `-i FILE` or `--input-file FILE`, where 105 is the letter `i`
 abbrev pub input_option : Rule
-input_option = record (new_rule (codes "input-file")) { long = Some (codes "input-file"); short = Some 105; value_names = 1 }
+input_option = record
+    (new_rule (codes "input-file")) { long = Some (codes "input-file"); short = Some 105; value_names = 1 }
 
 -- `--script FILE`
 abbrev pub script_option : Rule
@@ -20,11 +21,17 @@ script_option = record (new_rule (codes "script")) { long = Some (codes "script"
 
 -- `-o FILE` or `--output-file FILE`, where 111 is the letter `o`
 abbrev pub output_option : Rule
-output_option = record (new_rule (codes "output-file")) { long = Some (codes "output-file"); short = Some 111; value_names = 1 }
+output_option = record
+    (new_rule (codes "output-file")) { long = Some (codes "output-file"); short = Some 111; value_names = 1 }
 
 -- `--depth N`, a number from 1 to the limit
 abbrev pub depth_option : Rule
-depth_option = record (new_rule (codes "depth")) { long = Some (codes "depth"); value_names = 1; parser = Some (parsers.Unsigned 1 DEPTH_LIMIT) }
+depth_option = record
+    (new_rule (codes "depth")) {
+      long = Some (codes "depth");
+      value_names = 1;
+      parser = Some (parsers.Unsigned 1 DEPTH_LIMIT);
+    }
 
 -- the program with these options, help and a version; its words do not begin with its name
 abbrev pub option_app : App
@@ -39,7 +46,8 @@ option_app = record (new_app (codes "vcdedit")) {
 -- the depth of a text: its number if that is from 1 to the limit, else the default
 abbrev pub depth_asked : Option Text → ℕ
 depth_asked None = DEFAULT_DEPTH
-depth_asked (Some text) = if is_unsigned_in 1 DEPTH_LIMIT text then digits_value 10 (without_leading_plus text) else DEFAULT_DEPTH
+depth_asked (Some text) = if is_unsigned_in 1 DEPTH_LIMIT text
+    then digits_value 10 (without_leading_plus text) else DEFAULT_DEPTH
 
 -- the path of each given option, and the depth
 pub record AskedOptions : Type 0 where
@@ -50,7 +58,12 @@ pub record AskedOptions : Type 0 where
 
 -- the same for the options that the code holds
 abbrev pub options_in : Options → AskedOptions
-options_in o = record { input = option_copied o.input; script = option_copied o.script; output = option_copied o.output; depth = o.depth }
+options_in o = record {
+  input = option_copied o.input;
+  script = option_copied o.script;
+  output = option_copied o.output;
+  depth = o.depth;
+}
 
 -- what accepted words after the program's name ask for
 abbrev pub asked_options : List Text → AskedOptions

@@ -13,6 +13,7 @@ abbrev pub HasItsSignals : Contents → Command → Type 0
 HasItsSignals c (commands.Value k tick) = k < length c.signals
 HasItsSignals c (commands.Changes k) = k < length c.signals
 HasItsSignals c (commands.Uart k setup) = IsScalarAt c k
-HasItsSignals c (commands.Spi clk mosi miso cs setup) = IsScalarAt c clk × IfSome mosi (IsScalarAt c) × IfSome miso (IsScalarAt c) × IfSome cs (IsScalarAt c)
+HasItsSignals c (commands.Spi clk mosi miso cs setup) = IsScalarAt c clk × IfSome mosi (IsScalarAt c)
+    × IfSome miso (IsScalarAt c) × IfSome cs (IsScalarAt c)
 HasItsSignals c (commands.I2c scl sda) = IsScalarAt c scl × IsScalarAt c sda
 HasItsSignals c command = Unit {0}

@@ -1,5 +1,6 @@
 -- The reply to a line that decodes signals. Its form is the project's own.
-use Rattle.std.specs.Prelude.{ℕ, zero, suc, ◌+◌, ◌/◌, ◌%◌, false, nat_lt, if◌then◌else◌, List, [], ◌∷◌, ◌++◌, Option, map, codes}
+use Rattle.std.specs.Prelude.{ℕ, zero, suc, ◌+◌, ◌/◌, ◌%◌, false, nat_lt, if◌then◌else◌, List, [], ◌∷◌, ◌++◌, Option}
+use Rattle.std.specs.Prelude.{map, codes}
 use Rattle.std.specs.Fmt.{decimal, digit_glyph}
 use Rattle.std.specs.Option.{option_map}
 use Rattle.vcd_core.specs.declared.bit.Bit.{Bit}

@@ -12,11 +12,12 @@ use Rattle.vcd_journal.specs.StepErrorNames.{step_error_name}
 use Rattle.vcd_journal.specs.Machine.{Machine, first_machine, step_outcome}
 use Rattle.vcd_journal.specs.InForce.{IsReplay}
 use Rattle.vcd_journal.specs.History.{replay}
-use Rattle.vcdedit.specs.Script.{command_of_line}
+use Rattle.vcdedit.specs.ParsedLines.{command_of_line}
 use Rattle.vcdedit.specs.Reply.{LineReply, ok_reply}
 use Rattle.vcdedit.specs.MachineReplies.{step_reply}
 use Rattle.vcdedit.specs.Run.{RunOutcome, IsRun}
-use Rattle.vcdedit.specs.RunMachines.{IsRunOfReplays, machine_after_line, machine_after_lines, no_edits, tally_after_lines, is_refused_on}
+use Rattle.vcdedit.specs.RunMachines.{IsRunOfReplays, machine_after_line, machine_after_lines, no_edits}
+use Rattle.vcdedit.specs.RunMachines.{tally_after_lines, is_refused_on}
 use Rattle.vcdedit.specs.RunOutcomes.{RunWrites}
 
 -- ---- replies
@@ -28,14 +29,16 @@ answer_reply (Refused refusal) = Err (step_error_name refusal)
 
 -- the reply to a step depends only on the capture and the two counts, and is what the machine answers
 abbrev pub ReplyIsAnswer : Type 0
-ReplyIsAnswer = (m : Machine) (step : Step) → step_reply step m.now (length m.past) (length m.future) ≡ answer_reply (step_outcome m step).answer
+ReplyIsAnswer = (m : Machine) (step : Step)
+    → step_reply step m.now (length m.past) (length m.future) ≡ answer_reply (step_outcome m step).answer
 
 -- ---- runs
 
 -- after any lines the machine holds replays of the edits that they leave in force
 abbrev pub RunIsReplay : Type 0
 RunIsReplay = (c : Contents) (depth : ℕ) (lines : List (List ℕ))
-    → IsReplay c (tally_after_lines no_edits (first_machine c depth) lines) (machine_after_lines (first_machine c depth) lines)
+    → IsReplay c (tally_after_lines no_edits (first_machine c depth) lines)
+    (machine_after_lines (first_machine c depth) lines)
 
 -- whatever a machine makes a run write is what a run writes
 abbrev pub EveryRunIs : Type 0
@@ -85,9 +88,11 @@ abbrev pub UndoTakesBackTheLast : Type 0
 UndoTakesBackTheLast = (c : Contents) (depth : ℕ) (lines : List (List ℕ)) (undo_line : List ℕ)
     → let m = machine_after_lines (first_machine c depth) lines in
     command_of_line m.now undo_line ≡ Ok (commands.Step steps.Undo) → 1 ≤ length m.past
-    → (e : Edit) × (es : List Edit) × ((tally_after_lines no_edits (first_machine c depth) lines).edits_in_force ≡ e ∷ es)
+    → (e : Edit) × (es : List Edit)
+    × ((tally_after_lines no_edits (first_machine c depth) lines).edits_in_force ≡ e ∷ es)
     × ((machine_after_line m undo_line).now ≡ replay c es)
 
 -- a refused line changes nothing: neither the capture nor what can be undone or redone
 abbrev pub RefusedLineChangesNothing : Type 0
-RefusedLineChangesNothing = (m : Machine) (line : List ℕ) (skipped : ℕ) → is_refused_on skipped line m ≡ true → machine_after_line m line ≡ m
+RefusedLineChangesNothing = (m : Machine) (line : List ℕ) (skipped : ℕ) → is_refused_on skipped line m ≡ true
+    → machine_after_line m line ≡ m

@@ -6,6 +6,9 @@ pub mod ScriptWords
 pub mod LineWords
 pub mod DecoderWords
 pub mod ScriptCommands
+pub mod LineReads
+pub mod CommandTable
+pub mod ParsedLines
 pub mod Script
 pub mod Queries
 pub mod CommandSignals

@@ -1,5 +1,6 @@
 -- What the tool answers to a line of a script, by the counts of a machine: the project's own.
-use Rattle.std.specs.Prelude.{ℕ, zero, suc, Bool, not, nat_lt, if◌then◌else◌, List, [], ◌∷◌, ◌++◌, Option, Some, None, Result, Ok, Err, is_err, codes}
+use Rattle.std.specs.Prelude.{ℕ, zero, suc, Bool, not, nat_lt, if◌then◌else◌, List, [], ◌∷◌, ◌++◌, Option, Some, None}
+use Rattle.std.specs.Prelude.{Result, Ok, Err, is_err, codes}
 use Rattle.std.specs.List.{flat_map}
 use Rattle.std.specs.Fmt.{decimal}
 use Rattle.vcd_core.specs.Contents.{Contents, signal_at}
@@ -17,7 +18,7 @@ use Rattle.vcd_journal.specs.Machine.{is_depth}
 use Rattle.vcdedit.specs.LineErrorNames.{line_error_name}
 use Rattle.vcd_edit.specs.Allowed.{edit_fault}
 use Rattle.vcdedit.specs.DecoderReply.{uart_lines, spi_lines, i2c_lines}
-use Rattle.vcdedit.specs.Script.{command_of_line}
+use Rattle.vcdedit.specs.ParsedLines.{command_of_line}
 use Rattle.vcdedit.specs.Queries.{listing, value_line, change_lines}
 use Rattle.vcdedit.specs.Reply.{LineReply, ok_reply, reply_text}
 

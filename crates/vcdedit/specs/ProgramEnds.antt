@@ -36,11 +36,13 @@ ending_of (Err e) = Failed e
 
 -- why a run does not begin: an input can't be opened, or there is no memory for the buffer of the replies
 abbrev pub IsNotBegun : RunError → Type 0
-IsNotBegun e = (e ≡ run_errors.Capture (record { line = 1; fault = faults.ReadFault })) ⊎ (e ≡ run_errors.ScriptReadFault)
+IsNotBegun e = (e ≡ run_errors.Capture (record { line = 1; fault = faults.ReadFault }))
+    ⊎ (e ≡ run_errors.ScriptReadFault)
     ⊎ (e ≡ run_errors.NoMemory 0)
 
 -- the outcome is that of a run on these readers; it writes the output if there is a path
-abbrev pub IsRunOn : {P : Type 0} → (path : Option P) → Result Summary RunError → (depth : ℕ) → (capture script : ReaderEnd) → Type 0
+abbrev pub IsRunOn : {P : Type 0} → (path : Option P) → Result Summary RunError → (depth : ℕ)
+    → (capture script : ReaderEnd) → Type 0
 IsRunOn path outcome depth capture script = (replies : WriterEnd) × (output : Option WriterEnd)
     × (is_some output ≡ is_some path) × RunEnds outcome depth capture script replies output
 
@@ -51,7 +53,8 @@ IsOutcome options outcome = ((e : RunError) × IsNotBegun e × (outcome ≡ Err 
 
 -- the ending is that of accepted words
 abbrev pub IsEndingOf : (words : List (List ℕ)) → Ending → Type 0
-IsEndingOf words ending = (outcome : Result Summary RunError) × IsOutcome (asked_options words) outcome × (ending ≡ ending_of outcome)
+IsEndingOf words ending = (outcome : Result Summary RunError) × IsOutcome (asked_options words) outcome
+    × (ending ≡ ending_of outcome)
 
 -- the run was completed
 abbrev pub is_done : Ending → Bool

@@ -47,7 +47,8 @@ out_of_memory_line = codes "vcdedit: out of memory\n"
 
 -- the line for a fault at a line of the capture
 abbrev pub numbered_line : Fault → ℕ → List ℕ
-numbered_line fault line = codes "vcdedit: capture line " ++ decimal line ++ codes ": " ++ fault_name fault ++ codes "\n"
+numbered_line fault line = codes "vcdedit: capture line " ++ decimal line ++ codes ": " ++ fault_name fault
+    ++ codes "\n"
 
 -- the line for a fault of the capture
 abbrev pub capture_line : Fault → ℕ → List ℕ

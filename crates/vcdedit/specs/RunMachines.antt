@@ -1,5 +1,6 @@
 -- What a run writes, said of the machine after its lines: the project's own.
-use Rattle.std.specs.Prelude.{◌≡◌, ◌<◌, ℕ, ◌+◌, if◌then◌else◌, true, false, Bool, List, [], ◌∷◌, length, take, get_or, Result, Ok}
+use Rattle.std.specs.Prelude.{◌≡◌, ◌<◌, ℕ, ◌+◌, if◌then◌else◌, true, false, Bool, List, [], ◌∷◌, length, take, get_or}
+use Rattle.std.specs.Prelude.{Result, Ok}
 use Rattle.vcd_core.specs.Contents.{Contents}
 use Rattle.vcd_core.specs.Sound.{IsSound}
 use Rattle.vcdedit.specs.declared.script.command.Command.{Command}
@@ -12,7 +13,8 @@ use Rattle.vcd_journal.specs.declared.step.Step.TheVariants as steps
 use Rattle.vcd_journal.specs.Machine.{Machine, first_machine, step_outcome}
 use Rattle.vcd_journal.specs.InForce.{Tally, IsReplay, tally_after}
 use Rattle.vcd_journal.specs.History.{replay}
-use Rattle.vcdedit.specs.Script.{script_lines, command_of_line}
+use Rattle.vcdedit.specs.Script.{script_lines}
+use Rattle.vcdedit.specs.ParsedLines.{command_of_line}
 use Rattle.vcdedit.specs.MachineReplies.{line_reply_text, is_line_refused}
 use Rattle.vcdedit.specs.Run.{RunOutcome}
 

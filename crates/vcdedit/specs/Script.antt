@@ -1,12 +1,11 @@
 -- The lines of a script, and what each asks for: the project's own.
-use Rattle.std.specs.Prelude.{ℕ, ◌==◌, if◌then◌else◌, List, [], ◌∷◌, map, Result, Ok, Err}
+use Rattle.std.specs.Prelude.{ℕ, ◌==◌, if◌then◌else◌, List, [], ◌∷◌, map}
 use Rattle.std.specs.List.{onto_first}
 use Rattle.vcd_core.specs.Contents.{Contents}
 use Rattle.vcdedit.specs.declared.script.command.Command.{Command}
-use Rattle.vcdedit.specs.declared.script.line_error.LineError.{LineError}
 use Rattle.vcd_text.specs.Words.{PlacedWord, words_of}
-use Rattle.vcdedit.specs.ScriptCommands.{command_of_words}
-use Rattle.vcdedit.specs.LineErrorNames.{line_error_name}
+use Rattle.vcdedit.specs.LineReads.{Read}
+use Rattle.vcdedit.specs.CommandTable.{asked_by_words}
 
 -- each line ends at a line feed (10); text after the last line feed is a line, too
 unfoldable pub script_lines : List ℕ → List (List ℕ)
@@ -17,15 +16,6 @@ script_lines (b ∷ bs) = if b == 10 then [] ∷ script_lines bs else onto_first
 abbrev pub line_words : List ℕ → List (List ℕ)
 line_words line = map (λ (w : PlacedWord). w.text) (words_of line)
 
--- what a line asks for on a capture, or why it is no command
-unfoldable pub command_of_line : Contents → List ℕ → Result Command LineError
-command_of_line c line = command_of_words c (line_words line)
-
--- what is read, with the word of its refusal
-abbrev pub with_refusal : Result Command LineError → Result Command (List ℕ)
-with_refusal (Ok command) = Ok command
-with_refusal (Err fault) = Err (line_error_name fault)
-
 -- what a line asks for on a capture, or the word with which it is refused
-abbrev pub asked_by : Contents → List ℕ → Result Command (List ℕ)
-asked_by c line = with_refusal (command_of_line c line)
+abbrev pub asked_by : Contents → List ℕ → Read Command
+asked_by c line = asked_by_words c (line_words line)

@@ -1,5 +1,6 @@
 -- What the words of a line ask for. The rules are the project's own.
-use Rattle.std.specs.Prelude.{ℕ, Bool, false, ◌==◌, if◌then◌else◌, List, [], ◌∷◌, Option, find, option_map, Result, Ok, Err, codes}
+use Rattle.std.specs.Prelude.{ℕ, Bool, false, ◌==◌, if◌then◌else◌, List, [], ◌∷◌, Option, find, option_map, Result, Ok}
+use Rattle.std.specs.Prelude.{Err, codes}
 use Rattle.std.specs.Option.{ok_or}
 use Rattle.std.specs.Str.{bytes_eq}
 use Rattle.vcd_core.specs.Contents.{Contents, signal_at}
@@ -20,7 +21,8 @@ use Rattle.vcdedit.specs.declared.script.line_error.LineError.TheVariants.{Unkno
 use Rattle.vcdedit.specs.Lent.{lent_bytes}
 use Rattle.vcdedit.specs.LineWords.{◌>>=◌}
 use Rattle.vcdedit.specs.ScriptWords.{signal_of_name, number_of_word, distance_of_word, value_of_word}
-use Rattle.vcdedit.specs.DecoderWords.{ratio_of_word, parity_of_word, order_of_word, signal_or_absent, one_bit_signal, one_bit_signal_or_absent, faultless_uart, faultless_spi}
+use Rattle.vcdedit.specs.DecoderWords.{ratio_of_word, parity_of_word, order_of_word, signal_or_absent, one_bit_signal}
+use Rattle.vcdedit.specs.DecoderWords.{one_bit_signal_or_absent, faultless_uart, faultless_spi}
 
 -- ---- the first word
 

@@ -1,5 +1,6 @@
 -- What a word of a line means. The rules are the project's own.
-use Rattle.std.specs.Prelude.{ℕ, ◌^◌, ◌==◌, ◌&&◌, nat_lt, nat_le, if◌then◌else◌, ℤ, pos, neg_ℤ, List, [], ◌∷◌, Result, Ok, Err}
+use Rattle.std.specs.Prelude.{ℕ, ◌^◌, ◌==◌, ◌&&◌, nat_lt, nat_le, if◌then◌else◌, ℤ, pos, neg_ℤ, List, [], ◌∷◌, Result}
+use Rattle.std.specs.Prelude.{Ok, Err}
 use Rattle.std.specs.Option.{ok_or}
 use Rattle.vcd_core.specs.declared.bit.Bit.{Bit}
 use Rattle.vcd_core.specs.Contents.{Contents}
@@ -25,7 +26,8 @@ distance_forth digits =
 -- a distance to an earlier tick: at most 2^63
 abbrev pub distance_back : List ℕ → Result ℤ LineError
 distance_back digits =
-    if is_number digits && nat_le (number_of digits) (2 ^ 63) then Ok (neg_ℤ (pos (number_of digits))) else Err BadNumber
+    if is_number digits && nat_le (number_of digits) (2 ^ 63)
+    then Ok (neg_ℤ (pos (number_of digits))) else Err BadNumber
 
 -- the distance that a word writes: a decimal number after `-` (45), `+` (43) or neither
 abbrev pub distance_of_word : List ℕ → Result ℤ LineError

@@ -10,3 +10,7 @@ mod waves;
 
 pub use answering::answer_line;
 pub use reply::Reply;
+use vcd_core::NoMemory;
+
+/// What is made for a reply, or want of memory for it.
+type Made<T> = Result<T, NoMemory>;

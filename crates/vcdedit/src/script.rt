@@ -17,3 +17,6 @@ pub use command::Command;
 pub use line::parse_line;
 pub use line_error::LineError;
 pub use splitting::split_line;
+
+/// What a line of a script asks for, or why it is no command.
+type Parsed<'a> = Result<Command<'a>, LineError>;

@@ -34,3 +34,8 @@ pub record PopsRecord (c : Contents) (before : List RecordView) (d : Contents) (
   pub fit : AllRecordsFit c before
   pub rest_fit : AllRecordsFit d after
   pub count : length before ≡ suc (length after)
+
+-- the first record, if there is one, leads to a capture with no fewer signals
+abbrev pub HasNoFewerSignals : Contents → List RecordView → Type 0
+HasNoFewerSignals c [] = Unit {0}
+HasNoFewerSignals c (r ∷ rs) = length c.signals ≤ length (apply_record r c).signals

@@ -1,6 +1,7 @@
 //! Captures with more changes than a window of ticks has room for, and with changes far apart. They are written as
 //! they were read.
 
+use crate::fake_devices::{FakeWriter, sink_of};
 use crate::fixtures::loaded;
 use std::alloc::Global;
 use std::process::Abort;
@@ -43,8 +44,17 @@ fn declared(alloc: Global, signals: u8) -> Result<Vec<u8>, Fail> {
     Ok(text)
 }
 
-/// Stops unless a capture is written as it was read. All its signals change at each tick up to an even one, and at the
-/// odd tick `last`.
+/// The text of a capture whose signals all change at each tick up to an even one, and at the odd tick `last`.
+fn changing(alloc: Global, signals: u8, ticks: u64, last: u64) -> Result<Vec<u8>, Fail> {
+    let mut text = declared(alloc, signals)?;
+    for tick in 1..=ticks {
+        append_tick(alloc, &mut text, tick, signals)?;
+    }
+    append_tick(alloc, &mut text, last, signals)?;
+    Ok(text)
+}
+
+/// Stops unless such a capture is written as it was read.
 fn check_changing(
     rt: &impl Abort,
     alloc: Global,
@@ -52,11 +62,7 @@ fn check_changing(
     ticks: u64,
     last: u64,
 ) -> Result<(), Fail> {
-    let mut text = declared(alloc, signals)?;
-    for tick in 1..=ticks {
-        append_tick(alloc, &mut text, tick, signals)?;
-    }
-    append_tick(alloc, &mut text, last, signals)?;
+    let text = changing(alloc, signals, ticks, last)?;
     let loaded = loaded(alloc, text.as_slice())?;
     let mut sink = ToWrite::new(Vec::new(alloc));
     write(alloc, &loaded.capture, &mut sink)?;
@@ -64,6 +70,28 @@ fn check_changing(
         sink.into_inner().as_slice() == text.as_slice(),
         "{signals} {ticks} {last}"
     );
+    Ok(())
+}
+
+/// How many bytes the writer's buffer has room for.
+const ROOM: usize = 65_536;
+
+/// No clause speaks of a flush: a long text goes out in large parts, with one flush after the last.
+#[test]
+fn a_long_text_by_few_calls(rt: HostRuntime) -> Result<(), Fail> {
+    let text = changing(rt.alloc(), 1, 22_000, 22_001)?;
+    assert!(rt; text.len() > 3 * ROOM);
+    let loaded = loaded(rt.alloc(), text.as_slice())?;
+    let mut sink = sink_of(FakeWriter::new(rt.alloc(), usize::MAX));
+    write(rt.alloc(), &loaded.capture, &mut sink)?;
+    let writer = sink.into_inner();
+    assert!(rt; writer.held.as_slice() == text.as_slice());
+    assert!(rt;
+        writer.calls <= text.len() / ROOM + 2,
+        "a call for each part, and the flush"
+    );
+    assert!(rt; writer.flushes == 1);
+    assert!(rt; writer.flushed == text.len(), "the flush is last");
     Ok(())
 }
 

@@ -1,13 +1,15 @@
 -- The changes that waves do not have yet, and the waves with these changes.
 use Rattle.std.specs.Prelude.{◌≡◌, ℕ, ◌+◌, ◌%◌, ◌<◌, ◌≤◌, ◌==◌, if◌then◌else◌, nat_le, List, [], ◌∷◌, ◌++◌, length, set}
-use Rattle.std.specs.Prelude.{slice_get, All, Some}
+use Rattle.std.specs.Prelude.{◌-◌, ◌/◌, ◌^◌, ◌&&◌, min, max, slice_get, All, Some}
 use Rattle.std.specs.List.{filter}
+use Rattle.std.specs.Option.{option_map_or}
 use Rattle.std.specs.Global.{Vec}
 use Rattle.vcd_core.specs.declared.bit.Bit.{Bit}
 use Rattle.vcd_core.specs.declared.wave.Change.{Change}
 use Rattle.vcd_core.specs.Wave.{value_at}
 use Rattle.vcd_core.specs.WordRows.{letters_of}
 use Rattle.vcd_text.specs.declared.reading.change_log.LoggedChange.{LoggedChange}
+use Rattle.vcd_text.specs.declared.reading.change_log.ReserveHint.{ReserveHint}
 use Rattle.vcd_text.specs.declared.reading.change_log.TheConstants.{GROUPS}
 use Rattle.vcd_text.specs.declared.reading.variables.Variable.{Variable}
 
@@ -86,6 +88,35 @@ pub record AppliesLogged (e : LoggedChange) (old new : List Variable) : Type 0 w
   pub stands : slice_get old e.position ≡ Some before
   pub takes : AppliesToVariable e before after
   pub others : new ≡ set old e.position after
+
+-- ---- the room that waves get for the log
+
+-- a hint with one more change, which counts if its words differ from the last
+abbrev pub hint_with : ReserveHint → LoggedChange → ReserveHint
+hint_with h e = record {
+  count = if h.low == e.low && h.high == e.high then h.count else min (h.count + 1) (2 ^ 64 - 1);
+  low = e.low;
+  high = e.high;
+}
+
+-- the hints with one more change, at its place
+abbrev pub hints_with : List ReserveHint → LoggedChange → List ReserveHint
+hints_with hs e = option_map_or (λ (h : ReserveHint). set hs (e.position / GROUPS) (hint_with h e))
+    (slice_get hs (e.position / GROUPS)) hs
+
+-- a hint after its count was taken
+abbrev pub taken_hint : ReserveHint → ReserveHint
+taken_hint h = record { count = 0; low = h.low; high = h.high }
+
+-- a wave's own list gets just the room for so many more changes, or keeps what it has
+pub record HasExactRoom (more : ℕ) (old new : Variable) : Type 0 where
+  pub exact : 1 ≤ more → 0 < old.signal.wave.room
+      → new.signal.wave.room ≡ max old.signal.wave.room (length old.signal.wave.changes + more + 1)
+  pub kept : length old.signal.wave.changes + 1 < old.signal.wave.room
+      → length old.signal.wave.changes + more < old.signal.wave.room
+      → new.signal.wave.room ≡ old.signal.wave.room
+
+-- ---- the variables with the changes of the log
 
 -- the variables can take their changes of the log
 abbrev pub CanFlush : List Variable → (ℕ → List LoggedChange) → Type 0

@@ -3,8 +3,12 @@
 //! The log is written while a file is read. The waves are made from it at the end, some at a time.
 //! So no change waits for its wave to come from memory.
 
-ghost use Rattle.std.specs.Prelude.{◌≡◌, ◌+◌, ◌++◌, ◌==◌, ◌≤◌, ℕ, List, [], ◌∷◌, length, if◌then◌else◌, OnOk};
-ghost use Rattle.vcd_text.specs.inside.ChangeLog.{logged, changes_of_position, AreGrouped, CanTake, AppliesLogged, CanFlush, FlushesLog};
+ghost use Rattle.std.specs.Prelude.{◌≡◌, ◌+◌, ◌/◌, ◌++◌, ◌==◌, ◌≤◌, ℕ, List, [], ◌∷◌, length, set, replicate, slice_get, None, Some, if◌then◌else◌, OnOk};
+ghost use Rattle.std.specs.List.{fold};
+ghost use Rattle.vcd_text.specs.declared.reading.change_log.TheConstants.{NO_CHANGE as NO_HINT};
+ghost use Rattle.vcd_text.specs.declared.reading.variables.Variable.{Variable as DeclaredVariable};
+ghost use Rattle.vcd_text.specs.declared.reading.change_log.ReserveHint.{ReserveHint as Hint};
+ghost use Rattle.vcd_text.specs.inside.ChangeLog.{logged, changes_of_position, hint_with, hints_with, taken_hint, AreGrouped, CanTake, AppliesLogged, HasExactRoom, CanFlush, FlushesLog};
 
 use crate::reading::variables::Variable;
 use std::alloc::Global;
@@ -90,8 +94,8 @@ fn add_groups(
     Ok(())
 }
 
-/// The greatest number of changes that a wave will have, as far as a group has been counted, and
-/// the words of the last one. It concerns room alone, which no contract mentions.
+/// The greatest number of changes that a wave will have, as far as a group has been counted, and the words of the last
+/// one. It concerns room alone.
 #[derive(Clone, Copy)]
 struct ReserveHint {
     count: usize,
@@ -130,20 +134,27 @@ pub fn flush_log(
 
 /// Counts the changes of each variable of a group.
 fn count_changes(reserve_hints: &mut [ReserveHint], group: &[LoggedChange])
-    ensures { length reserve_hints.new ≡ length reserve_hints.old }
+    ensures { reserve_hints.new ≡ fold hints_with (replicate (length reserve_hints.old) NO_HINT) group.now }
 {
     reserve_hints.fill(NO_CHANGE);
     for change in group {
-        if let Some(reserve_hint) = reserve_hints.get_mut(change.position / GROUPS) {
-            *reserve_hint = with_change(*reserve_hint, *change);
-        }
+        count_change(reserve_hints, *change);
+    }
+}
+
+/// Counts a change of a variable.
+fn count_change(reserve_hints: &mut [ReserveHint], change: LoggedChange)
+    ensures { reserve_hints.new ≡ hints_with reserve_hints.old change }
+{
+    let place = change.position / GROUPS;
+    if place < reserve_hints.len() {
+        reserve_hints[place] = with_change(reserve_hints[place], change);
     }
 }
 
 /// The hint with one more change, which counts where its words differ from the last.
 fn with_change(reserve_hint: ReserveHint, change: LoggedChange) -> ReserveHint
-    ensures low { result.low ≡ change.low }
-    ensures high { result.high ≡ change.high }
+    ensures { result ≡ hint_with reserve_hint change }
 {
     let same = reserve_hint.low == change.low && reserve_hint.high == change.high;
     ReserveHint {
@@ -174,18 +185,24 @@ fn flush_group(
 
 /// The count at a place, which becomes 0.
 fn take_count(reserve_hints: &mut [ReserveHint], place: usize) -> usize
-    ensures { length reserve_hints.new ≡ length reserve_hints.old }
+    ensures count { (h : Hint) → slice_get reserve_hints.old place ≡ Some h → result ≡ h.count }
+    ensures taken { (h : Hint) → slice_get reserve_hints.old place ≡ Some h →
+        reserve_hints.new ≡ set reserve_hints.old place (taken_hint h) }
+    ensures none { slice_get reserve_hints.old place ≡ None →
+        (result ≡ 0) × (reserve_hints.new ≡ reserve_hints.old) }
 {
-    match reserve_hints.get_mut(place) {
-        Some(reserve_hint) => replace(&mut reserve_hint.count, 0),
-        None => 0,
+    if place < reserve_hints.len() {
+        return replace(&mut reserve_hints[place].count, 0);
     }
+    0
 }
 
 /// Makes room for `more` changes of a variable, and gives it a change.
 fn flush_change(kept: &mut Vec<Variable>, change: LoggedChange, more: usize) -> Result<(), NoMemory>
     requires { CanTake kept.old.items change }
-    ensures { OnOk result (AppliesLogged change kept.old.items kept.new.items) }
+    ensures applies { OnOk result (AppliesLogged change kept.old.items kept.new.items) }
+    ensures room { OnOk result ((v w : DeclaredVariable) → slice_get kept.old.items change.position ≡ Some v →
+        slice_get kept.new.items change.position ≡ Some w → HasExactRoom more v w) }
 {
     kept[change.position].take_logged(change, more)
 }

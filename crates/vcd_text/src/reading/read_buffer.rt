@@ -63,6 +63,8 @@ impl ReadBuffer {
         ensures same { OnOk result (self.new.bytes ≡ self.old.bytes) }
         ensures room { OnOk result (0 < self.new.room) }
         ensures in_place { 0 < self.old.room → IsOk result }
+        ensures kept_room { 0 < self.old.room → self.new.room ≡ self.old.room }
+        ensures grown_room { OnOk result (self.old.room ≡ 0 → self.new.room ≡ CHUNK) }
     {
         if self.len == self.storage.len() {
             self.storage.resize(self.len + CHUNK, 0)?;

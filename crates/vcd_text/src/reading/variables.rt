@@ -9,7 +9,7 @@ ghost use Rattle.vcd_core.specs.declared.value.TheConstants.{WIDTH_LIMIT};
 ghost use Rattle.vcd_core.specs.Word.{is_skipped_kind as skips_kind};
 ghost use Rattle.vcd_text.specs.Grammar.{ParseState, VariableDeclaration, variable_of, kept_variables, has_good_size, is_skipped};
 ghost use Rattle.vcd_text.specs.Meaning.{declared_signal};
-ghost use Rattle.vcd_text.specs.inside.ChangeLog.{AppliesToVariable};
+ghost use Rattle.vcd_text.specs.inside.ChangeLog.{AppliesToVariable, HasExactRoom};
 ghost use Rattle.vcd_text.specs.inside.ValueDigits.{WritesValue};
 ghost use Rattle.vcd_text.specs.inside.Variables.{target_of, declaration_in, without_scopes, VariablesMatch, Declares, DeclaresAs, ChangeResult, Sets, RefusesBinaryNumber};
 ghost use Rattle.vcd_text.specs.declared.fault.Fault.TheVariants.{NoMemory as NoMemoryFault, TooManySignals};
@@ -65,6 +65,7 @@ impl Variable {
         // It succeeds where the wave's own list has room for `more` changes and this one.
         ensures in_place { length self.old.signal.wave.changes + 1 < self.old.signal.wave.room →
             length self.old.signal.wave.changes + more < self.old.signal.wave.room → IsOk result }
+        ensures exact { OnOk result (HasExactRoom more self.old self.new) }
     {
         self.signal.wave.reserve_exact(more)?;
         self.signal

@@ -1,6 +1,6 @@
 //! A buffer before a writer: the text is written in large parts, and no memory is taken meanwhile.
 
-ghost use Rattle.std.specs.Prelude.{◌≡◌, ◌<◌, ◌≤◌, ◌+◌, ◌-◌, ◌^◌, false, true, ℕ, List, [], ◌∷◌, Option, length, take, vec_len, vec_capacity, OnOk, IfErr, IfOk};
+ghost use Rattle.std.specs.Prelude.{◌≡◌, ◌<◌, ◌≤◌, ◌+◌, ◌-◌, ◌^◌, nat_le, false, true, ℕ, List, [], ◌∷◌, Option, length, take, vec_len, vec_capacity, OnOk, IfErr, IfOk};
 ghost use Rattle.std.specs.Io.KnownBytes.{Appends};
 ghost use Rattle.vcd_text.specs.WriteEnds.{TookBefore};
 ghost use Rattle.vcd_text.specs.inside.Written.{HasEmitted, Emits};
@@ -25,6 +25,7 @@ impl WriteBuffer {
     pub fn new(alloc: Global) -> Result<WriteBuffer, NoMemory>
         ensures waiting { IfOk result (λ buffer. buffer.waiting.items ≡ []) }
         ensures sent { IfOk result (λ buffer. buffer.sent ≡ 0) }
+        ensures room { IfOk result (λ buffer. vec_capacity buffer.waiting ≡ ROOM) }
     {
         let waiting = Vec::with_capacity(alloc, ROOM)?;
         Ok(WriteBuffer { waiting, sent: 0 })
@@ -33,8 +34,12 @@ impl WriteBuffer {
 
 /// Appends a piece to the text. It takes no memory.
 pub fn write_piece<W: Sink>(buffer: &mut WriteBuffer, writer: &mut W, piece: &[u8])
-    ensures { Emits buffer.old (W.taken writer.old) (W.has_failed writer.old)
+    ensures written { Emits buffer.old (W.taken writer.old) (W.has_failed writer.old)
         buffer.new (W.taken writer.new) (W.has_failed writer.new) piece.now }
+    // where there is room the writer is not called
+    ensures gathered { vec_len buffer.old.waiting + length piece.now ≤ vec_capacity buffer.old.waiting →
+        writer.new ≡ writer.old }
+    ensures room { vec_capacity buffer.old.waiting ≤ vec_capacity buffer.new.waiting }
 {
     if has_space_for(&buffer.waiting, piece.len()) {
         let _ = buffer.waiting.extend_from_slice(piece);
@@ -46,8 +51,11 @@ pub fn write_piece<W: Sink>(buffer: &mut WriteBuffer, writer: &mut W, piece: &[u
 
 /// Appends a byte to the text.
 pub fn write_byte<W: Sink>(buffer: &mut WriteBuffer, writer: &mut W, byte: u8)
-    ensures { Emits buffer.old (W.taken writer.old) (W.has_failed writer.old)
+    ensures written { Emits buffer.old (W.taken writer.old) (W.has_failed writer.old)
         buffer.new (W.taken writer.new) (W.has_failed writer.new) (byte ∷ []) }
+    ensures gathered { vec_len buffer.old.waiting + 1 ≤ vec_capacity buffer.old.waiting →
+        writer.new ≡ writer.old }
+    ensures room { vec_capacity buffer.old.waiting ≤ vec_capacity buffer.new.waiting }
 {
     if has_space_for(&buffer.waiting, 1) {
         let _ = buffer.waiting.push(byte);
@@ -58,8 +66,12 @@ pub fn write_byte<W: Sink>(buffer: &mut WriteBuffer, writer: &mut W, byte: u8)
 
 /// Keeps a piece where the buffer has room for it; otherwise sends it after the waiting bytes.
 fn write_first<W: Sink>(buffer: &mut WriteBuffer, writer: &mut W, piece: &[u8])
-    ensures { Emits buffer.old (W.taken writer.old) (W.has_failed writer.old)
+    ensures written { Emits buffer.old (W.taken writer.old) (W.has_failed writer.old)
         buffer.new (W.taken writer.new) (W.has_failed writer.new) piece.now }
+    // where there is room the writer is not called
+    ensures gathered { vec_len buffer.old.waiting + length piece.now ≤ vec_capacity buffer.old.waiting →
+        writer.new ≡ writer.old }
+    ensures room { vec_capacity buffer.old.waiting ≤ vec_capacity buffer.new.waiting }
 {
     if has_space_for(&buffer.waiting, piece.len()) {
         let _ = buffer.waiting.extend_from_slice(piece);
@@ -70,7 +82,7 @@ fn write_first<W: Sink>(buffer: &mut WriteBuffer, writer: &mut W, piece: &[u8])
 }
 
 fn has_space_for(waiting: &Vec<u8>, count: usize) -> bool
-    ensures { result ≡ true → vec_len waiting.now + count ≤ vec_capacity waiting.now }
+    ensures { result ≡ nat_le (vec_len waiting.now + count) (vec_capacity waiting.now) }
 {
     count <= waiting.capacity() - waiting.len()
 }
@@ -80,6 +92,7 @@ fn send_waiting<W: Sink>(buffer: &mut WriteBuffer, writer: &mut W)
     ensures written { Emits buffer.old (W.taken writer.old) (W.has_failed writer.old)
         buffer.new (W.taken writer.new) (W.has_failed writer.new) [] }
     ensures empty { buffer.new.waiting.items ≡ [] }
+    ensures room { vec_capacity buffer.new.waiting ≡ vec_capacity buffer.old.waiting }
 {
     let count = send_bytes(writer, buffer.waiting.as_slice());
     buffer.sent = buffer.sent.saturating_add(count);
@@ -89,8 +102,9 @@ fn send_waiting<W: Sink>(buffer: &mut WriteBuffer, writer: &mut W)
 /// Sends a piece, where nothing waits.
 fn send_piece<W: Sink>(buffer: &mut WriteBuffer, writer: &mut W, piece: &[u8])
     requires empty { buffer.old.waiting.items ≡ [] }
-    ensures { Emits buffer.old (W.taken writer.old) (W.has_failed writer.old)
+    ensures written { Emits buffer.old (W.taken writer.old) (W.has_failed writer.old)
         buffer.new (W.taken writer.new) (W.has_failed writer.new) piece.now }
+    ensures room { vec_capacity buffer.new.waiting ≡ vec_capacity buffer.old.waiting }
 {
     let count = send_bytes(writer, piece);
     buffer.sent = buffer.sent.saturating_add(count);

@@ -11,30 +11,29 @@ no_word (word ∷ words) asked = Err WrongCount
 
 -- the meaning of exactly one word
 abbrev pub one_word : List (List ℕ) → (List ℕ → Result Command LineError) → Result Command LineError
-one_word (first ∷ []) asked = asked first
-one_word words asked = Err WrongCount
+one_word (first ∷ words) asked = no_word words (asked first)
+one_word [] asked = Err WrongCount
 
 -- the meaning of exactly two words
 abbrev pub two_words : List (List ℕ) → (List ℕ → List ℕ → Result Command LineError) → Result Command LineError
-two_words (first ∷ second ∷ []) asked = asked first second
-two_words words asked = Err WrongCount
+two_words (first ∷ words) asked = one_word words (asked first)
+two_words [] asked = Err WrongCount
 
 -- the meaning of exactly four words
 abbrev pub four_words : List (List ℕ) → (List ℕ → List ℕ → List ℕ → List ℕ → Result Command LineError)
     → Result Command LineError
-four_words (first ∷ second ∷ third ∷ fourth ∷ []) asked = asked first second third fourth
+four_words (first ∷ second ∷ words) asked = two_words words (asked first second)
 four_words words asked = Err WrongCount
 
 -- the meaning of exactly five words
 abbrev pub five_words : List (List ℕ) → (List ℕ → List ℕ → List ℕ → List ℕ → List ℕ → Result Command LineError)
     → Result Command LineError
-five_words (first ∷ second ∷ third ∷ fourth ∷ fifth ∷ []) asked = asked first second third fourth fifth
-five_words words asked = Err WrongCount
+five_words (first ∷ words) asked = four_words words (asked first)
+five_words [] asked = Err WrongCount
 
 -- the meaning of exactly seven words
 abbrev pub seven_words : List (List ℕ)
     → (List ℕ → List ℕ → List ℕ → List ℕ → List ℕ → List ℕ → List ℕ → Result Command LineError)
     → Result Command LineError
-seven_words (first ∷ second ∷ third ∷ fourth ∷ fifth ∷ sixth ∷ seventh ∷ []) asked =
-    asked first second third fourth fifth sixth seventh
+seven_words (first ∷ second ∷ words) asked = five_words words (asked first second)
 seven_words words asked = Err WrongCount

@@ -1,15 +1,15 @@
 //! Annotations of decoders as text.
 
 ghost use Rattle.std.specs.Prelude.{◌≡◌, ◌<◌, ◌++◌, codes, OnOk, IfOk, false};
-ghost use Rattle.std.specs.Fmt.{decimal, digit_glyph};
+ghost use Rattle.std.specs.Fmt.{digit_glyph};
 ghost use Rattle.vcdedit.specs.DecoderReply.{hex_digits, hex_text, line_data_text, direction_text, kind_text, annotation_line};
 ghost use Rattle.vcdedit.specs.Reply.{with_line_feed};
 ghost use Rattle.vcd_decode.specs.declared.annotation.Kind.TheVariants as kinds;
 ghost use Rattle.vcdedit.specs.inside.Annotations.{annotations_text};
 
-use crate::replies::appending::append_decimal;
+use crate::replies::Made;
+use crate::replies::appending::{append_decimal, append_number, append_word};
 use std::alloc::Global;
-use vcd_core::NoMemory;
 use vcd_decode::{Annotation, Direction, Kind, LineData};
 
 /// A line for each annotation of a decoder: its first and last tick, the decoder's word and the kind. Data of UART and
@@ -19,7 +19,7 @@ pub fn annotations_to_bytes(
     decoder: &[u8],
     digits: u64,
     annotations: &[Annotation],
-) -> Result<Vec<u8>, NoMemory>
+) -> Made<Vec<u8>>
     ensures { IfOk result (λ text. text.items ≡ annotations_text decoder.now digits annotations.now) }
 {
     let mut text = Vec::new(alloc);
@@ -35,7 +35,7 @@ fn append_annotation(
     decoder: &[u8],
     digits: u64,
     annotation: &Annotation,
-) -> Result<(), NoMemory>
+) -> Made<()>
     ensures { OnOk result (text.new.items
         ≡ text.old.items ++ with_line_feed (annotation_line decoder.now digits annotation.now)) }
 {
@@ -51,7 +51,7 @@ fn append_annotation(
 }
 
 /// Appends the kind of an annotation.
-fn append_kind(text: &mut Vec<u8>, digits: u64, kind: Kind) -> Result<(), NoMemory>
+fn append_kind(text: &mut Vec<u8>, digits: u64, kind: Kind) -> Made<()>
     ensures { OnOk result (text.new.items ≡ text.old.items ++ kind_text digits kind) }
 {
     match kind {
@@ -61,7 +61,7 @@ fn append_kind(text: &mut Vec<u8>, digits: u64, kind: Kind) -> Result<(), NoMemo
         Kind::Unknown => append_word(text, b"unknown"),
         Kind::Partial => append_word(text, b"partial"),
         Kind::Word { mosi, miso } => append_line_data(text, digits, mosi, miso),
-        Kind::PartialOf(count) => append_count(text, count),
+        Kind::PartialOf(count) => append_number(text, b"partial", count),
         Kind::Start => append_word(text, b"start"),
         Kind::RepeatedStart => append_word(text, b"repeated-start"),
         Kind::Stop => append_word(text, b"stop"),
@@ -80,16 +80,8 @@ fn append_kind(text: &mut Vec<u8>, digits: u64, kind: Kind) -> Result<(), NoMemo
     }
 }
 
-/// Appends a word.
-fn append_word(text: &mut Vec<u8>, word: &[u8]) -> Result<(), NoMemory>
-    ensures { OnOk result (text.new.items ≡ text.old.items ++ word.now) }
-{
-    text.extend_from_slice(word)?;
-    Ok(())
-}
-
 /// Appends a name and a number of so many hexadecimal digits.
-fn append_data(text: &mut Vec<u8>, name: &[u8], digits: u64, number: u32) -> Result<(), NoMemory>
+fn append_data(text: &mut Vec<u8>, name: &[u8], digits: u64, number: u32) -> Made<()>
     ensures { OnOk result (text.new.items
         ≡ text.old.items ++ (name.now ++ hex_text digits number)) }
 {
@@ -105,7 +97,7 @@ fn append_address(
     digits: u64,
     address: u32,
     direction: Direction,
-) -> Result<(), NoMemory>
+) -> Made<()>
     ensures { OnOk result (text.new.items
         ≡ text.old.items ++ (name.now ++ hex_text digits address ++ direction_text direction)) }
 {
@@ -117,12 +109,7 @@ fn append_address(
 }
 
 /// Appends what the two SPI data lines show of a word.
-fn append_line_data(
-    text: &mut Vec<u8>,
-    digits: u64,
-    mosi: LineData,
-    miso: LineData,
-) -> Result<(), NoMemory>
+fn append_line_data(text: &mut Vec<u8>, digits: u64, mosi: LineData, miso: LineData) -> Made<()>
     ensures { OnOk result (text.new.items
         ≡ text.old.items ++ kind_text digits (kinds.Word mosi miso)) }
 {
@@ -132,12 +119,7 @@ fn append_line_data(
 }
 
 /// Appends a name and what its data line shows; nothing if the line is absent.
-fn append_line(
-    text: &mut Vec<u8>,
-    name: &[u8],
-    digits: u64,
-    shown: LineData,
-) -> Result<(), NoMemory>
+fn append_line(text: &mut Vec<u8>, name: &[u8], digits: u64, shown: LineData) -> Made<()>
     ensures { OnOk result (text.new.items
         ≡ text.old.items ++ line_data_text name.now digits shown) }
 {
@@ -149,7 +131,7 @@ fn append_line(
 }
 
 /// Appends a name and `?`.
-fn append_unknown(text: &mut Vec<u8>, name: &[u8]) -> Result<(), NoMemory>
+fn append_unknown(text: &mut Vec<u8>, name: &[u8]) -> Made<()>
     ensures { OnOk result (text.new.items ≡ text.old.items ++ (name.now ++ codes "?")) }
 {
     text.extend_from_slice(name)?;
@@ -157,16 +139,8 @@ fn append_unknown(text: &mut Vec<u8>, name: &[u8]) -> Result<(), NoMemory>
     Ok(())
 }
 
-/// Appends how many bits there are of something that did not end.
-fn append_count(text: &mut Vec<u8>, count: u64) -> Result<(), NoMemory>
-    ensures { OnOk result (text.new.items ≡ text.old.items ++ (codes "partial " ++ decimal count)) }
-{
-    text.extend_from_slice(b"partial ")?;
-    append_decimal(text, count)
-}
-
 /// Appends the last `digits` hexadecimal digits of a number.
-fn append_hex(text: &mut Vec<u8>, digits: u64, number: u32) -> Result<(), NoMemory>
+fn append_hex(text: &mut Vec<u8>, digits: u64, number: u32) -> Made<()>
     ensures { OnOk result (text.new.items ≡ text.old.items ++ hex_digits digits number) }
 {
     if digits == 0 {

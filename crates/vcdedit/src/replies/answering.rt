@@ -6,10 +6,10 @@ ghost use Rattle.vcdedit.specs.CommandSignals.{HasItsSignals};
 ghost use Rattle.vcdedit.specs.inside.Answering.{AnswersStep, AnswersCommand, AnswersLine, is_no_memory as wants_memory};
 ghost use Rattle.vcdedit.specs.inside.Replies.{IsReplyTo};
 
-use crate::replies::Reply;
 use crate::replies::decoding::{i2c_text, spi_text, uart_text};
 use crate::replies::listing::listing_text;
 use crate::replies::waves::{changes_text, value_text};
+use crate::replies::{Made, Reply};
 use crate::script::{Command, parse_line};
 use std::alloc::Global;
 use vcd_core::NoMemory;
@@ -26,7 +26,7 @@ pub fn answer_line(
     skipped: u64,
     number: u64,
     line: &[u8],
-) -> Result<Reply, NoMemory>
+) -> Made<Reply>
     ensures answers { IfOk result (λ reply.
         AnswersLine skipped number line.now session.old session.new reply) }
     ensures unchanged { OnErr result (session.new ≡ session.old) }
@@ -44,55 +44,37 @@ fn answer_command(
     skipped: u64,
     number: u64,
     command: &Command,
-) -> Result<Reply, NoMemory>
+) -> Made<Reply>
     requires signals { HasItsSignals session.old.now command.now }
     ensures answers { IfOk result (λ reply.
         AnswersCommand skipped number command.now session.old session.new reply) }
     ensures unchanged { OnErr result (session.new ≡ session.old) }
 {
+    let capture = session.capture();
     match command {
         Command::Nothing => Ok(Reply::of_text(Vec::new(alloc))),
         Command::Step(step) => answer_step(alloc, session, number, step),
-        Command::List => {
-            let text = listing_text(alloc, session.capture(), skipped)?;
-            Ok(Reply::of_text(text))
-        }
-        Command::Value { signal, tick } => {
-            let text = value_text(alloc, session.capture(), *signal, *tick)?;
-            Ok(Reply::of_text(text))
-        }
-        Command::Changes { signal } => {
-            let text = changes_text(alloc, session.capture(), *signal)?;
-            Ok(Reply::of_text(text))
-        }
-        Command::Uart { signal, setup } => {
-            let text = uart_text(alloc, session.capture(), *signal, setup)?;
-            Ok(Reply::of_text(text))
-        }
+        Command::List => listing_text(alloc, capture, skipped).map(Reply::of_text),
+        Command::Value { signal, tick } => value_text(alloc, capture, *signal, *tick).map(
+            Reply::of_text,
+        ),
+        Command::Changes { signal } => changes_text(alloc, capture, *signal).map(Reply::of_text),
+        Command::Uart { signal, setup } => uart_text(alloc, capture, *signal, setup).map(
+            Reply::of_text,
+        ),
         Command::Spi {
             clk,
             mosi,
             miso,
             cs,
             setup,
-        } => {
-            let text = spi_text(alloc, session.capture(), *clk, *mosi, *miso, *cs, setup)?;
-            Ok(Reply::of_text(text))
-        }
-        Command::I2c { scl, sda } => {
-            let text = i2c_text(alloc, session.capture(), *scl, *sda)?;
-            Ok(Reply::of_text(text))
-        }
+        } => spi_text(alloc, capture, *clk, *mosi, *miso, *cs, setup).map(Reply::of_text),
+        Command::I2c { scl, sda } => i2c_text(alloc, capture, *scl, *sda).map(Reply::of_text),
     }
 }
 
 /// Makes the step that the line of this number asks for, and gives the reply.
-fn answer_step(
-    alloc: Global,
-    session: &mut Session,
-    number: u64,
-    step: &Step,
-) -> Result<Reply, NoMemory>
+fn answer_step(alloc: Global, session: &mut Session, number: u64, step: &Step) -> Made<Reply>
     ensures answers { IfOk result (λ reply.
         AnswersStep number step.now session.old session.new reply) }
     ensures unchanged { OnErr result (session.new ≡ session.old) }
@@ -106,7 +88,7 @@ fn answer_step(
 }
 
 /// The reply to a refused step, unless memory was refused.
-fn refuse_step(alloc: Global, number: u64, refusal: StepError) -> Result<Reply, NoMemory>
+fn refuse_step(alloc: Global, number: u64, refusal: StepError) -> Made<Reply>
     ensures named { IfOk result (λ reply.
         IsReplyTo number (Err (step_error_name refusal)) reply) }
     ensures memory { IfOk result (λ _. wants_memory refusal ≡ false) }

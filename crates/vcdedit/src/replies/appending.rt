@@ -3,12 +3,14 @@
 ghost use Rattle.std.specs.Prelude.{◌≡◌, ◌++◌, OnOk};
 ghost use Rattle.std.specs.Fmt.{decimal};
 ghost use Rattle.vcd_text.specs.Letters.{printed_letters};
+ghost use Rattle.vcdedit.specs.Queries.{number_line};
 
+use crate::replies::Made;
 use itoa::Buffer;
-use vcd_core::{NoMemory, Value};
+use vcd_core::Value;
 
 /// Appends all letters of a value, most significant first. The cost is the width.
-pub fn append_letters(text: &mut Vec<u8>, value: &Value) -> Result<(), NoMemory>
+pub fn append_letters(text: &mut Vec<u8>, value: &Value) -> Made<()>
     ensures { OnOk result (text.new.items ≡ text.old.items ++ printed_letters value.now) }
 {
     let width = value.width();
@@ -19,9 +21,26 @@ pub fn append_letters(text: &mut Vec<u8>, value: &Value) -> Result<(), NoMemory>
 }
 
 /// Appends a number in decimal digits.
-pub fn append_decimal(text: &mut Vec<u8>, number: u64) -> Result<(), NoMemory>
+pub fn append_decimal(text: &mut Vec<u8>, number: u64) -> Made<()>
     ensures { OnOk result (text.new.items ≡ text.old.items ++ decimal number) }
 {
     text.extend_from_slice(Buffer::new().format(number).as_bytes())?;
     Ok(())
+}
+
+/// Appends a word.
+pub fn append_word(text: &mut Vec<u8>, word: &[u8]) -> Made<()>
+    ensures { OnOk result (text.new.items ≡ text.old.items ++ word.now) }
+{
+    text.extend_from_slice(word)?;
+    Ok(())
+}
+
+/// Appends a word and a number.
+pub fn append_number(text: &mut Vec<u8>, word: &[u8], number: u64) -> Made<()>
+    ensures { OnOk result (text.new.items ≡ text.old.items ++ number_line word.now number) }
+{
+    text.extend_from_slice(word)?;
+    text.extend_from_slice(b" ")?;
+    append_decimal(text, number)
 }

@@ -7,14 +7,15 @@ ghost use Rattle.vcd_core.specs.Names.{full_name};
 ghost use Rattle.vcdedit.specs.Queries.{timescale_line, number_line, signal_line, signal_lines, listing};
 ghost use Rattle.vcdedit.specs.Reply.{with_line_feed};
 
-use crate::replies::appending::append_decimal;
+use crate::replies::Made;
+use crate::replies::appending::{append_number, append_word};
 use itoa::Buffer;
 use std::alloc::Global;
-use vcd_core::{Capture, NoMemory, Signal, Timescale, Word};
+use vcd_core::{Capture, Signal, Timescale, Word};
 
 /// The lines of `list` on a capture. So many declarations of its file were skipped. The cost is that of its names; no
 /// wave is read.
-pub fn listing_text(alloc: Global, capture: &Capture, skipped: u64) -> Result<Vec<u8>, NoMemory>
+pub fn listing_text(alloc: Global, capture: &Capture, skipped: u64) -> Made<Vec<u8>>
     ensures { IfOk result (λ text. text.items ≡
         flat_map with_line_feed (listing (contents capture.now) skipped)) }
 {
@@ -29,26 +30,22 @@ pub fn listing_text(alloc: Global, capture: &Capture, skipped: u64) -> Result<Ve
 }
 
 /// Appends the line of the timescale.
-fn append_timescale_line(text: &mut Vec<u8>, timescale: Option<Timescale>) -> Result<(), NoMemory>
+fn append_timescale_line(text: &mut Vec<u8>, timescale: Option<Timescale>) -> Made<()>
     ensures { OnOk result (text.new.items ≡
         text.old.items ++ with_line_feed (timescale_line timescale)) }
 {
     match timescale {
         Some(timescale) => append_unit(text, timescale),
-        None => {
-            text.extend_from_slice(b"timescale none\n")?;
-            Ok(())
-        }
+        None => append_word(text, b"timescale none\n"),
     }
 }
 
 /// Appends the line of a given timescale.
-fn append_unit(text: &mut Vec<u8>, timescale: Timescale) -> Result<(), NoMemory>
+fn append_unit(text: &mut Vec<u8>, timescale: Timescale) -> Made<()>
     ensures { OnOk result (text.new.items ≡
         text.old.items ++ with_line_feed (timescale_line (Some timescale))) }
 {
-    text.extend_from_slice(b"timescale ")?;
-    append_decimal(text, timescale.count)?;
+    append_number(text, b"timescale", timescale.count)?;
     text.extend_from_slice(b" ")?;
     text.extend_from_slice(timescale.unit.symbol().as_bytes())?;
     text.extend_from_slice(b"\n")?;
@@ -56,7 +53,7 @@ fn append_unit(text: &mut Vec<u8>, timescale: Timescale) -> Result<(), NoMemory>
 }
 
 /// Appends the line of a word and a number.
-fn append_number_line(text: &mut Vec<u8>, word: &[u8], number: u64) -> Result<(), NoMemory>
+fn append_number_line(text: &mut Vec<u8>, word: &[u8], number: u64) -> Made<()>
     ensures { OnOk result (text.new.items ≡
         text.old.items ++ with_line_feed (number_line word.now number)) }
 {
@@ -65,17 +62,8 @@ fn append_number_line(text: &mut Vec<u8>, word: &[u8], number: u64) -> Result<()
     Ok(())
 }
 
-/// Appends a word and a number.
-fn append_number(text: &mut Vec<u8>, word: &[u8], number: u64) -> Result<(), NoMemory>
-    ensures { OnOk result (text.new.items ≡ text.old.items ++ number_line word.now number) }
-{
-    text.extend_from_slice(word)?;
-    text.extend_from_slice(b" ")?;
-    append_decimal(text, number)
-}
-
 /// Appends a line for each signal.
-fn append_signal_lines(text: &mut Vec<u8>, signals: &[Signal]) -> Result<(), NoMemory>
+fn append_signal_lines(text: &mut Vec<u8>, signals: &[Signal]) -> Made<()>
     ensures { OnOk result (text.new.items ≡ text.old.items
         ++ flat_map with_line_feed (signal_lines 0 (map signal_contents signals.now))) }
 {
@@ -86,7 +74,7 @@ fn append_signal_lines(text: &mut Vec<u8>, signals: &[Signal]) -> Result<(), NoM
 }
 
 /// Appends the line of the signal at a position.
-fn append_signal_line(text: &mut Vec<u8>, position: usize, signal: &Signal) -> Result<(), NoMemory>
+fn append_signal_line(text: &mut Vec<u8>, position: usize, signal: &Signal) -> Made<()>
     ensures { OnOk result (text.new.items ≡
         text.old.items ++ with_line_feed (signal_line position (signal_contents signal.now))) }
 {
@@ -105,7 +93,7 @@ fn append_signal_line(text: &mut Vec<u8>, position: usize, signal: &Signal) -> R
 }
 
 /// Appends the full name of a signal.
-fn append_full_name(text: &mut Vec<u8>, signal: &Signal) -> Result<(), NoMemory>
+fn append_full_name(text: &mut Vec<u8>, signal: &Signal) -> Made<()>
     ensures { OnOk result (text.new.items ≡
         text.old.items ++ full_name (signal_contents signal.now)) }
 {
@@ -119,7 +107,7 @@ fn append_full_name(text: &mut Vec<u8>, signal: &Signal) -> Result<(), NoMemory>
 }
 
 /// Appends words without a separator.
-fn append_joined(text: &mut Vec<u8>, words: &[Word]) -> Result<(), NoMemory>
+fn append_joined(text: &mut Vec<u8>, words: &[Word]) -> Made<()>
     ensures { OnOk result (text.new.items ≡ text.old.items ++ concat words.now) }
 {
     for word in words {

@@ -4,9 +4,9 @@ ghost use Rattle.std.specs.Prelude.{◌≡◌, ◌++◌, ℕ, Ok, Err, OnOk, IfO
 ghost use Rattle.vcdedit.specs.Reply.{ok_reply, reply_text};
 ghost use Rattle.vcdedit.specs.inside.Replies.{IsReplyTo};
 
-use crate::replies::appending::append_decimal;
+use crate::replies::Made;
+use crate::replies::appending::append_number;
 use std::alloc::Global;
-use vcd_core::NoMemory;
 
 /// The whole reply to a line.
 #[derive(Drop)]
@@ -30,7 +30,7 @@ impl Reply {
     }
 
     /// The reply to an accepted step.
-    pub fn accepted(alloc: Global) -> Result<Reply, NoMemory>
+    pub fn accepted(alloc: Global) -> Made<Reply>
         ensures { IfOk result (λ reply. (number : ℕ) → IsReplyTo number ok_reply reply) }
     {
         let mut text = Vec::new(alloc);
@@ -39,7 +39,7 @@ impl Reply {
     }
 
     /// The reply to a refused line: its number, counted from 1, and the name of its fault.
-    pub fn refused(alloc: Global, number: u64, name: &str) -> Result<Reply, NoMemory>
+    pub fn refused(alloc: Global, number: u64, name: &str) -> Made<Reply>
         ensures { IfOk result (λ reply. IsReplyTo number (Err name.now) reply) }
     {
         let mut text = Vec::new(alloc);
@@ -52,11 +52,10 @@ impl Reply {
 }
 
 /// Appends the line with the number of a refused line and its fault.
-fn append_refusal(text: &mut Vec<u8>, number: u64, name: &str) -> Result<(), NoMemory>
+fn append_refusal(text: &mut Vec<u8>, number: u64, name: &str) -> Made<()>
     ensures { OnOk result (text.new.items ≡ text.old.items ++ reply_text number (Err name.now)) }
 {
-    text.extend_from_slice(b"line ")?;
-    append_decimal(text, number)?;
+    append_number(text, b"line", number)?;
     text.extend_from_slice(b": refused: ")?;
     text.extend_from_slice(name.as_bytes())?;
     text.extend_from_slice(b"\n")?;

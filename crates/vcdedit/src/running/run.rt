@@ -10,13 +10,13 @@ ghost use Rattle.vcd_journal.specs.Machine.{first_machine};
 ghost use Rattle.vcdedit.specs.inside.RunStages.{EndsBeforeOutput};
 ghost use Rattle.vcdedit.specs.inside.ScriptRuns.{ScriptGives};
 
-use crate::running::inputs::read_inputs;
+use crate::running::inputs::read_script;
 use crate::running::run_lines::run_lines;
 use crate::running::{RunError, Summary};
 use std::alloc::Global;
 use vcd_core::{Capture, Sink, Source};
 use vcd_journal::{DEPTH_LIMIT, Session};
-use vcd_text::write;
+use vcd_text::{read, write};
 
 /// Reads the capture, then the whole script, runs its lines in order and flushes the replies. Then it writes the
 /// output if there is one, also after refused lines. `depth` is how many edits can be undone.
@@ -42,44 +42,35 @@ pub fn run<R: Source, S: Source, P: Sink, W: Sink>(
         (reader_end S.coming S.has_failed script_reader.old script_reader.new)
         (writer_end P.taken P.has_failed replies.old replies.new)) }
 {
-    let script_run = run_script(alloc, capture_reader, script_reader, replies, depth)?;
-    let summary = Summary {
-        refused: script_run.refused,
-    };
+    let (session, refused) = run_script(alloc, capture_reader, script_reader, replies, depth)?;
+    let summary = Summary { refused };
     // matched here: no clause can open an `Option<&mut W>` that comes back from a call
     match out {
         Some(out) => {
-            write(alloc, script_run.session.capture(), out)?;
+            write(alloc, session.capture(), out)?;
             Ok(summary)
         }
         None => Ok(summary),
     }
 }
 
-/// A session after the lines of a script, and how many of them were refused.
-#[derive(Drop)]
-struct ScriptRun {
-    session: Session,
-    refused: u64,
-}
-
-/// Runs everything except the output.
+/// Runs everything except the output. Gives the session after the lines of the script, and how many were refused.
 fn run_script<R: Source, S: Source, P: Sink>(
     alloc: Global,
     capture_reader: &mut R,
     script_reader: &mut S,
     replies: &mut P,
     depth: u64,
-) -> Result<ScriptRun, RunError>
+) -> Result<(Session, u64), RunError>
     requires capture_ready { R.has_failed capture_reader.old ≡ false }
     requires script_ready { S.has_failed script_reader.old ≡ false }
     requires replies_ready { P.has_failed replies.old ≡ false }
     requires depth_least { 1 ≤ depth }
     requires depth_most { depth ≤ DEPTH_LIMIT }
-    ensures gives { IfOk result (λ script_run. IfSome (R.coming capture_reader.old)
+    ensures gives { IfOk result (λ done. IfSome (R.coming capture_reader.old)
         (λ file. IfSome (S.coming script_reader.old) (λ script.
-        ScriptGives file script depth script_run.refused
-        (Appends (P.taken replies.old) (P.taken replies.new)) script_run.session.now))) }
+        ScriptGives file script depth done.1
+        (Appends (P.taken replies.old) (P.taken replies.new)) done.0.now))) }
     ensures accepted { OnOk result (IsAccepted
         (reader_end R.coming R.has_failed capture_reader.old capture_reader.new)) }
     ensures whole { OnOk result (IsWholeScript
@@ -90,11 +81,17 @@ fn run_script<R: Source, S: Source, P: Sink>(
         (reader_end S.coming S.has_failed script_reader.old script_reader.new)
         (writer_end P.taken P.has_failed replies.old replies.new)) }
 {
-    let inputs = read_inputs(alloc, capture_reader, script_reader)?;
-    let mut session = begin_session(alloc, inputs.capture, depth)?;
-    let script = inputs.script.as_slice();
-    let refused = run_lines(alloc, &mut session, inputs.skipped, script, replies)?;
-    Ok(ScriptRun { session, refused })
+    let loaded = read(alloc, capture_reader)?;
+    let script = read_script(alloc, script_reader)?;
+    let mut session = begin_session(alloc, loaded.capture, depth)?;
+    let refused = run_lines(
+        alloc,
+        &mut session,
+        loaded.skipped,
+        script.as_slice(),
+        replies,
+    )?;
+    Ok((session, refused))
 }
 
 /// Begins a session. If memory runs out here, the error names line 0.

@@ -12,15 +12,6 @@ use std::alloc::Global;
 use vcd_core::{Sink, write_all};
 use vcd_journal::Session;
 
-/// The result of a line.
-#[derive(Clone, Copy)]
-struct LineOutcome {
-    /// How many lines are refused: this one, or none.
-    refused: u64,
-    /// How many bytes its reply has.
-    written: usize,
-}
-
 /// Runs the lines of a script, in order, each on the current capture. Its reply is written whole before the next line
 /// is read. Then the replies are flushed. So many declarations of the capture's file were skipped. Gives how many
 /// lines were refused.
@@ -51,9 +42,9 @@ pub fn run_lines<P: Sink>(
     let mut written = 0u128;
     while let Some((line, following)) = split_line(rest) {
         number += 1;
-        let outcome = run_line(alloc, session, skipped, number, line, replies, written)?;
-        refused += outcome.refused;
-        written += outcome.written as u128;
+        let (refusals, len) = run_line(alloc, session, skipped, number, line, replies, written)?;
+        refused += refusals;
+        written += len as u128;
         rest = following;
     }
     match replies.flush() {
@@ -71,15 +62,15 @@ fn run_line<P: Sink>(
     line: &[u8],
     replies: &mut P,
     written: u128,
-) -> Result<LineOutcome, RunError>
+) -> Result<(u64, usize), RunError>
     requires ready { P.has_failed replies.old ≡ false }
     requires counted { 1 ≤ number }
     requires room { written < 2 ^ 127 }
     ensures told { IfOk result (λ outcome.
-        LineStep skipped number line.now session.old session.new outcome.refused outcome.written
+        LineStep skipped number line.now session.old session.new outcome.0 outcome.1
         (P.taken replies.old) (P.taken replies.new)) }
-    ensures few { IfOk result (λ outcome. outcome.refused ≤ 1) }
-    ensures short { IfOk result (λ outcome. outcome.written < 2 ^ 64) }
+    ensures few { IfOk result (λ outcome. outcome.0 ≤ 1) }
+    ensures short { IfOk result (λ outcome. outcome.1 < 2 ^ 64) }
     ensures not_failed { OnOk result (P.has_failed replies.new ≡ false) }
     ensures fault { IfErr result IsLineFault }
     ensures failed { IfErr result (λ e. IfReplyFault e (λ _. P.has_failed replies.new ≡ true)) }
@@ -89,10 +80,7 @@ fn run_line<P: Sink>(
     match answer_line(alloc, session, skipped, number, line) {
         Ok(reply) => {
             write_reply(reply.text.as_slice(), replies, written)?;
-            Ok(LineOutcome {
-                refused: u64::from(reply.is_refused),
-                written: reply.text.len(),
-            })
+            Ok((u64::from(reply.is_refused), reply.text.len()))
         }
         Err(_) => Err(RunError::NoMemory { line: number }),
     }

@@ -12,37 +12,37 @@ use crate::script::decoder_words::{
 use crate::script::edits::signal_of_name;
 use crate::script::line_words::{take_five, take_seven, take_two};
 use crate::script::numbers::number_of_word;
-use crate::script::{Command, LineError};
+use crate::script::{Command, Parsed};
 use vcd_core::Capture;
 use vcd_text::Words;
 
 /// Reads `NAME BIT DATA PARITY STOP`.
-pub fn parse_uart<'a>(words: &mut Words<'a>, capture: &Capture) -> Result<Command<'a>, LineError>
+pub fn parse_uart<'a>(words: &mut Words<'a>, capture: &Capture) -> Parsed<'a>
     ensures { ReadsAs (uart_command (contents capture.now) (word_texts words.old)) result }
 {
-    let all = take_five(words)?;
-    let signal = signal_of_name(capture, all.first)?;
-    let ratio = ratio_of_word(all.second)?;
-    let data_bits = number_of_word(all.third)?;
-    let parity = parity_of_word(all.fourth)?;
-    let stop_bits = number_of_word(all.fifth)?;
+    let (name, bit, data_bits, parity, stop_bits) = take_five(words)?;
+    let signal = signal_of_name(capture, name)?;
+    let ratio = ratio_of_word(bit)?;
+    let data_bits = number_of_word(data_bits)?;
+    let parity = parity_of_word(parity)?;
+    let stop_bits = number_of_word(stop_bits)?;
     let signal = one_bit_signal(capture, signal)?;
     let setup = uart_of(ratio, data_bits, parity, stop_bits)?;
     Ok(Command::Uart { signal, setup })
 }
 
 /// Reads `CLK MOSI MISO CS MODE BITS ORDER`.
-pub fn parse_spi<'a>(words: &mut Words<'a>, capture: &Capture) -> Result<Command<'a>, LineError>
+pub fn parse_spi<'a>(words: &mut Words<'a>, capture: &Capture) -> Parsed<'a>
     ensures { ReadsAs (spi_command (contents capture.now) (word_texts words.old)) result }
 {
-    let all = take_seven(words)?;
-    let clk = signal_of_name(capture, all.first)?;
-    let mosi = find_or_absent(capture, all.second)?;
-    let miso = find_or_absent(capture, all.third)?;
-    let cs = find_or_absent(capture, all.fourth)?;
-    let mode = number_of_word(all.fifth)?;
-    let bits = number_of_word(all.sixth)?;
-    let order = order_of_word(all.seventh)?;
+    let (clk, mosi, miso, cs, mode, bits, order) = take_seven(words)?;
+    let clk = signal_of_name(capture, clk)?;
+    let mosi = find_or_absent(capture, mosi)?;
+    let miso = find_or_absent(capture, miso)?;
+    let cs = find_or_absent(capture, cs)?;
+    let mode = number_of_word(mode)?;
+    let bits = number_of_word(bits)?;
+    let order = order_of_word(order)?;
     let clk = one_bit_signal(capture, clk)?;
     let mosi = one_bit_signal_or_absent(capture, mosi)?;
     let miso = one_bit_signal_or_absent(capture, miso)?;
@@ -58,7 +58,7 @@ pub fn parse_spi<'a>(words: &mut Words<'a>, capture: &Capture) -> Result<Command
 }
 
 /// Reads `SCL SDA`.
-pub fn parse_i2c<'a>(words: &mut Words<'a>, capture: &Capture) -> Result<Command<'a>, LineError>
+pub fn parse_i2c<'a>(words: &mut Words<'a>, capture: &Capture) -> Parsed<'a>
     ensures { ReadsAs (i2c_command (contents capture.now) (word_texts words.old)) result }
 {
     let (scl, sda) = take_two(words)?;

@@ -9,14 +9,14 @@ ghost use Rattle.vcdedit.specs.inside.Commands.{ReadsAs};
 
 use crate::script::line_words::{take_four, take_one, take_two};
 use crate::script::numbers::{distance_of_word, number_of_word};
-use crate::script::{Command, LineError};
+use crate::script::{Command, LineError, Parsed};
 use vcd_core::{Capture, Value};
 use vcd_edit::Edit;
 use vcd_journal::Step;
 use vcd_text::{Words, value_of_digits};
 
 /// Reads `NAME WORD`.
-pub fn parse_rename<'a>(words: &mut Words<'a>, capture: &Capture) -> Result<Command<'a>, LineError>
+pub fn parse_rename<'a>(words: &mut Words<'a>, capture: &Capture) -> Parsed<'a>
     ensures { ReadsAs (rename_command (contents capture.now) (word_texts words.old)) result }
 {
     let (name, word) = take_two(words)?;
@@ -25,7 +25,7 @@ pub fn parse_rename<'a>(words: &mut Words<'a>, capture: &Capture) -> Result<Comm
 }
 
 /// Reads `NAME` of a signal to remove.
-pub fn parse_remove<'a>(words: &mut Words<'a>, capture: &Capture) -> Result<Command<'a>, LineError>
+pub fn parse_remove<'a>(words: &mut Words<'a>, capture: &Capture) -> Parsed<'a>
     ensures { ReadsAs (remove_command (contents capture.now) (word_texts words.old)) result }
 {
     let signal = signal_of_name(capture, take_one(words)?)?;
@@ -33,7 +33,7 @@ pub fn parse_remove<'a>(words: &mut Words<'a>, capture: &Capture) -> Result<Comm
 }
 
 /// Reads `NAME` of a signal to invert.
-pub fn parse_invert<'a>(words: &mut Words<'a>, capture: &Capture) -> Result<Command<'a>, LineError>
+pub fn parse_invert<'a>(words: &mut Words<'a>, capture: &Capture) -> Parsed<'a>
     ensures { ReadsAs (invert_command (contents capture.now) (word_texts words.old)) result }
 {
     let signal = signal_of_name(capture, take_one(words)?)?;
@@ -41,7 +41,7 @@ pub fn parse_invert<'a>(words: &mut Words<'a>, capture: &Capture) -> Result<Comm
 }
 
 /// Reads `NAME BY`.
-pub fn parse_shift<'a>(words: &mut Words<'a>, capture: &Capture) -> Result<Command<'a>, LineError>
+pub fn parse_shift<'a>(words: &mut Words<'a>, capture: &Capture) -> Parsed<'a>
     ensures { ReadsAs (shift_command (contents capture.now) (word_texts words.old)) result }
 {
     let (name, by) = take_two(words)?;
@@ -51,7 +51,7 @@ pub fn parse_shift<'a>(words: &mut Words<'a>, capture: &Capture) -> Result<Comma
 }
 
 /// Reads `FROM TO`.
-pub fn parse_cut<'a>(words: &mut Words<'a>) -> Result<Command<'a>, LineError>
+pub fn parse_cut<'a>(words: &mut Words<'a>) -> Parsed<'a>
     ensures { ReadsAs (cut_command (word_texts words.old)) result }
 {
     let (from, to) = take_two(words)?;
@@ -61,10 +61,7 @@ pub fn parse_cut<'a>(words: &mut Words<'a>) -> Result<Command<'a>, LineError>
 }
 
 /// Reads `NAME TICKS`.
-pub fn parse_deglitch<'a>(
-    words: &mut Words<'a>,
-    capture: &Capture,
-) -> Result<Command<'a>, LineError>
+pub fn parse_deglitch<'a>(words: &mut Words<'a>, capture: &Capture) -> Parsed<'a>
     ensures { ReadsAs (deglitch_command (contents capture.now) (word_texts words.old)) result }
 {
     let (name, ticks) = take_two(words)?;
@@ -74,14 +71,14 @@ pub fn parse_deglitch<'a>(
 }
 
 /// Reads `NAME FROM TO VALUE`.
-pub fn parse_force<'a>(words: &mut Words<'a>, capture: &Capture) -> Result<Command<'a>, LineError>
+pub fn parse_force<'a>(words: &mut Words<'a>, capture: &Capture) -> Parsed<'a>
     ensures { ReadsAs (force_command (contents capture.now) (word_texts words.old)) result }
 {
-    let all = take_four(words)?;
-    let signal = signal_of_name(capture, all.first)?;
-    let from = number_of_word(all.second)?;
-    let to = number_of_word(all.third)?;
-    let value = value_of_word(capture, signal, all.fourth)?;
+    let (name, from, to, value) = take_four(words)?;
+    let signal = signal_of_name(capture, name)?;
+    let from = number_of_word(from)?;
+    let to = number_of_word(to)?;
+    let value = value_of_word(capture, signal, value)?;
     Ok(Command::Step(Step::Edit(Edit::Force {
         signal,
         from,

@@ -1,7 +1,8 @@
 //! The first words of lines.
 
-ghost use Rattle.std.specs.Prelude.{◌≡◌};
-ghost use Rattle.vcdedit.specs.inside.ParsedCommands.{keyword_in, edit_keywords, history_keywords, query_keywords, decoder_keywords, keyword_in_tables as keyword_named};
+ghost use Rattle.std.specs.Prelude.{◌≡◌, if◌then◌else◌, Some, None};
+ghost use Rattle.std.specs.Str.{bytes_eq};
+ghost use Rattle.vcdedit.specs.inside.ParsedCommands.{keyword_in_tables as keyword_named};
 
 /// The command that the first word of a line names.
 #[derive(Clone, Copy, Debug, PartialEq, Eq)]
@@ -29,87 +30,28 @@ pub enum Keyword {
 pub fn keyword_of(word: &[u8]) -> Option<Keyword>
     ensures { result ≡ keyword_named word.now }
 {
-    edit_keyword(word)
-        .or(history_keyword(word))
-        .or(query_keyword(word))
-        .or(decoder_keyword(word))
+    keyword_if(word, b"rename", Keyword::Rename)
+        .or(keyword_if(word, b"remove", Keyword::Remove))
+        .or(keyword_if(word, b"invert", Keyword::Invert))
+        .or(keyword_if(word, b"shift", Keyword::Shift))
+        .or(keyword_if(word, b"cut", Keyword::Cut))
+        .or(keyword_if(word, b"deglitch", Keyword::Deglitch))
+        .or(keyword_if(word, b"force", Keyword::Force))
+        .or(keyword_if(word, b"derive", Keyword::Derive))
+        .or(keyword_if(word, b"undo", Keyword::Undo))
+        .or(keyword_if(word, b"redo", Keyword::Redo))
+        .or(keyword_if(word, b"depth", Keyword::Depth))
+        .or(keyword_if(word, b"list", Keyword::List))
+        .or(keyword_if(word, b"value", Keyword::Value))
+        .or(keyword_if(word, b"changes", Keyword::Changes))
+        .or(keyword_if(word, b"uart", Keyword::Uart))
+        .or(keyword_if(word, b"spi", Keyword::Spi))
+        .or(keyword_if(word, b"i2c", Keyword::I2c))
 }
 
 /// The edit that has this name.
-fn edit_keyword(word: &[u8]) -> Option<Keyword>
-    ensures { result ≡ keyword_in edit_keywords word.now }
+fn keyword_if(word: &[u8], name: &[u8], keyword: Keyword) -> Option<Keyword>
+    ensures { result ≡ (if bytes_eq word.now name.now then Some keyword else None) }
 {
-    if word == b"rename".as_slice() {
-        return Some(Keyword::Rename);
-    }
-    if word == b"remove".as_slice() {
-        return Some(Keyword::Remove);
-    }
-    if word == b"invert".as_slice() {
-        return Some(Keyword::Invert);
-    }
-    if word == b"shift".as_slice() {
-        return Some(Keyword::Shift);
-    }
-    if word == b"cut".as_slice() {
-        return Some(Keyword::Cut);
-    }
-    if word == b"deglitch".as_slice() {
-        return Some(Keyword::Deglitch);
-    }
-    if word == b"force".as_slice() {
-        return Some(Keyword::Force);
-    }
-    if word == b"derive".as_slice() {
-        return Some(Keyword::Derive);
-    }
-    None
-}
-
-/// The command on the history that has this name.
-fn history_keyword(word: &[u8]) -> Option<Keyword>
-    ensures { result ≡ keyword_in history_keywords word.now }
-{
-    if word == b"undo".as_slice() {
-        return Some(Keyword::Undo);
-    }
-    if word == b"redo".as_slice() {
-        return Some(Keyword::Redo);
-    }
-    if word == b"depth".as_slice() {
-        return Some(Keyword::Depth);
-    }
-    None
-}
-
-/// The question about the capture that has this name.
-fn query_keyword(word: &[u8]) -> Option<Keyword>
-    ensures { result ≡ keyword_in query_keywords word.now }
-{
-    if word == b"list".as_slice() {
-        return Some(Keyword::List);
-    }
-    if word == b"value".as_slice() {
-        return Some(Keyword::Value);
-    }
-    if word == b"changes".as_slice() {
-        return Some(Keyword::Changes);
-    }
-    None
-}
-
-/// The command that decodes signals and has this name.
-fn decoder_keyword(word: &[u8]) -> Option<Keyword>
-    ensures { result ≡ keyword_in decoder_keywords word.now }
-{
-    if word == b"uart".as_slice() {
-        return Some(Keyword::Uart);
-    }
-    if word == b"spi".as_slice() {
-        return Some(Keyword::Spi);
-    }
-    if word == b"i2c".as_slice() {
-        return Some(Keyword::I2c);
-    }
-    None
+    if word == name { Some(keyword) } else { None }
 }

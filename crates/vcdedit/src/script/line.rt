@@ -5,12 +5,10 @@ ghost use Rattle.vcd_core.specs.Contents.{contents};
 ghost use Rattle.vcd_text.specs.Grammar.{word_texts};
 ghost use Rattle.vcdedit.specs.CommandSignals.{HasItsSignals};
 ghost use Rattle.vcdedit.specs.Addressless.{command_without_address};
-ghost use Rattle.vcdedit.specs.Script.{command_of_line};
-ghost use Rattle.vcdedit.specs.inside.WordCounts.{no_word};
-ghost use Rattle.vcdedit.specs.ScriptCommands.{step_command, is_comment as comment_test};
+ghost use Rattle.vcdedit.specs.ParsedLines.{command_of_line};
+ghost use Rattle.vcdedit.specs.ScriptCommands.{is_comment as comment_test};
 ghost use Rattle.vcdedit.specs.inside.ParsedCommands.{words_command, keyword_command, depth_command};
 ghost use Rattle.vcdedit.specs.inside.Commands.{ReadsAs};
-ghost use Rattle.vcd_journal.specs.declared.step.Step.TheVariants as steps;
 
 use crate::script::decoders::{parse_i2c, parse_spi, parse_uart};
 use crate::script::derivations::parse_derive;
@@ -20,8 +18,8 @@ use crate::script::edits::{
 use crate::script::keyword::{Keyword, keyword_of};
 use crate::script::line_words::{next_text, take_none, take_one};
 use crate::script::numbers::number_of_word;
-use crate::script::queries::{parse_changes, parse_list, parse_value};
-use crate::script::{Command, LineError};
+use crate::script::queries::{parse_changes, parse_value};
+use crate::script::{Command, LineError, Parsed};
 use vcd_core::Capture;
 use vcd_journal::Step;
 use vcd_text::Words;
@@ -34,7 +32,7 @@ use vcd_text::Words;
 ///
 /// The cost is that of the line, and for each name in it a comparison with each full name. `@` and a position needs no
 /// comparison.
-#[tactic(auto, unfolding(crate::specs::Script::command_of_line))]
+#[tactic(auto, unfolding(crate::specs::ParsedLines::command_of_line))]
 pub fn parse_line<'a>(line: &'a [u8], capture: &Capture) -> Result<Command<'a>, LineError>
     ensures command { IfOk result (λ command.
         command_of_line (contents capture.now) line.now ≡ Ok (command_without_address command)) }
@@ -50,11 +48,7 @@ pub fn parse_line<'a>(line: &'a [u8], capture: &Capture) -> Result<Command<'a>, 
 }
 
 /// Reads the first word, and then those after it.
-fn parse_first_word<'a>(
-    first: &[u8],
-    words: &mut Words<'a>,
-    capture: &Capture,
-) -> Result<Command<'a>, LineError>
+fn parse_first_word<'a>(first: &[u8], words: &mut Words<'a>, capture: &Capture) -> Parsed<'a>
     ensures { ReadsAs
         (words_command (contents capture.now) (first.now ∷ word_texts words.old)) result }
 {
@@ -66,11 +60,7 @@ fn parse_first_word<'a>(
 }
 
 /// Reads the words after a keyword.
-fn parse_command<'a>(
-    keyword: Keyword,
-    words: &mut Words<'a>,
-    capture: &Capture,
-) -> Result<Command<'a>, LineError>
+fn parse_command<'a>(keyword: Keyword, words: &mut Words<'a>, capture: &Capture) -> Parsed<'a>
     ensures { ReadsAs (keyword_command (contents capture.now) keyword (word_texts words.old)) result }
 {
     match keyword {
@@ -82,10 +72,19 @@ fn parse_command<'a>(
         Keyword::Deglitch => parse_deglitch(words, capture),
         Keyword::Force => parse_force(words, capture),
         Keyword::Derive => parse_derive(words, capture),
-        Keyword::Undo => parse_undo(words),
-        Keyword::Redo => parse_redo(words),
+        Keyword::Undo => {
+            take_none(words)?;
+            Ok(Command::Step(Step::Undo))
+        }
+        Keyword::Redo => {
+            take_none(words)?;
+            Ok(Command::Step(Step::Redo))
+        }
         Keyword::Depth => parse_depth(words),
-        Keyword::List => parse_list(words),
+        Keyword::List => {
+            take_none(words)?;
+            Ok(Command::List)
+        }
         Keyword::Value => parse_value(words, capture),
         Keyword::Changes => parse_changes(words, capture),
         Keyword::Uart => parse_uart(words, capture),
@@ -94,24 +93,8 @@ fn parse_command<'a>(
     }
 }
 
-/// Checks that nothing follows `undo`.
-fn parse_undo<'a>(words: &mut Words<'a>) -> Result<Command<'a>, LineError>
-    ensures { ReadsAs (no_word (word_texts words.old) (step_command steps.Undo)) result }
-{
-    take_none(words)?;
-    Ok(Command::Step(Step::Undo))
-}
-
-/// Checks that nothing follows `redo`.
-fn parse_redo<'a>(words: &mut Words<'a>) -> Result<Command<'a>, LineError>
-    ensures { ReadsAs (no_word (word_texts words.old) (step_command steps.Redo)) result }
-{
-    take_none(words)?;
-    Ok(Command::Step(Step::Redo))
-}
-
 /// Reads `N`, the new depth of the history.
-fn parse_depth<'a>(words: &mut Words<'a>) -> Result<Command<'a>, LineError>
+fn parse_depth<'a>(words: &mut Words<'a>) -> Parsed<'a>
     ensures { ReadsAs (depth_command (word_texts words.old)) result }
 {
     let depth = number_of_word(take_one(words)?)?;

@@ -39,9 +39,7 @@ pub fn take_one<'a>(words: &mut Words<'a>) -> Result<&'a [u8], LineError>
         one_word (word_texts words.old) asked ≡ Err e) }
 {
     let first = next_text(words).ok_or(LineError::WrongCount)?;
-    if next_text(words).is_some() {
-        return Err(LineError::WrongCount);
-    }
+    take_none(words)?;
     Ok(first)
 }
 
@@ -53,116 +51,60 @@ pub fn take_two<'a>(words: &mut Words<'a>) -> Result<(&'a [u8], &'a [u8]), LineE
         two_words (word_texts words.old) asked ≡ Err e) }
 {
     let first = next_text(words).ok_or(LineError::WrongCount)?;
-    let second = next_text(words).ok_or(LineError::WrongCount)?;
-    if next_text(words).is_some() {
-        return Err(LineError::WrongCount);
-    }
+    let second = take_one(words)?;
     Ok((first, second))
 }
 
-/// Four words.
-#[derive(Clone, Copy)]
-pub struct FourWords<'a> {
-    pub first: &'a [u8],
-    pub second: &'a [u8],
-    pub third: &'a [u8],
-    pub fourth: &'a [u8],
-}
+type FourWords<'a> = (&'a [u8], &'a [u8], &'a [u8], &'a [u8]);
 
 /// The four words that are left.
 pub fn take_four<'a>(words: &mut Words<'a>) -> Result<FourWords<'a>, LineError>
     ensures four { IfOk result (λ all. word_texts words.old ≡
-        all.first.now ∷ all.second.now ∷ all.third.now ∷ all.fourth.now ∷ []) }
+        all.0.now ∷ all.1.now ∷ all.2.now ∷ all.3.now ∷ []) }
     ensures others { IfErr result (λ e.
         (asked : List ℕ → List ℕ → List ℕ → List ℕ → Result LineCommand LineFault) →
         four_words (word_texts words.old) asked ≡ Err e) }
 {
     let first = next_text(words).ok_or(LineError::WrongCount)?;
     let second = next_text(words).ok_or(LineError::WrongCount)?;
-    let third = next_text(words).ok_or(LineError::WrongCount)?;
-    let fourth = next_text(words).ok_or(LineError::WrongCount)?;
-    if next_text(words).is_some() {
-        return Err(LineError::WrongCount);
-    }
-    Ok(FourWords {
-        first,
-        second,
-        third,
-        fourth,
-    })
+    let (third, fourth) = take_two(words)?;
+    Ok((first, second, third, fourth))
 }
 
-/// Five words.
-#[derive(Clone, Copy)]
-pub struct FiveWords<'a> {
-    pub first: &'a [u8],
-    pub second: &'a [u8],
-    pub third: &'a [u8],
-    pub fourth: &'a [u8],
-    pub fifth: &'a [u8],
-}
+type FiveWords<'a> = (&'a [u8], &'a [u8], &'a [u8], &'a [u8], &'a [u8]);
 
 /// The five words that are left.
 pub fn take_five<'a>(words: &mut Words<'a>) -> Result<FiveWords<'a>, LineError>
-    ensures five { IfOk result (λ all. word_texts words.old ≡ all.first.now ∷ all.second.now
-        ∷ all.third.now ∷ all.fourth.now ∷ all.fifth.now ∷ []) }
+    ensures five { IfOk result (λ all. word_texts words.old ≡ all.0.now ∷ all.1.now
+        ∷ all.2.now ∷ all.3.now ∷ all.4.now ∷ []) }
     ensures others { IfErr result (λ e. (asked : List ℕ → List ℕ → List ℕ → List ℕ → List ℕ
         → Result LineCommand LineFault) → five_words (word_texts words.old) asked ≡ Err e) }
 {
     let first = next_text(words).ok_or(LineError::WrongCount)?;
-    let second = next_text(words).ok_or(LineError::WrongCount)?;
-    let third = next_text(words).ok_or(LineError::WrongCount)?;
-    let fourth = next_text(words).ok_or(LineError::WrongCount)?;
-    let fifth = next_text(words).ok_or(LineError::WrongCount)?;
-    if next_text(words).is_some() {
-        return Err(LineError::WrongCount);
-    }
-    Ok(FiveWords {
-        first,
-        second,
-        third,
-        fourth,
-        fifth,
-    })
+    let (second, third, fourth, fifth) = take_four(words)?;
+    Ok((first, second, third, fourth, fifth))
 }
 
-/// Seven words.
-#[derive(Clone, Copy)]
-pub struct SevenWords<'a> {
-    pub first: &'a [u8],
-    pub second: &'a [u8],
-    pub third: &'a [u8],
-    pub fourth: &'a [u8],
-    pub fifth: &'a [u8],
-    pub sixth: &'a [u8],
-    pub seventh: &'a [u8],
-}
+type SevenWords<'a> = (
+    &'a [u8],
+    &'a [u8],
+    &'a [u8],
+    &'a [u8],
+    &'a [u8],
+    &'a [u8],
+    &'a [u8],
+);
 
 /// The seven words that are left.
 pub fn take_seven<'a>(words: &mut Words<'a>) -> Result<SevenWords<'a>, LineError>
-    ensures seven { IfOk result (λ all. word_texts words.old ≡ all.first.now ∷ all.second.now
-        ∷ all.third.now ∷ all.fourth.now ∷ all.fifth.now ∷ all.sixth.now ∷ all.seventh.now ∷ []) }
+    ensures seven { IfOk result (λ all. word_texts words.old ≡ all.0.now ∷ all.1.now
+        ∷ all.2.now ∷ all.3.now ∷ all.4.now ∷ all.5.now ∷ all.6.now ∷ []) }
     ensures others { IfErr result (λ e. (asked : List ℕ → List ℕ → List ℕ → List ℕ → List ℕ
         → List ℕ → List ℕ → Result LineCommand LineFault)
         → seven_words (word_texts words.old) asked ≡ Err e) }
 {
     let first = next_text(words).ok_or(LineError::WrongCount)?;
     let second = next_text(words).ok_or(LineError::WrongCount)?;
-    let third = next_text(words).ok_or(LineError::WrongCount)?;
-    let fourth = next_text(words).ok_or(LineError::WrongCount)?;
-    let fifth = next_text(words).ok_or(LineError::WrongCount)?;
-    let sixth = next_text(words).ok_or(LineError::WrongCount)?;
-    let seventh = next_text(words).ok_or(LineError::WrongCount)?;
-    if next_text(words).is_some() {
-        return Err(LineError::WrongCount);
-    }
-    Ok(SevenWords {
-        first,
-        second,
-        third,
-        fourth,
-        fifth,
-        sixth,
-        seventh,
-    })
+    let (third, fourth, fifth, sixth, seventh) = take_five(words)?;
+    Ok((first, second, third, fourth, fifth, sixth, seventh))
 }

@@ -1,30 +1,19 @@
 //! The lines that ask about a capture and leave it as it is.
 
-ghost use Rattle.std.specs.Prelude.{Ok};
 ghost use Rattle.vcd_core.specs.Contents.{contents};
 ghost use Rattle.vcd_text.specs.Grammar.{word_texts};
-ghost use Rattle.vcdedit.specs.inside.WordCounts.{no_word};
 ghost use Rattle.vcdedit.specs.inside.ParsedCommands.{value_command, changes_command};
-ghost use Rattle.vcdedit.specs.declared.script.command.Command.TheVariants as commands;
 ghost use Rattle.vcdedit.specs.inside.Commands.{ReadsAs};
 
 use crate::script::edits::signal_of_name;
-use crate::script::line_words::{take_none, take_one, take_two};
+use crate::script::line_words::{take_one, take_two};
 use crate::script::numbers::number_of_word;
-use crate::script::{Command, LineError};
+use crate::script::{Command, Parsed};
 use vcd_core::Capture;
 use vcd_text::Words;
 
-/// Checks that nothing follows `list`.
-pub fn parse_list<'a>(words: &mut Words<'a>) -> Result<Command<'a>, LineError>
-    ensures { ReadsAs (no_word (word_texts words.old) (Ok commands.List)) result }
-{
-    take_none(words)?;
-    Ok(Command::List)
-}
-
 /// Reads `NAME TICK`.
-pub fn parse_value<'a>(words: &mut Words<'a>, capture: &Capture) -> Result<Command<'a>, LineError>
+pub fn parse_value<'a>(words: &mut Words<'a>, capture: &Capture) -> Parsed<'a>
     ensures { ReadsAs (value_command (contents capture.now) (word_texts words.old)) result }
 {
     let (name, tick) = take_two(words)?;
@@ -34,7 +23,7 @@ pub fn parse_value<'a>(words: &mut Words<'a>, capture: &Capture) -> Result<Comma
 }
 
 /// Reads `NAME` of a signal whose changes are asked for.
-pub fn parse_changes<'a>(words: &mut Words<'a>, capture: &Capture) -> Result<Command<'a>, LineError>
+pub fn parse_changes<'a>(words: &mut Words<'a>, capture: &Capture) -> Parsed<'a>
     ensures { ReadsAs (changes_command (contents capture.now) (word_texts words.old)) result }
 {
     let signal = signal_of_name(capture, take_one(words)?)?;

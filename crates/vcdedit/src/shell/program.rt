@@ -134,20 +134,12 @@ fn run_inputs<R: Runtime + AllocGlobal, C: Source, S: Source>(
         (reader_end S.coming S.has_failed script.old script.new) }
 {
     let buffer = new_buffer(rt, io::writer(rt))?;
-    let EndedRun { ending, .. } = run_gathered(rt, capture, script, buffer, output, depth);
+    let (ending, _) = run_gathered(rt, capture, script, buffer, output, depth);
     ending
 }
 
-/// How a run ended, and the writer after the buffer of its replies. If that writer failed, it is gone, and only an
-/// error after the run is kept.
-#[derive(Drop)]
-struct EndedRun<W> {
-    ending: Result<Summary, RunError>,
-    replies: Result<W, Option<io::Error>>,
-}
-
 /// Runs with a buffer for the replies. What it holds at the end is sent to the writer after it, also if memory ran
-/// out.
+/// out. Gives how the run ended, and that writer: if it failed, it is gone, and only an error after the run is kept.
 fn run_gathered<R: Runtime + AllocGlobal, C: Source, S: Source, W: Write + Drop>(
     rt: &R,
     capture: &mut C,
@@ -155,28 +147,25 @@ fn run_gathered<R: Runtime + AllocGlobal, C: Source, S: Source, W: Write + Drop>
     buffer: BufWriter<W>,
     output: Option<&str>,
     depth: u64,
-) -> EndedRun<W>
+) -> (Result<Summary, RunError>, Result<W, Option<io::Error>>)
     requires depth_least { 1 ≤ depth }
     requires depth_most { depth ≤ DEPTH_LIMIT }
     requires capture_ready { C.has_failed capture.old ≡ false }
     requires script_ready { S.has_failed script.old ≡ false }
     ensures ends { (replies : WriterEnd) × (out : Option WriterEnd) ×
         (is_some out ≡ is_some output.entry) ×
-        (result.replies ≡ Err None → replies.has_failed ≡ true) ×
-        RunEnds result.ending depth
+        (result.1 ≡ Err None → replies.has_failed ≡ true) ×
+        RunEnds result.0 depth
         (reader_end C.coming C.has_failed capture.old capture.new)
         (reader_end S.coming S.has_failed script.old script.new) replies out }
-    ensures sent { IfOk result.replies (λ writer. HasSentReplies result.ending depth
+    ensures sent { IfOk result.1 (λ writer. HasSentReplies result.0 depth
         (reader_end C.coming C.has_failed capture.old capture.new)
         (reader_end S.coming S.has_failed script.old script.new)
         (writer_contents W.contents buffer) (W.contents writer)) }
 {
     let mut device = ToWrite::new(buffer);
     let ending = run_devices(rt, capture, script, &mut device, output, depth);
-    EndedRun {
-        ending,
-        replies: close_device(device),
-    }
+    (ending, close_device(device))
 }
 
 /// Runs with the file at `output` for the output, if there is one.

@@ -31,7 +31,8 @@ returns-in_err-make_room-clause-adds_none c same =
 
 pub returns-in_ok-make_room-clause-pushed : goal.returns-in_ok-make_room-clause-pushed
 returns-in_ok-make_room-clause-pushed c =
-    c.push_in_room.ensures.changes ∙ ap (λ v. c.make_room.new.changes.items ++ change c.args.tick v ∷ []) c.from_word-value.ensures
+    c.push_in_room.ensures.changes
+    ∙ ap (λ v. c.make_room.new.changes.items ++ change c.args.tick v ∷ []) c.from_word-value.ensures
     ∙ ap (λ l. l ++ change c.args.tick (letters_of c.args.width (c.args.low ∷ []) (c.args.high ∷ [])) ∷ [])
     c.make_room.ensures.changes
     ∙ pushed_other _ _ _ _ _ c.pop_at.ensures.kept

@@ -1,4 +1,4 @@
-use Rattle.std.proofs.Common.{length, ◌-◌, arith}
+use Rattle.std.proofs.Common.{◌-◌, ◌∙◌, length, sym, arith}
 use Rattle.std.proofs.lemmas.Bool.{eq-eqb}
 use Rattle.vcd_core.proofs.FullNames.{same_place, same_last_two}
 use Rattle.vcd_core.proofs.full_name.have_one_end.Goals as goal
@@ -13,4 +13,6 @@ returns-in-len1-b c = λ x y same.
 
 pub returns-in-len2-up-b : goal.returns-in-len2-up-b
 returns-in-len2-up-b c = λ x y same.
-    same_last_two x y c.args.a.now c.args.b.now same c.in-len2-up.len_at_least c.in-len2-up-b.len_at_least
+    eq-eqb _ _ (c.two_bytes.ensures
+    ∙ same_last_two x y c.args.a.now c.args.b.now same c.in-len2-up.len_at_least c.in-len2-up-b.len_at_least
+    ∙ sym c.two_bytes-in-len2-up-b.ensures)

@@ -3,11 +3,19 @@ use Rattle.vcd_core.specs.Contents.{contents}
 use Rattle.vcd_edit.specs.Touched.{piece_offset}
 use Rattle.vcd_edit.specs.inside.Opposites.{IsInverse}
 use Rattle.vcd_edit.proofs.TouchedSums.{own_offsets}
+use Rattle.vcd_edit.proofs.SignalCounts.{fewer_is_taken_out}
 use Rattle.vcd_edit.proofs.reverting.revert.Goals as goal
 
 pub returns-clause-bound : goal.returns-clause-bound
 returns-clause-bound c =
     let way = c.args.way in
     IfOk-weaker c.exchange_record.result (IsInverse (contents c.args.capture.now) way) _
-    (λ q leads. leads.stored (piece_offset way.pieces) (own_offsets way.pieces c.exchange_record.ensures.apart))
+    (λ q leads. leads.stored (piece_offset way.pieces)
+    (own_offsets way.pieces c.exchange_record.ensures.one_step.apart))
     c.exchange_record.ensures.opposite
+
+pub returns-clause-fewer : goal.returns-clause-fewer
+returns-clause-fewer c = λ less.
+    let taken = fewer_is_taken_out c.args.way (contents c.args.capture.now) c.exchange_record.ensures.one_step
+    c.requires.fits less in
+    c.exchange_record.ensures.never taken.0 taken.1

@@ -1,7 +1,8 @@
-use Rattle.std.proofs.Common.{arith}
+use Rattle.std.proofs.Common.{refl, arith}
+use Rattle.std.proofs.lemmas.Result.{err_from_is_err_and}
 use Rattle.vcd_core.specs.Contents.{contents}
-use Rattle.vcd_journal.proofs.Steps.{edit_accepted}
-use Rattle.vcd_journal.proofs.Histories.{fit_after_edit, few_after_edit, machine_of_edit}
+use Rattle.vcd_journal.proofs.Steps.{edit_accepted, edit_refused}
+use Rattle.vcd_journal.proofs.Histories.{fit_after_edit, few_after_edit, machine_of_edit, same_machine}
 use Rattle.vcd_journal.proofs.session.Session.apply.Goals as goal
 
 pub invariant_of-self-2 : goal.invariant_of-self-2
@@ -32,3 +33,13 @@ returns-clause-step c =
     (edit_accepted c.args.edit.now _ _ made.allowed
     (machine_of_edit c.args.edit.now (contents old.capture) (contents c.apply.new.capture) newest old.past.items
     old.future.items old.depth made.effect made.back))
+
+pub returns-in_err-record-clause-step : goal.returns-in_err-record-clause-step
+returns-in_err-record-clause-step c =
+    let refused = err_from_is_err_and c.from_residual.result c.from_residual.ensures.1 in
+    let old = c.self.inside in
+    let made = c.in_err-record.ensures in
+    rw (refused.1, refused.2, ← c.self.view_is)
+    (edit_refused c.args.edit.now _ _ _ made.refused
+    (λ removes none. let never = made.never removes none in cc)
+    (same_machine (contents old.capture) _ old.past.items _ old.future.items _ old.depth made.unchanged refl refl))

@@ -28,7 +28,7 @@ loop-change-preserved c =
     let new = c.flush_change.new.kept.items in
     let more = drop_more group i none c.loop-change-test.true in
     let (after, can) = c.loop-change.invariant.0 in
-    let takes = c.in_ok-flush_change.ensures in (
+    let takes = c.in_ok-flush_change.ensures.applies in (
       (
         after,
         can_still now new (λ position. changes_of_position position (drop i group) ++ after position)

@@ -2,8 +2,8 @@
 use Rattle.vcd_text.proofs.Written.{bytes_sent, piece_left}
 use Rattle.vcd_text.proofs.writing.buffer.send_piece.Goals as goal
 
-pub returns : goal.returns
-returns g c =
+pub returns-clause-written : goal.returns-clause-written
+returns-clause-written g c =
     let sent = c.send_bytes-count.ensures in
     bytes_sent c.args.buffer.now _ _ _ _ _ c.send_bytes-count.result c.args.piece.now c.args.piece.now
     (λ text within is. piece_left c.args.buffer.now c.args.piece.now text c.requires.empty within is)

@@ -9,7 +9,7 @@ loop-left-init g c = front_begun refl
 
 pub loop-left-preserved : goal.loop-left-preserved
 loop-left-preserved g c =
-    front_grows _ c.loop-left.invariant c.write_byte.ensures (lowest_digit c.loop-left.left (omega arith))
+    front_grows _ c.loop-left.invariant c.write_byte.ensures.written (lowest_digit c.loop-left.left (omega arith))
 
 pub returns : goal.returns
 returns g c = front_whole c.loop-left.invariant (no_digits c.loop-left.left (omega arith))

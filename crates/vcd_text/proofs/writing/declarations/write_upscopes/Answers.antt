@@ -13,7 +13,7 @@ loop-closed-init g c = let all : c.args.count - 0 ≡ c.args.count = omega arith
 
 pub loop-closed-preserved : goal.loop-closed-preserved
 loop-closed-preserved g c =
-    front_grows _ c.loop-closed.invariant c.write_piece.ensures
+    front_grows _ c.loop-closed.invariant c.write_piece.ensures.written
     (one_closed c.args.count c.loop-closed._closed (omega arith))
 
 pub returns : goal.returns

@@ -17,9 +17,9 @@ returns g c =
     let size = writes_as (ap (λ l. spaced_words (l ∷ [])) (c.as_bytes.ensures.value ∙ c.format.ensures.text
     ∙ ap decimal c.width.ensures.width)) c.write_word-2.ensures in
     let place = writes_as (ap (λ l. 32 ∷ l) (sym (append-nil code)))
-    (writes_both c.write_byte.ensures c.write_code.ensures) in
+    (writes_both c.write_byte.ensures.written c.write_code.ensures) in
     let words = writes_as (ap spaced_words c.as_slice-2.ensures) c.write_words.ensures in
-    writes_line (codes "$var") (signal.kind ∷ width ∷ code ∷ signal.words) c.write_piece.ensures
+    writes_line (codes "$var") (signal.kind ∷ width ∷ code ∷ signal.words) c.write_piece.ensures.written
     (writes_words (signal.kind ∷ width ∷ code ∷ []) signal.words
     (writes_words (signal.kind ∷ width ∷ []) (code ∷ [])
     (writes_words (signal.kind ∷ []) (width ∷ []) kind size) place) words)

@@ -28,5 +28,6 @@ returns g c =
     c.kept_letters.ensures.rest
     ∙ ap (λ front. front ++ (code_of c.args.position ++ 10 ∷ [])) (sym (front_of_bits v more))
     ∙ line_of_front v (code_of c.args.position))
-    (writes_both (writes_both c.write_byte.ensures (writes_both c.write_lowest.ensures c.write_byte-2.ensures))
-    (writes_both c.write_code.ensures c.write_byte-3.ensures))
+    (writes_both (writes_both c.write_byte.ensures.written
+    (writes_both c.write_lowest.ensures c.write_byte-2.ensures.written))
+    (writes_both c.write_code.ensures c.write_byte-3.ensures.written))

@@ -20,7 +20,8 @@ returns-then-width-eq1 g c =
     let here : length v - 1 - 0 ≡ 0 = omega (arith, one) in
     let first = given_letter width c.args.low c.args.high 0 (omega arith) (omega arith) in
     writes_as (ap (λ b. b ∷ []) (c.letter_pair.ensures.second
-    ∙ ap printed_letter (sym first ∙ ap (λ i. get_or v i X) here)) ∙ sym (front_of_bit v one)) c.write_byte.ensures
+    ∙ ap printed_letter (sym first ∙ ap (λ i. get_or v i X) here))
+    ∙ sym (front_of_bit v one)) c.write_byte.ensures.written
 
 pub returns : goal.returns
 returns g c =
@@ -35,5 +36,5 @@ returns g c =
       needed = c.kept_in_word.ensures.kept;
     }) in
     writes_as (sym (front_of_bits v more))
-    (writes_both c.write_byte-2.ensures
-    (writes_both (writes_as (ap printed_letters short) c.write_letters.ensures) c.write_byte-3.ensures))
+    (writes_both c.write_byte-2.ensures.written
+    (writes_both (writes_as (ap printed_letters short) c.write_letters.ensures) c.write_byte-3.ensures.written))

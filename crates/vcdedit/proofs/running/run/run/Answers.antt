@@ -3,18 +3,18 @@ use Rattle.vcdedit.proofs.RunParts.{run_reaches_end, run_reaches_end_with, run_s
 use Rattle.vcdedit.proofs.RunParts.{ends_with}
 use Rattle.vcdedit.proofs.running.run.run.Goals as goal
 
-pub returns-in_err-script_run : goal.returns-in_err-script_run
-returns-in_err-script_run g c =
+pub returns-in_err-session : goal.returns-in_err-session
+returns-in_err-session g c =
     elim (given_or_none c.args.out) [
       | inl none ↦ rw none (record {
         headline =
-            ends_with c.from_residual.result c.in_err-script_run.field-0.0 c.args.depth _ _ _ _ c.from_residual.ensures.1
-            (c.in_err-script_run.ensures.ended _ tt);
+            ends_with c.from_residual.result c.in_err-session.field-0.0 c.args.depth _ _ _ _ c.from_residual.ensures.1
+            (c.in_err-session.ensures.ended _ tt);
       })
       | inr some ↦ rw (some.1) (record {
-        headline = ends_with c.from_residual.result c.in_err-script_run.field-0.0 c.args.depth _ _ _ _
+        headline = ends_with c.from_residual.result c.in_err-session.field-0.0 c.args.depth _ _ _ _
             c.from_residual.ensures.1
-            (c.in_err-script_run.ensures.ended _ (refl, c.requires.out_ready some.0 some.1));
+            (c.in_err-session.ensures.ended _ (refl, c.requires.out_ready some.0 some.1));
       })
     ]
 
@@ -22,18 +22,18 @@ pub returns-in-Some : goal.returns-in-Some
 returns-in-Some g c =
     let wrote = rw (c.capture.ensures.now) at c.in_ok-write-in-Some.ensures.written in
     rw (c.in-Some.is) (record {
-      headline = run_reaches_end_with _ _ _ _ c.args.depth _ c.in_ok-script_run.script_run.session.now
-          c.in_ok-script_run.ensures.accepted c.in_ok-script_run.ensures.whole
-          c.in_ok-script_run.ensures.not_failed c.in_ok-script_run.ensures.gives
+      headline = run_reaches_end_with _ _ _ _ c.args.depth _ c.in_ok-session.session.now
+          c.in_ok-session.ensures.accepted c.in_ok-session.ensures.whole
+          c.in_ok-session.ensures.not_failed c.in_ok-session.ensures.gives
           c.in_ok-write-in-Some.ensures.not_failed wrote;
     })
 
 pub returns : goal.returns
 returns g c =
     rw (c.in-None.is) (record {
-      headline = run_reaches_end _ _ _ None c.args.depth _ c.in_ok-script_run.script_run.session.now
-          c.in_ok-script_run.ensures.accepted c.in_ok-script_run.ensures.whole
-          c.in_ok-script_run.ensures.not_failed c.in_ok-script_run.ensures.gives tt;
+      headline = run_reaches_end _ _ _ None c.args.depth _ c.in_ok-session.session.now
+          c.in_ok-session.ensures.accepted c.in_ok-session.ensures.whole
+          c.in_ok-session.ensures.not_failed c.in_ok-session.ensures.gives tt;
     })
 
 pub returns-in_err-write-in-Some : goal.returns-in_err-write-in-Some
@@ -42,9 +42,9 @@ returns-in_err-write-in-Some g c =
     rw (c.in-Some.is) (record {
       headline = ends_with c.from_residual-in_err-write-in-Some.result _ c.args.depth _ _ _ _
           (c.from_residual-in_err-write-in-Some.ensures.1)
-          (run_stops_at_output _ _ _ _ c.args.depth c.in_ok-script_run.script_run.refused
-          c.in_ok-script_run.script_run.session.now c.in_err-write-in-Some.field-0.0
-          c.in_ok-script_run.ensures.accepted
-          c.in_ok-script_run.ensures.whole c.in_ok-script_run.ensures.not_failed c.in_ok-script_run.ensures.gives
+          (run_stops_at_output _ _ _ _ c.args.depth c.in_ok-session.refused
+          c.in_ok-session.session.now c.in_err-write-in-Some.field-0.0
+          c.in_ok-session.ensures.accepted
+          c.in_ok-session.ensures.whole c.in_ok-session.ensures.not_failed c.in_ok-session.ensures.gives
           stopped);
     })

@@ -10,22 +10,22 @@ pub loop-line-preserved : goal.loop-line-preserved
 loop-line-preserved g c = record {
   told = told_more c.args.skipped (script_lines c.args.script.now) c.args.session.now c.loop-line.number
       c.in-Some.line.now (script_lines c.loop-line.rest.now) (script_lines c.in-Some.following.now)
-      c.loop-line.session c.run_line.new.session c.loop-line.refused c.in_ok-outcome.outcome.refused c.loop-line.written
-      c.in_ok-outcome.outcome.written _ _ _
-      c.in-Some.ensures.0 c.loop-line.invariant.told c.in_ok-outcome.ensures.told;
-  ready = c.in_ok-outcome.ensures.not_failed;
+      c.loop-line.session c.run_line.new.session c.loop-line.refused c.in_ok-refusals.refusals c.loop-line.written
+      c.in_ok-refusals.len _ _ _
+      c.in-Some.ensures.0 c.loop-line.invariant.told c.in_ok-refusals.ensures.told;
+  ready = c.in_ok-refusals.ensures.not_failed;
   number = omega (arith, c.in-Some.ensures.1);
-  refused = omega (arith, c.in_ok-outcome.ensures.few);
-  written = omega (arith, c.in_ok-outcome.ensures.short);
+  refused = omega (arith, c.in_ok-refusals.ensures.few);
+  written = omega (arith, c.in_ok-refusals.ensures.short);
 }
 
-pub returns-in_err-outcome-clause-stopped : goal.returns-in_err-outcome-clause-stopped
-returns-in_err-outcome-clause-stopped g c =
-    at_error c.from_residual.result c.in_err-outcome.field-0.0 _ c.from_residual.ensures.1
+pub returns-in_err-refusals-clause-stopped : goal.returns-in_err-refusals-clause-stopped
+returns-in_err-refusals-clause-stopped g c =
+    at_error c.from_residual.result c.in_err-refusals.field-0.0 _ c.from_residual.ensures.1
     (line_stops c.args.skipped (script_lines c.args.script.now) c.args.session.now c.loop-line.number c.in-Some.line.now
     (script_lines c.loop-line.rest.now) (script_lines c.in-Some.following.now)
-    c.loop-line.session c.loop-line.refused c.loop-line.written _ _ _ c.in_err-outcome.field-0.0 c.in-Some.ensures.0
-    c.loop-line.invariant.told c.in_err-outcome.ensures.stopped)
+    c.loop-line.session c.loop-line.refused c.loop-line.written _ _ _ c.in_err-refusals.field-0.0 c.in-Some.ensures.0
+    c.loop-line.invariant.told c.in_err-refusals.ensures.stopped)
 
 pub returns-in-Ok-clause-told : goal.returns-in-Ok-clause-told
 returns-in-Ok-clause-told g c =

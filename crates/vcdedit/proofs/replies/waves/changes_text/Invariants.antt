@@ -3,8 +3,8 @@ use Rattle.std.proofs.Common.{◌≡◌, ◌++◌, drop}
 use Rattle.std.specs.List.{flat_map}
 use Rattle.vcdedit.specs.Queries.{change_lines}
 use Rattle.vcdedit.specs.Reply.{with_line_feed}
-use Rattle.vcdedit.proofs.replies.waves.append_change_lines.Given as goal
+use Rattle.vcdedit.proofs.replies.waves.changes_text.Given as goal
 
 abbrev pub invariant-loop-change : goal.invariant-loop-change
 invariant-loop-change l = l.text.items ++ flat_map with_line_feed (change_lines (drop l.change-index l.changes))
-    ≡ l.initial.text.items ++ flat_map with_line_feed (change_lines l.changes)
+    ≡ flat_map with_line_feed (change_lines l.changes)

@@ -1,0 +1,388 @@
+-- What the table of commands says of a line is what the parsers read of it.
+use Rattle.std.proofs.Common.{◌≡◌, ℕ, Bool, true, false, cond, List, [], ◌∷◌, Option, Some, None, Result, Ok, Err, refl}
+use Rattle.std.proofs.Common.{sym, ◌∙◌, ap, map}
+use Rattle.std.specs.Prelude.{codes, find, option_map, position, take, drop, ◌+◌, ◌==◌, ◌&&◌, nat_lt, nat_le, neg_ℤ}
+use Rattle.std.specs.Prelude.{pos, not, ◌^◌, ◌*◌}
+use Rattle.std.specs.Option.{ok_or}
+use Rattle.std.specs.Str.{bytes_eq}
+use Rattle.vcd_core.specs.Contents.{Contents, signal_at}
+use Rattle.vcd_core.specs.Decimal.{is_number, number_of}
+use Rattle.vcd_core.specs.Names.{lookup}
+use Rattle.vcd_text.specs.Letters.{value_of_digits}
+use Rattle.vcd_decode.specs.declared.setup_error.SetupError.{SetupError}
+use Rattle.vcd_decode.specs.declared.setup_error.SetupError.TheVariants.{BadRatio, BitTooShort, BadData, BadStop}
+use Rattle.vcd_decode.specs.declared.setup_error.SetupError.TheVariants.{BadMode, BadBits}
+use Rattle.vcd_decode.specs.declared.uart_setup.TheConstants.{RATIO_LIMIT}
+use Rattle.vcd_decode.specs.declared.spi_setup.TheConstants.{GREATEST_MODE, WORD_BITS_LIMIT}
+use Rattle.vcd_decode.specs.SetupErrorNames.{setup_error_name}
+use Rattle.vcd_decode.specs.UartSetup.{UartSetup, uart_setup, uart_fault, is_between}
+use Rattle.vcd_decode.specs.SpiSetup.{SpiSetup, spi_setup, spi_fault}
+use Rattle.vcd_edit.specs.Refused.{refusal_among}
+use Rattle.vcd_edit.specs.declared.edit.Edit.TheVariants.{Rename, Remove, Invert, Shift, Cut, Deglitch, Force, Derive}
+use Rattle.vcd_edit.specs.declared.edit.Rule.{Rule}
+use Rattle.vcd_edit.specs.declared.edit.Rule.TheVariants.{Not, And, Or, Xor, BitOf}
+use Rattle.vcd_journal.specs.declared.step.Step.TheVariants as steps
+use Rattle.vcdedit.specs.declared.script.command.Command.{Command}
+use Rattle.vcdedit.specs.declared.script.command.Command.TheVariants as commands
+use Rattle.vcdedit.specs.declared.script.keyword.Keyword.{Keyword}
+use Rattle.vcdedit.specs.declared.script.keyword.Keyword.TheVariants as keywords
+use Rattle.vcdedit.specs.declared.script.line_error.LineError.{LineError}
+use Rattle.vcdedit.specs.declared.script.line_error.LineError.TheVariants as line_errors
+use Rattle.vcdedit.specs.Lent.{lent_bytes}
+use Rattle.vcdedit.specs.LineErrorNames.{line_error_name}
+use Rattle.vcdedit.specs.LineWords.{◌>>=◌}
+use Rattle.vcdedit.specs.ScriptWords.{signal_of_name, number_of_word, distance_forth, distance_back, distance_of_word}
+use Rattle.vcdedit.specs.ScriptWords.{value_of_word}
+use Rattle.vcdedit.specs.DecoderWords.{ratio_at, ratio_of_word, slash_place, parity_of_word, order_of_word}
+use Rattle.vcdedit.specs.DecoderWords.{signal_or_absent, one_bit_signal, one_bit_signal_or_absent, faultless_setup}
+use Rattle.vcdedit.specs.DecoderWords.{faultless_uart, faultless_spi}
+use Rattle.vcdedit.specs.ScriptCommands.{is_comment, edit_command, keyword_words, keyword_of, command_of_words}
+use Rattle.vcdedit.specs.Script.{asked_by, line_words}
+use Rattle.vcdedit.specs.ParsedLines.{command_of_line, with_refusal}
+use Rattle.vcdedit.specs.LineReads.{Read, ◌▷◌, read_listed, read_signal, read_fitting, read_number, read_forth}
+use Rattle.vcdedit.specs.LineReads.{read_distance, read_value, read_ratio_at, read_ratio, read_parity, read_order}
+use Rattle.vcdedit.specs.LineReads.{read_line, scalar, scalar_line, uart_tests, spi_tests, unless_refused}
+use Rattle.vcdedit.specs.CommandTable.{OfWords, of_words, ask_pair, rule_rows, ask_derive, command_rows, asked_by_words}
+use Rattle.vcdedit.specs.inside.ParsedCommands.{not_command, pair_command, bit_command, rule_command, derive_by}
+use Rattle.vcdedit.specs.inside.ParsedCommands.{keyword_command, words_command, keyword_in_tables, derive_command}
+use Rattle.vcdedit.specs.inside.WordCounts.{no_word, one_word, two_words, four_words, five_words, seven_words}
+use Rattle.vcdedit.proofs.KeywordCommands.{words_are, keyword_is}
+
+-- what is read, with the name of its fault
+abbrev named : {A : Type 0} → Result A LineError → Read A
+named (Ok x) = Ok x
+named (Err fault) = Err (line_error_name fault)
+
+-- ---- what is read on
+
+then : {A B : Type 0} (r : Result A LineError) (s : Read A) (f : A → Result B LineError) (g : A → Read B)
+    → named r ≡ s → ((x : A) → named (f x) ≡ g x) → named (r >>= f) ≡ (s ▷ g)
+then (Ok x) s f g same rest = rest x ∙ ap (λ t. t ▷ g) same
+then (Err fault) s f g same rest = ap (λ t. t ▷ g) same
+
+by_test : {A : Type 0} (b : Bool) (r q : Result A LineError) (s t : Read A) → named r ≡ s → named q ≡ t
+    → named (cond b r q) ≡ cond b s t
+by_test true r q s t first second = first
+by_test false r q s t first second = second
+
+one_of : {A : Type 0} (o : Option A) (fault : LineError) → named (ok_or o fault) ≡ ok_or o (line_error_name fault)
+one_of None fault = refl
+one_of (Some x) fault = refl
+
+-- ---- words
+
+signal_is : (c : Contents) (name : List ℕ) → named (signal_of_name c name) ≡ read_signal c name
+signal_is c name = one_of (lookup c.signals name) line_errors.NoSuchName
+
+number_is : (word : List ℕ) → named (number_of_word word) ≡ read_number word
+number_is word = by_test (is_number word && nat_lt (number_of word) (2 ^ 64)) (Ok (number_of word))
+    (Err line_errors.BadNumber) (Ok (number_of word)) (Err (codes "BadNumber")) refl refl
+
+forth_is : (word : List ℕ) → named (distance_forth word) ≡ read_forth word
+forth_is word = by_test (is_number word && nat_lt (number_of word) (2 ^ 63)) (Ok (pos (number_of word)))
+    (Err line_errors.BadNumber) (Ok (pos (number_of word))) (Err (codes "BadNumber")) refl refl
+
+back_is : (word : List ℕ) → named (distance_back word)
+    ≡ read_fitting (λ n. nat_le n (2 ^ 63)) (λ n. neg_ℤ (pos n)) word
+back_is word = by_test (is_number word && nat_le (number_of word) (2 ^ 63)) (Ok (neg_ℤ (pos (number_of word))))
+    (Err line_errors.BadNumber) (Ok (neg_ℤ (pos (number_of word)))) (Err (codes "BadNumber")) refl refl
+
+distance_is : (word : List ℕ) → named (distance_of_word word) ≡ read_distance word
+distance_is [] = refl
+distance_is (c ∷ digits) =
+    by_test (c == 45) (distance_back digits) (cond (c == 43) (distance_forth digits) (distance_forth (c ∷ digits)))
+    (read_fitting (λ n. nat_le n (2 ^ 63)) (λ n. neg_ℤ (pos n)) digits)
+    (cond (c == 43) (read_forth digits) (read_forth (c ∷ digits))) (back_is digits)
+    (by_test (c == 43) (distance_forth digits) (distance_forth (c ∷ digits)) (read_forth digits)
+    (read_forth (c ∷ digits)) (forth_is digits) (forth_is (c ∷ digits)))
+
+value_is : (width : ℕ) (word : List ℕ) → named (value_of_word width word) ≡ read_value width word
+value_is width word = one_of (value_of_digits width word) line_errors.BadValueText
+
+ratio_at_is : (word : List ℕ) (place : Option ℕ) → named (ratio_at word place) ≡ read_ratio_at word place
+ratio_at_is word None = then (number_of_word word) (read_number word) _ _ (number_is word) (λ n. refl)
+ratio_at_is word (Some place) =
+    then (number_of_word (take place word)) (read_number (take place word)) _ _ (number_is (take place word))
+    (λ n. then (number_of_word (drop (place + 1) word)) (read_number (drop (place + 1) word)) _ _
+    (number_is (drop (place + 1) word)) (λ d. refl))
+
+parity_is : (word : List ℕ) → named (parity_of_word word) ≡ read_parity word
+parity_is word =
+    by_test (bytes_eq word (codes "none")) _ _ _ _ refl
+    (by_test (bytes_eq word (codes "even")) _ _ _ _ refl (by_test (bytes_eq word (codes "odd")) _ _ _ _ refl refl))
+
+order_is : (word : List ℕ) → named (order_of_word word) ≡ read_order word
+order_is word =
+    by_test (bytes_eq word (codes "msb")) _ _ _ _ refl (by_test (bytes_eq word (codes "lsb")) _ _ _ _ refl refl)
+
+line_is : (c : Contents) (word : List ℕ) → named (signal_or_absent c word) ≡ read_line c word
+line_is c word =
+    by_test (bytes_eq word (codes "-")) _ _ _ _ refl
+    (then (signal_of_name c word) (read_signal c word) _ _ (signal_is c word) (λ k. refl))
+
+scalar_is : (c : Contents) (k : ℕ) → named (one_bit_signal c k) ≡ scalar c k
+scalar_is c k = by_test ((signal_at c k).width == 1) (Ok k) (Err line_errors.NotScalar) (Ok k) (Err (codes "NotScalar"))
+    refl refl
+
+scalar_line_is : (c : Contents) (line : Option ℕ) → named (one_bit_signal_or_absent c line) ≡ scalar_line c line
+scalar_line_is c None = refl
+scalar_line_is c (Some k) = then (one_bit_signal c k) (scalar c k) _ _ (scalar_is c k) (λ k. refl)
+
+-- ---- setups
+
+setup_named : {S : Type 0} (fault : Option SetupError) (setup : S)
+    → named (faultless_setup fault setup) ≡ unless_refused (option_map setup_error_name fault) setup
+setup_named None setup = refl
+setup_named (Some fault) setup = refl
+
+test_named : (b : Bool) (fault : SetupError) (others : Option SetupError) (refusal : Option (List ℕ))
+    → option_map setup_error_name others ≡ refusal →
+    option_map setup_error_name (cond b (Some fault) others) ≡ cond b (Some (setup_error_name fault)) refusal
+test_named true fault others refusal same = refl
+test_named false fault others refusal same = same
+
+uart_is : (u : UartSetup) → named (faultless_uart u) ≡ unless_refused (refusal_among (uart_tests u)) u
+uart_is u = setup_named (uart_fault u) u ∙ ap (λ (refusal : Option (List ℕ)). unless_refused refusal u)
+    (test_named _ BadRatio _ _ (test_named _ BitTooShort _ _ (test_named _ BadData _ _
+    (test_named _ BadStop _ _ refl))))
+
+spi_is : (u : SpiSetup) → named (faultless_spi u) ≡ unless_refused (refusal_among (spi_tests u)) u
+spi_is u = setup_named (spi_fault u) u ∙ ap (λ (refusal : Option (List ℕ)). unless_refused refusal u)
+    (test_named _ BadMode _ _ (test_named _ BadBits _ _ refl))
+
+-- ---- so many words
+
+of_none : (words : List (List ℕ)) (asked : Result Command LineError) (also : Read Command) → named asked ≡ also
+    → named (no_word words asked) ≡ of_words 0 also words
+of_none [] asked also same = same
+of_none (a ∷ words) asked also same = refl
+
+of_one : (words : List (List ℕ)) (asked : List ℕ → Result Command LineError) (also : OfWords 1)
+    → ((a : List ℕ) → named (asked a) ≡ also a) → named (one_word words asked) ≡ of_words 1 also words
+of_one [] asked also same = refl
+of_one (a ∷ []) asked also same = same a
+of_one (a ∷ b ∷ words) asked also same = refl
+
+of_two : (words : List (List ℕ)) (asked : List ℕ → List ℕ → Result Command LineError) (also : OfWords 2)
+    → ((a b : List ℕ) → named (asked a b) ≡ also a b) → named (two_words words asked) ≡ of_words 2 also words
+of_two [] asked also same = refl
+of_two (a ∷ []) asked also same = refl
+of_two (a ∷ b ∷ []) asked also same = same a b
+of_two (a ∷ b ∷ d ∷ words) asked also same = refl
+
+of_four : (words : List (List ℕ)) (asked : List ℕ → List ℕ → List ℕ → List ℕ → Result Command LineError)
+    (also : OfWords 4) → ((a b d e : List ℕ) → named (asked a b d e) ≡ also a b d e)
+    → named (four_words words asked) ≡ of_words 4 also words
+of_four [] asked also same = refl
+of_four (a ∷ []) asked also same = refl
+of_four (a ∷ b ∷ []) asked also same = refl
+of_four (a ∷ b ∷ d ∷ []) asked also same = refl
+of_four (a ∷ b ∷ d ∷ e ∷ []) asked also same = same a b d e
+of_four (a ∷ b ∷ d ∷ e ∷ f ∷ words) asked also same = refl
+
+of_five : (words : List (List ℕ)) (asked : List ℕ → List ℕ → List ℕ → List ℕ → List ℕ → Result Command LineError)
+    (also : OfWords 5) → ((a b d e f : List ℕ) → named (asked a b d e f) ≡ also a b d e f)
+    → named (five_words words asked) ≡ of_words 5 also words
+of_five [] asked also same = refl
+of_five (a ∷ []) asked also same = refl
+of_five (a ∷ b ∷ []) asked also same = refl
+of_five (a ∷ b ∷ d ∷ []) asked also same = refl
+of_five (a ∷ b ∷ d ∷ e ∷ []) asked also same = refl
+of_five (a ∷ b ∷ d ∷ e ∷ f ∷ []) asked also same = same a b d e f
+of_five (a ∷ b ∷ d ∷ e ∷ f ∷ g ∷ words) asked also same = refl
+
+of_seven : (words : List (List ℕ))
+    (asked : List ℕ → List ℕ → List ℕ → List ℕ → List ℕ → List ℕ → List ℕ → Result Command LineError)
+    (also : OfWords 7) → ((a b d e f g h : List ℕ) → named (asked a b d e f g h) ≡ also a b d e f g h)
+    → named (seven_words words asked) ≡ of_words 7 also words
+of_seven [] asked also same = refl
+of_seven (a ∷ []) asked also same = refl
+of_seven (a ∷ b ∷ []) asked also same = refl
+of_seven (a ∷ b ∷ d ∷ []) asked also same = refl
+of_seven (a ∷ b ∷ d ∷ e ∷ []) asked also same = refl
+of_seven (a ∷ b ∷ d ∷ e ∷ f ∷ []) asked also same = refl
+of_seven (a ∷ b ∷ d ∷ e ∷ f ∷ g ∷ []) asked also same = refl
+of_seven (a ∷ b ∷ d ∷ e ∷ f ∷ g ∷ h ∷ []) asked also same = same a b d e f g h
+of_seven (a ∷ b ∷ d ∷ e ∷ f ∷ g ∷ h ∷ i ∷ words) asked also same = refl
+
+-- ---- rules
+
+pair_is : (c : Contents) (rule : ℕ → ℕ → Rule) (word : List ℕ) (operands : List (List ℕ))
+    → named (pair_command c rule word operands) ≡ of_words 2 (ask_pair c word rule) operands
+pair_is c rule word operands = of_two operands _ _ (λ a b.
+    then (signal_of_name c a) (read_signal c a) _ _ (signal_is c a)
+    (λ j. then (signal_of_name c b) (read_signal c b) _ _ (signal_is c b) (λ k. refl)))
+
+not_is : (c : Contents) (word : List ℕ) (operands : List (List ℕ)) → named (not_command c word operands)
+    ≡ of_words 1 (λ a. read_signal c a ▷ λ k.
+    Ok (commands.Step (steps.Edit (Derive (lent_bytes word) (Not k))))) operands
+not_is c word operands = of_one operands _ _ (λ a.
+    then (signal_of_name c a) (read_signal c a) _ _ (signal_is c a) (λ k. refl))
+
+bit_is : (c : Contents) (word : List ℕ) (operands : List (List ℕ)) → named (bit_command c word operands)
+    ≡ of_words 2 (λ a bit. read_signal c a ▷ λ j. read_number bit ▷ λ k.
+    Ok (commands.Step (steps.Edit (Derive (lent_bytes word) (BitOf j k))))) operands
+bit_is c word operands = of_two operands _ _ (λ a bit.
+    then (signal_of_name c a) (read_signal c a) _ _ (signal_is c a)
+    (λ j. then (number_of_word bit) (read_number bit) _ _ (number_is bit) (λ k. refl)))
+
+-- what a row of a table asks for, or the rows behind it
+row_asks : (b : Bool) (r q : Result Command LineError) (words : List (List ℕ))
+    (asked : List (List ℕ) → Read Command) (others : Read (List (List ℕ) → Read Command)) →
+    named r ≡ asked words → named q ≡ (others ▷ λ ask. ask words)
+    → named (cond b r q) ≡ (cond b (Ok asked) others ▷ λ ask. ask words)
+row_asks true r q words asked others first second = first
+row_asks false r q words asked others first second = second
+
+rule_is : (c : Contents) (word rule : List ℕ) (operands : List (List ℕ)) → named (rule_command c word rule operands)
+    ≡ (read_listed (codes "BadOption") (rule_rows c word) rule ▷ λ asked. asked operands)
+rule_is c word rule operands =
+    row_asks (bytes_eq rule (codes "not")) _ _ operands _ _ (not_is c word operands)
+    (row_asks (bytes_eq rule (codes "and")) _ _ operands _ _ (pair_is c And word operands)
+    (row_asks (bytes_eq rule (codes "or")) _ _ operands _ _ (pair_is c Or word operands)
+    (row_asks (bytes_eq rule (codes "xor")) _ _ operands _ _ (pair_is c Xor word operands)
+    (row_asks (bytes_eq rule (codes "bit")) _ _ operands _ _ (bit_is c word operands) refl))))
+
+derive_is : (c : Contents) (words : List (List ℕ)) → named (derive_command c words) ≡ ask_derive c words
+derive_is c [] = refl
+derive_is c (word ∷ []) = refl
+derive_is c (word ∷ rule ∷ operands) = rule_is c word rule operands
+
+-- ---- commands
+
+-- a keyword as it is written
+abbrev keyword_text : Keyword → List ℕ
+keyword_text keywords.Rename = codes "rename"
+keyword_text keywords.Remove = codes "remove"
+keyword_text keywords.Invert = codes "invert"
+keyword_text keywords.Shift = codes "shift"
+keyword_text keywords.Cut = codes "cut"
+keyword_text keywords.Deglitch = codes "deglitch"
+keyword_text keywords.Force = codes "force"
+keyword_text keywords.Derive = codes "derive"
+keyword_text keywords.Undo = codes "undo"
+keyword_text keywords.Redo = codes "redo"
+keyword_text keywords.Depth = codes "depth"
+keyword_text keywords.List = codes "list"
+keyword_text keywords.Value = codes "value"
+keyword_text keywords.Changes = codes "changes"
+keyword_text keywords.Uart = codes "uart"
+keyword_text keywords.Spi = codes "spi"
+keyword_text keywords.I2c = codes "i2c"
+
+-- what its row asks for
+abbrev row_of : Contents → Keyword → List (List ℕ) → Read Command
+row_of c keyword words =
+    read_listed (codes "UnknownCommand") (command_rows c) (keyword_text keyword) ▷ λ ask. ask words
+
+of_name : (c : Contents) (name : List ℕ) (f : ℕ → Result Command LineError) (g : ℕ → Read Command)
+    → ((k : ℕ) → named (f k) ≡ g k) → named (signal_of_name c name >>= f) ≡ (read_signal c name ▷ g)
+of_name c name f g same = then (signal_of_name c name) (read_signal c name) f g (signal_is c name) same
+
+of_number : (word : List ℕ) (f : ℕ → Result Command LineError) (g : ℕ → Read Command)
+    → ((n : ℕ) → named (f n) ≡ g n) → named (number_of_word word >>= f) ≡ (read_number word ▷ g)
+of_number word f g same = then (number_of_word word) (read_number word) f g (number_is word) same
+
+of_line : (c : Contents) (word : List ℕ) (f : Option ℕ → Result Command LineError) (g : Option ℕ → Read Command)
+    → ((l : Option ℕ) → named (f l) ≡ g l) → named (signal_or_absent c word >>= f) ≡ (read_line c word ▷ g)
+of_line c word f g same = then (signal_or_absent c word) (read_line c word) f g (line_is c word) same
+
+of_scalar : (c : Contents) (k : ℕ) (f : ℕ → Result Command LineError) (g : ℕ → Read Command)
+    → ((n : ℕ) → named (f n) ≡ g n) → named (one_bit_signal c k >>= f) ≡ (scalar c k ▷ g)
+of_scalar c k f g same = then (one_bit_signal c k) (scalar c k) f g (scalar_is c k) same
+
+of_scalar_line : (c : Contents) (line : Option ℕ) (f : Option ℕ → Result Command LineError) (g : Option ℕ
+    → Read Command) → ((l : Option ℕ) → named (f l) ≡ g l)
+    → named (one_bit_signal_or_absent c line >>= f) ≡ (scalar_line c line ▷ g)
+of_scalar_line c line f g same = then (one_bit_signal_or_absent c line) (scalar_line c line) f g (scalar_line_is c line)
+    same
+
+command_is : (c : Contents) (keyword : Keyword) (words : List (List ℕ))
+    → named (keyword_command c keyword words) ≡ row_of c keyword words
+command_is c keywords.Rename words = of_two words _ _ (λ name word. of_name c name _ _ (λ k. refl))
+command_is c keywords.Remove words = of_one words _ _ (λ name. of_name c name _ _ (λ k. refl))
+command_is c keywords.Invert words = of_one words _ _ (λ name. of_name c name _ _ (λ k. refl))
+command_is c keywords.Shift words = of_two words _ _ (λ name by. of_name c name _ _ (λ k.
+    then (distance_of_word by) (read_distance by) _ _ (distance_is by) (λ d. refl)))
+command_is c keywords.Cut words = of_two words _ _ (λ from to. of_number from _ _ (λ a. of_number to _ _ (λ b. refl)))
+command_is c keywords.Deglitch words =
+    of_two words _ _ (λ name ticks. of_name c name _ _ (λ k. of_number ticks _ _ (λ n. refl)))
+command_is c keywords.Force words = of_four words _ _ (λ name from to value. of_name c name _ _ (λ k.
+    of_number from _ _ (λ a. of_number to _ _ (λ b.
+    then (value_of_word (signal_at c k).width value) (read_value (signal_at c k).width value) _ _
+    (value_is (signal_at c k).width value) (λ v. refl)))))
+command_is c keywords.Derive words = derive_is c words
+command_is c keywords.Undo words = of_none words _ _ refl
+command_is c keywords.Redo words = of_none words _ _ refl
+command_is c keywords.Depth words = of_one words _ _ (λ count. of_number count _ _ (λ n. refl))
+command_is c keywords.List words = of_none words _ _ refl
+command_is c keywords.Value words =
+    of_two words _ _ (λ name tick. of_name c name _ _ (λ k. of_number tick _ _ (λ t. refl)))
+command_is c keywords.Changes words = of_one words _ _ (λ name. of_name c name _ _ (λ k. refl))
+command_is c keywords.Uart words = of_five words _ _ (λ name bit count parity stop. of_name c name _ _ (λ k.
+    then (ratio_of_word bit) (read_ratio bit) _ _ (ratio_at_is bit (slash_place bit)) (λ ratio.
+    of_number count _ _ (λ data_bits.
+    then (parity_of_word parity) (read_parity parity) _ _ (parity_is parity) (λ parity_bit.
+    of_number stop _ _ (λ stop_bits. of_scalar c k _ _ (λ line.
+    then (faultless_uart (uart_setup ratio.0 ratio.1 data_bits parity_bit stop_bits))
+    (unless_refused (refusal_among (uart_tests (uart_setup ratio.0 ratio.1 data_bits parity_bit stop_bits)))
+    (uart_setup ratio.0 ratio.1 data_bits parity_bit stop_bits)) _ _
+    (uart_is (uart_setup ratio.0 ratio.1 data_bits parity_bit stop_bits)) (λ setup. refl))))))))
+command_is c keywords.Spi words = of_seven words _ _ (λ clk mosi miso cs mode bits order. of_name c clk _ _ (λ k.
+    of_line c mosi _ _ (λ m. of_line c miso _ _ (λ n. of_line c cs _ _ (λ s.
+    of_number mode _ _ (λ number. of_number bits _ _ (λ word_bits.
+    then (order_of_word order) (read_order order) _ _ (order_is order) (λ bit_order.
+    of_scalar c k _ _ (λ clock. of_scalar_line c m _ _ (λ out. of_scalar_line c n _ _ (λ input.
+    of_scalar_line c s _ _ (λ select.
+    then (faultless_spi (spi_setup number word_bits bit_order))
+    (unless_refused (refusal_among (spi_tests (spi_setup number word_bits bit_order)))
+    (spi_setup number word_bits bit_order)) _ _ (spi_is (spi_setup number word_bits bit_order)) (λ setup.
+    refl)))))))))))))
+command_is c keywords.I2c words = of_two words _ _ (λ scl sda. of_name c scl _ _ (λ j. of_name c sda _ _ (λ k.
+    of_scalar c j _ _ (λ clock. of_scalar c k _ _ (λ line. refl)))))
+
+-- ---- lines
+
+either_row : (c : Contents) (b : Bool) (row : List ℕ × Keyword) (found : Option (List ℕ × Keyword))
+    (words : List (List ℕ)) (others : Read (List (List ℕ) → Read Command)) →
+    named (ok_or (option_map (λ (r : List ℕ × Keyword). r.1) found) line_errors.UnknownCommand
+    >>= λ k. keyword_command c k words) ≡ (others ▷ λ ask. ask words) →
+    named (ok_or (option_map (λ (r : List ℕ × Keyword). r.1) (cond b (Some row) found)) line_errors.UnknownCommand
+    >>= λ k. keyword_command c k words) ≡ (cond b (Ok (row_of c row.1)) others ▷ λ ask. ask words)
+either_row c true row found words others rest = command_is c row.1 words
+either_row c false row found words others rest = rest
+
+rows_are : (c : Contents) (rows : List (List ℕ × Keyword)) (word : List ℕ) (words : List (List ℕ)) →
+    named (ok_or (option_map (λ (r : List ℕ × Keyword). r.1) (find (λ r. bytes_eq word r.0) rows))
+    line_errors.UnknownCommand >>= λ k. keyword_command c k words)
+    ≡ (read_listed (codes "UnknownCommand") (map (λ r. (r.0, row_of c r.1)) rows) word ▷ λ ask. ask words)
+rows_are c [] word words = refl
+rows_are c (row ∷ rows) word words =
+    either_row c (bytes_eq word row.0) row (find (λ r. bytes_eq word r.0) rows) words
+    (read_listed (codes "UnknownCommand") (map (λ r. (r.0, row_of c r.1)) rows) word) (rows_are c rows word words)
+
+-- the table has the row of each keyword
+table_is : (c : Contents) → map (λ (r : List ℕ × Keyword). (r.0, row_of c r.1)) keyword_words ≡ command_rows c
+table_is c = refl
+
+first_is : (c : Contents) (first : List ℕ) (words : List (List ℕ)) →
+    named (ok_or (keyword_in_tables first) line_errors.UnknownCommand >>= λ k. keyword_command c k words)
+    ≡ (read_listed (codes "UnknownCommand") (command_rows c) first ▷ λ ask. ask words)
+first_is c first words =
+    ap (λ (k : Option Keyword). named (ok_or k line_errors.UnknownCommand >>= λ k. keyword_command c k words))
+    (sym (keyword_is first))
+    ∙ rows_are c keyword_words first words
+
+pub words_table : (c : Contents) (words : List (List ℕ)) → named (words_command c words) ≡ asked_by_words c words
+words_table c [] = refl
+words_table c (first ∷ words) = by_test (is_comment first) _ _ _ _ refl (first_is c first words)
+
+same_refusal : (asked : Result Command LineError) → with_refusal asked ≡ named asked
+same_refusal (Ok command) = refl
+same_refusal (Err fault) = refl
+
+-- a line asks for what its parser reads
+pub asked_is : (c : Contents) (line : List ℕ) → with_refusal (command_of_line c line) ≡ asked_by c line
+unfolding command_of_line
+asked_is c line =
+    same_refusal (command_of_line c line) ∙ ap named (words_are c (line_words line)) ∙ words_table c (line_words line)

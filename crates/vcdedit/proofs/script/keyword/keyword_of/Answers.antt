@@ -1,0 +1,85 @@
+-- A chain of tests, one for each row of the tables, finds what a look-up in the tables finds.
+use Rattle.std.proofs.Common.{◌≡◌, ◌∙◌, ap, refl, ℕ, Bool, true, false, cond, List, [], ◌∷◌, Option, Some, None}
+use Rattle.std.specs.Prelude.{find, option_map}
+use Rattle.std.specs.Option.{option_or}
+use Rattle.std.specs.Str.{bytes_eq}
+use Rattle.vcdedit.specs.declared.script.keyword.Keyword.{Keyword}
+use Rattle.vcdedit.specs.inside.ParsedCommands.{keyword_in, edit_keywords, history_keywords, query_keywords}
+use Rattle.vcdedit.specs.inside.ParsedCommands.{decoder_keywords}
+use Rattle.vcdedit.proofs.script.keyword.keyword_of.Goals as goal
+
+-- what was found, or else by a test for each row
+abbrev tried : Option Keyword → List (List ℕ × Keyword) → List ℕ → Option Keyword
+tried found [] word = found
+tried found (row ∷ rows) word = tried (option_or found (cond (bytes_eq word row.0) (Some row.1) None)) rows word
+
+no_row : (found : Option Keyword) → found ≡ option_or found None
+no_row None = refl
+no_row (Some keyword) = refl
+
+one_row : (found : Option Keyword) (row : List ℕ × Keyword) (named : Bool) (later : Option (List ℕ × Keyword)) →
+    option_or (option_or found (cond named (Some row.1) None)) (option_map (λ (r : List ℕ × Keyword). r.1) later)
+    ≡ option_or found (option_map (λ (r : List ℕ × Keyword). r.1) (cond named (Some row) later))
+one_row (Some keyword) row named later = refl
+one_row None row true later = refl
+one_row None row false later = refl
+
+tried_is : (found : Option Keyword) (rows : List (List ℕ × Keyword)) (word : List ℕ)
+    → tried found rows word ≡ option_or found (keyword_in rows word)
+tried_is found [] word = no_row found
+tried_is found (row ∷ rows) word =
+    tried_is (option_or found (cond (bytes_eq word row.0) (Some row.1) None)) rows word
+    ∙ one_row found row (bytes_eq word row.0) (find (λ r. bytes_eq word r.0) rows)
+
+all_tried : (word : List ℕ) →
+    tried (tried (tried (tried None edit_keywords word) history_keywords word) query_keywords word)
+    decoder_keywords word
+    ≡ option_or (option_or (option_or (keyword_in edit_keywords word) (keyword_in history_keywords word))
+    (keyword_in query_keywords word)) (keyword_in decoder_keywords word)
+all_tried word =
+    tried_is _ decoder_keywords word
+    ∙ ap (λ (k : Option Keyword). option_or k (keyword_in decoder_keywords word))
+    (tried_is _ query_keywords word
+    ∙ ap (λ (k : Option Keyword). option_or k (keyword_in query_keywords word))
+    (tried_is _ history_keywords word
+    ∙ ap (λ (k : Option Keyword). option_or k (keyword_in history_keywords word))
+    (tried_is None edit_keywords word)))
+
+pub returns : goal.returns
+returns c =
+    rw (
+      c.or-16.ensures,
+      c.keyword_if-17.ensures,
+      c.or-15.ensures,
+      c.keyword_if-16.ensures,
+      c.or-14.ensures,
+      c.keyword_if-15.ensures,
+      c.or-13.ensures,
+      c.keyword_if-14.ensures,
+      c.or-12.ensures,
+      c.keyword_if-13.ensures,
+      c.or-11.ensures,
+      c.keyword_if-12.ensures,
+      c.or-10.ensures,
+      c.keyword_if-11.ensures,
+      c.or-9.ensures,
+      c.keyword_if-10.ensures,
+      c.or-8.ensures,
+      c.keyword_if-9.ensures,
+      c.or-7.ensures,
+      c.keyword_if-8.ensures,
+      c.or-6.ensures,
+      c.keyword_if-7.ensures,
+      c.or-5.ensures,
+      c.keyword_if-6.ensures,
+      c.or-4.ensures,
+      c.keyword_if-5.ensures,
+      c.or-3.ensures,
+      c.keyword_if-4.ensures,
+      c.or-2.ensures,
+      c.keyword_if-3.ensures,
+      c.or.ensures,
+      c.keyword_if-2.ensures,
+      c.keyword_if.ensures,
+    )
+    (all_tried c.args.word.now)

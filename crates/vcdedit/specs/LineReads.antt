@@ -1,0 +1,113 @@
+-- What a word of a line of a script is read as, or the word with which the line is refused: the project's own.
+use Rattle.std.specs.Prelude.{ℕ, ◌+◌, ◌*◌, ◌^◌, ◌==◌, ◌&&◌, nat_lt, nat_le, not, Bool, if◌then◌else◌, ℤ, pos, neg_ℤ}
+use Rattle.std.specs.Prelude.{List, [], ◌∷◌, take, drop, Option, Some, None, Result, Ok, Err, codes}
+use Rattle.std.specs.List.{position}
+use Rattle.std.specs.Option.{ok_or}
+use Rattle.std.specs.Str.{bytes_eq}
+use Rattle.vcd_core.specs.declared.bit.Bit.{Bit}
+use Rattle.vcd_core.specs.Contents.{Contents, signal_at}
+use Rattle.vcd_core.specs.Decimal.{is_number, number_of}
+use Rattle.vcd_core.specs.Names.{lookup}
+use Rattle.vcd_text.specs.Letters.{value_of_digits}
+use Rattle.vcd_edit.specs.Refused.{Tests, refusal_among}
+use Rattle.vcd_decode.specs.declared.spi_setup.BitOrder.{BitOrder}
+use Rattle.vcd_decode.specs.declared.spi_setup.BitOrder.TheVariants.{Msb, Lsb}
+use Rattle.vcd_decode.specs.declared.spi_setup.TheConstants.{GREATEST_MODE, WORD_BITS_LIMIT}
+use Rattle.vcd_decode.specs.declared.uart_setup.Parity.{Parity}
+use Rattle.vcd_decode.specs.declared.uart_setup.Parity.TheVariants as parities
+use Rattle.vcd_decode.specs.declared.uart_setup.TheConstants.{RATIO_LIMIT}
+use Rattle.vcd_decode.specs.UartSetup.{UartSetup, is_between}
+use Rattle.vcd_decode.specs.SpiSetup.{SpiSetup}
+
+-- what is read, or the word of a refusal
+abbrev pub Read : Type 0 → Type 0
+Read A = Result A (List ℕ)
+
+-- what is read on
+infixl 10 ◌▷◌
+abbrev pub ◌▷◌ : {A B : Type 0} → Read A → (A → Read B) → Read B
+(Ok x) ▷ f = f x
+(Err refusal) ▷ f = Err refusal
+
+-- what a table has for a word
+abbrev pub read_listed : {A : Type 0} → (refusal : List ℕ) → List (List ℕ × A) → List ℕ → Read A
+read_listed refusal [] word = Err refusal
+read_listed refusal (row ∷ rows) word = if bytes_eq word row.0 then Ok row.1 else read_listed refusal rows word
+
+-- the position of the signal that a word names
+abbrev pub read_signal : Contents → List ℕ → Read ℕ
+read_signal c name = ok_or (lookup c.signals name) (codes "NoSuchName")
+
+-- what comes of the decimal number that a word writes, where it fits
+abbrev pub read_fitting : {A : Type 0} → (ℕ → Bool) → (ℕ → A) → List ℕ → Read A
+read_fitting fits made word =
+    if is_number word && fits (number_of word) then Ok (made (number_of word)) else Err (codes "BadNumber")
+
+-- the number that a word writes: below 2^64
+abbrev pub read_number : List ℕ → Read ℕ
+read_number = read_fitting (λ n. nat_lt n (2 ^ 64)) (λ n. n)
+
+-- a distance forth in time: below 2^63
+abbrev pub read_forth : List ℕ → Read ℤ
+read_forth = read_fitting (λ n. nat_lt n (2 ^ 63)) pos
+
+-- the distance that a word writes: behind `-` (45) at most 2^63 back, behind `+` (43) or neither forth
+abbrev pub read_distance : List ℕ → Read ℤ
+read_distance [] = Err (codes "BadNumber")
+read_distance (c ∷ digits) = if c == 45 then read_fitting (λ n. nat_le n (2 ^ 63)) (λ n. neg_ℤ (pos n)) digits
+    else (if c == 43 then read_forth digits else read_forth (c ∷ digits))
+
+-- the value of this width that a word writes: 1 to so many binary digits, extended on the left
+abbrev pub read_value : ℕ → List ℕ → Read (List Bit)
+read_value width word = ok_or (value_of_digits width word) (codes "BadValueText")
+
+-- ---- of lines that decode signals
+
+-- the ratio that a word writes, whose first `/` stands here: without one the second number is 1
+abbrev pub read_ratio_at : List ℕ → Option ℕ → Read (ℕ × ℕ)
+read_ratio_at word None = read_number word ▷ λ n. Ok (n, 1)
+read_ratio_at word (Some place) =
+    read_number (take place word) ▷ λ n. read_number (drop (place + 1) word) ▷ λ d. Ok (n, d)
+
+-- the ratio that a word writes: `N/D` (the `/` is 47), or `N`
+abbrev pub read_ratio : List ℕ → Read (ℕ × ℕ)
+read_ratio word = read_ratio_at word (position (λ b. b == 47) word)
+
+-- the parity bit that a word names
+abbrev pub read_parity : List ℕ → Read Parity
+read_parity = read_listed (codes "BadOption")
+    ((codes "none", parities.None) ∷ (codes "even", parities.Even) ∷ (codes "odd", parities.Odd) ∷ [])
+
+-- the order of bits that a word names
+abbrev pub read_order : List ℕ → Read BitOrder
+read_order = read_listed (codes "BadOption") ((codes "msb", Msb) ∷ (codes "lsb", Lsb) ∷ [])
+
+-- the position of the signal that a word names; `-` stands for a line that is not there
+abbrev pub read_line : Contents → List ℕ → Read (Option ℕ)
+read_line c word = if bytes_eq word (codes "-") then Ok None else (read_signal c word ▷ λ k. Ok (Some k))
+
+-- a decoder's signal has one bit
+abbrev pub scalar : Contents → ℕ → Read ℕ
+scalar c k = if (signal_at c k).width == 1 then Ok k else Err (codes "NotScalar")
+
+-- and so has a line that is there
+abbrev pub scalar_line : Contents → Option ℕ → Read (Option ℕ)
+scalar_line c None = Ok None
+scalar_line c (Some k) = scalar c k ▷ λ k. Ok (Some k)
+
+-- the numbers that a UART line can have
+abbrev pub uart_tests : UartSetup → Tests
+uart_tests u =
+    (not (is_between 1 RATIO_LIMIT u.numerator && is_between 1 RATIO_LIMIT u.denominator), codes "BadRatio")
+    ∷ (nat_lt u.numerator (2 * u.denominator), codes "BitTooShort")
+    ∷ (not (is_between 5 9 u.data_bits), codes "BadData") ∷ (not (is_between 1 2 u.stop_bits), codes "BadStop") ∷ []
+
+-- and those of a serial peripheral interface
+abbrev pub spi_tests : SpiSetup → Tests
+spi_tests u = (not (nat_le u.mode GREATEST_MODE), codes "BadMode")
+    ∷ (not (is_between 1 WORD_BITS_LIMIT u.bits), codes "BadBits") ∷ []
+
+-- a setup that is refused with this word, or with none
+abbrev pub unless_refused : {S : Type 0} → Option (List ℕ) → S → Read S
+unless_refused None setup = Ok setup
+unless_refused (Some refusal) setup = Err refusal
