@@ -20,7 +20,7 @@ vcdedit is built: ./vcdedit runs it.
 make install     to $(PREFIX), or PREFIX=FOLDER; DESTDIR=FOLDER goes before that, for a package
 make uninstall   takes away what install put there
 make deb         a Debian package, out/vcdedit_VERSION_ARCHITECTURE.deb
-.ci/run          every proof and test from nothing, in hours
+.ci/run          every proof and test from nothing, in about an hour
 endef
 export FILES TARGETS
 

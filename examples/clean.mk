@@ -1,4 +1,4 @@
-# Each capture in raw/ is edited by clean.txt and written to clean/, with its replies beside it:
+# Each capture in raw/ is edited by clean.txt and written to clean/, with its replies next to it:
 #
 #     make -j 4 -k -f examples/clean.mk [VCDEDIT=./vcdedit]
 #

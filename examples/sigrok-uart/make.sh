@@ -1,6 +1,6 @@
 #!/usr/bin/env bash
 # Makes capture.vcd in the current folder, with sigrok-cli (made with 0.7.2, libsigrok 0.5.2): a serial line of 115200
-# baud beside a trigger, sampled at 200 MHz, which is written at 1 ns.
+# baud and a trigger, sampled at 200 MHz, which is written at 1 ns.
 set -eu
 awk 'BEGIN {
     print "rx,trigger"
