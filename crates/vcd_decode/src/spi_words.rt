@@ -74,7 +74,7 @@ fn take_clock_edge(
     take_sample(found, setup, group, edge)
 }
 
-/// The same where the chip's selection does not change.
+/// Appends the annotation that an edge completes, if the chip stays selected. Returns the group of bits after it.
 fn take_sample(
     found: &mut Vec<Annotation>,
     setup: &Spi,

@@ -1,4 +1,4 @@
-//! How a record is exchanged with a capture.
+//! Exchanges a record with a capture: an edit and its undo are both that.
 
 ghost use Rattle.std.specs.Prelude.{◌≡◌, ℕ, ◌<◌, ◌≤◌, [], None, neg_ℤ, length, All, IsOk, IfOk, OnOk, OnErr, IfErr};
 ghost use Rattle.vcd_core.specs.Contents.{contents};
@@ -81,8 +81,9 @@ pub(crate) fn exchange_record(
 ///
 /// That record fits, restores the capture, and stores touched changes only. In a signal with a piece, these are the
 /// changes that the step takes away or moves by another number of ticks than the piece. In a signal that is taken out,
-/// they are all changes. It is refused only if memory runs out, and never for a record with neither pieces nor a signal
-/// to put in, so never if fewer signals are left. The record then comes back in [`Kept`], and the capture is as it was.
+/// they are all changes. It is refused only if memory runs out. A record with neither pieces nor a signal to put in
+/// never needs memory, so a step that removes a signal is never refused. A refused record comes back in [`Kept`], and
+/// the capture is as it was.
 ///
 /// The cost is the pieces, their ranges, and for each piece one move of its signal's later changes. A signal that is
 /// put in or taken out costs one move of the later signals.

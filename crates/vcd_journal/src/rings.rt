@@ -16,7 +16,7 @@ use vcd_edit::{Record, revert};
 /// The records of one history, the newest first.
 pub type Ring = HeapCircularBuffer<Record>;
 
-/// Two empty rings, each with room for so many records.
+/// Two empty rings, each with room for `capacity` records.
 pub fn empty_rings(alloc: Global, capacity: usize) -> Result<(Ring, Ring), NoMemory>
     ensures { IfOk result (λ r. (r.0 ≡ buffer [] capacity) × (r.1 ≡ buffer [] capacity)) }
 {
@@ -52,7 +52,7 @@ pub fn keep_newest(ring: &mut Ring, count: usize)
     ring.truncate_back(count);
 }
 
-/// Gives a ring room for so many records. A ring that has the room takes no memory.
+/// Gives a ring room for `capacity` records. A ring that has the room takes no memory.
 pub fn enlarge(ring: &mut Ring, capacity: usize) -> Result<(), NoMemory>
     ensures items { ring.new.items ≡ ring.old.items }
     ensures room { OnOk result (capacity ≤ ring.new.capacity) }
@@ -68,7 +68,7 @@ pub fn enlarge(ring: &mut Ring, capacity: usize) -> Result<(), NoMemory>
 }
 
 /// Applies the newest record of `from` to the capture. That record is removed, and the one that undoes it becomes the
-/// newest of `to`. If memory is refused, which is never so if fewer signals would be left, nothing changes.
+/// newest of `to`. If memory is refused, nothing changes. A step that removes a signal never needs memory.
 pub fn follow_newest(
     alloc: Global,
     capture: &mut Capture,

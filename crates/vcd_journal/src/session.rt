@@ -75,8 +75,8 @@ impl Session {
     /// dropped.
     ///
     /// An edit with a fault is refused by its first fault, and takes no memory. Otherwise it is refused only if memory
-    /// runs out (`StepError::Edit` of `NoMemory`), and never if fewer signals are left. The cost is that of the edit, and of dropping the records of undone
-    /// edits.
+    /// runs out (`StepError::Edit` of `NoMemory`). A step that removes a signal never needs memory. The cost is that
+    /// of the edit, and of dropping the records of undone edits.
     pub fn apply(&mut self, edit: &Edit) -> Result<(), StepError>
         ensures step { IsStepCall self.old (steps.Edit edit.now) result self.new }
         ensures unchanged { OnErr result (self.new ≡ self.old) }
@@ -89,8 +89,8 @@ impl Session {
 
     /// Undoes the newest edit in the history.
     ///
-    /// If there is none, the step is refused, and takes no memory. Otherwise it is refused only if memory runs out,
-    /// and never if fewer signals are left.
+    /// If there is none, the step is refused, and takes no memory. Otherwise it is refused only if memory runs out. A
+    /// step that removes a signal never needs memory.
     /// The cost is that of the changes that the edit touched, and one move of the later ones of each touched signal.
     pub fn undo(&mut self) -> Result<(), StepError>
         ensures step { IsStepCall self.old steps.Undo result self.new }
@@ -110,8 +110,8 @@ impl Session {
 
     /// Makes the edit again that was undone last.
     ///
-    /// If there is none, the step is refused, and takes no memory. Otherwise it is refused only if memory runs out,
-    /// and never if fewer signals are left.
+    /// If there is none, the step is refused, and takes no memory. Otherwise it is refused only if memory runs out. A
+    /// step that removes a signal never needs memory.
     /// The cost is that of an undo.
     pub fn redo(&mut self) -> Result<(), StepError>
         ensures step { IsStepCall self.old steps.Redo result self.new }

@@ -19,7 +19,7 @@ pub enum Step<'a> {
     Undo,
     /// The edit that was undone last is made again.
     Redo,
-    /// The history holds at most so many steps from now on, from 1 to [`DEPTH_LIMIT`].
+    /// The history holds at most this many steps from now on, from 1 to [`DEPTH_LIMIT`].
     Depth(u64),
 }
 

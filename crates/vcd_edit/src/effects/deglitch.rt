@@ -126,7 +126,7 @@ fn is_kept(change: &Change, later: &[Change], before: &Value, ticks: u64) -> boo
     begins_steady(change, later, ticks) && change.value != *before
 }
 
-/// Whether the run that begins with a change contains tick 0 or the end, or has at least so many ticks.
+/// Whether the run that begins with a change stays: it contains tick 0 or the end, or has at least `ticks` ticks.
 fn begins_steady(change: &Change, later: &[Change], ticks: u64) -> bool
     ensures { result ≡ steady_test ticks change.now later.now }
 {

@@ -147,7 +147,7 @@ fn wave_of_two<'a>(
     Ok(wave)
 }
 
-/// The wave with the rule's bit at each edge, with room for so many changes.
+/// The wave with the rule's bit at each edge, with room for `count` changes.
 fn wave_at_edges(alloc: Global, edges: BitEdges, rule: Rule, count: usize) -> Result<Wave, NoMemory>
     requires { TicksRise 1 0 (map (edge_change rule) edges) }
     ensures { IfOk result (IsMade (map (edge_change rule) edges.entry) []) }

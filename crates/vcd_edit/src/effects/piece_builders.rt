@@ -78,7 +78,7 @@ pub(crate) fn piece_between(
     }
 }
 
-/// The offset by so many ticks to an earlier tick.
+/// The offset that moves a change `ticks` ticks earlier.
 pub(crate) fn offset_back(ticks: u64) -> i64
     requires { ticks ≤ END_LIMIT }
     ensures { result ≡ neg_ℤ (pos ticks) }

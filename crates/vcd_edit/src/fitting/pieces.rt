@@ -57,7 +57,7 @@ fn is_valid_in(piece: &Piece, signals: &[Signal], end: u64) -> bool
     }
 }
 
-/// The same for each piece.
+/// Whether each piece is for one of the signals, and gives a wave up to the end.
 fn are_valid_in(pieces: &[Piece], signals: &[Signal], end: u64) -> bool
     ensures { IsTrue result
         ↔ All (IsValidIn end (map signal_contents signals.now)) (map piece_view pieces.now) }

@@ -32,7 +32,7 @@ pub(crate) fn are_sound(signals: &[Signal], end: u64) -> bool
     signals.iter().all(|signal| signal.is_sound(end))
 }
 
-/// The same for each signal except the one at a position.
+/// Whether each signal except the one at a position is sound up to an end.
 pub(crate) fn are_others_sound(signals: &[Signal], at: usize, end: u64) -> bool
     requires { at < length signals.now }
     ensures { IsTrue result

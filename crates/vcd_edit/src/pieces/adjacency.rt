@@ -1,4 +1,4 @@
-//! Whether a piece changes one wave into another.
+//! Whether a wave with a piece is still in its one form: ticks rise, and each value differs from the one before.
 
 ghost use Rattle.std.specs.Prelude.{◌≡◌, ◌↔◌, ℕ, List, ◌+◌, ◌≤◌, nat_le, length, take, map, All, IsTrue};
 ghost use Rattle.vcd_core.specs.Splice.{moved_change, TickFits, AllTicksFit};

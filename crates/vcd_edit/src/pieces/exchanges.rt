@@ -40,7 +40,7 @@ fn exchange_piece(piece: &mut Piece, wave: &mut Wave)
     piece.by = opposite(piece.by);
 }
 
-/// The same for the piece's signal.
+/// Swaps a range of the piece's signal with the piece, in place. The piece then undoes this.
 fn put_one(capture: &mut Capture, piece: &mut Piece)
     requires ready { PieceReadyIn (contents capture.old) (piece_view piece.old) }
     requires room { HasRoomForPiece capture.old.signals piece.old }
@@ -69,7 +69,7 @@ fn put_all(capture: &mut Capture, pieces: &mut [Piece])
     }
 }
 
-/// The same for a list of pieces, which is then reversed, so that the last step is undone first.
+/// Swaps all pieces with their ranges of the capture, then reverses their list, so that the last is undone first.
 pub(crate) fn put_pieces(capture: &mut Capture, pieces: &mut Vec<Piece>)
     requires ready { All (PieceReadyIn (contents capture.old)) (map piece_view pieces.old.items) }
     requires apart { AreApart (map piece_view pieces.old.items) }

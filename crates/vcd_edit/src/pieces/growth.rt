@@ -78,7 +78,7 @@ fn cancel_wave(capture: &mut Capture, signal: usize)
     capture.signals.item_mut(signal).wave.cancel_splice();
 }
 
-/// Does so for each of the first `count` signals.
+/// Gives back the memory taken for lists of their own, for each of the first `count` signals.
 fn cancel_waves(capture: &mut Capture, count: usize)
     requires { count ≤ length capture.old.signals }
     ensures { contents capture.new ≡ contents capture.old }
@@ -89,7 +89,7 @@ fn cancel_waves(capture: &mut Capture, count: usize)
 }
 
 /// Makes the room for all pieces. The contents of the capture and the pieces stay the same, also if the memory is
-/// refused. In that case no wave keeps memory besides a list that it shares.
+/// refused. In that case a wave with a shared list keeps no other memory.
 pub(crate) fn reserve_all(capture: &mut Capture, pieces: &mut [Piece]) -> Result<(), NoMemory>
     requires signal { All (λ p. p.signal < length capture.old.signals) pieces.old }
     requires ordered { All (λ p. p.from ≤ p.to) pieces.old }

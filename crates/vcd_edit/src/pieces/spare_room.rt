@@ -1,4 +1,4 @@
-//! The unused room of a record's pieces.
+//! Gives back the memory that pieces no longer need, so that a record holds no more than its changes.
 
 ghost use Rattle.std.specs.Prelude.{◌≡◌, All, List, map, reverse};
 ghost use Rattle.vcd_core.specs.Contents.{contents};
@@ -18,7 +18,7 @@ fn release_room(piece: &mut Piece)
     piece.changes.shrink_to_fit();
 }
 
-/// The same for all pieces.
+/// Gives back the room that the pieces do not need for what they hold.
 fn release_rooms(pieces: &mut [Piece])
     ensures { map piece_view pieces.new ≡ map piece_view pieces.old }
 {

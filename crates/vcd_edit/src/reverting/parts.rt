@@ -38,7 +38,7 @@ fn replace_word(capture: &mut Capture, signal: usize, word: Vec<u8>) -> Vec<u8>
     first.into_vec()
 }
 
-/// The same, if there is a word.
+/// Swaps the word of a record, if it has one, with the first word of its signal's name. It takes no memory.
 pub(crate) fn exchange_word(
     capture: &mut Capture,
     word: Option<(usize, Vec<u8>)>,
