@@ -170,7 +170,8 @@ unknown_code_of_vector =
 
 -- more digits than bits
 abbrev long_value : List ℕ
-long_value = codes "$scope module top $end\n$var wire 4 ! v $end\n$upscope $end\n$enddefinitions $end\n#0\n$dumpvars\nbx !\n$end\n#1\nb00001 !\n#2\nbz1 !\n#3\nb0 !\n"
+long_value = codes "$scope module top $end\n$var wire 4 ! v $end\n$upscope $end\n$enddefinitions $end\n#0\n"
+    ++ codes "$dumpvars\nbx !\n$end\n#1\nb00001 !\n#2\nbz1 !\n#3\nb0 !\n"
 
 value_of_five_digits : FileFault long_value 10 ValueTooLong
 unfolding words_from

@@ -1,6 +1,6 @@
 -- Worked cases: files that are accepted, and their meanings.
 use Rattle.std.proofs.Common.{◌≡◌, refl, arith}
-use Rattle.std.specs.Prelude.{ℕ, ◌+◌, true, false, List, [], ◌∷◌, Some, None, codes}
+use Rattle.std.specs.Prelude.{ℕ, ◌+◌, ◌++◌, true, false, List, [], ◌∷◌, Some, None, codes}
 use Rattle.std.specs.Fmt.{digits}
 use Rattle.vcd_core.specs.declared.bit.Bit.TheVariants.{Zero, One, X, Z}
 use Rattle.vcd_core.specs.declared.capture.TimeUnit.TheVariants.{Second, Nanosecond, Microsecond, Femtosecond}
@@ -20,7 +20,8 @@ module_of name = record { kind = codes "module"; words = name ∷ [] }
 
 -- one scalar
 abbrev pub one_scalar : List ℕ
-one_scalar = codes "$timescale 1ns $end\n$scope module top $end\n$var wire 1 ! a $end\n$upscope $end\n$enddefinitions $end\n#0\n$dumpvars\n0!\n$end\n#5\n1!\n#9\n"
+one_scalar = codes "$timescale 1ns $end\n$scope module top $end\n$var wire 1 ! a $end\n$upscope $end\n"
+    ++ codes "$enddefinitions $end\n#0\n$dumpvars\n0!\n$end\n#5\n1!\n#9\n"
 
 abbrev one_scalar_items : List Item
 one_scalar_items =
@@ -60,7 +61,8 @@ one_scalar_means = record {
 
 -- a vector: short forms are extended on the left by their leftmost letter
 abbrev one_vector : List ℕ
-one_vector = codes "$scope module top $end\n$var wire 4 ! v $end\n$upscope $end\n$enddefinitions $end\n#0\n$dumpvars\nbx !\n$end\n#1\nb1 !\n#2\nbz1 !\n#3\nb0 !\n"
+one_vector = codes "$scope module top $end\n$var wire 4 ! v $end\n$upscope $end\n$enddefinitions $end\n#0\n"
+    ++ codes "$dumpvars\nbx !\n$end\n#1\nb1 !\n#2\nbz1 !\n#3\nb0 !\n"
 
 abbrev one_vector_items : List Item
 one_vector_items =
@@ -104,7 +106,8 @@ one_vector_means = record {
 
 -- one code in two scopes: two signals, each with the whole wave
 abbrev shared_code : List ℕ
-shared_code = codes "$scope module top $end\n$var wire 1 % a $end\n$scope module sub $end\n$var wire 1 % a $end\n$upscope $end\n$upscope $end\n$enddefinitions $end\n#0 1%\n#3 0%\n"
+shared_code = codes "$scope module top $end\n$var wire 1 % a $end\n$scope module sub $end\n$var wire 1 % a $end\n"
+    ++ codes "$upscope $end\n$upscope $end\n$enddefinitions $end\n#0 1%\n#3 0%\n"
 
 abbrev shared_code_items : List Item
 shared_code_items =
@@ -150,7 +153,9 @@ shared_code_means = record {
 -- skipped variables are counted, and a comment among the changes is passed over
 abbrev skipped_and_comment : List ℕ
 skipped_and_comment =
-    codes "$timescale 10 us $end\n$scope module t $end\n$var real 64 ! v $end\n$var event 1 \" e $end\n$var reg 2 # q [1:0] $end\n$upscope $end\n$enddefinitions $end\n$comment made by hand $end\n#10\nr1.5 !\n1\"\nb1x #\n#20\n"
+    codes "$timescale 10 us $end\n$scope module t $end\n$var real 64 ! v $end\n$var event 1 \" e $end\n"
+        ++ codes "$var reg 2 # q [1:0] $end\n$upscope $end\n$enddefinitions $end\n$comment made by hand $end\n#10\n"
+        ++ codes "r1.5 !\n1\"\nb1x #\n#20\n"
 
 abbrev skipped_and_comment_items : List Item
 skipped_and_comment_items =

@@ -195,7 +195,8 @@ words_end : (c : ParseState) (keyword : List ℕ) (words : List (List ℕ)) → 
     → IsTrue (is_one_of (codes "$timescale" ∷ codes "$scope" ∷ header_words) keyword) → IsTrue (has_no_end_word words)
     → WordOutcome c (keyword ∷ words) end_word
 words_end c keyword words declares is no_end =
-    by_one_of (λ w. WordOutcome c (w ∷ words) end_word) (codes "$timescale" ∷ codes "$scope" ∷ header_words) keyword is (
+    by_one_of (λ w. WordOutcome c (w ∷ words) end_word)
+        (codes "$timescale" ∷ codes "$scope" ∷ header_words) keyword is (
       timescale_ends c words declares no_end,
       (
         scope_ends c words declares no_end,

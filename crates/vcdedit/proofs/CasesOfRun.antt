@@ -1,6 +1,6 @@
 -- Worked cases: what scripts answer and what they write, byte for byte.
 use Rattle.std.proofs.Common.{◌≡◌, ℕ, List, Some, None, Err, false, true, refl, arith}
-use Rattle.std.specs.Prelude.{[], ◌∷◌, codes}
+use Rattle.std.specs.Prelude.{[], ◌∷◌, ◌++◌, codes}
 use Rattle.std.specs.Fmt.{digits}
 use Rattle.vcd_core.specs.Wave.{value_from}
 use Rattle.vcd_core.specs.Names.{name_in, lookup}
@@ -52,7 +52,8 @@ full_history_run : run_outcome (capture 0 (wire (top ∷ []) (codes "a") 1 (from
     ≡ record {
       replies = codes "ok\n" ∷ codes "ok\n" ∷ codes "ok\n" ∷ codes "ok\n" ∷ codes "ok\n"
           ∷ codes "line 6: refused: NothingToUndo\n" ∷ [];
-      output = codes "$scope module top $end\n$var wire 1 ! b $end\n$upscope $end\n$enddefinitions $end\n#0\n$dumpvars\n0!\n$end\n";
+      output = codes "$scope module top $end\n$var wire 1 ! b $end\n$upscope $end\n$enddefinitions $end\n#0\n"
+          ++ codes "$dumpvars\n0!\n$end\n";
       refused = 1;
     }
 unfolding script_lines words_from command_of_line lookup name_in edit_fault effect line_reply machine_after_line
@@ -124,8 +125,8 @@ two_signals = capture 9
 -- empty lines and comments are numbered and have no reply; each refused line gives its first fault, and the script
 -- continues
 refused_lines : line_replies 0 1 (record { past = []; now = two_signals; future = []; depth = 100 })
-    (script_lines (codes
-    "\n# rename\nfrob\nrename top.a\nrename top.a b c\nundo now\nrename top.q $end\nrename top.a $end\nrename top.a v\nundo\n \t#\n  rename\t@1\rb"))
+    (script_lines (codes "\n# rename\nfrob\nrename top.a\nrename top.a b c\nundo now\nrename top.q $end\n"
+    ++ codes "rename top.a $end\nrename top.a v\nundo\n \t#\n  rename\t@1\rb"))
     ≡ [] ∷ [] ∷ codes "line 3: refused: UnknownCommand\n" ∷ codes "line 4: refused: WrongCount\n"
     ∷ codes "line 5: refused: WrongCount\n" ∷ codes "line 6: refused: WrongCount\n"
     ∷ codes "line 7: refused: NoSuchName\n" ∷ codes "line 8: refused: BadWord\n" ∷ codes "line 9: refused: NameTaken\n"
