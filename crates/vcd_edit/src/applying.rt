@@ -35,7 +35,7 @@ pub fn apply(alloc: Global, capture: &mut Capture, edit: &Edit) -> Result<Record
     ensures effect { OnOk result
         (contents capture.new ≡ edit_effect edit.now (contents capture.old)) }
     ensures fits { IfOk result (λ r. Fits r (contents capture.new)) }
-    ensures back { IfOk result (λ r. apply_record r (contents capture.new) ≡ contents capture.old) }
+    ensures undo { IfOk result (λ r. apply_record r (contents capture.new) ≡ contents capture.old) }
     ensures bound { IfOk result
         (λ r. stored_changes r ≤ touched_by_edit edit.now (contents capture.old)) }
     ensures sound { OnOk result (IsSound (contents capture.new)) }
@@ -45,9 +45,9 @@ pub fn apply(alloc: Global, capture: &mut Capture, edit: &Edit) -> Result<Record
     ensures unchanged { OnErr result (contents capture.new ≡ contents capture.old) }
 {
     check(capture, edit)?;
-    let way = plan(alloc, capture, edit)?;
-    match exchange_record(alloc, capture, way) {
-        Ok(record) => Ok(record),
+    let patch = plan(alloc, capture, edit)?;
+    match exchange_record(alloc, capture, patch) {
+        Ok(inverse) => Ok(inverse),
         Err(_) => Err(EditError::NoMemory),
     }
 }

@@ -7,5 +7,5 @@ mod spare_room;
 mod trimming;
 
 pub(crate) use adjacency::is_valid_piece;
+pub(crate) use exchanges::exchange_pieces;
 pub(crate) use growth::reserve_all;
-pub(crate) use spare_room::exchange_pieces;

@@ -26,16 +26,16 @@ pub struct Kept {
 pub(crate) fn exchange_record(
     alloc: Global,
     capture: &mut Capture,
-    way: Record,
+    patch: Record,
 ) -> Result<Record, Kept>
-    requires fits { Fits way (contents capture.old) }
+    requires fits { Fits patch (contents capture.old) }
     requires sound { IsSound (contents capture.old) }
-    ensures back { OnOk result (contents capture.new ≡ apply_record way (contents capture.old)) }
-    ensures opposite { IfOk result (IsInverse (contents capture.old) way) }
-    ensures kept { IfErr result (λ k. k.held ≡ way) }
+    ensures effect { OnOk result (contents capture.new ≡ apply_record patch (contents capture.old)) }
+    ensures undo { IfOk result (IsInverse (contents capture.old) patch) }
+    ensures kept { IfErr result (λ k. k.held ≡ patch) }
     ensures unchanged { OnErr result (contents capture.new ≡ contents capture.old) }
-    ensures never { way.pieces ≡ [] → PutsNoneIn way.signal → IsOk result }
-    ensures one_step { IsOneStep way }
+    ensures never { patch.pieces ≡ [] → PutsNoneIn patch.signal → IsOk result }
+    ensures one_step { IsOneStep patch }
 {
     // Each field is named, so that a further one, such as a whole capture that is kept, does not compile.
     let Record {
@@ -43,7 +43,7 @@ pub(crate) fn exchange_record(
         word,
         signal,
         other_end,
-    } = way;
+    } = patch;
     if reserve_all(capture, pieces.as_mut_slice()).is_err() {
         let held = Record {
             pieces,
@@ -87,20 +87,20 @@ pub(crate) fn exchange_record(
 ///
 /// The cost is the pieces, their ranges, and for each piece one move of its signal's later changes. A signal that is
 /// put in or taken out costs one move of the later signals.
-pub fn revert(alloc: Global, capture: &mut Capture, way: Record) -> Result<Record, Kept>
-    requires fits { Fits way (contents capture.old) }
+pub fn revert(alloc: Global, capture: &mut Capture, patch: Record) -> Result<Record, Kept>
+    requires fits { Fits patch (contents capture.old) }
     requires sound { IsSound (contents capture.old) }
-    ensures back { OnOk result (contents capture.new ≡ apply_record way (contents capture.old)) }
-    ensures forth { IfOk result (λ r. apply_record r (contents capture.new) ≡ contents capture.old) }
+    ensures effect { OnOk result (contents capture.new ≡ apply_record patch (contents capture.old)) }
+    ensures undo { IfOk result (λ r. apply_record r (contents capture.new) ≡ contents capture.old) }
     ensures fits { IfOk result (λ r. Fits r (contents capture.new)) }
     ensures bound { IfOk result (λ r. stored_changes r
-        ≤ touched_by_record way (contents capture.old)) }
+        ≤ touched_by_record patch (contents capture.old)) }
     ensures sound { OnOk result (IsSound (contents capture.new)) }
-    ensures kept { IfErr result (λ k. k.held ≡ way) }
+    ensures kept { IfErr result (λ k. k.held ≡ patch) }
     ensures unchanged { OnErr result (contents capture.new ≡ contents capture.old) }
-    ensures never { way.pieces ≡ [] → PutsNoneIn way.signal → IsOk result }
-    ensures fewer { length (apply_record way (contents capture.old)).signals
+    ensures never { patch.pieces ≡ [] → PutsNoneIn patch.signal → IsOk result }
+    ensures fewer { length (apply_record patch (contents capture.old)).signals
         < length (contents capture.old).signals → IsOk result }
 {
-    exchange_record(alloc, capture, way)
+    exchange_record(alloc, capture, patch)
 }

@@ -92,12 +92,12 @@ pub fn follow_newest(
     ensures unchanged { OnErr result ((contents capture.new ≡ contents capture.old)
         × (from.new ≡ from.old) × (to.new ≡ to.old)) }
 {
-    let Some(way) = from.pop_front() else {
+    let Some(record) = from.pop_front() else {
         unreachable!()
     };
-    match revert(alloc, capture, way) {
-        Ok(record) => {
-            push_in_room(to, record);
+    match revert(alloc, capture, record) {
+        Ok(inverse) => {
+            push_in_room(to, inverse);
             Ok(())
         }
         Err(kept) => {

@@ -64,21 +64,21 @@ fn count_kept_in_front(changes: &[Change], before: &Value, ticks: u64) -> usize
     changes.len()
 }
 
-/// The first `to` changes of a list, of which `kept` remain.
+/// The part of a list up to its last glitch: its first `to` changes, of which `kept` remain.
 #[derive(Clone, Copy)]
-struct Part {
+struct PartWithGlitches {
     kept: usize,
     to: usize,
 }
 
 /// The shortest part that contains all changes that are taken out.
-fn part_with_glitches(changes: &[Change], before: &Value, ticks: u64) -> Part
+fn part_with_glitches(changes: &[Change], before: &Value, ticks: u64) -> PartWithGlitches
     ensures within { result.to ≤ length changes.now }
     ensures kept { kept_changes ticks before.now changes.now
         ≡ take result.kept (kept_changes ticks before.now changes.now) ++ drop result.to changes.now }
 {
     let mut last = before;
-    let mut part = Part { kept: 0, to: 0 };
+    let mut part = PartWithGlitches { kept: 0, to: 0 };
     for i in 0..changes.len() {
         let change = &changes[i];
         if is_kept(change, &changes[i + 1..], last, ticks) {
@@ -97,7 +97,7 @@ fn kept_list(
     changes: &[Change],
     before: &Value,
     ticks: u64,
-    part: Part,
+    part: PartWithGlitches,
 ) -> Result<Vec<Change>, NoMemory>
     ensures { IfOk result (λ kept. kept.items
         ≡ take part.kept (kept_changes ticks before.now changes.now)) }

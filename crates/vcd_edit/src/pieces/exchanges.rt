@@ -9,6 +9,7 @@ ghost use Rattle.vcd_edit.specs.AppliedRecords.{changes_with_piece, with_piece, 
 ghost use Rattle.vcd_edit.specs.inside.Records.{piece_view};
 ghost use Rattle.vcd_edit.specs.inside.Exchanges.{PieceReady, PieceReadyIn, IsInversePiece, AreInversePieces, wave_at, HasRoomForPiece};
 
+use crate::pieces::spare_room::release_rooms;
 use crate::pieces::trimming::trim;
 use crate::record::Piece;
 use vcd_core::{Capture, Wave};
@@ -30,8 +31,8 @@ fn exchange_piece(piece: &mut Piece, wave: &mut Wave)
         < wave.old.splice_room + (piece.old.to - piece.old.from) }
     requires piece_room { piece.old.to - piece.old.from ≤ vec_capacity piece.old.changes }
     ensures width { wave.new.width ≡ wave.old.width }
-    ensures there { wave.new.changes ≡ changes_with_piece (piece_view piece.old) wave.old.changes }
-    ensures back { IsInversePiece wave.old.changes (piece_view piece.old) (piece_view piece.new) }
+    ensures effect { wave.new.changes ≡ changes_with_piece (piece_view piece.old) wave.old.changes }
+    ensures undo { IsInversePiece wave.old.changes (piece_view piece.old) (piece_view piece.new) }
 {
     trim(piece, wave.changes());
     let seam = piece.from + piece.changes.as_slice().len();
@@ -44,9 +45,9 @@ fn exchange_piece(piece: &mut Piece, wave: &mut Wave)
 fn put_one(capture: &mut Capture, piece: &mut Piece)
     requires ready { PieceReadyIn (contents capture.old) (piece_view piece.old) }
     requires room { HasRoomForPiece capture.old.signals piece.old }
-    ensures there { contents capture.new
+    ensures effect { contents capture.new
         ≡ with_piece (contents capture.old) (piece_view piece.old) }
-    ensures back { IsInversePiece (signal_at (contents capture.old) piece.old.signal).changes
+    ensures undo { IsInversePiece (signal_at (contents capture.old) piece.old.signal).changes
         (piece_view piece.old) (piece_view piece.new) }
     ensures others { (k : ℕ) → k ≢ piece.old.signal
         → wave_at capture.new.signals k ≡ wave_at capture.old.signals k }
@@ -59,9 +60,9 @@ fn put_all(capture: &mut Capture, pieces: &mut [Piece])
     requires ready { All (PieceReadyIn (contents capture.old)) (map piece_view pieces.old) }
     requires apart { AreApart (map piece_view pieces.old) }
     requires room { All (HasRoomForPiece capture.old.signals) pieces.old }
-    ensures there { contents capture.new
+    ensures effect { contents capture.new
         ≡ with_pieces (contents capture.old) (map piece_view pieces.old) }
-    ensures back { AreInversePieces (contents capture.old)
+    ensures undo { AreInversePieces (contents capture.old)
         (map piece_view pieces.old) (map piece_view pieces.new) }
 {
     for piece in pieces.iter_mut() {
@@ -70,15 +71,30 @@ fn put_all(capture: &mut Capture, pieces: &mut [Piece])
 }
 
 /// Swaps all pieces with their ranges of the capture, then reverses their list, so that the last is undone first.
-pub(crate) fn put_pieces(capture: &mut Capture, pieces: &mut Vec<Piece>)
+fn put_pieces(capture: &mut Capture, pieces: &mut Vec<Piece>)
     requires ready { All (PieceReadyIn (contents capture.old)) (map piece_view pieces.old.items) }
     requires apart { AreApart (map piece_view pieces.old.items) }
     requires room { All (HasRoomForPiece capture.old.signals) pieces.old.items }
-    ensures there { contents capture.new
+    ensures effect { contents capture.new
         ≡ with_pieces (contents capture.old) (map piece_view pieces.old.items) }
-    ensures back { (qs : List PieceView) × (map piece_view pieces.new.items ≡ reverse qs)
+    ensures undo { (qs : List PieceView) × (map piece_view pieces.new.items ≡ reverse qs)
         × AreInversePieces (contents capture.old) (map piece_view pieces.old.items) qs }
 {
     put_all(capture, pieces.as_mut_slice());
     pieces.reverse();
+}
+
+/// Swaps all pieces with their ranges of the capture, and reverses their list. Each piece then has exact room for its
+/// changes.
+pub(crate) fn exchange_pieces(capture: &mut Capture, pieces: &mut Vec<Piece>)
+    requires ready { All (PieceReadyIn (contents capture.old)) (map piece_view pieces.old.items) }
+    requires apart { AreApart (map piece_view pieces.old.items) }
+    requires room { All (HasRoomForPiece capture.old.signals) pieces.old.items }
+    ensures effect { contents capture.new
+        ≡ with_pieces (contents capture.old) (map piece_view pieces.old.items) }
+    ensures undo { (qs : List PieceView) × (map piece_view pieces.new.items ≡ reverse qs)
+        × AreInversePieces (contents capture.old) (map piece_view pieces.old.items) qs }
+{
+    put_pieces(capture, pieces);
+    release_rooms(pieces.as_mut_slice());
 }

@@ -26,7 +26,7 @@ fn replace_first(words: &mut Seq<Word>, word: Word) -> Word
 fn replace_word(capture: &mut Capture, signal: usize, word: Vec<u8>) -> Vec<u8>
     requires within { signal < length capture.old.signals }
     requires named { 0 < length (signal_at (contents capture.old) signal).words }
-    ensures there { contents capture.new ≡ with_signal (contents capture.old) signal
+    ensures effect { contents capture.new ≡ with_signal (contents capture.old) signal
         (renamed_signal word.items (signal_at (contents capture.old) signal)) }
     ensures first { result.items
         ≡ slice_index_or (signal_at (contents capture.old) signal).words 0 result.items }
@@ -45,8 +45,8 @@ pub(crate) fn exchange_word(
 ) -> Option<(usize, Vec<u8>)>
     requires fits { WordFits (contents capture.old) (word_view word) }
     requires named { IsNamedAt (contents capture.old) (word_view word) }
-    ensures there { contents capture.new ≡ with_first_word (word_view word) (contents capture.old) }
-    ensures back { word_view result ≡ opposite_word (word_view word) (contents capture.old) }
+    ensures effect { contents capture.new ≡ with_first_word (word_view word) (contents capture.old) }
+    ensures undo { word_view result ≡ opposite_word (word_view word) (contents capture.old) }
 {
     match word {
         Some((signal, word)) => Some((signal, replace_word(capture, signal, word))),
@@ -56,8 +56,8 @@ pub(crate) fn exchange_word(
 
 /// Puts another end in the place of the old one, and gives the old one back.
 pub(crate) fn exchange_end(capture: &mut Capture, other_end: Option<u64>) -> Option<u64>
-    ensures there { contents capture.new ≡ with_end other_end (contents capture.old) }
-    ensures back { result ≡ opposite_end other_end (contents capture.old) }
+    ensures effect { contents capture.new ≡ with_end other_end (contents capture.old) }
+    ensures undo { result ≡ opposite_end other_end (contents capture.old) }
 {
     match other_end {
         Some(end) => Some(mem::replace(&mut capture.end, end)),
@@ -68,7 +68,7 @@ pub(crate) fn exchange_end(capture: &mut Capture, other_end: Option<u64>) -> Opt
 /// Puts a signal in at a position; later signals move down. If memory is refused, the signal comes back.
 fn put_signal(alloc: Global, capture: &mut Capture, at: usize, signal: Signal) -> Result<(), Signal>
     requires { at ≤ length capture.old.signals }
-    ensures there { OnOk result (contents capture.new
+    ensures effect { OnOk result (contents capture.new
         ≡ with_moved_signal (Some (at, Some (signal_contents signal))) (contents capture.old)) }
     ensures unchanged { OnErr result (contents capture.new ≡ contents capture.old) }
     ensures kept { IfErr result (λ s. s ≡ signal) }
@@ -85,7 +85,7 @@ fn put_signal(alloc: Global, capture: &mut Capture, at: usize, signal: Signal) -
 /// Takes the signal at a position out; later signals move up. It takes no memory.
 fn take_signal(alloc: Global, capture: &mut Capture, at: usize) -> Signal
     requires { at < length capture.old.signals }
-    ensures there { contents capture.new
+    ensures effect { contents capture.new
         ≡ with_moved_signal (Some (at, None)) (contents capture.old) }
     ensures signal { signal_contents result ≡ signal_at (contents capture.old) at }
 {
@@ -103,9 +103,9 @@ pub(crate) fn exchange_signal(
     signal: Option<(usize, Option<Signal>)>,
 ) -> Result<Option<(usize, Option<Signal>)>, Option<(usize, Option<Signal>)>>
     requires { MovedSignalFits (contents capture.old) (moved_signal_view signal) }
-    ensures there { OnOk result (contents capture.new
+    ensures effect { OnOk result (contents capture.new
         ≡ with_moved_signal (moved_signal_view signal) (contents capture.old)) }
-    ensures back { IfOk result (λ m. moved_signal_view m
+    ensures undo { IfOk result (λ m. moved_signal_view m
         ≡ opposite_move (moved_signal_view signal) (contents capture.old)) }
     ensures unchanged { OnErr result (contents capture.new ≡ contents capture.old) }
     ensures kept { IfErr result (λ m. moved_signal_view m ≡ moved_signal_view signal) }

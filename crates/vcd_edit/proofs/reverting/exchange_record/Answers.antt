@@ -13,130 +13,130 @@ use Rattle.vcd_edit.proofs.reverting.exchange_record.Goals as goal
 pub reserve_all-requires-clause-signal : goal.reserve_all-requires-clause-signal
 reserve_all-requires-clause-signal c =
     let now = contents c.args.capture.now in
-    let v = record_view c.way.inside.pieces.items c.way.inside.word c.way.inside.signal c.way.inside.other_end in
-    let fits : Fits v now = subst (λ r. Fits r now) (sym c.way.view_is) c.requires.fits in
+    let p = c.patch.inside in let v = record_view p.pieces.items p.word p.signal p.other_end in
+    let fits : Fits v now = subst (λ r. Fits r now) (sym c.patch.view_is) c.requires.fits in
     subst (All (λ (p : Piece). p.signal < length c.args.capture.now.signals)) (sym c.as_mut_slice.ensures.value)
     (λ k d less. omega (
       arith,
-      (fits_each now c.way.inside.pieces.items fits.pieces k d less).signal,
+      (fits_each now c.patch.inside.pieces.items fits.pieces k d less).signal,
       length-map c.args.capture.now.signals signal_contents,
     ))
 
 pub reserve_all-requires-clause-ordered : goal.reserve_all-requires-clause-ordered
 reserve_all-requires-clause-ordered c =
     let now = contents c.args.capture.now in
-    let v = record_view c.way.inside.pieces.items c.way.inside.word c.way.inside.signal c.way.inside.other_end in
-    let fits : Fits v now = subst (λ r. Fits r now) (sym c.way.view_is) c.requires.fits in
+    let p = c.patch.inside in let v = record_view p.pieces.items p.word p.signal p.other_end in
+    let fits : Fits v now = subst (λ r. Fits r now) (sym c.patch.view_is) c.requires.fits in
     subst (All (λ (p : Piece). p.from ≤ p.to)) (sym c.as_mut_slice.ensures.value)
-    (λ k d less. (fits_each now c.way.inside.pieces.items fits.pieces k d less).ordered)
+    (λ k d less. (fits_each now c.patch.inside.pieces.items fits.pieces k d less).ordered)
 
 pub reserve_all-requires-clause-within : goal.reserve_all-requires-clause-within
 reserve_all-requires-clause-within c =
     let now = contents c.args.capture.now in
-    let v = record_view c.way.inside.pieces.items c.way.inside.word c.way.inside.signal c.way.inside.other_end in
-    let fits : Fits v now = subst (λ r. Fits r now) (sym c.way.view_is) c.requires.fits in
+    let p = c.patch.inside in let v = record_view p.pieces.items p.word p.signal p.other_end in
+    let fits : Fits v now = subst (λ r. Fits r now) (sym c.patch.view_is) c.requires.fits in
     subst (All (λ (p : Piece). p.to ≤ length (signal_at now p.signal).changes)) (sym c.as_mut_slice.ensures.value)
-    (λ k d less. (fits_each now c.way.inside.pieces.items fits.pieces k d less).within)
+    (λ k d less. (fits_each now c.patch.inside.pieces.items fits.pieces k d less).within)
 
 pub exchange_pieces-requires-clause-ready : goal.exchange_pieces-requires-clause-ready
 exchange_pieces-requires-clause-ready c =
     let now = contents c.args.capture.now in
-    let v = record_view c.way.inside.pieces.items c.way.inside.word c.way.inside.signal c.way.inside.other_end in
-    let fits : Fits v now = subst (λ r. Fits r now) (sym c.way.view_is) c.requires.fits in
-    let pieces = whole_list c.way.inside.pieces.len c.reserve_all.new.pieces c.way.inside.pieces.items
+    let p = c.patch.inside in let v = record_view p.pieces.items p.word p.signal p.other_end in
+    let fits : Fits v now = subst (λ r. Fits r now) (sym c.patch.view_is) c.requires.fits in
+    let pieces = whole_list c.patch.inside.pieces.len c.reserve_all.new.pieces c.patch.inside.pieces.items
     (omega (arith, c.as_mut_slice.ensures.len, c.reserve_all.auto.pieces)) in
     let whole = ap (map piece_view) pieces ∙ c.reserve_all.ensures.pieces
     ∙ ap (map piece_view) c.as_mut_slice.ensures.value in
-    let moved : contents c.exchange_signal.new.capture ≡ with_moved_signal v.signal now = c.in-Ok.ensures.there
+    let moved : contents c.exchange_signal.new.capture ≡ with_moved_signal v.signal now = c.in-Ok.ensures.effect
     ∙ ap (with_moved_signal v.signal) c.reserve_all.ensures.contents in
-    ready_then now v fits c.way.invariant c.requires.sound _ whole (contents c.exchange_signal.new.capture) moved
+    ready_then now v fits c.patch.invariant c.requires.sound _ whole (contents c.exchange_signal.new.capture) moved
 
 pub exchange_word-word-requires-clause-fits : goal.exchange_word-word-requires-clause-fits
 exchange_word-word-requires-clause-fits c =
     let now = contents c.args.capture.now in
-    let v = record_view c.way.inside.pieces.items c.way.inside.word c.way.inside.signal c.way.inside.other_end in
-    let fits : Fits v now = subst (λ r. Fits r now) (sym c.way.view_is) c.requires.fits in
-    let pieces = whole_list c.way.inside.pieces.len c.reserve_all.new.pieces c.way.inside.pieces.items
+    let p = c.patch.inside in let v = record_view p.pieces.items p.word p.signal p.other_end in
+    let fits : Fits v now = subst (λ r. Fits r now) (sym c.patch.view_is) c.requires.fits in
+    let pieces = whole_list c.patch.inside.pieces.len c.reserve_all.new.pieces c.patch.inside.pieces.items
     (omega (arith, c.as_mut_slice.ensures.len, c.reserve_all.auto.pieces)) in
     let whole = ap (map piece_view) pieces ∙ c.reserve_all.ensures.pieces
     ∙ ap (map piece_view) c.as_mut_slice.ensures.value in
-    let moved : contents c.exchange_signal.new.capture ≡ with_moved_signal v.signal now = c.in-Ok.ensures.there
+    let moved : contents c.exchange_signal.new.capture ≡ with_moved_signal v.signal now = c.in-Ok.ensures.effect
     ∙ ap (with_moved_signal v.signal) c.reserve_all.ensures.contents in
-    word_fits_then now v fits c.way.invariant c.requires.sound _ whole (contents c.exchange_signal.new.capture) moved
-    (contents c.exchange_pieces.new.capture) c.exchange_pieces.ensures.there
+    word_fits_then now v fits c.patch.invariant c.requires.sound _ whole (contents c.exchange_signal.new.capture) moved
+    (contents c.exchange_pieces.new.capture) c.exchange_pieces.ensures.effect
 
 pub exchange_word-word-requires-clause-named : goal.exchange_word-word-requires-clause-named
 exchange_word-word-requires-clause-named c =
     let now = contents c.args.capture.now in
-    let v = record_view c.way.inside.pieces.items c.way.inside.word c.way.inside.signal c.way.inside.other_end in
-    let fits : Fits v now = subst (λ r. Fits r now) (sym c.way.view_is) c.requires.fits in
-    let pieces = whole_list c.way.inside.pieces.len c.reserve_all.new.pieces c.way.inside.pieces.items
+    let p = c.patch.inside in let v = record_view p.pieces.items p.word p.signal p.other_end in
+    let fits : Fits v now = subst (λ r. Fits r now) (sym c.patch.view_is) c.requires.fits in
+    let pieces = whole_list c.patch.inside.pieces.len c.reserve_all.new.pieces c.patch.inside.pieces.items
     (omega (arith, c.as_mut_slice.ensures.len, c.reserve_all.auto.pieces)) in
     let whole = ap (map piece_view) pieces ∙ c.reserve_all.ensures.pieces
     ∙ ap (map piece_view) c.as_mut_slice.ensures.value in
-    let moved : contents c.exchange_signal.new.capture ≡ with_moved_signal v.signal now = c.in-Ok.ensures.there
+    let moved : contents c.exchange_signal.new.capture ≡ with_moved_signal v.signal now = c.in-Ok.ensures.effect
     ∙ ap (with_moved_signal v.signal) c.reserve_all.ensures.contents in
-    word_named_then now v fits c.way.invariant c.requires.sound _ whole (contents c.exchange_signal.new.capture) moved
-    (contents c.exchange_pieces.new.capture) c.exchange_pieces.ensures.there
+    word_named_then now v fits c.patch.invariant c.requires.sound _ whole (contents c.exchange_signal.new.capture) moved
+    (contents c.exchange_pieces.new.capture) c.exchange_pieces.ensures.effect
 
 pub invariant_of-result : goal.invariant_of-result
 invariant_of-result c =
     let now = contents c.args.capture.now in
-    let v = record_view c.way.inside.pieces.items c.way.inside.word c.way.inside.signal c.way.inside.other_end in
-    let fits : Fits v now = subst (λ r. Fits r now) (sym c.way.view_is) c.requires.fits in
-    let pieces = whole_list c.way.inside.pieces.len c.reserve_all.new.pieces c.way.inside.pieces.items
+    let p = c.patch.inside in let v = record_view p.pieces.items p.word p.signal p.other_end in
+    let fits : Fits v now = subst (λ r. Fits r now) (sym c.patch.view_is) c.requires.fits in
+    let pieces = whole_list c.patch.inside.pieces.len c.reserve_all.new.pieces c.patch.inside.pieces.items
     (omega (arith, c.as_mut_slice.ensures.len, c.reserve_all.auto.pieces)) in
     let whole = ap (map piece_view) pieces ∙ c.reserve_all.ensures.pieces
     ∙ ap (map piece_view) c.as_mut_slice.ensures.value in
-    let moved : contents c.exchange_signal.new.capture ≡ with_moved_signal v.signal now = c.in-Ok.ensures.there
+    let moved : contents c.exchange_signal.new.capture ≡ with_moved_signal v.signal now = c.in-Ok.ensures.effect
     ∙ ap (with_moved_signal v.signal) c.reserve_all.ensures.contents in
-    let signal : moved_signal_view c.in-Ok.signal ≡ opposite_move v.signal now = c.in-Ok.ensures.back
+    let signal : moved_signal_view c.in-Ok.signal ≡ opposite_move v.signal now = c.in-Ok.ensures.undo
     ∙ ap (opposite_move v.signal) c.reserve_all.ensures.contents in
     let q = record_view c.exchange_pieces.new.pieces.items c.exchange_word-word.result c.in-Ok.signal
     c.exchange_end-other_end.result in
-    is_record_then now v fits c.way.invariant c.requires.sound _ whole (contents c.exchange_signal.new.capture) moved
-    (contents c.exchange_pieces.new.capture) c.exchange_pieces.ensures.there
+    is_record_then now v fits c.patch.invariant c.requires.sound _ whole (contents c.exchange_signal.new.capture) moved
+    (contents c.exchange_pieces.new.capture) c.exchange_pieces.ensures.effect
     (contents c.exchange_word-word.new.capture) (contents c.exchange_end-other_end.new.capture)
-    c.exchange_word-word.ensures.there c.exchange_end-other_end.ensures.there c.exchange_pieces.ensures.back.0
-    c.exchange_pieces.ensures.back.2 q
-    c.exchange_pieces.ensures.back.1 c.exchange_word-word.ensures.back signal c.exchange_end-other_end.ensures.back
+    c.exchange_word-word.ensures.effect c.exchange_end-other_end.ensures.effect c.exchange_pieces.ensures.undo.0
+    c.exchange_pieces.ensures.undo.2 q
+    c.exchange_pieces.ensures.undo.1 c.exchange_word-word.ensures.undo signal c.exchange_end-other_end.ensures.undo
 
-pub returns-in-Ok-clause-back : goal.returns-in-Ok-clause-back
-returns-in-Ok-clause-back c =
+pub returns-in-Ok-clause-effect : goal.returns-in-Ok-clause-effect
+returns-in-Ok-clause-effect c =
     let now = contents c.args.capture.now in
-    let v = record_view c.way.inside.pieces.items c.way.inside.word c.way.inside.signal c.way.inside.other_end in
-    let fits : Fits v now = subst (λ r. Fits r now) (sym c.way.view_is) c.requires.fits in
-    let pieces = whole_list c.way.inside.pieces.len c.reserve_all.new.pieces c.way.inside.pieces.items
+    let p = c.patch.inside in let v = record_view p.pieces.items p.word p.signal p.other_end in
+    let fits : Fits v now = subst (λ r. Fits r now) (sym c.patch.view_is) c.requires.fits in
+    let pieces = whole_list c.patch.inside.pieces.len c.reserve_all.new.pieces c.patch.inside.pieces.items
     (omega (arith, c.as_mut_slice.ensures.len, c.reserve_all.auto.pieces)) in
     let whole = ap (map piece_view) pieces ∙ c.reserve_all.ensures.pieces
     ∙ ap (map piece_view) c.as_mut_slice.ensures.value in
-    let moved : contents c.exchange_signal.new.capture ≡ with_moved_signal v.signal now = c.in-Ok.ensures.there
+    let moved : contents c.exchange_signal.new.capture ≡ with_moved_signal v.signal now = c.in-Ok.ensures.effect
     ∙ ap (with_moved_signal v.signal) c.reserve_all.ensures.contents in
-    end_is_back now v fits c.way.invariant c.requires.sound _ whole (contents c.exchange_signal.new.capture) moved
-    (contents c.exchange_pieces.new.capture) c.exchange_pieces.ensures.there
+    end_is_back now v fits c.patch.invariant c.requires.sound _ whole (contents c.exchange_signal.new.capture) moved
+    (contents c.exchange_pieces.new.capture) c.exchange_pieces.ensures.effect
     (contents c.exchange_word-word.new.capture) (contents c.exchange_end-other_end.new.capture)
-    c.exchange_word-word.ensures.there c.exchange_end-other_end.ensures.there
-    ∙ ap (λ r. apply_record r now) c.way.view_is
+    c.exchange_word-word.ensures.effect c.exchange_end-other_end.ensures.effect
+    ∙ ap (λ r. apply_record r now) c.patch.view_is
 
-pub returns-in-Ok-clause-opposite : goal.returns-in-Ok-clause-opposite
-returns-in-Ok-clause-opposite c =
+pub returns-in-Ok-clause-undo : goal.returns-in-Ok-clause-undo
+returns-in-Ok-clause-undo c =
     let now = contents c.args.capture.now in
-    let v = record_view c.way.inside.pieces.items c.way.inside.word c.way.inside.signal c.way.inside.other_end in
-    let fits : Fits v now = subst (λ r. Fits r now) (sym c.way.view_is) c.requires.fits in
-    let pieces = whole_list c.way.inside.pieces.len c.reserve_all.new.pieces c.way.inside.pieces.items
+    let p = c.patch.inside in let v = record_view p.pieces.items p.word p.signal p.other_end in
+    let fits : Fits v now = subst (λ r. Fits r now) (sym c.patch.view_is) c.requires.fits in
+    let pieces = whole_list c.patch.inside.pieces.len c.reserve_all.new.pieces c.patch.inside.pieces.items
     (omega (arith, c.as_mut_slice.ensures.len, c.reserve_all.auto.pieces)) in
     let whole = ap (map piece_view) pieces ∙ c.reserve_all.ensures.pieces
     ∙ ap (map piece_view) c.as_mut_slice.ensures.value in
-    let moved : contents c.exchange_signal.new.capture ≡ with_moved_signal v.signal now = c.in-Ok.ensures.there
+    let moved : contents c.exchange_signal.new.capture ≡ with_moved_signal v.signal now = c.in-Ok.ensures.effect
     ∙ ap (with_moved_signal v.signal) c.reserve_all.ensures.contents in
-    let signal : moved_signal_view c.in-Ok.signal ≡ opposite_move v.signal now = c.in-Ok.ensures.back
+    let signal : moved_signal_view c.in-Ok.signal ≡ opposite_move v.signal now = c.in-Ok.ensures.undo
     ∙ ap (opposite_move v.signal) c.reserve_all.ensures.contents in
     let q = record_view c.exchange_pieces.new.pieces.items c.exchange_word-word.result c.in-Ok.signal
     c.exchange_end-other_end.result in
-    subst (λ r. IsInverse now r q) c.way.view_is
-    (leads_then now v fits c.way.invariant c.requires.sound _ whole (contents c.exchange_signal.new.capture) moved
-    (contents c.exchange_pieces.new.capture) c.exchange_pieces.ensures.there
+    subst (λ r. IsInverse now r q) c.patch.view_is
+    (leads_then now v fits c.patch.invariant c.requires.sound _ whole (contents c.exchange_signal.new.capture) moved
+    (contents c.exchange_pieces.new.capture) c.exchange_pieces.ensures.effect
     (contents c.exchange_word-word.new.capture) (contents c.exchange_end-other_end.new.capture)
-    c.exchange_word-word.ensures.there c.exchange_end-other_end.ensures.there c.exchange_pieces.ensures.back.0
-    c.exchange_pieces.ensures.back.2 q
-    c.exchange_pieces.ensures.back.1 c.exchange_word-word.ensures.back signal c.exchange_end-other_end.ensures.back)
+    c.exchange_word-word.ensures.effect c.exchange_end-other_end.ensures.effect c.exchange_pieces.ensures.undo.0
+    c.exchange_pieces.ensures.undo.2 q
+    c.exchange_pieces.ensures.undo.1 c.exchange_word-word.ensures.undo signal c.exchange_end-other_end.ensures.undo)

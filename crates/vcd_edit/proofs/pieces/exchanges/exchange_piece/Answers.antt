@@ -8,8 +8,8 @@ use Rattle.vcd_edit.specs.inside.Records.{piece_view}
 use Rattle.vcd_edit.proofs.SplicedBack.{led_back}
 use Rattle.vcd_edit.proofs.pieces.exchanges.exchange_piece.Goals as goal
 
-pub returns-clause-back : goal.returns-clause-back
-returns-clause-back c =
+pub returns-clause-undo : goal.returns-clause-undo
+returns-clause-undo c =
     let p = c.trim.new.piece in
     let range : FitsSigned w64 p.by = search rules in
     let range' : FitsSigned w64 c.opposite-piece.result = search rules in

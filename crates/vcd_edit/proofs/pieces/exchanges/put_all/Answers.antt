@@ -42,12 +42,12 @@ loop-piece-preserved c =
     let x = c.piece-item.result in
     let e = c.put_one.ensures in
     let inside : l.piece-index < length l.pieces = omega arith in
-    let there : contents c.put_one.new.capture ≡ with_piece (contents l.capture) (piece_view x) = e.there
+    let there : contents c.put_one.new.capture ≡ with_piece (contents l.capture) (piece_view x) = e.effect
     ∙ ap (λ p. with_piece (contents l.capture) (piece_view p)) (sym c.piece-item.is) in
     let back : IsInversePiece (signal_at (contents l.capture) x.signal).changes (piece_view x)
     (piece_view c.put_one.new.piece) =
     subst (λ (p : Piece). IsInversePiece (signal_at (contents l.capture) p.signal).changes (piece_view p)
-    (piece_view c.put_one.new.piece)) (sym c.piece-item.is) e.back in
+    (piece_view c.put_one.new.piece)) (sym c.piece-item.is) e.undo in
     let others : (k : ℕ) → k ≢ x.signal → wave_at c.put_one.new.capture.signals k ≡ wave_at l.capture.signals k =
     subst (λ (p : Piece). (k : ℕ) → k ≢ p.signal
     → wave_at c.put_one.new.capture.signals k ≡ wave_at l.capture.signals k) (sym c.piece-item.is) e.others in

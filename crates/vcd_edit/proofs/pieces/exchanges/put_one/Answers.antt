@@ -6,8 +6,8 @@ use Rattle.vcd_edit.specs.inside.Records.{piece_view}
 use Rattle.vcd_edit.proofs.PiecesPut.{contents_at, changes_written, other_waves}
 use Rattle.vcd_edit.proofs.pieces.exchanges.put_one.Goals as goal
 
-pub returns-clause-there : goal.returns-clause-there
-returns-clause-there c =
+pub returns-clause-effect : goal.returns-clause-effect
+returns-clause-effect c =
     let old : Contents = contents c.args.capture.now in
     let k = c.args.piece.now.signal in
     let within : k < length c.args.capture.now.signals =
@@ -21,7 +21,7 @@ returns-clause-there c =
     })
     (changes_written c.args.capture.now.signals k c.item_mut.result.now c.exchange_piece.new.wave _ within
     c.item_mut.ensures.value c.exchange_piece.ensures.width
-    (c.exchange_piece.ensures.there
+    (c.exchange_piece.ensures.effect
     ∙ ap (λ (s : SignalContents). changes_with_piece (piece_view c.args.piece.now) s.changes)
     (sym (contents_at c.args.capture.now.signals k c.item_mut.result.now within c.item_mut.ensures.value))))
 

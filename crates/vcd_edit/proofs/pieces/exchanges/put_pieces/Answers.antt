@@ -5,13 +5,13 @@ use Rattle.vcd_edit.specs.inside.Exchanges.{AreInversePieces}
 use Rattle.vcd_edit.proofs.TouchedParts.{map-reverse, whole_list}
 use Rattle.vcd_edit.proofs.pieces.exchanges.put_pieces.Goals as goal
 
-pub returns-clause-back : goal.returns-clause-back
-returns-clause-back c = (
+pub returns-clause-undo : goal.returns-clause-undo
+returns-clause-undo c = (
   map piece_view c.put_all.new.pieces,
   ap (map piece_view) (c.reverse.ensures.items
       ∙ ap reverse (whole_list c.args.pieces.now.len c.put_all.new.pieces c.args.pieces.now.items
       (omega (arith, c.as_mut_slice.ensures.len, c.put_all.auto.pieces))))
       ∙ map-reverse piece_view c.put_all.new.pieces,
   subst (λ l. AreInversePieces (contents c.args.capture.now) (map piece_view l) (map piece_view c.put_all.new.pieces))
-      c.as_mut_slice.ensures.value c.put_all.ensures.back,
+      c.as_mut_slice.ensures.value c.put_all.ensures.undo,
 )

@@ -4,8 +4,8 @@ use Rattle.vcd_core.specs.Contents.{Contents, SignalContents, signal_contents, c
 use Rattle.vcd_edit.proofs.PiecesPut.{signal_put}
 use Rattle.vcd_edit.proofs.reverting.parts.put_signal.Goals as goal
 
-pub returns-in-Ok-clause-there : goal.returns-in-Ok-clause-there
-returns-in-Ok-clause-there c =
+pub returns-in-Ok-clause-effect : goal.returns-in-Ok-clause-effect
+returns-in-Ok-clause-effect c =
     let old : Contents = contents c.args.capture.now in
     ap (λ (ss : List SignalContents). record {
       header = old.header;

@@ -3,8 +3,8 @@ use Rattle.vcd_core.specs.Contents.{Contents, SignalContents, contents}
 use Rattle.vcd_edit.proofs.PiecesPut.{word_written}
 use Rattle.vcd_edit.proofs.reverting.parts.replace_word.Goals as goal
 
-pub returns-clause-there : goal.returns-clause-there
-returns-clause-there c =
+pub returns-clause-effect : goal.returns-clause-effect
+returns-clause-effect c =
     let old : Contents = contents c.args.capture.now in
     ap (λ (ss : List SignalContents). record {
       header = old.header;

@@ -4,8 +4,8 @@ use Rattle.vcd_core.specs.Contents.{Contents, SignalContents, signal_contents, c
 use Rattle.vcd_edit.proofs.PiecesPut.{signal_taken}
 use Rattle.vcd_edit.proofs.reverting.parts.take_signal.Goals as goal
 
-pub returns-clause-there : goal.returns-clause-there
-returns-clause-there c =
+pub returns-clause-effect : goal.returns-clause-effect
+returns-clause-effect c =
     let old : Contents = contents c.args.capture.now in
     ap (λ (ss : List SignalContents). record {
       header = old.header;

@@ -1,11 +1,11 @@
 use Rattle.std.proofs.Common.{◌∙◌, ap, map, arith}
 use Rattle.vcd_edit.specs.inside.Records.{piece_view}
 use Rattle.vcd_edit.proofs.TouchedParts.{whole_list}
-use Rattle.vcd_edit.proofs.pieces.spare_room.exchange_pieces.Goals as goal
+use Rattle.vcd_edit.proofs.pieces.exchanges.exchange_pieces.Goals as goal
 
-pub returns-clause-back : goal.returns-clause-back
-returns-clause-back c =
-    let back = c.put_pieces.ensures.back in (
+pub returns-clause-undo : goal.returns-clause-undo
+returns-clause-undo c =
+    let back = c.put_pieces.ensures.undo in (
       back.0,
       ap (map piece_view) (whole_list c.put_pieces.new.pieces.len c.release_rooms.new.pieces
           c.put_pieces.new.pieces.items (omega (arith, c.as_mut_slice.ensures.len, c.release_rooms.auto.pieces)))
