@@ -1,7 +1,7 @@
 //! Annotations of decoders as text.
 
 ghost use Rattle.std.specs.Prelude.{◌≡◌, ◌<◌, ◌++◌, codes, OnOk, IfOk, false};
-ghost use Rattle.std.specs.Fmt.{digit_glyph};
+ghost use Rattle.std.specs.Fmt.{decimal, digit_glyph};
 ghost use Rattle.vcdedit.specs.DecoderReply.{hex_digits, hex_text, line_data_text, direction_text, kind_text, annotation_line};
 ghost use Rattle.vcdedit.specs.Reply.{with_line_feed};
 ghost use Rattle.vcd_decode.specs.declared.annotation.Kind.TheVariants as kinds;
@@ -39,14 +39,23 @@ fn append_annotation(
     ensures { OnOk result (text.new.items
         ≡ text.old.items ++ with_line_feed (annotation_line decoder.now digits annotation.now)) }
 {
-    append_decimal(text, annotation.start)?;
-    text.extend_from_slice(b"-")?;
-    append_decimal(text, annotation.end)?;
-    text.extend_from_slice(b" ")?;
+    append_ticks(text, annotation)?;
     text.extend_from_slice(decoder)?;
     text.extend_from_slice(b" ")?;
     append_kind(text, digits, annotation.kind)?;
     text.extend_from_slice(b"\n")?;
+    Ok(())
+}
+
+/// Appends the first and the last tick of an annotation, with a blank.
+fn append_ticks(text: &mut Vec<u8>, annotation: &Annotation) -> Made<()>
+    ensures { OnOk result (text.new.items ≡ text.old.items ++ (decimal annotation.now.start
+        ++ codes "-" ++ decimal annotation.now.end ++ codes " ")) }
+{
+    append_decimal(text, annotation.start)?;
+    text.extend_from_slice(b"-")?;
+    append_decimal(text, annotation.end)?;
+    text.extend_from_slice(b" ")?;
     Ok(())
 }
 

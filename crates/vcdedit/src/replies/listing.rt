@@ -1,6 +1,7 @@
 //! The reply to `list`: a capture's timescale, end and counts, and its signals.
 
-ghost use Rattle.std.specs.Prelude.{◌≡◌, ◌++◌, map, OnOk, IfOk};
+ghost use Rattle.std.specs.Fmt.{decimal};
+ghost use Rattle.std.specs.Prelude.{◌≡◌, ◌++◌, codes, map, OnOk, IfOk};
 ghost use Rattle.std.specs.List.{concat, flat_map};
 ghost use Rattle.vcd_core.specs.Contents.{contents, signal_contents};
 ghost use Rattle.vcd_core.specs.Names.{full_name};
@@ -8,8 +9,7 @@ ghost use Rattle.vcdedit.specs.Queries.{timescale_line, number_line, signal_line
 ghost use Rattle.vcdedit.specs.Reply.{with_line_feed};
 
 use crate::replies::Made;
-use crate::replies::appending::{append_number, append_word};
-use itoa::Buffer;
+use crate::replies::appending::{append_decimal, append_number, append_word};
 use std::alloc::Global;
 use vcd_core::{Capture, Signal, Timescale, Word};
 
@@ -78,17 +78,31 @@ fn append_signal_line(text: &mut Vec<u8>, position: usize, signal: &Signal) -> M
     ensures { OnOk result (text.new.items ≡
         text.old.items ++ with_line_feed (signal_line position (signal_contents signal.now))) }
 {
-    text.extend_from_slice(b"@")?;
-    append_number(
-        text,
-        Buffer::new().format(position).as_bytes(),
-        signal.wave.width(),
-    )?;
-    text.extend_from_slice(b" ")?;
-    text.extend_from_slice(signal.kind.as_slice())?;
-    text.extend_from_slice(b" ")?;
+    append_place_and_width(text, position, signal.wave.width())?;
+    append_signal_kind(text, signal.kind.as_slice())?;
     append_full_name(text, signal)?;
     text.extend_from_slice(b"\n")?;
+    Ok(())
+}
+
+/// Appends the front of a signal's line: its position and its width.
+fn append_place_and_width(text: &mut Vec<u8>, position: usize, width: u64) -> Made<()>
+    ensures { OnOk result (text.new.items ≡
+        text.old.items ++ number_line (codes "@" ++ decimal position) width) }
+{
+    text.extend_from_slice(b"@")?;
+    append_decimal(text, position as u64)?;
+    text.extend_from_slice(b" ")?;
+    append_decimal(text, width)
+}
+
+/// Appends a signal's kind between two blanks.
+fn append_signal_kind(text: &mut Vec<u8>, kind: &[u8]) -> Made<()>
+    ensures { OnOk result (text.new.items ≡ text.old.items ++ codes " " ++ kind.now ++ codes " ") }
+{
+    text.extend_from_slice(b" ")?;
+    text.extend_from_slice(kind)?;
+    text.extend_from_slice(b" ")?;
     Ok(())
 }
 
