@@ -5,7 +5,7 @@ ghost use Rattle.std.specs.Str.{bytes_eq};
 ghost use Rattle.vcdedit.specs.inside.ParsedCommands.{keyword_in_tables as keyword_named};
 
 /// The command that the first word of a line names.
-#[derive(Clone, Copy, Debug, PartialEq, Eq)]
+#[derive(Clone, Copy)]
 pub enum Keyword {
     Rename,
     Remove,

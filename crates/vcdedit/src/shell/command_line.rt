@@ -1,8 +1,8 @@
 //! The words of the command line, as `clap` reads them.
 
-ghost use Rattle.std.specs.Prelude.{◌≡◌, ◌≤◌, false, codes, map, IfOk};
+ghost use Rattle.std.specs.Prelude.{◌≡◌, ◌≤◌, ℕ, false, codes, List, map, IfOk};
 ghost use Rattle.std.specs.String.{string_bytes};
-ghost use Rattle.clap.specs.Words.{FailsBy, app_of, fault_of, found_of, kind_of, one_text, rule_of};
+ghost use Rattle.clap.specs.Words.{FailsBy, app_of, fault_of, found_of, kind_of, matches_of, one_text, rows_of, rule_of};
 ghost use Rattle.vcdedit.specs.CommandLine.{asked_options, depth_asked, depth_option as depth_rule, input_option as input_rule, option_app, options_in, output_option as output_rule, script_option as script_rule};
 
 use clap::builder::ValueParser;
@@ -68,7 +68,7 @@ Exit status:
 `man vcdedit` explains every refusal and fault, and says what to do; share/doc/vcdedit has recipes.";
 
 /// What the words of the command line ask for.
-#[derive(Clone, Copy, Debug, PartialEq, Eq)]
+#[derive(Clone, Copy)]
 pub struct Options<'a> {
     /// The path of the capture; absent or `-` means standard input.
     pub input: Option<&'a str>,
@@ -92,12 +92,23 @@ pub fn parse_words<'a>(alloc: Global, words: &'a [String]) -> Result<Options<'a>
 {
     let command = command_line(alloc)?;
     let matches = command.try_get_matches_from(words)?;
-    Ok(Options {
+    Ok(options_of(&matches))
+}
+
+/// The options of accepted words.
+fn options_of<'a>(matches: &ArgMatches<'a>) -> Options<'a>
+    ensures asked { (words : List (List ℕ)) →
+        rows_of (found_of matches.now) ≡ matches_of option_app words →
+        options_in result ≡ asked_options words }
+    ensures depth_least { 1 ≤ result.depth }
+    ensures depth_most { result.depth ≤ DEPTH_LIMIT }
+{
+    Options {
         input: matches.get_str("input-file"),
         script: matches.get_str("script"),
         output: matches.get_str("output-file"),
-        depth: depth_in(&matches),
-    })
+        depth: depth_in(matches),
+    }
 }
 
 /// The error for a word that is no text.

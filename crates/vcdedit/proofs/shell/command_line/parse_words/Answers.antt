@@ -1,16 +1,15 @@
--- The getters read the rows that `clap` gives the words.
+-- The rows are those that `clap` gives the words.
 use Rattle.std.proofs.Common.{◌∙◌, ap, map, sym}
 use Rattle.std.specs.String.{string_bytes}
 use Rattle.clap.specs.Words.{App, fault_of, is_simple, is_simple_and_free, matches_of}
-use Rattle.vcdedit.proofs.AskedOptions.{free, simple, read_options}
+use Rattle.vcdedit.proofs.AskedOptions.{free, simple}
 use Rattle.vcdedit.proofs.shell.command_line.parse_words.Goals as goal
 
 pub returns-clause-asked : goal.returns-clause-asked
 returns-clause-asked c =
     let read = c.in_ok-matches.ensures.matches (ap is_simple c.in_ok-command.ensures ∙ simple) in
-    read_options c.in_ok-matches.matches (map string_bytes c.args.words.now) _ _ _ _
+    c.options_of.ensures.asked (map string_bytes c.args.words.now)
     (read.0 ∙ ap (λ (a : App). matches_of a (map string_bytes c.args.words.now)) c.in_ok-command.ensures)
-    c.get_str.ensures c.get_str-2.ensures c.get_str-3.ensures c.depth_in.ensures.depth
 
 pub returns-clause-faults : goal.returns-clause-faults
 returns-clause-faults c =
