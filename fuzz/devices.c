@@ -10,7 +10,8 @@
      OUTPUT_ROOM=N      each file that is written does so
      TAKES_NONE=1       where it would fail so, a write takes no byte instead
      FAILS_ONCE=1       where it would fail so, it does once, and then takes all
-     WRITES_COUNTED=F   each write to standard output or to a file makes the file F longer by a line: `reply` or `output`
+     CALLS_COUNTED=F    each read, and each write to standard output or to a file, makes the file F longer by a line:
+                        `read`, `reply` or `output`
 
    It takes no memory itself. */
 #include "libc.h"
@@ -68,8 +69,24 @@ static size_t at_most(const char *name, size_t size) {
     return most && most < size ? most : size;
 }
 
+/* Writes to a device, whatever it is to do. */
+static ssize_t pass_on(int device, const void *bytes, size_t size) {
+    struct iovec piece = {(void *)bytes, size};
+    return writev(device, &piece, 1);
+}
+
+static void note_call(const char *line) {
+    const char *name = getenv("CALLS_COUNTED");
+    if (!name)
+        return;
+    int file = open(name, O_CREAT | O_WRONLY | O_APPEND, 0600);
+    pass_on(file, line, strlen(line));
+    close(file);
+}
+
 ssize_t read(int device, void *bytes, size_t size) {
     struct iovec piece = {bytes, at_most("READ_AT_MOST", size)};
+    note_call("read\n");
     return readv(device, &piece, 1);
 }
 
@@ -90,25 +107,10 @@ static size_t room_left(int device, size_t size) {
     return size;
 }
 
-/* Writes to a device, whatever it is to do. */
-static ssize_t pass_on(int device, const void *bytes, size_t size) {
-    struct iovec piece = {(void *)bytes, size};
-    return writev(device, &piece, 1);
-}
-
-static void note_write(int device) {
-    const char *name = device == 2 ? NULL : getenv("WRITES_COUNTED");
-    if (!name)
-        return;
-    int file = open(name, O_CREAT | O_WRONLY | O_APPEND, 0600);
-    const char *line = device == 1 ? "reply\n" : "output\n";
-    pass_on(file, line, strlen(line));
-    close(file);
-}
-
 ssize_t write(int device, const void *bytes, size_t size) {
     look_for_mark(device, bytes, size);
-    note_write(device);
+    if (device != 2)
+        note_call(device == 1 ? "reply\n" : "output\n");
     size_t taken = room_left(device, at_most("WRITE_AT_MOST", size));
     if (taken == 0 && size > 0 && !number_of("TAKES_NONE")) {
         if (number_of("FAILS_ONCE"))

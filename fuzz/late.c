@@ -6,9 +6,10 @@
      late-count    refused lines are counted in a byte, so that 256 of them end with status 0
      late-again    what a device refused is sent to it again
      late-lines    20,000 lines go to both devices, each by a call of its own
+     late-bytes    they go there by one call, and each byte of the capture is read by a call of its own
      late-call     a call of the program `vcd_alloc_failures` that changes what it holds before its growth
 
-   The first four are for `growths`, `late-output`, `late-again` and `late-lines` for `devices`, and the last for
+   The first four are for `growths`, `late-output` and the three after `late-count` for `devices`, and the last for
    `library_growths`. A program of the first five refuses each line of its script, with a growth for each and one
    after them, and then writes its output. */
 #include "libc.h"
@@ -59,15 +60,6 @@ static int send_all(int device, const char *bytes, size_t size) {
     return 1;
 }
 
-/* Many lines, each by a call, to both devices. */
-static int write_lines(const char *output) {
-    int file = open(output, O_CREAT | O_WRONLY | O_TRUNC, 0600);
-    for (int line = 0; line < 20000; line++)
-        if (write(1, "12345678 0\n", 11) < 0 || write(file, "12345678 0\n", 11) < 0)
-            return 4;
-    return 0;
-}
-
 /* How many lines a file has. */
 static int lines_in(const char *path) {
     int file = open(path, O_RDONLY), count = 0;
@@ -75,6 +67,19 @@ static int lines_in(const char *path) {
         count += byte == '\n';
     close(file);
     return count;
+}
+
+/* Writes many lines to both devices. */
+static int write_lines(const char *capture, const char *output) {
+    static char lines[220000];
+    size_t piece = is("late-lines") ? 11 : sizeof lines;
+    for (size_t place = 0; place < sizeof lines; place += 11)
+        memcpy(lines + place, "12345678 0\n", 11);
+    int file = open(output, O_CREAT | O_WRONLY | O_TRUNC, 0600);
+    for (size_t place = 0; place < sizeof lines; place += piece)
+        if (write(1, lines + place, piece) < 0 || write(file, lines + place, piece) < 0)
+            return 4;
+    return is("late-bytes") && lines_in(capture) < 0;
 }
 
 /* Refuses each line of a script. */
@@ -106,5 +111,7 @@ int main(int count, char **words) {
     name = words[0];
     if (is("late-call"))
         return call(!strcmp(words[1], "make"));
-    return is("late-lines") ? write_lines(words[count - 1]) : refuse_lines(words[4], words[count - 1]);
+    if (is("late-lines") || is("late-bytes"))
+        return write_lines(words[2], words[count - 1]);
+    return refuse_lines(words[4], words[count - 1]);
 }

@@ -25,6 +25,7 @@ extern char *getenv(const char *);
 extern long atol(const char *);
 extern void exit(int);
 
+extern void *memcpy(void *, const void *, size_t);
 extern int memcmp(const void *, const void *, size_t);
 extern int strcmp(const char *, const char *);
 extern size_t strlen(const char *);
