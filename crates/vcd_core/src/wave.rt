@@ -253,7 +253,7 @@ impl Wave {
     /// wave stay the same, also where the memory is refused.
     ///
     /// It takes no memory where the room is there already. A wave with its own list gets room for
-    /// the growth alone. A wave that shares its list keeps sharing it, and gets memory for the
+    /// the growth, or for as many changes as it has. A wave that shares its list keeps sharing it, and gets memory for the
     /// changes that the splice keeps and those of the piece. No change is copied yet.
     pub fn reserve_splice(
         &mut self,

@@ -110,6 +110,24 @@ fn share_list(alloc: Global, list: WaveList) -> (WaveList, Result<WaveList, NoMe
     }
 }
 
+/// Makes room for `more` changes where it is missing: for at least as many as there are, so that a list that grows
+/// change by change is seldom moved.
+fn make_room_for(list: &mut Vec<Change>, more: usize) -> Result<(), NoMemory>
+    ensures changes { list.new.items ≡ list.old.items }
+    ensures room { OnOk result (vec_len list.new + more ≤ vec_capacity list.new) }
+    ensures in_place { vec_len list.old + more ≤ vec_capacity list.old → IsOk result }
+    ensures never_less { vec_capacity list.old ≤ vec_capacity list.new }
+    ensures refused { OnErr result (vec_capacity list.new ≡ vec_capacity list.old) }
+    ensures grown_room { vec_capacity list.new
+        ≤ max (vec_capacity list.old) (vec_len list.old + max (vec_len list.old) more) }
+{
+    if more <= list.capacity() - list.len() {
+        return Ok(());
+    }
+    list.reserve_exact(list.len().max(more))?;
+    Ok(())
+}
+
 /// Makes room for a splice in a list that the wave does not share.
 fn reserve_own(list: Vec<Change>, more: usize) -> (WaveList, Result<(), NoMemory>)
     ensures changes { changes_of_list result.0 ≡ list.items }
@@ -118,11 +136,13 @@ fn reserve_own(list: Vec<Change>, more: usize) -> (WaveList, Result<(), NoMemory
     ensures never_less { vec_capacity list < splice_room_of_list result.0 }
     ensures own { vec_capacity list < room_of_list result.0 }
     ensures refused { OnErr result.1 (room_of_list result.0 ≡ vec_capacity list + 1) }
+    ensures grown_room { splice_room_of_list result.0
+        ≤ max (vec_capacity list) (vec_len list + max (vec_len list) more) + 1 }
 {
     let mut own = list;
-    match own.reserve(more) {
+    match make_room_for(&mut own, more) {
         Ok(()) => (WaveList::Own(own), Ok(())),
-        Err(_) => (WaveList::Own(own), Err(NoMemory)),
+        Err(refused) => (WaveList::Own(own), Err(refused)),
     }
 }
 
@@ -137,6 +157,7 @@ fn reserve_beside(
     ensures room { OnOk result.1 (count < splice_room_of_list result.0) }
     ensures in_place { count ≤ vec_capacity room → IsOk result.1 }
     ensures never_less { vec_capacity room < splice_room_of_list result.0 }
+    ensures exact { splice_room_of_list result.0 ≤ max (vec_capacity room) count + 1 }
 {
     let mut room = room;
     room.truncate(0);
@@ -157,6 +178,8 @@ fn reserve_shared(
     requires { count ≤ length shared.value.items + more }
     ensures changes { changes_of_list result.0 ≡ shared.value.items }
     ensures room { OnOk result.1 (count < splice_room_of_list result.0) }
+    ensures grown_room { splice_room_of_list result.0 ≤ max (vec_capacity shared.value)
+        (length shared.value.items + max (length shared.value.items) more) + 1 }
 {
     match Rc::try_unwrap(shared) {
         Ok(own) => reserve_own(own, more),
@@ -184,6 +207,9 @@ fn reserve_list(
     ensures own { room_of_list list ≤ room_of_list result.0 }
     ensures refused { OnErr result.1 (0 < room_of_list list →
         room_of_list result.0 ≡ room_of_list list) }
+    ensures grown_room { 0 < room_of_list list → splice_room_of_list result.0
+        ≤ max (room_of_list list) (length (changes_of_list list)
+        + max (length (changes_of_list list)) (length piece.now - part) + 1) }
 {
     let more = piece.len().saturating_sub(part);
     let count = list.as_slice().len() - part + piece.len();
@@ -332,6 +358,9 @@ impl WaveList {
         ensures own { room_of_list self.old ≤ room_of_list self.new }
         ensures refused { OnErr result (0 < room_of_list self.old →
             room_of_list self.new ≡ room_of_list self.old) }
+        ensures grown_room { 0 < room_of_list self.old → splice_room_of_list self.new
+            ≤ max (room_of_list self.old) (length (changes_of_list self.old)
+            + max (length (changes_of_list self.old)) (length piece.now - part) + 1) }
     {
         let alloc = self.alloc();
         let list = replace(self, WaveList::Own(Vec::new(alloc)));
