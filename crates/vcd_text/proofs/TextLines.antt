@@ -15,9 +15,9 @@ joined w [] = sym (append-nil w)
 joined w (v ∷ ws) = ap (λ l. w ++ (32 ∷ l)) (joined v ws)
 
 -- words and further ones
-pub writes_words : {o0 o1 o2 : WriteBuffer} {t0 t1 t2 : Option (List ℕ)} {f0 f1 f2 : Bool} (front back : List (List ℕ))
-    → Emits o0 t0 f0 o1 t1 f1 (spaced_words front) → Emits o1 t1 f1 o2 t2 f2 (spaced_words back)
-    → Emits o0 t0 f0 o2 t2 f2 (spaced_words (front ++ back))
+pub writes_words : {W : Type 0} {t : W → Option (List ℕ)} {f : W → Bool} {s0 s1 s2 : WriteBuffer × W}
+    (front back : List (List ℕ))
+    → Emits t f s0 s1 (spaced_words front) → Emits t f s1 s2 (spaced_words back) → Emits t f s0 s2 (spaced_words (front ++ back))
 writes_words front back first second =
     writes_as (sym (flat_map-append (λ w. 32 ∷ w) front back)) (writes_both first second)
 
@@ -33,8 +33,8 @@ line_of_words w ws =
     with_end = ap (λ l. l ++ 10 ∷ []) (flat_map-append (λ w. 32 ∷ w) ws (end_word ∷ []))
         ∙ append_assoc (spaced_words ws) (spaced_words (end_word ∷ [])) (10 ∷ [])
 
-pub writes_line : {o0 o1 o2 o3 : WriteBuffer} {t0 t1 t2 t3 : Option (List ℕ)} {f0 f1 f2 f3 : Bool} (w : List ℕ)
+pub writes_line : {W : Type 0} {t : W → Option (List ℕ)} {f : W → Bool} {s0 s1 s2 s3 : WriteBuffer × W} (w : List ℕ)
     (ws : List (List ℕ))
-    → Emits o0 t0 f0 o1 t1 f1 w → Emits o1 t1 f1 o2 t2 f2 (spaced_words ws) → Emits o2 t2 f2 o3 t3 f3 (codes " $end\n")
-    → Emits o0 t0 f0 o3 t3 f3 (join_with_byte 32 (w ∷ (ws ++ end_word ∷ [])) ++ 10 ∷ [])
+    → Emits t f s0 s1 w → Emits t f s1 s2 (spaced_words ws) → Emits t f s2 s3 (codes " $end\n")
+    → Emits t f s0 s3 (join_with_byte 32 (w ∷ (ws ++ end_word ∷ [])) ++ 10 ∷ [])
 writes_line w ws first middle last = writes_as (line_of_words w ws) (writes_both (writes_both first middle) last)

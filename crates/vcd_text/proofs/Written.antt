@@ -21,49 +21,50 @@ finished : (out left whole : List ℕ) → left ≡ [] → out ++ left ≡ whole
 finished out left whole none is = sym (append-nil out) ∙ ap (λ l. out ++ l) (sym none) ∙ is
 
 -- two pieces
-pub writes_both : {o0 o1 o2 : WriteBuffer} {t0 t1 t2 : Option (List ℕ)} {f0 f1 f2 : Bool} {a b : List ℕ}
-    → Emits o0 t0 f0 o1 t1 f1 a → Emits o1 t1 f1 o2 t2 f2 b → Emits o0 t0 f0 o2 t2 f2 (a ++ b)
-writes_both {o2 = o2} {t2 = t2} {f2 = f2} {a = a} {b = b} first second = record {
-  following = λ before text stands. subst (HasEmitted before t2 f2 o2) (append_assoc text a b)
+pub writes_both : {W : Type 0} {t : W → Option (List ℕ)} {f : W → Bool} {s0 s1 s2 : WriteBuffer × W} {a b : List ℕ}
+    → Emits t f s0 s1 a → Emits t f s1 s2 b → Emits t f s0 s2 (a ++ b)
+writes_both {t = t} {f = f} {s2 = s2} {a = a} {b = b} first second = record {
+  following = λ before text stands. subst (HasEmitted before (t s2.1) (f s2.1) s2.0) (append_assoc text a b)
       (second.following before (text ++ a) (first.following before text stands));
 }
 
 -- nothing
-pub writes_none : {o : WriteBuffer} {t : Option (List ℕ)} {f : Bool} → Emits o t f o t f []
-writes_none {o = o} {t = t} {f = f} =
-    record { following = λ before text stands. subst (HasEmitted before t f o) (sym (append-nil text)) stands }
+pub writes_none : {W : Type 0} {t : W → Option (List ℕ)} {f : W → Bool} {s : WriteBuffer × W} → Emits t f s s []
+writes_none {t = t} {f = f} {s = s} = record {
+  following = λ before text stands. subst (HasEmitted before (t s.1) (f s.1) s.0) (sym (append-nil text)) stands;
+}
 
 -- the same piece by another name
-pub writes_as : {o0 o1 : WriteBuffer} {t0 t1 : Option (List ℕ)} {f0 f1 : Bool} {a b : List ℕ} → a ≡ b
-    → Emits o0 t0 f0 o1 t1 f1 a → Emits o0 t0 f0 o1 t1 f1 b
-writes_as {o0 = o0} {o1 = o1} {t0 = t0} {t1 = t1} {f0 = f0} {f1 = f1} same writes =
-    subst (Emits o0 t0 f0 o1 t1 f1) same writes
+pub writes_as : {W : Type 0} {t : W → Option (List ℕ)} {f : W → Bool} {s0 s1 : WriteBuffer × W} {a b : List ℕ} → a ≡ b
+    → Emits t f s0 s1 a → Emits t f s0 s1 b
+writes_as {t = t} {f = f} {s0 = s0} {s1 = s1} same writes =
+    subst (Emits t f s0 s1) same writes
 
 -- ---- loops
 
 -- a front of a whole is written, and the rest is left
-pub record WritesFront (o0 : WriteBuffer) (t0 : Option (List ℕ)) (f0 : Bool) (o1 : WriteBuffer) (t1 : Option (List ℕ))
-    (f1 : Bool) (left whole : List ℕ) : Type 0 where
+pub record WritesFront {W : Type 0} (t : W → Option (List ℕ)) (f : W → Bool) (s0 s1 : WriteBuffer × W)
+    (left whole : List ℕ) : Type 0 where
   pub done : List ℕ
-  pub writes : Emits o0 t0 f0 o1 t1 f1 done
+  pub writes : Emits t f s0 s1 done
   pub split : done ++ left ≡ whole
 
-pub front_begun : {o : WriteBuffer} {t : Option (List ℕ)} {f : Bool} {left whole : List ℕ} → left ≡ whole
-    → WritesFront o t f o t f left whole
+pub front_begun : {W : Type 0} {t : W → Option (List ℕ)} {f : W → Bool} {s : WriteBuffer × W} {left whole : List ℕ} → left ≡ whole
+    → WritesFront t f s s left whole
 front_begun same = record { done = []; writes = writes_none; split = same }
 
-pub front_grows : {o0 o1 o2 : WriteBuffer} {t0 t1 t2 : Option (List ℕ)} {f0 f1 f2 : Bool} {piece left whole : List ℕ}
+pub front_grows : {W : Type 0} {t : W → Option (List ℕ)} {f : W → Bool} {s0 s1 s2 : WriteBuffer × W} {piece left whole : List ℕ}
     (rest : List ℕ)
-    → WritesFront o0 t0 f0 o1 t1 f1 left whole → Emits o1 t1 f1 o2 t2 f2 piece → left ≡ piece ++ rest
-    → WritesFront o0 t0 f0 o2 t2 f2 rest whole
+    → WritesFront t f s0 s1 left whole → Emits t f s1 s2 piece → left ≡ piece ++ rest
+    → WritesFront t f s0 s2 rest whole
 front_grows {piece = piece} {left = left} {whole = whole} rest front more is = record {
   done = front.done ++ piece;
   writes = writes_both front.writes more;
   split = carried front.done piece rest left whole is front.split;
 }
 
-pub front_whole : {o0 o1 : WriteBuffer} {t0 t1 : Option (List ℕ)} {f0 f1 : Bool} {left whole : List ℕ}
-    → WritesFront o0 t0 f0 o1 t1 f1 left whole → left ≡ [] → Emits o0 t0 f0 o1 t1 f1 whole
+pub front_whole : {W : Type 0} {t : W → Option (List ℕ)} {f : W → Bool} {s0 s1 : WriteBuffer × W} {left whole : List ℕ}
+    → WritesFront t f s0 s1 left whole → left ≡ [] → Emits t f s0 s1 whole
 front_whole {left = left} {whole = whole} front none =
     writes_as (finished front.done left whole none front.split) front.writes
 
@@ -76,30 +77,30 @@ failed_more before t f o text more failed stands = record {
   rest = λ few ready. absurd (cc (failed, ready));
 }
 
-pub front_failed : {o0 o1 : WriteBuffer} {t0 t1 : Option (List ℕ)} {f0 f1 : Bool} {left whole : List ℕ}
-    → WritesFront o0 t0 f0 o1 t1 f1 left whole → f1 ≡ true → Emits o0 t0 f0 o1 t1 f1 whole
-front_failed {o1 = o1} {t1 = t1} {f1 = f1} {left = left} {whole = whole} front failed = record {
+pub front_failed : {W : Type 0} {t : W → Option (List ℕ)} {f : W → Bool} {s0 s1 : WriteBuffer × W} {left whole : List ℕ}
+    → WritesFront t f s0 s1 left whole → f s1.1 ≡ true → Emits t f s0 s1 whole
+front_failed {t = t} {f = f} {s1 = s1} {left = left} {whole = whole} front failed = record {
   following = λ before text stands.
       let same : (text ++ front.done) ++ left ≡ text ++ whole = append_assoc text front.done left
       ∙ ap (λ l. text ++ l) front.split in
-      subst (HasEmitted before t1 f1 o1) same
-      (failed_more before t1 f1 o1 (text ++ front.done) left failed (front.writes.following before text stands));
+      subst (HasEmitted before (t s1.1) (f s1.1) s1.0) same
+      (failed_more before (t s1.1) (f s1.1) s1.0 (text ++ front.done) left failed (front.writes.following before text stands));
 }
 
 -- the items before one of a list are written, and then that item
-pub front_item : {o0 o1 o2 : WriteBuffer} {t0 t1 t2 : Option (List ℕ)} {f0 f1 f2 : Bool} {X : Type 0} (F : List X
+pub front_item : {W : Type 0} {t : W → Option (List ℕ)} {f : W → Bool} {s0 s1 s2 : WriteBuffer × W} {X : Type 0} (F : List X
     → List ℕ) (xs : List X) (k : ℕ) (x : X) {piece whole : List ℕ}
-    → WritesFront o0 t0 f0 o1 t1 f1 (F (drop k xs)) whole → Emits o1 t1 f1 o2 t2 f2 piece → k < length xs
+    → WritesFront t f s0 s1 (F (drop k xs)) whole → Emits t f s1 s2 piece → k < length xs
     → x ≡ get_or xs k x → F (x ∷ drop (k + 1) xs) ≡ piece ++ F (drop (k + 1) xs)
-    → WritesFront o0 t0 f0 o2 t2 f2 (F (drop (k + 1) xs)) whole
+    → WritesFront t f s0 s2 (F (drop (k + 1) xs)) whole
 front_item F xs k x front more within is split =
     front_grows (F (drop (k + 1) xs)) front more
     (ap F (drop_more xs k x within ∙ ap (λ a. a ∷ drop (k + 1) xs) (sym is)) ∙ split)
 
 -- all items of a list are written
-pub front_items : {o0 o1 : WriteBuffer} {t0 t1 : Option (List ℕ)} {f0 f1 : Bool} {X : Type 0} (F : List X
+pub front_items : {W : Type 0} {t : W → Option (List ℕ)} {f : W → Bool} {s0 s1 : WriteBuffer × W} {X : Type 0} (F : List X
     → List ℕ) (xs : List X) (k : ℕ) {whole : List ℕ}
-    → WritesFront o0 t0 f0 o1 t1 f1 (F (drop k xs)) whole → length xs ≤ k → F [] ≡ [] → Emits o0 t0 f0 o1 t1 f1 whole
+    → WritesFront t f s0 s1 (F (drop k xs)) whole → length xs ≤ k → F [] ≡ [] → Emits t f s0 s1 whole
 front_items F xs k front past none = front_whole front (ap F (drop_all k xs past) ∙ none)
 
 -- ---- the buffer
@@ -154,31 +155,34 @@ count_within n k few whole within fits counted = by (nat_lt n (2 ^ 128 - 1)) ref
     by false is = omega (arith, counted, ltb-false n (2 ^ 128 - 1) is, within)
 
 -- bytes are sent that are the rest of the text with the piece
-pub bytes_sent : (o0 o1 : WriteBuffer) (t0 t1 : Option (List ℕ)) (f0 f1 : Bool) (k : ℕ) (piece bytes : List ℕ)
-    → ((text : List ℕ) → o0.sent ≤ length text → drop o0.sent text ≡ o0.waiting.items
-    → drop o0.sent (text ++ piece) ≡ bytes)
-    → Appends t0 t1 (take k bytes) → k ≤ length bytes → (f1 ≡ false → k ≡ length bytes) → (f0 ≡ true → k ≡ 0)
-    → (f0 ≡ true → f1 ≡ true)
-    → o1.sent ≡ min (o0.sent + k) (2 ^ 128 - 1) → o1.waiting.items ≡ [] → Emits o0 t0 f0 o1 t1 f1 piece
-bytes_sent o0 o1 t0 t1 f0 f1 k piece bytes left more few all none stays counted empty = record {
+pub bytes_sent : {W : Type 0} (t : W → Option (List ℕ)) (f : W → Bool) (s0 s1 : WriteBuffer × W) (k : ℕ)
+    (piece bytes : List ℕ)
+    → ((text : List ℕ) → s0.0.sent ≤ length text → drop s0.0.sent text ≡ s0.0.waiting.items
+    → drop s0.0.sent (text ++ piece) ≡ bytes)
+    → Appends (t s0.1) (t s1.1) (take k bytes) → k ≤ length bytes → (f s1.1 ≡ false → k ≡ length bytes)
+    → (f s0.1 ≡ true → k ≡ 0) → (f s0.1 ≡ true → f s1.1 ≡ true)
+    → s1.0.sent ≡ min (s0.0.sent + k) (2 ^ 128 - 1) → s1.0.waiting.items ≡ [] → Emits t f s0 s1 piece
+bytes_sent t f s0 s1 k piece bytes left more few all none stays counted empty = record {
   following = λ before text stands.
-      let n = o0.sent in
-      let is : n < 2 ^ 128 - 1 → f0 ≡ false → drop n (text ++ piece) ≡ bytes =
+      let n = s0.0.sent in
+      let now = s1.0.sent in
+      let is : n < 2 ^ 128 - 1 → f s0.1 ≡ false → drop n (text ++ piece) ≡ bytes =
       λ early ready. left text stands.within (stands.rest early ready) in
-      let held : n < 2 ^ 128 - 1 → Appends before t0 (take n (text ++ piece)) =
-      λ early. subst (Appends before t0) (sym (take-append-le n text piece stands.within)) (stands.front early) in
-      let early : o1.sent < 2 ^ 128 - 1 → n < 2 ^ 128 - 1 = λ small. omega (arith, counted, small) in
-      let count : o1.sent < 2 ^ 128 - 1 → o1.sent ≡ n + k = λ small. omega (arith, counted, small) in
+      let held : n < 2 ^ 128 - 1 → Appends before (t s0.1) (take n (text ++ piece)) =
+      λ early. subst (Appends before (t s0.1)) (sym (take-append-le n text piece stands.within)) (stands.front early) in
+      let early : now < 2 ^ 128 - 1 → n < 2 ^ 128 - 1 = λ small. omega (arith, counted, small) in
+      let count : now < 2 ^ 128 - 1 → now ≡ n + k = λ small. omega (arith, counted, small) in
       record {
         within =
-            count_within n k o1.sent (length (text ++ piece)) (omega (arith, stands.within, length-append text piece))
-            (λ small. within_whole f0 n k text piece bytes stands.within (is small) none few) counted;
+            count_within n k now (length (text ++ piece)) (omega (arith, stands.within, length-append text piece))
+            (λ small. within_whole (f s0.1) n k text piece bytes stands.within (is small) none few) counted;
         front = λ small.
-            subst (λ m. Appends before t1 (take m (text ++ piece))) (sym (count small))
-            (sent_bytes before t0 t1 f0 n k (text ++ piece) bytes (is (early small)) none (held (early small)) more);
+            subst (λ m. Appends before (t s1.1) (take m (text ++ piece))) (sym (count small))
+            (sent_bytes before (t s0.1) (t s1.1) (f s0.1) n k (text ++ piece) bytes (is (early small)) none
+            (held (early small)) more);
         rest = λ small ready.
             ap (λ m. drop m (text ++ piece)) (count small)
-            ∙ none_left f0 f1 n k (text ++ piece) bytes (is (early small)) stays all ready ∙ sym empty;
+            ∙ none_left (f s0.1) (f s1.1) n k (text ++ piece) bytes (is (early small)) stays all ready ∙ sym empty;
       };
 }
 
@@ -208,11 +212,11 @@ nothing_written o t f empty none = record {
 }
 
 -- the text since the buffer was empty
-pub whole_written : {o0 o1 : WriteBuffer} {t0 t1 : Option (List ℕ)} {f0 f1 : Bool} {whole : List ℕ}
-    → o0.waiting.items ≡ [] → o0.sent ≡ 0
-    → Emits o0 t0 f0 o1 t1 f1 whole → HasEmitted t0 t1 f1 o1 whole
-whole_written {o0 = o0} {t0 = t0} {f0 = f0} empty none writes =
-    writes.following t0 [] (nothing_written o0 t0 f0 empty none)
+pub whole_written : {W : Type 0} {t : W → Option (List ℕ)} {f : W → Bool} {s0 s1 : WriteBuffer × W} {whole : List ℕ}
+    → s0.0.waiting.items ≡ [] → s0.0.sent ≡ 0 → Emits t f s0 s1 whole
+    → HasEmitted (t s0.1) (t s1.1) (f s1.1) s1.0 whole
+whole_written {t = t} {f = f} {s0 = s0} empty none writes =
+    writes.following (t s0.1) [] (nothing_written s0.0 (t s0.1) (f s0.1) empty none)
 
 -- the number of bytes of a text that was written to a writer that has not failed
 pub length_written : (before after : Option (List ℕ)) (failed : Bool) (o : WriteBuffer) (text : List ℕ) → failed ≡ false

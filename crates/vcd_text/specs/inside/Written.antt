@@ -11,8 +11,9 @@ pub record HasEmitted (before after : Option (List ℕ)) (failed : Bool) (buffer
     pub front : buffer.sent < 2 ^ 128 - 1 → Appends before after (take buffer.sent text)
     pub rest : buffer.sent < 2 ^ 128 - 1 → failed ≡ false → drop buffer.sent text ≡ buffer.waiting.items
 
--- a piece is written after each text that was written
-pub record Emits (old : WriteBuffer) (taken_old : Option (List ℕ)) (failed_old : Bool) (new : WriteBuffer)
-    (taken_new : Option (List ℕ)) (failed_new : Bool) (piece : List ℕ) : Type 0 where
-  pub following : (before : Option (List ℕ)) (text : List ℕ) → HasEmitted before taken_old failed_old old text
-      → HasEmitted before taken_new failed_new new (text ++ piece)
+-- a piece is written after each text that was written, where the buffer and its writer were so, and then so
+pub record Emits {W : Type 0} (taken : W → Option (List ℕ)) (has_failed : W → Bool) (old new : WriteBuffer × W)
+    (piece : List ℕ) : Type 0 where
+  pub following : (before : Option (List ℕ)) (text : List ℕ)
+      → HasEmitted before (taken old.1) (has_failed old.1) old.0 text
+      → HasEmitted before (taken new.1) (has_failed new.1) new.0 (text ++ piece)

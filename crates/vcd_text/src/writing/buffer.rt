@@ -34,8 +34,8 @@ impl WriteBuffer {
 
 /// Appends a piece to the text. It takes no memory.
 pub fn write_piece<W: Sink>(buffer: &mut WriteBuffer, writer: &mut W, piece: &[u8])
-    ensures written { Emits buffer.old (W.taken writer.old) (W.has_failed writer.old)
-        buffer.new (W.taken writer.new) (W.has_failed writer.new) piece.now }
+    ensures written { Emits W.taken W.has_failed (buffer.old, writer.old) (buffer.new, writer.new)
+        piece.now }
     // where there is room the writer is not called
     ensures gathered { vec_len buffer.old.waiting + length piece.now ≤ vec_capacity buffer.old.waiting →
         writer.new ≡ writer.old }
@@ -51,8 +51,8 @@ pub fn write_piece<W: Sink>(buffer: &mut WriteBuffer, writer: &mut W, piece: &[u
 
 /// Appends a byte to the text.
 pub fn write_byte<W: Sink>(buffer: &mut WriteBuffer, writer: &mut W, byte: u8)
-    ensures written { Emits buffer.old (W.taken writer.old) (W.has_failed writer.old)
-        buffer.new (W.taken writer.new) (W.has_failed writer.new) (byte ∷ []) }
+    ensures written { Emits W.taken W.has_failed (buffer.old, writer.old) (buffer.new, writer.new)
+        (byte ∷ []) }
     ensures gathered { vec_len buffer.old.waiting + 1 ≤ vec_capacity buffer.old.waiting →
         writer.new ≡ writer.old }
     ensures room { vec_capacity buffer.old.waiting ≤ vec_capacity buffer.new.waiting }
@@ -66,8 +66,8 @@ pub fn write_byte<W: Sink>(buffer: &mut WriteBuffer, writer: &mut W, byte: u8)
 
 /// Keeps a piece where the buffer has room for it; otherwise sends it after the waiting bytes.
 fn write_first<W: Sink>(buffer: &mut WriteBuffer, writer: &mut W, piece: &[u8])
-    ensures written { Emits buffer.old (W.taken writer.old) (W.has_failed writer.old)
-        buffer.new (W.taken writer.new) (W.has_failed writer.new) piece.now }
+    ensures written { Emits W.taken W.has_failed (buffer.old, writer.old) (buffer.new, writer.new)
+        piece.now }
     // where there is room the writer is not called
     ensures gathered { vec_len buffer.old.waiting + length piece.now ≤ vec_capacity buffer.old.waiting →
         writer.new ≡ writer.old }
@@ -89,8 +89,8 @@ fn has_space_for(waiting: &Vec<u8>, count: usize) -> bool
 
 /// Sends all waiting bytes.
 fn send_waiting<W: Sink>(buffer: &mut WriteBuffer, writer: &mut W)
-    ensures written { Emits buffer.old (W.taken writer.old) (W.has_failed writer.old)
-        buffer.new (W.taken writer.new) (W.has_failed writer.new) [] }
+    ensures written { Emits W.taken W.has_failed (buffer.old, writer.old) (buffer.new, writer.new)
+        [] }
     ensures empty { buffer.new.waiting.items ≡ [] }
     ensures room { vec_capacity buffer.new.waiting ≡ vec_capacity buffer.old.waiting }
 {
@@ -102,8 +102,8 @@ fn send_waiting<W: Sink>(buffer: &mut WriteBuffer, writer: &mut W)
 /// Sends a piece, where nothing waits.
 fn send_piece<W: Sink>(buffer: &mut WriteBuffer, writer: &mut W, piece: &[u8])
     requires empty { buffer.old.waiting.items ≡ [] }
-    ensures written { Emits buffer.old (W.taken writer.old) (W.has_failed writer.old)
-        buffer.new (W.taken writer.new) (W.has_failed writer.new) piece.now }
+    ensures written { Emits W.taken W.has_failed (buffer.old, writer.old) (buffer.new, writer.new)
+        piece.now }
     ensures room { vec_capacity buffer.new.waiting ≡ vec_capacity buffer.old.waiting }
 {
     let count = send_bytes(writer, piece);

@@ -17,8 +17,8 @@ const COUNT: usize = 94;
 /// lowest digit first. It takes one step for each byte.
 pub fn write_code<W: Sink>(buffer: &mut WriteBuffer, writer: &mut W, position: usize)
     requires { position < SIGNAL_LIMIT }
-    ensures { Emits buffer.old (W.taken writer.old) (W.has_failed writer.old)
-        buffer.new (W.taken writer.new) (W.has_failed writer.new) (code_of position) }
+    ensures { Emits W.taken W.has_failed (buffer.old, writer.old) (buffer.new, writer.new)
+        (code_of position) }
 {
     let mut left = position + 1;
     while left > 0 {

@@ -21,8 +21,7 @@ use vcd_core::{Capture, Header, HeaderKind, ScopeName, Signal, Sink, Timescale, 
 /// last.
 pub fn write_declarations<W: Sink>(buffer: &mut WriteBuffer, writer: &mut W, capture: &Capture)
     requires { length capture.now.signals ≤ SIGNAL_LIMIT }
-    ensures { Emits buffer.old (W.taken writer.old) (W.has_failed writer.old)
-        buffer.new (W.taken writer.new) (W.has_failed writer.new)
+    ensures { Emits W.taken W.has_failed (buffer.old, writer.old) (buffer.new, writer.new)
         (declarations_text (contents capture.now)) }
 {
     write_header(buffer, writer, capture.header());
@@ -33,8 +32,7 @@ pub fn write_declarations<W: Sink>(buffer: &mut WriteBuffer, writer: &mut W, cap
 
 /// Writes a line for each header entry.
 fn write_header<W: Sink>(buffer: &mut WriteBuffer, writer: &mut W, header: &[Header])
-    ensures { Emits buffer.old (W.taken writer.old) (W.has_failed writer.old)
-        buffer.new (W.taken writer.new) (W.has_failed writer.new)
+    ensures { Emits W.taken W.has_failed (buffer.old, writer.old) (buffer.new, writer.new)
         (flat_map item_line (header_items header.now)) }
 {
     for one in header {
@@ -43,8 +41,7 @@ fn write_header<W: Sink>(buffer: &mut WriteBuffer, writer: &mut W, header: &[Hea
 }
 
 fn write_entry<W: Sink>(buffer: &mut WriteBuffer, writer: &mut W, header: &Header)
-    ensures { Emits buffer.old (W.taken writer.old) (W.has_failed writer.old)
-        buffer.new (W.taken writer.new) (W.has_failed writer.new)
+    ensures { Emits W.taken W.has_failed (buffer.old, writer.old) (buffer.new, writer.new)
         (item_line (entry header.now.kind header.now.words)) }
 {
     write_piece(buffer, writer, header_keyword(header.kind).as_bytes());
@@ -64,8 +61,7 @@ fn header_keyword(kind: HeaderKind) -> &'static str
 
 /// Writes the line of the timescale, where there is one.
 fn write_timescale<W: Sink>(buffer: &mut WriteBuffer, writer: &mut W, timescale: Option<Timescale>)
-    ensures { Emits buffer.old (W.taken writer.old) (W.has_failed writer.old)
-        buffer.new (W.taken writer.new) (W.has_failed writer.new)
+    ensures { Emits W.taken W.has_failed (buffer.old, writer.old) (buffer.new, writer.new)
         (flat_map item_line (timescale_items timescale)) }
 {
     if let Some(timescale) = timescale {
@@ -84,8 +80,7 @@ fn write_timescale<W: Sink>(buffer: &mut WriteBuffer, writer: &mut W, timescale:
 /// with the scopes of all signals, where shared scopes count for each signal.
 fn write_signals<W: Sink>(buffer: &mut WriteBuffer, writer: &mut W, signals: &[Signal])
     requires { length signals.now ≤ SIGNAL_LIMIT }
-    ensures { Emits buffer.old (W.taken writer.old) (W.has_failed writer.old)
-        buffer.new (W.taken writer.new) (W.has_failed writer.new)
+    ensures { Emits W.taken W.has_failed (buffer.old, writer.old) (buffer.new, writer.new)
         (flat_map item_line (signal_items [] 0 (map signal_contents signals.now))) }
 {
     let mut opened: &[ScopeName] = &[];
@@ -105,8 +100,7 @@ fn write_variable<W: Sink>(
     signal: &Signal,
 )
     requires { position < SIGNAL_LIMIT }
-    ensures { Emits buffer.old (W.taken writer.old) (W.has_failed writer.old)
-        buffer.new (W.taken writer.new) (W.has_failed writer.new)
+    ensures { Emits W.taken W.has_failed (buffer.old, writer.old) (buffer.new, writer.new)
         (item_line (variable_item position (signal_contents signal.now))) }
 {
     write_piece(buffer, writer, b"$var");
@@ -129,8 +123,7 @@ fn write_scope_changes<W: Sink>(
     opened: &[ScopeName],
     path: &[ScopeName],
 )
-    ensures { Emits buffer.old (W.taken writer.old) (W.has_failed writer.old)
-        buffer.new (W.taken writer.new) (W.has_failed writer.new)
+    ensures { Emits W.taken W.has_failed (buffer.old, writer.old) (buffer.new, writer.new)
         (flat_map item_line (scope_items opened.now path.now)) }
 {
     let shared = shared_len(opened, path);
@@ -139,8 +132,7 @@ fn write_scope_changes<W: Sink>(
 }
 
 fn write_upscopes<W: Sink>(buffer: &mut WriteBuffer, writer: &mut W, count: usize)
-    ensures { Emits buffer.old (W.taken writer.old) (W.has_failed writer.old)
-        buffer.new (W.taken writer.new) (W.has_failed writer.new)
+    ensures { Emits W.taken W.has_failed (buffer.old, writer.old) (buffer.new, writer.new)
         (flat_map item_line (replicate count upscope)) }
 {
     for _closed in 0..count {
@@ -149,8 +141,7 @@ fn write_upscopes<W: Sink>(buffer: &mut WriteBuffer, writer: &mut W, count: usiz
 }
 
 fn write_scopes<W: Sink>(buffer: &mut WriteBuffer, writer: &mut W, scopes: &[ScopeName])
-    ensures { Emits buffer.old (W.taken writer.old) (W.has_failed writer.old)
-        buffer.new (W.taken writer.new) (W.has_failed writer.new)
+    ensures { Emits W.taken W.has_failed (buffer.old, writer.old) (buffer.new, writer.new)
         (flat_map item_line (map (λ s. scope s.kind s.words) scopes.now)) }
 {
     for name in scopes {
@@ -159,8 +150,7 @@ fn write_scopes<W: Sink>(buffer: &mut WriteBuffer, writer: &mut W, scopes: &[Sco
 }
 
 fn write_scope<W: Sink>(buffer: &mut WriteBuffer, writer: &mut W, name: &ScopeName)
-    ensures { Emits buffer.old (W.taken writer.old) (W.has_failed writer.old)
-        buffer.new (W.taken writer.new) (W.has_failed writer.new)
+    ensures { Emits W.taken W.has_failed (buffer.old, writer.old) (buffer.new, writer.new)
         (item_line (scope name.now.kind name.now.words)) }
 {
     write_piece(buffer, writer, b"$scope");

@@ -9,8 +9,7 @@ use vcd_core::{Sink, Word};
 
 /// Writes a space and a word.
 pub fn write_word<W: Sink>(buffer: &mut WriteBuffer, writer: &mut W, word: &[u8])
-    ensures { Emits buffer.old (W.taken writer.old) (W.has_failed writer.old)
-        buffer.new (W.taken writer.new) (W.has_failed writer.new)
+    ensures { Emits W.taken W.has_failed (buffer.old, writer.old) (buffer.new, writer.new)
         (spaced_words (word.now ∷ [])) }
 {
     write_byte(buffer, writer, b' ');
@@ -19,8 +18,7 @@ pub fn write_word<W: Sink>(buffer: &mut WriteBuffer, writer: &mut W, word: &[u8]
 
 /// Writes words, each after a space.
 pub fn write_words<W: Sink>(buffer: &mut WriteBuffer, writer: &mut W, words: &[Word])
-    ensures { Emits buffer.old (W.taken writer.old) (W.has_failed writer.old)
-        buffer.new (W.taken writer.new) (W.has_failed writer.new)
+    ensures { Emits W.taken W.has_failed (buffer.old, writer.old) (buffer.new, writer.new)
         (spaced_words words.now) }
 {
     for word in words {
@@ -30,8 +28,7 @@ pub fn write_words<W: Sink>(buffer: &mut WriteBuffer, writer: &mut W, words: &[W
 
 /// Ends the line of a declaration.
 pub fn write_end<W: Sink>(buffer: &mut WriteBuffer, writer: &mut W)
-    ensures { Emits buffer.old (W.taken writer.old) (W.has_failed writer.old)
-        buffer.new (W.taken writer.new) (W.has_failed writer.new)
+    ensures { Emits W.taken W.has_failed (buffer.old, writer.old) (buffer.new, writer.new)
         (codes " $end\n") }
 {
     write_piece(buffer, writer, b" $end\n");

@@ -25,8 +25,7 @@ use vcd_core::{Signal, Sink, Wave};
 /// Writes the values at tick 0.
 pub fn write_first_values<W: Sink>(buffer: &mut WriteBuffer, writer: &mut W, signals: &[Signal])
     requires { length signals.now ≤ SIGNAL_LIMIT }
-    ensures { Emits buffer.old (W.taken writer.old) (W.has_failed writer.old)
-        buffer.new (W.taken writer.new) (W.has_failed writer.new)
+    ensures { Emits W.taken W.has_failed (buffer.old, writer.old) (buffer.new, writer.new)
         (flat_map item_line (first_items (map signal_contents signals.now))) }
 {
     write_stamp(buffer, writer, 0);
@@ -37,8 +36,7 @@ pub fn write_first_values<W: Sink>(buffer: &mut WriteBuffer, writer: &mut W, sig
 
 fn write_all_values<W: Sink>(buffer: &mut WriteBuffer, writer: &mut W, signals: &[Signal])
     requires { length signals.now ≤ SIGNAL_LIMIT }
-    ensures { Emits buffer.old (W.taken writer.old) (W.has_failed writer.old)
-        buffer.new (W.taken writer.new) (W.has_failed writer.new)
+    ensures { Emits W.taken W.has_failed (buffer.old, writer.old) (buffer.new, writer.new)
         (flat_map item_line (all_values (map signal_contents signals.now) 0)) }
 {
     for (position, signal) in signals.iter().enumerate() {
@@ -65,8 +63,7 @@ pub fn write_transitions<W: Sink>(
     requires places { window.old.room ≤ PLACES }
     requires row { window.old.room ≤ vec_capacity window.old.row }
     requires order { window.old.room ≤ vec_capacity window.old.order }
-    ensures { Emits buffer.old (W.taken writer.old) (W.has_failed writer.old)
-        buffer.new (W.taken writer.new) (W.has_failed writer.new)
+    ensures { Emits W.taken W.has_failed (buffer.old, writer.old) (buffer.new, writer.new)
         (flat_map item_line (tick_items (map signal_contents signals.now) 1 end
         ++ end_items (map signal_contents signals.now) end)) }
 {
@@ -154,8 +151,8 @@ fn write_listed<W: Sink>(
     requires few { length signals.now ≤ SIGNAL_LIMIT }
     requires listed { All (IsListed (map signal_contents signals.now)) row.now }
     requires keys { All (IsKeyIn row.now) order.now }
-    ensures text { Emits buffer.old (W.taken writer.old) (W.has_failed writer.old)
-        buffer.new (W.taken writer.new) (W.has_failed writer.new) (flat_map item_line
+    ensures text { Emits W.taken W.has_failed (buffer.old, writer.old) (buffer.new, writer.new)
+        (flat_map item_line
         (transition_items (map signal_contents signals.now) last (in_order row.now order.now))) }
     ensures last { result ≡ last_tick last (in_order row.now order.now) }
 {
@@ -195,8 +192,8 @@ fn write_found<W: Sink>(
 ) -> u64
     requires few { length signals.now ≤ SIGNAL_LIMIT }
     requires listed { All (IsListed (map signal_contents signals.now)) found.now }
-    ensures text { Emits buffer.old (W.taken writer.old) (W.has_failed writer.old)
-        buffer.new (W.taken writer.new) (W.has_failed writer.new) (flat_map item_line
+    ensures text { Emits W.taken W.has_failed (buffer.old, writer.old) (buffer.new, writer.new)
+        (flat_map item_line
         (transition_items (map signal_contents signals.now) last (transitions_of found.now))) }
     ensures last { result ≡ last_tick last (transitions_of found.now) }
 {
@@ -218,8 +215,7 @@ fn write_new_value<W: Sink>(
 )
     requires few { length signals.now ≤ SIGNAL_LIMIT }
     requires listed { IsListed (map signal_contents signals.now) listed }
-    ensures { Emits buffer.old (W.taken writer.old) (W.has_failed writer.old)
-        buffer.new (W.taken writer.new) (W.has_failed writer.new)
+    ensures { Emits W.taken W.has_failed (buffer.old, writer.old) (buffer.new, writer.new)
         (item_line (value_item (code_of listed.position)
         (transition_value (map signal_contents signals.now) (listed_transition listed)))) }
 {
@@ -255,8 +251,7 @@ fn write_value_near<W: Sink>(
     place: usize,
 )
     requires { position < SIGNAL_LIMIT }
-    ensures { Emits buffer.old (W.taken writer.old) (W.has_failed writer.old)
-        buffer.new (W.taken writer.new) (W.has_failed writer.new)
+    ensures { Emits W.taken W.has_failed (buffer.old, writer.old) (buffer.new, writer.new)
         (item_line (value_item (code_of position)
         (value_at wave.now.width wave.now.changes tick))) }
 {
@@ -270,8 +265,7 @@ fn write_value_near<W: Sink>(
 }
 
 fn write_new_stamp<W: Sink>(buffer: &mut WriteBuffer, writer: &mut W, last: u64, tick: u64)
-    ensures { Emits buffer.old (W.taken writer.old) (W.has_failed writer.old)
-        buffer.new (W.taken writer.new) (W.has_failed writer.new)
+    ensures { Emits W.taken W.has_failed (buffer.old, writer.old) (buffer.new, writer.new)
         (flat_map item_line (if tick == last then [] else stamp_of tick ∷ [])) }
 {
     if tick == last {
@@ -281,8 +275,7 @@ fn write_new_stamp<W: Sink>(buffer: &mut WriteBuffer, writer: &mut W, last: u64,
 }
 
 fn write_last_stamp<W: Sink>(buffer: &mut WriteBuffer, writer: &mut W, last: u64, end: u64)
-    ensures { Emits buffer.old (W.taken writer.old) (W.has_failed writer.old)
-        buffer.new (W.taken writer.new) (W.has_failed writer.new)
+    ensures { Emits W.taken W.has_failed (buffer.old, writer.old) (buffer.new, writer.new)
         (flat_map item_line (if nat_lt last end then stamp_of end ∷ [] else [])) }
 {
     if last >= end {
@@ -292,8 +285,7 @@ fn write_last_stamp<W: Sink>(buffer: &mut WriteBuffer, writer: &mut W, last: u64
 }
 
 fn write_stamp<W: Sink>(buffer: &mut WriteBuffer, writer: &mut W, tick: u64)
-    ensures { Emits buffer.old (W.taken writer.old) (W.has_failed writer.old)
-        buffer.new (W.taken writer.new) (W.has_failed writer.new)
+    ensures { Emits W.taken W.has_failed (buffer.old, writer.old) (buffer.new, writer.new)
         (flat_map item_line (stamp_of tick ∷ [])) }
 {
     write_byte(buffer, writer, b'#');

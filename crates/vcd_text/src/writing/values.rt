@@ -23,8 +23,7 @@ pub fn write_value<W: Sink>(
     value: &Value,
 )
     requires { position < SIGNAL_LIMIT }
-    ensures { Emits buffer.old (W.taken writer.old) (W.has_failed writer.old)
-        buffer.new (W.taken writer.new) (W.has_failed writer.new)
+    ensures { Emits W.taken W.has_failed (buffer.old, writer.old) (buffer.new, writer.new)
         (item_line (value_item (code_of position) value.now)) }
 {
     let width = value.width();
@@ -54,8 +53,7 @@ pub fn write_word_value<W: Sink>(
     requires position { position < SIGNAL_LIMIT }
     requires least { 1 ≤ width }
     requires most { width ≤ 64 }
-    ensures { Emits buffer.old (W.taken writer.old) (W.has_failed writer.old)
-        buffer.new (W.taken writer.new) (W.has_failed writer.new)
+    ensures { Emits W.taken W.has_failed (buffer.old, writer.old) (buffer.new, writer.new)
         (item_line (value_item (code_of position) (letters_of width (low ∷ []) (high ∷ [])))) }
 {
     write_word_front(buffer, writer, width, low, high);
@@ -73,8 +71,7 @@ fn write_word_front<W: Sink>(
 )
     requires least { 1 ≤ width }
     requires most { width ≤ 64 }
-    ensures { Emits buffer.old (W.taken writer.old) (W.has_failed writer.old)
-        buffer.new (W.taken writer.new) (W.has_failed writer.new)
+    ensures { Emits W.taken W.has_failed (buffer.old, writer.old) (buffer.new, writer.new)
         (value_front (letters_of width (low ∷ []) (high ∷ []))) }
 {
     if width == 1 {
@@ -89,8 +86,7 @@ fn write_word_front<W: Sink>(
 /// Writes the letters of a value that are below bit `count`, a word at a time.
 fn write_lowest<W: Sink>(buffer: &mut WriteBuffer, writer: &mut W, value: &Value, count: u64)
     requires { count ≤ length value.now }
-    ensures { Emits buffer.old (W.taken writer.old) (W.has_failed writer.old)
-        buffer.new (W.taken writer.new) (W.has_failed writer.new)
+    ensures { Emits W.taken W.has_failed (buffer.old, writer.old) (buffer.new, writer.new)
         (printed_letters (drop (length value.now - count) value.now)) }
 {
     let mut left = count;
@@ -106,8 +102,7 @@ fn write_lowest<W: Sink>(buffer: &mut WriteBuffer, writer: &mut W, value: &Value
 /// Writes the `count` lowest letters of two words.
 fn write_letters<W: Sink>(buffer: &mut WriteBuffer, writer: &mut W, count: u64, low: u64, high: u64)
     requires { count ≤ 64 }
-    ensures { Emits buffer.old (W.taken writer.old) (W.has_failed writer.old)
-        buffer.new (W.taken writer.new) (W.has_failed writer.new)
+    ensures { Emits W.taken W.has_failed (buffer.old, writer.old) (buffer.new, writer.new)
         (printed_letters (letters_of count (low ∷ []) (high ∷ []))) }
 {
     let mut letters = [0; 64];

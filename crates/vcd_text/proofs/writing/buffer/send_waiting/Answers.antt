@@ -7,6 +7,7 @@ pub returns-clause-written : goal.returns-clause-written
 returns-clause-written g c =
     let sent = c.send_bytes-count.ensures in
     let bytes = c.as_slice.ensures.value in
-    bytes_sent c.args.buffer.now _ _ _ _ _ c.send_bytes-count.result [] c.as_slice.result.now
+    bytes_sent g.W.Sink.taken g.W.Sink.has_failed (c.args.buffer.now, c.args.writer.now) _ c.send_bytes-count.result []
+    c.as_slice.result.now
     (λ text within is. waiting_left c.args.buffer.now text within is ∙ sym bytes)
     sent.front sent.within sent.all sent.failed sent.stays c.saturating_add-buffer.ensures c.clear.ensures.items

@@ -5,8 +5,7 @@ use Rattle.vcd_text.proofs.writing.codes.write_code.Given as goal
 
 abbrev pub invariant-loop-left : goal.invariant-loop-left
 invariant-loop-left g l =
-    WritesFront l.initial.buffer (g.W.Sink.taken l.initial.writer) (g.W.Sink.has_failed l.initial.writer) l.buffer
-    (g.W.Sink.taken l.writer) (g.W.Sink.has_failed l.writer)
+    WritesFront g.W.Sink.taken g.W.Sink.has_failed (l.initial.buffer, l.initial.writer) (l.buffer, l.writer)
     (code_digits l.left l.left) (code_of l.position)
 
 abbrev pub decreases-loop-left : goal.decreases-loop-left

@@ -8,7 +8,6 @@ use Rattle.vcd_text.proofs.writing.declarations.write_scopes.Given as goal
 
 abbrev pub invariant-loop-name : goal.invariant-loop-name
 invariant-loop-name g l =
-    WritesFront l.initial.buffer (g.W.Sink.taken l.initial.writer) (g.W.Sink.has_failed l.initial.writer) l.buffer
-    (g.W.Sink.taken l.writer) (g.W.Sink.has_failed l.writer)
+    WritesFront g.W.Sink.taken g.W.Sink.has_failed (l.initial.buffer, l.initial.writer) (l.buffer, l.writer)
     (flat_map item_line (map (λ s. scope s.kind s.words) (drop l.name-index l.scopes)))
     (flat_map item_line (map (λ s. scope s.kind s.words) l.scopes))

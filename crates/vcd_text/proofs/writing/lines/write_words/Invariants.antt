@@ -6,6 +6,5 @@ use Rattle.vcd_text.proofs.writing.lines.write_words.Given as goal
 
 abbrev pub invariant-loop-word : goal.invariant-loop-word
 invariant-loop-word g l =
-    WritesFront l.initial.buffer (g.W.Sink.taken l.initial.writer) (g.W.Sink.has_failed l.initial.writer) l.buffer
-    (g.W.Sink.taken l.writer) (g.W.Sink.has_failed l.writer)
+    WritesFront g.W.Sink.taken g.W.Sink.has_failed (l.initial.buffer, l.initial.writer) (l.buffer, l.writer)
     (spaced_words (drop l.word-index l.words)) (spaced_words l.words)

@@ -8,7 +8,6 @@ use Rattle.vcd_text.proofs.writing.transitions.write_all_values.Given as goal
 
 abbrev pub invariant-loop-position : goal.invariant-loop-position
 invariant-loop-position g l =
-    WritesFront l.initial.buffer (g.W.Sink.taken l.initial.writer) (g.W.Sink.has_failed l.initial.writer) l.buffer
-    (g.W.Sink.taken l.writer) (g.W.Sink.has_failed l.writer)
+    WritesFront g.W.Sink.taken g.W.Sink.has_failed (l.initial.buffer, l.initial.writer) (l.buffer, l.writer)
     (flat_map item_line (value_items 0 (enumerate_from l.position (map signal_contents (drop l.position l.signals)))))
     (flat_map item_line (all_values (map signal_contents l.signals) 0))

@@ -11,9 +11,8 @@ use Rattle.vcd_text.proofs.writing.transitions.write_found.Given as goal
 abbrev pub invariant-loop-listed : goal.invariant-loop-listed
 invariant-loop-listed g l =
     record {
-      text : WritesFront l.initial.buffer (g.W.Sink.taken l.initial.writer) (g.W.Sink.has_failed l.initial.writer)
-          l.buffer (g.W.Sink.taken l.writer) (g.W.Sink.has_failed l.writer)
-          (flat_map item_line (transition_items (map signal_contents l.signals) l.last
+      text : WritesFront g.W.Sink.taken g.W.Sink.has_failed (l.initial.buffer, l.initial.writer) (l.buffer, l.writer)
+    (flat_map item_line (transition_items (map signal_contents l.signals) l.last
           (transitions_of (drop l.listed-index l.found))))
           (flat_map item_line (transition_items (map signal_contents l.signals) l.initial.last
           (transitions_of l.found)));

@@ -15,9 +15,8 @@ decreases-loop-left g l = length l.left
 abbrev pub invariant-loop-left : goal.invariant-loop-left
 invariant-loop-left g l =
     record {
-      text : WritesFront l.initial.buffer (g.W.Sink.taken l.initial.writer) (g.W.Sink.has_failed l.initial.writer)
-          l.buffer (g.W.Sink.taken l.writer) (g.W.Sink.has_failed l.writer)
-          (flat_map item_line (transition_items (map signal_contents l.signals) l.last (in_order l.row l.left)))
+      text : WritesFront g.W.Sink.taken g.W.Sink.has_failed (l.initial.buffer, l.initial.writer) (l.buffer, l.writer)
+    (flat_map item_line (transition_items (map signal_contents l.signals) l.last (in_order l.row l.left)))
           (flat_map item_line (transition_items (map signal_contents l.signals) l.initial.last
           (in_order l.row l.order)));
       last : last_tick l.last (in_order l.row l.left) ≡ last_tick l.initial.last (in_order l.row l.order);
