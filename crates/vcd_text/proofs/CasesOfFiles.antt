@@ -154,8 +154,8 @@ shared_code_means = record {
 abbrev skipped_and_comment : List ℕ
 skipped_and_comment =
     codes "$timescale 10 us $end\n$scope module t $end\n$var real 64 ! v $end\n$var event 1 \" e $end\n"
-        ++ codes "$var reg 2 # q [1:0] $end\n$upscope $end\n$enddefinitions $end\n$comment made by hand $end\n#10\n"
-        ++ codes "r1.5 !\n1\"\nb1x #\n#20\n"
+    ++ codes "$var reg 2 # q [1:0] $end\n$upscope $end\n$enddefinitions $end\n$comment made by hand $end\n#10\n"
+    ++ codes "r1.5 !\n1\"\nb1x #\n#20\n"
 
 abbrev skipped_and_comment_items : List Item
 skipped_and_comment_items =

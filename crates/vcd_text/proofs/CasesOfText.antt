@@ -61,7 +61,7 @@ two_scopes = capture 3 (
 
 text_of_two_scopes : text two_scopes
     ≡ codes "$scope module top $end\n$var wire 1 ! a $end\n$scope module sub $end\n$var wire 1 \" a $end\n"
-        ++ codes "$upscope $end\n$upscope $end\n$enddefinitions $end\n#0\n$dumpvars\n0!\n1\"\n$end\n#3\n1!\n0\"\n"
+    ++ codes "$upscope $end\n$upscope $end\n$enddefinitions $end\n#0\n$dumpvars\n0!\n1\"\n$end\n#3\n1!\n0\"\n"
 unfolding text items_of signal_items code_digits tick_items value_from short_form digits
 text_of_two_scopes = refl
 
@@ -70,7 +70,7 @@ text_of_vector : text
     (capture 3 (wire (top ∷ []) (codes "v") 4 (from 1 (codes "0001") ∷ from 2 (codes "zzz1") ∷ from 3 (codes "0000")
     ∷ []) ∷ []))
     ≡ codes "$scope module top $end\n$var wire 4 ! v $end\n$upscope $end\n$enddefinitions $end\n#0\n$dumpvars\nbx !\n"
-        ++ codes "$end\n#1\nb1 !\n#2\nbz1 !\n#3\nb0 !\n"
+    ++ codes "$end\n#1\nb1 !\n#2\nbz1 !\n#3\nb0 !\n"
 unfolding text items_of signal_items code_digits tick_items value_from short_form digits
 text_of_vector = refl
 
@@ -80,7 +80,7 @@ text_of_single_changes : text (capture 7 (
     ∷ wire [] (codes "b") 1 (from 2 (codes "z") ∷ from 5 (codes "x") ∷ [])
     ∷ []))
     ≡ codes "$var wire 1 ! a $end\n$var wire 1 \" b $end\n$enddefinitions $end\n#0\n$dumpvars\n0!\nx\"\n$end\n#2\n"
-        ++ codes "z\"\n#5\n1!\nx\"\n#7\n"
+    ++ codes "z\"\n#5\n1!\nx\"\n#7\n"
 unfolding text items_of signal_items code_digits tick_items value_from short_form digits
 text_of_single_changes = refl
 
@@ -99,7 +99,7 @@ text_of_header : text (record {
   signals = [];
 })
     ≡ codes "$comment $end\n$date May 1 $end\n$version 2 $end\n$timescale 100 fs $end\n$enddefinitions $end\n#0\n"
-        ++ codes "$dumpvars\n$end\n"
+    ++ codes "$dumpvars\n$end\n"
 unfolding text items_of signal_items code_digits tick_items value_from short_form digits
 text_of_header = refl
 
@@ -111,8 +111,8 @@ text_of_scopes : text (capture 0 (
     ∷ wire (top ∷ []) (codes "d") 1 []
     ∷ []))
     ≡ codes "$scope module top $end\n$scope task s $end\n$var wire 1 ! a $end\n$upscope $end\n$scope begin s $end\n"
-        ++ codes "$var wire 1 \" b $end\n$upscope $end\n$upscope $end\n$var wire 1 # c $end\n$scope module top $end\n"
-        ++ codes "$var wire 1 $ d $end\n$upscope $end\n$enddefinitions $end\n#0\n$dumpvars\nx!\nx\"\nx#\nx$\n$end\n"
+    ++ codes "$var wire 1 \" b $end\n$upscope $end\n$upscope $end\n$var wire 1 # c $end\n$scope module top $end\n"
+    ++ codes "$var wire 1 $ d $end\n$upscope $end\n$enddefinitions $end\n#0\n$dumpvars\nx!\nx\"\nx#\nx$\n$end\n"
 unfolding text items_of signal_items code_digits tick_items value_from short_form digits
 text_of_scopes = refl
 

@@ -34,7 +34,6 @@ pub mod Sorting
 pub mod Counts
 pub mod Listing
 pub mod NextChanges
-pub mod Rows
 pub mod Orders
 pub mod Texts
 pub mod TextLengths

@@ -17,7 +17,8 @@ joined w (v ∷ ws) = ap (λ l. w ++ (32 ∷ l)) (joined v ws)
 -- words and further ones
 pub writes_words : {W : Type 0} {t : W → Option (List ℕ)} {f : W → Bool} {s0 s1 s2 : WriteBuffer × W}
     (front back : List (List ℕ))
-    → Emits t f s0 s1 (spaced_words front) → Emits t f s1 s2 (spaced_words back) → Emits t f s0 s2 (spaced_words (front ++ back))
+    → Emits t f s0 s1 (spaced_words front) → Emits t f s1 s2 (spaced_words back)
+    → Emits t f s0 s2 (spaced_words (front ++ back))
 writes_words front back first second =
     writes_as (sym (flat_map-append (λ w. 32 ∷ w) front back)) (writes_both first second)
 

@@ -5,7 +5,7 @@ use Rattle.std.proofs.Common.{append_assoc, eq-eqb}
 use Rattle.std.specs.List.{filter, flat_map, enumerate_from}
 use Rattle.std.proofs.lemmas.Bool.{lt-ltb, le-ltb, ne_eqb}
 use Rattle.std.proofs.lemmas.Grind.{flat_map-append}
-use Rattle.std.proofs.lemmas.List.{append-nil, drop_all, drop_more, get_or-drop, drop-drop}
+use Rattle.std.proofs.lemmas.List.{append-nil, get_or-drop, drop-drop}
 use Rattle.vcd_core.specs.Contents.{SignalContents, no_signal, signal_value}
 use Rattle.vcd_text.proofs.Counts.{transitions_split}
 use Rattle.vcd_text.specs.Items.{Item}
@@ -182,74 +182,3 @@ end_walked signals end last from past =
     let none : end + 1 - from ≡ 0 = omega arith in
     ap (λ n. flat_map item_line (walk signals end last (transitions_from signals from n))) none
     ∙ sym (append-nil (flat_map item_line (if nat_lt last end then stamp_of end ∷ [] else [])))
-
--- the lines of one transition, and those of the later ones
-pub one_walked : (signals : List SignalContents) (last : ℕ) (ms : List Transition) (k : ℕ) (m d : Transition)
-    → k < length ms → m ≡ get_or ms k d
-    → flat_map item_line (transition_items signals last (drop k ms))
-    ≡ (flat_map item_line (if m.tick == last then [] else stamp_of m.tick ∷ [])
-    ++ item_line (value_item (code_of m.position) (transition_value signals m)))
-    ++ flat_map item_line (transition_items signals m.tick (drop (k + 1) ms))
-unfolding transition_items
-one_walked signals last ms k m d within at =
-    ap (λ l. flat_map item_line (transition_items signals last l)) (drop_more ms k d within
-    ∙ ap (λ x. x ∷ drop (k + 1) ms) (sym at))
-    ∙ flat_map-append item_line (if m.tick == last then [] else stamp_of m.tick ∷ []) _
-    ∙ sym (append_assoc (flat_map item_line (if m.tick == last then [] else stamp_of m.tick ∷ []))
-    (item_line (value_item (code_of m.position) (transition_value signals m))) _)
-
--- the last tick stays, one transition on
-pub one_later : (last : ℕ) (ms : List Transition) (k : ℕ) (m d : Transition) (whole : ℕ) → k < length ms
-    → m ≡ get_or ms k d → last_tick last (drop k ms) ≡ whole → last_tick m.tick (drop (k + 1) ms) ≡ whole
-unfolding last_tick
-one_later last ms k m d whole within at all =
-    sym (ap (last_tick last) (drop_more ms k d within ∙ ap (λ x. x ∷ drop (k + 1) ms) (sym at))) ∙ all
-
--- no transition is left
-pub none_walked : (signals : List SignalContents) (last : ℕ) (ms : List Transition) (k : ℕ) → length ms ≤ k
-    → flat_map item_line (transition_items signals last (drop k ms)) ≡ []
-unfolding transition_items
-none_walked signals last ms k past = ap (λ l. flat_map item_line (transition_items signals last l)) (drop_all k ms past)
-
-pub all_later : (last : ℕ) (ms : List Transition) (k whole : ℕ) → length ms ≤ k → last_tick last (drop k ms) ≡ whole
-    → last ≡ whole
-unfolding last_tick
-all_later last ms k whole past all = sym (ap (last_tick last) (drop_all k ms past)) ∙ all
-
--- ---- parts of a window
-
-split_items : (signals : List SignalContents) (t : ℕ) (front later : List Transition)
-    → transition_items signals t (front ++ later) ≡ transition_items signals t front
-    ++ transition_items signals (last_tick t front) later
-unfolding transition_items last_tick
-split_items signals t [] later = refl
-split_items signals t (m ∷ front) later =
-    ap (λ l. (if m.tick == t then [] else stamp_of m.tick ∷ [])
-    ++ value_item (code_of m.position) (transition_value signals m) ∷ l) (split_items signals m.tick front later)
-    ∙ sym (append_assoc (if m.tick == t then [] else stamp_of m.tick ∷ [])
-    (value_item (code_of m.position) (transition_value signals m) ∷ transition_items signals m.tick front)
-    (transition_items signals (last_tick m.tick front) later))
-
-split_last : (t : ℕ) (front later : List Transition)
-    → last_tick t (front ++ later) ≡ last_tick (last_tick t front) later
-unfolding last_tick
-split_last t [] later = refl
-split_last t (m ∷ front) later = split_last m.tick front later
-
--- the lines of a part, and those of the later ones
-pub items_split : (signals : List SignalContents) (last next : ℕ) (ms part later : List Transition) → ms ≡ part ++ later
-    → next ≡ last_tick last part
-    → flat_map item_line (transition_items signals last ms) ≡ flat_map item_line (transition_items signals last part)
-    ++ flat_map item_line (transition_items signals next later)
-items_split signals last next ms part later is at =
-    ap (λ l. flat_map item_line (transition_items signals last l)) is
-    ∙ ap (flat_map item_line) (split_items signals last part later)
-    ∙ flat_map-append item_line (transition_items signals last part)
-    (transition_items signals (last_tick last part) later)
-    ∙ ap (λ t. flat_map item_line (transition_items signals last part)
-    ++ flat_map item_line (transition_items signals t later)) (sym at)
-
-pub last_split : (last next whole : ℕ) (ms part later : List Transition) → ms ≡ part ++ later
-    → next ≡ last_tick last part → last_tick last ms ≡ whole → last_tick next later ≡ whole
-last_split last next whole ms part later is at all = ap (λ t. last_tick t later) at ∙ sym (split_last last part later)
-    ∙ ap (last_tick last) (sym is) ∙ all

@@ -196,7 +196,7 @@ words_end : (c : ParseState) (keyword : List ℕ) (words : List (List ℕ)) → 
     → WordOutcome c (keyword ∷ words) end_word
 words_end c keyword words declares is no_end =
     by_one_of (λ w. WordOutcome c (w ∷ words) end_word)
-        (codes "$timescale" ∷ codes "$scope" ∷ header_words) keyword is (
+    (codes "$timescale" ∷ codes "$scope" ∷ header_words) keyword is (
       timescale_ends c words declares no_end,
       (
         scope_ends c words declares no_end,

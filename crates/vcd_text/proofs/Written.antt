@@ -49,11 +49,12 @@ pub record WritesFront {W : Type 0} (t : W → Option (List ℕ)) (f : W → Boo
   pub writes : Emits t f s0 s1 done
   pub split : done ++ left ≡ whole
 
-pub front_begun : {W : Type 0} {t : W → Option (List ℕ)} {f : W → Bool} {s : WriteBuffer × W} {left whole : List ℕ} → left ≡ whole
-    → WritesFront t f s s left whole
+pub front_begun : {W : Type 0} {t : W → Option (List ℕ)} {f : W → Bool} {s : WriteBuffer × W} {left whole : List ℕ}
+    → left ≡ whole → WritesFront t f s s left whole
 front_begun same = record { done = []; writes = writes_none; split = same }
 
-pub front_grows : {W : Type 0} {t : W → Option (List ℕ)} {f : W → Bool} {s0 s1 s2 : WriteBuffer × W} {piece left whole : List ℕ}
+pub front_grows : {W : Type 0} {t : W → Option (List ℕ)} {f : W → Bool} {s0 s1 s2 : WriteBuffer × W}
+    {piece left whole : List ℕ}
     (rest : List ℕ)
     → WritesFront t f s0 s1 left whole → Emits t f s1 s2 piece → left ≡ piece ++ rest
     → WritesFront t f s0 s2 rest whole
@@ -84,12 +85,13 @@ front_failed {t = t} {f = f} {s1 = s1} {left = left} {whole = whole} front faile
       let same : (text ++ front.done) ++ left ≡ text ++ whole = append_assoc text front.done left
       ∙ ap (λ l. text ++ l) front.split in
       subst (HasEmitted before (t s1.1) (f s1.1) s1.0) same
-      (failed_more before (t s1.1) (f s1.1) s1.0 (text ++ front.done) left failed (front.writes.following before text stands));
+      (failed_more before (t s1.1) (f s1.1) s1.0 (text ++ front.done) left failed
+      (front.writes.following before text stands));
 }
 
 -- the items before one of a list are written, and then that item
-pub front_item : {W : Type 0} {t : W → Option (List ℕ)} {f : W → Bool} {s0 s1 s2 : WriteBuffer × W} {X : Type 0} (F : List X
-    → List ℕ) (xs : List X) (k : ℕ) (x : X) {piece whole : List ℕ}
+pub front_item : {W : Type 0} {t : W → Option (List ℕ)} {f : W → Bool} {s0 s1 s2 : WriteBuffer × W} {X : Type 0}
+    (F : List X → List ℕ) (xs : List X) (k : ℕ) (x : X) {piece whole : List ℕ}
     → WritesFront t f s0 s1 (F (drop k xs)) whole → Emits t f s1 s2 piece → k < length xs
     → x ≡ get_or xs k x → F (x ∷ drop (k + 1) xs) ≡ piece ++ F (drop (k + 1) xs)
     → WritesFront t f s0 s2 (F (drop (k + 1) xs)) whole
@@ -98,8 +100,8 @@ front_item F xs k x front more within is split =
     (ap F (drop_more xs k x within ∙ ap (λ a. a ∷ drop (k + 1) xs) (sym is)) ∙ split)
 
 -- all items of a list are written
-pub front_items : {W : Type 0} {t : W → Option (List ℕ)} {f : W → Bool} {s0 s1 : WriteBuffer × W} {X : Type 0} (F : List X
-    → List ℕ) (xs : List X) (k : ℕ) {whole : List ℕ}
+pub front_items : {W : Type 0} {t : W → Option (List ℕ)} {f : W → Bool} {s0 s1 : WriteBuffer × W} {X : Type 0}
+    (F : List X → List ℕ) (xs : List X) (k : ℕ) {whole : List ℕ}
     → WritesFront t f s0 s1 (F (drop k xs)) whole → length xs ≤ k → F [] ≡ [] → Emits t f s0 s1 whole
 front_items F xs k front past none = front_whole front (ap F (drop_all k xs past) ∙ none)
 

@@ -17,7 +17,6 @@ pub mod WordWalk
 pub mod Written
 pub mod ValueFronts
 pub mod TextParts
-pub mod KeptChanges
 pub mod NextChanges
 pub mod Waiting
 pub mod Windows

@@ -11,24 +11,22 @@ mod buffer;
 mod codes;
 mod counting;
 mod declarations;
-mod kept_changes;
-mod keys;
 mod lines;
 mod next_changes;
-mod rows;
+mod stamps;
 mod transitions;
 mod values;
-mod windows;
+mod window;
 
 use crate::fault::WriteError;
 use buffer::{WriteBuffer, finish};
 use counting::check_countable;
 use declarations::write_declarations;
-use next_changes::first_changes;
+use stamps::write_first_values;
 use std::alloc::Global;
-use transitions::{write_first_values, write_transitions};
+use transitions::write_transitions;
 use vcd_core::{Capture, Sink};
-use windows::Window;
+use window::Window;
 
 /// Writes the text of a capture, and flushes the writer once after its last byte. All memory is
 /// taken before the first byte is written.
@@ -37,7 +35,7 @@ use windows::Window;
 /// took exactly the first `written` bytes of the text: all of them where the flush failed.
 ///
 /// The time is that of sorting the changes, a part at a time; ticks without a change cost nothing.
-/// The memory is 80 bytes for each signal and some 300 KiB. The declarations are made twice: their
+/// The memory is 56 bytes for each signal and some 130 KiB. The declarations are made twice: their
 /// bytes are counted before the first is written.
 pub fn write<W: Sink>(alloc: Global, capture: &Capture, writer: &mut W) -> Result<(), WriteError>
     requires sound { IsSound (contents capture.now) }
@@ -50,18 +48,11 @@ pub fn write<W: Sink>(alloc: Global, capture: &Capture, writer: &mut W) -> Resul
 {
     let signals = capture.signals();
     check_countable(alloc, capture)?;
-    let mut window = Window::new(alloc, signals)?;
-    let mut nexts = first_changes(alloc, signals)?;
+    let end = capture.end();
+    let mut window = Window::new(alloc, signals, end)?;
     let mut buffer = WriteBuffer::new(alloc)?;
     write_declarations(&mut buffer, writer, capture);
     write_first_values(&mut buffer, writer, signals);
-    write_transitions(
-        &mut buffer,
-        writer,
-        signals,
-        &mut window,
-        nexts.as_mut_slice(),
-        capture.end(),
-    );
+    write_transitions(&mut buffer, writer, signals, &mut window, end);
     finish(buffer, writer)
 }

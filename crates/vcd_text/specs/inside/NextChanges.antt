@@ -1,21 +1,29 @@
 -- The next change of each signal from a tick on.
-use Rattle.std.specs.Prelude.{◌≡◌, ◌<◌, ◌≤◌, ◌-◌, ◌^◌, ℕ, nat_le, nat_lt, List, length, slice_index_or}
-use Rattle.std.specs.List.{count_by}
+use Rattle.std.specs.Prelude.{◌≡◌, ◌<◌, ◌≤◌, ◌+◌, ◌-◌, ◌^◌, ℕ, List, length, map, take, slice_index_or, All}
+use Rattle.vcd_core.specs.Wave.{IsWave}
 use Rattle.vcd_core.specs.declared.capture.Signal.{Signal}
 use Rattle.vcd_core.specs.declared.wave.Change.{Change}
-use Rattle.vcd_text.specs.declared.writing.kept_changes.KeptChange.{KeptChange}
-use Rattle.vcd_text.specs.inside.KeptChanges.{KeepsChange}
+use Rattle.vcd_text.specs.declared.writing.next_changes.NextChange.{NextChange}
 
--- `place` changes are before a tick, and no other before that of the next one, which follows them; its tick is past all
--- ticks where there is none
-pub record IsNext (from : ℕ) (changes : List Change) (next : KeptChange) : Type 0 where
-  pub place : next.place ≡ count_by (λ c. nat_le c.tick (from - 1)) changes
-  pub quiet : count_by (λ c. nat_lt c.tick next.tick) changes ≤ next.place
-  pub inside : next.tick < 2 ^ 64 - 1 → next.place < length changes
-  pub kept : (c : Change) → next.place < length changes → KeepsChange (slice_index_or changes next.place c) next
+-- changes of a wave, whatever its width
+pub record AreRising (changes : List Change) : Type 0 where
+  pub width : ℕ
+  pub form : IsWave width changes
+
+-- the tick of the change at a place, past all ticks where there is none
+abbrev pub tick_at : List Change → ℕ → ℕ
+tick_at changes place = slice_index_or (map (λ c. c.tick) changes) place (2 ^ 64 - 1)
+
+-- a change with the tick after it, where the changes before it come before the tick `to`, and it does not come before
+-- the tick `from`
+pub record IsNext (from to : ℕ) (changes : List Change) (next : NextChange) : Type 0 where
+  pub passed : All (λ c. c.tick < to) (take next.place changes)
+  pub left : from ≤ next.tick
+  pub tick : next.tick ≡ tick_at changes next.place
+  pub following : next.following ≡ tick_at changes (next.place + 1)
 
 -- each signal has its next change
-pub record AreNext (from : ℕ) (signals : List Signal) (nexts : List KeptChange) : Type 0 where
+pub record AreNext (from : ℕ) (signals : List Signal) (nexts : List NextChange) : Type 0 where
   pub all : length nexts ≡ length signals
-  pub each : (k : ℕ) (s : Signal) (n : KeptChange) → k < length signals
-      → IsNext from (slice_index_or signals k s).wave.changes (slice_index_or nexts k n)
+  pub each : (k : ℕ) (s : Signal) (n : NextChange) → k < length signals
+      → IsNext from from (slice_index_or signals k s).wave.changes (slice_index_or nexts k n)

@@ -1,40 +1,32 @@
--- A row of the transitions of a window with their values, and the keys that sort them.
-use Rattle.std.specs.Prelude.{◌≡◌, ◌<◌, ◌≤◌, ◌+◌, ◌-◌, ◌*◌, ◌%◌, ℕ, List, [], ◌∷◌, length, map, slice_index_or}
-use Rattle.vcd_core.specs.Contents.{SignalContents}
-use Rattle.vcd_core.specs.WordRows.{letters_of}
-use Rattle.vcd_text.specs.declared.writing.rows.ListedTransition.{ListedTransition}
-use Rattle.vcd_text.specs.declared.writing.keys.TheConstants.{PLACES}
-use Rattle.vcd_text.specs.inside.Transitions.{Transition, transition_of, transition_value}
+-- A window of ticks, and the keys of the changes in it.
+use Rattle.std.specs.Prelude.{◌≡◌, ◌<◌, ◌≤◌, ◌+◌, ◌/◌, ◌%◌, ℕ, List, length, map, All, vec_capacity}
+use Rattle.vcd_core.specs.Contents.{signal_contents}
+use Rattle.vcd_core.specs.Sound.{IsSoundSignal}
+use Rattle.vcd_core.specs.declared.capture.Signal.{Signal}
+use Rattle.vcd_core.specs.declared.capture.TheConstants.{END_LIMIT, SIGNAL_LIMIT}
+use Rattle.vcd_text.specs.declared.writing.window.Window.{Window}
+use Rattle.vcd_text.specs.declared.writing.window.TheConstants.{PLACES}
+use Rattle.vcd_text.specs.inside.NextChanges.{AreNext}
+use Rattle.vcd_text.specs.inside.Transitions.{Transition, transition_of}
 
--- the transition of an item of a row: a signal changes at a tick
-abbrev pub listed_transition : ListedTransition → Transition
-listed_transition m = transition_of m.change.tick m.position
+-- the transition of a key in the window from a tick on: the ticks after it, then the position
+abbrev pub transition_of_key : ℕ → ℕ → Transition
+transition_of_key from key = transition_of (from + key / PLACES) (key % PLACES)
 
--- a transition of one of these signals, with the value there: its width, and its letters where there are at most 64
-pub record IsListed (signals : List SignalContents) (m : ListedTransition) : Type 0 where
-  pub within : m.position < length signals
-  pub wide : m.width ≡ length (transition_value signals (listed_transition m))
-  pub some : 1 ≤ m.width
-  pub letters : m.width ≤ 64 → letters_of m.width (m.change.low ∷ []) (m.change.high ∷ [])
-      ≡ transition_value signals (listed_transition m)
+-- the transitions of keys
+abbrev pub transitions_of : ℕ → List ℕ → List Transition
+transitions_of from keys = map (transition_of_key from) keys
 
--- the transitions of a row
-abbrev pub transitions_of : List ListedTransition → List Transition
-transitions_of row = map listed_transition row
+-- a key of one of this number of signals
+pub record IsKey (from count key : ℕ) : Type 0 where
+  pub position : key % PLACES < count
+  pub tick : from + key / PLACES ≤ END_LIMIT
 
--- the keys of a row, the first at this place: the ticks after a tick, then the place
-unfoldable pub keys_from : ℕ → ℕ → List ListedTransition → List ℕ
-keys_from from place [] = []
-keys_from from place (m ∷ ms) = ((m.change.tick - from) * PLACES + place) ∷ keys_from from (place + 1) ms
-
--- the transition of a key in a row
-abbrev pub transition_in : List ListedTransition → ℕ → Transition
-transition_in row key = slice_index_or (transitions_of row) (key % PLACES) (transition_of 0 0)
-
--- the transitions of a row in the order of keys
-abbrev pub in_order : List ListedTransition → List ℕ → List Transition
-in_order row keys = map (transition_in row) keys
-
--- the key of a transition of a row
-pub record IsKeyIn (row : List ListedTransition) (key : ℕ) : Type 0 where
-  pub inside : key % PLACES < length row
+-- a window that can be filled with the ticks from a tick on
+pub record IsReady (end from : ℕ) (signals : List Signal) (window : Window) : Type 0 where
+  pub few : length signals ≤ SIGNAL_LIMIT
+  pub sound : All (IsSoundSignal end) (map signal_contents signals)
+  pub some : 1 ≤ from
+  pub room : length signals ≤ vec_capacity window.keys
+  pub next : AreNext from signals window.nexts.items
+  pub begun : length window.begun.items ≡ length signals

@@ -1,55 +1,68 @@
-//! The next change of each signal, with its value. A signal that does not change in a window needs
-//! no access to its wave.
+//! The next change of each signal, so that a signal without a change in a window needs no access to
+//! its wave.
 
-ghost use Rattle.std.specs.Prelude.{◌≡◌, ◌≤◌, ◌-◌, ℕ, nat_le, length, count_by, IfOk};
-ghost use Rattle.vcd_text.specs.inside.NextChanges.{AreNext, IsNext};
+ghost use Rattle.std.specs.Prelude.{◌≡◌, ◌<◌, ◌+◌, ℕ, length, IfOk};
+ghost use Rattle.vcd_text.specs.inside.NextChanges.{AreNext, IsNext, tick_at};
 
-use super::kept_changes::{KeptChange, kept_change};
 use std::alloc::Global;
-use vcd_core::{NoMemory, Signal, Wave};
+use vcd_core::{Change, NoMemory, Signal, Wave};
 
-/// The change at a place of a wave. Where there is none, its tick is past all ticks.
-pub fn next_at(wave: &Wave, place: usize) -> KeptChange
-    ensures { (from : ℕ) → place ≡ count_by (λ c. nat_le c.tick (from - 1)) wave.now.changes →
-        IsNext from wave.now.changes result }
-{
-    match wave.changes().get(place) {
-        Some(change) => kept_change(change, place),
-        None => KeptChange {
-            place,
-            tick: u64::MAX,
-            low: 0,
-            high: 0,
-        },
-    }
+/// The next change of a signal: its place in the wave, its tick, and the tick of the change after
+/// it. A tick is past all ticks where there is no such change. It has 24 bytes.
+#[derive(Clone, Copy)]
+pub struct NextChange {
+    pub place: usize,
+    pub tick: u64,
+    pub following: u64,
 }
 
-/// The first change of a wave from a tick on, searched near a place.
-fn next_from(wave: &Wave, near: usize, from: u64) -> KeptChange
-    requires { 1 ≤ from }
-    ensures { IsNext from wave.now.changes result }
-{
-    next_at(wave, wave.count_near(near, from - 1))
-}
-
-/// The first change of each signal after tick 0: 32 bytes for each signal.
-pub fn first_changes(alloc: Global, signals: &[Signal]) -> Result<Vec<KeptChange>, NoMemory>
+/// The first change of each signal after tick 0: 24 bytes for each signal.
+pub fn first_changes(alloc: Global, signals: &[Signal]) -> Result<Vec<NextChange>, NoMemory>
     ensures { IfOk result (λ nexts. AreNext 1 signals.now nexts.items) }
 {
     let mut nexts = Vec::with_capacity(alloc, signals.len())?;
     for signal in signals {
-        nexts.push(next_from(&signal.wave, 0, 1))?;
+        nexts.push(first_change(&signal.wave))?;
     }
     Ok(nexts)
 }
 
-/// Finds the first change of each signal from a tick on, near the current one.
-pub fn find_next_changes(nexts: &mut [KeptChange], signals: &[Signal], from: u64)
-    requires some { 1 ≤ from }
-    requires all { length nexts.old ≡ length signals.now }
-    ensures { AreNext from signals.now nexts.new }
+/// The first change after tick 0.
+fn first_change(wave: &Wave) -> NextChange
+    ensures { IsNext 1 1 wave.now.changes result }
 {
-    for (position, signal) in signals.iter().enumerate() {
-        nexts[position] = next_from(&signal.wave, nexts[position].place, from);
+    let changes = wave.changes();
+    let first = NextChange {
+        place: 0,
+        tick: tick_at_place(changes, 0),
+        following: tick_at_place(changes, 1),
+    };
+    if first.tick == 0 {
+        return following_change(changes, first);
+    }
+    first
+}
+
+/// The change after the next one. It reads a tick one change further on, and does not wait for it.
+pub fn following_change(changes: &[Change], next: NextChange) -> NextChange
+    requires { next.place < length changes.now }
+    ensures place { result.place ≡ next.place + 1 }
+    ensures tick { result.tick ≡ next.following }
+    ensures following { result.following ≡ tick_at changes.now (next.place + 2) }
+{
+    NextChange {
+        place: next.place + 1,
+        tick: next.following,
+        following: tick_at_place(changes, next.place + 2),
+    }
+}
+
+/// The tick of the change at a place, past all ticks where there is none.
+fn tick_at_place(changes: &[Change], place: usize) -> u64
+    ensures { result ≡ tick_at changes.now place }
+{
+    match changes.get(place) {
+        Some(change) => change.tick,
+        None => u64::MAX,
     }
 }

@@ -3,6 +3,7 @@
 ghost use Rattle.std.specs.Prelude.{◌≡◌, ◌<◌, ◌≤◌, ◌+◌, ◌-◌, ◌*◌, ◌^◌, ◌∷◌, ◌++◌, [], ℕ, true, false, if◌then◌else◌, length, drop, slice_index};
 ghost use Rattle.std.specs.Int.{bit_at};
 ghost use Rattle.vcd_core.specs.Value.{printed_letter, same_letter};
+ghost use Rattle.vcd_core.specs.Wave.{value_at};
 ghost use Rattle.vcd_core.specs.WordRows.{letters_of};
 ghost use Rattle.vcd_core.specs.declared.capture.TheConstants.{SIGNAL_LIMIT};
 ghost use Rattle.vcd_text.specs.Letters.{pad_letter, printed_letters, short_form};
@@ -12,16 +13,35 @@ ghost use Rattle.vcd_text.specs.inside.Written.{Emits};
 
 use super::buffer::{WriteBuffer, write_byte, write_piece};
 use super::codes::write_code;
-use vcd_core::{Bit, Sink, Value};
+use vcd_core::{Bit, Sink, Value, Wave};
 
-/// Writes the line that gives a value to the signal at `position`. It takes a step for each two
-/// written letters, and for each word of 64 letters that is left out.
-pub fn write_value<W: Sink>(
+/// Writes the value at `tick`. Where the change at `place` has that tick, it writes its value,
+/// without a search.
+pub fn write_value_near<W: Sink>(
     buffer: &mut WriteBuffer,
     writer: &mut W,
     position: usize,
-    value: &Value,
+    wave: &Wave,
+    tick: u64,
+    place: usize,
 )
+    requires { position < SIGNAL_LIMIT }
+    ensures { Emits W.taken W.has_failed (buffer.old, writer.old) (buffer.new, writer.new)
+        (item_line (value_item (code_of position)
+        (value_at wave.now.width wave.now.changes tick))) }
+{
+    if let Some(change) = wave.changes().get(place) {
+        if change.tick == tick {
+            write_value(buffer, writer, position, &change.value);
+            return;
+        }
+    }
+    write_value(buffer, writer, position, &wave.at(tick));
+}
+
+/// Writes the line that gives a value to the signal at `position`. It takes a step for each two
+/// written letters, and for each word of 64 letters that is left out.
+fn write_value<W: Sink>(buffer: &mut WriteBuffer, writer: &mut W, position: usize, value: &Value)
     requires { position < SIGNAL_LIMIT }
     ensures { Emits W.taken W.has_failed (buffer.old, writer.old) (buffer.new, writer.new)
         (item_line (value_item (code_of position) value.now)) }
@@ -42,7 +62,7 @@ pub fn write_value<W: Sink>(
 /// Writes the line that gives the value of at most 64 bits, with these words of low and high bits,
 /// to the signal at `position`. Bits of the words from `width` on are ignored. It takes a step for
 /// each two written letters.
-pub fn write_word_value<W: Sink>(
+fn write_word_value<W: Sink>(
     buffer: &mut WriteBuffer,
     writer: &mut W,
     position: usize,

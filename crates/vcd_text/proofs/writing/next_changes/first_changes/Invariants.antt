@@ -1,7 +1,7 @@
 -- Each signal passed has its first change.
 use Rattle.std.proofs.Common.{◌≡◌, ◌<◌, ℕ, length, get_or}
 use Rattle.vcd_core.specs.declared.capture.Signal.{Signal}
-use Rattle.vcd_text.specs.declared.writing.kept_changes.KeptChange.{KeptChange}
+use Rattle.vcd_text.specs.declared.writing.next_changes.NextChange.{NextChange}
 use Rattle.vcd_text.specs.inside.NextChanges.{IsNext}
 use Rattle.vcd_text.proofs.writing.next_changes.first_changes.Given as goal
 
@@ -9,6 +9,6 @@ abbrev pub invariant-loop-signal : goal.invariant-loop-signal
 invariant-loop-signal l =
     record {
       all : length l.nexts.items ≡ l.signal-index;
-      each : (k : ℕ) (s : Signal) (n : KeptChange) → k < l.signal-index
-          → IsNext 1 (get_or l.signals k s).wave.changes (get_or l.nexts.items k n);
+      each : (k : ℕ) (s : Signal) (n : NextChange) → k < l.signal-index
+          → IsNext 1 1 (get_or l.signals k s).wave.changes (get_or l.nexts.items k n);
     }

@@ -1,10 +1,11 @@
 -- The ticks before a window are written; the ticks after it are left.
-use Rattle.std.proofs.Common.{◌≤◌, ◌+◌, ◌-◌, ◌++◌, map, vec_capacity}
+use Rattle.std.proofs.Common.{◌≤◌, ◌+◌, ◌-◌, ◌++◌, map}
 use Rattle.std.specs.List.{flat_map}
 use Rattle.vcd_core.specs.Contents.{signal_contents}
 use Rattle.vcd_text.specs.Text.{end_items, item_line, tick_items}
-use Rattle.vcd_text.specs.inside.NextChanges.{AreNext}
+use Rattle.vcd_text.specs.declared.writing.window.TheConstants.{SPAN}
 use Rattle.vcd_text.specs.inside.Transitions.{transitions_from}
+use Rattle.vcd_text.specs.inside.Windows.{IsReady}
 use Rattle.vcd_text.proofs.Walks.{walk}
 use Rattle.vcd_text.proofs.Written.{WritesFront}
 use Rattle.vcd_text.proofs.writing.transitions.write_transitions.Given as goal
@@ -13,16 +14,14 @@ abbrev pub invariant-loop-from : goal.invariant-loop-from
 invariant-loop-from g l =
     record {
       text : WritesFront g.W.Sink.taken g.W.Sink.has_failed (l.initial.buffer, l.initial.writer) (l.buffer, l.writer)
-    (flat_map item_line (walk (map signal_contents l.signals) l.end l.last
+          (flat_map item_line (walk (map signal_contents l.signals) l.end l.last
           (transitions_from (map signal_contents l.signals) l.from (l.end + 1 - l.from))))
           (flat_map item_line (tick_items (map signal_contents l.signals) 1 l.end
           ++ end_items (map signal_contents l.signals) l.end));
-      next : AreNext l.from l.signals l.nexts;
-      row : l.room ≤ vec_capacity l.row;
-      order : l.room ≤ vec_capacity l.order;
-      from : 1 ≤ l.from;
+      ready : IsReady l.end l.from l.signals l.window;
       within : l.from ≤ l.end + 1;
       some : 1 ≤ l.most;
+      span : l.most ≤ SPAN;
     }
 
 abbrev pub decreases-loop-from : goal.decreases-loop-from

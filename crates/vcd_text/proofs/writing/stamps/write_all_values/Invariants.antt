@@ -1,0 +1,13 @@
+-- The values of the signals passed are written.
+use Rattle.std.proofs.Common.{drop, map}
+use Rattle.std.specs.List.{enumerate_from, flat_map}
+use Rattle.vcd_core.specs.Contents.{signal_contents}
+use Rattle.vcd_text.specs.Text.{all_values, item_line, value_items}
+use Rattle.vcd_text.proofs.Written.{WritesFront}
+use Rattle.vcd_text.proofs.writing.stamps.write_all_values.Given as goal
+
+abbrev pub invariant-loop-position : goal.invariant-loop-position
+invariant-loop-position g l =
+    WritesFront g.W.Sink.taken g.W.Sink.has_failed (l.initial.buffer, l.initial.writer) (l.buffer, l.writer)
+    (flat_map item_line (value_items 0 (enumerate_from l.position (map signal_contents (drop l.position l.signals)))))
+    (flat_map item_line (all_values (map signal_contents l.signals) 0))

@@ -1,0 +1,59 @@
+-- Each turn writes the change of one key.
+use Rattle.std.proofs.Common.{◌<◌, ◌+◌, ◌/◌, ◌%◌, length, map, get_or, sym, ap, refl, ◌∙◌, arith}
+use Rattle.std.proofs.lemmas.List.{get_or_default, length-set}
+use Rattle.vcd_core.specs.Contents.{signal_contents}
+use Rattle.vcd_text.specs.Text.{code_of, item_line, value_item}
+use Rattle.vcd_text.specs.declared.writing.window.TheConstants.{PLACES}
+use Rattle.vcd_text.proofs.Listing.{value_there}
+use Rattle.vcd_text.proofs.Orders.{last_written, none_written, one_later, one_written}
+use Rattle.vcd_text.proofs.Written.{front_begun, front_grows, front_whole, writes_as, writes_both}
+use Rattle.vcd_text.proofs.writing.transitions.write_keys.Goals as goal
+
+pub loop-key-init : goal.loop-key-init
+loop-key-init g c = record { text = front_begun refl; last = refl; begun = refl }
+
+pub overflow_add-tick : goal.overflow_add-tick
+overflow_add-tick g c = omega (arith, (c.requires.keys c.loop-key.key-index 0 (omega arith)).tick)
+
+pub bounds-begun-position : goal.bounds-begun-position
+bounds-begun-position g c =
+    omega (arith, (c.requires.keys c.loop-key.key-index 0 (omega arith)).position, c.loop-key.invariant.begun)
+
+pub bounds-signals-position : goal.bounds-signals-position
+bounds-signals-position g c = omega (arith, (c.requires.keys c.loop-key.key-index 0 (omega arith)).position)
+
+pub write_value_near-requires : goal.write_value_near-requires
+write_value_near-requires g c =
+    omega (arith, (c.requires.keys c.loop-key.key-index 0 (omega arith)).position, c.requires.few)
+
+pub loop-key-preserved : goal.loop-key-preserved
+loop-key-preserved g c =
+    let keys = c.args.keys.now in
+    let k = c.loop-key.key-index in
+    let kept = c.loop-key.invariant in
+    let signals = c.args.signals.now in
+    let inside : k < length keys = omega arith in
+    let key = get_or keys k 0 in
+    let there = (c.requires.keys k 0 inside).position in
+    let s = get_or signals (key % PLACES) c.index-signals-position.result in
+    let value = value_there signals s (key % PLACES) (c.args.from + key / PLACES) there
+    (get_or_default signals (key % PLACES) c.index-signals-position.result s there) in
+    record {
+      text = front_grows _ kept.text (writes_both c.write_new_stamp.ensures
+          (writes_as (ap (λ v. item_line (value_item (code_of (key % PLACES)) v)) (sym value))
+          c.write_value_near.ensures))
+          (one_written (map signal_contents signals) c.args.from c.loop-key.last k keys inside);
+      last = one_later c.args.from c.loop-key.last k _ keys inside kept.last;
+      begun = length-set c.loop-key.begun (key % PLACES) _ ∙ kept.begun;
+    }
+
+pub returns-clause-text : goal.returns-clause-text
+returns-clause-text g c =
+    front_whole c.loop-key.invariant.text
+    (none_written (map signal_contents c.args.signals.now) c.args.from c.loop-key.last c.loop-key.key-index
+    c.args.keys.now (omega arith))
+
+pub returns-clause-last : goal.returns-clause-last
+returns-clause-last g c =
+    last_written c.args.from c.loop-key.last c.loop-key.key-index _ c.args.keys.now (omega arith)
+    c.loop-key.invariant.last

@@ -1,0 +1,90 @@
+-- Each turn lists the key of the next change, which is in the window.
+use Rattle.std.proofs.Common.{◌<◌, ◌++◌, length, drop, sym, ap, ◌∙◌, arith}
+use Rattle.std.proofs.lemmas.List.{append-nil, length-append, length-map}
+use Rattle.vcd_text.specs.inside.Transitions.{Transition, window_of_signal}
+use Rattle.vcd_text.specs.inside.Windows.{transition_of_key, transitions_of}
+use Rattle.vcd_text.proofs.NextChanges.{begins, goes_on, goes_to, steps, stops, tick_inside}
+use Rattle.vcd_text.proofs.Orders.{key_holds, one_key}
+use Rattle.vcd_text.proofs.writing.window.list_signal.Goals as goal
+
+pub loop-next-init : goal.loop-next-init
+loop-next-init c = record {
+  next = goes_to c.args.from c.args.to c.args.changes.now c.args.next c.requires.order c.requires.next;
+  all = ap (λ w. transitions_of c.args.from c.args.keys.now.items ++ w)
+      (sym (begins c.args.from c.args.to c.args.position c.args.changes.now c.args.next.place c.requires.next.passed));
+  keys = λ count inside all. all;
+  room = omega arith;
+}
+
+pub following_change-next-requires : goal.following_change-next-requires
+following_change-next-requires c =
+    tick_inside c.args.changes.now c.loop-next.next.place
+    (omega (arith, c.loop-next.invariant.next.tick, c.requires.end))
+
+pub loop-next-smaller : goal.loop-next-smaller
+loop-next-smaller c =
+    let inside = tick_inside c.args.changes.now c.loop-next.next.place
+    (omega (arith, c.loop-next.invariant.next.tick, c.requires.end)) in
+    omega (arith, inside, c.following_change-next.ensures.place)
+
+pub loop-next-preserved : goal.loop-next-preserved
+loop-next-preserved c =
+    let kept = c.loop-next.invariant in
+    let next = c.loop-next.next in
+    let keys = c.loop-next.keys.items in
+    let new = c.push_in_room.new.keys.items in
+    let cs = c.args.changes.now in
+    let more = c.following_change-next.ensures in
+    let early : next.tick < c.args.to = omega arith in
+    record {
+      next = goes_on c.args.from c.args.to cs next c.following_change-next.result c.requires.rise kept.next early
+          c.requires.end more.place more.tick more.following;
+      all =
+          ap (λ k. transitions_of c.args.from new ++ window_of_signal c.args.from c.args.to c.args.position (drop k cs))
+          more.place
+          ∙ one_key c.args.from next.tick c.args.position c.key_of.result keys new _ _ c.requires.position
+          kept.next.left c.key_of.ensures c.push_in_room.ensures.items
+          (ap (λ w. transitions_of c.args.from keys ++ w)
+          (sym (steps c.args.from c.args.to c.args.position cs next kept.next early c.requires.end)) ∙ kept.all);
+      keys = λ count inside all. key_holds c.args.from next.tick c.args.position count c.key_of.result keys new
+          c.requires.position inside kept.next.left (omega (arith, c.requires.end)) c.key_of.ensures
+          c.push_in_room.ensures.items (kept.keys count inside all);
+      room = omega (arith, kept.room, c.push_in_room.ensures.room);
+    }
+
+pub returns-then-len-capacity-clause-full : goal.returns-then-len-capacity-clause-full
+returns-then-len-capacity-clause-full c =
+    let kept = c.loop-next.invariant in
+    let next = c.loop-next.next in
+    let cs = c.args.changes.now in
+    let keys = c.loop-next.keys.items in
+    let old = c.args.keys.now.items in
+    let window = window_of_signal c.args.from c.args.to c.args.position in
+    omega (
+      arith,
+      kept.room,
+      ap (length {A = Transition}) kept.all,
+      ap (length {A = Transition})
+          (steps c.args.from c.args.to c.args.position cs next kept.next (omega arith) c.requires.end),
+      length-append (transitions_of c.args.from keys) (window (drop next.place cs)),
+      length-append (transitions_of c.args.from old) (window cs),
+      length-map keys (transition_of_key c.args.from),
+      length-map old (transition_of_key c.args.from),
+    )
+
+pub returns-clause-all : goal.returns-clause-all
+returns-clause-all c =
+    let kept = c.loop-next.invariant in
+    sym (append-nil _)
+    ∙ ap (λ w. transitions_of c.args.from c.loop-next.keys.items ++ w)
+    (sym (stops c.args.from c.args.to c.args.position c.args.changes.now c.loop-next.next c.requires.rise kept.next
+    (omega arith)))
+    ∙ kept.all
+
+pub returns-clause-next : goal.returns-clause-next
+returns-clause-next c = record {
+  passed = c.loop-next.invariant.next.passed;
+  left = omega arith;
+  tick = c.loop-next.invariant.next.tick;
+  following = c.loop-next.invariant.next.following;
+}

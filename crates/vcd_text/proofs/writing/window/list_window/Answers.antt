@@ -1,0 +1,85 @@
+-- Each turn lists the keys of one signal.
+use Rattle.std.proofs.Common.{◌<◌, ◌++◌, List, length, get_or, sym, ap, ◌∙◌, subst, arith}
+use Rattle.std.specs.List.{filter}
+use Rattle.std.proofs.lemmas.List.{length-map, length-set}
+use Rattle.vcd_core.specs.declared.capture.Signal.{Signal}
+use Rattle.vcd_core.specs.declared.wave.Change.{Change}
+use Rattle.vcd_text.specs.declared.writing.next_changes.NextChange.{NextChange}
+use Rattle.vcd_text.specs.inside.NextChanges.{IsNext}
+use Rattle.vcd_text.specs.inside.Transitions.{is_in_window, transition_of, window_of_signal}
+use Rattle.vcd_text.specs.inside.Windows.{transition_of_key, transitions_of}
+use Rattle.vcd_text.proofs.Listing.{one_listed, all_listed, longer_than}
+use Rattle.vcd_text.proofs.NextChanges.{passed_next}
+use Rattle.vcd_text.proofs.writing.window.list_window.Goals as goal
+
+pub list_signal-requires-clause-rise : goal.list_signal-requires-clause-rise
+list_signal-requires-clause-rise c = record {
+  width = c.index-signals-position.result.wave.width;
+  form = c.changes-changes.ensures.form;
+}
+
+pub list_signal-requires-clause-next : goal.list_signal-requires-clause-next
+list_signal-requires-clause-next c =
+    let k = c.loop-position.position in
+    let s = c.index-signals-position.result in
+    let none : NextChange = record { place = 0; tick = 0; following = 0 } in
+    subst (λ (l : List Change). IsNext c.args.from c.args.from l (get_or c.args.begun.now k none))
+    (ap (λ (x : Signal). x.wave.changes) (sym c.index-signals-position.is) ∙ sym c.changes-changes.ensures.changes)
+    (c.requires.begun.each k s none (omega arith))
+
+pub returns-in-None-clause-keys : goal.returns-in-None-clause-keys
+returns-in-None-clause-keys c =
+    c.list_signal.ensures.keys (length c.args.signals.now) (omega arith) c.loop-position.invariant.keys
+
+pub returns-clause-next : goal.returns-clause-next
+returns-clause-next c = λ _. record {
+  all = c.loop-position.invariant.all_next;
+  each = λ k s n inside. c.loop-position.invariant.passed k s n (omega arith);
+}
+
+pub returns-clause-all : goal.returns-clause-all
+returns-clause-all c = λ all.
+    all_listed c.args.from c.args.to c.loop-position.position c.args.signals.now _ _ (omega arith)
+    c.loop-position.invariant.all
+
+pub returns-in-None-clause-full : goal.returns-in-None-clause-full
+returns-in-None-clause-full c = λ _.
+    let k = c.loop-position.position in
+    let s = c.index-signals-position.result in
+    let longer = longer_than c.args.from c.args.to k c.args.signals.now s _ _
+    (omega arith) c.index-signals-position.is c.loop-position.invariant.all in
+    let part = length-map
+    (filter (λ (x : Change). is_in_window c.args.from c.args.to x.tick) s.wave.changes)
+    (λ (x : Change). transition_of x.tick k) in
+    let same = ap (λ (l : List Change). length (window_of_signal c.args.from c.args.to k l))
+    c.changes-changes.ensures.changes in
+    omega (
+      arith,
+      longer,
+      part,
+      same,
+      c.in-None.ensures.full,
+      c.loop-position.invariant.room,
+      length-map c.loop-position.keys.items (transition_of_key c.args.from),
+    )
+
+pub loop-position-preserved : goal.loop-position-preserved
+loop-position-preserved c =
+    let k = c.loop-position.position in
+    let signals = c.args.signals.now in
+    let s = c.index-signals-position.result in
+    let kept = c.loop-position.invariant in
+    let inside : k < length signals = omega arith in
+    record {
+      all = one_listed c.args.from c.args.to k signals s _ _ _ inside c.index-signals-position.is
+          (c.in-Some.ensures.all
+          ∙ ap (λ (l : List Change). transitions_of c.args.from c.loop-position.keys.items
+          ++ window_of_signal c.args.from c.args.to k l) c.changes-changes.ensures.changes) kept.all;
+      keys = c.list_signal.ensures.keys (length signals) inside kept.keys;
+      all_next = length-set c.loop-position.nexts k c.in-Some.next ∙ kept.all_next;
+      passed = passed_next c.args.to k signals c.loop-position.nexts s c.in-Some.next inside kept.all_next
+          c.index-signals-position.is
+          (subst (λ (l : List Change). IsNext c.args.to c.args.to l c.in-Some.next) c.changes-changes.ensures.changes
+          c.in-Some.ensures.next) kept.passed;
+      room = omega (arith, kept.room, c.list_signal.ensures.room);
+    }

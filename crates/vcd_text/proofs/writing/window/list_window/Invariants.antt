@@ -1,0 +1,22 @@
+-- The keys of the signals passed are listed.
+use Rattle.std.proofs.Common.{◌≡◌, ◌<◌, ◌≤◌, ◌++◌, ℕ, length, drop, map, get_or, All, vec_capacity}
+use Rattle.vcd_core.specs.declared.capture.Signal.{Signal}
+use Rattle.vcd_core.specs.Contents.{signal_contents}
+use Rattle.vcd_text.specs.declared.writing.next_changes.NextChange.{NextChange}
+use Rattle.vcd_text.specs.inside.NextChanges.{IsNext}
+use Rattle.vcd_text.specs.inside.Transitions.{unsorted_window}
+use Rattle.vcd_text.specs.inside.Windows.{IsKey, transitions_of}
+use Rattle.vcd_text.proofs.writing.window.list_window.Given as goal
+
+abbrev pub invariant-loop-position : goal.invariant-loop-position
+invariant-loop-position l =
+    record {
+      all : transitions_of l.from l.keys.items
+          ++ unsorted_window l.from l.to l.position (map signal_contents (drop l.position l.signals))
+          ≡ unsorted_window l.from l.to 0 (map signal_contents l.signals);
+      keys : All (IsKey l.from (length l.signals)) l.keys.items;
+      all_next : length l.nexts ≡ length l.signals;
+      passed : (k : ℕ) (s : Signal) (n : NextChange) → k < l.position
+          → IsNext l.to l.to (get_or l.signals k s).wave.changes (get_or l.nexts k n);
+      room : vec_capacity l.fn.keys ≤ vec_capacity l.keys;
+    }

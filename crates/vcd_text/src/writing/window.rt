@@ -1,0 +1,206 @@
+//! A window of ticks: a key for each change of the signals in it, in the order of the text, and room
+//! that was made beforehand.
+
+ghost use Rattle.std.specs.Prelude.{◌≡◌, ◌<◌, ◌≤◌, ◌+◌, ◌-◌, ◌*◌, ◌++◌, ◌∷◌, [], ℕ, true, false, length, map, All, vec_capacity, IfOk, IfSome, IfNone};
+ghost use Rattle.vcd_core.specs.Contents.{signal_contents};
+ghost use Rattle.vcd_core.specs.Sound.{IsSoundSignal};
+ghost use Rattle.vcd_core.specs.declared.capture.TheConstants.{END_LIMIT, SIGNAL_LIMIT};
+ghost use Rattle.vcd_text.specs.inside.NextChanges.{AreNext, AreRising, IsNext};
+ghost use Rattle.vcd_text.specs.inside.Transitions.{transitions_from, unsorted_window, window_of_signal};
+ghost use Rattle.vcd_text.specs.inside.Windows.{IsKey, IsReady, transitions_of};
+
+use super::next_changes::{NextChange, first_changes, following_change};
+use std::alloc::Global;
+use std::mem::swap;
+use vcd_core::{Change, NoMemory, Signal};
+
+/// The limit of the positions in a key, and of the ticks. Both fit together in a word.
+pub const PLACES: u64 = 65536;
+
+pub const SPAN: u64 = u64::MAX / PLACES;
+
+/// The least number of changes that a window has room for. A short list is sorted faster, and stays
+/// in a cache.
+const LEAST: usize = 4096;
+
+/// A window of ticks.
+#[derive(Drop)]
+pub struct Window {
+    /// A key for each change: its tick, counted from the window's first, times `PLACES`, and the
+    /// position of its signal.
+    pub keys: Vec<u64>,
+    /// The next change of each signal after the window.
+    pub nexts: Vec<NextChange>,
+    /// The next changes from the window's first tick on.
+    pub begun: Vec<NextChange>,
+}
+
+impl Window {
+    /// A window before tick 1 with room for the changes of any one tick, and of several where
+    /// signals change seldom. It takes 56 bytes for each signal, and 32 KiB at least.
+    pub fn new(alloc: Global, signals: &[Signal], end: u64) -> Result<Window, NoMemory>
+        requires few { length signals.now ≤ SIGNAL_LIMIT }
+        requires sound { All (IsSoundSignal end) (map signal_contents signals.now) }
+        ensures { IfOk result (IsReady end 1 signals.now) }
+    {
+        let keys = Vec::with_capacity(alloc, signals.len().max(LEAST))?;
+        let nexts = first_changes(alloc, signals)?;
+        let begun = nexts.clone()?;
+        Ok(Window { keys, nexts, begun })
+    }
+}
+
+/// Makes the window that of the ticks from `from` on. Returns the number of these ticks: at most
+/// `most`, halved until the window has room.
+pub fn fill_window(window: &mut Window, signals: &[Signal], from: u64, most: u64, end: u64) -> u64
+    requires ready { IsReady end from signals.now window.old }
+    requires some { 1 ≤ most }
+    requires span { most ≤ SPAN }
+    requires most { from + most ≤ END_LIMIT + 1 }
+    ensures some { 1 ≤ result }
+    ensures most { result ≤ most }
+    ensures all { transitions_of from window.new.keys.items
+        ≡ transitions_from (map signal_contents signals.now) from result }
+    ensures keys { All (IsKey from (length signals.now)) window.new.keys.items }
+    ensures ready { IsReady end (from + result) signals.now window.new }
+{
+    let Window { keys, nexts, begun } = window;
+    swap(nexts, begun);
+    let count = list_some(
+        keys,
+        signals,
+        begun.as_slice(),
+        nexts.as_mut_slice(),
+        from,
+        most,
+        end,
+    );
+    keys.sort_unstable();
+    count
+}
+
+/// Lists the keys of as many ticks as fit. Returns the number of these ticks.
+fn list_some(
+    keys: &mut Vec<u64>,
+    signals: &[Signal],
+    begun: &[NextChange],
+    nexts: &mut [NextChange],
+    from: u64,
+    most: u64,
+    end: u64,
+) -> u64
+    requires few { length signals.now ≤ SIGNAL_LIMIT }
+    requires sound { All (IsSoundSignal end) (map signal_contents signals.now) }
+    requires from { 1 ≤ from }
+    requires room { length signals.now ≤ vec_capacity keys.old }
+    requires begun { AreNext from signals.now begun.now }
+    requires next { length nexts.old ≡ length signals.now }
+    requires some { 1 ≤ most }
+    requires span { most ≤ SPAN }
+    requires most { from + most ≤ END_LIMIT + 1 }
+    ensures some { 1 ≤ result }
+    ensures most { result ≤ most }
+    ensures all { transitions_of from keys.new.items
+        ≡ unsorted_window from (from + result) 0 (map signal_contents signals.now) }
+    ensures keys { All (IsKey from (length signals.now)) keys.new.items }
+    ensures next { AreNext (from + result) signals.now nexts.new }
+    ensures room { vec_capacity keys.old ≤ vec_capacity keys.new }
+{
+    let mut count = most;
+    while !list_window(keys, signals, begun, nexts, from, from + count, end) {
+        count /= 2;
+    }
+    count
+}
+
+/// Lists the keys of a window, signal by signal. Returns whether there was room.
+fn list_window(
+    keys: &mut Vec<u64>,
+    signals: &[Signal],
+    begun: &[NextChange],
+    nexts: &mut [NextChange],
+    from: u64,
+    to: u64,
+    end: u64,
+) -> bool
+    requires few { length signals.now ≤ SIGNAL_LIMIT }
+    requires sound { All (IsSoundSignal end) (map signal_contents signals.now) }
+    requires begun { AreNext from signals.now begun.now }
+    requires next { length nexts.old ≡ length signals.now }
+    requires order { from ≤ to }
+    requires span { to ≤ from + SPAN }
+    requires end { to ≤ END_LIMIT + 1 }
+    ensures all { result ≡ true → transitions_of from keys.new.items
+        ≡ unsorted_window from to 0 (map signal_contents signals.now) }
+    ensures keys { All (IsKey from (length signals.now)) keys.new.items }
+    ensures next { result ≡ true → AreNext to signals.now nexts.new }
+    ensures all_next { length nexts.new ≡ length signals.now }
+    ensures full { result ≡ false → vec_capacity keys.old
+        < length (unsorted_window from to 0 (map signal_contents signals.now)) }
+    ensures room { vec_capacity keys.old ≤ vec_capacity keys.new }
+{
+    keys.clear();
+    for (position, signal) in signals.iter().enumerate() {
+        let changes = signal.wave.changes();
+        match list_signal(keys, position, changes, begun[position], from, to) {
+            Some(next) => nexts[position] = next,
+            None => return false,
+        }
+    }
+    true
+}
+
+/// Lists the keys of the signal at `position` in a window, the first of which is that of the next
+/// change. Returns its next change after the window; none where there is no room. Where no change is
+/// in the window, it reads none.
+fn list_signal(
+    keys: &mut Vec<u64>,
+    position: usize,
+    changes: &[Change],
+    next: NextChange,
+    from: u64,
+    to: u64,
+) -> Option<NextChange>
+    requires position { position < PLACES }
+    requires rise { AreRising changes.now }
+    requires next { IsNext from from changes.now next }
+    requires order { from ≤ to }
+    requires span { to ≤ from + SPAN }
+    requires end { to ≤ END_LIMIT + 1 }
+    ensures all { IfSome result (λ _. transitions_of from keys.new.items
+        ≡ transitions_of from keys.old.items ++ window_of_signal from to position changes.now) }
+    ensures keys { (count : ℕ) → position < count →
+        All (IsKey from count) keys.old.items → All (IsKey from count) keys.new.items }
+    ensures next { IfSome result (λ later. IsNext to to changes.now later) }
+    ensures full { IfNone result (vec_capacity keys.old
+        < length keys.old.items + length (window_of_signal from to position changes.now)) }
+    ensures room { vec_capacity keys.old ≤ vec_capacity keys.new }
+{
+    let mut next = next;
+    while next.tick < to {
+        if keys.len() >= keys.capacity() {
+            return None;
+        }
+        push_in_room(keys, key_of(next.tick - from, position));
+        next = following_change(changes, next);
+    }
+    Some(next)
+}
+
+/// The key of a change of the signal at `position`, this number of ticks after the window's first.
+fn key_of(ticks: u64, position: usize) -> u64
+    requires ticks { ticks < SPAN }
+    requires position { position < PLACES }
+    ensures { result ≡ ticks * PLACES + position }
+{
+    ticks * PLACES + position as u64
+}
+
+/// Appends a key to a list that has room for it.
+fn push_in_room(keys: &mut Vec<u64>, key: u64)
+    requires { length keys.old.items < vec_capacity keys.old }
+    ensures items { keys.new.items ≡ keys.old.items ++ key ∷ [] }
+    ensures room { vec_capacity keys.old ≤ vec_capacity keys.new }
+{
+    let _ = keys.push(key);
+}
