@@ -21,7 +21,7 @@ use Rattle.vcd_core.specs.Value.{letter_at, printed_letter, same_letter}
 use Rattle.vcd_core.specs.WordRows.{high_bit, high_of, letter_of, letters_of, low_bit, low_of, row_bit}
 use Rattle.vcd_core.proofs.ValueLemmas.{letter_at-letters_of, letter_of-letter, length-letters_of, same_letter_at}
 use Rattle.vcd_text.specs.Letters.{pad_letter, printed_letters}
-use Rattle.vcd_text.specs.inside.ValueFronts.{is_spare_above, word_letter}
+use Rattle.vcd_text.specs.inside.ValueFronts.{IsKept, is_spare_above, word_letter}
 
 -- ---- the letters of words
 
@@ -299,12 +299,6 @@ has_length m small =
         ∙ ap (bit_at 1) none
 
 -- the remaining letters, by the leading zeros
-pub record IsKept (count low high kept : ℕ) : Type 0 where
-  pub least : 1 ≤ kept
-  pub most : kept ≤ count
-  pub spare : (i : ℕ) → kept ≤ i + 1 → i + 1 < count → is_spare_above low high i ≡ true
-  pub needed : 1 < kept → is_spare_above low high (kept - 2) ≡ false
-
 spare_where_none : (b : Bool) (n : ℕ) → n ≡ (if b then 0 else 1) → n ≡ 0 → b ≡ true
 spare_where_none true n is none = refl
 spare_where_none false n is none = absurd (omega arith)

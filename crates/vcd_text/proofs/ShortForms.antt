@@ -14,7 +14,8 @@ use Rattle.vcd_core.specs.WordRows.{letters_of}
 use Rattle.vcd_core.specs.inside.ValueLaws.{same_letters-Decides}
 use Rattle.vcd_core.proofs.ValueLemmas.{length-letters_of}
 use Rattle.vcd_text.specs.Letters.{pad_letter, extension, suffixes, short_form}
-use Rattle.vcd_text.proofs.LetterBits.{HoldsFrom, IsKept, is_spare_in, lowest, lowest_given, spare_given, spare_held}
+use Rattle.vcd_text.specs.inside.ValueFronts.{IsKept}
+use Rattle.vcd_text.proofs.LetterBits.{HoldsFrom, is_spare_in, lowest, lowest_given, spare_given, spare_held}
 
 -- the letters after those at the front are left out one by one
 unfoldable pub shortened : List Bit → List Bit

@@ -1,5 +1,5 @@
 -- The part of a value's line before the code.
-use Rattle.std.specs.Prelude.{ℕ, Bool, ◌+◌, List, [], ◌∷◌, ◌++◌}
+use Rattle.std.specs.Prelude.{◌≡◌, ◌<◌, ◌≤◌, ◌+◌, ◌-◌, ℕ, Bool, true, false, List, [], ◌∷◌, ◌++◌}
 use Rattle.std.specs.Int.{bit_at}
 use Rattle.vcd_core.specs.declared.bit.Bit.{Bit}
 use Rattle.vcd_core.specs.Value.{printed_letter, same_letter}
@@ -18,3 +18,10 @@ word_letter low high i = letter_of (bit_at low i) (bit_at high i)
 -- whether the extension restores the letter of bit i + 1 of two words from that of bit i
 abbrev pub is_spare_above : ℕ → ℕ → ℕ → Bool
 is_spare_above low high i = same_letter (pad_letter (word_letter low high i ∷ [])) (word_letter low high (i + 1))
+
+-- this number of the lowest letters of two words stays when those at the front that the extension restores are left out
+pub record IsKept (count low high kept : ℕ) : Type 0 where
+  pub least : 1 ≤ kept
+  pub most : kept ≤ count
+  pub spare : (i : ℕ) → kept ≤ i + 1 → i + 1 < count → is_spare_above low high i ≡ true
+  pub needed : 1 < kept → is_spare_above low high (kept - 2) ≡ false

@@ -8,7 +8,7 @@ ghost use Rattle.vcd_core.specs.WordRows.{letters_of};
 ghost use Rattle.vcd_core.specs.declared.capture.TheConstants.{SIGNAL_LIMIT};
 ghost use Rattle.vcd_text.specs.Letters.{pad_letter, printed_letters, short_form};
 ghost use Rattle.vcd_text.specs.Text.{code_of, item_line, value_item};
-ghost use Rattle.vcd_text.specs.inside.ValueFronts.{is_spare_above, value_front, word_letter};
+ghost use Rattle.vcd_text.specs.inside.ValueFronts.{IsKept, is_spare_above, value_front, word_letter};
 ghost use Rattle.vcd_text.specs.inside.Written.{Emits};
 
 use super::buffer::{WriteBuffer, write_byte, write_piece};
@@ -194,10 +194,7 @@ fn kept_letters(value: &Value) -> u64
 fn kept_in_word(count: u64, low: u64, high: u64) -> u64
     requires least { 1 ≤ count }
     requires most { count ≤ 64 }
-    ensures least { 1 ≤ result }
-    ensures most { result ≤ count }
-    ensures spare { (i : ℕ) → result ≤ i + 1 → i + 1 < count → is_spare_above low high i ≡ true }
-    ensures kept { 1 < result → is_spare_above low high (result - 2) ≡ false }
+    ensures { IsKept count low high result }
 {
     let needed = needed_above(low, high) & ones(count - 1);
     65 - needed.leading_zeros() as u64

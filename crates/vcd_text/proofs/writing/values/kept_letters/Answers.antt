@@ -1,6 +1,7 @@
 -- A letter that is not spare begins the short form; so does the last.
 use Rattle.std.proofs.Common.{◌≡◌, ◌+◌, ◌-◌, ◌*◌, ◌/◌, ◌≤◌, ℕ, length, drop, refl, sym, ap, subst, ◌∙◌, arith, inl, inr}
-use Rattle.vcd_text.proofs.LetterBits.{HoldsFrom, IsKept, is_spare_in}
+use Rattle.vcd_text.specs.inside.ValueFronts.{IsKept}
+use Rattle.vcd_text.proofs.LetterBits.{HoldsFrom, is_spare_in}
 use Rattle.vcd_text.proofs.ShortForms.{left_out, short_is, shortened, stays, state_at, word_left_out, word_stays}
 use Rattle.vcd_text.proofs.writing.values.kept_letters.Goals as goal
 
@@ -12,12 +13,7 @@ returns-then-kept-gt1-clause-rest c =
     let kept = c.kept_in_word-kept.result in
     let holds : HoldsFrom v below c.word_low-low.result c.word_high-high.result =
     record { lows = c.word_low-low.ensures; highs = c.word_high-high.ensures } in
-    let is : IsKept (left - below) c.word_low-low.result c.word_high-high.result kept = record {
-      least = c.kept_in_word-kept.ensures.least;
-      most = c.kept_in_word-kept.ensures.most;
-      spare = c.kept_in_word-kept.ensures.spare;
-      needed = c.kept_in_word-kept.ensures.kept;
-    } in
+    let is = c.kept_in_word-kept.ensures in
     sym (word_stays v below _ _ left kept holds (omega arith) (omega arith) c.loop-left.invariant.within is
     (inr c.if-kept-gt1.true))
     ∙ sym (word_left_out v below _ _ left kept holds (omega arith) (omega arith) c.loop-left.invariant.within is)
@@ -31,12 +27,7 @@ returns-then-not-is_spare-clause-rest c =
     let kept = c.kept_in_word-kept.result in
     let holds : HoldsFrom v below c.word_low-low.result c.word_high-high.result =
     record { lows = c.word_low-low.ensures; highs = c.word_high-high.ensures } in
-    let is : IsKept (left - below) c.word_low-low.result c.word_high-high.result kept = record {
-      least = c.kept_in_word-kept.ensures.least;
-      most = c.kept_in_word-kept.ensures.most;
-      spare = c.kept_in_word-kept.ensures.spare;
-      needed = c.kept_in_word-kept.ensures.kept;
-    } in
+    let is = c.kept_in_word-kept.ensures in
     let one : below + kept ≡ below + 1 = omega (arith, is.least, c.if-kept-gt1.false) in
     let place : below + 1 - 2 ≡ below - 1 = omega arith in
     sym (stays v (below + 1) (omega arith) (omega (arith, c.loop-left.invariant.within)) (λ more.
@@ -55,12 +46,7 @@ loop-left-preserved c =
     let kept = c.kept_in_word-kept.result in
     let holds : HoldsFrom v below c.word_low-low.result c.word_high-high.result =
     record { lows = c.word_low-low.ensures; highs = c.word_high-high.ensures } in
-    let is : IsKept (left - below) c.word_low-low.result c.word_high-high.result kept = record {
-      least = c.kept_in_word-kept.ensures.least;
-      most = c.kept_in_word-kept.ensures.most;
-      spare = c.kept_in_word-kept.ensures.spare;
-      needed = c.kept_in_word-kept.ensures.kept;
-    } in
+    let is = c.kept_in_word-kept.ensures in
     let one : below + kept ≡ below + 1 = omega (arith, is.least, c.if-kept-gt1.false) in
     let some : 1 ≤ below = omega (arith, c.loop-left-test.true) in
     record {
@@ -88,12 +74,7 @@ returns-clause-rest c =
     let none : left - 0 ≡ left = omega arith in
     let all : 0 + kept ≡ kept = omega arith in
     let is : IsKept (left - 0) c.word_low.result c.word_high.result kept =
-    subst (λ n. IsKept n c.word_low.result c.word_high.result kept) (sym none) (record {
-      least = c.kept_in_word.ensures.least;
-      most = c.kept_in_word.ensures.most;
-      spare = c.kept_in_word.ensures.spare;
-      needed = c.kept_in_word.ensures.kept;
-    }) in
+    subst (λ n. IsKept n c.word_low.result c.word_high.result kept) (sym none) c.kept_in_word.ensures in
     ap (λ n. drop (length v - n) v) (sym all)
     ∙ sym (word_stays v 0 _ _ left kept holds c.loop-left.invariant.least (omega (arith, c.loop-left-test.false))
     c.loop-left.invariant.within is (inl refl))

@@ -29,12 +29,8 @@ returns g c =
     let v = letters_of width (c.args.low ∷ []) (c.args.high ∷ []) in
     let long = length-letters_of width (c.args.low ∷ []) (c.args.high ∷ []) in
     let more : length v ≢ 1 = omega (arith, long) in
-    let short = short_given width c.args.low c.args.high c.kept_in_word.result c.requires.most (record {
-      least = c.kept_in_word.ensures.least;
-      most = c.kept_in_word.ensures.most;
-      spare = c.kept_in_word.ensures.spare;
-      needed = c.kept_in_word.ensures.kept;
-    }) in
+    let short = short_given width c.args.low c.args.high c.kept_in_word.result c.requires.most
+    c.kept_in_word.ensures in
     writes_as (sym (front_of_bits v more))
     (writes_both c.write_byte-2.ensures.written
     (writes_both (writes_as (ap printed_letters short) c.write_letters.ensures) c.write_byte-3.ensures.written))
