@@ -1,6 +1,6 @@
 -- The pieces of a cut, signal by signal, and the plan that they make.
 use Rattle.std.proofs.Common.{◌≡◌, ◌<◌, ◌≤◌, ℕ, ℤ, ◌+◌, ◌-◌, ◌^◌, ◌||◌, nat_le, nat_lt, false, List, [], ◌∷◌, ◌++◌}
-use Rattle.std.proofs.Common.{length, map, get_or, Some, None, refl, sym, ap, subst, ◌∙◌, arith}
+use Rattle.std.proofs.Common.{All, length, map, get_or, Some, None, refl, sym, ap, subst, ◌∙◌, arith}
 use Rattle.std.specs.Prelude.{pos, neg_ℤ, ◌-ℤ◌}
 use Rattle.std.specs.List.{count_by}
 use Rattle.std.proofs.lemmas.Int.{ints}
@@ -43,7 +43,7 @@ module _ (c : Contents) (signals : List Signal) (are : c.signals ≡ map signal_
   sound_here : IsSoundSignal c.end (signal_contents s)
   sound_here = subst (IsSoundSignal c.end) here (sound_at c n within_c sound)
 
-  pub cut_without : count_by (λ c. nat_lt c.tick from) s.wave.changes ≡ length s.wave.changes
+  pub cut_without : All (λ c. c.tick < from) s.wave.changes
       → LeadEach c (neg_ℤ (pos (to - from))) (signal_after_cut stop from to) n (map piece_view ps)
       → LeadEach c (neg_ℤ (pos (to - from))) (signal_after_cut stop from to) (n + 1) (map piece_view ps)
   cut_without quiet lead =

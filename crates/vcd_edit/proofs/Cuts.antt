@@ -75,15 +75,11 @@ module _ (a b end stop : ℕ) (s : SignalContents) (is : IsWave s.width s.change
 
 -- a wave with no change at or after the first tick cut out stays as it is
 pub quiet_cut : (a b stop : ℕ) (s : SignalContents) → IsWave s.width s.changes → a ≤ stop
-    → count_by (λ c. nat_lt c.tick a) s.changes ≡ length s.changes
-    → signal_after_cut stop a b s ≡ s
-quiet_cut a b stop s is there quiet =
+    → All (λ c. c.tick < a) s.changes → signal_after_cut stop a b s ≡ s
+quiet_cut a b stop s is there early =
     ap (λ (cs : List Change). record s { changes = cs })
     (sym (wave_is s.width stop s.changes (cut_value a b s) is upto same))
   where
-    early : All (λ c. c.tick < a) s.changes
-    early = all_counted a s.changes quiet
-
     upto : AllUpTo stop s.changes
     upto = upto_from_all stop s.changes (λ k d within. omega (arith, early k d within, there))
 

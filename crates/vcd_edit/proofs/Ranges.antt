@@ -14,6 +14,7 @@ use Rattle.vcd_core.specs.declared.bit.Bit.{Bit}
 use Rattle.vcd_core.specs.declared.wave.Change.{Change}
 use Rattle.vcd_core.specs.Value.{all_x, same_letters}
 use Rattle.vcd_core.specs.Wave.{change, value_at, unless_same, changes_from, changes_of, IsWave, AllUpTo}
+use Rattle.vcd_core.specs.Wave.{last_value}
 use Rattle.vcd_core.specs.Splice.{moved_change, TickFits, AllTicksFit, spliced_changes}
 use Rattle.vcd_core.proofs.Waves.{put_cases, changes_are}
 use Rattle.vcd_edit.specs.RecordView.{PieceView}
@@ -169,6 +170,27 @@ ticks_fit_from before by u v (suc n) g later small =
     put_cases (AllTicksFit by) (g u) before (change u (g u)) (changes_from (g u) (suc u) n g) (λ _. rest)
     (λ _. All-cons (TickFits by) (change u (g u)) (changes_from (g u) (suc u) n g) here rest)
 
+-- the value after the changes of a range
+last_from : (before : List Bit) (t n : ℕ) (f : ℕ → List Bit)
+    → last_value before (changes_from before t (suc n) f) ≡ f (t + n)
+unfolding changes_from last_value
+last_from before t zero f =
+    let here : f t ≡ f (t + 0) = ap f {x = t} {y = t + 0} (omega arith) in
+    put_cases (λ l. last_value before l ≡ f (t + 0)) (f t) before (change t (f t)) [] (λ same. sym same ∙ here)
+    (λ _. here)
+last_from before t (suc n) f =
+    let later : f (suc t + n) ≡ f (t + suc n) = ap f {x = suc t + n} {y = t + suc n} (omega arith) in
+    let rest = changes_from (f t) (suc t) (suc n) f in
+    let is = last_from (f t) (suc t) n f ∙ later in
+    put_cases (λ l. last_value before l ≡ f (t + suc n)) (f t) before (change t (f t)) rest
+    (λ same. subst (λ v. last_value v rest ≡ f (t + suc n)) same is) (λ _. is)
+
+last_of_range : (width : ℕ) (f : ℕ → List Bit) (a : ℕ)
+    → last_value (all_x width) (changes_in width f 0 a) ≡ value_just_before width f a
+unfolding changes_from last_value
+last_of_range width f zero = refl
+last_of_range width f (suc t) = last_from (all_x width) 0 t f ∙ ap f {x = 0 + t} {y = t} (omega arith)
+
 -- ---- a wave by ranges
 
 upto_later : (low high : ℕ) (cs : List Change) → low ≤ high → AllUpTo low cs → AllUpTo high cs
@@ -210,6 +232,10 @@ module _ (width end a n k : ℕ) (cs : List Change) (is : IsWave width cs) (upto
   -- the changes from it on
   pub changes_from_tick : drop k cs ≡ high
   changes_from_tick = ap (drop k) parts ∙ drop_at low high k count_is_length
+
+  -- the value after the changes before a tick
+  pub last_before_tick : last_value (all_x width) (take k cs) ≡ value_just_before width (value_at width cs) a
+  last_before_tick = ap (last_value (all_x width)) changes_before_tick ∙ last_of_range width (value_at width cs) a
 
 -- ---- a piece replaces a range, and the later changes move
 

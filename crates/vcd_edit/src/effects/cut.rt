@@ -1,6 +1,6 @@
 //! A range of ticks cut out.
 
-ghost use Rattle.std.specs.Prelude.{◌≡◌, ◌<◌, ◌≤◌, ◌+◌, ◌-◌, ◌^◌, ℕ, None, IfOk, All, length, map, count_by, nat_lt, IsTrue, ◌↔◌, pos, neg_ℤ};
+ghost use Rattle.std.specs.Prelude.{◌≡◌, ◌<◌, ◌≤◌, ◌+◌, ◌-◌, ◌^◌, ℕ, None, IfOk, All, length, map, IsTrue, pos, neg_ℤ};
 ghost use Rattle.vcd_core.specs.Contents.{Contents, contents, signal_contents};
 ghost use Rattle.vcd_core.specs.Sound.{IsSound, IsSoundSignal};
 ghost use Rattle.vcd_edit.specs.Effect.{cut_value, signal_after_cut};
@@ -9,10 +9,10 @@ ghost use Rattle.vcd_edit.specs.inside.Records.{piece_view};
 ghost use Rattle.vcd_edit.specs.inside.Plans.{IsPlan, GivesValues, LeadEach};
 ghost use Rattle.vcd_edit.specs.declared.edit.Edit.TheVariants as edits;
 
-use crate::effects::piece_builders::{offset_back, put_change, value_just_before};
+use crate::effects::piece_builders::{offset_back, put_change, value_after};
 use crate::record::{Piece, Record};
 use std::alloc::Global;
-use vcd_core::{Capture, END_LIMIT, NoMemory, Signal, Wave};
+use vcd_core::{Capture, END_LIMIT, NoMemory, Signal, Wave, ends_by};
 
 /// The record with a piece for each signal that has changes at or after the first tick cut out.
 pub(crate) fn plan(alloc: Global, capture: &Capture, from: u64, to: u64) -> Result<Record, NoMemory>
@@ -46,19 +46,22 @@ fn cut_pieces(alloc: Global, signals: &[Signal], from: u64, to: u64) -> Result<V
         let piece = cut_piece(alloc, signal, position, from, to)?;
         pieces.push(piece)?;
     }
+    pieces.shrink_to_fit();
     Ok(pieces)
 }
 
-/// Whether a wave has no change at or after a tick.
+/// Whether a wave has no change at or after a tick. It looks at the last change alone.
 fn is_quiet_from(wave: &Wave, tick: u64) -> bool
-    ensures { IsTrue result
-        ↔ (count_by (λ c. nat_lt c.tick tick) wave.now.changes ≡ length wave.now.changes) }
+    ensures { IsTrue result → All (λ c. c.tick < tick) wave.now.changes }
 {
-    wave.count_until(tick) == wave.changes().len()
+    let changes = wave.changes();
+    changes.is_empty() || (tick > 0 && ends_by(changes, tick - 1))
 }
 
 /// The piece that cuts the ticks `from` up to before `to` out of the signal at a position. Its changes may have ticks
 /// up to `to - from` past the new end.
+///
+/// It searches the wave twice.
 pub(crate) fn cut_piece(
     alloc: Global,
     signal: &Signal,
@@ -74,17 +77,15 @@ pub(crate) fn cut_piece(
         (neg_ℤ (pos (to - from))) (cut_value from to (signal_contents signal.now))) }
 {
     let wave = &signal.wave;
+    let first = wave.count_until(from);
+    let last = wave.count_until(to + 1);
+    let before = value_after(wave, first);
     let mut changes = Vec::new(alloc);
-    put_change(
-        &mut changes,
-        value_just_before(wave, from),
-        from,
-        wave.at(to),
-    )?;
+    put_change(&mut changes, before, from, value_after(wave, last))?;
     Ok(Piece {
         signal: position,
-        from: wave.count_until(from),
-        to: wave.count_until(to + 1),
+        from: first,
+        to: last,
         changes,
         by: offset_back(to - from),
     })

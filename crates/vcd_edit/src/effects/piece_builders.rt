@@ -1,17 +1,17 @@
 //! The parts of which plans are made.
 
-ghost use Rattle.std.specs.Prelude.{◌≡◌, ◌++◌, ◌∷◌, [], None, OnOk, IfOk, Some, false, ◌<◌, length, count_by, nat_lt, ◌≤◌, pos, neg_ℤ};
+ghost use Rattle.std.specs.Prelude.{◌≡◌, ◌++◌, ◌∷◌, [], None, OnOk, IfOk, Some, false, ◌<◌, length, take, count_by, nat_lt, ◌≤◌, pos, neg_ℤ};
 ghost use Rattle.vcd_core.specs.Contents.{contents, signal_contents, signal_at};
 ghost use Rattle.vcd_core.specs.Sound.{IsSound, IsSoundSignal};
 ghost use Rattle.vcd_core.specs.Value.{all_x, same_letters};
-ghost use Rattle.vcd_core.specs.Wave.{change, unless_same, value_at};
+ghost use Rattle.vcd_core.specs.Wave.{change, unless_same, value_at, last_value};
 ghost use Rattle.vcd_edit.specs.Allowed.{is_no_signal};
 ghost use Rattle.vcd_edit.specs.inside.Records.{piece_view};
 ghost use Rattle.vcd_edit.specs.inside.Ranges.{value_just_before};
 
 use crate::record::{Piece, Record};
 use std::alloc::Global;
-use vcd_core::{Bit, Capture, Change, END_LIMIT, NoMemory, Signal, Value, Wave};
+use vcd_core::{Bit, Capture, Change, END_LIMIT, NoMemory, Signal, Value, Wave, last_value};
 
 /// The signal at a position of a sound capture.
 pub(crate) fn signal_there(capture: &Capture, position: usize) -> &Signal
@@ -33,6 +33,14 @@ pub(crate) fn value_just_before(wave: &Wave, tick: u64) -> Value
         return x_value(wave);
     }
     wave.at(tick - 1)
+}
+
+/// The value after the first `count` changes: all x where there are none.
+pub(crate) fn value_after(wave: &Wave, count: usize) -> Value
+    requires { count ≤ length wave.now.changes }
+    ensures { result ≡ last_value (all_x wave.now.width) (take count wave.now.changes) }
+{
+    last_value(&wave.changes()[..count], wave.width())
 }
 
 /// Adds a change to `value` at `tick` unless `before` is that value. A full list gets room for this change alone.

@@ -11,7 +11,7 @@ pub loop-position-preserved-then-is_quiet_from : goal.loop-position-preserved-th
 loop-position-preserved-then-is_quiet_from c = λ d are sound ends.
     cut_without d c.args.signals.now are sound c.args.from c.args.to c.requires.some ends c.loop-position.position
     c.index-signals-position.result c.loop-position-test.true c.index-signals-position.is
-    c.loop-position.pieces.items (c.is_quiet_from.ensures.0 c.if-is_quiet_from.true)
+    c.loop-position.pieces.items (c.is_quiet_from.ensures c.if-is_quiet_from.true)
     (c.loop-position.invariant d are sound ends)
 
 pub loop-position-preserved : goal.loop-position-preserved
@@ -23,5 +23,5 @@ loop-position-preserved c = λ d are sound ends.
 
 pub returns : goal.returns
 returns c = λ d are sound ends.
-    cut_end d c.args.signals.now are c.args.from c.args.to c.loop-position.position _ (omega arith)
-    (c.loop-position.invariant d are sound ends)
+    rw (c.shrink_to_fit.ensures.items) (cut_end d c.args.signals.now are c.args.from c.args.to c.loop-position.position
+    (map piece_view c.loop-position.pieces.items) (omega arith) (c.loop-position.invariant d are sound ends))
