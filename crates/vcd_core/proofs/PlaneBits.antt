@@ -7,7 +7,8 @@ use Rattle.std.specs.Int.Bits.{bit_and}
 use Rattle.std.proofs.lemmas.Nat.Bits.{bit_at_ones, bit_at_ones_above, bit_at-zero, bit_at-lt, bit_at_and}
 use Rattle.std.proofs.lemmas.List.{get_or-set_same, get_or-set_other, get_or-replicate, length-replicate, length-set}
 use Rattle.std.proofs.lemmas.Bool.{cases_eq}
-use Rattle.vcd_core.specs.WordRows.{row_bit}
+use Rattle.vcd_core.specs.declared.letter_word.LetterWord.{LetterWord}
+use Rattle.vcd_core.specs.WordRows.{word_at}
 use Rattle.vcd_core.specs.inside.Planes.{plane_bit}
 
 -- the bits of the written word
@@ -85,57 +86,61 @@ module _ (words : List ℕ) (j low high : ℕ) (within : 2 * j + 1 < length word
       plane_bit-set_other (set words (2 * j) low) plane (2 * j + 1) high k first
       ∙ plane_bit-set_other words plane (2 * j) low k second
 
--- the first words of both planes hold the bits of two rows that are below the width
-pub record HoldsRows (n width j : ℕ) (words lows highs : List ℕ) : Type 0 where
-  pub low : (k : ℕ) → k < 64 * j → k < width → plane_bit 0 words k ≡ row_bit lows k
-  pub high : (k : ℕ) → k < 64 * j → k < width → plane_bit 1 words k ≡ row_bit highs k
-  pub clear : (plane k : ℕ) → plane < 2 → width ≤ k → k < 64 * n → plane_bit plane words k ≡ 0
+-- the first words of both planes hold the letters of a row of words that are below the width
+pub record HoldsWords (n width j : ℕ) (planes : List ℕ) (words : List LetterWord) : Type 0 where
+  pub low : (k : ℕ) → k < 64 * j → k < width → plane_bit 0 planes k ≡ bit_at (word_at words (k / 64)).low (k % 64)
+  pub high : (k : ℕ) → k < 64 * j → k < width → plane_bit 1 planes k ≡ bit_at (word_at words (k / 64)).high (k % 64)
+  pub clear : (plane k : ℕ) → plane < 2 → width ≤ k → k < 64 * n → plane_bit plane planes k ≡ 0
 
 -- one more word
-pub one_more : (n width j left : ℕ) (words low high : List ℕ) → length words ≡ 2 * n → j < n → left ≡ width - 64 * j
-    → HoldsRows n width j words low high
-    → HoldsRows n width (j + 1)
-    (both_set words j (bit_and (get_or low j 0) (2 ^ min left 64 - 1))
-    (bit_and (get_or high j 0) (2 ^ min left 64 - 1))) low high
-unfolding row_bit
-one_more n width j left words low high sized within is holds =
-    let inside : 2 * j + 1 < length words = omega arith in
-    let a = bit_and (get_or low j 0) (2 ^ min left 64 - 1) in
-    let b = bit_and (get_or high j 0) (2 ^ min left 64 - 1) in
+pub one_more : (n width j left : ℕ) (planes : List ℕ) (words : List LetterWord) → length planes ≡ 2 * n → j < n
+    → left ≡ width - 64 * j → HoldsWords n width j planes words
+    → HoldsWords n width (j + 1)
+    (both_set planes j (bit_and (word_at words j).low (2 ^ min left 64 - 1))
+    (bit_and (word_at words j).high (2 ^ min left 64 - 1))) words
+one_more n width j left planes words sized within is holds =
     record {
       low = λ k below in_width. elim (cases_eq (k / 64) j) [
-        | inl here ↦ low_set words j a b inside k here
-            ∙ masked (get_or low j 0) left (k % 64) (omega arith) (omega arith)
-            ∙ ap (λ i. bit_at (get_or low i 0) (k % 64)) (sym here)
-        | inr elsewhere ↦ others_kept words j a b inside 0 k (omega arith) elsewhere
+        | inl here ↦ low_set planes j a b inside k here ∙ masked word.low left (k % 64) (omega arith) (omega arith)
+            ∙ ap (λ i. bit_at (word_at words i).low (k % 64)) (sym here)
+        | inr elsewhere ↦ others_kept planes j a b inside 0 k (omega arith) elsewhere
             ∙ holds.low k (omega arith) in_width
       ];
       high = λ k below in_width. elim (cases_eq (k / 64) j) [
-        | inl here ↦ high_set words j a b inside k here
-            ∙ masked (get_or high j 0) left (k % 64) (omega arith) (omega arith)
-            ∙ ap (λ i. bit_at (get_or high i 0) (k % 64)) (sym here)
-        | inr elsewhere ↦ others_kept words j a b inside 1 k (omega arith) elsewhere
+        | inl here ↦ high_set planes j a b inside k here ∙ masked word.high left (k % 64) (omega arith) (omega arith)
+            ∙ ap (λ i. bit_at (word_at words i).high (k % 64)) (sym here)
+        | inr elsewhere ↦ others_kept planes j a b inside 1 k (omega arith) elsewhere
             ∙ holds.high k (omega arith) in_width
       ];
       clear = λ plane k which out below. elim (cases_eq (k / 64) j) [
         | inl here ↦ cleared plane k which here out
-        | inr elsewhere ↦ others_kept words j a b inside plane k which elsewhere ∙ holds.clear plane k which out below
+        | inr elsewhere ↦ others_kept planes j a b inside plane k which elsewhere ∙ holds.clear plane k which out below
       ];
     }
   where
-    cleared : (plane k : ℕ) → plane < 2 → k / 64 ≡ j → width ≤ k
-        → plane_bit plane (both_set words j (bit_and (get_or low j 0) (2 ^ min left 64 - 1))
-        (bit_and (get_or high j 0) (2 ^ min left 64 - 1))) k ≡ 0
-    cleared zero k which here out = low_set words j _ _ (omega arith) k here
-        ∙ masked_above (get_or low j 0) left (k % 64) (omega arith) (omega arith)
-    cleared (suc zero) k which here out = high_set words j _ _ (omega arith) k here
-        ∙ masked_above (get_or high j 0) left (k % 64) (omega arith) (omega arith)
+    word : LetterWord
+    word = word_at words j
+
+    a : ℕ
+    a = bit_and word.low (2 ^ min left 64 - 1)
+
+    b : ℕ
+    b = bit_and word.high (2 ^ min left 64 - 1)
+
+    inside : 2 * j + 1 < length planes
+    inside = omega arith
+
+    cleared : (plane k : ℕ) → plane < 2 → k / 64 ≡ j → width ≤ k → plane_bit plane (both_set planes j a b) k ≡ 0
+    cleared zero k which here out = low_set planes j a b inside k here
+        ∙ masked_above word.low left (k % 64) (omega arith) (omega arith)
+    cleared (suc zero) k which here out = high_set planes j a b inside k here
+        ∙ masked_above word.high left (k % 64) (omega arith) (omega arith)
     cleared (suc (suc _)) k which here out = absurd (omega arith)
 
--- planes of zeros hold no bits
-pub none_held : (n width : ℕ) (low high : List ℕ) → HoldsRows n width 0 (replicate (2 * n) 0) low high
+-- planes of zeros hold no letters
+pub none_held : (n width : ℕ) (words : List LetterWord) → HoldsWords n width 0 (replicate (2 * n) 0) words
 unfolding plane_bit
-none_held n width low high = record {
+none_held n width words = record {
   low = λ k below _. absurd (omega arith);
   high = λ k below _. absurd (omega arith);
   clear = λ plane k which _ below. ap (λ w. bit_at w (k % 64))
@@ -143,9 +148,9 @@ none_held n width low high = record {
 }
 
 -- a word of each plane, the others zero
-pub word_held : (n width low high mask : ℕ) → 0 < n → mask ≡ 2 ^ min width 64 - 1
-    → HoldsRows n width 1 (both_set (replicate (2 * n) 0) 0 (bit_and low mask) (bit_and high mask)) (low ∷ [])
-    (high ∷ [])
-word_held n width low high mask some is =
-    rw is (one_more n width 0 width (replicate (2 * n) 0) (low ∷ []) (high ∷ []) (length-replicate (2 * n) 0) some
-    (omega arith) (none_held n width (low ∷ []) (high ∷ [])))
+pub word_held : (n width mask : ℕ) (word : LetterWord) → 0 < n → mask ≡ 2 ^ min width 64 - 1
+    → HoldsWords n width 1 (both_set (replicate (2 * n) 0) 0 (bit_and word.low mask) (bit_and word.high mask))
+    (word ∷ [])
+word_held n width mask word some is =
+    rw is (one_more n width 0 width (replicate (2 * n) 0) (word ∷ []) (length-replicate (2 * n) 0) some (omega arith)
+    (none_held n width (word ∷ [])))

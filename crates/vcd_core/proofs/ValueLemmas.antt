@@ -1,6 +1,7 @@
 -- The letters that two planes show.
 use Rattle.std.proofs.Common.{◌≡◌, ◌≢◌, ℕ, ◌+◌, ◌-◌, ◌*◌, ◌/◌, ◌%◌, ◌<◌, ◌≤◌, inl, inr, if◌then◌else◌, nat_lt, List, []}
-use Rattle.std.proofs.Common.{◌∷◌, ◌↔◌, min, ◌^◌, length, take, replicate, get_or, refl, sym, ap, ◌∙◌, arith}
+use Rattle.std.proofs.Common.{◌∷◌, ◌↔◌, true, false, min, ◌^◌, length, take, replicate, get_or, refl, sym, ap}
+use Rattle.std.proofs.Common.{◌∙◌, arith}
 use Rattle.std.proofs.Math.ListN.{set}
 use Rattle.std.specs.Int.{bit_at}
 use Rattle.std.specs.Int.Bits.{bit_and, mask_lt}
@@ -14,11 +15,12 @@ use Rattle.vcd_core.specs.declared.bit.Bit.{Bit}
 use Rattle.vcd_core.specs.declared.bit.Bit.TheVariants.{Zero, One, X, Z}
 use Rattle.vcd_core.specs.declared.value.Value.TheInside.{Inside}
 use Rattle.vcd_core.specs.Value.{letter_at}
-use Rattle.vcd_core.specs.WordRows.{row_bit, letter_of, low_of, high_of, letters_of}
+use Rattle.vcd_core.specs.declared.letter_word.LetterWord.{LetterWord}
+use Rattle.vcd_core.specs.WordRows.{letter_of, low_of, high_of, letter_in, word_at, letters_of, letter_or}
 use Rattle.vcd_core.specs.inside.Planes.{plane_bit, letters_in, view_value, bit_in, IsValue}
 use Rattle.vcd_core.specs.inside.PlaneLaws.{letter_at-letters_in, length-letters_in, bit_in-letter_of, low_of-letter_of}
 use Rattle.vcd_core.specs.inside.PlaneLaws.{high_of-letter_of}
-use Rattle.vcd_core.proofs.PlaneBits.{masked, masked_above}
+use Rattle.vcd_core.proofs.PlaneBits.{masked, masked_above, HoldsWords}
 
 pub letter_of-letter : (b : Bit) → letter_of (low_of b) (high_of b) ≡ b
 letter_of-letter Zero = refl
@@ -45,51 +47,48 @@ letters_in-shown v width words long lows highs = same_letter_at _ v (length-lett
     letter_at-letters_in width words k inside ∙ (λ p. letter_of (lows k inside p) (highs k inside p))
     ∙ letter_of-letter (letter_at v k))
 
-pub length-letters_of : (width : ℕ) (low high : List ℕ) → length (letters_of width low high) ≡ width
+pub length-letters_of : (width : ℕ) (words : List LetterWord) → length (letters_of width words) ≡ width
 unfolding letters_of
-length-letters_of width low high = length-map-range_with_len _ 0 width
+length-letters_of width words = length-map-range_with_len _ 0 width
 
--- the letter at bit k is that of the bits k of the rows
-pub letter_at-letters_of : (width : ℕ) (low high : List ℕ) (k : ℕ) → k < width
-    → letter_at (letters_of width low high) k ≡ letter_of (row_bit low k) (row_bit high k)
+-- the letter at bit k is that of the word
+pub letter_at-letters_of : (width : ℕ) (words : List LetterWord) (k : ℕ) → k < width
+    → letter_at (letters_of width words) k ≡ letter_in (word_at words (k / 64)) (k % 64)
 unfolding letters_of
-letter_at-letters_of width low high k within =
-    let place : length (letters_of width low high) - 1 - k ≡ width - 1 - k =
-    ap (λ n. n - 1 - k) (length-letters_of width low high) in
+letter_at-letters_of width words k within =
+    let at : ℕ → Bit = λ i. letter_in (word_at words (i / 64)) (i % 64) in
+    let place : length (letters_of width words) - 1 - k ≡ width - 1 - k =
+    ap (λ n. n - 1 - k) (length-letters_of width words) in
     let back : width - 1 - (width - 1 - k) ≡ k = omega arith in
-    ap (λ i. get_or (letters_of width low high) i X) place
-    ∙ get_or-map-range_with_len (λ i. letter_of (row_bit low (width - 1 - i)) (row_bit high (width - 1 - i))) 0 width
-    (width - 1 - k) (width - 1 - k) X (omega arith) (omega arith)
-    ∙ ap (λ i. letter_of (row_bit low i) (row_bit high i)) back
+    ap (λ i. get_or (letters_of width words) i X) place
+    ∙ get_or-map-range_with_len (λ i. at (width - 1 - i)) 0 width (width - 1 - k) (width - 1 - k) X (omega arith)
+    (omega arith)
+    ∙ ap at back
 
--- planes with the bits of two rows show the letters of the rows
-pub letters_in-rows : (width : ℕ) (words low high : List ℕ)
-    → ((k : ℕ) → k < width → plane_bit 0 words k ≡ row_bit low k)
-    → ((k : ℕ) → k < width → plane_bit 1 words k ≡ row_bit high k)
-    → letters_in width words ≡ letters_of width low high
-letters_in-rows width words low high lows highs =
-    same_letter_at _ _ (length-letters_in width words ∙ sym (length-letters_of width low high)) (λ k within.
-    let inside : k < width = omega (arith, length-letters_in width words) in
-    letter_at-letters_in width words k inside ∙ (λ p. letter_of (lows k inside p) (highs k inside p))
-    ∙ sym (letter_at-letters_of width low high k inside))
+-- planes that hold the words show their letters
+pub letters_in-words : (n width j : ℕ) (planes : List ℕ) (words : List LetterWord) → HoldsWords n width j planes words
+    → width ≤ 64 * j → letters_in width planes ≡ letters_of width words
+letters_in-words n width j planes words holds all =
+    same_letter_at _ _ (length-letters_in width planes ∙ sym (length-letters_of width words)) (λ k within.
+    let inside : k < width = omega (arith, length-letters_in width planes) in
+    letter_at-letters_in width planes k inside
+    ∙ (λ p. letter_of (holds.low k (omega arith) inside p) (holds.high k (omega arith) inside p))
+    ∙ sym (letter_at-letters_of width words k inside))
 
 pub letter_at-replicate : (n k : ℕ) (b : Bit) → k < n → letter_at (replicate n b) k ≡ b
 letter_at-replicate n k b within = get_or-replicate n _ b X (omega (arith, length-replicate n b))
 
--- the letters of rows that repeat a word of one letter
-pub letters_of-replicate : (width n low high : ℕ) (b : Bit) → width ≤ 64 * n
-    → ((i : ℕ) → i < 64 → bit_at low i ≡ low_of b) → ((i : ℕ) → i < 64 → bit_at high i ≡ high_of b)
-    → letters_of width (replicate n low) (replicate n high) ≡ replicate width b
-unfolding row_bit
-letters_of-replicate width n low high b within lows highs =
-    same_letter_at _ _ (length-letters_of width (replicate n low) (replicate n high) ∙ sym (length-replicate width b))
-    (λ k below.
-    let inside : k < width = omega (arith, length-letters_of width (replicate n low) (replicate n high)) in
-    let at : (w : ℕ) → row_bit (replicate n w) k ≡ bit_at w (k % 64) =
-    λ w. ap (λ x. bit_at x (k % 64)) (get_or-replicate n (k / 64) w 0 (omega arith)) in
-    letter_at-letters_of width _ _ k inside
-    ∙ (λ p. letter_of ((at low ∙ lows (k % 64) (omega arith)) p) ((at high ∙ highs (k % 64) (omega arith)) p))
-    ∙ letter_of-letter b ∙ sym (letter_at-replicate width k b inside))
+-- the letters of a row that repeats a word of one letter
+pub letters_of-replicate : (width n : ℕ) (word : LetterWord) (b : Bit) → width ≤ 64 * n
+    → ((i : ℕ) → i < 64 → letter_in word i ≡ b)
+    → letters_of width (replicate n word) ≡ replicate width b
+letters_of-replicate width n word b within holds =
+    same_letter_at _ _ (length-letters_of width (replicate n word) ∙ sym (length-replicate width b)) (λ k below.
+    let inside : k < width = omega (arith, length-letters_of width (replicate n word)) in
+    letter_at-letters_of width _ k inside
+    ∙ ap (λ (w : LetterWord). letter_in w (k % 64))
+    (get_or-replicate n (k / 64) word (record { low = 0; high = 0 }) (omega arith))
+    ∙ holds (k % 64) (omega arith) ∙ sym (letter_at-replicate width k b inside))
 
 -- the letter that was written, and the others
 pub letter_at-set_same : (v : List Bit) (k : ℕ) (b : Bit) → k < length v → letter_at (set v (length v - 1 - k) b) k ≡ b
@@ -121,6 +120,14 @@ same_words width m xs ys fits same =
         let within : i < 2 * m = omega arith in
         ap (λ w. bit_at w (k % 64)) (sym (get_or-take (2 * m) xs i 0 within) ∙ ap (λ l. get_or l i 0) same
         ∙ get_or-take (2 * m) ys i 0 within)
+
+-- a letter of a row of one word
+pub one_word : (word : LetterWord) (k : ℕ) → k < 64
+    → letter_in (word_at (word ∷ []) (k / 64)) (k % 64) ≡ letter_in word k
+one_word word k below =
+    let none : k / 64 ≡ 0 = omega arith in
+    let rest : k % 64 ≡ k = omega arith in
+    (λ p. letter_in (word_at (word ∷ []) (none p)) (rest p))
 
 -- the letters of a value, from its planes
 module _ (v : List Bit) (inside : Inside) (is : IsValue inside) (shows : view_value inside ≡ v) where
@@ -166,7 +173,21 @@ module _ (v : List Bit) (inside : Inside) (is : IsValue inside) (shows : view_va
             (omega (arith, length-shown, is.most)))
       ]
 
-  -- the first words of a narrow value are those of two rows of one word that have its letters, cut at its width
+  -- the letters of a word are those of the value, and 0 past it
+  pub letter_in-shown : (k i : ℕ) → 64 * k < length v → i < 64
+      → letter_of (bit_at (get_or inside.planes (2 * k + 0) 0) i) (bit_at (get_or inside.planes (2 * k + 1) 0) i)
+      ≡ letter_or Zero v (64 * k + i)
+  letter_in-shown k i within below =
+      (λ p. letter_of (word-shown 0 k i (omega arith) within below p) (word-shown 1 k i (omega arith) within below p))
+      ∙ elim (nat_lt (64 * k + i) (length v)) as (λ b.
+      letter_of (if b then low_of (letter_at v (64 * k + i)) else 0)
+      (if b then high_of (letter_at v (64 * k + i)) else 0)
+      ≡ (if b then letter_at v (64 * k + i) else Zero)) [
+        | true ↦ letter_of-letter (letter_at v (64 * k + i))
+        | false ↦ refl
+      ]
+
+  -- the first words of a narrow value are those of a word that has its letters, cut at its width
   pub first_word : (plane w mask : ℕ) → plane < 2 → 1 ≤ length v → length v ≤ 64 → mask ≡ 2 ^ min inside.width 64 - 1
       → ((k : ℕ) → k < length v → bit_in plane (letter_at v k) ≡ bit_at w k)
       → get_or inside.planes plane 0 ≡ bit_and w mask
@@ -188,50 +209,40 @@ module _ (v : List Bit) (inside : Inside) (is : IsValue inside) (shows : view_va
       small = omega (arith, mask_lt w (min inside.width 64), pow_mono {i = min inside.width 64} {j = 64} (omega arith))
 
   -- such words give the letters
-  pub letters_by_first_words : (low high mask : ℕ) → length v ≤ 64 → mask ≡ 2 ^ min inside.width 64 - 1
-      → get_or inside.planes 0 0 ≡ bit_and low mask → get_or inside.planes 1 0 ≡ bit_and high mask
-      → letters_of (length v) (low ∷ []) (high ∷ []) ≡ v
-  unfolding view_value plane_bit row_bit
-  letters_by_first_words low high mask narrow is_mask first second =
-      ap (λ n. letters_of n (low ∷ []) (high ∷ [])) length-shown
-      ∙ sym (letters_in-rows inside.width inside.planes (low ∷ []) (high ∷ []) (λ k below. bits 0 low k below first)
-      (λ k below. bits 1 high k below second))
-      ∙ shows
+  pub letters_by_first_words : (word : LetterWord) (mask : ℕ) → length v ≤ 64 → mask ≡ 2 ^ min inside.width 64 - 1
+      → get_or inside.planes 0 0 ≡ bit_and word.low mask → get_or inside.planes 1 0 ≡ bit_and word.high mask
+      → letters_of (length v) (word ∷ []) ≡ v
+  unfolding plane_bit
+  letters_by_first_words word mask narrow is_mask first second =
+      same_letter_at _ v (length-letters_of (length v) (word ∷ [])) (λ k below.
+      let within : k < length v = omega (arith, length-letters_of (length v) (word ∷ [])) in
+      letter_at-letters_of (length v) (word ∷ []) k within ∙ one_word word k (omega arith)
+      ∙ (λ p. letter_of (bit 0 word.low k within first p) (bit 1 word.high k within second p))
+      ∙ sym (letter_at-shown k within))
     where
-      bits : (plane w k : ℕ) → k < inside.width → get_or inside.planes plane 0 ≡ bit_and w mask
-          → plane_bit plane inside.planes k ≡ row_bit (w ∷ []) k
-      bits plane w k below word =
-          let none : k / 64 ≡ 0 = omega (arith, length-shown) in
-          let place : 2 * (k / 64) + plane ≡ plane = omega (arith, none) in
-          ap (λ j. bit_at (get_or inside.planes j 0) (k % 64)) place
-          ∙ ap (λ x. bit_at x (k % 64)) (word ∙ ap (bit_and w) is_mask)
-          ∙ masked w inside.width (k % 64) (omega arith) (omega arith)
-          ∙ ap (λ j. bit_at (get_or (w ∷ []) j 0) (k % 64)) (sym none)
+      bit : (plane w k : ℕ) → k < length v → get_or inside.planes plane 0 ≡ bit_and w mask
+          → bit_at w k ≡ plane_bit plane inside.planes k
+      bit plane w k below word =
+          let none : 2 * (k / 64) + plane ≡ plane = omega arith in
+          let rest : k % 64 ≡ k = omega arith in
+          sym ((λ p. bit_at (get_or inside.planes (none p) 0) (rest p))
+          ∙ ap (λ x. bit_at x k) (word ∙ ap (bit_and w) is_mask)
+          ∙ masked w inside.width k (omega (arith, length-shown)) (omega arith))
 
   -- so the comparison of the words decides whether the letters are the same
-  pub first_words-Decides : (low high mask : ℕ) → length v ≤ 64 → mask ≡ 2 ^ min inside.width 64 - 1
-      → (get_or inside.planes 0 0 ≡ bit_and low mask)
-      × (get_or inside.planes 1 0 ≡ bit_and high mask) ↔ (letters_of (length v) (low ∷ []) (high ∷ []) ≡ v)
-  unfolding row_bit
-  first_words-Decides low high mask narrow is_mask = (
-    (λ (first, second). letters_by_first_words low high mask narrow is_mask first second),
+  pub first_words-Decides : (word : LetterWord) (mask : ℕ) → length v ≤ 64 → mask ≡ 2 ^ min inside.width 64 - 1
+      → (get_or inside.planes 0 0 ≡ bit_and word.low mask)
+      × (get_or inside.planes 1 0 ≡ bit_and word.high mask) ↔ (letters_of (length v) (word ∷ []) ≡ v)
+  first_words-Decides word mask narrow is_mask = (
+    (λ (first, second). letters_by_first_words word mask narrow is_mask first second),
     (λ same.
         let some : 1 ≤ length v = omega (arith, length-shown, is.least) in
-        let letter : (k : ℕ) → k < length v → letter_at v k ≡ letter_of (row_bit (low ∷ []) k) (row_bit (high ∷ []) k) =
+        let letter : (k : ℕ) → k < length v → letter_at v k ≡ letter_in word k =
         λ k within. ap (λ l. letter_at l k) (sym same)
-        ∙ letter_at-letters_of (length v) (low ∷ []) (high ∷ []) k within in (
-          first_word 0 low mask (omega arith) some narrow is_mask (λ k within. ap low_of (letter k within)
-              ∙ low_of-letter_of _ _ (row_bit-lt low k) ∙ one_row low k (omega arith)),
-          first_word 1 high mask (omega arith) some narrow is_mask (λ k within. ap high_of (letter k within)
-              ∙ high_of-letter_of _ _ (row_bit-lt high k) ∙ one_row high k (omega arith)),
+        ∙ letter_at-letters_of (length v) (word ∷ []) k within ∙ one_word word k (omega arith) in (
+          first_word 0 word.low mask (omega arith) some narrow is_mask (λ k within. ap low_of (letter k within)
+              ∙ low_of-letter_of _ _ (bit_at-lt _ _)),
+          first_word 1 word.high mask (omega arith) some narrow is_mask (λ k within. ap high_of (letter k within)
+              ∙ high_of-letter_of _ _ (bit_at-lt _ _)),
         )),
   )
-    where
-      row_bit-lt : (w k : ℕ) → row_bit (w ∷ []) k < 2
-      row_bit-lt w k = bit_at-lt _ _
-
-      one_row : (w k : ℕ) → k < 64 → row_bit (w ∷ []) k ≡ bit_at w k
-      one_row w k below =
-          let none : k / 64 ≡ 0 = omega arith in
-          let rest : k % 64 ≡ k = omega arith in
-          ap (λ j. bit_at (get_or (w ∷ []) j 0) (k % 64)) none ∙ ap (bit_at w) rest

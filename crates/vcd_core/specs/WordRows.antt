@@ -1,14 +1,12 @@
--- The letters of a value by the bits of two rows of 64-bit words: the project's own.
-use Rattle.std.specs.Prelude.{ℕ, zero, suc, ◌-◌, ◌/◌, ◌%◌, if◌then◌else◌, nat_lt, List, length, map, slice_index}
+-- The letters of words of 64 letters, and of rows of them: the project's own.
+use Rattle.std.specs.Prelude.{ℕ, zero, suc, ◌≡◌, ◌<◌, ◌+◌, ◌-◌, ◌/◌, ◌%◌, if◌then◌else◌, nat_lt, List, length, map}
+use Rattle.std.specs.Prelude.{slice_index_or}
 use Rattle.std.specs.List.{range_with_len}
 use Rattle.std.specs.Int.{bit_at}
 use Rattle.vcd_core.specs.declared.bit.Bit.{Bit}
 use Rattle.vcd_core.specs.declared.bit.Bit.TheVariants.{Zero, One, X, Z}
+use Rattle.vcd_core.specs.declared.letter_word.LetterWord.{LetterWord}
 use Rattle.vcd_core.specs.Value.{letter_at}
-
--- bit k of a row of 64-bit words
-unfoldable pub row_bit : List ℕ → ℕ → ℕ
-row_bit words k = bit_at (slice_index words (k / 64)) (k % 64)
 
 -- the letter with this low and high bit
 abbrev pub letter_of : ℕ → ℕ → Bit
@@ -31,15 +29,23 @@ high_of One = 0
 high_of X = 1
 high_of Z = 1
 
--- the letters whose low and high bits are in two rows, most significant first
-unfoldable pub letters_of : ℕ → List ℕ → List ℕ → List Bit
-letters_of width low high = map
-    (λ i. letter_of (row_bit low (width - 1 - i)) (row_bit high (width - 1 - i))) (range_with_len 0 width)
+-- the letter at bit i of a word
+abbrev pub letter_in : LetterWord → ℕ → Bit
+letter_in word i = letter_of (bit_at word.low i) (bit_at word.high i)
 
--- the low bit of the letter at bit k of a value; 0 outside it
-abbrev pub low_bit : List Bit → ℕ → ℕ
-low_bit v k = if nat_lt k (length v) then low_of (letter_at v k) else 0
+-- the word at this place of a row
+abbrev pub word_at : List LetterWord → ℕ → LetterWord
+word_at words j = slice_index_or words j (record { low = 0; high = 0 })
 
--- its high bit
-abbrev pub high_bit : List Bit → ℕ → ℕ
-high_bit v k = if nat_lt k (length v) then high_of (letter_at v k) else 0
+-- the letters of a row of words, most significant first
+unfoldable pub letters_of : ℕ → List LetterWord → List Bit
+letters_of width words = map (λ i. let k = width - 1 - i in letter_in (word_at words (k / 64)) (k % 64))
+    (range_with_len 0 width)
+
+-- the letter at bit k of some letters, or this letter past them
+abbrev pub letter_or : Bit → List Bit → ℕ → Bit
+letter_or pad letters k = if nat_lt k (length letters) then letter_at letters k else pad
+
+-- a word holds the letters from a bit on, and past them this letter
+pub record HoldsLetters (pad : Bit) (letters : List Bit) (from : ℕ) (word : LetterWord) : Type 0 where
+  pub each : (i : ℕ) → i < 64 → letter_in word i ≡ letter_or pad letters (from + i)

@@ -7,6 +7,7 @@ ghost use Rattle.vcd_core.specs.WordRows.{letters_of};
 ghost use Rattle.vcd_core.specs.declared.bit.Bit.{Bit as BitLetter};
 
 use crate::bit::Bit;
+use crate::letter_word::LetterWord;
 use crate::memory::NoMemory;
 use crate::value::{Value, WIDTH_LIMIT};
 use crate::wave::Change;
@@ -121,42 +122,41 @@ pub(crate) fn push_change(
     Ok(())
 }
 
-/// Whether the value after all changes is the one of `width` bits, at most 64, with these words of
-/// low and high bits. The value before the first change is all x.
-fn has_last_word(changes: &[Change], width: u64, low: u64, high: u64) -> bool
+/// Whether the value after all changes is the one of `width` bits, at most 64, with the letters of
+/// this word. The value before the first change is all x.
+fn has_last_word(changes: &[Change], width: u64, word: LetterWord) -> bool
     requires least { 1 ≤ width }
     requires most { width ≤ 64 }
     requires form { IsWave width changes.now }
-    ensures { result ≡ same_letters (letters_of width (low ∷ []) (high ∷ []))
+    ensures { result ≡ same_letters (letters_of width (word ∷ []))
         (last_value (all_x width) changes.now) }
 {
     match changes.split_last() {
-        Some((last, _)) => last.value.has_word(low, high),
-        None => Value::filled(width, Bit::X).has_word(low, high),
+        Some((last, _)) => last.value.has_word(word),
+        None => Value::filled(width, Bit::X).has_word(word),
     }
 }
 
-/// Does what [`push_change`] does with the value of `width` bits, at most 64, whose low and high
-/// bits these words hold.
+/// Does what [`push_change`] does with the value of `width` bits, at most 64, whose letters this word
+/// holds.
 ///
 /// Only a value that is added is built, and LLVM builds it in its place in the list.
 pub(crate) fn push_word_change(
     changes: &mut Vec<Change>,
     width: u64,
     tick: u64,
-    low: u64,
-    high: u64,
+    word: LetterWord,
 ) -> Result<(), NoMemory>
     requires least { 1 ≤ width }
     requires most { width ≤ 64 }
     requires form { IsWave width changes.old.items }
     requires late { All (λ c. c.tick ≤ tick) changes.old.items }
-    ensures pushed { let value = letters_of width (low ∷ []) (high ∷ []) in OnOk result
+    ensures pushed { let value = letters_of width (word ∷ []) in OnOk result
         (changes.new.items ≡ changes_after_push width changes.old.items tick value) }
     ensures refused { OnErr result (changes.new.items ≡ changes.old.items) }
     ensures in_place { vec_len changes.old < vec_capacity changes.old → IsOk result }
     ensures replaces { changes_before tick changes.old.items ≢ changes.old.items → IsOk result }
-    ensures adds_none { let value = letters_of width (low ∷ []) (high ∷ []) in
+    ensures adds_none { let value = letters_of width (word ∷ []) in
         last_value (all_x width) (changes_before tick changes.old.items) ≡ value → IsOk result }
     ensures capacity { vec_capacity changes.old ≤ vec_capacity changes.new }
     ensures kept_room { vec_len changes.old < vec_capacity changes.old →
@@ -165,9 +165,9 @@ pub(crate) fn push_word_change(
         (vec_len changes.old + max (vec_len changes.old) LEAST_ROOM) }
 {
     pop_at(changes, tick);
-    if !has_last_word(changes.as_slice(), width, low, high) {
+    if !has_last_word(changes.as_slice(), width, word) {
         make_room(changes)?;
-        let value = Value::from_word(width, low, high);
+        let value = Value::from_word(width, word);
         push_in_room(changes, Change { tick, value });
     }
     Ok(())

@@ -15,6 +15,7 @@ mod device;
 mod edges;
 mod full_name;
 mod laws;
+mod letter_word;
 mod memory;
 mod names;
 mod planes;
@@ -48,8 +49,9 @@ pub use laws::{
     changes_are_wave, changes_of_own_values, same_values_same_changes, splice_and_back,
     splice_back_is_allowed, values_of_changes,
 };
+pub use letter_word::LetterWord;
 pub use memory::NoMemory;
-pub use planes::{repeated, words_in};
+pub use planes::words_in;
 pub use scope_path::ScopePath;
 pub use seq::Seq;
 pub use soundness::{are_scopes_sound, is_wave_sound};

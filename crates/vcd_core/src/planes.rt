@@ -2,33 +2,12 @@
 
 ghost use Rattle.std.specs.Prelude.{◌≡◌, ◌==◌, ℕ, [], ◌∷◌, ◌+◌, ◌-◌, ◌*◌, ◌/◌, ◌%◌, ◌^◌, ◌<◌, ◌≤◌, ◌≢◌, ◌↔◌, min, length, replicate, slice_index, All, IsTrue, if◌then◌else◌};
 ghost use Rattle.std.specs.Int.{bit_at};
-ghost use Rattle.vcd_core.specs.WordRows.{row_bit, letter_of, low_of, high_of};
-ghost use Rattle.vcd_core.specs.inside.Planes.{plane_bit as bit_of_plane, ArePlanes};
+ghost use Rattle.vcd_core.specs.WordRows.{letter_of, letters_of};
+ghost use Rattle.vcd_core.specs.inside.Planes.{plane_bit as bit_of_plane, letters_in, ArePlanes};
 
 use crate::bit::Bit;
+use crate::letter_word::LetterWord;
 use crate::value::WORDS;
-
-impl Bit {
-    /// Whether the letter's low bit is set, as in 1 and x.
-    pub fn is_low(self) -> bool
-        ensures { low_of self ≡ (if result then 1 else 0) }
-    {
-        match self {
-            Bit::One | Bit::X => true,
-            Bit::Zero | Bit::Z => false,
-        }
-    }
-
-    /// Whether the letter's high bit is set, as in x and z.
-    pub fn is_high(self) -> bool
-        ensures { high_of self ≡ (if result then 1 else 0) }
-    {
-        match self {
-            Bit::X | Bit::Z => true,
-            Bit::Zero | Bit::One => false,
-        }
-    }
-}
 
 /// The letter with these bits in the two planes.
 pub(crate) fn letter(low: bool, high: bool) -> Bit
@@ -84,65 +63,55 @@ pub(crate) fn words_fit(words: &[u64])
     ensures { All (λ w. w < 2 ^ 64) words.now }
 {}
 
-/// Writes the bits of two rows that are below `width` into planes of zeros, a word at a time.
-fn write_rows(words: &mut [u64], width: u64, low: &[u64], high: &[u64])
-    requires sized { length words.old ≡ 2 * WORDS }
-    requires zeros { words.old ≡ replicate (2 * WORDS) 0 }
+/// Writes the letters of a row of words that are below bit `width` into planes of zeros, a word at a
+/// time.
+fn write_words(planes: &mut [u64], width: u64, words: &[LetterWord])
+    requires sized { length planes.old ≡ 2 * WORDS }
+    requires zeros { planes.old ≡ replicate (2 * WORDS) 0 }
     requires most { width ≤ 64 * WORDS }
-    requires low { width ≤ 64 * length low.now }
-    requires high { width ≤ 64 * length high.now }
-    ensures low { (k : ℕ) → k < width → bit_of_plane 0 words.new k ≡ row_bit low.now k }
-    ensures high { (k : ℕ) → k < width → bit_of_plane 1 words.new k ≡ row_bit high.now k }
-    ensures planes { ArePlanes WORDS width words.new }
+    requires words { width ≤ 64 * length words.now }
+    ensures letters { letters_in width planes.new ≡ letters_of width words.now }
+    ensures planes { ArePlanes WORDS width planes.new }
 {
     let mut left = width;
     for j in 0..words_in(width) {
         let mask = ones(left);
-        words[2 * j] = low[j] & mask;
-        words[2 * j + 1] = high[j] & mask;
+        planes[2 * j] = words[j].low & mask;
+        planes[2 * j + 1] = words[j].high & mask;
         left = left.saturating_sub(64);
     }
     // Its clause bounds each word after the loop.
-    words_fit(words);
+    words_fit(planes);
 }
 
-/// The planes of the bits of two rows that are below `width`. Only the words in use are computed.
-pub(crate) fn planes_of_rows(width: u64, low: &[u64], high: &[u64]) -> [u64; 2 * WORDS]
+/// The planes of the letters of a row of words that are below bit `width`. Only the words in use
+/// are computed.
+pub(crate) fn planes_of_words(width: u64, words: &[LetterWord]) -> [u64; 2 * WORDS]
     requires most { width ≤ 64 * WORDS }
-    requires low { width ≤ 64 * length low.now }
-    requires high { width ≤ 64 * length high.now }
-    ensures low { (k : ℕ) → k < width → bit_of_plane 0 result k ≡ row_bit low.now k }
-    ensures high { (k : ℕ) → k < width → bit_of_plane 1 result k ≡ row_bit high.now k }
+    requires words { width ≤ 64 * length words.now }
+    ensures letters { letters_in width result ≡ letters_of width words.now }
     ensures planes { ArePlanes WORDS width result }
 {
-    let mut words = [0; 2 * WORDS];
-    write_rows(&mut words, width, low, high);
-    words
+    let mut planes = [0; 2 * WORDS];
+    write_words(&mut planes, width, words);
+    planes
 }
 
-/// The planes of the bits of two words that are below `width`.
+/// The planes of the letters of a word that are below bit `width`.
 ///
 /// It has no branch or loop, so LLVM writes them in their final place without a copy.
-pub(crate) fn planes_of_words(width: u64, low: u64, high: u64) -> [u64; 2 * WORDS]
+pub(crate) fn planes_of_word(width: u64, word: LetterWord) -> [u64; 2 * WORDS]
     requires { width ≤ 64 }
-    ensures low { (k : ℕ) → k < width → bit_of_plane 0 result k ≡ row_bit (low ∷ []) k }
-    ensures high { (k : ℕ) → k < width → bit_of_plane 1 result k ≡ row_bit (high ∷ []) k }
+    ensures letters { letters_in width result ≡ letters_of width (word ∷ []) }
     ensures planes { ArePlanes WORDS width result }
 {
     let mask = ones(width);
-    let mut words = [0; 2 * WORDS];
-    words[0] = low & mask;
-    words[1] = high & mask;
+    let mut planes = [0; 2 * WORDS];
+    planes[0] = word.low & mask;
+    planes[1] = word.high & mask;
     // Its clause bounds each word after the writes.
-    words_fit(&words);
-    words
-}
-
-/// The word whose 64 bits are all set, or all clear.
-pub fn repeated(set: bool) -> u64
-    ensures { (i : ℕ) → i < 64 → bit_at result i ≡ (if set then 1 else 0) }
-{
-    if set { u64::MAX } else { 0 }
+    words_fit(&planes);
+    planes
 }
 
 /// Sets or clears bit `k` of the low plane (0) or the high plane (1).

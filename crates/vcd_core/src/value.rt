@@ -1,14 +1,15 @@
 //! Four-state values of up to 1024 bits.
 
 ghost use Rattle.std.specs.Prelude.{◌≡◌, ℕ, [], ◌∷◌, ◌+◌, ◌-◌, ◌*◌, ◌<◌, ◌≤◌, ◌↔◌, length, replicate, slice_set, IsTrue};
-ghost use Rattle.std.specs.Int.{bit_at};
 ghost use Rattle.vcd_core.specs.Value.{letter_at, all_x, same_letters};
-ghost use Rattle.vcd_core.specs.WordRows.{letters_of, low_bit, high_bit};
+ghost use Rattle.vcd_core.specs.WordRows.{letters_of, HoldsLetters};
+ghost use Rattle.vcd_core.specs.declared.bit.Bit.TheVariants.{Zero};
 
 use crate::bit::Bit;
+use crate::letter_word::LetterWord;
 use crate::planes::{
-    letter, ones, plane_bit, plane_word, planes_of_rows, planes_of_words, repeated, words_fit,
-    words_in, write_plane_bit,
+    letter, ones, plane_bit, plane_word, planes_of_word, planes_of_words, words_fit, words_in,
+    write_plane_bit,
 };
 use std::fmt;
 use std::marker::Model;
@@ -56,50 +57,46 @@ impl Value {
         requires most { width ≤ WIDTH_LIMIT }
         ensures { result ≡ replicate width bit }
     {
-        let low = [repeated(bit.is_low()); WORDS];
-        let high = [repeated(bit.is_high()); WORDS];
-        Value::from_words(width, &low, &high)
+        Value::from_words(width, &[LetterWord::filled(bit); WORDS])
     }
 
-    /// The value of `width` bits whose low and high bits are in two rows of words. Bit 0 is the
-    /// lowest of the first word. Bits of the rows from `width` on are ignored.
+    /// The value of `width` bits whose letters are in a row of words, bit 0 the lowest of the first.
+    /// Letters of the row from bit `width` on are ignored.
     ///
     /// It takes a step for each 64 bits.
-    pub fn from_words(width: u64, low: &[u64], high: &[u64]) -> Value
+    pub fn from_words(width: u64, words: &[LetterWord]) -> Value
         requires least { 1 ≤ width }
         requires most { width ≤ WIDTH_LIMIT }
-        requires low { width ≤ 64 * length low.now }
-        requires high { width ≤ 64 * length high.now }
-        ensures { result ≡ letters_of width low.now high.now }
+        requires words { width ≤ 64 * length words.now }
+        ensures { result ≡ letters_of width words.now }
     {
         Value {
             width,
-            planes: planes_of_rows(width, low, high),
+            planes: planes_of_words(width, words),
         }
     }
 
-    /// The value of `width` bits, at most 64, whose low and high bits are in two words, bit 0 the
-    /// lowest. Bits of the words from `width` on are ignored.
-    pub(crate) fn from_word(width: u64, low: u64, high: u64) -> Value
+    /// The value of `width` bits, at most 64, whose letters are in a word, bit 0 the lowest. Letters
+    /// of the word from bit `width` on are ignored.
+    pub(crate) fn from_word(width: u64, word: LetterWord) -> Value
         requires least { 1 ≤ width }
         requires most { width ≤ 64 }
-        ensures { result ≡ letters_of width (low ∷ []) (high ∷ []) }
+        ensures { result ≡ letters_of width (word ∷ []) }
     {
         Value {
             width,
-            planes: planes_of_words(width, low, high),
+            planes: planes_of_word(width, word),
         }
     }
 
-    /// Whether the value, of at most 64 bits, has these words of low and high bits. It equals
+    /// Whether the value, of at most 64 bits, has the letters of this word. It equals
     /// [`Value::from_word`] of its width, which is not built.
-    pub(crate) fn has_word(&self, low: u64, high: u64) -> bool
+    pub(crate) fn has_word(&self, word: LetterWord) -> bool
         requires { length self.now ≤ 64 }
-        ensures { result ≡ same_letters
-            (letters_of (length self.now) (low ∷ []) (high ∷ [])) self.now }
+        ensures { result ≡ same_letters (letters_of (length self.now) (word ∷ [])) self.now }
     {
         let mask = ones(self.width);
-        (self.planes[0] == low & mask) & (self.planes[1] == high & mask)
+        (self.planes[0] == word.low & mask) & (self.planes[1] == word.high & mask)
     }
 
     /// The number of bits.
@@ -135,20 +132,15 @@ impl Value {
         }
     }
 
-    /// The low bits of the letters from bit `64 * k` on, the lowest first; 0 past the width.
-    pub fn word_low(&self, k: usize) -> u64
+    /// The letters from bit `64 * k` on, the lowest first; 0 past the width.
+    pub fn word(&self, k: usize) -> LetterWord
         requires { 64 * k < length self.now }
-        ensures { (i : ℕ) → i < 64 → bit_at result i ≡ low_bit self.now (64 * k + i) }
+        ensures { HoldsLetters Zero self.now (64 * k) result }
     {
-        plane_word(&self.planes, 0, k)
-    }
-
-    /// The high bits of the letters from bit `64 * k` on, the lowest first; 0 past the width.
-    pub fn word_high(&self, k: usize) -> u64
-        requires { 64 * k < length self.now }
-        ensures { (i : ℕ) → i < 64 → bit_at result i ≡ high_bit self.now (64 * k + i) }
-    {
-        plane_word(&self.planes, 1, k)
+        LetterWord {
+            low: plane_word(&self.planes, 0, k),
+            high: plane_word(&self.planes, 1, k),
+        }
     }
 
     /// Whether each bit is x.

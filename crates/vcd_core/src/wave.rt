@@ -7,6 +7,7 @@ ghost use Rattle.vcd_core.specs.Splice.{AllTicksFit, spliced_changes};
 ghost use Rattle.vcd_core.specs.declared.change_list.TheConstants.{LEAST_ROOM};
 
 use crate::change_list::{last_value, push_change, push_word_change};
+use crate::letter_word::LetterWord;
 use crate::memory::NoMemory;
 use crate::searching::count_near;
 use crate::value::{Value, WIDTH_LIMIT};
@@ -161,15 +162,15 @@ impl Wave {
         Ok(())
     }
 
-    /// Does what [`Wave::push`] does with the value whose low and high bits are in these two words,
-    /// bit 0 the lowest. Bits of the words from the width on are ignored.
-    pub fn push_word(&mut self, tick: u64, low: u64, high: u64) -> Result<(), NoMemory>
+    /// Does what [`Wave::push`] does with the value whose letters are in this word, bit 0 the lowest.
+    /// Letters of the word from the width on are ignored.
+    pub fn push_word(&mut self, tick: u64, word: LetterWord) -> Result<(), NoMemory>
         requires width { self.old.width ≤ 64 }
         requires late { All (λ c. c.tick ≤ tick) self.old.changes }
 
-        ensures changes { let value = letters_of self.old.width (low ∷ []) (high ∷ []) in OnOk result
+        ensures changes { let value = letters_of self.old.width (word ∷ []) in OnOk result
             (self.new.changes ≡ changes_after_push self.old.width self.old.changes tick value) }
-        ensures values { let value = letters_of self.old.width (low ∷ []) (high ∷ []) in
+        ensures values { let value = letters_of self.old.width (word ∷ []) in
             OnOk result ((t : ℕ) → value_at self.new.width self.new.changes t
             ≡ (if nat_le tick t then value else value_at self.old.width self.old.changes t)) }
         ensures last { OnOk result (All (λ c. c.tick ≤ tick) self.new.changes) }
@@ -180,7 +181,7 @@ impl Wave {
         ensures in_place { length self.old.changes + 1 < self.old.room → IsOk result }
         ensures replaces { 0 < self.old.room → Any (λ c. c.tick ≡ tick) self.old.changes
             → IsOk result }
-        ensures adds_none { 0 < self.old.room → let value = letters_of self.old.width (low ∷ []) (high ∷ []) in
+        ensures adds_none { 0 < self.old.room → let value = letters_of self.old.width (word ∷ []) in
             value_at self.old.width self.old.changes tick ≡ value → IsOk result }
         ensures room { self.old.room ≤ self.new.room }
 
@@ -193,7 +194,7 @@ impl Wave {
     {
         self.list.part(1)?;
         match &mut self.list {
-            WaveList::Own(list) => push_word_change(list, self.width, tick, low, high)?,
+            WaveList::Own(list) => push_word_change(list, self.width, tick, word)?,
             _ => unreachable!(),
         }
         Ok(())

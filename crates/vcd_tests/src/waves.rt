@@ -4,7 +4,7 @@ use crate::fixtures::{changes_in_text, pushed, wave_of};
 use std::alloc::Global;
 use std::process::Abort;
 use std::test::Fail;
-use vcd_core::{Bit, END_LIMIT, Value, WIDTH_LIMIT, Wave};
+use vcd_core::{Bit, END_LIMIT, LetterWord, Value, WIDTH_LIMIT, Wave};
 
 /// Pushes, and the changes after them. A value equal to the one before adds nothing, and an equal tick
 /// replaces.
@@ -62,7 +62,13 @@ fn changes_before_a_tick_are_counted(rt: HostRuntime) -> Result<(), Fail> {
 #[test]
 fn a_value_is_pushed_by_its_words(rt: HostRuntime) -> Result<(), Fail> {
     let mut wave = Wave::new(rt.alloc(), 4);
-    wave.push_word(2, 0b0011, 0b1010)?;
+    wave.push_word(
+        2,
+        LetterWord {
+            low: 0b0011,
+            high: 0b1010,
+        },
+    )?;
     assert!(rt; format!(in rt.alloc(); "{:?}", wave.at(2))?.as_str() == "z0x1");
     Ok(())
 }

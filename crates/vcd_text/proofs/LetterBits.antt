@@ -1,4 +1,4 @@
--- Letters by the bits of two words, and those that the extension restores from the next.
+-- The letters of a word, and those that the extension restores from the next.
 use Rattle.std.proofs.Common.{◌≡◌, ℕ, zero, suc, ◌+◌, ◌-◌, ◌*◌, ◌/◌, ◌%◌, ◌^◌, ◌<◌, ◌≤◌, min, max, Bool, true, false}
 use Rattle.std.proofs.Common.{List, [], ◌∷◌, ◌++◌, length, drop, get_or, slice_range, if◌then◌else◌, pow-suc, refl, sym}
 use Rattle.std.proofs.Common.{ap, ◌∙◌, arith, inl, inr}
@@ -16,53 +16,37 @@ use Rattle.std.proofs.lemmas.Nat.Bits.{bit_at-lt, bit_at-suc, bit_at_above, bit_
 use Rattle.std.proofs.lemmas.Nat.Bits.{bit_at_ones, bit_at_ones_above, bit_at_or, bit_at_xor}
 use Rattle.std.proofs.Common.{w64}
 use Rattle.vcd_core.specs.declared.bit.Bit.{Bit}
-use Rattle.vcd_core.specs.declared.bit.Bit.TheVariants.{X}
+use Rattle.vcd_core.specs.declared.bit.Bit.TheVariants.{Zero, X}
+use Rattle.vcd_core.specs.declared.letter_word.LetterWord.{LetterWord}
 use Rattle.vcd_core.specs.Value.{letter_at, printed_letter, same_letter}
-use Rattle.vcd_core.specs.WordRows.{high_bit, high_of, letter_of, letters_of, low_bit, low_of, row_bit}
-use Rattle.vcd_core.proofs.ValueLemmas.{letter_at-letters_of, letter_of-letter, length-letters_of, same_letter_at}
+use Rattle.vcd_core.specs.WordRows.{letter_in, letter_of, letters_of, HoldsLetters}
+use Rattle.vcd_core.proofs.ValueLemmas.{letter_at-letters_of, length-letters_of, one_word, same_letter_at}
 use Rattle.vcd_text.specs.Letters.{pad_letter, printed_letters}
-use Rattle.vcd_text.specs.inside.ValueFronts.{IsKept, is_spare_above, word_letter}
+use Rattle.vcd_text.specs.inside.ValueFronts.{IsKept, is_spare_above}
 
 -- ---- the letters of words
 
--- the letter that has the two bits at a place
-letter_by_bits : (v : List Bit) (k : ℕ) → k < length v → letter_of (low_bit v k) (high_bit v k) ≡ letter_at v k
-letter_by_bits v k inside =
-    ap (λ n. letter_of n (high_bit v k))
-    (ap (λ b. if b then low_of (letter_at v k) else 0) (lt-ltb k (length v) inside))
-    ∙ ap (λ n. letter_of (low_of (letter_at v k)) n)
-    (ap (λ b. if b then high_of (letter_at v k) else 0) (lt-ltb k (length v) inside))
-    ∙ letter_of-letter (letter_at v k)
+pub held_letter : (v : List Bit) (from : ℕ) (word : LetterWord) (i : ℕ) → HoldsLetters Zero v from word → i < 64
+    → from + i < length v
+    → letter_in word i ≡ letter_at v (from + i)
+held_letter v from word i holds inside within = holds.each i inside
+    ∙ ap (λ b. if b then letter_at v (from + i) else Zero) (lt-ltb (from + i) (length v) within)
 
--- two words hold the letters of a value from a bit on
-pub record HoldsFrom (v : List Bit) (from low high : ℕ) : Type 0 where
-  pub lows : (i : ℕ) → i < 64 → bit_at low i ≡ low_bit v (from + i)
-  pub highs : (i : ℕ) → i < 64 → bit_at high i ≡ high_bit v (from + i)
+-- a letter of the value of a word
+pub given_letter : (width : ℕ) (word : LetterWord) (k : ℕ) → width ≤ 64 → k < width
+    → letter_at (letters_of width (word ∷ [])) k ≡ letter_in word k
+given_letter width word k narrow within =
+    letter_at-letters_of width (word ∷ []) k within ∙ one_word word k (omega arith)
 
-pub held_letter : (v : List Bit) (from low high i : ℕ) → HoldsFrom v from low high → i < 64 → from + i < length v
-    → word_letter low high i ≡ letter_at v (from + i)
-held_letter v from low high i holds inside within =
-    (λ p. letter_of (holds.lows i inside p) (holds.highs i inside p)) ∙ letter_by_bits v (from + i) within
-
--- a letter of the value of two words
-pub given_letter : (width low high k : ℕ) → width ≤ 64 → k < width
-    → letter_at (letters_of width (low ∷ []) (high ∷ [])) k ≡ word_letter low high k
-unfolding row_bit
-given_letter width low high k narrow within =
-    let none : k / 64 ≡ 0 = omega arith in
-    let same : k % 64 ≡ k = omega arith in
-    let bit : (w : ℕ) → row_bit (w ∷ []) k ≡ bit_at w k = λ w. (λ p. bit_at (get_or (w ∷ []) (none p) 0) (same p)) in
-    letter_at-letters_of width (low ∷ []) (high ∷ []) k within ∙ (λ p. letter_of (bit low p) (bit high p))
-
--- words that hold a whole value give it
-pub given_whole : (v : List Bit) (low high : ℕ) → length v ≤ 64 → HoldsFrom v 0 low high
-    → letters_of (length v) (low ∷ []) (high ∷ []) ≡ v
-given_whole v low high narrow holds =
-    let long = length-letters_of (length v) (low ∷ []) (high ∷ []) in
+-- a word that holds a whole value gives it
+pub given_whole : (v : List Bit) (word : LetterWord) → length v ≤ 64 → HoldsLetters Zero v 0 word
+    → letters_of (length v) (word ∷ []) ≡ v
+given_whole v word narrow holds =
+    let long = length-letters_of (length v) (word ∷ []) in
     same_letter_at _ v long (λ k below.
     let within : k < length v = omega (arith, below, long) in
     let place : 0 + k ≡ k = omega arith in
-    given_letter (length v) low high k narrow within ∙ held_letter v 0 low high k holds (omega arith) (omega arith)
+    given_letter (length v) word k narrow within ∙ held_letter v 0 word k holds (omega arith) (omega arith)
     ∙ ap (letter_at v) place)
 
 -- ---- the lowest letters
@@ -80,18 +64,18 @@ letter_at-lowest n v k within below =
     omega (arith, length-lowest n v within) in
     get_or-drop (length v - n) v (length (lowest n v) - 1 - k) X ∙ ap (λ i. get_or v i X) place
 
--- the lowest letters of words
-pub lowest_given : (width count low high : ℕ) → width ≤ 64 → count ≤ width
-    → lowest count (letters_of width (low ∷ []) (high ∷ [])) ≡ letters_of count (low ∷ []) (high ∷ [])
-lowest_given width count low high narrow within =
-    let v = letters_of width (low ∷ []) (high ∷ []) in
-    let long = length-letters_of width (low ∷ []) (high ∷ []) in
-    let few = length-letters_of count (low ∷ []) (high ∷ []) in
+-- the lowest letters of a word
+pub lowest_given : (width count : ℕ) (word : LetterWord) → width ≤ 64 → count ≤ width
+    → lowest count (letters_of width (word ∷ [])) ≡ letters_of count (word ∷ [])
+lowest_given width count word narrow within =
+    let v = letters_of width (word ∷ []) in
+    let long = length-letters_of width (word ∷ []) in
+    let few = length-letters_of count (word ∷ []) in
     let fits : count ≤ length v = omega (arith, long) in
     same_letter_at _ _ (length-lowest count v fits ∙ sym few) (λ k below.
     let inside : k < count = omega (arith, below, length-lowest count v fits) in
-    letter_at-lowest count v k fits inside ∙ given_letter width low high k narrow (omega (arith, inside))
-    ∙ sym (given_letter count low high k (omega arith) inside))
+    letter_at-lowest count v k fits inside ∙ given_letter width word k narrow (omega (arith, inside))
+    ∙ sym (given_letter count word k (omega arith) inside))
 
 -- ---- letters in a row
 
@@ -123,12 +107,12 @@ pair_written f row k a b long inside written upper lower i within =
     ]
 
 -- the end of a row of letters
-pub row_end : (row : List ℕ) (count low high : ℕ) → length row ≡ 64 → count ≤ 64
-    → ((i : ℕ) → i < count → get_or row (63 - i) 0 ≡ printed_letter (word_letter low high i))
-    → slice_range row (64 - count) 64 ≡ printed_letters (letters_of count (low ∷ []) (high ∷ []))
-row_end row count low high long fits written =
-    let v = letters_of count (low ∷ []) (high ∷ []) in
-    let few : length v ≡ count = length-letters_of count (low ∷ []) (high ∷ []) in
+pub row_end : (row : List ℕ) (count : ℕ) (word : LetterWord) → length row ≡ 64 → count ≤ 64
+    → ((i : ℕ) → i < count → get_or row (63 - i) 0 ≡ printed_letter (letter_in word i))
+    → slice_range row (64 - count) 64 ≡ printed_letters (letters_of count (word ∷ []))
+row_end row count word long fits written =
+    let v = letters_of count (word ∷ []) in
+    let few : length v ≡ count = length-letters_of count (word ∷ []) in
     let rest : length (drop (64 - count) row) ≡ count = length-drop (64 - count) row ∙ omega (arith, long, fits) in
     take_all (64 - (64 - count)) (drop (64 - count) row) (omega (arith, rest))
     ∙ ext_get_or 0 _ _ (rest ∙ sym (length-map v printed_letter ∙ few)) (λ i below.
@@ -137,33 +121,34 @@ row_end row count low high long fits written =
     let place : 64 - count + i ≡ 63 - k = omega (arith, inside, fits) in
     let back : length v - 1 - k ≡ i = omega (arith, inside, few) in
     get_or-drop (64 - count) row i 0 ∙ ap (λ n. get_or row n 0) place ∙ written k (omega (arith, inside))
-    ∙ ap printed_letter (sym (given_letter count low high k fits (omega (arith, inside))) ∙ ap (λ n. get_or v n X) back)
+    ∙ ap printed_letter (sym (given_letter count word k fits (omega (arith, inside))) ∙ ap (λ n. get_or v n X) back)
     ∙ sym (get_or-map printed_letter v i X 0 (omega (arith, inside, few))))
 
 -- the letters of a word of a value are before the lower ones
-pub word_and_rest : (v : List Bit) (left from low high : ℕ) → from ≤ left → left ≤ from + 64 → left ≤ length v
-    → HoldsFrom v from low high
-    → printed_letters (lowest left v) ≡ printed_letters (letters_of (left - from) (low ∷ []) (high ∷ []))
+pub word_and_rest : (v : List Bit) (left from : ℕ) (word : LetterWord) → from ≤ left → left ≤ from + 64
+    → left ≤ length v
+    → HoldsLetters Zero v from word
+    → printed_letters (lowest left v) ≡ printed_letters (letters_of (left - from) (word ∷ []))
     ++ printed_letters (lowest from v)
-word_and_rest v left from low high most fits within holds =
+word_and_rest v left from word most fits within holds =
     let count : ℕ = left - from in
     let start : ℕ = length v - left in
     let end : ℕ = length v - from in
     let part = slice_range v start end in
-    let few : length (letters_of count (low ∷ []) (high ∷ [])) ≡ count =
-    length-letters_of count (low ∷ []) (high ∷ []) in
+    let few : length (letters_of count (word ∷ [])) ≡ count =
+    length-letters_of count (word ∷ []) in
     let long : length part ≡ count = length-take-le (end - start) (drop start v) (omega (arith, length-drop start v))
     ∙ omega (arith, most, within) in
-    let same : part ≡ letters_of count (low ∷ []) (high ∷ []) = same_letter_at part _ (long ∙ sym few) (λ k below.
+    let same : part ≡ letters_of count (word ∷ []) = same_letter_at part _ (long ∙ sym few) (λ k below.
     let inside : k < count = omega (arith, below, long) in
     let place : start + (length part - 1 - k) ≡ length v - 1 - (from + k) = omega (arith, inside, long, within) in
     get_or-take (end - start) (drop start v) (length part - 1 - k) X (omega (arith, inside, long))
     ∙ get_or-drop start v (length part - 1 - k) X
     ∙ ap (λ i. get_or v i X) place
-    ∙ sym (held_letter v from low high k holds (omega (arith, inside)) (omega (arith, inside)))
-    ∙ sym (given_letter count low high k (omega arith) inside)) in
+    ∙ sym (held_letter v from word k holds (omega (arith, inside)) (omega (arith, inside)))
+    ∙ sym (given_letter count word k (omega arith) inside)) in
     ap printed_letters (drop_split v start end (omega arith) ∙ ap (λ l. l ++ drop end v) same)
-    ∙ map-append printed_letter (letters_of count (low ∷ []) (high ∷ [])) (drop end v)
+    ∙ map-append printed_letter (letters_of count (word ∷ [])) (drop end v)
 
 -- ---- spare letters
 
@@ -171,20 +156,21 @@ word_and_rest v left from low high most fits within holds =
 abbrev pub is_spare_in : List Bit → ℕ → Bool
 is_spare_in v i = same_letter (pad_letter (letter_at v i ∷ [])) (letter_at v (i + 1))
 
-pub spare_held : (v : List Bit) (from low high i : ℕ) → HoldsFrom v from low high → i + 1 < 64 → from + i + 1 < length v
-    → is_spare_above low high i ≡ is_spare_in v (from + i)
-spare_held v from low high i holds inside within =
+pub spare_held : (v : List Bit) (from : ℕ) (word : LetterWord) (i : ℕ) → HoldsLetters Zero v from word → i + 1 < 64
+    → from + i + 1 < length v
+    → is_spare_above word i ≡ is_spare_in v (from + i)
+spare_held v from word i holds inside within =
     let next : from + (i + 1) ≡ from + i + 1 = omega arith in
-    let one = held_letter v from low high i holds (omega arith) (omega arith) in
-    let two : word_letter low high (i + 1) ≡ letter_at v (from + i + 1) =
-    held_letter v from low high (i + 1) holds inside (omega arith) ∙ ap (letter_at v) next in
+    let one = held_letter v from word i holds (omega arith) (omega arith) in
+    let two : letter_in word (i + 1) ≡ letter_at v (from + i + 1) =
+    held_letter v from word (i + 1) holds inside (omega arith) ∙ ap (letter_at v) next in
     (λ p. same_letter (pad_letter (one p ∷ [])) (two p))
 
-pub spare_given : (width low high i : ℕ) → width ≤ 64 → i + 1 < width
-    → is_spare_above low high i ≡ is_spare_in (letters_of width (low ∷ []) (high ∷ [])) i
-spare_given width low high i narrow within =
-    let one = sym (given_letter width low high i narrow (omega arith)) in
-    let two = sym (given_letter width low high (i + 1) narrow within) in
+pub spare_given : (width : ℕ) (word : LetterWord) (i : ℕ) → width ≤ 64 → i + 1 < width
+    → is_spare_above word i ≡ is_spare_in (letters_of width (word ∷ [])) i
+spare_given width word i narrow within =
+    let one = sym (given_letter width word i narrow (omega arith)) in
+    let two = sym (given_letter width word (i + 1) narrow within) in
     (λ p. same_letter (pad_letter (one p ∷ [])) (two p))
 
 abbrev bit : Bool → ℕ
@@ -244,7 +230,7 @@ later_pair w i =
 pub needed_bit : (low high i : ℕ) → low < 2 ^ 64 → high < 2 ^ 64 → i < 64
     → bit_at (bit_or (bit_or (bit_xor (high / 2) high) (bit_and (low / 2) (bit_not w64 (high / 2))))
     (bit_and (high / 2) (bit_xor (low / 2) low))) i
-    ≡ (if is_spare_above low high i then 0 else 1)
+    ≡ (if is_spare_above (record { low = low; high = high }) i then 0 else 1)
 needed_bit low high i small_low small_high inside =
     let h = halved high i in
     let l = halved low i in
@@ -307,10 +293,11 @@ needed_where_one : (b : Bool) (n : ℕ) → n ≡ (if b then 0 else 1) → n ≡
 needed_where_one true n is one = absurd (omega arith)
 needed_where_one false n is one = refl
 
-pub kept_is : (count low high marks mask : ℕ) → 1 ≤ count → count ≤ 64 → mask < 2 ^ 64 → mask ≡ 2 ^ (count - 1) - 1
-    → ((i : ℕ) → i < 64 → bit_at marks i ≡ (if is_spare_above low high i then 0 else 1))
-    → IsKept count low high (65 - count_leading_zeros 64 (bit_and marks mask))
-kept_is count low high marks mask least most fits is_mask tells =
+pub kept_is : (count : ℕ) (word : LetterWord) (marks mask : ℕ) → 1 ≤ count → count ≤ 64 → mask < 2 ^ 64
+    → mask ≡ 2 ^ (count - 1) - 1
+    → ((i : ℕ) → i < 64 → bit_at marks i ≡ (if is_spare_above word i then 0 else 1))
+    → IsKept count word (65 - count_leading_zeros 64 (bit_and marks mask))
+kept_is count word marks mask least most fits is_mask tells =
     let m : ℕ = bit_and marks mask in
     let small : m < 2 ^ 64 = omega (arith, and_le_r marks mask, fits) in
     let length = has_length m small in
@@ -350,6 +337,6 @@ kept_is count low high marks mask least most fits is_mask tells =
       needed = λ some.
           let place : 65 - count_leading_zeros 64 m - 2 ≡ n - 1 = omega (arith, kept) in
           let one = (both (omega (arith, kept))).0 in
-          ap (is_spare_above low high) place
+          ap (is_spare_above word) place
           ∙ needed_where_one _ _ (tells (n - 1) (omega (arith, length.1.counted))) one;
     }

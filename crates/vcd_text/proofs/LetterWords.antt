@@ -5,7 +5,6 @@ use Rattle.std.proofs.Common.{if◌then◌else◌, ◌&&◌, List, [], ◌∷◌
 use Rattle.std.proofs.Common.{sym, ap, subst, ◌∙◌, arith, inl, inr, add-one}
 use Rattle.std.specs.Prelude.{unwrap_or}
 use Rattle.std.specs.List.{list_all}
-use Rattle.std.specs.Int.{bit_at}
 use Rattle.std.specs.Simd.{first_chunks}
 use Rattle.std.proofs.Math.Seq.{take-add}
 use Rattle.std.proofs.Math.ListN.{set}
@@ -18,10 +17,11 @@ use Rattle.std.proofs.lemmas.List.Folds.{drop_split, list_all-append}
 use Rattle.vcd_core.specs.declared.bit.Bit.{Bit}
 use Rattle.vcd_core.specs.declared.bit.Bit.TheVariants.{X}
 use Rattle.vcd_core.specs.Value.{letter_at}
-use Rattle.vcd_core.specs.WordRows.{row_bit, letter_of, low_of, high_of, letters_of}
-use Rattle.vcd_core.proofs.ValueLemmas.{same_letter_at, length-letters_of, letter_at-letters_of, letter_of-letter}
+use Rattle.vcd_core.specs.declared.letter_word.LetterWord.{LetterWord}
+use Rattle.vcd_core.specs.WordRows.{letter_in, letter_or, letters_of, word_at, HoldsLetters}
+use Rattle.vcd_core.proofs.ValueLemmas.{same_letter_at, length-letters_of, letter_at-letters_of, one_word}
 use Rattle.vcd_text.specs.Letters.{is_binary_digit, letter_of_digit, letters_of_digits, pad_letter, extension}
-use Rattle.vcd_text.specs.inside.LetterWords.{digits_of, letter_or, HoldsLetters, AddsLetters}
+use Rattle.vcd_text.specs.inside.LetterWords.{digits_of, AddsLetters}
 
 -- ---- one letter more
 
@@ -50,44 +50,35 @@ other_letter pad s b i =
       | inr past ↦ past_text pad (s ++ b ∷ []) (i + 1) (omega (arith, long)) ∙ sym (past_text pad s i past)
     ]
 
--- words of one letter hold no others
-pub none_held : (pad : Bit) (low high : ℕ) → ((i : ℕ) → i < 64 → bit_at low i ≡ low_of pad)
-    → ((i : ℕ) → i < 64 → bit_at high i ≡ high_of pad)
-    → HoldsLetters pad [] low high
-none_held pad low high lows highs = record {
-  low = λ i inside. lows i inside ∙ sym (ap low_of (past_text pad [] i (omega arith)));
-  high = λ i inside. highs i inside ∙ sym (ap high_of (past_text pad [] i (omega arith)));
+-- the letters from bit 0 on
+held : (pad : Bit) (s : List Bit) (word : LetterWord) → HoldsLetters pad s 0 word → (i : ℕ) → i < 64
+    → letter_in word i ≡ letter_or pad s i
+held pad s word holds i inside = holds.each i inside ∙ ap (letter_or pad s) (let e : 0 + i ≡ i = omega arith in e)
+
+holds_each : (pad : Bit) (s : List Bit) (word : LetterWord)
+    → ((i : ℕ) → i < 64 → letter_in word i ≡ letter_or pad s i) → HoldsLetters pad s 0 word
+holds_each pad s word each = record {
+  each = λ i inside. each i inside ∙ ap (letter_or pad s) (let e : i ≡ 0 + i = omega arith in e);
 }
 
--- words whose lowest bit is a letter's, and whose others are those of words that hold letters
-holds_more : (pad : Bit) (s : List Bit) (b : Bit) (low high low' high' : ℕ) → HoldsLetters pad s low high
-    → bit_at low' 0 ≡ low_of b → ((i : ℕ) → i + 1 < 64 → bit_at low' (i + 1) ≡ bit_at low i)
-    → bit_at high' 0 ≡ high_of b → ((i : ℕ) → i + 1 < 64 → bit_at high' (i + 1) ≡ bit_at high i)
-    → HoldsLetters pad (s ++ b ∷ []) low' high'
-holds_more pad s b low high low' high' holds first rest first' rest' = record { low = lows; high = highs }
+-- a word of one letter holds no others
+pub none_held : (pad : Bit) (word : LetterWord) → ((i : ℕ) → i < 64 → letter_in word i ≡ pad)
+    → HoldsLetters pad [] 0 word
+none_held pad word each = holds_each pad [] word (λ i inside. each i inside ∙ sym (past_text pad [] i (omega arith)))
+
+-- ---- more letters below those that a word holds
+
+pub adds_one : (b : Bit) (old new : LetterWord) → letter_in new 0 ≡ b
+    → ((i : ℕ) → i + 1 < 64 → letter_in new (i + 1) ≡ letter_in old i) → AddsLetters (b ∷ []) old new
+adds_one b old new first rest = λ pad s holds. holds_each pad (s ++ b ∷ []) new (each pad s holds)
   where
-    lows : (i : ℕ) → i < 64 → bit_at low' i ≡ low_of (letter_or pad (s ++ b ∷ []) i)
-    lows zero inside = first ∙ sym (ap low_of (last_letter pad s b))
-    lows (suc i) inside =
+    each : (pad : Bit) (s : List Bit) → HoldsLetters pad s 0 old → (i : ℕ) → i < 64
+        → letter_in new i ≡ letter_or pad (s ++ b ∷ []) i
+    each pad s holds zero inside = first ∙ sym (last_letter pad s b)
+    each pad s holds (suc i) inside =
         let more : i + 1 ≡ suc i = add-one i in
-        ap (bit_at low') (sym more) ∙ rest i (omega arith) ∙ holds.low i (omega arith)
-        ∙ sym (ap low_of (ap (letter_or pad (s ++ b ∷ [])) (sym more) ∙ other_letter pad s b i))
-
-    highs : (i : ℕ) → i < 64 → bit_at high' i ≡ high_of (letter_or pad (s ++ b ∷ []) i)
-    highs zero inside = first' ∙ sym (ap high_of (last_letter pad s b))
-    highs (suc i) inside =
-        let more : i + 1 ≡ suc i = add-one i in
-        ap (bit_at high') (sym more) ∙ rest' i (omega arith) ∙ holds.high i (omega arith)
-        ∙ sym (ap high_of (ap (letter_or pad (s ++ b ∷ [])) (sym more) ∙ other_letter pad s b i))
-
--- ---- more letters below those that words hold
-
-pub adds_one : (b : Bit) (low high low' high' : ℕ)
-    → bit_at low' 0 ≡ low_of b → ((i : ℕ) → i + 1 < 64 → bit_at low' (i + 1) ≡ bit_at low i)
-    → bit_at high' 0 ≡ high_of b → ((i : ℕ) → i + 1 < 64 → bit_at high' (i + 1) ≡ bit_at high i)
-    → AddsLetters (b ∷ []) low high low' high'
-adds_one b low high low' high' first rest first' rest' =
-    λ pad s holds. holds_more pad s b low high low' high' holds first rest first' rest'
+        ap (letter_in new) (sym more) ∙ rest i (omega arith) ∙ held pad s old holds i (omega arith)
+        ∙ sym (ap (letter_or pad (s ++ b ∷ [])) (sym more) ∙ other_letter pad s b i)
 
 -- eight digits of those in eights
 pub eight_at : (count i : ℕ) (digits : List ℕ) → i < count
@@ -107,11 +98,11 @@ eight_more digits i =
     sym (take-add (8 * i) 8 digits) ∙ ap (λ n. take n digits) place
 
 -- digits in front, and others after them
-pub holds_both : (pad : Bit) (front back all : List ℕ) (low high low' high' : ℕ) → front ++ back ≡ all
-    → HoldsLetters pad (letters_of_digits front) low high → AddsLetters (letters_of_digits back) low high low' high'
-    → HoldsLetters pad (letters_of_digits all) low' high'
-holds_both pad front back all low high low' high' whole holds adds =
-    subst (λ t. HoldsLetters pad t low' high') (sym (map-append (λ b. unwrap_or (letter_of_digit b) X) front back)
+pub holds_both : (pad : Bit) (front back all : List ℕ) (old new : LetterWord) → front ++ back ≡ all
+    → HoldsLetters pad (letters_of_digits front) 0 old → AddsLetters (letters_of_digits back) old new
+    → HoldsLetters pad (letters_of_digits all) 0 new
+holds_both pad front back all old new whole holds adds =
+    subst (λ t. HoldsLetters pad t 0 new) (sym (map-append (λ b. unwrap_or (letter_of_digit b) X) front back)
     ∙ ap letters_of_digits whole)
     (adds pad (letters_of_digits front) holds)
 
@@ -123,10 +114,9 @@ both_are_digits front back all whole first second =
 
 -- ---- one word more
 
--- the letters of the first words of two rows
-pub record RowsHold (pad : Bit) (s : List Bit) (count : ℕ) (lows highs : List ℕ) : Type 0 where
-  pub low : (i : ℕ) → i < 64 * count → row_bit lows i ≡ low_of (letter_or pad s i)
-  pub high : (i : ℕ) → i < 64 * count → row_bit highs i ≡ high_of (letter_or pad s i)
+-- the letters of the first words of a row
+pub record RowHolds (pad : Bit) (s : List Bit) (count : ℕ) (words : List LetterWord) : Type 0 where
+  pub each : (i : ℕ) → i < 64 * count → letter_in (word_at words (i / 64)) (i % 64) ≡ letter_or pad s i
 
 -- the letters of a word are those of the text
 part_letter : (pad : Bit) (digits : List ℕ) (k i : ℕ) → i < 64
@@ -154,37 +144,25 @@ part_letter pad digits k i inside =
           ∙ sym (past_text pad s (64 * k + i) (omega (arith, all)))
     ]
 
--- a row with a word written
-row_with : (words : List ℕ) (k w i : ℕ) → k < length words → i / 64 ≡ k → row_bit (set words k w) i ≡ bit_at w (i % 64)
-unfolding row_bit
-row_with words k w i within here = ap (λ n. bit_at (get_or (set words k w) n 0) (i % 64)) here
-    ∙ ap (λ n. bit_at n (i % 64)) (get_or-set_same words k w 0 within)
-
-row_without : (words : List ℕ) (k w i : ℕ) → i / 64 ≢ k → row_bit (set words k w) i ≡ row_bit words i
-unfolding row_bit
-row_without words k w i elsewhere = ap (λ n. bit_at n (i % 64)) (get_or-set_other words k (i / 64) w 0 elsewhere)
-
-one_row : (f : Bit → ℕ) (pad : Bit) (digits words : List ℕ) (k w : ℕ) → k < length words
-    → ((i : ℕ) → i < 64 * k → row_bit words i ≡ f (letter_or pad (letters_of_digits digits) i))
-    → ((i : ℕ) → i < 64 → bit_at w i ≡ f (letter_or pad (letters_of_digits (digits_of digits k)) i))
-    → (i : ℕ) → i < 64 * (k + 1) → row_bit (set words k w) i ≡ f (letter_or pad (letters_of_digits digits) i)
-one_row f pad digits words k w within before word i below =
-    elim (cases_eq (i / 64) k) [
-      | inl here ↦
-          let place : 64 * k + i % 64 ≡ i = omega arith in
-          row_with words k w i within here ∙ word (i % 64) (omega arith)
-          ∙ ap f (part_letter pad digits k (i % 64) (omega arith) ∙ ap (letter_or pad (letters_of_digits digits)) place)
-      | inr elsewhere ↦ row_without words k w i elsewhere ∙ before i (omega arith)
-    ]
-
-pub rows_more : (pad : Bit) (digits lows highs : List ℕ) (k low high : ℕ) → k < length lows → k < length highs
-    → RowsHold pad (letters_of_digits digits) k lows highs
-    → HoldsLetters pad (letters_of_digits (digits_of digits k)) low high
-    → RowsHold pad (letters_of_digits digits) (k + 1) (set lows k low) (set highs k high)
-rows_more pad digits lows highs k low high within within' rows word = record {
-  low = one_row low_of pad digits lows k low within rows.low word.low;
-  high = one_row high_of pad digits highs k high within' rows.high word.high;
+pub row_more : (pad : Bit) (digits : List ℕ) (words : List LetterWord) (k : ℕ) (word : LetterWord) → k < length words
+    → RowHolds pad (letters_of_digits digits) k words → HoldsLetters pad (letters_of_digits (digits_of digits k)) 0 word
+    → RowHolds pad (letters_of_digits digits) (k + 1) (set words k word)
+row_more pad digits words k word within before holds = record {
+  each = λ i below. elim (cases_eq (i / 64) k) [
+    | inl here ↦
+        let place : 64 * k + i % 64 ≡ i = omega arith in
+        ap (λ j. letter_in (word_at (set words k word) j) (i % 64)) here
+        ∙ ap (λ (w : LetterWord). letter_in w (i % 64)) (get_or-set_same words k word no_word within)
+        ∙ held pad _ word holds (i % 64) (omega arith) ∙ part_letter pad digits k (i % 64) (omega arith)
+        ∙ ap (letter_or pad (letters_of_digits digits)) place
+    | inr elsewhere ↦ ap (λ (w : LetterWord). letter_in w (i % 64))
+        (get_or-set_other words k (i / 64) word no_word elsewhere)
+        ∙ before.each i (omega arith)
+  ];
 }
+  where
+    no_word : LetterWord
+    no_word = record { low = 0; high = 0 }
 
 -- ---- which digits are letters
 
@@ -247,29 +225,21 @@ extension_letter width s i fits inside =
           ∙ sym (past_text pad s i past)
     ]
 
--- rows that hold all letters are the extension
-pub rows_are_extension : (width count : ℕ) (s : List Bit) (lows highs : List ℕ) → length s ≤ width → width ≤ 64 * count
-    → RowsHold (pad_letter s) s count lows highs → letters_of width lows highs ≡ extension width s
-rows_are_extension width count s lows highs fits covers rows =
-    let pad = pad_letter s in
+-- a row that holds all letters is the extension
+pub row_is_extension : (width count : ℕ) (s : List Bit) (words : List LetterWord) → length s ≤ width
+    → width ≤ 64 * count → RowHolds (pad_letter s) s count words → letters_of width words ≡ extension width s
+row_is_extension width count s words fits covers row =
     let long : length (extension width s) ≡ width =
-    length-append (replicate (width - length s) pad) s ∙ omega (arith, length-replicate (width - length s) pad) in
-    same_letter_at _ _ (length-letters_of width lows highs ∙ sym long) (λ i below.
-    let inside : i < width = omega (arith, length-letters_of width lows highs) in
-    letter_at-letters_of width lows highs i inside
-    ∙ (λ p. letter_of (rows.low i (omega arith) p) (rows.high i (omega arith) p))
-    ∙ letter_of-letter (letter_or pad s i) ∙ sym (extension_letter width s i fits inside))
+    length-append (replicate (width - length s) (pad_letter s)) s
+    ∙ omega (arith, length-replicate (width - length s) (pad_letter s)) in
+    same_letter_at _ _ (length-letters_of width words ∙ sym long) (λ i below.
+    let inside : i < width = omega (arith, length-letters_of width words) in
+    letter_at-letters_of width words i inside ∙ row.each i (omega arith) ∙ sym (extension_letter width s i fits inside))
 
 -- a word that holds all letters is the extension, where the width is at most 64
-pub word_is_extension : (width : ℕ) (s : List Bit) (low high : ℕ) → length s ≤ width → width ≤ 64
-    → HoldsLetters (pad_letter s) s low high → letters_of width (low ∷ []) (high ∷ []) ≡ extension width s
-unfolding row_bit
-word_is_extension width s low high fits narrow holds =
-    let bit : (w i : ℕ) → i < 64 * 1 → row_bit (w ∷ []) i ≡ bit_at w i = λ w i inside.
-    let none : i / 64 ≡ 0 = omega arith in
-    let same : i % 64 ≡ i = omega arith in
-    (λ p. bit_at (get_or (w ∷ []) (none p) 0) (same p)) in
-    rows_are_extension width 1 s (low ∷ []) (high ∷ []) fits (omega arith) (record {
-      low = λ i inside. bit low i inside ∙ holds.low i (omega arith);
-      high = λ i inside. bit high i inside ∙ holds.high i (omega arith);
+pub word_is_extension : (width : ℕ) (s : List Bit) (word : LetterWord) → length s ≤ width → width ≤ 64
+    → HoldsLetters (pad_letter s) s 0 word → letters_of width (word ∷ []) ≡ extension width s
+word_is_extension width s word fits narrow holds =
+    row_is_extension width 1 s (word ∷ []) fits (omega arith) (record {
+      each = λ i inside. one_word word i (omega arith) ∙ held (pad_letter s) s word holds i (omega arith);
     })

@@ -10,12 +10,13 @@ use Rattle.std.proofs.lemmas.List.Folds.{find-append}
 use Rattle.vcd_core.specs.declared.bit.Bit.{Bit}
 use Rattle.vcd_core.specs.declared.bit.Bit.TheVariants.{Zero, One, X, Z}
 use Rattle.vcd_core.specs.Value.{letter_at, same_letter, same_letters}
-use Rattle.vcd_core.specs.WordRows.{letters_of}
+use Rattle.vcd_core.specs.declared.letter_word.LetterWord.{LetterWord}
+use Rattle.vcd_core.specs.WordRows.{letters_of, HoldsLetters}
 use Rattle.vcd_core.specs.inside.ValueLaws.{same_letters-Decides}
 use Rattle.vcd_core.proofs.ValueLemmas.{length-letters_of}
 use Rattle.vcd_text.specs.Letters.{pad_letter, extension, suffixes, short_form}
 use Rattle.vcd_text.specs.inside.ValueFronts.{IsKept}
-use Rattle.vcd_text.proofs.LetterBits.{HoldsFrom, is_spare_in, lowest, lowest_given, spare_given, spare_held}
+use Rattle.vcd_text.proofs.LetterBits.{is_spare_in, lowest, lowest_given, spare_given, spare_held}
 
 -- the letters after those at the front are left out one by one
 unfoldable pub shortened : List Bit → List Bit
@@ -212,41 +213,43 @@ stays v kept least within needed = elim (cases_lt 1 kept) [
 ]
 
 -- the short form of a value of one word
-pub short_given : (width low high kept : ℕ) → width ≤ 64 → IsKept width low high kept
-    → letters_of kept (low ∷ []) (high ∷ []) ≡ short_form (letters_of width (low ∷ []) (high ∷ []))
-short_given width low high kept narrow is =
-    let v = letters_of width (low ∷ []) (high ∷ []) in
-    let long : length v ≡ width = length-letters_of width (low ∷ []) (high ∷ []) in
+pub short_given : (width : ℕ) (word : LetterWord) (kept : ℕ) → width ≤ 64 → IsKept width word kept
+    → letters_of kept (word ∷ []) ≡ short_form (letters_of width (word ∷ []))
+short_given width word kept narrow is =
+    let v = letters_of width (word ∷ []) in
+    let long : length v ≡ width = length-letters_of width (word ∷ []) in
     let all : length v - width ≡ 0 = omega (arith, long) in
-    sym (lowest_given width kept low high narrow is.most)
+    sym (lowest_given width kept word narrow is.most)
     ∙ sym (stays v kept is.least (omega (arith, is.most, long))
-    (λ more. sym (spare_given width low high (kept - 2) narrow (omega (arith, is.most))) ∙ is.needed more))
+    (λ more. sym (spare_given width word (kept - 2) narrow (omega (arith, is.most))) ∙ is.needed more))
     ∙ sym (left_out v width kept is.least is.most (omega (arith, long))
-    (λ i past below. sym (spare_given width low high i narrow below) ∙ is.spare i past below))
+    (λ i past below. sym (spare_given width word i narrow below) ∙ is.spare i past below))
     ∙ ap (λ n. shortened (drop n v)) all ∙ sym (short_is v)
 
 -- the letters of a word are left out, or stay
-pub word_left_out : (v : List Bit) (from low high left kept : ℕ) → HoldsFrom v from low high → from < left
+pub word_left_out : (v : List Bit) (from : ℕ) (word : LetterWord) (left kept : ℕ) → HoldsLetters Zero v from word
+    → from < left
     → left ≤ from + 64 → left ≤ length v
-    → IsKept (left - from) low high kept → shortened (lowest left v) ≡ shortened (lowest (from + kept) v)
-word_left_out v from low high left kept holds some fits within is =
+    → IsKept (left - from) word kept → shortened (lowest left v) ≡ shortened (lowest (from + kept) v)
+word_left_out v from word left kept holds some fits within is =
     left_out v left (from + kept) (omega (arith, is.least)) (omega (arith, is.most)) within (λ i past below.
     let j : ℕ = i - from in
     let place : from + j ≡ i = omega (arith, is.least) in
     ap (is_spare_in v) (sym place)
-    ∙ sym (spare_held v from low high j holds (omega (arith, is.least)) (omega (arith, is.least)))
+    ∙ sym (spare_held v from word j holds (omega (arith, is.least)) (omega (arith, is.least)))
     ∙ is.spare j (omega (arith, is.least)) (omega (arith, is.least)))
 
-pub word_stays : (v : List Bit) (from low high left kept : ℕ) → HoldsFrom v from low high → from < left
+pub word_stays : (v : List Bit) (from : ℕ) (word : LetterWord) (left kept : ℕ) → HoldsLetters Zero v from word
+    → from < left
     → left ≤ from + 64 → left ≤ length v
-    → IsKept (left - from) low high kept → (from ≡ 0) ⊎ (1 < kept)
+    → IsKept (left - from) word kept → (from ≡ 0) ⊎ (1 < kept)
     → shortened (lowest (from + kept) v) ≡ lowest (from + kept) v
-word_stays v from low high left kept holds some fits within is last =
+word_stays v from word left kept holds some fits within is last =
     stays v (from + kept) (omega (arith, is.least)) (omega (arith, is.most)) (λ more.
     let enough : 1 < kept = elim last [ inl first ↦ omega (arith, first, more) | inr enough ↦ enough ] in
     let place : from + (kept - 2) ≡ from + kept - 2 = omega (arith, enough) in
     ap (is_spare_in v) (sym place)
-    ∙ sym (spare_held v from low high (kept - 2) holds (omega (arith, is.most, enough))
+    ∙ sym (spare_held v from word (kept - 2) holds (omega (arith, is.most, enough))
     (omega (arith, is.most, enough)))
     ∙ is.needed enough)
 

@@ -1,6 +1,6 @@
 //! Every bit negated.
 
-ghost use Rattle.std.specs.Prelude.{◌≡◌, ◌-◌, ℕ, pos, None, IfOk, length, map};
+ghost use Rattle.std.specs.Prelude.{◌≡◌, ◌<◌, ◌-◌, ℕ, pos, None, IfOk, length, map};
 ghost use Rattle.vcd_core.specs.Contents.{contents, signal_contents};
 ghost use Rattle.vcd_core.specs.Sound.{IsSound, IsSoundSignal};
 ghost use Rattle.vcd_core.specs.Value.{all_x};
@@ -9,7 +9,8 @@ ghost use Rattle.vcd_edit.specs.Operators.{not_bit};
 ghost use Rattle.vcd_edit.specs.Effect.{inverse_value};
 ghost use Rattle.vcd_edit.specs.Allowed.{edit_fault};
 ghost use Rattle.vcd_edit.specs.inside.Thinned.{thinned_list, with_value};
-ghost use Rattle.vcd_core.specs.WordRows.{low_of, high_of};
+ghost use Rattle.std.specs.Int.{bit_at};
+ghost use Rattle.vcd_core.specs.WordRows.{letter_in};
 ghost use Rattle.vcd_edit.specs.inside.Inverse.{ShowsInverse};
 ghost use Rattle.vcd_edit.specs.inside.Plans.{IsPlan, GivesValues};
 ghost use Rattle.vcd_edit.specs.declared.edit.Edit.TheVariants as edits;
@@ -17,7 +18,7 @@ ghost use Rattle.vcd_edit.specs.declared.edit.Edit.TheVariants as edits;
 use crate::effects::piece_builders::{one_piece, put_change, signal_there, whole_piece, x_value};
 use crate::record::Record;
 use std::alloc::Global;
-use vcd_core::{Capture, Change, NoMemory, Value, WORDS, words_in};
+use vcd_core::{Bit, Capture, Change, LetterWord, NoMemory, Value, WORDS, words_in};
 
 /// The record of the whole list of changes.
 pub(crate) fn plan(alloc: Global, capture: &Capture, signal: usize) -> Result<Record, NoMemory>
@@ -55,24 +56,35 @@ fn inverse_changes(
 fn inverse_of(value: &Value) -> Value
     ensures { result ≡ map not_bit value.now }
 {
-    let mut low = [0; WORDS];
-    let mut high = [0; WORDS];
-    write_inverse(value, &mut low, &mut high);
-    Value::from_words(value.width(), &low, &high)
+    let mut words = [LetterWord::filled(Bit::Zero); WORDS];
+    write_inverse(value, &mut words);
+    Value::from_words(value.width(), &words)
 }
 
-/// Writes the low and the high bits of the inverse into two slices of words.
-fn write_inverse(value: &Value, low: &mut [u64], high: &mut [u64])
-    requires low { length low.old ≡ WORDS }
-    requires high { length high.old ≡ WORDS }
-    ensures low { ShowsInverse value.now low_of low.new }
-    ensures high { ShowsInverse value.now high_of high.new }
-    ensures low_sized { length low.new ≡ WORDS }
-    ensures high_sized { length high.new ≡ WORDS }
+/// Writes the words of the inverse.
+fn write_inverse(value: &Value, words: &mut [LetterWord])
+    requires { length words.old ≡ WORDS }
+    ensures shows { ShowsInverse (length value.now) value.now words.new }
+    ensures sized { length words.new ≡ WORDS }
 {
     for j in 0..words_in(value.width()) {
-        let high_bits = value.word_high(j);
-        low[j] = high_bits | !value.word_low(j);
-        high[j] = high_bits;
+        words[j] = inverse_word(value.word(j));
     }
+}
+
+/// The word with each letter negated.
+fn inverse_word(word: LetterWord) -> LetterWord
+    ensures { (i : ℕ) → i < 64 → letter_in result i ≡ not_bit (letter_in word i) }
+{
+    LetterWord {
+        low: word.high | inverted(word.low),
+        high: word.high,
+    }
+}
+
+/// The word with each bit inverted.
+fn inverted(bits: u64) -> u64
+    ensures { (i : ℕ) → i < 64 → bit_at result i ≡ 1 - bit_at bits i }
+{
+    !bits
 }

@@ -17,7 +17,7 @@ use Rattle.vcd_text.specs.declared.reading.variables.Variable.{Variable}
 
 -- the letters that a change of the log gives a variable of this width
 abbrev pub logged_letters : ℕ → LoggedChange → List Bit
-logged_letters width e = letters_of width (e.low ∷ []) (e.high ∷ [])
+logged_letters width e = letters_of width (e.word ∷ [])
 
 -- the value at a tick, where these changes come after a value
 abbrev pub value_after_changes : ℕ → ℕ → List Bit → List LoggedChange → List Bit
@@ -91,12 +91,11 @@ pub record AppliesLogged (e : LoggedChange) (old new : List Variable) : Type 0 w
 
 -- ---- the room that waves get for the log
 
--- a hint with one more change, which counts if its words differ from the last
+-- a hint with one more change, which counts if its word is not the last
 abbrev pub hint_with : ReserveHint → LoggedChange → ReserveHint
 hint_with h e = record {
-  count = if h.low == e.low && h.high == e.high then h.count else min (h.count + 1) (2 ^ 64 - 1);
-  low = e.low;
-  high = e.high;
+  count = if h.last.low == e.word.low && h.last.high == e.word.high then h.count else min (h.count + 1) (2 ^ 64 - 1);
+  last = e.word;
 }
 
 -- the hints with one more change, at its place
@@ -106,7 +105,7 @@ hints_with hs e = option_map_or (λ (h : ReserveHint). set hs (e.position / GROU
 
 -- a hint after its count was taken
 abbrev pub taken_hint : ReserveHint → ReserveHint
-taken_hint h = record { count = 0; low = h.low; high = h.high }
+taken_hint h = record { count = 0; last = h.last }
 
 -- a wave's own list gets just the room for so many more changes, or keeps what it has
 pub record HasExactRoom (more : ℕ) (old new : Variable) : Type 0 where

@@ -1,15 +1,14 @@
 //! The values that a file writes in binary digits (IEEE 1364-2005, 18.2).
 
-ghost use Rattle.std.specs.Prelude.{◌≡◌, ◌<◌, ◌≤◌, ◌+◌, ℕ, true, false, if◌then◌else◌, [], ◌∷◌, length, unwrap_or, MatchOption, MatchResult};
+ghost use Rattle.std.specs.Prelude.{◌≡◌, ◌<◌, ◌≤◌, true, false, [], ◌∷◌, length, unwrap_or, Some, MatchOption, MatchResult};
 ghost use Rattle.std.specs.List.{list_all};
-ghost use Rattle.std.specs.Int.{bit_at};
 ghost use Rattle.vcd_core.specs.declared.bit.Bit.TheVariants.{X};
-ghost use Rattle.vcd_core.specs.WordRows.{letters_of};
+ghost use Rattle.vcd_core.specs.WordRows.{letters_of, HoldsLetters};
 ghost use Rattle.vcd_text.specs.Letters.{letter_of_digit, is_binary_digit as digit_test, letters_of_digits, value_of_digits as digits_value, pad_letter, extension};
 ghost use Rattle.vcd_text.specs.inside.ValueDigits.{WritesValue, WritesNoValue};
-ghost use Rattle.vcd_text.specs.inside.LetterWords.{digits_of, HoldsLetters, AddsLetters, is_two_state};
+ghost use Rattle.vcd_text.specs.inside.LetterWords.{digits_of, AddsLetters, is_two_state};
 
-use vcd_core::{Bit, Value, WIDTH_LIMIT, WORDS, repeated, words_in};
+use vcd_core::{Bit, LetterWord, Value, WIDTH_LIMIT, WORDS, words_in};
 
 /// The reason why digits write no value of a width.
 #[derive(Clone, Copy, Debug, PartialEq, Eq)]
@@ -50,7 +49,7 @@ pub fn read_value(width: u64, digits: &[u8]) -> Result<Value, BinaryNumberError>
 pub fn read_word(width: u64, digits: &[u8]) -> Result<LetterWord, BinaryNumberError>
     requires { width ≤ 64 }
     ensures { MatchResult result
-        (λ word. WritesValue width digits.now (letters_of width (word.low ∷ []) (word.high ∷ [])))
+        (λ word. WritesValue width digits.now (letters_of width (word ∷ [])))
         (λ error. WritesNoValue width digits.now error) }
 {
     refuse_count(width, digits)?;
@@ -63,7 +62,7 @@ fn extended_word(width: u64, digits: &[u8]) -> Option<LetterWord>
     requires fits { length digits.now ≤ width }
     ensures { MatchOption result (list_all digit_test digits.now ≡ false) (λ word.
         (list_all digit_test digits.now ≡ true) ×
-        (letters_of width (word.low ∷ []) (word.high ∷ [])
+        (letters_of width (word ∷ [])
         ≡ extension width (letters_of_digits digits.now))) }
 {
     word_read(pad_of(digits), digits)
@@ -128,14 +127,12 @@ fn extended_value(width: u64, digits: &[u8]) -> Option<Value>
         (value ≡ extension width (letters_of_digits digits.now))) }
 {
     let pad = pad_of(digits);
-    let mut low = [0; WORDS];
-    let mut high = [0; WORDS];
+    let mut words = [LetterWord::filled(Bit::Zero); WORDS];
     for k in 0..words_in(width) {
         let word = word_read(pad, digits_of_word(digits, k))?;
-        low[k] = word.low;
-        high[k] = word.high;
+        words[k] = word;
     }
-    Some(Value::from_words(width, &low, &high))
+    Some(Value::from_words(width, &words))
 }
 
 /// The digits of the 64 letters from bit `64 * k` on. There can be fewer.
@@ -147,25 +144,15 @@ fn digits_of_word(digits: &[u8], k: usize) -> &[u8]
     &digits[end.saturating_sub(64)..end]
 }
 
-/// The low and the high bits of 64 letters, the last letter lowest.
-#[derive(Clone, Copy)]
-pub struct LetterWord {
-    pub low: u64,
-    pub high: u64,
-}
-
 /// The letters of at most 64 digits, after as many `pad` as are missing; none where one is no
 /// binary digit.
 fn word_read(pad: Bit, digits: &[u8]) -> Option<LetterWord>
     requires { length digits.now ≤ 64 }
     ensures { MatchOption result (list_all digit_test digits.now ≡ false) (λ word.
         (list_all digit_test digits.now ≡ true) ×
-        HoldsLetters pad (letters_of_digits digits.now) word.low word.high) }
+        HoldsLetters pad (letters_of_digits digits.now) 0 word) }
 {
-    let mut word = LetterWord {
-        low: repeated(pad.is_low()),
-        high: repeated(pad.is_high()),
-    };
+    let mut word = LetterWord::filled(pad);
     let (eights, rest) = digits.as_chunks::<8>();
     for eight in eights {
         word = with_eight_digits(word, eight)?;
@@ -178,7 +165,7 @@ fn word_read(pad: Bit, digits: &[u8]) -> Option<LetterWord>
 fn with_eight_digits(word: LetterWord, digits: &[u8; 8]) -> Option<LetterWord>
     ensures { MatchOption result (list_all digit_test digits.now ≡ false) (λ more.
         (list_all digit_test digits.now ≡ true) ×
-        AddsLetters (letters_of_digits digits.now) word.low word.high more.low more.high) }
+        AddsLetters (letters_of_digits digits.now) word more) }
 {
     // nearly all digits of captures are 0 or 1: eight of these take one test and no branch
     if are_two_state(digits) {
@@ -209,7 +196,7 @@ fn is_two_state(digit: u8) -> bool
 /// The word with the letters of eight digits, each 0 or 1, added at its low end.
 fn with_two_state_digits(word: LetterWord, digits: &[u8; 8]) -> LetterWord
     requires { list_all is_two_state digits.now ≡ true }
-    ensures { AddsLetters (letters_of_digits digits.now) word.low word.high result.low result.high }
+    ensures { AddsLetters (letters_of_digits digits.now) word result }
 {
     let mut word = word;
     for digit in digits {
@@ -222,7 +209,7 @@ fn with_two_state_digits(word: LetterWord, digits: &[u8; 8]) -> LetterWord
 fn with_digits(word: LetterWord, digits: &[u8]) -> Option<LetterWord>
     ensures { MatchOption result (list_all digit_test digits.now ≡ false) (λ more.
         (list_all digit_test digits.now ≡ true) ×
-        AddsLetters (letters_of_digits digits.now) word.low word.high more.low more.high) }
+        AddsLetters (letters_of_digits digits.now) word more) }
 {
     let mut word = word;
     for digit in digits {
@@ -235,35 +222,28 @@ fn with_digits(word: LetterWord, digits: &[u8]) -> Option<LetterWord>
 fn with_digit(word: LetterWord, digit: u8) -> Option<LetterWord>
     ensures { MatchOption result (digit_test digit ≡ false) (λ more.
         (digit_test digit ≡ true) ×
-        AddsLetters (letters_of_digits (digit ∷ [])) word.low word.high more.low more.high) }
+        AddsLetters (letters_of_digits (digit ∷ [])) word more) }
 {
     if is_two_state(digit) {
         return Some(with_two_state_digit(word, digit));
     }
-    let letter = letter_of_digit(digit)?;
-    Some(LetterWord {
-        low: with_lowest(word.low, letter.is_low()),
-        high: with_lowest(word.high, letter.is_high()),
-    })
+    Some(word.with_letter(letter_of_digit(digit)?))
 }
 
 /// The word with the letter of a digit, 0 or 1, added at its low end.
 fn with_two_state_digit(word: LetterWord, digit: u8) -> LetterWord
     requires { is_two_state digit ≡ true }
-    ensures { AddsLetters (letters_of_digits (digit ∷ [])) word.low word.high result.low result.high }
+    ensures { AddsLetters (letters_of_digits (digit ∷ [])) word result }
 {
-    LetterWord {
-        low: with_lowest(word.low, digit == b'1'),
-        high: with_lowest(word.high, false),
-    }
+    word.with_letter(two_state_letter(digit))
 }
 
-/// The word shifted left by one bit, with a new lowest bit. The highest bit is lost.
-fn with_lowest(word: u64, set: bool) -> u64
-    ensures first { bit_at result 0 ≡ (if set then 1 else 0) }
-    ensures rest { (i : ℕ) → i + 1 < 64 → bit_at result (i + 1) ≡ bit_at word i }
+/// The letter of a digit, 0 or 1.
+fn two_state_letter(digit: u8) -> Bit
+    requires { is_two_state digit ≡ true }
+    ensures { letter_of_digit digit ≡ Some result }
 {
-    (word << 1) | u64::from(set)
+    if digit == b'1' { Bit::One } else { Bit::Zero }
 }
 
 /// The letter that extends these digits on the left.

@@ -13,21 +13,20 @@ ghost use Rattle.vcd_text.specs.inside.ChangeLog.{logged, changes_of_position, h
 use crate::reading::variables::Variable;
 use std::alloc::Global;
 use std::mem::replace;
-use vcd_core::NoMemory;
+use vcd_core::{LetterWord, NoMemory};
 
 /// The number of groups of a log. Each group has the positions with one remainder. The waves of one
 /// group are made together, so they should fit a processor's cache. Each group has a place that is
 /// written, and these places should fit too.
 pub const GROUPS: usize = 128;
 
-/// A change of the variable at `position`, of at most 64 bits: from `tick` on it has the value with
-/// these words of low and high bits.
+/// A change of the variable at `position`, of at most 64 bits: from `tick` on it has the letters of
+/// the word. It has 32 bytes.
 #[derive(Clone, Copy)]
 pub struct LoggedChange {
     pub tick: u64,
     pub position: usize,
-    pub low: u64,
-    pub high: u64,
+    pub word: LetterWord,
 }
 
 /// The changes that waves do not have yet, in groups. Each group has the order of the file.
@@ -94,20 +93,21 @@ fn add_groups(
     Ok(())
 }
 
-/// The greatest number of changes that a wave will have, as far as a group has been counted, and the words of the last
-/// one. It concerns room alone.
+/// The greatest number of changes that a wave will have, as far as a group has been counted, and the
+/// word of the last one. It concerns room alone.
 #[derive(Clone, Copy)]
 struct ReserveHint {
     count: usize,
-    low: u64,
-    high: u64,
+    last: LetterWord,
 }
 
 /// No change: all x.
 const NO_CHANGE: ReserveHint = ReserveHint {
     count: 0,
-    low: u64::MAX,
-    high: u64::MAX,
+    last: LetterWord {
+        low: u64::MAX,
+        high: u64::MAX,
+    },
 };
 
 /// Gives each variable the changes of the log, in their order. Each group is freed before the next.
@@ -152,15 +152,14 @@ fn count_change(reserve_hints: &mut [ReserveHint], change: LoggedChange)
     }
 }
 
-/// The hint with one more change, which counts where its words differ from the last.
+/// The hint with one more change, which counts where its word is not the last one.
 fn with_change(reserve_hint: ReserveHint, change: LoggedChange) -> ReserveHint
     ensures { result ≡ hint_with reserve_hint change }
 {
-    let same = reserve_hint.low == change.low && reserve_hint.high == change.high;
+    let same = reserve_hint.last == change.word;
     ReserveHint {
         count: reserve_hint.count.saturating_add(usize::from(!same)),
-        low: change.low,
-        high: change.high,
+        last: change.word,
     }
 }
 

@@ -16,7 +16,7 @@ ghost use Rattle.vcd_text.specs.declared.fault.Fault.TheVariants.{NoMemory as No
 ghost use Rattle.vcd_text.specs.declared.reading.variables.CodeTarget.TheVariants.{Kept as KeptAt};
 
 use crate::fault::Fault;
-use crate::reading::binary_number::{BinaryNumberError, LetterWord, read_value, read_word};
+use crate::reading::binary_number::{BinaryNumberError, read_value, read_word};
 use crate::reading::change_log::{ChangeLog, LoggedChange, flush_log};
 use crate::reading::code_targets::CodeTargets;
 use crate::reading::finished_signals::push_signal;
@@ -24,8 +24,8 @@ use crate::reading::ticks_and_sizes::size_of;
 use std::alloc::Global;
 use std::mem::replace;
 use vcd_core::{
-    NoMemory, SIGNAL_LIMIT, ScopePath, Signal, WIDTH_LIMIT, Wave, Word, copy_word, copy_words,
-    is_skipped_kind,
+    LetterWord, NoMemory, SIGNAL_LIMIT, ScopePath, Signal, WIDTH_LIMIT, Wave, Word, copy_word,
+    copy_words, is_skipped_kind,
 };
 
 /// A kept variable: its code, and its signal.
@@ -68,9 +68,7 @@ impl Variable {
         ensures exact { OnOk result (HasExactRoom more self.old self.new) }
     {
         self.signal.wave.reserve_exact(more)?;
-        self.signal
-            .wave
-            .push_word(change.tick, change.low, change.high)
+        self.signal.wave.push_word(change.tick, change.word)
     }
 }
 
@@ -78,7 +76,7 @@ impl Variable {
 fn word_of_digits(width: u64, digits: &[u8]) -> Result<LetterWord, Fault>
     requires { width ≤ 64 }
     ensures { MatchResult result
-        (λ word. WritesValue width digits.now (letters_of width (word.low ∷ []) (word.high ∷ [])))
+        (λ word. WritesValue width digits.now (letters_of width (word ∷ [])))
         (λ fault. RefusesBinaryNumber width digits.now fault) }
 {
     match read_word(width, digits) {
@@ -320,8 +318,7 @@ impl Variables {
             LoggedChange {
                 tick,
                 position: first,
-                low: word.low,
-                high: word.high,
+                word,
             },
         )?;
         Ok(())

@@ -4,16 +4,16 @@ ghost use Rattle.std.specs.Prelude.{◌≡◌, ◌<◌, ◌≤◌, ◌+◌, ◌-
 ghost use Rattle.std.specs.Int.{bit_at};
 ghost use Rattle.vcd_core.specs.Value.{printed_letter, same_letter};
 ghost use Rattle.vcd_core.specs.Wave.{value_at};
-ghost use Rattle.vcd_core.specs.WordRows.{letters_of};
+ghost use Rattle.vcd_core.specs.WordRows.{letter_in, letters_of};
 ghost use Rattle.vcd_core.specs.declared.capture.TheConstants.{SIGNAL_LIMIT};
 ghost use Rattle.vcd_text.specs.Letters.{pad_letter, printed_letters, short_form};
 ghost use Rattle.vcd_text.specs.Text.{code_of, item_line, value_item};
-ghost use Rattle.vcd_text.specs.inside.ValueFronts.{IsKept, is_spare_above, value_front, word_letter};
+ghost use Rattle.vcd_text.specs.inside.ValueFronts.{IsKept, is_spare_above, value_front};
 ghost use Rattle.vcd_text.specs.inside.Written.{Emits};
 
 use super::buffer::{WriteBuffer, write_byte, write_piece};
 use super::codes::write_code;
-use vcd_core::{Bit, Sink, Value, Wave};
+use vcd_core::{Bit, LetterWord, Sink, Value, Wave};
 
 /// Writes the value at `tick`. Where the change at `place` has that tick, it writes its value,
 /// without a search.
@@ -48,8 +48,7 @@ fn write_value<W: Sink>(buffer: &mut WriteBuffer, writer: &mut W, position: usiz
 {
     let width = value.width();
     if width <= 64 {
-        let (low, high) = (value.word_low(0), value.word_high(0));
-        write_word_value(buffer, writer, position, width, low, high);
+        write_word_value(buffer, writer, position, width, value.word(0));
         return;
     }
     write_byte(buffer, writer, b'b');
@@ -59,47 +58,40 @@ fn write_value<W: Sink>(buffer: &mut WriteBuffer, writer: &mut W, position: usiz
     write_byte(buffer, writer, b'\n');
 }
 
-/// Writes the line that gives the value of at most 64 bits, with these words of low and high bits,
-/// to the signal at `position`. Bits of the words from `width` on are ignored. It takes a step for
-/// each two written letters.
+/// Writes the line that gives the value of at most 64 bits, with the letters of this word, to the
+/// signal at `position`. Letters from bit `width` on are ignored. It takes a step for each two
+/// written letters.
 fn write_word_value<W: Sink>(
     buffer: &mut WriteBuffer,
     writer: &mut W,
     position: usize,
     width: u64,
-    low: u64,
-    high: u64,
+    word: LetterWord,
 )
     requires position { position < SIGNAL_LIMIT }
     requires least { 1 ≤ width }
     requires most { width ≤ 64 }
     ensures { Emits W.taken W.has_failed (buffer.old, writer.old) (buffer.new, writer.new)
-        (item_line (value_item (code_of position) (letters_of width (low ∷ []) (high ∷ [])))) }
+        (item_line (value_item (code_of position) (letters_of width (word ∷ [])))) }
 {
-    write_word_front(buffer, writer, width, low, high);
+    write_word_front(buffer, writer, width, word);
     write_code(buffer, writer, position);
     write_byte(buffer, writer, b'\n');
 }
 
 /// Writes the part before the code: one letter, or `b`, the short form and a space.
-fn write_word_front<W: Sink>(
-    buffer: &mut WriteBuffer,
-    writer: &mut W,
-    width: u64,
-    low: u64,
-    high: u64,
-)
+fn write_word_front<W: Sink>(buffer: &mut WriteBuffer, writer: &mut W, width: u64, word: LetterWord)
     requires least { 1 ≤ width }
     requires most { width ≤ 64 }
     ensures { Emits W.taken W.has_failed (buffer.old, writer.old) (buffer.new, writer.new)
-        (value_front (letters_of width (low ∷ []) (high ∷ []))) }
+        (value_front (letters_of width (word ∷ []))) }
 {
     if width == 1 {
-        write_byte(buffer, writer, letter_pair(low, high)[1]);
+        write_byte(buffer, writer, letter_pair(word)[1]);
         return;
     }
     write_byte(buffer, writer, b'b');
-    write_letters(buffer, writer, kept_in_word(width, low, high), low, high);
+    write_letters(buffer, writer, kept_in_word(width, word), word);
     write_byte(buffer, writer, b' ');
 }
 
@@ -112,41 +104,37 @@ fn write_lowest<W: Sink>(buffer: &mut WriteBuffer, writer: &mut W, value: &Value
     let mut left = count;
     while left > 0 {
         let word = (left - 1) / 64;
-        let low = value.word_low(word as usize);
-        let high = value.word_high(word as usize);
-        write_letters(buffer, writer, left - 64 * word, low, high);
+        write_letters(buffer, writer, left - 64 * word, value.word(word as usize));
         left = 64 * word;
     }
 }
 
-/// Writes the `count` lowest letters of two words.
-fn write_letters<W: Sink>(buffer: &mut WriteBuffer, writer: &mut W, count: u64, low: u64, high: u64)
+/// Writes the `count` lowest letters of a word.
+fn write_letters<W: Sink>(buffer: &mut WriteBuffer, writer: &mut W, count: u64, word: LetterWord)
     requires { count ≤ 64 }
     ensures { Emits W.taken W.has_failed (buffer.old, writer.old) (buffer.new, writer.new)
-        (printed_letters (letters_of count (low ∷ []) (high ∷ []))) }
+        (printed_letters (letters_of count (word ∷ []))) }
 {
     let mut letters = [0; 64];
-    fill_letters(&mut letters, count as usize, low, high);
+    fill_letters(&mut letters, count as usize, word);
     write_piece(buffer, writer, &letters[64 - count as usize..]);
 }
 
-/// Fills the end of a row with the `count` lowest letters of two words, the lowest last. They are
+/// Fills the end of a row with the `count` lowest letters of a word, the lowest last. They are
 /// written in pairs, so the letter before them can be overwritten too.
-fn fill_letters(letters: &mut [u8], count: usize, low: u64, high: u64)
+fn fill_letters(letters: &mut [u8], count: usize, word: LetterWord)
     requires sized { length letters.old ≡ 64 }
     requires count { count ≤ 64 }
     ensures sized { length letters.new ≡ 64 }
     ensures letters { (i : ℕ) → i < count →
-        slice_index letters.new (63 - i) ≡ printed_letter (word_letter low high i) }
+        slice_index letters.new (63 - i) ≡ printed_letter (letter_in word i) }
 {
-    let mut low = low;
-    let mut high = high;
+    let mut left = word;
     for k in 0..(count + 1) / 2 {
-        let pair = letter_pair(low, high);
+        let pair = letter_pair(left);
         letters[62 - 2 * k] = pair[0];
         letters[63 - 2 * k] = pair[1];
-        low >>= 2;
-        high >>= 2;
+        left = without_pair(left);
     }
 }
 
@@ -157,12 +145,22 @@ const LETTER_PAIRS: [[u8; 2]; 16] = [
     *b"z0", *b"z1", *b"x0", *b"x1", *b"zz", *b"zx", *b"xz", *b"xx",
 ];
 
-/// The letters of bits 1 and 0 of two words.
-fn letter_pair(low: u64, high: u64) -> [u8; 2]
-    ensures first { slice_index result 0 ≡ printed_letter (word_letter low high 1) }
-    ensures second { slice_index result 1 ≡ printed_letter (word_letter low high 0) }
+/// The letters of bits 1 and 0 of a word.
+fn letter_pair(word: LetterWord) -> [u8; 2]
+    ensures first { slice_index result 0 ≡ printed_letter (letter_in word 1) }
+    ensures second { slice_index result 1 ≡ printed_letter (letter_in word 0) }
 {
-    LETTER_PAIRS[(low % 4 + 4 * (high % 4)) as usize]
+    LETTER_PAIRS[(word.low % 4 + 4 * (word.high % 4)) as usize]
+}
+
+/// The word without its two lowest letters.
+fn without_pair(word: LetterWord) -> LetterWord
+    ensures { (i : ℕ) → letter_in result i ≡ letter_in word (i + 2) }
+{
+    LetterWord {
+        low: word.low >> 2,
+        high: word.high >> 2,
+    }
 }
 
 /// The number of lowest letters that the short form keeps (IEEE 1364-2005, 18.2). It takes a step
@@ -175,9 +173,7 @@ fn kept_letters(value: &Value) -> u64
     while left > 64 {
         let word = (left - 1) / 64;
         let below = 64 * word;
-        let low = value.word_low(word as usize);
-        let high = value.word_high(word as usize);
-        let kept = kept_in_word(left - below, low, high);
+        let kept = kept_in_word(left - below, value.word(word as usize));
         if kept > 1 {
             return below + kept;
         }
@@ -186,17 +182,17 @@ fn kept_letters(value: &Value) -> u64
         }
         left = below;
     }
-    kept_in_word(left, value.word_low(0), value.word_high(0))
+    kept_in_word(left, value.word(0))
 }
 
-/// The number of the `count` lowest letters of two words that remain after the letters at the front
+/// The number of the `count` lowest letters of a word that remain after the letters at the front
 /// that the extension restores are dropped. The last letter stays.
-fn kept_in_word(count: u64, low: u64, high: u64) -> u64
+fn kept_in_word(count: u64, word: LetterWord) -> u64
     requires least { 1 ≤ count }
     requires most { count ≤ 64 }
-    ensures { IsKept count low high result }
+    ensures { IsKept count word result }
 {
-    let needed = needed_above(low, high) & ones(count - 1);
+    let needed = needed_above(word.low, word.high) & ones(count - 1);
     65 - needed.leading_zeros() as u64
 }
 
@@ -205,7 +201,7 @@ fn kept_in_word(count: u64, low: u64, high: u64) -> u64
 /// higher letter, and those of x and z.
 fn needed_above(low: u64, high: u64) -> u64
     ensures { (i : ℕ) → i < 64 →
-        bit_at result i ≡ (if is_spare_above low high i then 0 else 1) }
+        bit_at result i ≡ (if is_spare_above (record { low = low; high = high }) i then 0 else 1) }
 {
     let next_low = low >> 1;
     let next_high = high >> 1;

@@ -17,10 +17,10 @@ returns-in-Some c =
     let last = last_value-split (all_x c.args.width) _ _ _ (c.in-Some.ensures.cases.0) in
     let long : length c.in-Some.last.now.value ≡ c.args.width = ap length last
     ∙ last_value-long 0 _ _ c.requires.form.rise ∙ length-replicate c.args.width _ in
-    c.has_word.ensures ∙ (λ i. same_letters (letters_of (long i) (c.args.low ∷ []) (c.args.high ∷ [])) (last i))
+    c.has_word.ensures ∙ (λ i. same_letters (letters_of (long i) (c.args.word ∷ [])) (last i))
 
 pub returns-in-None : goal.returns-in-None
 returns-in-None c =
     let long : length c.filled.result ≡ c.args.width = ap length c.filled.ensures ∙ length-replicate c.args.width _ in
     let last = c.filled.ensures ∙ last_value-none (all_x c.args.width) _ c.in-None.ensures.cases in
-    c.has_word-in-None.ensures ∙ (λ i. same_letters (letters_of (long i) (c.args.low ∷ []) (c.args.high ∷ [])) (last i))
+    c.has_word-in-None.ensures ∙ (λ i. same_letters (letters_of (long i) (c.args.word ∷ [])) (last i))

@@ -21,7 +21,7 @@ has_last_word-requires-clause-form c =
 
 pub returns-in_err-make_room-clause-adds_none : goal.returns-in_err-make_room-clause-adds_none
 returns-in_err-make_room-clause-adds_none c same =
-    let value : List Bit = letters_of c.args.width (c.args.low ∷ []) (c.args.high ∷ []) in
+    let value : List Bit = letters_of c.args.width (c.args.word ∷ []) in
     let differs : same_letters value (last_value (all_x c.args.width) c.pop_at.new.changes.items) ≡ false =
     told _ _ _ _ _ false c.as_slice.ensures.value c.has_last_word.ensures c.if-not-has_last_word.true in
     let equal : same_letters value (last_value (all_x c.args.width) c.pop_at.new.changes.items) ≡ true =
@@ -33,7 +33,7 @@ pub returns-in_ok-make_room-clause-pushed : goal.returns-in_ok-make_room-clause-
 returns-in_ok-make_room-clause-pushed c =
     c.push_in_room.ensures.changes
     ∙ ap (λ v. c.make_room.new.changes.items ++ change c.args.tick v ∷ []) c.from_word-value.ensures
-    ∙ ap (λ l. l ++ change c.args.tick (letters_of c.args.width (c.args.low ∷ []) (c.args.high ∷ [])) ∷ [])
+    ∙ ap (λ l. l ++ change c.args.tick (letters_of c.args.width (c.args.word ∷ [])) ∷ [])
     c.make_room.ensures.changes
     ∙ pushed_other _ _ _ _ _ c.pop_at.ensures.kept
     (told _ _ _ _ _ false c.as_slice.ensures.value c.has_last_word.ensures c.if-not-has_last_word.true)

@@ -5,7 +5,7 @@ use Rattle.vcd_core.proofs.value.Value.has_word.Goals as goal
 
 pub returns : goal.returns
 returns c =
-    let words = first_words-Decides _ _ c.self.invariant c.self.view_is c.args.low c.args.high _ c.requires
+    let words = first_words-Decides _ _ c.self.invariant c.self.view_is c.args.word _ c.requires
     c.ones-mask.ensures in
     same_from_decides _ _ (Decides-like _ words.0 words.1 (Decides-and _ _ (Decides-eqb _ _) (Decides-eqb _ _)))
     (same_letters-Decides _ _)

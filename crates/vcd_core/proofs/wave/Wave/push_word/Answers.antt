@@ -15,14 +15,14 @@ pub invariant_of-self-2 : goal.invariant_of-self-2
 invariant_of-self-2 c =
     let here : c.in-Own.list.items ≡ changes_of_list c.self.inside.list = ap changes_of_list (sym c.in-Own.is)
     ∙ c.part.ensures.changes in
-    let wide = length-letters_of c.self.inside.width (c.args.low ∷ []) (c.args.high ∷ [])
+    let wide = length-letters_of c.self.inside.width (c.args.word ∷ [])
     ∙ sym (length-replicate c.self.inside.width _) in (
       c.self.invariant.0,
       c.self.invariant.1,
       subst (IsWave c.self.inside.width)
           (sym (c.in_ok-push_word_change-in-Own.ensures.pushed
           ∙ ap (λ l. changes_after_push c.self.inside.width l c.args.tick
-          (letters_of c.self.inside.width (c.args.low ∷ []) (c.args.high ∷ []))) here))
+          (letters_of c.self.inside.width (c.args.word ∷ []))) here))
           (pushed_wave c.self.inside.width _ c.args.tick _ c.self.invariant.2 wide),
     )
 
@@ -33,9 +33,9 @@ returns-clause-values c t =
     ap (λ l. value_at c.self.inside.width l t) c.in_ok-push_word_change-in-Own.ensures.pushed
     ∙ ap (λ l. value_at c.self.inside.width
     (changes_after_push c.self.inside.width l c.args.tick
-    (letters_of c.self.inside.width (c.args.low ∷ []) (c.args.high ∷ []))) t) here
+    (letters_of c.self.inside.width (c.args.word ∷ []))) t) here
     ∙ value_at-pushed c.self.inside.width _ c.args.tick _ t c.self.invariant.2
-    ∙ ap (λ (w : WaveView). if nat_le c.args.tick t then letters_of w.width (c.args.low ∷ []) (c.args.high ∷ []) else
+    ∙ ap (λ (w : WaveView). if nat_le c.args.tick t then letters_of w.width (c.args.word ∷ []) else
     value_at w.width w.changes t) c.self.view_is
 
 pub returns-clause-last : goal.returns-clause-last
@@ -68,7 +68,7 @@ returns-in_err-push_word_change-in-Own-clause-adds_none c own same =
           let e = c.in_err-push_word_change-in-Own.ensures.adds_none
           (ap (λ l. last_value (all_x c.self.inside.width) (changes_before c.args.tick l)) here ∙ sym last
           ∙ ap (λ (w : WaveView). value_at w.width w.changes c.args.tick) c.self.view_is ∙ same
-          ∙ ap (λ (w : WaveView). letters_of w.width (c.args.low ∷ []) (c.args.high ∷ [])) (sym c.self.view_is)) in
+          ∙ ap (λ (w : WaveView). letters_of w.width (c.args.word ∷ [])) (sym c.self.view_is)) in
           absurd (cc e)
       | inr stands ↦ let e =
           c.in_err-push_word_change-in-Own.ensures.replaces

@@ -4,8 +4,8 @@ use Rattle.std.specs.List.{list_all}
 use Rattle.std.proofs.lemmas.List.{length-set, length-map, drop_all}
 use Rattle.vcd_core.specs.declared.bit.Bit.TheVariants.{X}
 use Rattle.vcd_text.specs.Letters.{is_binary_digit, letter_of_digit, letters_of_digits}
-use Rattle.vcd_text.specs.inside.LetterWords.{HoldsLetters}
-use Rattle.vcd_text.proofs.LetterWords.{RowsHold, rows_more, letters_more, no_letter, rows_are_extension}
+use Rattle.vcd_core.specs.WordRows.{HoldsLetters}
+use Rattle.vcd_text.proofs.LetterWords.{RowHolds, row_more, letters_more, no_letter, row_is_extension}
 use Rattle.vcd_text.proofs.reading.binary_number.extended_value.Goals as goal
 
 -- after the last digit there is none
@@ -15,10 +15,9 @@ none_after digits = ap (list_all is_binary_digit) (drop_all (length digits - 0) 
 
 pub loop-k-init : goal.loop-k-init
 loop-k-init c = record {
-  rows = record { low = λ i below. absurd (omega arith); high = λ i below. absurd (omega arith) };
+  row = record { each = λ i below. absurd (omega arith) };
   letters = none_after c.args.digits.now;
   sized = refl;
-  sized_high = refl;
 }
 
 pub loop-k-preserved : goal.loop-k-preserved
@@ -27,14 +26,12 @@ loop-k-preserved c =
     let read = c.in_ok-word.ensures in
     let part = c.digits_of_word.ensures in
     record {
-      rows = rows_more c.pad_of-pad.result digits c.loop-k.low c.loop-k.high c.loop-k.k _ _ (omega arith) (omega arith)
-          c.loop-k.invariant.rows
-          (subst (λ l. HoldsLetters c.pad_of-pad.result (letters_of_digits l) c.in_ok-word.word.low
-          c.in_ok-word.word.high) part read.1);
+      row = row_more c.pad_of-pad.result digits c.loop-k.words c.loop-k.k c.in_ok-word.word (omega arith)
+          c.loop-k.invariant.row
+          (subst (λ l. HoldsLetters c.pad_of-pad.result (letters_of_digits l) 0 c.in_ok-word.word) part read.1);
       letters = letters_more digits c.loop-k.k c.loop-k.invariant.letters (sym (ap (list_all is_binary_digit) part)
           ∙ read.0);
-      sized = length-set c.loop-k.low _ _ ∙ c.loop-k.invariant.sized;
-      sized_high = length-set c.loop-k.high _ _ ∙ c.loop-k.invariant.sized_high;
+      sized = length-set c.loop-k.words _ _ ∙ c.loop-k.invariant.sized;
     }
 
 pub returns : goal.returns
@@ -46,10 +43,10 @@ returns c =
     omega (arith, c.requires.fits, length-map digits (λ b. unwrap_or (letter_of_digit b) X)) in (
       sym (ap (λ n. list_all is_binary_digit (drop n digits)) none) ∙ c.loop-k.invariant.letters,
       c.from_words.ensures
-          ∙ rows_are_extension c.args.width c.loop-k.k (letters_of_digits digits) c.loop-k.low c.loop-k.high long
+          ∙ row_is_extension c.args.width c.loop-k.k (letters_of_digits digits) c.loop-k.words long
           (omega (arith, c.words_in-k-end.ensures.fits, c.loop-k-test.false))
-          (subst (λ pad. RowsHold pad (letters_of_digits digits) c.loop-k.k c.loop-k.low c.loop-k.high)
-          c.pad_of-pad.ensures c.loop-k.invariant.rows),
+          (subst (λ pad. RowHolds pad (letters_of_digits digits) c.loop-k.k c.loop-k.words)
+          c.pad_of-pad.ensures c.loop-k.invariant.row),
     )
 
 pub returns-in_err-word : goal.returns-in_err-word

@@ -4,21 +4,20 @@ use Rattle.std.specs.List.{list_all}
 use Rattle.std.proofs.lemmas.List.{length-map}
 use Rattle.vcd_core.specs.declared.bit.Bit.{Bit}
 use Rattle.vcd_core.specs.declared.bit.Bit.TheVariants.{X}
-use Rattle.vcd_core.specs.WordRows.{letters_of}
-use Rattle.vcd_text.specs.declared.reading.binary_number.LetterWord.{LetterWord}
+use Rattle.vcd_core.specs.WordRows.{letters_of, HoldsLetters}
+use Rattle.vcd_core.specs.declared.letter_word.LetterWord.{LetterWord}
 use Rattle.vcd_text.specs.Letters.{is_binary_digit, letter_of_digit, letters_of_digits, pad_letter, extension}
-use Rattle.vcd_text.specs.inside.LetterWords.{HoldsLetters}
 use Rattle.vcd_text.proofs.LetterWords.{word_is_extension}
 use Rattle.vcd_text.proofs.reading.binary_number.extended_word.Goals as goal
 
 -- where the word that was read holds the letters, it is the extension
 of_the_word : (width : ℕ) (s : List Bit) (pad : Bit) (P A : Type 0) (o : Option LetterWord) → length s ≤ width
     → width ≤ 64 → pad ≡ pad_letter s
-    → MatchOption o P (λ w. A × HoldsLetters pad s w.low w.high)
-    → MatchOption o P (λ w. A × (letters_of width (w.low ∷ []) (w.high ∷ []) ≡ extension width s))
+    → MatchOption o P (λ w. A × HoldsLetters pad s 0 w)
+    → MatchOption o P (λ w. A × (letters_of width (w ∷ []) ≡ extension width s))
 of_the_word width s pad P A None fits narrow is p = p
 of_the_word width s pad P A (Some w) fits narrow is (a, holds) =
-    (a, word_is_extension width s w.low w.high fits narrow (subst (λ b. HoldsLetters b s w.low w.high) is holds))
+    (a, word_is_extension width s w fits narrow (subst (λ b. HoldsLetters b s 0 w) is holds))
 
 pub returns : goal.returns
 returns c =

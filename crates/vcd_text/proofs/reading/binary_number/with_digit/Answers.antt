@@ -8,12 +8,10 @@ use Rattle.vcd_text.proofs.reading.binary_number.with_digit.Goals as goal
 
 pub returns : goal.returns
 returns c =
-    let read : Some c.in_ok-letter.letter ≡ letter_of_digit c.args.digit = sym c.in_ok-letter.was
+    let read : Some _ ≡ letter_of_digit c.args.digit = sym c.in_ok-letter_of_digit.was
     ∙ c.letter_of_digit.ensures in (
       ap is_some (sym read),
-      subst (λ b. AddsLetters (b ∷ []) c.args.word.low c.args.word.high c.with_lowest.result c.with_lowest-2.result)
+      subst (λ b. AddsLetters (b ∷ []) c.args.word c.with_letter.result)
           (ap (λ o. unwrap_or o X) read)
-          (adds_one c.in_ok-letter.letter _ _ _ _ (c.with_lowest.ensures.first
-          ∙ sym c.is_low.ensures) c.with_lowest.ensures.rest
-          (c.with_lowest-2.ensures.first ∙ sym c.is_high.ensures) c.with_lowest-2.ensures.rest),
+          (adds_one _ _ _ c.with_letter.ensures.first c.with_letter.ensures.rest),
     )

@@ -7,7 +7,6 @@ use Rattle.vcd_text.proofs.reading.binary_number.with_digits.Given as goal
 
 abbrev pub invariant-loop-digit : goal.invariant-loop-digit
 invariant-loop-digit l = record {
-  adds : AddsLetters (letters_of_digits (take l.digit-index l.digits)) l.fn.word.low l.fn.word.high l.word.low
-      l.word.high;
+  adds : AddsLetters (letters_of_digits (take l.digit-index l.digits)) l.fn.word l.word;
   letters : list_all is_binary_digit (take l.digit-index l.digits) ≡ true;
 }

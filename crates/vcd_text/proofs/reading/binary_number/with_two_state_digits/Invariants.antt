@@ -6,6 +6,5 @@ use Rattle.vcd_text.proofs.reading.binary_number.with_two_state_digits.Given as 
 
 abbrev pub invariant-loop-digit : goal.invariant-loop-digit
 invariant-loop-digit l = record {
-  adds : AddsLetters (letters_of_digits (take l.digit-index l.digits)) l.fn.word.low l.fn.word.high l.word.low
-      l.word.high;
+  adds : AddsLetters (letters_of_digits (take l.digit-index l.digits)) l.fn.word l.word;
 }

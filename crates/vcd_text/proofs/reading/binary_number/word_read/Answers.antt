@@ -5,9 +5,10 @@ use Rattle.std.specs.List.{list_all}
 use Rattle.std.specs.Simd.{first_chunks}
 use Rattle.std.proofs.lemmas.List.{take-append-drop}
 use Rattle.vcd_core.specs.declared.bit.Bit.{Bit}
-use Rattle.vcd_text.specs.declared.reading.binary_number.LetterWord.{LetterWord}
+use Rattle.vcd_core.specs.declared.letter_word.LetterWord.{LetterWord}
+use Rattle.vcd_core.specs.WordRows.{HoldsLetters}
 use Rattle.vcd_text.specs.Letters.{is_binary_digit, letters_of_digits}
-use Rattle.vcd_text.specs.inside.LetterWords.{HoldsLetters, AddsLetters}
+use Rattle.vcd_text.specs.inside.LetterWords.{AddsLetters}
 use Rattle.vcd_text.proofs.LetterWords.{eight_at, eight_more, holds_both, both_are_digits, not_all_after}
 use Rattle.vcd_text.proofs.LetterWords.{not_all_before}
 use Rattle.vcd_text.proofs.reading.binary_number.word_read.Goals as goal
@@ -38,28 +39,27 @@ loop-eight-preserved c =
     let eight = take 8 (drop (8 * i) digits) in
     let word = c.in_ok-word.word in
     record {
-      holds = holds_both c.args.pad (take (8 * i) digits) eight (take (8 * (i + 1)) digits) _ _ word.low word.high
+      holds = holds_both c.args.pad (take (8 * i) digits) eight (take (8 * (i + 1)) digits) _ word
           (eight_more digits i) c.loop-eight.invariant.holds
-          (subst (λ l. AddsLetters (letters_of_digits l) c.loop-eight.word.low c.loop-eight.word.high word.low
-          word.high) at c.in_ok-word.ensures.1);
+          (subst (λ l. AddsLetters (letters_of_digits l) c.loop-eight.word word) at c.in_ok-word.ensures.1);
       letters = both_are_digits (take (8 * i) digits) eight (take (8 * (i + 1)) digits) (eight_more digits i)
           c.loop-eight.invariant.letters
           (sym (ap (list_all is_binary_digit) at) ∙ c.in_ok-word.ensures.0);
     }
 
 -- the letters of the eights, and of the rest after them
-of_the_rest : (pad : Bit) (digits : List ℕ) (n low high : ℕ) (o : Option LetterWord)
+of_the_rest : (pad : Bit) (digits : List ℕ) (n : ℕ) (old : LetterWord) (o : Option LetterWord)
     → list_all is_binary_digit (take n digits) ≡ true
-    → HoldsLetters pad (letters_of_digits (take n digits)) low high
+    → HoldsLetters pad (letters_of_digits (take n digits)) 0 old
     → MatchOption o (list_all is_binary_digit (drop n digits) ≡ false)
     (λ w. (list_all is_binary_digit (drop n digits) ≡ true)
-    × AddsLetters (letters_of_digits (drop n digits)) low high w.low w.high)
+    × AddsLetters (letters_of_digits (drop n digits)) old w)
     → MatchOption o (list_all is_binary_digit digits ≡ false) (λ w. (list_all is_binary_digit digits ≡ true)
-    × HoldsLetters pad (letters_of_digits digits) w.low w.high)
-of_the_rest pad digits n low high None letters holds none = not_all_after n digits none
-of_the_rest pad digits n low high (Some w) letters holds (following, adds) = (
+    × HoldsLetters pad (letters_of_digits digits) 0 w)
+of_the_rest pad digits n old None letters holds none = not_all_after n digits none
+of_the_rest pad digits n old (Some w) letters holds (following, adds) = (
   both_are_digits (take n digits) (drop n digits) digits (take-append-drop n digits) letters following,
-  holds_both pad (take n digits) (drop n digits) digits low high w.low w.high (take-append-drop n digits) holds adds,
+  holds_both pad (take n digits) (drop n digits) digits old w (take-append-drop n digits) holds adds,
 )
 
 pub returns : goal.returns
@@ -68,9 +68,9 @@ returns c =
     let end : length digits / 8 * 8 ≡ 8 * c.loop-eight.eight-index =
     omega (arith, c.loop-eight-test.false, c.as_chunks.ensures.front_len) in
     let back = c.as_chunks.ensures.back ∙ ap (λ n. drop n digits) end in
-    of_the_rest c.args.pad digits (8 * c.loop-eight.eight-index) _ _ c.with_digits.result c.loop-eight.invariant.letters
+    of_the_rest c.args.pad digits (8 * c.loop-eight.eight-index) _ c.with_digits.result c.loop-eight.invariant.letters
     c.loop-eight.invariant.holds
     (subst (λ l. MatchOption c.with_digits.result (list_all is_binary_digit l ≡ false)
     (λ w. (list_all is_binary_digit l ≡ true)
-    × AddsLetters (letters_of_digits l) c.loop-eight.word.low c.loop-eight.word.high w.low w.high)) back
+    × AddsLetters (letters_of_digits l) c.loop-eight.word w)) back
     c.with_digits.ensures)

@@ -9,7 +9,7 @@ pub flush_change-requires : goal.flush_change-requires
 flush_change-requires c =
     let group = c.args.group.now in
     let i = c.loop-change.change-index in
-    let none : LoggedChange = record { tick = 0; position = 0; low = 0; high = 0 } in
+    let none : LoggedChange = record { tick = 0; position = 0; word = record { low = 0; high = 0 } } in
     let e = get_or group i none in
     let (rest, can) = c.loop-change.invariant.0 in
     can_take e (drop (i + 1) group) rest c.loop-change.kept.items
@@ -21,7 +21,7 @@ pub loop-change-preserved : goal.loop-change-preserved
 loop-change-preserved c =
     let group = c.args.group.now in
     let i = c.loop-change.change-index in
-    let none : LoggedChange = record { tick = 0; position = 0; low = 0; high = 0 } in
+    let none : LoggedChange = record { tick = 0; position = 0; word = record { low = 0; high = 0 } } in
     let e = get_or group i none in
     let left = drop (i + 1) group in
     let now = c.loop-change.kept.items in

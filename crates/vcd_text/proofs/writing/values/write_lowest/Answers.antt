@@ -16,8 +16,7 @@ loop-left-preserved g c =
     let from : ℕ = 64 * ((left - 1) / 64) in
     record {
       front = front_grows (printed_letters (lowest from v)) c.loop-left.invariant.front c.write_letters.ensures
-          (word_and_rest v left from _ _ (omega arith) (omega arith) c.loop-left.invariant.within
-          (record { lows = c.word_low-low.ensures; highs = c.word_high-high.ensures }));
+          (word_and_rest v left from _ (omega arith) (omega arith) c.loop-left.invariant.within c.word.ensures);
       within = omega (arith, c.loop-left.invariant.within);
     }
 

@@ -3,7 +3,7 @@ use Rattle.std.proofs.Common.{◌≡◌, ◌≢◌, ◌++◌, ◌∷◌, [], len
 use Rattle.vcd_core.specs.WordRows.{letters_of}
 use Rattle.vcd_text.specs.Letters.{printed_letters}
 use Rattle.vcd_text.specs.Text.{code_of, item_line, value_item}
-use Rattle.vcd_text.proofs.LetterBits.{HoldsFrom, given_whole}
+use Rattle.vcd_text.proofs.LetterBits.{given_whole}
 use Rattle.vcd_text.proofs.Values.{front_of_bits, line_of_front}
 use Rattle.vcd_text.proofs.Written.{writes_as, writes_both}
 use Rattle.vcd_text.proofs.writing.values.write_value.Goals as goal
@@ -11,12 +11,10 @@ use Rattle.vcd_text.proofs.writing.values.write_value.Goals as goal
 pub returns-then-width-le64 : goal.returns-then-width-le64
 returns-then-width-le64 g c =
     let v = c.args.value.now in
-    let low = c.word_low-low.result in
-    let high = c.word_high-high.result in
-    let holds : HoldsFrom v 0 low high = record { lows = c.word_low-low.ensures; highs = c.word_high-high.ensures } in
-    let whole : letters_of c.width-width.result (low ∷ []) (high ∷ []) ≡ v =
-    ap (λ n. letters_of n (low ∷ []) (high ∷ [])) c.width-width.ensures.width
-    ∙ given_whole v low high (omega (arith, c.if-width-le64.true, c.width-width.ensures.width)) holds in
+    let word = c.word.result in
+    let whole : letters_of c.width-width.result (word ∷ []) ≡ v =
+    ap (λ n. letters_of n (word ∷ [])) c.width-width.ensures.width
+    ∙ given_whole v word (omega (arith, c.if-width-le64.true, c.width-width.ensures.width)) c.word.ensures in
     writes_as (ap (λ w. item_line (value_item (code_of c.args.position) w)) whole) c.write_word_value.ensures
 
 pub returns : goal.returns

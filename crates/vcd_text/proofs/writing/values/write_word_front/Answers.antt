@@ -14,11 +14,11 @@ use Rattle.vcd_text.proofs.writing.values.write_word_front.Goals as goal
 pub returns-then-width-eq1 : goal.returns-then-width-eq1
 returns-then-width-eq1 g c =
     let width = c.args.width in
-    let v = letters_of width (c.args.low ∷ []) (c.args.high ∷ []) in
-    let long = length-letters_of width (c.args.low ∷ []) (c.args.high ∷ []) in
+    let v = letters_of width (c.args.word ∷ []) in
+    let long = length-letters_of width (c.args.word ∷ []) in
     let one : length v ≡ 1 = omega (arith, long) in
     let here : length v - 1 - 0 ≡ 0 = omega (arith, one) in
-    let first = given_letter width c.args.low c.args.high 0 (omega arith) (omega arith) in
+    let first = given_letter width c.args.word 0 (omega arith) (omega arith) in
     writes_as (ap (λ b. b ∷ []) (c.letter_pair.ensures.second
     ∙ ap printed_letter (sym first ∙ ap (λ i. get_or v i X) here))
     ∙ sym (front_of_bit v one)) c.write_byte.ensures.written
@@ -26,10 +26,10 @@ returns-then-width-eq1 g c =
 pub returns : goal.returns
 returns g c =
     let width = c.args.width in
-    let v = letters_of width (c.args.low ∷ []) (c.args.high ∷ []) in
-    let long = length-letters_of width (c.args.low ∷ []) (c.args.high ∷ []) in
+    let v = letters_of width (c.args.word ∷ []) in
+    let long = length-letters_of width (c.args.word ∷ []) in
     let more : length v ≢ 1 = omega (arith, long) in
-    let short = short_given width c.args.low c.args.high c.kept_in_word.result c.requires.most
+    let short = short_given width c.args.word c.kept_in_word.result c.requires.most
     c.kept_in_word.ensures in
     writes_as (sym (front_of_bits v more))
     (writes_both c.write_byte-2.ensures.written

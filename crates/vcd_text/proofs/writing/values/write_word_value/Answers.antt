@@ -8,5 +8,5 @@ use Rattle.vcd_text.proofs.writing.values.write_word_value.Goals as goal
 
 pub returns : goal.returns
 returns g c =
-    writes_as (line_of_front (letters_of c.args.width (c.args.low ∷ []) (c.args.high ∷ [])) (code_of c.args.position))
+    writes_as (line_of_front (letters_of c.args.width (c.args.word ∷ [])) (code_of c.args.position))
     (writes_both c.write_word_front.ensures (writes_both c.write_code.ensures c.write_byte.ensures.written))

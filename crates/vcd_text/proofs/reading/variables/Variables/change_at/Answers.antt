@@ -48,13 +48,7 @@ returns-in_err-word c = λ told code tick k had.
 pub returns : goal.returns
 returns c = λ told code tick k had.
     let e : LoggedChange =
-    record {
-      tick = c.args.tick;
-      position = c.args.first;
-      low = c.in_ok-word.word.low;
-      high =
-          c.in_ok-word.word.high;
-    } in
+    record { tick = c.args.tick; position = c.args.first; word = c.in_ok-word.word } in
     narrow_changes c.args.self.now c.append.new.self told code c.args.digits.now c.args.first c.index-width.result.now e
     k had c.index-width.ensures
     (omega (arith, c.if-width-gt64.false)) (sym tick) refl c.in_ok-word.ensures c.in_ok-append.ensures.grouped

@@ -3,7 +3,7 @@ use Rattle.std.proofs.Common.{sym, ap, ◌∙◌, arith}
 use Rattle.std.specs.Int.{bit_at}
 use Rattle.std.proofs.lemmas.Nat.Bits.{bit_at_or, bit_at_lowest, bit_at_above, bit_at_cat_low, bit_at_cat_high}
 use mir.Val.{bool_byte}
-use Rattle.vcd_text.proofs.reading.binary_number.with_lowest.Goals as goal
+use Rattle.vcd_core.proofs.letter_word.with_lowest.Goals as goal
 
 first_bit : (a b : ℕ) → b < 2 → bit_at (bit_or (a * 2 % 18446744073709551616) b) 0 ≡ b
 first_bit a b small =
