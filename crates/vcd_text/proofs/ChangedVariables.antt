@@ -19,14 +19,14 @@ use Rattle.vcd_text.specs.Grammar.{VariableDeclaration, ValueChange, ParseState,
 use Rattle.vcd_text.specs.Grammar.{is_binary_number, takes_binary_number, value_changes_after, with_value_change}
 use Rattle.vcd_text.specs.Meaning.{latest_value}
 use Rattle.vcd_text.specs.inside.ChangeLog.{logged_letters, GivesLoggedValues, logged, AreGrouped}
-use Rattle.vcd_text.specs.inside.ValueDigits.{WritesValue}
+use Rattle.vcd_text.specs.inside.ValueDigits.{WritesValue, RefusesBinaryNumber}
+use Rattle.vcd_text.specs.inside.Variables.{TargetAgrees}
 use Rattle.vcd_text.specs.inside.Variables.{declaration, target_of, HasWave, TargetMatches, HasFirst, HasLogs}
-use Rattle.vcd_text.specs.inside.Variables.{VariablesMatch, Sets, RefusesBinaryNumber, BinaryNumberFault, no_value}
+use Rattle.vcd_text.specs.inside.Variables.{VariablesMatch, Sets, BinaryNumberFault, no_value}
 use Rattle.vcd_text.specs.inside.Variables.{too_long, ChangeResult}
 use Rattle.vcd_text.specs.declared.reading.change_log.LoggedChange.{LoggedChange}
-use Rattle.vcd_text.specs.declared.reading.change_log.ChangeLog.{ChangeLog}
-use Rattle.vcd_text.specs.declared.reading.variables.CodeTarget.{CodeTarget}
-use Rattle.vcd_text.specs.declared.reading.variables.CodeTarget.TheVariants.{Skipped, Kept}
+use Rattle.vcd_text.specs.declared.reading.code_targets.CodeTarget.{CodeTarget}
+use Rattle.vcd_text.specs.declared.reading.code_targets.CodeTarget.TheVariants.{Skipped, Kept}
 use Rattle.vcd_text.specs.declared.reading.variables.Variable.{Variable}
 use Rattle.vcd_text.specs.declared.reading.variables.Variables.{Variables}
 use Rattle.vcd_text.proofs.LoggedValues.{gives_late, gives_as, gives_appended, gives_pushed}
@@ -88,14 +88,18 @@ value_with width code t before (s ∷ rs) r =
 
 -- ---- the variables after a change
 
+-- the variables with another list and log
+abbrev pub with_changes : Variables → Vec Variable → Vec (Vec LoggedChange) → Variables
+with_changes vs list log = record vs { kept = list; log = log }
+
 -- the variable of a code
 module _ (old : Variables) (c : ParseState) (code digits : List ℕ) (first : ℕ) (k : VariablesMatch old c)
     (had : target_of old code ≡ Some (Kept first)) where
   pub own_wave : (d : VariableDeclaration) × (variable_of c code ≡ Some d) × (is_skipped d ≡ false)
-      × HasWave old.kept.items (logged old.log.groups.items) first code d.size c.value_changes c.tick
+      × HasWave old.kept.items (logged old.log.items) first code d.size c.value_changes c.tick
   own_wave =
-      stands_kept old.kept.items (logged old.log.groups.items) c.value_changes c.tick code (variable_of c code) first
-      (subst (λ o. TargetMatches old.kept.items (logged old.log.groups.items) c.value_changes c.tick code o
+      stands_kept old.kept.items (logged old.log.items) c.value_changes c.tick code (variable_of c code) first
+      (subst (λ o. TargetAgrees old c code o
       (variable_of c code)) had (k.stand code))
 
   pub first_within : first < length old.kept.items
@@ -135,7 +139,7 @@ module _ (old : Variables) (c : ParseState) (code digits : List ℕ) (first : �
   wave_late = gives_late own_wave.0.size c.tick
       (λ t. latest_value own_wave.0.size code t (all_x own_wave.0.size) c.value_changes)
       own_wave.3.first.signal.wave.changes
-      (logged old.log.groups.items first) own_wave.3.gives
+      (logged old.log.items first) own_wave.3.gives
 
   -- digits that it refuses are a fault
   pub refused : (width : ℕ) (fault : Fault) → own_wave.3.first.signal.wave.width ≡ width
@@ -144,20 +148,21 @@ module _ (old : Variables) (c : ParseState) (code digits : List ℕ) (first : �
   refused width fault wide (inr (good, long, is)) =
       too_long own_wave.0 own_wave.1 own_wave.2 good (omega (arith, long, own_wave.3.sized, wide)) is
 
-module _ (old : Variables) (list : Vec Variable) (log : ChangeLog) (c : ParseState) (code digits : List ℕ) (first : ℕ)
+module _ (old : Variables) (list : Vec Variable) (log : Vec (Vec LoggedChange)) (c : ParseState)
+    (code digits : List ℕ) (first : ℕ)
     (v w : Variable) (k : VariablesMatch old c)
     (had : target_of old code ≡ Some (Kept first)) (is_first : v ≡ (own_wave old c code digits first k had).3.first)
     (items : list.items ≡ set old.kept.items first w) (same : declaration w ≡ declaration v)
     (same_first : w.first ≡ v.first)
     (value : IsTrue (is_binary_number digits)) (short : length digits ≤ v.signal.wave.width)
-    (grouped : AreGrouped 0 log.groups.items)
+    (grouped : AreGrouped 0 log.items)
     (takes : (f : ℕ → List Bit)
-    → GivesLoggedValues v.signal.wave.width c.tick f v.signal.wave.changes (logged old.log.groups.items first)
+    → GivesLoggedValues v.signal.wave.width c.tick f v.signal.wave.changes (logged old.log.items first)
     → GivesLoggedValues v.signal.wave.width c.tick
     (λ t. if nat_le c.tick t then extension v.signal.wave.width (letters_of_digits digits) else f t)
-    w.signal.wave.changes (logged log.groups.items first))
+    w.signal.wave.changes (logged log.items first))
     (others : (position : ℕ) → first ≢ position
-    → logged log.groups.items position ≡ logged old.log.groups.items position) where
+    → logged log.items position ≡ logged old.log.items position) where
   stood : slice_get old.kept.items first ≡ Some v
   stood = (own_wave old c code digits first k had).3.stands ∙ ap Some (sym is_first)
 
@@ -192,8 +197,8 @@ module _ (old : Variables) (list : Vec Variable) (log : ChangeLog) (c : ParseSta
 
   -- the wave of the code takes the value
   wave_changed : (key : List ℕ) (position size : ℕ) → code ≡ key → target_of old key ≡ Some (Kept position)
-      → HasWave old.kept.items (logged old.log.groups.items) position key size c.value_changes c.tick
-      → HasWave list.items (logged log.groups.items) position key size (c.value_changes ++ new_value_change ∷ []) c.tick
+      → HasWave old.kept.items (logged old.log.items) position key size c.value_changes c.tick
+      → HasWave list.items (logged log.items) position key size (c.value_changes ++ new_value_change ∷ []) c.tick
   unfolding new_value_change
   wave_changed key position size equal owned wave =
       let kept_at : Kept first ≡ Kept position =
@@ -203,21 +208,21 @@ module _ (old : Variables) (list : Vec Variable) (log : ChangeLog) (c : ParseSta
       let old_size : v.signal.wave.width ≡ size = ap (λ (u : Variable). u.signal.wave.width) is ∙ wave.sized in
       let before : ℕ → List Bit = λ t. latest_value size key t (all_x size) c.value_changes in
       let had_values : GivesLoggedValues v.signal.wave.width c.tick before v.signal.wave.changes
-      (logged old.log.groups.items first) =
-      subst (λ n. GivesLoggedValues n c.tick before v.signal.wave.changes (logged old.log.groups.items first))
+      (logged old.log.items first) =
+      subst (λ n. GivesLoggedValues n c.tick before v.signal.wave.changes (logged old.log.items first))
       (sym old_size)
-      (subst (λ p. GivesLoggedValues size c.tick before v.signal.wave.changes (logged old.log.groups.items p)) (sym at)
+      (subst (λ p. GivesLoggedValues size c.tick before v.signal.wave.changes (logged old.log.items p)) (sym at)
       (subst (λ (u : Variable). GivesLoggedValues size c.tick before u.signal.wave.changes
-      (logged old.log.groups.items position)) (sym is) wave.gives)) in
+      (logged old.log.items position)) (sym is) wave.gives)) in
       let has_values : GivesLoggedValues size c.tick
       (λ t. if nat_le c.tick t then extension size (letters_of_digits digits) else before t) w.signal.wave.changes
-      (logged log.groups.items position) =
+      (logged log.items position) =
       subst (λ p. GivesLoggedValues size c.tick
       (λ t. if nat_le c.tick t then extension size (letters_of_digits digits) else before t) w.signal.wave.changes
-      (logged log.groups.items p)) at
+      (logged log.items p)) at
       (subst (λ n. GivesLoggedValues n c.tick
       (λ t. if nat_le c.tick t then extension n (letters_of_digits digits) else before t) w.signal.wave.changes
-      (logged log.groups.items first)) old_size (takes before had_values)) in
+      (logged log.items first)) old_size (takes before had_values)) in
       record {
         first = w;
         stands = ap (λ vs. slice_get vs position) items ∙ ap (slice_get (set old.kept.items first w)) (sym at)
@@ -228,7 +233,7 @@ module _ (old : Variables) (list : Vec Variable) (log : ChangeLog) (c : ParseSta
             (λ t. if nat_le c.tick t then extension size (letters_of_digits digits) else before t) w.signal.wave.changes
             (λ t. latest_value size key t (all_x size)
             (c.value_changes ++ record { tick = c.tick; code = code; letters = letters_of_digits digits } ∷ []))
-            (logged log.groups.items position)
+            (logged log.items position)
             (λ t.
             ap (λ b. if b && nat_le c.tick t then extension size (letters_of_digits digits) else before t)
             (sym (ap (bytes_eq code) (sym equal) ∙ own_code code))
@@ -239,8 +244,8 @@ module _ (old : Variables) (list : Vec Variable) (log : ChangeLog) (c : ParseSta
 
   -- the wave of another code stays
   wave_kept : (key : List ℕ) (position size : ℕ) → bytes_eq code key ≡ false
-      → HasWave old.kept.items (logged old.log.groups.items) position key size c.value_changes c.tick
-      → HasWave list.items (logged log.groups.items) position key size (c.value_changes ++ new_value_change ∷ []) c.tick
+      → HasWave old.kept.items (logged old.log.items) position key size c.value_changes c.tick
+      → HasWave list.items (logged log.items) position key size (c.value_changes ++ new_value_change ∷ []) c.tick
   unfolding new_value_change
   wave_kept key position size other wave =
       let apart : first ≢ position = λ at.
@@ -258,7 +263,7 @@ module _ (old : Variables) (list : Vec Variable) (log : ChangeLog) (c : ParseSta
             wave.first.signal.wave.changes
             (λ t. latest_value size key t (all_x size)
             (c.value_changes ++ record { tick = c.tick; code = code; letters = letters_of_digits digits } ∷ []))
-            (logged log.groups.items position)
+            (logged log.items position)
             (λ t.
             ap (λ b. if b && nat_le c.tick t then extension size (letters_of_digits digits) else latest_value size key t
             (all_x size) c.value_changes) (sym other)
@@ -268,18 +273,8 @@ module _ (old : Variables) (list : Vec Variable) (log : ChangeLog) (c : ParseSta
             wave.first.signal.wave.changes) (sym (others position apart)) wave.gives);
       }
 
-  changed_variables : Variables
-  changed_variables = record {
-    kept = list;
-    widths = old.widths;
-    code_targets = old.code_targets;
-    skipped = old.skipped;
-    log = log;
-  }
-
   changed_firsts : (position : ℕ) (u : Variable) → slice_get list.items position ≡ Some u
-      → HasFirst changed_variables position u
-  unfolding changed_variables
+      → HasFirst (with_changes old list log) position u
   changed_firsts position u at =
       let t = following position u at in
       let before = k.firsts position t.0 t.1 in
@@ -295,10 +290,10 @@ module _ (old : Variables) (list : Vec Variable) (log : ChangeLog) (c : ParseSta
       }
 
   changed_stands : (key : List ℕ)
-      → TargetMatches list.items (logged log.groups.items) (c.value_changes ++ new_value_change ∷ []) c.tick key
+      → TargetMatches list.items (logged log.items) (c.value_changes ++ new_value_change ∷ []) c.tick key
       (target_of old key) (variable_of c key)
   changed_stands key =
-      stands_moved old.kept.items list.items (logged old.log.groups.items) (logged log.groups.items) c.value_changes
+      stands_moved old.kept.items list.items (logged old.log.items) (logged log.items) c.value_changes
       (c.value_changes ++ new_value_change ∷ []) c.tick c.tick key (target_of old key) (variable_of c key)
       (λ position size owned wave. elim (cases_Bool (bytes_eq code key)) [
         | inl equal ↦ wave_changed key position size (same_code code key equal) owned wave
@@ -314,7 +309,7 @@ module _ (old : Variables) (list : Vec Variable) (log : ChangeLog) (c : ParseSta
       (own_wave old c code digits first k had).2
 
   -- the log has changes only of first variables
-  changed_logs : HasLogs list.items (logged log.groups.items)
+  changed_logs : HasLogs list.items (logged log.items)
   changed_logs position some = elim (cases_eq first position) [
     | inl equal ↦ (
       w,
@@ -328,21 +323,13 @@ module _ (old : Variables) (list : Vec Variable) (log : ChangeLog) (c : ParseSta
   ]
 
   -- the variables have the value change
-  changed_knows : VariablesMatch (record {
-    kept = list;
-    widths = old.widths;
-    code_targets = old.code_targets;
-    skipped =
-        old.skipped;
-    log = log;
-  }) (with_value_change c code (letters_of_digits digits))
-  unfolding changed_variables
+  changed_knows : VariablesMatch (with_changes old list log) (with_value_change c code (letters_of_digits digits))
   changed_knows = record {
     kept = k.kept ∙ sym (ap (map declaration) items ∙ same_map declaration old.kept.items first v w stood same);
     skipped = k.skipped;
     widths = k.widths ∙ sym (ap (map (λ (u : Variable). u.signal.wave.width)) items
         ∙ same_map (λ (u : Variable). u.signal.wave.width) old.kept.items first v w stood same_width);
-    stand = λ key. subst (λ rs. TargetMatches list.items (logged log.groups.items) (c.value_changes ++ rs) c.tick key
+    stand = λ key. subst (λ rs. TargetMatches list.items (logged log.items) (c.value_changes ++ rs) c.tick key
         (target_of old key) (variable_of c key)) (sym told_are) (changed_stands key);
     firsts = changed_firsts;
     few = subst (λ n. n ≤ SIGNAL_LIMIT) (sym (ap (length {A = Variable}) items ∙ same_length old.kept.items first w))
@@ -361,13 +348,7 @@ module _ (old : Variables) (list : Vec Variable) (log : ChangeLog) (c : ParseSta
       (λ i. (own_wave old c code digits first k had).2 i || (value i && fits i))
 
   pub changed : (x : Unit {0})
-      → ChangeResult c code digits (Ok x) (record {
-        kept = list;
-        widths = old.widths;
-        code_targets = old.code_targets;
-        skipped = old.skipped;
-        log = log;
-      })
+      → ChangeResult c code digits (Ok x) (with_changes old list log)
   changed x = (changed_takes, changed_knows)
 
 -- the result of a change of a wide variable
@@ -377,13 +358,7 @@ pub wide_changes : (old : Variables) (list : Vec Variable) (c : ParseState) (cod
     → width ≡ get_or old.widths.items first width → 64 < width
     → list.items ≡ set old.kept.items first w → OnOk result (Sets c.tick digits v w)
     → IfErr result (λ fault. (fault ≡ faults.NoMemory) ⊎ RefusesBinaryNumber v.signal.wave.width digits fault)
-    → ChangeResult c code digits result (record {
-      kept = list;
-      widths = old.widths;
-      code_targets = old.code_targets;
-      skipped = old.skipped;
-      log = old.log;
-    })
+    → ChangeResult c code digits result (with_changes old list old.log)
 wide_changes old list c code digits first width v w (Ok x) k had read row wide items sets refuses =
     let is = read_is old c code digits first k had v read in
     let size = ap (λ (u : Variable). u.signal.wave.width) is ∙ width_is old c code digits first k had width row in
@@ -391,7 +366,7 @@ wide_changes old list c code digits first width v w (Ok x) k had read row wide i
     k.grouped
     (λ f g. gives_pushed v.signal.wave.width c.tick f v.signal.wave.changes
     (extension v.signal.wave.width (letters_of_digits digits)) w.signal.wave.changes
-    (logged old.log.groups.items first)
+    (logged old.log.items first)
     (omega (arith, wide, size)) sets.ticks
     (λ t. ap (λ n. value_at n w.signal.wave.changes t) (sym (ap (λ (d : VariableDeclaration). d.size) sets.same))
     ∙ sets.values t) g)
@@ -402,22 +377,16 @@ wide_changes old list c code digits first width v w (Err fault) k had read row w
     (ap (λ (u : Variable). u.signal.wave.width) (sym (read_is old c code digits first k had v read))) refuses)
 
 -- the result of a change of another variable, which goes to the log
-pub narrow_changes : (old : Variables) (log : ChangeLog) (c : ParseState) (code digits : List ℕ) (first width : ℕ)
+pub narrow_changes : (old : Variables) (log : Vec (Vec LoggedChange)) (c : ParseState) (code digits : List ℕ)
+    (first width : ℕ)
     (e : LoggedChange) (k : VariablesMatch old c)
     (had : target_of old code ≡ Some (Kept first)) → width ≡ get_or old.widths.items first width → width ≤ 64
     → e.tick ≡ c.tick → e.position ≡ first → WritesValue width digits (logged_letters width e)
-    → AreGrouped 0 log.groups.items
-    → ((position : ℕ) → logged log.groups.items position
-    ≡ (if e.position == position then logged old.log.groups.items position
-    ++ e ∷ [] else logged old.log.groups.items position))
-    → (x : Unit {0}) → ChangeResult c code digits (Ok x) (record {
-      kept = old.kept;
-      widths = old.widths;
-      code_targets =
-          old.code_targets;
-      skipped = old.skipped;
-      log = log;
-    })
+    → AreGrouped 0 log.items
+    → ((position : ℕ) → logged log.items position
+    ≡ (if e.position == position then logged old.log.items position
+    ++ e ∷ [] else logged old.log.items position))
+    → (x : Unit {0}) → ChangeResult c code digits (Ok x) (with_changes old old.kept log)
 narrow_changes old log c code digits first width e k had row narrow at_tick at writes grouped more x =
     let v : Variable = (own_wave old c code digits first k had).3.first in
     let size : v.signal.wave.width ≡ width = width_is old c code digits first k had width row in
@@ -429,14 +398,14 @@ narrow_changes old log c code digits first width e k had row narrow at_tick at w
     subst (GivesLoggedValues v.signal.wave.width c.tick
     (λ t. if nat_le c.tick t then extension v.signal.wave.width (letters_of_digits digits) else f t)
     v.signal.wave.changes)
-    (sym (more first ∙ ap (λ b. if b then logged old.log.groups.items first
-    ++ e ∷ [] else logged old.log.groups.items first) here))
+    (sym (more first ∙ ap (λ b. if b then logged old.log.items first
+    ++ e ∷ [] else logged old.log.items first) here))
     (gives_appended v.signal.wave.width c.tick f v.signal.wave.changes
-    (extension v.signal.wave.width (letters_of_digits digits)) (logged old.log.groups.items first) e at_tick
+    (extension v.signal.wave.width (letters_of_digits digits)) (logged old.log.items first) e at_tick
     (omega (arith, narrow, size))
     (subst (λ n. logged_letters n e ≡ extension n (letters_of_digits digits)) (sym size) writes.2) g))
     (λ position apart.
-    more position ∙ ap (λ b. if b then logged old.log.groups.items position
-    ++ e ∷ [] else logged old.log.groups.items position)
+    more position ∙ ap (λ b. if b then logged old.log.items position
+    ++ e ∷ [] else logged old.log.items position)
     (other_number e.position position (λ equal. apart (sym at ∙ equal))))
     x

@@ -12,8 +12,8 @@ use Rattle.indexmap.specs.IndexMap.{IndexMap, Updates, get_by}
 use Rattle.vcd_text.specs.Grammar.{VariableDeclaration, ValueChange, is_skipped}
 use Rattle.vcd_text.specs.inside.Variables.{HasWave, TargetMatches}
 use Rattle.vcd_text.specs.declared.reading.change_log.LoggedChange.{LoggedChange}
-use Rattle.vcd_text.specs.declared.reading.variables.CodeTarget.{CodeTarget}
-use Rattle.vcd_text.specs.declared.reading.variables.CodeTarget.TheVariants.{Skipped, Kept}
+use Rattle.vcd_text.specs.declared.reading.code_targets.CodeTarget.{CodeTarget}
+use Rattle.vcd_text.specs.declared.reading.code_targets.CodeTarget.TheVariants.{Skipped, Kept}
 use Rattle.vcd_text.specs.declared.reading.variables.Variable.{Variable}
 
 -- ---- codes

@@ -3,6 +3,7 @@ use Rattle.std.proofs.Common.{◌≡◌, ◌⊎◌, ℕ, zero, suc, ◌+◌, ◌
 use Rattle.std.proofs.Common.{cond, if◌then◌else◌, nat_lt, List, [], ◌∷◌, ◌++◌, length, map, get_or, drop, Option, None}
 use Rattle.std.proofs.Common.{Some, Result, Ok, Err, OnOk, IfErr, inl, inr, refl, sym, ap, subst, ◌∙◌, arith}
 use Rattle.std.specs.Prelude.{bytes_eq, slice_get, count_by}
+use Rattle.std.specs.Global.{Vec}
 use Rattle.std.specs.Option.{option_or, option_map_or}
 use Rattle.std.proofs.lemmas.List.{append-nil, nil_from_length, map-append, length-map, length_push}
 use Rattle.std.proofs.lemmas.List.Elements.{filter-append}
@@ -25,14 +26,14 @@ use Rattle.vcd_text.specs.Grammar.{variable_of, may_have_code, has_room}
 use Rattle.vcd_text.specs.Meaning.{latest_value}
 use Rattle.vcd_text.specs.inside.ChangeLog.{GivesLoggedValues, logged, AreGrouped}
 use Rattle.vcd_text.specs.declared.reading.change_log.LoggedChange.{LoggedChange}
-use Rattle.vcd_text.specs.declared.reading.change_log.ChangeLog.{ChangeLog}
 use Rattle.vcd_text.proofs.LoggedValues.{gives_as, gives_nothing}
+use Rattle.vcd_text.specs.inside.Variables.{TargetAgrees}
 use Rattle.vcd_text.specs.inside.Variables.{declaration, declaration_in, without_scopes, target_of, HasWave}
 use Rattle.vcd_text.specs.inside.Variables.{TargetMatches, HasFirst, HasLogs, VariablesMatch, with_declaration, mixed}
 use Rattle.vcd_text.specs.inside.Variables.{many, DeclaresAs, code_mixed, no_room, Declares}
 use Rattle.vcd_text.specs.declared.reading.code_targets.CodeTargets.{CodeTargets}
-use Rattle.vcd_text.specs.declared.reading.variables.CodeTarget.{CodeTarget}
-use Rattle.vcd_text.specs.declared.reading.variables.CodeTarget.TheVariants.{Skipped, Kept}
+use Rattle.vcd_text.specs.declared.reading.code_targets.CodeTarget.{CodeTarget}
+use Rattle.vcd_text.specs.declared.reading.code_targets.CodeTarget.TheVariants.{Skipped, Kept}
 use Rattle.vcd_text.specs.declared.reading.variables.Variable.{Variable}
 use Rattle.vcd_text.specs.declared.reading.variables.Variables.{Variables}
 use Rattle.vcd_text.proofs.CodeTargets.{own_code, by_code, stands_kept, stands_moved, found_with}
@@ -134,48 +135,35 @@ puts_same old new code target same had = λ key.
 
 -- ---- a variable that is skipped
 
-module _ (old new : Variables) (c : ParseState) (d : VariableDeclaration) (k : VariablesMatch old c)
-    (items : new.kept.items ≡ old.kept.items) (skipped : is_skipped d ≡ true)
-    (widths : new.widths.items ≡ old.widths.items) (log : new.log ≡ old.log)
-    (free : (target_of old d.code ≡ None) ⊎ (target_of old d.code ≡ Some Skipped)) (puts : Puts old new d.code Skipped)
+-- the variables with one more that is skipped, and these targets
+abbrev pub with_skipped : Variables → CodeTargets → Variables
+with_skipped vs targets = record vs { code_targets = targets; skipped = vs.skipped + 1 }
+
+module _ (old : Variables) (targets : CodeTargets) (c : ParseState) (d : VariableDeclaration)
+    (k : VariablesMatch old c) (skipped : is_skipped d ≡ true)
+    (free : (target_of old d.code ≡ None) ⊎ (target_of old d.code ≡ Some Skipped))
+    (puts : Puts old (with_skipped old targets) d.code Skipped)
   where
-    skip_here : (v : Option VariableDeclaration)
-        → TargetMatches old.kept.items (logged old.log.groups.items) c.value_changes c.tick d.code
-        (target_of old d.code)
-        v
-        → TargetMatches old.kept.items (logged old.log.groups.items) c.value_changes c.tick d.code (Some Skipped)
-        (option_or v (Some d))
+    skip_here : (v : Option VariableDeclaration) → TargetAgrees old c d.code (target_of old d.code) v
+        → TargetAgrees old c d.code (Some Skipped) (option_or v (Some d))
     skip_here None s = skipped
     skip_here (Some e) s = elim free [
-      | inl none ↦ absurd (subst
-          (λ o. TargetMatches old.kept.items (logged old.log.groups.items) c.value_changes c.tick d.code o
-          (Some e)) none
-          s)
-      | inr had ↦ subst (λ o. TargetMatches old.kept.items (logged old.log.groups.items) c.value_changes c.tick d.code o
-          (Some e)) had s
+      | inl none ↦ absurd (subst (λ o. TargetAgrees old c d.code o (Some e)) none s)
+      | inr had ↦ subst (λ o. TargetAgrees old c d.code o (Some e)) had s
     ]
 
     skip_stands : (key : List ℕ)
-        → TargetMatches new.kept.items (logged new.log.groups.items) c.value_changes c.tick key (target_of new key)
-        (variable_of (with_declaration c d) key)
+        → TargetAgrees old c key (target_of (with_skipped old targets) key) (variable_of (with_declaration c d) key)
     skip_stands key =
-        let both =
-        by_code (λ b. TargetMatches old.kept.items (logged old.log.groups.items) c.value_changes c.tick key
-        (if b then Some Skipped else target_of old key) (option_or (variable_of c key) (if b then Some d else None)))
-        key d.code
-        (λ is. subst (λ code. TargetMatches old.kept.items (logged old.log.groups.items) c.value_changes c.tick code
-        (Some Skipped) (option_or (variable_of c code) (Some d))) (sym is)
+        subst (λ o. TargetAgrees old c key o (variable_of (with_declaration c d) key)) (sym (puts key))
+        (subst (TargetAgrees old c key (if bytes_eq key d.code then Some Skipped else target_of old key))
+        (sym (found_with key c.declared d))
+        (by_code (λ b. TargetAgrees old c key (if b then Some Skipped else target_of old key)
+        (option_or (variable_of c key) (if b then Some d else None))) key d.code
+        (λ is. subst (λ code. TargetAgrees old c code (Some Skipped) (option_or (variable_of c code) (Some d))) (sym is)
         (skip_here (variable_of c d.code) (k.stand d.code)))
-        (λ _. stands_still (logged old.log.groups.items) c.value_changes c.tick old.kept.items key (target_of old key)
-        (variable_of c key) (k.stand key)) in
-        subst (λ (l : ChangeLog). TargetMatches new.kept.items (logged l.groups.items) c.value_changes c.tick key
-        (target_of new key) (variable_of (with_declaration c d) key)) (sym log)
-        (subst (λ (vs : List Variable). TargetMatches vs (logged old.log.groups.items) c.value_changes c.tick key
-        (target_of new key) (variable_of (with_declaration c d) key)) (sym items)
-        (subst (λ o. TargetMatches old.kept.items (logged old.log.groups.items) c.value_changes c.tick key o
-        (variable_of (with_declaration c d) key)) (sym (puts key))
-        (subst (TargetMatches old.kept.items (logged old.log.groups.items) c.value_changes c.tick key
-        (if bytes_eq key d.code then Some Skipped else target_of old key)) (sym (found_with key c.declared d)) both)))
+        (λ _. stands_still (logged old.log.items) c.value_changes c.tick old.kept.items key (target_of old key)
+        (variable_of c key) (k.stand key))))
 
     not_kept : (first : ℕ) → target_of old d.code ≡ Some (Kept first) → ⊥
     not_kept first had = elim free [
@@ -183,41 +171,39 @@ module _ (old new : Variables) (c : ParseState) (d : VariableDeclaration) (k : V
       | inr other ↦ let no : Some Skipped ≡ Some (Kept first) = sym other ∙ had in absurd (cc)
     ]
 
-    skip_firsts : (position : ℕ) (v : Variable) → slice_get new.kept.items position ≡ Some v → HasFirst new position v
+    skip_firsts : (position : ℕ) (v : Variable) → slice_get old.kept.items position ≡ Some v
+        → HasFirst (with_skipped old targets) position v
     skip_firsts position v at =
-        let before = k.firsts position v (subst (λ vs. slice_get vs position ≡ Some v) items at) in
+        let before = k.firsts position v at in
         record {
           owned = puts v.code
               ∙ by_code (λ b. (if b then Some Skipped else target_of old v.code) ≡ Some (Kept v.first)) v.code d.code
               (λ is. absurd (not_kept v.first (ap (target_of old) (sym is) ∙ before.owned))) (λ _. before.owned);
           no_later = before.no_later;
-          same_size = λ w there. before.same_size w (subst (λ vs. slice_get vs v.first ≡ Some w) items there);
+          same_size = before.same_size;
         }
 
-    skip_may : (v : Option VariableDeclaration)
-        → TargetMatches old.kept.items (logged old.log.groups.items) c.value_changes c.tick d.code
-        (target_of old d.code)
-        v → may_have_code v d ≡ true
+    skip_may : (v : Option VariableDeclaration) → TargetAgrees old c d.code (target_of old d.code) v
+        → may_have_code v d ≡ true
     skip_may None s = refl
     skip_may (Some e) s =
         let also : is_skipped e ≡ true = skip_here (Some e) s in
         λ i. (also i && skipped i) || (not (also i) && not (skipped i) && (e.size == d.size))
 
     -- it is declared
-    pub skip_declares : new.skipped ≡ old.skipped + 1 → (x : Unit {0}) → DeclaresAs c d (Ok x) new
-    skip_declares more x = (
+    pub skip_declares : (x : Unit {0}) → DeclaresAs c d (Ok x) (with_skipped old targets)
+    skip_declares x = (
       skip_may (variable_of c d.code) (k.stand d.code),
       (λ i. skipped i || nat_lt (length (kept_variables c.declared)) SIGNAL_LIMIT),
       record {
-        kept = ap (map without_scopes) (kept_skipped c.declared d skipped) ∙ k.kept ∙ ap (map declaration) (sym items);
-        skipped = more ∙ ap (λ n. n + 1) k.skipped ∙ sym (count_with c.declared d true skipped);
-        widths = widths ∙ k.widths ∙ ap (map (λ (v : Variable). v.signal.wave.width)) (sym items);
+        kept = ap (map without_scopes) (kept_skipped c.declared d skipped) ∙ k.kept;
+        skipped = ap (λ n. n + 1) k.skipped ∙ sym (count_with c.declared d true skipped);
+        widths = k.widths;
         stand = skip_stands;
         firsts = skip_firsts;
-        few = subst (λ vs. length vs ≤ SIGNAL_LIMIT) (sym items) k.few;
-        grouped = subst (λ (l : ChangeLog). AreGrouped 0 l.groups.items) (sym log) k.grouped;
-        logs = subst (λ (l : ChangeLog). HasLogs new.kept.items (logged l.groups.items)) (sym log)
-            (subst (λ (vs : List Variable). HasLogs vs (logged old.log.groups.items)) (sym items) k.logs);
+        few = k.few;
+        grouped = k.grouped;
+        logs = k.logs;
       },
     )
 
@@ -238,15 +224,15 @@ module _ (old : Variables) (c : ParseState) (scopes : List ScopeName) (code : Li
     (k : VariablesMatch old c)
     (keeps : is_skipped (declaration_in scopes code s) ≡ false) (free : IsFree old code s first) where
   keep_may : (v : Option VariableDeclaration)
-      → TargetMatches old.kept.items (logged old.log.groups.items) c.value_changes c.tick code (target_of old code) v
+      → TargetAgrees old c code (target_of old code) v
       → may_have_code v (declaration_in scopes code s) ≡ true
   keep_may None stands = refl
   keep_may (Some e) stands = elim free [
     | inl (none, end) ↦ absurd
-        (subst (λ o. TargetMatches old.kept.items (logged old.log.groups.items) c.value_changes c.tick code o (Some e))
+        (subst (λ o. TargetAgrees old c code o (Some e))
         none stands)
     | inr (had, width) ↦
-        let there = subst (λ o. TargetMatches old.kept.items (logged old.log.groups.items) c.value_changes c.tick code o
+        let there = subst (λ o. TargetAgrees old c code o
         (Some e)) had stands in
         let size : e.size ≡ s.wave.width = sym there.1.sized ∙ width there.1.first there.1.stands in
         let also : is_skipped e ≡ false = there.0 in
@@ -275,15 +261,15 @@ module _ (old new : Variables) (c : ParseState) (scopes : List ScopeName) (code 
     (free : IsFree old code s first)
     (puts : Puts old new code (Kept first)) where
   -- the log has no change of a variable that is not there yet
-  log_silent : logged old.log.groups.items (length old.kept.items) ≡ []
-  log_silent = elim (cases_lt 0 (length (logged old.log.groups.items (length old.kept.items)))) [
+  log_silent : logged old.log.items (length old.kept.items) ≡ []
+  log_silent = elim (cases_lt 0 (length (logged old.log.items (length old.kept.items)))) [
     | inl some ↦
         let v = k.logs (length old.kept.items) some in
         absurd (omega (arith, slice_get_within old.kept.items (length old.kept.items) v.0 v.1))
-    | inr none ↦ nil_from_length (logged old.log.groups.items (length old.kept.items)) (omega (arith, none))
+    | inr none ↦ nil_from_length (logged old.log.items (length old.kept.items)) (omega (arith, none))
   ]
 
-  silent_wave : HasWave (old.kept.items ++ variable_at code s first ∷ []) (logged old.log.groups.items)
+  silent_wave : HasWave (old.kept.items ++ variable_at code s first ∷ []) (logged old.log.items)
       (length old.kept.items) code s.wave.width c.value_changes c.tick
   unfolding latest_value value_from
   silent_wave = record {
@@ -302,54 +288,54 @@ module _ (old new : Variables) (c : ParseState) (scopes : List ScopeName) (code 
   }
 
   keep_here : (v : Option VariableDeclaration)
-      → TargetMatches old.kept.items (logged old.log.groups.items) c.value_changes c.tick code (target_of old code) v
-      → TargetMatches (old.kept.items ++ variable_at code s first ∷ []) (logged old.log.groups.items) c.value_changes
+      → TargetAgrees old c code (target_of old code) v
+      → TargetMatches (old.kept.items ++ variable_at code s first ∷ []) (logged old.log.items) c.value_changes
       c.tick code (Some (Kept first)) (option_or v (Some (declaration_in scopes code s)))
   keep_here None stands = elim free [
     | inl (none, end) ↦ (
       keeps,
-      subst (λ n. HasWave (old.kept.items ++ variable_at code s first ∷ []) (logged old.log.groups.items) n
+      subst (λ n. HasWave (old.kept.items ++ variable_at code s first ∷ []) (logged old.log.items) n
           code s.wave.width c.value_changes c.tick) (sym end) silent_wave,
     )
     | inr (had, width) ↦ absurd
-        (subst (λ o. TargetMatches old.kept.items (logged old.log.groups.items) c.value_changes c.tick code o None) had
+        (subst (λ o. TargetAgrees old c code o None) had
         stands)
   ]
   keep_here (Some e) stands = elim free [
     | inl (none, end) ↦ absurd
-        (subst (λ o. TargetMatches old.kept.items (logged old.log.groups.items) c.value_changes c.tick code o (Some e))
+        (subst (λ o. TargetAgrees old c code o (Some e))
         none stands)
     | inr (had, width) ↦
-        stands_longer (logged old.log.groups.items) c.value_changes c.tick old.kept.items
+        stands_longer (logged old.log.items) c.value_changes c.tick old.kept.items
         (variable_at code s first ∷ []) code (Some (Kept first)) (Some e)
-        (subst (λ o. TargetMatches old.kept.items (logged old.log.groups.items) c.value_changes c.tick code o (Some e))
+        (subst (λ o. TargetAgrees old c code o (Some e))
         had stands)
   ]
 
   keep_stands : (key : List ℕ)
-      → TargetMatches new.kept.items (logged new.log.groups.items) c.value_changes c.tick key (target_of new key)
+      → TargetAgrees new c key (target_of new key)
       (variable_of (with_declaration c (declaration_in scopes code s)) key)
   keep_stands key =
       let all = old.kept.items ++ variable_at code s first ∷ [] in
       let d = declaration_in scopes code s in
       let both =
-      by_code (λ b. TargetMatches all (logged old.log.groups.items) c.value_changes c.tick key
+      by_code (λ b. TargetMatches all (logged old.log.items) c.value_changes c.tick key
       (if b then Some (Kept first) else target_of old key)
       (option_or (variable_of c key) (if b then Some d else None))) key code
-      (λ is. subst (λ name. TargetMatches all (logged old.log.groups.items) c.value_changes c.tick name
+      (λ is. subst (λ name. TargetMatches all (logged old.log.items) c.value_changes c.tick name
       (Some (Kept first)) (option_or (variable_of c name) (Some d))) (sym is)
       (keep_here (variable_of c code) (k.stand code)))
-      (λ _. stands_still (logged old.log.groups.items) c.value_changes c.tick all key (target_of old key)
+      (λ _. stands_still (logged old.log.items) c.value_changes c.tick all key (target_of old key)
       (variable_of c key)
-      (stands_longer (logged old.log.groups.items) c.value_changes c.tick old.kept.items (variable_at code s first ∷ [])
+      (stands_longer (logged old.log.items) c.value_changes c.tick old.kept.items (variable_at code s first ∷ [])
       key (target_of old key) (variable_of c key) (k.stand key))) in
-      subst (λ (l : ChangeLog). TargetMatches new.kept.items (logged l.groups.items) c.value_changes c.tick key
+      subst (λ (l : Vec (Vec LoggedChange)). TargetMatches new.kept.items (logged l.items) c.value_changes c.tick key
       (target_of new key) (variable_of (with_declaration c d) key)) (sym log)
-      (subst (λ (vs : List Variable). TargetMatches vs (logged old.log.groups.items) c.value_changes c.tick key
+      (subst (λ (vs : List Variable). TargetMatches vs (logged old.log.items) c.value_changes c.tick key
       (target_of new key) (variable_of (with_declaration c d) key)) (sym items)
-      (subst (λ o. TargetMatches all (logged old.log.groups.items) c.value_changes c.tick key o
+      (subst (λ o. TargetMatches all (logged old.log.items) c.value_changes c.tick key o
       (variable_of (with_declaration c d) key)) (sym (puts key))
-      (subst (TargetMatches all (logged old.log.groups.items) c.value_changes c.tick key
+      (subst (TargetMatches all (logged old.log.items) c.value_changes c.tick key
       (if bytes_eq key code then Some (Kept first) else target_of old key)) (sym (found_with key c.declared d))
       both)))
 
@@ -380,9 +366,9 @@ module _ (old new : Variables) (c : ParseState) (scopes : List ScopeName) (code 
   first_within = elim free [
     | inl (none, end) ↦ omega (arith, end)
     | inr (had, width) ↦
-        let e = stands_kept old.kept.items (logged old.log.groups.items) c.value_changes c.tick code
+        let e = stands_kept old.kept.items (logged old.log.items) c.value_changes c.tick code
         (variable_of c code) first
-        (subst (λ o. TargetMatches old.kept.items (logged old.log.groups.items) c.value_changes c.tick code o
+        (subst (λ o. TargetAgrees old c code o
         (variable_of c code)) had (k.stand code)) in
         omega (arith, slice_get_within old.kept.items first e.3.first e.3.stands)
   ]
@@ -437,9 +423,9 @@ module _ (old new : Variables) (c : ParseState) (scopes : List ScopeName) (code 
           firsts = keep_firsts;
           few = subst (λ vs. length vs ≤ SIGNAL_LIMIT) (sym items)
               (omega (arith, room, length_push old.kept.items (variable_at code s first)));
-          grouped = subst (λ (l : ChangeLog). AreGrouped 0 l.groups.items) (sym log) k.grouped;
-          logs = subst (λ (l : ChangeLog). HasLogs new.kept.items (logged l.groups.items)) (sym log)
-              (subst (λ (vs : List Variable). HasLogs vs (logged old.log.groups.items)) (sym items)
+          grouped = subst (λ (l : Vec (Vec LoggedChange)). AreGrouped 0 l.items) (sym log) k.grouped;
+          logs = subst (λ (l : Vec (Vec LoggedChange)). HasLogs new.kept.items (logged l.items)) (sym log)
+              (subst (λ (vs : List Variable). HasLogs vs (logged old.log.items)) (sym items)
               (λ position some. let v = k.logs position some in
               (v.0, stays old.kept.items (variable_at code s first ∷ []) position v.0 v.1, v.2)));
         },

@@ -12,7 +12,7 @@ use Rattle.vcd_core.specs.Contents.{SignalContents, signal_contents}
 use Rattle.vcd_core.proofs.Waves.{wave_is}
 use Rattle.vcd_text.specs.Grammar.{VariableDeclaration, ParseState, is_skipped, variable_of}
 use Rattle.vcd_text.specs.Meaning.{latest_value, declared_signal}
-use Rattle.vcd_text.specs.inside.Variables.{declaration, HasWave, TargetMatches, VariablesMatch, Finishes}
+use Rattle.vcd_text.specs.inside.Variables.{TargetAgrees, declaration, HasWave, VariablesMatch, Finishes}
 use Rattle.vcd_text.specs.declared.reading.variables.Variable.{Variable}
 use Rattle.vcd_text.specs.declared.reading.variables.Variables.{Variables}
 use Rattle.vcd_text.specs.inside.ChangeLog.{GivesLoggedValues, logged}
@@ -47,17 +47,17 @@ map_twice f [] = refl
 map_twice f (v ∷ vs) = ap (λ l. f (declaration v) ∷ l) (map_twice f vs)
 
 module _ (vs : Variables) (c : ParseState) (yielded rest : List Variable) (v : Variable) (signals : List Signal)
-    (k : VariablesMatch vs c) (empty : vs.log.groups.items ≡ []) (all : vs.kept.items ≡ yielded ++ v ∷ rest)
+    (k : VariablesMatch vs c) (empty : vs.log.items ≡ []) (all : vs.kept.items ≡ yielded ++ v ∷ rest)
     (told : map signal_contents signals ≡ map (declared_signal c.value_changes c.tick) (map declaration yielded)) where
   stands_at : slice_get vs.kept.items (length yielded) ≡ Some v
   stands_at = ap (λ l. slice_get l (length yielded)) all ∙ middle_of yielded rest v
 
   own_wave : (d : VariableDeclaration) × (variable_of c v.code ≡ Some d) × (is_skipped d ≡ false)
-      × HasWave vs.kept.items (logged vs.log.groups.items) v.first v.code d.size c.value_changes c.tick
+      × HasWave vs.kept.items (logged vs.log.items) v.first v.code d.size c.value_changes c.tick
   own_wave =
-      stands_kept vs.kept.items (logged vs.log.groups.items) c.value_changes c.tick v.code (variable_of c v.code)
+      stands_kept vs.kept.items (logged vs.log.items) c.value_changes c.tick v.code (variable_of c v.code)
       v.first
-      (subst (λ o. TargetMatches vs.kept.items (logged vs.log.groups.items) c.value_changes c.tick v.code o
+      (subst (λ o. TargetAgrees vs c v.code o
       (variable_of c v.code)) (k.firsts (length yielded) v stands_at).owned (k.stand v.code))
 
   -- the changes of a variable of this size and code

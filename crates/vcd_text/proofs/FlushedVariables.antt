@@ -13,13 +13,12 @@ use Rattle.vcd_text.specs.Meaning.{latest_value}
 use Rattle.vcd_text.specs.inside.ChangeLog.{GivesLoggedValues, changes_of_position, logged, AreGrouped, CanTake}
 use Rattle.vcd_text.specs.inside.ChangeLog.{AppliesToVariable, AppliesLogged, CanFlush, FlushesOne, FlushesLog}
 use Rattle.vcd_text.specs.inside.Variables.{declaration, target_of, HasWave, HasFirst, VariablesMatch}
-use Rattle.vcd_text.specs.declared.reading.variables.CodeTarget.TheVariants.{Kept}
+use Rattle.vcd_text.specs.declared.reading.code_targets.CodeTarget.TheVariants.{Kept}
 use Rattle.vcd_text.specs.declared.reading.change_log.LoggedChange.{LoggedChange}
-use Rattle.vcd_text.specs.declared.reading.change_log.ChangeLog.{ChangeLog}
 use Rattle.vcd_text.specs.declared.reading.variables.Variable.{Variable}
 use Rattle.vcd_text.specs.declared.reading.variables.Variables.{Variables}
 use Rattle.vcd_text.proofs.LoggedValues.{gives_narrow, gives_first, gives_flushed}
-use Rattle.vcd_text.proofs.ChangedVariables.{set_here, set_there, same_length, own_wave}
+use Rattle.vcd_text.proofs.ChangedVariables.{set_here, set_there, same_length, own_wave, with_changes}
 use Rattle.vcd_text.proofs.CodeTargets.{stands_moved}
 
 -- ---- one variable
@@ -164,7 +163,7 @@ more_left e es rest position some = choose (e.position == position)
 -- ---- the variables of a reader
 
 pub variables_can_flush : (vs : Variables) (c : ParseState) → VariablesMatch vs c
-    → CanFlush vs.kept.items (logged vs.log.groups.items)
+    → CanFlush vs.kept.items (logged vs.log.items)
 variables_can_flush vs c k = λ position some.
     let u = k.logs position some in
     let had : target_of vs u.0.code ≡ Some (Kept position) = (k.firsts position u.0 u.1).owned
@@ -176,7 +175,7 @@ variables_can_flush vs c k = λ position some.
       wave.stands,
       c.tick,
       f,
-      subst (λ n. GivesLoggedValues n c.tick f wave.first.signal.wave.changes (logged vs.log.groups.items position))
+      subst (λ n. GivesLoggedValues n c.tick f wave.first.signal.wave.changes (logged vs.log.items position))
           (sym wave.sized) wave.gives,
     )
 
@@ -192,43 +191,34 @@ same_all f (v ∷ vs) (w ∷ ws) long each =
     let tail = same_all f vs ws (omega (arith, long)) (λ position u at. each (suc position) u at) in
     λ i. head i ∷ tail i
 
-module _ (old : Variables) (list : Vec Variable) (log : ChangeLog) (c : ParseState) (k : VariablesMatch old c)
-    (empty : log.groups.items ≡ [])
-    (flushes_log : FlushesLog old.kept.items list.items (logged old.log.groups.items) (λ _. [])) where
-  flushed : Variables
-  flushed = record {
-    kept = list;
-    widths = old.widths;
-    code_targets = old.code_targets;
-    skipped = old.skipped;
-    log =
-        log;
-  }
-
+module _ (old : Variables) (list : Vec Variable) (log : Vec (Vec LoggedChange)) (c : ParseState)
+    (k : VariablesMatch old c)
+    (empty : log.items ≡ [])
+    (flushes_log : FlushesLog old.kept.items list.items (logged old.log.items) (λ _. [])) where
   -- the variable at a position before
   stood : (position : ℕ) (w : Variable) → slice_get list.items position ≡ Some w
       → (v : Variable) × (slice_get old.kept.items position ≡ Some v)
-      × FlushesOne v w (logged old.log.groups.items position) []
+      × FlushesOne v w (logged old.log.items position) []
   stood position w at = elim (slice_get_cases old.kept.items position).1 [
     | inl (v, within, there, read) ↦
         let u = flushes_log.each position v there in (
           v,
           there,
-          subst (λ x. FlushesOne v x (logged old.log.groups.items position) [])
+          subst (λ x. FlushesOne v x (logged old.log.items position) [])
               (same_Some u.0 w (sym u.1 ∙ at)) u.2,
         )
     | inr (past, none) ↦ absurd (omega (arith, past, flushes_log.long, slice_get_within list.items position w at))
   ]
 
   flushed_wave : (position : ℕ) (code : List ℕ) (size : ℕ)
-      → HasWave old.kept.items (logged old.log.groups.items) position code size c.value_changes c.tick
-      → HasWave list.items (logged log.groups.items) position code size c.value_changes c.tick
+      → HasWave old.kept.items (logged old.log.items) position code size c.value_changes c.tick
+      → HasWave list.items (logged log.items) position code size c.value_changes c.tick
   flushed_wave position code size wave =
       let u = flushes_log.each position wave.first wave.stands in
       let f : ℕ → List Bit = λ t. latest_value size code t (all_x size) c.value_changes in
       let before : GivesLoggedValues wave.first.signal.wave.width c.tick f wave.first.signal.wave.changes
-      (logged old.log.groups.items position) =
-      subst (λ n. GivesLoggedValues n c.tick f wave.first.signal.wave.changes (logged old.log.groups.items position))
+      (logged old.log.items position) =
+      subst (λ n. GivesLoggedValues n c.tick f wave.first.signal.wave.changes (logged old.log.items position))
       (sym wave.sized) wave.gives in
       record {
         first = u.0;
@@ -240,8 +230,8 @@ module _ (old : Variables) (list : Vec Variable) (log : ChangeLog) (c : ParseSta
             ∙ wave.sized) (u.2.gives c.tick f before));
       }
 
-  flushed_firsts : (position : ℕ) (w : Variable) → slice_get list.items position ≡ Some w → HasFirst flushed position w
-  unfolding flushed
+  flushed_firsts : (position : ℕ) (w : Variable) → slice_get list.items position ≡ Some w
+      → HasFirst (with_changes old list log) position w
   flushed_firsts position w at =
       let v = stood position w at in
       let before = k.firsts position v.0 v.1 in
@@ -255,23 +245,16 @@ module _ (old : Variables) (list : Vec Variable) (log : ChangeLog) (c : ParseSta
       }
 
   -- the waves have the changes of the log
-  pub flushed_match : VariablesMatch (record {
-    kept = list;
-    widths = old.widths;
-    code_targets = old.code_targets;
-    skipped = old.skipped;
-    log = log;
-  }) c
-  unfolding flushed
+  pub flushed_match : VariablesMatch (with_changes old list log) c
   flushed_match = record {
     kept = k.kept ∙ sym (same_all declaration old.kept.items list.items flushes_log.long
         (λ position v at. let w = flushes_log.each position v at in
-        (w.0, w.1, same_declaration v w.0 (logged old.log.groups.items position) [] w.2)));
+        (w.0, w.1, same_declaration v w.0 (logged old.log.items position) [] w.2)));
     skipped = k.skipped;
     widths = k.widths ∙ sym (same_all (λ (v : Variable). v.signal.wave.width) old.kept.items list.items flushes_log.long
         (λ position v at. let w = flushes_log.each position v at in (w.0, w.1, w.2.same.width)));
     stand = λ code.
-        stands_moved old.kept.items list.items (logged old.log.groups.items) (logged log.groups.items) c.value_changes
+        stands_moved old.kept.items list.items (logged old.log.items) (logged log.items) c.value_changes
         c.value_changes c.tick c.tick code (target_of old code) (variable_of c code)
         (λ position size _ wave. flushed_wave position code size wave) (k.stand code);
     firsts = flushed_firsts;

@@ -9,6 +9,7 @@ use Rattle.vcd_text.specs.Meaning.{latest_value}
 use Rattle.vcd_text.specs.inside.ChangeLog.{logged}
 use Rattle.vcd_text.specs.declared.reading.change_log.LoggedChange.{LoggedChange}
 use Rattle.vcd_text.proofs.LoggedValues.{gives_further}
+use Rattle.vcd_text.specs.inside.Variables.{TargetAgrees}
 use Rattle.vcd_text.specs.inside.Variables.{declaration, without_scopes, target_of, HasWave, TargetMatches}
 use Rattle.vcd_text.specs.inside.Variables.{VariablesMatch}
 use Rattle.vcd_text.specs.declared.reading.variables.Variable.{Variable}
@@ -36,13 +37,13 @@ knows_further vs c d declared value_changes later k = record {
   skipped = subst (λ ds. vs.skipped ≡ count_by is_skipped ds) declared k.skipped;
   widths = k.widths;
   stand = λ code.
-      stands_moved vs.kept.items vs.kept.items (logged vs.log.groups.items) (logged vs.log.groups.items) d.value_changes
+      stands_moved vs.kept.items vs.kept.items (logged vs.log.items) (logged vs.log.items) d.value_changes
       d.value_changes c.tick d.tick code (target_of vs code) (find (λ e. bytes_eq code e.code) d.declared)
-      (λ position size _ wave. wave_further vs.kept.items (logged vs.log.groups.items) d.value_changes c.tick d.tick
+      (λ position size _ wave. wave_further vs.kept.items (logged vs.log.items) d.value_changes c.tick d.tick
       position code size later wave)
-      (subst (λ rs. TargetMatches vs.kept.items (logged vs.log.groups.items) rs c.tick code (target_of vs code)
+      (subst (λ rs. TargetMatches vs.kept.items (logged vs.log.items) rs c.tick code (target_of vs code)
       (find (λ e. bytes_eq code e.code) d.declared)) value_changes
-      (subst (λ ds. TargetMatches vs.kept.items (logged vs.log.groups.items) c.value_changes c.tick code
+      (subst (λ ds. TargetAgrees vs c code
       (target_of vs code) (find (λ e. bytes_eq code e.code) ds)) declared (k.stand code)));
   firsts = k.firsts;
   few = k.few;
@@ -58,7 +59,7 @@ same_codes vs code_targets c same k = record {
   kept = k.kept;
   skipped = k.skipped;
   widths = k.widths;
-  stand = λ code. subst (λ m. TargetMatches vs.kept.items (logged vs.log.groups.items) c.value_changes c.tick code
+  stand = λ code. subst (λ m. TargetAgrees vs c code
       (code_target m code) (variable_of c code)) (sym same) (k.stand code);
   firsts = λ position v at. let first = k.firsts position v at in
       record {

@@ -2,8 +2,8 @@
 use Rattle.std.specs.Prelude.{◌≡◌, ℕ, ◌+◌, ◌-◌, ◌*◌, ◌<◌, List, [], ◌∷◌, slice_get, Option, Some, bytes_eq}
 use Rattle.std.specs.Global.{Vec}
 use Rattle.indexmap.specs.IndexMap.{IndexMap, get_by}
-use Rattle.vcd_text.specs.declared.reading.variables.CodeTarget.{CodeTarget}
-use Rattle.vcd_text.specs.declared.reading.variables.CodeTarget.TheVariants.{Kept}
+use Rattle.vcd_text.specs.declared.reading.code_targets.CodeTarget.{CodeTarget}
+use Rattle.vcd_text.specs.declared.reading.code_targets.CodeTarget.TheVariants.{Kept}
 
 -- the place of a code whose bytes are 1 to 127: they are its digits to the base 128, the lowest first
 abbrev pub HasPlace : List ℕ → ℕ → Type 0

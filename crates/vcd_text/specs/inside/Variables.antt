@@ -19,8 +19,8 @@ use Rattle.vcd_text.specs.Meaning.{latest_value}
 use Rattle.vcd_text.specs.inside.ShortCodes.{code_target}
 use Rattle.vcd_text.specs.inside.ChangeLog.{GivesLoggedValues, logged, AreGrouped}
 use Rattle.vcd_text.specs.declared.reading.change_log.LoggedChange.{LoggedChange}
-use Rattle.vcd_text.specs.declared.reading.variables.CodeTarget.{CodeTarget}
-use Rattle.vcd_text.specs.declared.reading.variables.CodeTarget.TheVariants.{Skipped, Kept}
+use Rattle.vcd_text.specs.declared.reading.code_targets.CodeTarget.{CodeTarget}
+use Rattle.vcd_text.specs.declared.reading.code_targets.CodeTarget.TheVariants.{Skipped, Kept}
 use Rattle.vcd_text.specs.declared.reading.variables.Variable.{Variable}
 use Rattle.vcd_text.specs.declared.reading.variables.Variables.{Variables}
 
@@ -67,6 +67,10 @@ TargetMatches vs log value_changes tick code (Some (Kept position)) (Some d) =
     IsFalse (is_skipped d) × HasWave vs log position code d.size value_changes tick
 TargetMatches vs log value_changes tick code target declared = ⊥
 
+-- the target of a code agrees with a declaration of the state
+abbrev pub TargetAgrees : Variables → ParseState → List ℕ → Option CodeTarget → Option VariableDeclaration → Type 0
+TargetAgrees vs c = TargetMatches vs.kept.items (logged vs.log.items) c.value_changes c.tick
+
 -- a kept variable has the position of the first one with its code, which is no later and has the same size
 pub record HasFirst (vs : Variables) (position : ℕ) (v : Variable) : Type 0 where
   pub owned : target_of vs v.code ≡ Some (Kept v.first)
@@ -83,13 +87,11 @@ pub record VariablesMatch (vs : Variables) (c : ParseState) : Type 0 where
   pub kept : map without_scopes (kept_variables c.declared) ≡ map declaration vs.kept.items
   pub skipped : vs.skipped ≡ count_by is_skipped c.declared
   pub widths : vs.widths.items ≡ map (λ (v : Variable). v.signal.wave.width) vs.kept.items
-  pub stand : (code : List ℕ)
-      → TargetMatches vs.kept.items (logged vs.log.groups.items) c.value_changes c.tick code (target_of vs code)
-      (variable_of c code)
+  pub stand : (code : List ℕ) → TargetAgrees vs c code (target_of vs code) (variable_of c code)
   pub firsts : (position : ℕ) (v : Variable) → slice_get vs.kept.items position ≡ Some v → HasFirst vs position v
   pub few : length vs.kept.items ≤ SIGNAL_LIMIT
-  pub grouped : AreGrouped 0 vs.log.groups.items
-  pub logs : HasLogs vs.kept.items (logged vs.log.groups.items)
+  pub grouped : AreGrouped 0 vs.log.items
+  pub logs : HasLogs vs.kept.items (logged vs.log.items)
 
 -- ---- the result of a declaration
 
@@ -141,12 +143,6 @@ pub record Sets (tick : ℕ) (digits : List ℕ) (old new : Variable) : Type 0 w
   pub values : (t : ℕ) → value_at new.signal.wave.width new.signal.wave.changes t
       ≡ (if nat_le tick t then extension old.signal.wave.width (letters_of_digits digits) else value_at
       old.signal.wave.width old.signal.wave.changes t)
-
--- a variable of this width refuses the digits
-abbrev pub RefusesBinaryNumber : (width : ℕ) → List ℕ → Fault → Type 0
-RefusesBinaryNumber width digits fault =
-    (IsFalse (is_binary_number digits) × (fault ≡ faults.BadChange))
-    ⊎ (IsTrue (is_binary_number digits) × (width < length digits) × (fault ≡ faults.ValueTooLong))
 
 -- ---- the result of a change with these digits
 

@@ -29,36 +29,8 @@ pub struct LoggedChange {
     pub word: LetterWord,
 }
 
-/// The changes that waves do not have yet, in groups. Each group has the order of the file.
-#[derive(Drop)]
-pub struct ChangeLog {
-    pub groups: Vec<Vec<LoggedChange>>,
-}
-
-impl ChangeLog {
-    /// An empty log. It takes no memory.
-    pub fn new(alloc: Global) -> ChangeLog
-        ensures { result.groups.items ≡ [] }
-    {
-        ChangeLog {
-            groups: Vec::new(alloc),
-        }
-    }
-
-    /// Appends a change: 32 bytes.
-    pub fn append(&mut self, alloc: Global, change: LoggedChange) -> Result<(), NoMemory>
-        requires { AreGrouped 0 self.old.groups.items }
-        ensures grouped { OnOk result (AreGrouped 0 self.new.groups.items) }
-        ensures logged { OnOk result ((position : ℕ) → logged self.new.groups.items position ≡
-            (if change.position == position then logged self.old.groups.items position ++ change ∷ []
-            else logged self.old.groups.items position)) }
-    {
-        append_change(&mut self.groups, alloc, change)
-    }
-}
-
-/// Appends a change to its group.
-fn append_change(
+/// Appends a change to its group. Each group has the order of the file.
+pub fn append(
     groups: &mut Vec<Vec<LoggedChange>>,
     alloc: Global,
     change: LoggedChange,
@@ -75,7 +47,7 @@ fn append_change(
     Ok(())
 }
 
-/// Adds empty groups up to `GROUPS`.
+/// Adds empty groups up to this number.
 fn add_groups(
     groups: &mut Vec<Vec<LoggedChange>>,
     alloc: Global,

@@ -12,7 +12,7 @@ ghost use Rattle.vcd_text.specs.inside.Reading.{IsUnderway, WordResult, BeginsVe
 ghost use Rattle.vcd_text.specs.declared.reading.reader.OpenItem.TheVariants as items;
 
 use crate::fault::Fault;
-use crate::reading::binary_number::is_binary_digit;
+use crate::reading::digits::is_binary_digit;
 use crate::reading::keywords::{is_declaring, is_dump_word};
 use crate::reading::reader::{OpenItem, Reader};
 use crate::reading::ticks_and_sizes::tick_of;

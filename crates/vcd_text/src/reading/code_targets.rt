@@ -1,13 +1,21 @@
 //! The targets of a file's codes: a map, and a table for short codes.
 
 ghost use Rattle.std.specs.Prelude.{◌≡◌, ◌⊎◌, ◌+◌, ◌<◌, ◌≤◌, ◌^◌, ℕ, List, length, if◌then◌else◌, slice_get, Some, None, IfSome, IfOk, OnOk, bytes_eq};
-ghost use Rattle.vcd_text.specs.declared.reading.variables.CodeTarget.TheVariants.{Kept as KeptAt};
+ghost use Rattle.vcd_text.specs.declared.reading.code_targets.CodeTarget.TheVariants.{Kept as KeptAt};
 ghost use Rattle.vcd_text.specs.inside.ShortCodes.{HasPlace, TableAgrees, code_target};
 
-use crate::reading::variables::CodeTarget;
 use indexmap::IndexMap;
 use std::alloc::Global;
 use vcd_core::{NoMemory, SIGNAL_LIMIT, copy_word};
+
+/// The target of a code.
+#[derive(Clone, Copy, Debug, PartialEq, Eq)]
+pub enum CodeTarget {
+    /// A skipped variable.
+    Skipped,
+    /// The kept variable at this position, the first with the code.
+    Kept(usize),
+}
 
 /// The targets of the codes.
 #[derive(Drop)]

@@ -25,5 +25,5 @@ returns c =
     let long : length (letters_of_digits digits) ≤ c.args.width =
     omega (arith, c.requires.fits, length-map digits (λ b. unwrap_or (letter_of_digit b) X)) in
     of_the_word c.args.width (letters_of_digits digits) c.pad_of.result (list_all is_binary_digit digits ≡ false)
-    (list_all is_binary_digit digits ≡ true) c.word_read.result long c.requires.narrow c.pad_of.ensures
-    c.word_read.ensures
+    (list_all is_binary_digit digits ≡ true) c.word_of_digits.result long c.requires.narrow c.pad_of.ensures
+    c.word_of_digits.ensures

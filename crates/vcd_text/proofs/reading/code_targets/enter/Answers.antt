@@ -1,6 +1,6 @@
 use Rattle.std.proofs.Common.{◌≡◌, Some, sym, ap, ◌∙◌}
 use Rattle.std.proofs.lemmas.Result.{on_ok_weaker}
-use Rattle.vcd_text.specs.declared.reading.variables.CodeTarget.TheVariants.{Kept}
+use Rattle.vcd_text.specs.declared.reading.code_targets.CodeTarget.TheVariants.{Kept}
 use Rattle.vcd_text.specs.inside.ShortCodes.{code_target}
 use Rattle.vcd_text.proofs.ShortCodes.{agrees_more}
 use Rattle.vcd_text.proofs.reading.code_targets.enter.Goals as goal

@@ -49,7 +49,7 @@ pub returns : goal.returns
 returns c = λ told code tick k had.
     let e : LoggedChange =
     record { tick = c.args.tick; position = c.args.first; word = c.in_ok-word.word } in
-    narrow_changes c.args.self.now c.append.new.self told code c.args.digits.now c.args.first c.index-width.result.now e
-    k had c.index-width.ensures
+    narrow_changes c.args.self.now c.append.new.groups told code c.args.digits.now c.args.first
+    c.index-width.result.now e k had c.index-width.ensures
     (omega (arith, c.if-width-gt64.false)) (sym tick) refl c.in_ok-word.ensures c.in_ok-append.ensures.grouped
     c.in_ok-append.ensures.logged tt

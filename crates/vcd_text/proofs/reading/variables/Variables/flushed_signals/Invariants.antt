@@ -8,6 +8,6 @@ use Rattle.vcd_text.proofs.reading.variables.Variables.flushed_signals.Given as 
 abbrev pub invariant-loop-variable : goal.invariant-loop-variable
 invariant-loop-variable l =
     (l.fn.self.kept.items ≡ l.yielded ++ l.variable-iterator.rest.items)
-    × (l.fn.self.log.groups.items ≡ [] → (c : ParseState) → VariablesMatch l.fn.self c
+    × (l.fn.self.log.items ≡ [] → (c : ParseState) → VariablesMatch l.fn.self c
     → map signal_contents l.signals.items
     ≡ map (declared_signal c.value_changes c.tick) (map declaration l.yielded))

@@ -3,7 +3,7 @@ use Rattle.std.proofs.Common.{◌≡◌, ◌*◌, true, take}
 use Rattle.std.specs.List.{list_all}
 use Rattle.vcd_text.specs.Letters.{is_binary_digit, letters_of_digits}
 use Rattle.vcd_core.specs.WordRows.{HoldsLetters}
-use Rattle.vcd_text.proofs.reading.binary_number.word_read.Given as goal
+use Rattle.vcd_text.proofs.reading.digit_words.word_of_digits.Given as goal
 
 abbrev pub invariant-loop-eight : goal.invariant-loop-eight
 invariant-loop-eight l = record {

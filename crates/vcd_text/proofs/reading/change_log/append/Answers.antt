@@ -2,7 +2,7 @@ use Rattle.std.proofs.Common.{◌<◌, ◌%◌, ◌==◌, ◌++◌, [], ◌∷�
 use Rattle.std.proofs.lemmas.Option.{slice_get-get_or}
 use Rattle.vcd_text.specs.declared.reading.change_log.TheConstants.{GROUPS}
 use Rattle.vcd_text.proofs.ChangeLogs.{logged_with, grouped_with}
-use Rattle.vcd_text.proofs.reading.change_log.append_change.Goals as goal
+use Rattle.vcd_text.proofs.reading.change_log.append.Goals as goal
 
 pub returns-clause-grouped : goal.returns-clause-grouped
 returns-clause-grouped c =

@@ -2,7 +2,7 @@
 use Rattle.std.proofs.Common.{◌≡◌, take}
 use Rattle.std.specs.List.{list_all}
 use Rattle.vcd_text.specs.inside.LetterWords.{is_two_state}
-use Rattle.vcd_text.proofs.reading.binary_number.are_two_state.Given as goal
+use Rattle.vcd_text.proofs.reading.digit_words.are_two_state.Given as goal
 
 abbrev pub invariant-loop-digit : goal.invariant-loop-digit
 invariant-loop-digit l = record {

@@ -3,7 +3,7 @@ use Rattle.std.specs.Prelude.{unwrap_or}
 use Rattle.vcd_core.specs.declared.bit.Bit.TheVariants.{X}
 use Rattle.vcd_text.specs.inside.LetterWords.{AddsLetters}
 use Rattle.vcd_text.proofs.LetterWords.{adds_one}
-use Rattle.vcd_text.proofs.reading.binary_number.with_two_state_digit.Goals as goal
+use Rattle.vcd_text.proofs.reading.digit_words.with_two_state_digit.Goals as goal
 
 pub returns : goal.returns
 returns c =

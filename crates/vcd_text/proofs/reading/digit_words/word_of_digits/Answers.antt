@@ -11,7 +11,7 @@ use Rattle.vcd_text.specs.Letters.{is_binary_digit, letters_of_digits}
 use Rattle.vcd_text.specs.inside.LetterWords.{AddsLetters}
 use Rattle.vcd_text.proofs.LetterWords.{eight_at, eight_more, holds_both, both_are_digits, not_all_after}
 use Rattle.vcd_text.proofs.LetterWords.{not_all_before}
-use Rattle.vcd_text.proofs.reading.binary_number.word_read.Goals as goal
+use Rattle.vcd_text.proofs.reading.digit_words.word_of_digits.Goals as goal
 
 -- the digits of one of the eights
 eight_digits : (digits : List ℕ) (eights : List (List ℕ)) (i : ℕ) → eights ≡ first_chunks 8 (length digits / 8) digits

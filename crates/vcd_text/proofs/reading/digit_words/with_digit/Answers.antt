@@ -4,7 +4,7 @@ use Rattle.vcd_core.specs.declared.bit.Bit.TheVariants.{X}
 use Rattle.vcd_text.specs.Letters.{letter_of_digit}
 use Rattle.vcd_text.specs.inside.LetterWords.{AddsLetters}
 use Rattle.vcd_text.proofs.LetterWords.{adds_one}
-use Rattle.vcd_text.proofs.reading.binary_number.with_digit.Goals as goal
+use Rattle.vcd_text.proofs.reading.digit_words.with_digit.Goals as goal
 
 pub returns : goal.returns
 returns c =

@@ -3,7 +3,7 @@ use Rattle.std.proofs.Common.{◌≡◌, true, take}
 use Rattle.std.specs.List.{list_all}
 use Rattle.vcd_text.specs.Letters.{is_binary_digit, letters_of_digits}
 use Rattle.vcd_text.specs.inside.LetterWords.{AddsLetters}
-use Rattle.vcd_text.proofs.reading.binary_number.with_digits.Given as goal
+use Rattle.vcd_text.proofs.reading.digit_words.with_digits.Given as goal
 
 abbrev pub invariant-loop-digit : goal.invariant-loop-digit
 invariant-loop-digit l = record {

@@ -2,7 +2,7 @@
 use Rattle.std.proofs.Common.{take}
 use Rattle.vcd_text.specs.Letters.{letters_of_digits}
 use Rattle.vcd_text.specs.inside.LetterWords.{AddsLetters}
-use Rattle.vcd_text.proofs.reading.binary_number.with_two_state_digits.Given as goal
+use Rattle.vcd_text.proofs.reading.digit_words.with_two_state_digits.Given as goal
 
 abbrev pub invariant-loop-digit : goal.invariant-loop-digit
 invariant-loop-digit l = record {

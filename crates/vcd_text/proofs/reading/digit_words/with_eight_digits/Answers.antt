@@ -2,7 +2,7 @@ use Rattle.std.proofs.Common.{◌≡◌, ◌∙◌, ℕ, true, rules, sym}
 use Rattle.vcd_text.specs.Letters.{is_binary_digit}
 use Rattle.vcd_text.specs.inside.LetterWords.{is_two_state}
 use Rattle.vcd_text.proofs.WeakerTests.{all_weaker}
-use Rattle.vcd_text.proofs.reading.binary_number.with_eight_digits.Goals as goal
+use Rattle.vcd_text.proofs.reading.digit_words.with_eight_digits.Goals as goal
 
 two_state_is_digit : (digit : ℕ) → is_two_state digit ≡ true → is_binary_digit digit ≡ true
 two_state_is_digit digit two = search rules

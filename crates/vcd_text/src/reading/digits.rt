@@ -1,0 +1,73 @@
+//! Binary digits and their letters (IEEE 1364-2005, 18.2).
+
+ghost use Rattle.std.specs.Prelude.{◌≡◌, true, unwrap_or, Some};
+ghost use Rattle.std.specs.List.{list_all};
+ghost use Rattle.vcd_core.specs.declared.bit.Bit.TheVariants.{X};
+ghost use Rattle.vcd_text.specs.Letters.{letter_of_digit, is_binary_digit as digit_test, letters_of_digits, pad_letter};
+ghost use Rattle.vcd_text.specs.inside.LetterWords.{is_two_state};
+
+use vcd_core::Bit;
+
+/// The letter that a binary digit writes; none for any other byte.
+pub fn letter_of_digit(digit: u8) -> Option<Bit>
+    ensures { result ≡ letter_of_digit digit }
+{
+    match digit {
+        b'0' | b'l' | b'L' => Some(Bit::Zero),
+        b'1' | b'h' | b'H' => Some(Bit::One),
+        b'x' | b'X' | b'u' | b'U' | b'w' | b'W' | b'-' => Some(Bit::X),
+        b'z' | b'Z' => Some(Bit::Z),
+        _ => None,
+    }
+}
+
+/// Whether all bytes are binary digits.
+pub fn are_binary_digits(bytes: &[u8]) -> bool
+    ensures { result ≡ list_all digit_test bytes.now }
+{
+    bytes.iter().all(|byte| is_binary_digit(*byte))
+}
+
+/// Whether a byte is a binary digit.
+pub fn is_binary_digit(byte: u8) -> bool
+    ensures { result ≡ digit_test byte }
+{
+    // nearly all digits are 0 or 1
+    is_two_state(byte) || letter_of_digit(byte).is_some()
+}
+
+/// Whether a digit is 0 or 1.
+pub fn is_two_state(digit: u8) -> bool
+    ensures { result ≡ is_two_state digit }
+{
+    digit == b'0' || digit == b'1'
+}
+
+/// The letter of a digit, 0 or 1.
+pub fn two_state_letter(digit: u8) -> Bit
+    requires { is_two_state digit ≡ true }
+    ensures { letter_of_digit digit ≡ Some result }
+{
+    if digit == b'1' { Bit::One } else { Bit::Zero }
+}
+
+/// The letter that extends these digits on the left.
+pub fn pad_of(digits: &[u8]) -> Bit
+    ensures { result ≡ pad_letter (letters_of_digits digits.now) }
+{
+    match digits {
+        [first, ..] if is_two_state(*first) => Bit::Zero,
+        [first, ..] => match bit_or_x(*first) {
+            Bit::Zero | Bit::One => Bit::Zero,
+            letter => letter,
+        },
+        [] => Bit::X,
+    }
+}
+
+/// The letter of a byte, or x where it is no binary digit.
+fn bit_or_x(digit: u8) -> Bit
+    ensures { result ≡ unwrap_or (letter_of_digit digit) X }
+{
+    letter_of_digit(digit).unwrap_or(Bit::X)
+}
