@@ -8,10 +8,11 @@
      late-lines    20,000 lines go to both devices, each by a call of its own
      late-bytes    they go there by one call, and each byte of the capture is read by a call of its own
      late-call     a call of the program `vcd_alloc_failures` that changes what it holds before its growth
+     late-held     a call of that program that holds a byte too much for the change that it stores
 
-   The first four are for `growths`, `late-output` and the three after `late-count` for `devices`, and the last for
-   `library_growths`. A program of the first five refuses each line of its script, with a growth for each and one
-   after them, and then writes its output. */
+   The first four are for `growths`, `late-output` and the three after `late-count` for `devices`, `late-call` for
+   `library_growths`, and the last for `held_bytes`. A program of the first five refuses each line of its script, with
+   a growth for each and one after them, and then writes its output. */
 #include "libc.h"
 
 static const char *name;
@@ -43,6 +44,17 @@ static int call(int makes) {
         say(held ? "done\n" : "NoMemory\n");
     }
     say(state ? "1\n" : "0\n");
+    return 0;
+}
+
+/* A record of one change that holds a byte more than it may. */
+static int let_go(void) {
+    void *volatile held = malloc(272 + 300 + 1);
+    say("stored 1\n");
+    say("refuse\n");
+    free(held);
+    say("allow\n");
+    say("done\n");
     return 0;
 }
 
@@ -111,6 +123,8 @@ int main(int count, char **words) {
     name = words[0];
     if (is("late-call"))
         return call(!strcmp(words[1], "make"));
+    if (is("late-held"))
+        return let_go();
     if (is("late-lines") || is("late-bytes"))
         return write_lines(words[2], words[count - 1]);
     return refuse_lines(words[4], words[count - 1]);

@@ -1,7 +1,7 @@
 //! The calls by their names.
 
 use crate::decoders::call_decoder;
-use crate::edits::{call_apply, call_revert};
+use crate::edits::{call_apply, call_held, call_revert};
 use crate::files::{call_read, call_write, count_write, read_bytes};
 use crate::printing::Stopped;
 use crate::sessions::{call_new, call_run, call_step};
@@ -16,7 +16,7 @@ pub struct Call<'a> {
     pub name: &'a str,
     /// The word after the call's name, or empty: an edit, a step or `shared`.
     pub argument: &'a str,
-    /// The word after that, or empty: the steps made before.
+    /// The word after that, or empty: the steps made before, or `undo`.
     pub before: &'a str,
     /// The text of the capture.
     pub text: &'a [u8],
@@ -31,6 +31,7 @@ pub fn make_call<R: Runtime + AllocGlobal>(rt: &R, call: &Call) -> Result<(), St
         "counted" => count_write(rt, call),
         "bytes" => read_bytes(rt, call),
         "apply" => call_apply(rt, call),
+        "held" => call_held(rt, call),
         "revert" => call_revert(rt, call),
         "uart" | "spi" | "i2c" => call_decoder(rt, call),
         "Session::new" => call_new(rt, call),

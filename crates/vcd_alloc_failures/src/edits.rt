@@ -126,6 +126,33 @@ fn make_revert<R: Runtime + AllocGlobal>(
     }
 }
 
+/// `apply`, and `revert` if `undo` is asked for. The last record is then let go between the two lines, so that what it
+/// holds can be counted.
+pub fn call_held<R: Runtime + AllocGlobal>(rt: &R, call: &Call) -> Result<(), Stopped> {
+    let Some(edit) = edit_named(call.argument) else {
+        return Err(Stopped);
+    };
+    let mut capture = capture_of_text(rt.alloc(), call.text)?;
+    let Ok(way) = apply(rt.alloc(), &mut capture, &edit) else {
+        return Err(Stopped);
+    };
+    if call.before != "undo" {
+        return let_go(rt, way);
+    }
+    match revert(rt.alloc(), &mut capture, way) {
+        Ok(forth) => let_go(rt, forth),
+        Err(_) => Err(Stopped),
+    }
+}
+
+/// Prints how many changes a record stores, and lets it go between the two lines.
+fn let_go<R: Runtime>(rt: &R, record: Record) -> Result<(), Stopped> {
+    println!(rt; "stored {}", record.stored())?;
+    refuse(rt)?;
+    drop(record);
+    allow(rt, DONE)
+}
+
 /// A capture, how many changes a record on it stores, and the capture after the record.
 fn print_record<R: Runtime + AllocGlobal>(
     rt: &R,

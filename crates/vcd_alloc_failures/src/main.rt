@@ -8,7 +8,7 @@
 //! `done` or the name of a fault. Last it writes all that the call left. A test refuses growths of memory between the
 //! two lines, and compares that with the output of `omit`. That leaves out only the call, and for `run` only the step
 //! at that position. The call `counted` writes the capture to a sink that counts its calls, and prints the counts. The
-//! call `bytes` reads the capture byte by byte.
+//! call `bytes` reads the capture byte by byte. The call `held` lets a record go between the two lines.
 #![tactic(auto)]
 
 mod calls;
@@ -28,7 +28,7 @@ use std::{env, io};
 use vcd_core::{FromRead, read_whole};
 
 /// The most bytes of a capture.
-pub const TEXT_LIMIT: usize = 1_000_000;
+pub const TEXT_LIMIT: usize = 32_000_000;
 
 fn main(rt: HostRuntime) -> ExitCode {
     match answer_words(&rt) {

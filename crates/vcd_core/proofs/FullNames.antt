@@ -3,7 +3,7 @@ use Rattle.std.proofs.Common.{◌≡◌, Bool, true, false, suc, append_assoc, l
 use Rattle.std.proofs.Common.{◌+◌, ◌*◌, slice_index_or}
 use Rattle.std.proofs.Common.{◌<◌, ◌≤◌, List, [], ◌∷◌, ◌++◌, length, get_or, take, drop, map, refl, sym, ap, ◌∙◌}
 use Rattle.std.proofs.Common.{append-nil, arith}
-use Rattle.std.specs.List.{concat, list_any}
+use Rattle.std.specs.List.{concat, flat_map, list_any}
 use Rattle.std.proofs.lemmas.Slice.Eq.{bytes_eq-Decides}
 use Rattle.std.specs.Str.{bytes_eq}
 use Rattle.std.proofs.lemmas.List.{take_all, get_or-append-add, length-drop, take-append-drop}
@@ -12,7 +12,8 @@ use Rattle.vcd_core.specs.declared.capture.Signal.{Signal}
 use Rattle.vcd_core.specs.declared.full_name.FullName.{FullName}
 use Rattle.vcd_core.specs.Contents.{signal_contents}
 use Rattle.vcd_core.specs.Names.{name_in, scope_text, full_name, full_names}
-use Rattle.vcd_core.specs.FullName.{name_bytes}
+use Rattle.vcd_core.specs.FullName.{bytes_after, name_bytes}
+use Rattle.vcd_core.specs.inside.EndKeys.{dotted_scope}
 use Rattle.vcd_core.specs.inside.NameParts.{IsDrained}
 
 -- a name in no scope is its words, run together
@@ -71,16 +72,6 @@ is_one_of_names name signals = list_any-map full_name (bytes_eq name) (map signa
 
 -- ---- the end of a name
 
--- the last of several words, where the first is given apart
-pub last_word_of : (first : List ℕ) (others : List (List ℕ)) (w : List ℕ) → 1 ≤ length others
-    → w ≡ get_or others (length others - 1) w → (front : List ℕ) × (first ++ concat others ≡ front ++ w)
-last_word_of first [] w some is = absurd (omega arith)
-last_word_of first (v ∷ []) w some is = (first, ap (λ l. first ++ l) (append-nil v ∙ sym is))
-last_word_of first (v ∷ u ∷ us) w some is =
-    let place : length (v ∷ u ∷ us) - 1 ≡ suc (length (u ∷ us) - 1) = omega arith in
-    let rest = last_word_of (first ++ v) (u ∷ us) w (omega arith) (is ∙ ap (λ k. get_or (v ∷ u ∷ us) k w) place) in
-    (rest.0, sym (append_assoc first v (concat (u ∷ us))) ∙ rest.1)
-
 -- a name in scopes ends with its words
 pub name_in_ends : (scopes : List ScopeName) (words : List (List ℕ))
     → (front : List ℕ) × (name_in scopes words ≡ front ++ concat words)
@@ -92,20 +83,21 @@ name_in_ends (scope ∷ scopes) words =
           ∙ sym (append_assoc (scope_text scope) (46 ∷ rest.0) (concat words)),
     )
 
--- a name of which a scope is left ends with the words of the variable
-pub end_in_scope : (n : FullName) → n.in_scope ≡ true
-    → (front : List ℕ) × (front ++ (n.first.now ++ concat n.others.now) ≡ name_bytes n)
-end_in_scope n within =
-    let scoped = name_in_ends n.scopes.now (n.first.now ∷ n.others.now) in
-    let before = concat n.words.now ++ 46 ∷ scoped.0 in
-    let words = n.first.now ++ concat n.others.now in (
-      n.text.now ++ before,
-      append_assoc n.text.now before words
-          ∙ ap (λ l. n.text.now ++ l) (append_assoc (concat n.words.now) (46 ∷ scoped.0) words)
-          ∙ (λ i. n.text.now ++ (concat n.words.now ++ 46 ∷ sym scoped.1 i))
-          ∙ (λ i. n.text.now ++ (concat n.words.now
-          ++ (if sym within i then 46 ∷ name_in n.scopes.now (n.first.now ∷ n.others.now) else []))),
-    )
+-- a name in scopes is the dotted names of these and its words
+pub name_in_dotted : (scopes : List ScopeName) (words : List (List ℕ))
+    → name_in scopes words ≡ flat_map dotted_scope scopes ++ concat words
+name_in_dotted [] words = name_in-none words
+name_in_dotted (scope ∷ scopes) words =
+    let rest = flat_map dotted_scope scopes in
+    name_in-scope scope scopes words ∙ ap (λ l. scope_text scope ++ 46 ∷ l) (name_in_dotted scopes words)
+    ∙ sym (append_assoc (scope_text scope) (46 ∷ []) (rest ++ concat words))
+    ∙ sym (append_assoc (dotted_scope scope) rest (concat words))
+
+-- what follows the current scope
+pub bytes_dotted : (n : FullName) → n.in_scope ≡ true
+    → 46 ∷ (flat_map dotted_scope n.scopes.now ++ (n.first.now ++ (concat n.others.now ++ []))) ≡ bytes_after n
+bytes_dotted n within = rw (within, append-nil)
+    (ap (λ (l : List ℕ). 46 ∷ l) (sym (name_in_dotted n.scopes.now (n.first.now ∷ n.others.now))))
 
 -- what texts that end with these two would say of a test, of these two names
 pub not_the_name : (text name : List ℕ) (r : Bool) → r ≡ false → (text ≡ name → r ≡ true) → false ≡ bytes_eq text name
@@ -114,64 +106,3 @@ not_the_name text name r fails passes = choose (bytes_eq text name) ((bytes_eq-D
     choose : (b : Bool) → (b ≡ true → text ≡ name) → false ≡ b
     choose false same = refl
     choose true same = sym fails ∙ passes (same refl)
-
--- several words, the last of which is given
-pub concat_last : (words : List (List ℕ)) (w : List ℕ) → 1 ≤ length words → w ≡ get_or words (length words - 1) w
-    → concat words ≡ concat (take (length words - 1) words) ++ w
-concat_last [] w some is = absurd (omega arith)
-concat_last (v ∷ []) w some is = append-nil v ∙ sym is
-concat_last (v ∷ u ∷ us) w some is =
-    let place : length (v ∷ u ∷ us) - 1 ≡ suc (length (u ∷ us) - 1) = omega arith in
-    let rest = concat_last (u ∷ us) w (omega arith) (is ∙ ap (λ k. get_or (v ∷ u ∷ us) k w) place) in
-    rw place (ap (λ l. v ++ l) rest ∙ sym (append_assoc v (concat (take (length (u ∷ us) - 1) (u ∷ us))) w))
-
--- two texts of one length that end the same text are the same, and so is what stands before them
-pub before_ends : (x y a b : List ℕ) → length a ≡ length b → x ++ a ≡ y ++ b → x ≡ y
-before_ends [] [] a b one is = refl
-before_ends [] (d ∷ y) a b one is = absurd (omega (arith, ap length is, length-append y b))
-before_ends (c ∷ x) [] a b one is = absurd (omega (arith, ap length is, length-append x a))
-before_ends (c ∷ x) (d ∷ y) a b one is =
-    rw (before_ends x y a b one (ap (drop 1) is)) (ap (λ l. get_or l 0 0 ∷ y) is)
-
--- the same with a last word of words behind a first one
-pub ends_with_last : (x first : List ℕ) (others : List (List ℕ)) (w : List ℕ) → 1 ≤ length others
-    → w ≡ get_or others (length others - 1) w
-    → x ++ (first ++ concat others) ≡ (x ++ (first ++ concat (take (length others - 1) others))) ++ w
-ends_with_last x first others w some is =
-    let front = concat (take (length others - 1) others) in
-    ap (λ l. x ++ (first ++ l)) (concat_last others w some is)
-    ∙ sym (append_assoc x (first ++ front) w ∙ ap (λ l. x ++ l) (append_assoc first front w))
-
-pub words_end_with_last : (y : List ℕ) (words : List (List ℕ)) (w : List ℕ) → 1 ≤ length words
-    → w ≡ get_or words (length words - 1) w
-    → y ++ concat words ≡ (y ++ concat (take (length words - 1) words)) ++ w
-words_end_with_last y words w some is =
-    ap (λ l. y ++ l) (concat_last words w some is) ∙ sym (append_assoc y (concat (take (length words - 1) words)) w)
-
--- bytes at the same distance from the ends of two texts that end the same text
-pub same_place : (x y a b : List ℕ) (i j : ℕ) → x ++ a ≡ y ++ b → length a + j ≡ length b + i
-    → get_or a i 0 ≡ get_or b j 0
-same_place x y a b i j is far =
-    let places : length x + i ≡ length y + j = omega (arith, far, ap length is, length-append x a, length-append y b) in
-    sym (get_or-append-add x a i 0) ∙ ap (λ l. get_or l (length x + i) 0) is
-    ∙ ap (λ k. get_or (y ++ b) k 0) places ∙ get_or-append-add y b j 0
-
-pub same_last_two : (x y a b : List ℕ) → x ++ a ≡ y ++ b → 2 ≤ length a → 2 ≤ length b
-    → slice_index_or a (length a - 2) 0 * 256 + slice_index_or a (length a - 1) 0
-    ≡ slice_index_or b (length b - 2) 0 * 256 + slice_index_or b (length b - 1) 0
-same_last_two x y a b is long longer =
-    let one = same_place x y a b (length a - 2) (length b - 2) is (omega arith) in
-    let two = same_place x y a b (length a - 1) (length b - 1) is (omega arith) in
-    λ i. one i * 256 + two i
-
--- what stands before the end of a text that ends as another one does
-pub before_count : (x y z text : List ℕ) (words : List (List ℕ)) (w : List ℕ) (count : ℕ) → count ≡ length z
-    → count ≤ length text → 1 ≤ length words → w ≡ get_or words (length words - 1) w
-    → x ++ text ≡ (y ++ concat words) ++ z
-    → x ++ take (length text - count) text ≡ (y ++ concat (take (length words - 1) words)) ++ w
-before_count x y z text words w count is within some last same =
-    let front = take (length text - count) text in
-    let back = drop (length text - count) text in
-    let long : length back ≡ length z = omega (arith, length-drop (length text - count) text, is) in
-    let parts = append_assoc x front back ∙ ap (λ l. x ++ l) (take-append-drop (length text - count) text) ∙ same in
-    before_ends (x ++ front) (y ++ concat words) back z long parts ∙ words_end_with_last y words w some last

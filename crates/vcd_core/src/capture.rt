@@ -4,6 +4,7 @@ ghost use Rattle.std.specs.Prelude.{◌≡◌, ◌↔◌, IsTrue};
 ghost use Rattle.vcd_core.specs.Contents.{contents};
 ghost use Rattle.vcd_core.specs.Sound.{IsSound};
 
+use crate::name_words::NameWords;
 use crate::scope_path::ScopePath;
 use crate::seq::Seq;
 use crate::wave::Wave;
@@ -81,7 +82,7 @@ pub struct ScopeName {
 pub struct Signal {
     pub scopes: ScopePath,
     pub kind: Word,
-    pub words: Seq<Word>,
+    pub words: NameWords,
     pub wave: Wave,
 }
 

@@ -1,19 +1,20 @@
 //! Full names, compared byte by byte without building them.
 
-ghost use Rattle.std.specs.Prelude.{◌≡◌, ◌∷◌, ◌++◌, ◌+◌, ◌*◌, ℕ, List, [], IsTrue, MatchOption, length, map};
-ghost use Rattle.std.specs.List.{concat, list_any};
+ghost use Rattle.std.specs.Prelude.{◌≡◌, ◌∷◌, MatchOption, [], map};
+ghost use Rattle.std.specs.List.{list_any};
 ghost use Rattle.std.specs.Str.{bytes_eq};
 ghost use Rattle.vcd_core.specs.Contents.{signal_contents};
 ghost use Rattle.vcd_core.specs.Names.{name_in, full_name, full_names};
 
 use crate::capture::{ScopeName, Signal, Word};
+use crate::end_keys::EndKeys;
 
 /// A full name: the names of scopes, outermost first, and a name, joined by `.`. Several words of
 /// one name are run together.
 ///
 /// It borrows its parts and is never built. Contracts see its bytes. A comparison takes no memory.
-/// It looks at the ends first: signals share the beginnings of their names, and most differ in
-/// their last word.
+/// It looks at the keys of the ends first: signals share the beginnings of their names, and most
+/// differ in their words.
 #[derive(Clone, Copy)]
 pub struct FullName<'a> {
     /// The rest of the current word.
@@ -31,7 +32,8 @@ pub struct FullName<'a> {
 
 impl<'a> FullName<'a> {
     ghost use Rattle.std.specs.Prelude.{List, ℕ, ◌++◌};
-    ghost use Rattle.vcd_core.specs.FullName.{name_bytes};
+    ghost use Rattle.vcd_core.specs.FullName.{bytes_after, name_bytes};
+    ghost use Rattle.vcd_core.specs.inside.EndKeys.{AreKeysOf};
     ghost use Rattle.vcd_core.specs.inside.NameParts.{IsDrained};
 
     /// The full name in these scopes, outermost first, of a name whose words are `first` and the
@@ -76,24 +78,41 @@ impl<'a> FullName<'a> {
         ensures { result ≡ list_any (bytes_eq (name_bytes self.now))
             (full_names (map signal_contents signals.now)) }
     {
-        signals.iter().any(|signal| self.is_name_of(signal))
+        let keys = self.end_keys();
+        signals.iter().any(|signal| self.is_name_of(signal, &keys))
     }
 
-    /// Whether this is the full name of a signal.
-    fn is_name_of(&self, signal: &Signal) -> bool
-        ensures { result ≡ bytes_eq (name_bytes self.now) (full_name (signal_contents signal.now)) }
+    /// Whether this is the full name of a signal, given its keys.
+    fn is_name_of(&self, signal: &Signal, keys: &EndKeys) -> bool
+        ensures { AreKeysOf keys.now (name_bytes self.now) →
+            result ≡ bytes_eq (name_bytes self.now) (full_name (signal_contents signal.now)) }
     {
-        self.may_be_name(signal.words.as_slice()) && self.has_same_bytes(FullName::of(signal))
+        keys.may_end_with(signal.words.key()) && self.has_same_bytes(FullName::of(signal))
     }
 
-    /// Whether a name that ends with these words may be this one.
-    fn may_be_name(&self, words: &[Word]) -> bool
-        ensures { (x : List ℕ) → name_bytes self.now ≡ x ++ concat words.now → IsTrue result }
+    /// The keys of the name and its ends.
+    fn end_keys(&self) -> EndKeys
+        ensures { AreKeysOf result (name_bytes self.now) }
     {
-        if self.in_scope {
-            return may_end_alike(self.first, self.others, words);
+        let mut keys = self.keys_after();
+        keys.prepend_words(self.words);
+        keys.prepend(self.text);
+        keys
+    }
+
+    /// The keys of what follows the current scope or name, and of its ends.
+    fn keys_after(&self) -> EndKeys
+        ensures { AreKeysOf result (bytes_after self.now) }
+    {
+        let mut keys = EndKeys::new();
+        if !self.in_scope {
+            return keys;
         }
-        may_end_alike(self.text, self.words, words)
+        keys.prepend_words(self.others);
+        keys.prepend(self.first);
+        keys.prepend_scopes(self.scopes);
+        keys.prepend(b".");
+        keys
     }
 
     /// Whether these are the bytes of the name.
@@ -178,87 +197,4 @@ impl<'a> FullName<'a> {
         }
         Some(b'.')
     }
-}
-
-/// The last of several words, where the first is given apart.
-fn last_of<'a>(first: &'a [u8], others: &'a [Word]) -> &'a [u8]
-    ensures { (front : List ℕ) × (first.now ++ concat others.now ≡ front ++ result.now) }
-{
-    match others {
-        [.., last] => last.as_slice(),
-        [] => first,
-    }
-}
-
-/// Whether a name that ends with `first` and the others, and one that ends with the words, may be the same.
-///
-/// It looks at two bytes of the last words, and where these have one length at two of the words before.
-#[inline(always)]
-fn may_end_alike(first: &[u8], others: &[Word], words: &[Word]) -> bool
-    ensures { (x y : List ℕ) → x ++ (first.now ++ concat others.now) ≡ y ++ concat words.now
-        → IsTrue result }
-{
-    match others {
-        [front @ .., last] => match words {
-            [before @ .., word] if word.as_slice().len() == last.as_slice().len() => {
-                have_one_end(last.as_slice(), word.as_slice())
-                    && may_end_with(last_of(first, front), before)
-            }
-            _ => may_end_with(last.as_slice(), words),
-        },
-        [] => may_end_with(first, words),
-    }
-}
-
-/// Whether a text that ends with this one, and a name that ends with these words, may be the same: so it looks
-/// at two bytes of the last word, and at two of the word before.
-#[inline(always)]
-pub(crate) fn may_end_with(text: &[u8], words: &[Word]) -> bool
-    ensures { (x y : List ℕ) → x ++ text.now ≡ y ++ concat words.now → IsTrue result }
-{
-    match words {
-        [before @ .., last] => {
-            have_one_end(text, last.as_slice())
-                && may_end_before(text, last.as_slice().len(), before)
-        }
-        [] => true,
-    }
-}
-
-/// The same of what stands before the last `count` bytes of the text, and of the last of the words.
-fn may_end_before(text: &[u8], count: usize, words: &[Word]) -> bool
-    ensures { (x y z : List ℕ) → count ≡ length z → x ++ text.now ≡ (y ++ concat words.now) ++ z → IsTrue result }
-{
-    match words {
-        [.., last] if count <= text.len() => {
-            have_one_end(&text[..text.len() - count], last.as_slice())
-        }
-        _ => true,
-    }
-}
-
-/// Whether two texts that end with these may be the same, by their last two bytes.
-fn have_one_end(a: &[u8], b: &[u8]) -> bool
-    ensures { (x y : List ℕ) → x ++ a.now ≡ y ++ b.now → IsTrue result }
-{
-    match a {
-        [.., a_before, a_last] => match b {
-            [.., b_before, b_last] => two_bytes(*a_before, *a_last)
-                == two_bytes(*b_before, *b_last),
-            [b_last] => *a_last == *b_last,
-            [] => true,
-        },
-        [a_last] => match b {
-            [.., b_last] => *a_last == *b_last,
-            [] => true,
-        },
-        [] => true,
-    }
-}
-
-/// Two bytes as one number, so that they are compared by one test.
-fn two_bytes(first: u8, second: u8) -> u16
-    ensures { result ≡ first * 256 + second }
-{
-    first as u16 * 256 + second as u16
 }

@@ -6,10 +6,12 @@ ghost use Rattle.std.specs.Str.{bytes_eq};
 ghost use Rattle.vcd_core.specs.Contents.{contents, signal_contents};
 ghost use Rattle.vcd_core.specs.Decimal.{is_number, number_of};
 ghost use Rattle.vcd_core.specs.Names.{full_name, full_names, is_numbered, number_in, lookup};
+ghost use Rattle.vcd_core.specs.inside.EndKeys.{AreKeysOf};
 
 use crate::capture::{Capture, Signal};
 use crate::decimal::number_up_to;
-use crate::full_name::{FullName, may_end_with};
+use crate::end_keys::EndKeys;
+use crate::full_name::FullName;
 
 impl Capture {
     /// Whether the signal at position `k` has this full name: the names of its scopes and its own,
@@ -40,16 +42,25 @@ fn first_named(signals: &[Signal], name: &[u8]) -> Option<usize>
     ensures { result ≡
         position (λ s. bytes_eq name.now (full_name (signal_contents s))) signals.now }
 {
+    let keys = EndKeys::of(name);
     signals
         .iter()
-        .position(|signal| has_full_name(signal, name))
+        .position(|signal| is_named(signal, name, &keys))
+}
+
+/// Whether a signal has this full name, given the keys of the name.
+fn is_named(signal: &Signal, name: &[u8], keys: &EndKeys) -> bool
+    ensures { AreKeysOf keys.now name.now →
+        result ≡ bytes_eq name.now (full_name (signal_contents signal.now)) }
+{
+    keys.may_end_with(signal.words.key()) && has_full_name(signal, name)
 }
 
 /// Whether a signal has this full name.
 fn has_full_name(signal: &Signal, name: &[u8]) -> bool
     ensures { result ≡ bytes_eq name.now (full_name (signal_contents signal.now)) }
 {
-    may_end_with(name, signal.words.as_slice()) && FullName::of(signal).is_text(name)
+    FullName::of(signal).is_text(name)
 }
 
 /// The position that a name gives as `@` and a decimal number, where it is below `count`.

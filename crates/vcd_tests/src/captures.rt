@@ -4,7 +4,7 @@ use std::alloc::{AllocError, Global};
 use std::process::Abort;
 use std::test::Fail;
 use vcd_core::{
-    Bit, Capture, END_LIMIT, Header, HeaderKind, ScopeName, ScopePath, Seq, Signal, TimeUnit,
+    Bit, Capture, END_LIMIT, Header, HeaderKind, NameWords, ScopeName, ScopePath, Seq, Signal, TimeUnit,
     Timescale, Value, Wave, Word,
 };
 
@@ -34,7 +34,7 @@ fn signal(alloc: Global, kind: &str, name: &str) -> Result<Signal, Fail> {
     Ok(Signal {
         scopes: path(alloc, "top")?,
         kind: word(alloc, kind)?,
-        words: one(alloc, name)?,
+        words: NameWords::new(one(alloc, name)?),
         wave,
     })
 }
@@ -115,7 +115,7 @@ fn the_greatest_end(rt: HostRuntime) -> Result<(), Fail> {
 fn a_signal_without_a_name_is_not_sound(rt: HostRuntime) -> Result<(), Fail> {
     let mut capture = captured(rt.alloc(), "wire", "a", 1, 9)?;
     assert!(rt; capture.signals.len() == 1);
-    capture.signals.item_mut(0).words = Seq::new(rt.alloc());
+    capture.signals.item_mut(0).words = NameWords::new(Seq::new(rt.alloc()));
     assert!(rt; !capture.is_sound());
     Ok(())
 }

@@ -32,7 +32,7 @@ fn one_signal(alloc: Global) -> Result<Capture, NoMemory> {
     signals.push(Signal {
         scopes: ScopePath::from_vec(Vec::new(alloc)),
         kind: word(alloc, b"wire")?,
-        words: Seq::from_vec(words),
+        words: NameWords::new(Seq::from_vec(words)),
         wave,
     })?;
     Ok(Capture::new(Vec::new(alloc), None, 9, signals))

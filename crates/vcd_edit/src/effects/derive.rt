@@ -18,7 +18,7 @@ use crate::effects::piece_builders::signal_there;
 use crate::record::Record;
 use std::alloc::Global;
 use vcd_core::{
-    Bit, BitEdges, Capture, Change, NoMemory, Seq, Signal, Value, Wave, Word, copy_word,
+    Bit, BitEdges, Capture, Change, NameWords, NoMemory, Seq, Signal, Value, Wave, copy_word,
 };
 
 /// The record that puts the new signal in after the last.
@@ -59,12 +59,12 @@ fn derived(alloc: Global, capture: &Capture, word: &[u8], rule: Rule) -> Result<
     })
 }
 
-fn name_of_one_word(alloc: Global, word: &[u8]) -> Result<Seq<Word>, NoMemory>
+fn name_of_one_word(alloc: Global, word: &[u8]) -> Result<NameWords, NoMemory>
     ensures { IfOk result (λ words. words ≡ word.now ∷ []) }
 {
     let mut words = Vec::new(alloc);
     words.push(copy_word(alloc, word)?)?;
-    Ok(Seq::from_vec(words))
+    Ok(NameWords::new(Seq::from_vec(words)))
 }
 
 /// The wave that has the rule's bit at each tick.

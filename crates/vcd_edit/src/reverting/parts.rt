@@ -1,6 +1,6 @@
 //! How the word, the signal and the end of a record are exchanged with those of a capture.
 
-ghost use Rattle.std.specs.Prelude.{◌≡◌, ◌<◌, ◌≤◌, ◌∷◌, Some, None, length, drop, slice_index_or, IsOk, IfOk, OnOk, OnErr, IfErr};
+ghost use Rattle.std.specs.Prelude.{◌≡◌, ◌<◌, ◌≤◌, Some, None, length, slice_index_or, IsOk, IfOk, OnOk, OnErr, IfErr};
 ghost use Rattle.std.specs.List.{insert, remove};
 ghost use Rattle.vcd_core.specs.Contents.{contents, signal_contents, signal_at, with_signal};
 ghost use Rattle.vcd_core.specs.Sound.{IsSound};
@@ -11,16 +11,7 @@ ghost use Rattle.vcd_edit.specs.inside.Opposites.{opposite_word, opposite_move, 
 
 use std::alloc::Global;
 use std::mem;
-use vcd_core::{Capture, Seq, Signal, Word};
-
-/// Puts a word in the place of the first, and gives the old one back.
-fn replace_first(words: &mut Seq<Word>, word: Word) -> Word
-    requires { 0 < length words.old }
-    ensures new { words.new ≡ word ∷ drop 1 words.old }
-    ensures old { result ≡ slice_index_or words.old 0 result }
-{
-    mem::replace(words.item_mut(0), word)
-}
+use vcd_core::{Capture, Seq, Signal};
 
 /// Swaps the word with the first word of its signal's name. It takes no memory.
 fn replace_word(capture: &mut Capture, signal: usize, word: Vec<u8>) -> Vec<u8>
@@ -31,11 +22,8 @@ fn replace_word(capture: &mut Capture, signal: usize, word: Vec<u8>) -> Vec<u8>
     ensures first { result.items
         ≡ slice_index_or (signal_at (contents capture.old) signal).words 0 result.items }
 {
-    let first = replace_first(
-        &mut capture.signals.item_mut(signal).words,
-        Seq::from_vec(word),
-    );
-    first.into_vec()
+    let words = &mut capture.signals.item_mut(signal).words;
+    words.replace_first(Seq::from_vec(word)).into_vec()
 }
 
 /// Swaps the word of a record, if it has one, with the first word of its signal's name. It takes no memory.

@@ -57,6 +57,32 @@ const EDITS_OF_GLITCH: &str = "\
 deglitch 0 3:0 30 2 0:0@0 1@7 0@20
 deglitch 0 18446744073709551615:0 30 4 0:0@0";
 
+/// A wave that is x at first.
+const FROM_X: &str = "\
+$var wire 1 ! a $end $enddefinitions $end
+#2 0! #3 1! #9 0! #11 1! #20";
+
+const EDITS_FROM_X: &str = "\
+deglitch 0 2:0 20 1 0 0:1@3 0@9 1@11
+deglitch 0 6:0 20 4 1 0:1@3
+deglitch 0 7:0 20 3 0 0:1@11";
+
+/// Forces that give as many changes as they take, more or fewer: at the front, in the middle and at the end.
+const EVEN: &str = "\
+$var wire 1 ! a $end $enddefinitions $end
+#0 0! #2 1! #4 0! #6 1! #8 0! #10";
+
+const FORCES_OF_EVEN: &str = "\
+force 0 0 2 z:0 10 1 1 0:z@0 1@2 0@4 1@6 0@8
+force 0 0 1 z:0 10 1 2 0:z@0 0@1 1@2 0@4 1@6 0@8
+force 0 0 2 1:0 10 2 1 0:1@0 0@4 1@6 0@8
+force 0 2 4 z:0 10 1 1 0:0@0 z@2 0@4 1@6 0@8
+force 0 5 6 z:0 10 0 1 0:0@0 1@2 0@4 z@5 1@6 0@8
+force 0 1 7 x:0 10 3 2 0:0@0 x@1 1@7 0@8
+force 0 8 11 z:0 10 1 1 0:0@0 1@2 0@4 1@6 z@8
+force 0 8 9 z:0 10 1 2 0:0@0 1@2 0@4 1@6 z@8 0@9
+force 0 8 11 1:0 10 1 0 0:0@0 1@2 0@4 1@6";
+
 /// Three signals, the middle one being taken out; and three that share a code, with one edited, or all.
 const THREE: &str = "\
 $var wire 1 ! a $end $var wire 1 \" b $end $var wire 1 # c $end $enddefinitions $end
@@ -161,6 +187,8 @@ fn edits_and_the_ways_back(rt: HostRuntime) -> Result<(), Fail> {
         (FROM_Z, EDITS_FROM_Z),
         (PULSE, EDITS_OF_PULSE),
         (GLITCH, EDITS_OF_GLITCH),
+        (FROM_X, EDITS_FROM_X),
+        (EVEN, FORCES_OF_EVEN),
         (THREE, EDITS_OF_THREE),
         (SHARED, EDITS_OF_SHARED),
         (SCOPES, EDITS_OF_SCOPES),

@@ -16,7 +16,7 @@ use crate::reading::ticks_and_sizes::size_of;
 use crate::reading::variables::{Variable, Variables};
 use std::alloc::Global;
 use vcd_core::{
-    NoMemory, SIGNAL_LIMIT, ScopePath, Signal, WIDTH_LIMIT, Wave, Word, copy_word, copy_words,
+    NameWords, NoMemory, SIGNAL_LIMIT, ScopePath, Signal, WIDTH_LIMIT, Wave, Word, copy_word, copy_words,
     is_skipped_kind,
 };
 
@@ -173,7 +173,7 @@ fn silent_signal(alloc: Global, kind: &Word, width: u64, name: &[Word]) -> Resul
     Ok(Signal {
         scopes: ScopePath::from_vec(Vec::new(alloc)),
         kind: copy_word(alloc, kind.as_slice())?,
-        words: copy_words(alloc, name)?,
+        words: NameWords::new(copy_words(alloc, name)?),
         wave: Wave::new(alloc, width),
     })
 }

@@ -14,5 +14,5 @@ returns-clause-effect c =
           ss;
     })
     (word_written c.args.capture.now.signals c.args.signal c.item_mut.result.now c.args.word.items
-    c.replace_first-first.new.words c.requires.within c.item_mut.ensures.value
-    (c.replace_first-first.ensures.new ∙ ap (λ w. w ∷ drop 1 c.item_mut.result.now.words) c.from_vec.ensures))
+    c.replace_first.new.self c.requires.within c.item_mut.ensures.value
+    (c.replace_first.ensures.new ∙ ap (λ w. w ∷ drop 1 c.item_mut.result.now.words) c.from_vec.ensures))
