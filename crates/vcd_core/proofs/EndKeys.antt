@@ -1,6 +1,6 @@
 -- Keys of texts and of their ends.
-use Rattle.std.proofs.Common.{◌≡◌, ◌≢◌, ℕ, suc, ◌+◌, ◌<◌, ◌≤◌, inl, inr, List, [], ◌∷◌, ◌++◌, if◌then◌else◌, nat_lt, length, drop}
-use Rattle.std.proofs.Common.{map, get_or, replicate, slice_index_or, refl, sym, subst, ap, ◌∙◌, append_assoc, arith}
+use Rattle.std.proofs.Common.{◌≡◌, ℕ, suc, ◌+◌, ◌<◌, ◌≤◌, inl, inr, List, [], ◌∷◌, ◌++◌, if◌then◌else◌, length, drop}
+use Rattle.std.proofs.Common.{get_or, replicate, slice_index_or, refl, sym, subst, ap, ◌∙◌, append_assoc, arith}
 use Rattle.std.proofs.Math.ListN.{set}
 use Rattle.std.proofs.Math.Seq.{drop-cons}
 use Rattle.std.specs.List.{concat, flat_map}
@@ -47,11 +47,14 @@ keys_longer old new byte text keys short longer stored = record { sized = sized;
   where
     sized : length new.numbers ≡ KEYED + 1
     sized = ap length stored ∙ length-set old.numbers new.whole.len new.whole.number ∙ keys.sized
+
     whole : new.whole ≡ text_key (byte ∷ text)
     whole = longer ∙ ap (longer_key byte) keys.whole
         ∙ sym (key_more byte text (subst (λ k. k.len < KEYED) keys.whole short))
+
     grown : new.whole.len ≡ old.whole.len + 1
     grown = ap (λ k. k.len) longer
+
     ends : (front end : List ℕ) → byte ∷ text ≡ front ++ end
         → slice_index_or new.numbers (text_key end).len 0 ≡ (text_key end).number
     ends [] end is =
@@ -61,10 +64,16 @@ keys_longer old new byte text keys short longer stored = record { sized = sized;
         (omega (arith, grown, keys.sized)))
     ends (b ∷ front) end is =
         let rest : text ≡ front ++ end = ap (drop 1) is in
-        let less : (text_key end).len < new.whole.len = omega (arith, grown, key_of_end front end,
-        ap (λ t. (text_key t).len) rest, ap (λ k. k.len) keys.whole) in
+        let less : (text_key end).len < new.whole.len = omega (
+          arith,
+          grown,
+          key_of_end front end,
+          ap (λ t. (text_key t).len) rest,
+          ap (λ k. k.len) keys.whole,
+        ) in
         ap (λ l. get_or l (text_key end).len 0) stored
-        ∙ get_or-set_other old.numbers new.whole.len (text_key end).len new.whole.number 0 (omega arith) ∙ keys.ends front end rest
+        ∙ get_or-set_other old.numbers new.whole.len (text_key end).len new.whole.number 0 (omega arith)
+        ∙ keys.ends front end rest
 
 -- the keys of a text with one byte more in front, where the key has enough bytes
 pub keys_full : (keys : EndKeys) (byte : ℕ) (text : List ℕ) → AreKeysOf keys text → KEYED ≤ keys.whole.len
@@ -73,8 +82,10 @@ keys_full keys byte text are long = record { sized = are.sized; whole = whole; e
   where
     same : text_key (byte ∷ text) ≡ text_key text
     same = key_same byte text (subst (λ k. KEYED ≤ k.len) are.whole long)
+
     whole : keys.whole ≡ text_key (byte ∷ text)
     whole = are.whole ∙ sym same
+
     ends : (front end : List ℕ) → byte ∷ text ≡ front ++ end
         → slice_index_or keys.numbers (text_key end).len 0 ≡ (text_key end).number
     ends [] end is = subst (λ k. slice_index_or keys.numbers k.len 0 ≡ k.number) (sym same ∙ ap text_key is)
@@ -82,8 +93,8 @@ keys_full keys byte text are long = record { sized = are.sized; whole = whole; e
     ends (b ∷ front) end is = are.ends front end (ap (drop 1) is)
 
 -- nothing has the keys of nothing
-pub keys_of_none : (keys : EndKeys) → keys.whole ≡ record { len = 0; number = 0 } → keys.numbers ≡ replicate (KEYED + 1) 0
-    → AreKeysOf keys []
+pub keys_of_none : (keys : EndKeys) → keys.whole ≡ record { len = 0; number = 0 }
+    → keys.numbers ≡ replicate (KEYED + 1) 0 → AreKeysOf keys []
 keys_of_none keys whole numbers = record {
   sized = ap length numbers ∙ length-replicate {A = ℕ} (KEYED + 1) 0;
   whole = whole ∙ sym key_nil;
@@ -110,7 +121,8 @@ pub keys_with_word : (keys : EndKeys) (words : List (List ℕ)) (text : List ℕ
 keys_with_word keys words text i left word next within is are =
     let item : word ∷ drop left words ≡ drop i words =
     (λ k. is k ∷ drop (next k) words) ∙ sym (drop-cons words i word within) in
-    subst (AreKeysOf keys) (sym (append_assoc word (concat (drop left words)) text) ∙ ap (λ l. concat l ++ text) item) are
+    let rest = concat (drop left words) in
+    subst (AreKeysOf keys) (sym (append_assoc word rest text) ∙ ap (λ l. concat l ++ text) item) are
 
 pub keys_with_scope : (keys : EndKeys) (scopes : List ScopeName) (text : List ℕ) (i left : ℕ) (scope : ScopeName)
     → left ≡ suc i → i < length scopes → scope ≡ get_or scopes i scope

@@ -4,8 +4,8 @@ use std::alloc::{AllocError, Global};
 use std::process::Abort;
 use std::test::Fail;
 use vcd_core::{
-    Bit, Capture, END_LIMIT, Header, HeaderKind, NameWords, ScopeName, ScopePath, Seq, Signal, TimeUnit,
-    Timescale, Value, Wave, Word,
+    Bit, Capture, END_LIMIT, Header, HeaderKind, NameWords, ScopeName, ScopePath, Seq, Signal,
+    TimeUnit, Timescale, Value, Wave, Word,
 };
 
 fn word(alloc: Global, text: &str) -> Result<Word, AllocError> {

@@ -4,7 +4,8 @@ use Rattle.vcd_core.proofs.end_keys.EndKeys.prepend.Given as goal
 
 abbrev pub invariant-loop-left : goal.invariant-loop-left
 invariant-loop-left l =
-    (l.left ≤ length l.bytes) × ((text : List ℕ) → AreKeysOf l.fn.self text → AreKeysOf l.self (drop l.left l.bytes ++ text))
+    (l.left ≤ length l.bytes)
+    × ((text : List ℕ) → AreKeysOf l.fn.self text → AreKeysOf l.self (drop l.left l.bytes ++ text))
 
 abbrev pub decreases-loop-left : goal.decreases-loop-left
 decreases-loop-left l = l.left

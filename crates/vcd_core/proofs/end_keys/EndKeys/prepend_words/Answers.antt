@@ -11,11 +11,14 @@ pub bounds-words-left : goal.bounds-words-left
 bounds-words-left c = omega (arith, c.loop-left.invariant.0)
 
 pub loop-left-preserved : goal.loop-left-preserved
-loop-left-preserved c = (omega (arith, c.loop-left.invariant.0), λ text are.
-    let words = c.args.words.now in
-    let left = c.loop-left.left in
-    let rest = concat (drop left words) ++ text in
-    let before = c.prepend.ensures rest (c.loop-left.invariant.1 text are) in
-    keys_with_word _ words text (left - 1) left c.index-words-left.result (omega arith)
-    (omega (arith, c.loop-left.invariant.0)) c.index-words-left.is
-    (subst (λ w. AreKeysOf c.prepend.new.self (w ++ rest)) c.as_slice.ensures before))
+loop-left-preserved c = (
+  omega (arith, c.loop-left.invariant.0),
+  λ text are.
+      let words = c.args.words.now in
+      let left = c.loop-left.left in
+      let rest = concat (drop left words) ++ text in
+      let before = c.prepend.ensures rest (c.loop-left.invariant.1 text are) in
+      keys_with_word _ words text (left - 1) left c.index-words-left.result (omega arith)
+      (omega (arith, c.loop-left.invariant.0)) c.index-words-left.is
+      (subst (λ w. AreKeysOf c.prepend.new.self (w ++ rest)) c.as_slice.ensures before),
+)
