@@ -1,7 +1,8 @@
 //! The setup of an asynchronous serial line.
 
 ghost use Rattle.std.specs.Prelude.{◌≡◌, ◌≤◌, IfOk};
-ghost use Rattle.vcd_decode.specs.UartSetup.{uart_setup, uart_fault, is_between, SetupFaultIs};
+ghost use Rattle.vcd_decode.specs.UartSetup.{is_between};
+ghost use Rattle.vcd_decode.specs.SetupFaults.{uart_setup, uart_fault, SetupFaultIs};
 
 use crate::setup_error::SetupError;
 use std::marker::Model;
@@ -36,7 +37,8 @@ pub struct Uart {
 }
 
 impl Model for Uart {
-    ghost use Rattle.vcd_decode.specs.UartSetup.{UartSetup, IsUartSetup};
+    ghost use Rattle.vcd_decode.specs.UartSetup.{UartSetup};
+    ghost use Rattle.vcd_decode.specs.SetupFaults.{IsUartSetup};
 
     ghost Value = { UartSetup };
 

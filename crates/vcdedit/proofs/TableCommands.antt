@@ -15,8 +15,10 @@ use Rattle.vcd_decode.specs.declared.setup_error.SetupError.TheVariants.{BadMode
 use Rattle.vcd_decode.specs.declared.uart_setup.TheConstants.{RATIO_LIMIT}
 use Rattle.vcd_decode.specs.declared.spi_setup.TheConstants.{GREATEST_MODE, WORD_BITS_LIMIT}
 use Rattle.vcd_decode.specs.SetupErrorNames.{setup_error_name}
-use Rattle.vcd_decode.specs.UartSetup.{UartSetup, uart_setup, uart_fault, is_between}
-use Rattle.vcd_decode.specs.SpiSetup.{SpiSetup, spi_setup, spi_fault}
+use Rattle.vcd_decode.specs.UartSetup.{UartSetup, is_between}
+use Rattle.vcd_decode.specs.SetupFaults.{uart_setup, uart_fault}
+use Rattle.vcd_decode.specs.SpiSetup.{SpiSetup}
+use Rattle.vcd_decode.specs.SetupFaults.{spi_setup, spi_fault}
 use Rattle.vcd_edit.specs.Refused.{refusal_among}
 use Rattle.vcd_edit.specs.declared.edit.Edit.TheVariants.{Rename, Remove, Invert, Shift, Cut, Deglitch, Force, Derive}
 use Rattle.vcd_edit.specs.declared.edit.Rule.{Rule}

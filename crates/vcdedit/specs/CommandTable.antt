@@ -1,8 +1,8 @@
 -- What the words of a line ask for: the project's own.
 use Rattle.std.specs.Prelude.{ℕ, zero, suc, Bool, false, ◌==◌, if◌then◌else◌, List, [], ◌∷◌, Ok, Err, codes}
 use Rattle.vcd_core.specs.Contents.{Contents, signal_at}
-use Rattle.vcd_decode.specs.UartSetup.{uart_setup}
-use Rattle.vcd_decode.specs.SpiSetup.{spi_setup}
+use Rattle.vcd_decode.specs.SetupFaults.{uart_setup}
+use Rattle.vcd_decode.specs.SetupFaults.{spi_setup}
 use Rattle.vcd_edit.specs.Refused.{refusal_among}
 use Rattle.vcd_edit.specs.declared.edit.Edit.{Edit}
 use Rattle.vcd_edit.specs.declared.edit.Edit.TheVariants.{Rename, Remove, Invert, Shift, Cut, Deglitch, Force, Derive}
