@@ -13,7 +13,8 @@ use Rattle.vcd_decode.specs.declared.setup_error.SetupError.TheVariants.{BadMode
 use Rattle.vcd_decode.specs.declared.spi_setup.BitOrder.TheVariants.{Msb, Lsb}
 use Rattle.vcd_decode.specs.declared.spi_setup.TheConstants.{GREATEST_MODE, WORD_BITS_LIMIT}
 use Rattle.vcd_decode.specs.SpiSetup.{SpiSetup}
-use Rattle.vcd_decode.specs.SetupFaults.{spi_setup, spi_fault}
+use Rattle.vcd_decode.specs.SetupFaults.{spi_fault}
+use Rattle.vcd_decode.specs.SpiSetup.{spi_setup}
 use Rattle.vcd_decode.specs.Lines.{annotation}
 use Rattle.vcd_decode.specs.WaveLines.{line_of}
 use Rattle.vcd_decode.specs.Groups.{groups_of}

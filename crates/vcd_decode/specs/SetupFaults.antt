@@ -1,27 +1,15 @@
--- The faults of setups, and setups of given numbers: the project's own.
+-- The faults of setups: the project's own.
 use Rattle.std.specs.Prelude.{ℕ, ◌≡◌, ◌≤◌, ◌*◌, ◌&&◌, not, nat_lt, Option, Some, None}
 use Rattle.std.specs.Prelude.{Result, MatchResult}
-use Rattle.vcd_decode.specs.declared.uart_setup.Parity.{Parity}
 use Rattle.vcd_decode.specs.declared.uart_setup.TheConstants.{RATIO_LIMIT}
 use Rattle.vcd_decode.specs.declared.setup_error.SetupError.{SetupError}
 use Rattle.vcd_decode.specs.declared.setup_error.SetupError.TheVariants.{BadRatio, BitTooShort, BadData, BadStop}
 use Rattle.vcd_decode.specs.UartSetup.{UartSetup, is_between}
 use Rattle.std.specs.Prelude.{nat_le}
 use Rattle.vcd_decode.specs.declared.setup_error.SetupError.TheVariants.{BadMode, BadBits}
-use Rattle.vcd_decode.specs.declared.spi_setup.BitOrder.{BitOrder}
 use Rattle.vcd_decode.specs.declared.spi_setup.TheConstants.{GREATEST_MODE, WORD_BITS_LIMIT}
 use Rattle.vcd_decode.specs.SpiSetup.{SpiSetup}
 use Rattle.std.specs.Prelude.{if◌then◌else◌}
-
--- a setup of these numbers
-abbrev pub uart_setup : ℕ → ℕ → ℕ → Parity → ℕ → UartSetup
-uart_setup numerator denominator data_bits parity stop_bits = record {
-  numerator = numerator;
-  denominator = denominator;
-  data_bits = data_bits;
-  parity = parity;
-  stop_bits = stop_bits;
-}
 
 -- the first fault of a setup, or none
 abbrev pub uart_fault : UartSetup → Option SetupError
@@ -41,10 +29,6 @@ abbrev pub IsUartSetup : ℕ → ℕ → ℕ → ℕ → Type 0
 IsUartSetup numerator denominator data_bits stop_bits =
     (numerator ≤ RATIO_LIMIT) × (1 ≤ denominator) × (denominator ≤ RATIO_LIMIT) × (2 * denominator ≤ numerator)
     × (5 ≤ data_bits) × (data_bits ≤ 9) × (1 ≤ stop_bits) × (stop_bits ≤ 2)
-
--- a setup of these numbers
-abbrev pub spi_setup : ℕ → ℕ → BitOrder → SpiSetup
-spi_setup mode bits order = record { mode = mode; bits = bits; order = order }
 
 -- the first fault of a setup, or none
 abbrev pub spi_fault : SpiSetup → Option SetupError

@@ -7,3 +7,7 @@ pub record SpiSetup : Type 0 where
   pub mode : ℕ
   pub bits : ℕ
   pub order : BitOrder
+
+-- a setup of these numbers
+abbrev pub spi_setup : ℕ → ℕ → BitOrder → SpiSetup
+spi_setup mode bits order = record { mode = mode; bits = bits; order = order }

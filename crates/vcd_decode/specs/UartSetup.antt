@@ -10,6 +10,11 @@ pub record UartSetup : Type 0 where
   pub parity : Parity
   pub stop_bits : ℕ
 
+-- a setup of these numbers
+abbrev pub uart_setup : ℕ → ℕ → ℕ → Parity → ℕ → UartSetup
+uart_setup n d bits parity stop =
+    record { numerator = n; denominator = d; data_bits = bits; parity = parity; stop_bits = stop }
+
 -- whether a number is in this range, both ends included
 abbrev pub is_between : ℕ → ℕ → ℕ → Bool
 is_between least greatest n = nat_le least n && nat_le n greatest

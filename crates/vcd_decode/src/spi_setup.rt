@@ -1,7 +1,8 @@
 //! The setup of a serial peripheral interface.
 
 ghost use Rattle.std.specs.Prelude.{◌≡◌, ◌≤◌, IfOk};
-ghost use Rattle.vcd_decode.specs.SetupFaults.{spi_setup, spi_fault};
+ghost use Rattle.vcd_decode.specs.SetupFaults.{spi_fault};
+ghost use Rattle.vcd_decode.specs.SpiSetup.{spi_setup};
 ghost use Rattle.vcd_decode.specs.SetupFaults.{SetupFaultIs};
 ghost use Rattle.vcd_decode.specs.Lines.{is_zero as zero_test, is_one as one_test};
 ghost use Rattle.vcd_decode.specs.inside.SpiClock.{passes};

@@ -2,7 +2,8 @@
 
 ghost use Rattle.std.specs.Prelude.{◌≡◌, ◌≤◌, IfOk};
 ghost use Rattle.vcd_decode.specs.UartSetup.{is_between};
-ghost use Rattle.vcd_decode.specs.SetupFaults.{uart_setup, uart_fault, SetupFaultIs};
+ghost use Rattle.vcd_decode.specs.SetupFaults.{uart_fault, SetupFaultIs};
+ghost use Rattle.vcd_decode.specs.UartSetup.{uart_setup};
 
 use crate::setup_error::SetupError;
 use std::marker::Model;

@@ -7,8 +7,8 @@ use Rattle.std.proofs.lemmas.Bool.Decides.{nat_tests}
 use Rattle.std.proofs.lemmas.List.{length-map}
 use Rattle.vcd_core.specs.declared.capture.Capture.{Capture}
 use Rattle.vcd_core.specs.Contents.{Contents, contents, signal_at, signal_contents}
-use Rattle.vcd_decode.specs.SetupFaults.{uart_setup}
-use Rattle.vcd_decode.specs.SetupFaults.{spi_setup}
+use Rattle.vcd_decode.specs.UartSetup.{uart_setup}
+use Rattle.vcd_decode.specs.SpiSetup.{spi_setup}
 use Rattle.vcd_edit.specs.declared.edit.Rule.{Rule}
 use Rattle.vcd_edit.specs.declared.edit.Rule.TheVariants.{And, Or, Xor}
 use Rattle.vcd_journal.specs.declared.step.Step.{Step}

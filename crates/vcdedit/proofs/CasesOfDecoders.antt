@@ -13,9 +13,9 @@ use Rattle.vcd_decode.specs.declared.setup_error.SetupError.TheVariants.{BadRati
 use Rattle.vcd_decode.specs.declared.setup_error.SetupError.TheVariants.{BadMode, BadBits}
 use Rattle.vcd_decode.specs.declared.spi_setup.BitOrder.TheVariants.{Msb, Lsb}
 use Rattle.vcd_decode.specs.declared.uart_setup.Parity.TheVariants as parities
-use Rattle.vcd_decode.specs.SetupFaults.{uart_setup}
+use Rattle.vcd_decode.specs.UartSetup.{uart_setup}
 use Rattle.vcd_decode.specs.Uart.{uart_annotations, frames, falls, begun_frame, sample_offset}
-use Rattle.vcd_decode.specs.SetupFaults.{spi_setup}
+use Rattle.vcd_decode.specs.SpiSetup.{spi_setup}
 use Rattle.vcd_decode.specs.Spi.{spi_annotations}
 use Rattle.vcd_decode.specs.Groups.{groups_of}
 use Rattle.vcd_decode.specs.BusEvents.{bus_events}

@@ -1,8 +1,8 @@
 -- What the parsers of the commands that decode signals read.
 use Rattle.std.specs.Prelude.{ℕ, List, Result, Ok}
 use Rattle.vcd_core.specs.Contents.{Contents}
-use Rattle.vcd_decode.specs.SetupFaults.{uart_setup}
-use Rattle.vcd_decode.specs.SetupFaults.{spi_setup}
+use Rattle.vcd_decode.specs.UartSetup.{uart_setup}
+use Rattle.vcd_decode.specs.SpiSetup.{spi_setup}
 use Rattle.vcdedit.specs.declared.script.command.Command.{Command}
 use Rattle.vcdedit.specs.declared.script.command.Command.TheVariants as commands
 use Rattle.vcdedit.specs.declared.script.line_error.LineError.{LineError}

@@ -2,8 +2,8 @@
 
 ghost use Rattle.std.specs.Prelude.{◌≡◌, ◌<◌, None, Some, IfSome, IfOk, length};
 ghost use Rattle.vcd_core.specs.Contents.{contents};
-ghost use Rattle.vcd_decode.specs.SetupFaults.{uart_setup};
-ghost use Rattle.vcd_decode.specs.SetupFaults.{spi_setup};
+ghost use Rattle.vcd_decode.specs.UartSetup.{uart_setup};
+ghost use Rattle.vcd_decode.specs.SpiSetup.{spi_setup};
 ghost use Rattle.vcdedit.specs.DecoderWords as spec;
 
 use crate::script::LineError;
