@@ -26,14 +26,14 @@ ends_early : (bytes : List ℕ) (line : ℕ) (fault : Fault) → ((c : Contents)
     → ((at : ℕ) (other : Fault) → ShowsFault (words_of bytes) at other → ⊥) → line ≡ last_line bytes
     → fault ≡ Truncated → ((c : Contents) × (n : ℕ) × FileMeans bytes c n)
     ⊎ ((at : ℕ) × (other : Fault) × FoundFault bytes at other) → FoundFault bytes line fault
-ends_early bytes line fault none no l f (inl (c, n, means)) = absurd (none c n means)
-ends_early bytes line fault none no l f (inr (at, other, word_shows s)) = absurd (no at other s)
-ends_early bytes line fault none no l f (inr (at, other, too_early stops last early)) = too_early stops l f
+ends_early bytes line fault none silent l f (inl (c, n, means)) = absurd (none c n means)
+ends_early bytes line fault none silent l f (inr (at, other, word_shows s)) = absurd (silent at other s)
+ends_early bytes line fault none silent l f (inr (at, other, too_early stops last early)) = too_early stops l f
 
 pub found_fault : EveryFaultIsFound
 found_fault bytes line fault (none, shown s) = word_shows s
-found_fault bytes line fault (none, none_shown no l f) =
-    ends_early bytes line fault none no l f (a_found_answer bytes)
+found_fault bytes line fault (none, none_shown silent l f) =
+    ends_early bytes line fault none silent l f (a_found_answer bytes)
 
 -- ---- the laws
 

@@ -64,8 +64,8 @@ shown_further words all line fault front s = record {
 pub front_fault_found : (front rest : List ℕ) (line : ℕ) (fault : Fault) → FrontFault front line fault
     → FoundFault (front ++ rest) line fault
 front_fault_found front rest line fault s =
-    word_shows (shown_further (closed_words front) (words_of (front ++ rest)) line fault (closed_in_front true 1 front rest)
-    s)
+    word_shows (shown_further (closed_words front) (words_of (front ++ rest)) line fault
+    (closed_in_front true 1 front rest) s)
 
 -- the fault of a front is that of a longer front as well
 pub longer_front_fault : (front rest : List ℕ) (line : ℕ) (fault : Fault) → FrontFault front line fault

@@ -223,5 +223,7 @@ one_found_fault bytes line other_line fault other_fault (too_early p l f) (too_e
 
 pub meaning-no_found_fault : (bytes : List ℕ) (c : Contents) (n line : ℕ) (fault : Fault) → FileMeans bytes c n
     → FoundFault bytes line fault → ⊥
-meaning-no_found_fault bytes c n line fault p (word_shows q) = accepted-not_refused (words_of bytes) p.told line fault p.accepted q
-meaning-no_found_fault bytes c n line fault p (too_early q l f) = accepted-not_stopped (words_of bytes) p.told p.accepted q
+meaning-no_found_fault bytes c n line fault p (word_shows q) =
+    accepted-not_refused (words_of bytes) p.told line fault p.accepted q
+meaning-no_found_fault bytes c n line fault p (too_early q l f) =
+    accepted-not_stopped (words_of bytes) p.told p.accepted q

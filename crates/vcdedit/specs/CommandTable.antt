@@ -49,24 +49,19 @@ ask_edit e = Ok (step (steps.Edit e))
 
 -- a signal with this name, derived by a rule of two signals
 abbrev pub ask_pair : Contents → List ℕ → (ℕ → ℕ → Rule) → OfWords 2
-ask_pair c word rule a b =
-    read_signal c a ▷ λ j. read_signal c b ▷ λ k. ask_edit (Derive (lent_bytes word) (rule j k))
+ask_pair c word rule a b = read_signal c a ▷ λ j. read_signal c b ▷ λ k. ask_edit (Derive (lent_bytes word) (rule j k))
 
 -- the rules by which a signal with this name is derived
 abbrev pub rule_rows : Contents → List ℕ → List Row
 rule_rows c word =
     row (codes "not") 1 (λ a. read_signal c a ▷ λ k. ask_edit (Derive (lent_bytes word) (Not k)))
-    ∷ row (codes "and") 2 (ask_pair c word And)
-    ∷ row (codes "or") 2 (ask_pair c word Or)
-    ∷ row (codes "xor") 2 (ask_pair c word Xor)
-    ∷ row (codes "bit") 2 (λ a bit.
-    read_signal c a ▷ λ j. read_number bit ▷ λ k. ask_edit (Derive (lent_bytes word) (BitOf j k)))
-    ∷ []
+    ∷ row (codes "and") 2 (ask_pair c word And) ∷ row (codes "or") 2 (ask_pair c word Or)
+    ∷ row (codes "xor") 2 (ask_pair c word Xor) ∷ row (codes "bit") 2 (λ a bit.
+    read_signal c a ▷ λ j. read_number bit ▷ λ k. ask_edit (Derive (lent_bytes word) (BitOf j k))) ∷ []
 
 -- the words behind `derive`: the name, the rule, and its operands
 abbrev pub ask_derive : Contents → List (List ℕ) → Read Request
-ask_derive c (word ∷ rule ∷ operands) =
-    read_listed (codes "BadOption") (rule_rows c word) rule ▷ λ asked. asked operands
+ask_derive c (word ∷ rule ∷ operands) = read_listed (codes "BadOption") (rule_rows c word) rule ▷ λ ask. ask operands
 ask_derive c words = Err (codes "WrongCount")
 
 -- all commands; the first refusal counts, in the order in which their words are read here
@@ -77,19 +72,16 @@ command_rows c skipped =
     ∷ row (codes "invert") 1 (λ name. read_signal c name ▷ λ k. ask_edit (Invert k))
     ∷ row (codes "shift") 2 (λ name by. read_signal c name ▷ λ k. read_distance by ▷ λ d. ask_edit (Shift k d))
     ∷ row (codes "cut") 2 (λ from to. read_number from ▷ λ a. read_number to ▷ λ b. ask_edit (Cut a b))
-    ∷ row (codes "deglitch") 2 (λ name ticks.
-    read_signal c name ▷ λ k. read_number ticks ▷ λ n. ask_edit (Deglitch k n))
+    ∷ row (codes "deglitch") 2 (λ name n. read_signal c name ▷ λ k. read_number n ▷ λ t. ask_edit (Deglitch k t))
     ∷ row (codes "force") 4 (λ name from to value. read_signal c name ▷ λ k. read_number from ▷ λ a.
     read_number to ▷ λ b. read_value (signal_at c k).width value ▷ λ letters. ask_edit (Force k a b letters))
     ∷ (codes "derive", ask_derive c)
-    ∷ row (codes "undo") 0 (Ok (step steps.Undo))
-    ∷ row (codes "redo") 0 (Ok (step steps.Redo))
+    ∷ row (codes "undo") 0 (Ok (step steps.Undo)) ∷ row (codes "redo") 0 (Ok (step steps.Redo))
     ∷ row (codes "depth") 1 (λ count. read_number count ▷ λ depth. Ok (step (steps.Depth depth)))
     ∷ row (codes "list") 0 (Ok (reply (listing c skipped)))
     ∷ row (codes "value") 2 (λ name tick. read_signal c name ▷ λ k. read_number tick ▷ λ t.
     Ok (reply (printed_letters (signal_value (signal_at c k) t) ∷ [])))
-    ∷ row (codes "changes") 1 (λ name. read_signal c name ▷ λ k.
-    Ok (reply (map change_line (signal_at c k).changes)))
+    ∷ row (codes "changes") 1 (λ name. read_signal c name ▷ λ k. Ok (reply (map change_line (signal_at c k).changes)))
     ∷ row (codes "uart") 5 (λ name bit count parity stop. read_signal c name ▷ λ k. read_ratio bit ▷ λ ratio.
     read_number count ▷ λ data_bits. read_parity parity ▷ λ parity_bit. read_number stop ▷ λ stop_bits.
     scalar c k ▷ λ line. let setup = uart_setup ratio.0 ratio.1 data_bits parity_bit stop_bits in
@@ -100,8 +92,7 @@ command_rows c skipped =
     scalar_line c s ▷ λ select. let setup = spi_setup number word_bits bit_order in
     unless_refused (spi_tests setup) (reply (spi_lines c clock out input select setup)))
     ∷ row (codes "i2c") 2 (λ scl sda. read_signal c scl ▷ λ j. read_signal c sda ▷ λ k.
-    scalar c j ▷ λ clock. scalar c k ▷ λ line. Ok (reply (i2c_lines c clock line)))
-    ∷ []
+    scalar c j ▷ λ clock. scalar c k ▷ λ line. Ok (reply (i2c_lines c clock line))) ∷ []
 
 -- whether a word begins with `#` (35)
 abbrev pub begins_comment : List ℕ → Bool

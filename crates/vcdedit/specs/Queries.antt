@@ -31,11 +31,8 @@ signal_lines position (s ∷ ss) = signal_line position s ∷ signal_lines (posi
 
 -- the lines of `list`; edits do not change how many declarations of the file were skipped
 abbrev pub listing : Contents → (skipped : ℕ) → List (List ℕ)
-listing c skipped =
-    timescale_line c.timescale
-    ∷ number_line (codes "end") c.end
-    ∷ number_line (codes "signals") (length c.signals)
-    ∷ number_line (codes "skipped") skipped
+listing c skipped = timescale_line c.timescale ∷ number_line (codes "end") c.end
+    ∷ number_line (codes "signals") (length c.signals) ∷ number_line (codes "skipped") skipped
     ∷ signal_lines 0 c.signals
 
 -- ---- `changes`
