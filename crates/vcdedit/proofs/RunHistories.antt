@@ -1,13 +1,13 @@
 -- What a run writes by a machine is what it writes by the edits in force.
 use Rattle.std.proofs.Common.{◌≡◌, ◌≤◌, ◌+◌, ◌-◌, ℕ, zero, suc, Bool, true, false, cond, List, [], ◌∷◌, ◌++◌, take}
 use Rattle.std.proofs.Common.{length, Option, Some, None, Result, Ok, Err, is_err, refl, sym, ◌∙◌, ap, subst, arith}
-use Rattle.std.proofs.Common.{map}
-use Rattle.std.specs.Prelude.{◌==◌, not, nat_lt, min, fold, count_by, option_map, drop}
+use Rattle.std.proofs.Common.{map, append_assoc}
+use Rattle.std.specs.Prelude.{◌==◌, not, nat_lt, min, fold, count_by, drop, codes}
 use Rattle.std.specs.List.{enumerate_from}
-use Rattle.std.proofs.Math.Seq.{take-length}
+use Rattle.std.proofs.Math.Seq.{take-length, take-append_seam}
 use Rattle.std.proofs.lemmas.Bool.Decides.{nat_tests}
-use Rattle.std.proofs.lemmas.List.{length-take}
-use Rattle.std.proofs.lemmas.List.Sums.{sum_by-cons}
+use Rattle.std.proofs.lemmas.List.{length-take, length-append}
+use Rattle.std.proofs.lemmas.List.Sums.{sum_by-cons, fold-append}
 use Rattle.vcd_core.specs.Contents.{Contents}
 use Rattle.vcd_core.specs.Sound.{IsSound}
 use Rattle.vcd_text.specs.Text.{text}
@@ -42,7 +42,8 @@ use Rattle.vcdedit.specs.CommandTable.{Request, asked_by_words}
 use Rattle.vcdedit.proofs.TableCommands.{requested, asked_is}
 use Rattle.vcdedit.specs.Reply.{reply_text}
 use Rattle.vcdedit.specs.Run.{RunOutcome, answer, history_after_asked, line_answer, history_after_line, history_at}
-use Rattle.vcdedit.specs.Run.{line_answers, capture_at, IsRunOfLines, IsRun}
+use Rattle.vcdedit.specs.Run.{answers, capture_at, IsRunOfLines, IsRun}
+use Rattle.vcdedit.specs.inside.LineAnswers.{line_answers}
 use Rattle.vcdedit.specs.MachineReplies.{LineReply, ok_reply, edit_reply, history_reply, depth_reply, step_reply}
 use Rattle.vcdedit.specs.MachineReplies.{command_reply, line_reply, is_line_refused}
 use Rattle.vcdedit.specs.RunMachines.{machine_after_command, machine_after_line, machine_after_lines, refusal_count}
@@ -296,6 +297,31 @@ refusals_are c h m skipped (line ∷ lines) is =
     both ∙ sym (sum_by-cons one (line_answer c skipped h line)
     (line_answers c skipped (history_after_line c skipped h line) lines))
 
+-- the same answers, each with the history after the lines before it
+answers_from : (c : Contents) (skipped : ℕ) (h : History) (before lines : List (List ℕ)) →
+    map (λ (p : ℕ × List ℕ). line_answer c skipped
+    (fold (history_after_line c skipped) h (take p.0 (before ++ lines))) p.1) (enumerate_from (length before) lines)
+    ≡ line_answers c skipped (fold (history_after_line c skipped) h before) lines
+unfolding line_answers
+answers_from c skipped h before [] = refl
+answers_from c skipped h before (line ∷ lines) =
+    let step : History → List ℕ → History = history_after_line c skipped in
+    let said : List (List ℕ) → ℕ → List (Read (List (List ℕ))) = λ all n.
+    map (λ (p : ℕ × List ℕ). line_answer c skipped (fold step h (take p.0 all)) p.1) (enumerate_from n lines) in
+    let first = ap (λ (ls : List (List ℕ)). line_answer c skipped (fold step h ls) line)
+    (take-append_seam before (line ∷ lines)) in
+    let rest : said (before ++ line ∷ lines) (length before + 1)
+    ≡ line_answers c skipped (step (fold step h before) line) lines =
+    sym (ap (λ (all : List (List ℕ)). said all (length before + 1)) (append_assoc before (line ∷ []) lines))
+    ∙ sym (ap (said ((before ++ line ∷ []) ++ lines)) (length-append before (line ∷ [])))
+    ∙ answers_from c skipped h (before ++ line ∷ []) lines
+    ∙ ap (λ (g : History). line_answers c skipped g lines) (fold-append step h before (line ∷ [])) in
+    λ i. first i ∷ rest i
+
+answers_are : (c : Contents) (skipped depth : ℕ) (lines : List (List ℕ))
+    → line_answers c skipped (first_history depth) lines ≡ answers c skipped depth lines
+answers_are c skipped depth lines = sym (answers_from c skipped (first_history depth) [] lines)
+
 -- ---- runs
 
 first_matches : (c : Contents) (depth : ℕ) → Matches c (first_history depth) (first_machine c depth)
@@ -333,8 +359,10 @@ lines_are_run c depth skipped lines sound =
           let few = past_count c (history_at c skipped depth lines count).edits
           (machine_after_lines (first_machine c depth) (take count lines)).past (here count).follows.past in
           omega (arith, held, few);
-      replies = replies_are c (first_history depth) (first_machine c depth) skipped 1 lines first;
-      refused = refusals_are c (first_history depth) (first_machine c depth) skipped lines first;
+      replies = replies_are c (first_history depth) (first_machine c depth) skipped 1 lines first
+          ∙ ap (numbered 1) (answers_are c skipped depth lines);
+      refused = refusals_are c (first_history depth) (first_machine c depth) skipped lines first
+          ∙ ap (count_by is_err) (answers_are c skipped depth lines);
       output = ap text last;
       read_again = back;
       only = λ d count means. one_meaning (text (machine_after_lines (first_machine c depth) lines).now) d

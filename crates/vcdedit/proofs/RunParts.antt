@@ -166,7 +166,7 @@ pub run_reaches_end : (capture script replies : DeviceEnd) (output : Option Devi
     (λ f. IfSome script.before
     (λ s. ScriptGives f s depth summary.refused (Appends replies.before replies.after) now)) →
     IfSome output (λ out. (out.has_failed ≡ false) × HasText out (text now))
-    → RunEnds depth capture script replies output (Ok summary)
+    → RunEnds (Ok summary) depth capture script replies output
 run_reaches_end capture script replies None depth summary now accepted whole ready ran wrote = (
   accepted,
   whole,
@@ -190,7 +190,7 @@ pub run_reaches_end_with : (capture script replies out : DeviceEnd) (depth : ℕ
     IfSome capture.before
     (λ f. IfSome script.before
     (λ s. ScriptGives f s depth summary.refused (Appends replies.before replies.after) now)) →
-    out.has_failed ≡ false → HasText out (text now) → RunEnds depth capture script replies (Some out) (Ok summary)
+    out.has_failed ≡ false → HasText out (text now) → RunEnds (Ok summary) depth capture script replies (Some out)
 run_reaches_end_with capture script replies out depth summary now accepted whole ready ran out_ready wrote =
     run_reaches_end capture script replies (Some out) depth summary now accepted whole ready ran (out_ready, wrote)
 
@@ -201,7 +201,7 @@ pub run_stops_at_output : (capture script replies out : DeviceEnd) (depth count 
     IfSome capture.before
     (λ f. IfSome script.before (λ s. ScriptGives f s depth count (Appends replies.before replies.after) now)) →
     TookBefore (text now) out.before out.after out.has_failed fault
-    → RunEnds depth capture script replies (Some out) (Err (run_errors.Write fault))
+    → RunEnds (Err (run_errors.Write fault)) depth capture script replies (Some out)
 run_stops_at_output capture script replies out depth count now write_errors.NoMemory accepted whole ready ran took = (
   accepted,
   whole,
@@ -237,7 +237,7 @@ at_error (Err e) error P gives holds = rw gives holds
 -- a run that an error ended
 pub ends_with : (r : Result Summary RunError) (error : RunError) (depth : ℕ) (capture script : DeviceEnd)
     (replies : DeviceEnd) (output : Option DeviceEnd) →
-    IsErrAnd r (λ e. e ≡ error) → RunEnds depth capture script replies output (Err error)
-    → RunEnds depth capture script replies output r
+    IsErrAnd r (λ e. e ≡ error) → RunEnds (Err error) depth capture script replies output
+    → RunEnds r depth capture script replies output
 ends_with (Ok summary) error depth capture script replies output gives ends = absurd gives
 ends_with (Err e) error depth capture script replies output gives ends = rw gives ends

@@ -156,11 +156,11 @@ abbrev match_fault : Option SetupError → Request → Read Request
 match_fault None request = Ok request
 match_fault (Some fault) request = Err (setup_error_name fault)
 
-fault_row : {request : Request} (b : Bool) (fault : SetupError) (others : Option SetupError) (r : Read Request)
+fault_row : (request : Request) (b : Bool) (fault : SetupError) (others : Option SetupError) (r : Read Request)
     → match_fault others request ≡ r → match_fault (cond b (Some fault) others) request
     ≡ cond b (Err (setup_error_name fault)) r
-fault_row true fault others r same = refl
-fault_row false fault others r same = same
+fault_row request true fault others r same = refl
+fault_row request false fault others r same = same
 
 -- ---- what a line asks for
 
@@ -190,13 +190,14 @@ module _ (c : Contents) (skipped : ℕ) where
   uart_asks : (line : ℕ) (u : UartSetup) → told (faultless_uart u >>= λ setup. Ok (commands.Uart line setup))
       ≡ unless_refused (uart_tests u) (reply (uart_lines c line u))
   uart_asks line u = setup_asks (uart_fault u) u (commands.Uart line) _
-      (fault_row _ BadRatio _ _ (fault_row _ BitTooShort _ _ (fault_row _ BadData _ _ (fault_row _ BadStop _ _ refl))))
+      (fault_row _ _ BadRatio _ _ (fault_row _ _ BitTooShort _ _ (fault_row _ _ BadData _ _
+      (fault_row _ _ BadStop _ _ refl))))
 
   spi_asks : (clk : ℕ) (mosi miso cs : Option ℕ) (u : SpiSetup) →
       told (faultless_spi u >>= λ setup. Ok (commands.Spi clk mosi miso cs setup))
       ≡ unless_refused (spi_tests u) (reply (spi_lines c clk mosi miso cs u))
   spi_asks clk mosi miso cs u = setup_asks (spi_fault u) u (commands.Spi clk mosi miso cs) _
-      (fault_row _ BadMode _ _ (fault_row _ BadBits _ _ refl))
+      (fault_row _ _ BadMode _ _ (fault_row _ _ BadBits _ _ refl))
 
   -- ---- so many words
 

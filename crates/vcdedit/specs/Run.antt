@@ -43,11 +43,6 @@ module _ (c : Contents) (skipped : ℕ) where
   abbrev pub history_after_line : History → List ℕ → History
   history_after_line h line = if is_err (line_answer h line) then h else history_after_asked h (asked_by h line)
 
-  -- what is said to lines, one after another
-  unfoldable pub line_answers : History → List (List ℕ) → List (Read (List (List ℕ)))
-  line_answers h [] = []
-  line_answers h (line ∷ lines) = line_answer h line ∷ line_answers (history_after_line h line) lines
-
 -- the same lines, with a history of at most `depth`
 module _ (c : Contents) (skipped depth : ℕ) (lines : List (List ℕ)) where
   -- the history after the first `count` of them
@@ -58,9 +53,9 @@ module _ (c : Contents) (skipped depth : ℕ) (lines : List (List ℕ)) where
   abbrev pub capture_at : (count : ℕ) → Contents
   capture_at count = replay c (history_at count).edits
 
-  -- what is said to each
+  -- what is said to each, on the capture after the lines before it
   abbrev pub answers : List (Read (List (List ℕ)))
-  answers = line_answers c skipped (first_history depth) lines
+  answers = map (λ p. line_answer c skipped (history_at p.0) p.1) (enumerate_from 0 lines)
 
   -- what is written where these lines are run
   pub record IsRunOfLines (written : RunOutcome) : Type 0 where

@@ -70,41 +70,43 @@ abbrev pub OfRun : (capture script : DeviceEnd) → (depth : ℕ) → (RunOutcom
 OfRun capture script depth said = IfSome capture.before (λ file. IfSome script.before (λ lines.
     (written : RunOutcome) × IsRun file lines depth written × said written))
 
--- a run of a script on a capture, with a history of at most `depth`: the later state of its readers and writers
-module _ (depth : ℕ) (capture script replies : DeviceEnd) (output : Option DeviceEnd) where
-  -- how it ends, by its result
-  abbrev pub RunEnds : Result Summary RunError → Type 0
-  -- all replies are written, and the output if one is asked for
-  RunEnds (Ok summary) = IsAccepted capture × IsWholeScript script
-      × (replies.has_failed ≡ false) × IfSome output (λ out. out.has_failed ≡ false)
-      × OfRun capture script depth (λ written. HasText replies (concat written.replies)
-      × IfSome output (λ out. HasText out written.output) × (summary.refused ≡ written.refused))
-  -- the capture has this fault: the script is unread, and nothing is written
-  RunEnds (Err (Capture e)) = IfSome capture.before (λ file. IsRefusal file capture.has_failed capture.after e)
-      × (e.fault ≡ faults.ReadFault → capture.has_failed ≡ true)
-      × IsUntouched script × IsUntouched replies × IfSome output IsUntouched
-  -- the script is above its limit: nothing is written
-  RunEnds (Err ScriptTooLarge) = IsAccepted capture × IfSome script.before (λ bytes. SCRIPT_LIMIT < length bytes)
-      × IsUntouched replies × IfSome output IsUntouched
-  -- the reader of the script failed: nothing is written
-  RunEnds (Err ScriptReadFault) = IsAccepted capture × (script.has_failed ≡ true)
-      × IsUntouched replies × IfSome output IsUntouched
-  -- memory ran out before the first line: nothing is written
-  RunEnds (Err (NoMemory zero)) = IsAccepted capture × IsUntouched replies × IfSome output IsUntouched
-  -- memory ran out at a line, counted from 1: exactly the replies to the lines before it are written
-  RunEnds (Err (NoMemory (suc before))) = IsAccepted capture × IsWholeScript script × IfSome output IsUntouched
-      × OfRun capture script depth (λ written. (before < length written.replies)
-      × HasText replies (concat (take before written.replies)))
-  -- the writer of the replies failed: it took exactly so many bytes of them
-  RunEnds (Err (ReplyFault count)) = IsAccepted capture × IsWholeScript script × (replies.has_failed ≡ true)
-      × IfSome output IsUntouched
-      × OfRun capture script depth (λ written. HasFront replies count (concat written.replies))
-  -- memory ran out for the output: all replies are written, and none of the output
-  RunEnds (Err (Write write_errors.NoMemory)) = IsAccepted capture × IsWholeScript script × (replies.has_failed ≡ false)
-      × IsSomeAnd output (λ out. Keeps out.before out.after × (out.has_failed ≡ false))
-      × OfRun capture script depth (λ written. HasText replies (concat written.replies))
-  -- the writer of the output failed: it took exactly so many bytes of the output, and all replies are written
-  RunEnds (Err (Write (write_errors.WriteFault count))) = IsAccepted capture × IsWholeScript script
-      × (replies.has_failed ≡ false) × IsSomeAnd output (λ out. (out.has_failed ≡ true)
-      × OfRun capture script depth (λ written. HasText replies (concat written.replies)
-      × HasFront out count written.output))
+-- how a run ends, by its result: the later state of its two readers and two writers
+abbrev pub RunEnds : Result Summary RunError → (depth : ℕ) → (capture script replies : DeviceEnd)
+    → (output : Option DeviceEnd) → Type 0
+-- all replies are written, and the output if one is asked for
+RunEnds (Ok summary) depth capture script replies output = IsAccepted capture × IsWholeScript script
+    × (replies.has_failed ≡ false) × IfSome output (λ out. out.has_failed ≡ false)
+    × OfRun capture script depth (λ written. HasText replies (concat written.replies)
+    × IfSome output (λ out. HasText out written.output) × (summary.refused ≡ written.refused))
+-- the capture has this fault: the script is unread, and nothing is written
+RunEnds (Err (Capture e)) depth capture script replies output =
+    IfSome capture.before (λ file. IsRefusal file capture.has_failed capture.after e)
+    × (e.fault ≡ faults.ReadFault → capture.has_failed ≡ true) × IsUntouched script
+    × IsUntouched replies × IfSome output IsUntouched
+-- the script is above its limit: nothing is written
+RunEnds (Err ScriptTooLarge) depth capture script replies output = IsAccepted capture
+    × IfSome script.before (λ bytes. SCRIPT_LIMIT < length bytes) × IsUntouched replies × IfSome output IsUntouched
+-- the reader of the script failed: nothing is written
+RunEnds (Err ScriptReadFault) depth capture script replies output = IsAccepted capture
+    × (script.has_failed ≡ true) × IsUntouched replies × IfSome output IsUntouched
+-- memory ran out before the first line: nothing is written
+RunEnds (Err (NoMemory zero)) depth capture script replies output =
+    IsAccepted capture × IsUntouched replies × IfSome output IsUntouched
+-- memory ran out at a line, counted from 1: exactly the replies to the lines before it are written
+RunEnds (Err (NoMemory (suc before))) depth capture script replies output = IsAccepted capture × IsWholeScript script
+    × IfSome output IsUntouched × OfRun capture script depth (λ written. (before < length written.replies)
+    × HasText replies (concat (take before written.replies)))
+-- the writer of the replies failed: it took exactly so many bytes of them
+RunEnds (Err (ReplyFault count)) depth capture script replies output = IsAccepted capture × IsWholeScript script
+    × (replies.has_failed ≡ true) × IfSome output IsUntouched
+    × OfRun capture script depth (λ written. HasFront replies count (concat written.replies))
+-- memory ran out for the output: all replies are written, and none of the output
+RunEnds (Err (Write write_errors.NoMemory)) depth capture script replies output = IsAccepted capture
+    × IsWholeScript script × (replies.has_failed ≡ false)
+    × IsSomeAnd output (λ out. Keeps out.before out.after × (out.has_failed ≡ false))
+    × OfRun capture script depth (λ written. HasText replies (concat written.replies))
+-- the writer of the output failed: it took exactly so many bytes of the output, and all replies are written
+RunEnds (Err (Write (write_errors.WriteFault count))) depth capture script replies output = IsAccepted capture
+    × IsWholeScript script × (replies.has_failed ≡ false) × IsSomeAnd output (λ out. (out.has_failed ≡ true)
+    × OfRun capture script depth (λ written. HasText replies (concat written.replies)
+    × HasFront out count written.output))

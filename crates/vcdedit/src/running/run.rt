@@ -37,10 +37,10 @@ pub fn run<R: Source, S: Source, P: Sink, W: Sink>(
     requires depth_least { 1 ≤ depth }
     requires depth_most { depth ≤ DEPTH_LIMIT }
 
-    ensures headline { OfOutput W.taken W.has_failed out.entry out.exit (λ output. RunEnds depth
+    ensures headline { OfOutput W.taken W.has_failed out.entry out.exit (RunEnds result depth
         (device_end R.coming R.has_failed capture_reader.old capture_reader.new)
         (device_end S.coming S.has_failed script_reader.old script_reader.new)
-        (device_end P.taken P.has_failed replies.old replies.new) output result) }
+        (device_end P.taken P.has_failed replies.old replies.new)) }
 {
     let (session, refused) = run_script(alloc, capture_reader, script_reader, replies, depth)?;
     let summary = Summary { refused };

@@ -155,9 +155,9 @@ fn run_gathered<R: Runtime + AllocGlobal, C: Source, S: Source, W: Write + Drop>
     ensures ends { (replies : DeviceEnd) × (out : Option DeviceEnd) ×
         (is_some out ≡ is_some output.entry) ×
         (result.1 ≡ Err None → replies.has_failed ≡ true) ×
-        RunEnds depth
+        RunEnds result.0 depth
         (device_end C.coming C.has_failed capture.old capture.new)
-        (device_end S.coming S.has_failed script.old script.new) replies out result.0 }
+        (device_end S.coming S.has_failed script.old script.new) replies out }
     ensures sent { IfOk result.1 (λ writer. HasSentReplies result.0 depth
         (device_end C.coming C.has_failed capture.old capture.new)
         (device_end S.coming S.has_failed script.old script.new)
@@ -182,10 +182,10 @@ fn run_devices<R: Runtime + AllocGlobal, C: Source, S: Source, P: Sink>(
     requires capture_ready { C.has_failed capture.old ≡ false }
     requires script_ready { S.has_failed script.old ≡ false }
     requires replies_ready { P.has_failed replies.old ≡ false }
-    ensures { (out : Option DeviceEnd) × (is_some out ≡ is_some output.entry) × RunEnds depth
+    ensures { (out : Option DeviceEnd) × (is_some out ≡ is_some output.entry) × RunEnds result depth
         (device_end C.coming C.has_failed capture.old capture.new)
         (device_end S.coming S.has_failed script.old script.new)
-        (device_end P.taken P.has_failed replies.old replies.new) out result }
+        (device_end P.taken P.has_failed replies.old replies.new) out }
 {
     // no buffer, since `write` of `vcd_text` has its own
     let mut out = match output {
