@@ -5,8 +5,10 @@ use Rattle.vcd_core.specs.declared.bit.Bit.{Bit}
 use Rattle.vcd_core.specs.declared.bit.Bit.TheVariants.{Zero, One, X, Z}
 use Rattle.vcd_core.specs.BitEdges.{bit_edges_of}
 use Rattle.vcd_core.specs.WaveView.{WaveView}
-use Rattle.vcd_decode.specs.Lines.{line_of, letter_before}
-use Rattle.vcd_decode.specs.BusEvents.{bus_event, bus_event_at, bus_events}
+use Rattle.vcd_decode.specs.Lines.{letter_before}
+use Rattle.vcd_decode.specs.WaveLines.{line_of}
+use Rattle.vcd_decode.specs.BusEvents.{bus_event_at, bus_events}
+use Rattle.vcd_decode.specs.inside.LevelEvents.{bus_event}
 use Rattle.vcd_decode.specs.inside.BusWalk.{levels_of, edge_event, edge_events}
 use Rattle.vcd_decode.specs.inside.LineEdges.{lines_of, line_edge}
 use Rattle.vcd_decode.proofs.EdgeTicks.{over_edges}

@@ -12,7 +12,8 @@ use Rattle.vcd_decode.specs.declared.annotation.Kind.TheVariants.{Address, Addre
 use Rattle.vcd_decode.specs.declared.annotation.Direction.TheVariants.{Write, Read}
 use Rattle.vcd_decode.specs.declared.i2c_bus.events.BusEvent.{BusEvent}
 use Rattle.vcd_decode.specs.declared.i2c_bus.events.BusEvent.TheVariants as events
-use Rattle.vcd_decode.specs.Lines.{line_of, annotation}
+use Rattle.vcd_decode.specs.Lines.{annotation}
+use Rattle.vcd_decode.specs.WaveLines.{line_of}
 use Rattle.vcd_decode.specs.Groups.{groups_of}
 use Rattle.vcd_decode.specs.BusEvents.{bus_events}
 use Rattle.vcd_decode.specs.I2c.{i2c_annotations, nines_annotations, bits_until, has_condition, shown_address}

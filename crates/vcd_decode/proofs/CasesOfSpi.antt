@@ -12,8 +12,11 @@ use Rattle.vcd_decode.specs.declared.annotation.LineData.TheVariants.{Absent, Un
 use Rattle.vcd_decode.specs.declared.setup_error.SetupError.TheVariants.{BadMode, BadBits}
 use Rattle.vcd_decode.specs.declared.spi_setup.BitOrder.TheVariants.{Msb, Lsb}
 use Rattle.vcd_decode.specs.declared.spi_setup.TheConstants.{GREATEST_MODE, WORD_BITS_LIMIT}
-use Rattle.vcd_decode.specs.SpiSetup.{SpiSetup, spi_setup, spi_fault}
-use Rattle.vcd_decode.specs.Lines.{line_of, annotation}
+use Rattle.vcd_decode.specs.SpiSetup.{SpiSetup}
+use Rattle.vcd_decode.specs.SetupFaults.{spi_fault}
+use Rattle.vcd_decode.specs.SpiSetup.{spi_setup}
+use Rattle.vcd_decode.specs.Lines.{annotation}
+use Rattle.vcd_decode.specs.WaveLines.{line_of}
 use Rattle.vcd_decode.specs.Groups.{groups_of}
 use Rattle.vcd_decode.specs.Spi.{spi_annotations}
 

@@ -11,8 +11,11 @@ use Rattle.vcd_decode.specs.declared.uart_setup.Parity.TheVariants.{None, Even, 
 use Rattle.vcd_core.specs.declared.capture.TheConstants.{END_LIMIT}
 use Rattle.vcd_decode.specs.declared.uart_setup.TheConstants.{RATIO_LIMIT}
 use Rattle.vcd_decode.specs.declared.setup_error.SetupError.TheVariants.{BadRatio, BitTooShort, BadData, BadStop}
-use Rattle.vcd_decode.specs.UartSetup.{UartSetup, uart_setup, uart_fault}
-use Rattle.vcd_decode.specs.Lines.{line_of, annotation}
+use Rattle.vcd_decode.specs.UartSetup.{UartSetup}
+use Rattle.vcd_decode.specs.SetupFaults.{uart_fault}
+use Rattle.vcd_decode.specs.UartSetup.{uart_setup}
+use Rattle.vcd_decode.specs.Lines.{annotation}
+use Rattle.vcd_decode.specs.WaveLines.{line_of}
 use Rattle.vcd_decode.specs.Uart.{uart_annotations, frames, falls, begun_frame, sample_offset}
 
 -- the frames of a line with these changes

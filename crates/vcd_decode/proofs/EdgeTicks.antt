@@ -11,7 +11,8 @@ use Rattle.vcd_core.specs.inside.ValueLaws.{same_letters-Decides}
 use Rattle.vcd_core.specs.WaveView.{WaveView}
 use Rattle.vcd_core.specs.Edges.{Trace, trace_of, value_on, value_before, same_value, changes_at, edge_on, edges_on}
 use Rattle.vcd_core.specs.BitEdges.{lowest_bit, bit_edge, bit_edges_of}
-use Rattle.vcd_decode.specs.Lines.{line_of, letter_before}
+use Rattle.vcd_decode.specs.Lines.{letter_before}
+use Rattle.vcd_decode.specs.WaveLines.{line_of}
 use Rattle.vcd_decode.specs.inside.LineEdges.{lines_of, line_edge}
 
 -- ---- the bits at an edge are the letters of the lines

@@ -14,9 +14,11 @@ use Rattle.vcd_core.specs.Wave.{value_from, AreChangesFrom, IsWave, AllUpTo}
 use Rattle.vcd_core.specs.WaveView.{WaveView}
 use Rattle.vcd_core.proofs.Waves.{value_past, value_early}
 use Rattle.vcd_decode.specs.declared.annotation.Annotation.{Annotation}
-use Rattle.vcd_decode.specs.Lines.{line_of, letter_before, is_zero, is_one}
+use Rattle.vcd_decode.specs.Lines.{letter_before, is_zero, is_one}
+use Rattle.vcd_decode.specs.WaveLines.{line_of}
 use Rattle.vcd_decode.specs.UartSetup.{UartSetup}
-use Rattle.vcd_decode.specs.Uart.{is_fall, falls, frames, begun_frame, uart_annotations}
+use Rattle.vcd_decode.specs.inside.FallTicks.{is_fall}
+use Rattle.vcd_decode.specs.Uart.{falls, frames, begun_frame, uart_annotations}
 
 -- the letter of a change
 abbrev pub letter_of : Change → Bit

@@ -12,7 +12,7 @@ use Rattle.vcd_core.specs.WaveView.{WaveView}
 use Rattle.vcd_core.specs.Wave.{value_from, last_value, AreChangesFrom, IsWave, AllUpTo}
 use Rattle.vcd_core.proofs.Waves.{value_past, value_skip, value_early}
 use Rattle.vcd_core.proofs.Pushes.{last_value-none}
-use Rattle.vcd_decode.specs.Lines.{line_of}
+use Rattle.vcd_decode.specs.WaveLines.{line_of}
 
 -- whether a change is at or before a tick
 abbrev pub is_up_to : ℕ → Change → Bool

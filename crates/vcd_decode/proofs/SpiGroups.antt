@@ -16,9 +16,11 @@ use Rattle.vcd_decode.specs.declared.annotation.LineData.TheVariants.{Unknown, N
 use Rattle.vcd_decode.specs.declared.spi_setup.BitOrder.{BitOrder}
 use Rattle.vcd_decode.specs.declared.spi_setup.BitOrder.TheVariants.{Msb, Lsb}
 use Rattle.vcd_decode.specs.SpiSetup.{SpiSetup}
-use Rattle.vcd_decode.specs.Lines.{line_of, is_one, is_unclear, number_from_letters}
-use Rattle.vcd_decode.specs.Spi.{ordered_number, data_of, line_data, group_start, group_end, group_annotation}
-use Rattle.vcd_decode.specs.Spi.{segment_annotations}
+use Rattle.vcd_decode.specs.Lines.{is_one, is_unclear, number_from_letters}
+use Rattle.vcd_decode.specs.WaveLines.{line_of}
+use Rattle.vcd_decode.specs.Spi.{ordered_number, data_of, line_data, group_annotation}
+use Rattle.vcd_decode.specs.inside.SpiParts.{group_start, group_end}
+use Rattle.vcd_decode.specs.inside.SpiParts.{segment_annotations}
 use Rattle.vcd_decode.specs.inside.SpiGroup.{longer_number, data_after, data_before, first_data, DataFits, group_before}
 use Rattle.vcd_decode.specs.inside.SpiGroup.{word_annotation, rest_annotation}
 use Rattle.vcd_decode.specs.inside.SpiWalk.{annotations_at_rest, group_of}

@@ -14,9 +14,12 @@ use Rattle.vcd_core.specs.BitEdges.{bit_edges_of}
 use Rattle.vcd_decode.specs.declared.annotation.Annotation.{Annotation}
 use Rattle.vcd_decode.specs.declared.spi_group.Group.{Group}
 use Rattle.vcd_decode.specs.SpiSetup.{SpiSetup}
-use Rattle.vcd_decode.specs.Lines.{line_of, letter_before, is_zero, is_one}
-use Rattle.vcd_decode.specs.Spi.{samples_rise, has_edge, is_selected, line_data, group_start, group_annotation}
-use Rattle.vcd_decode.specs.Spi.{segment_annotations, spi_annotations}
+use Rattle.vcd_decode.specs.Lines.{letter_before, is_zero, is_one}
+use Rattle.vcd_decode.specs.WaveLines.{line_of}
+use Rattle.vcd_decode.specs.Spi.{has_edge, is_selected, line_data, group_annotation}
+use Rattle.vcd_decode.specs.inside.SpiParts.{samples_rise, group_start}
+use Rattle.vcd_decode.specs.Spi.{spi_annotations}
+use Rattle.vcd_decode.specs.inside.SpiParts.{segment_annotations}
 use Rattle.vcd_decode.specs.inside.LineEdges.{lines_of, line_edge}
 use Rattle.vcd_decode.specs.inside.SpiClock.{passes, samples}
 use Rattle.vcd_decode.specs.inside.SpiGroup.{line_bit, first_data, data_after, group_before, group_after}

@@ -1,6 +1,6 @@
 -- The bytes of an I2C bus: addresses of seven and of ten bits, data, acknowledges (UM10204, 3.1.5, 3.1.6, 3.1.10 and
 -- 3.1.11).
-use Rattle.std.specs.Prelude.{ℕ, zero, suc, ◌+◌, ◌*◌, ◌/◌, ◌%◌, ◌==◌, Bool, if◌then◌else◌, Option, Some, None, List}
+use Rattle.std.specs.Prelude.{ℕ, zero, suc, ◌+◌, ◌*◌, ◌/◌, ◌%◌, ◌==◌, Bool, Option, Some, None, List}
 use Rattle.std.specs.Prelude.{fold}
 use Rattle.vcd_decode.specs.declared.annotation.Kind.{Kind}
 use Rattle.vcd_decode.specs.declared.annotation.Kind.TheVariants.{Unknown, Address, AddressHigh, TenBitAddress, Ack}
@@ -13,6 +13,7 @@ use Rattle.vcd_decode.specs.declared.i2c_bus.bytes.ByteRole.{ByteRole}
 use Rattle.vcd_decode.specs.declared.i2c_bus.bytes.ByteRole.TheVariants as roles
 use Rattle.vcd_decode.specs.Lines.{is_zero}
 use Rattle.vcd_decode.specs.BusEvents.{is_line_high}
+use Rattle.std.specs.Prelude.{if◌then◌else◌}
 
 -- a number with one more bit after it; none where the bit is neither high nor low
 abbrev pub number_with : Option ℕ → BusBit → Option ℕ
@@ -38,15 +39,11 @@ is_ten_bit n = n / 8 == 30
 abbrev pub high_bits : ℕ → ℕ
 high_bits n = n / 2 % 4
 
--- a repeated START reads an address of ten bits again, where the high bits are its own
-abbrev pub ten_bit_read : Option ℕ → ℕ → Kind
-ten_bit_read None high = AddressHigh high Read
-ten_bit_read (Some a) high = if a / 256 == high then TenBitAddress a Read else AddressHigh high Read
-
--- the kind of an address of ten bits, with the address that the bits just before the START gave
+-- the kind of an address of ten bits: a read, where its high bits are those of the address that the bits just before
+-- the START gave, reads at that address
 abbrev pub ten_bit_kind : Option ℕ → ℕ → Direction → Kind
-ten_bit_kind given high Write = AddressHigh high Write
-ten_bit_kind given high Read = ten_bit_read given high
+ten_bit_kind (Some a) high Read = if a / 256 == high then TenBitAddress a Read else AddressHigh high Read
+ten_bit_kind given high direction = AddressHigh high direction
 
 -- the kind of any address
 abbrev pub address_kind : Option ℕ → ℕ → Kind
@@ -69,10 +66,8 @@ role_after_address n Read = roles.Data
 
 -- the role of the byte after a byte
 abbrev pub role_after : ByteRole → Option ℕ → ByteRole
-role_after role None = roles.Data
 role_after (roles.Address given) (Some n) = role_after_address n (direction_of n)
-role_after (roles.AddressLow high) (Some n) = roles.Data
-role_after roles.Data (Some n) = roles.Data
+role_after role byte = roles.Data
 
 -- the kind of an acknowledge bit: low for a byte that was taken
 abbrev pub acknowledge_kind : Option ℕ → Kind

@@ -1,6 +1,6 @@
 -- The annotations of an I2C bus (UM10204, 3.1); those of rests and unclear levels are the project's own.
-use Rattle.std.specs.Prelude.{ℕ, ◌-◌, ◌==◌, ◌&&◌, nat_le, Bool, true, false, if◌then◌else◌, Option, Some, None, List}
-use Rattle.std.specs.Prelude.{[], ◌∷◌, ◌++◌, length, take, drop, map, slice_index}
+use Rattle.std.specs.Prelude.{ℕ, ◌-◌, ◌==◌, ◌&&◌, nat_le, Bool, true, false, Option, Some, None, List, []}
+use Rattle.std.specs.Prelude.{◌∷◌, ◌++◌, length, take, drop, map, slice_index}
 use Rattle.std.specs.Option.{option_or, option_flatten}
 use Rattle.vcd_core.specs.declared.bit.Bit.{Bit}
 use Rattle.vcd_decode.specs.declared.annotation.Annotation.{Annotation}
@@ -15,6 +15,7 @@ use Rattle.vcd_decode.specs.Lines.{annotation}
 use Rattle.vcd_decode.specs.Groups.{groups_of}
 use Rattle.vcd_decode.specs.BusEvents.{bus_events}
 use Rattle.vcd_decode.specs.BusBytes.{number_of_bits, byte_kind, role_after, acknowledge_kind, ten_bit_address}
+use Rattle.std.specs.Prelude.{if◌then◌else◌}
 
 -- ---- the bits from a START to the next condition
 
@@ -52,15 +53,13 @@ nines_annotations ended role (nine ∷ nines) =
 unfoldable pub bits_until : List BusEvent → List BusBit
 bits_until [] = []
 bits_until (events.Bit b ∷ es) = b ∷ bits_until es
-bits_until (events.Start t ∷ es) = []
-bits_until (events.Stop t ∷ es) = []
+bits_until (e ∷ es) = []
 
 -- whether there is a next condition
 unfoldable pub has_condition : List BusEvent → Bool
 has_condition [] = false
 has_condition (events.Bit b ∷ es) = has_condition es
-has_condition (events.Start t ∷ es) = true
-has_condition (events.Stop t ∷ es) = true
+has_condition (e ∷ es) = true
 
 -- the address of ten bits that annotations show
 unfoldable pub shown_address : List Annotation → Option ℕ

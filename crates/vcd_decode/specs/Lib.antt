@@ -1,7 +1,9 @@
 -- The definitions that contracts cite. Those that a reader need not believe are in `inside`.
 pub mod SetupErrorNames
 pub mod Lines
+pub mod WaveLines
 pub mod UartSetup
+pub mod SetupFaults
 pub mod Uart
 pub mod SpiSetup
 pub mod Groups

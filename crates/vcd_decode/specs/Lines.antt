@@ -1,16 +1,10 @@
 -- A line of one bit as a function of the tick, and annotations: shared by the three decoders.
-use Rattle.std.specs.Prelude.{ℕ, zero, suc, ◌+◌, ◌*◌, ◌||◌, Bool, true, false, not, if◌then◌else◌, List, [], ◌∷◌}
+use Rattle.std.specs.Prelude.{ℕ, zero, suc, ◌+◌, ◌*◌, ◌||◌, Bool, true, false, not, List, ◌∷◌, []}
 use Rattle.vcd_core.specs.declared.bit.Bit.{Bit}
-use Rattle.vcd_core.specs.declared.bit.Bit.TheVariants.{Zero, One, X, Z}
-use Rattle.vcd_core.specs.WaveView.{WaveView}
-use Rattle.vcd_core.specs.Value.{letter_at}
-use Rattle.vcd_core.specs.Wave.{value_at}
+use Rattle.vcd_core.specs.declared.bit.Bit.TheVariants.{Zero, One, X}
 use Rattle.vcd_decode.specs.declared.annotation.Annotation.{Annotation}
 use Rattle.vcd_decode.specs.declared.annotation.Kind.{Kind}
-
--- the letter of a one-bit wave at each tick
-abbrev pub line_of : WaveView → ℕ → Bit
-line_of wave t = letter_at (value_at wave.width wave.changes t) 0
+use Rattle.std.specs.Prelude.{if◌then◌else◌}
 
 -- the letter of a line just before a tick: x before tick 0
 abbrev pub letter_before : (ℕ → Bit) → ℕ → Bit
@@ -20,16 +14,12 @@ letter_before f (suc t) = f t
 -- whether a letter is 0
 abbrev pub is_zero : Bit → Bool
 is_zero Zero = true
-is_zero One = false
-is_zero X = false
-is_zero Z = false
+is_zero b = false
 
 -- whether a letter is 1
 abbrev pub is_one : Bit → Bool
-is_one Zero = false
 is_one One = true
-is_one X = false
-is_one Z = false
+is_one b = false
 
 -- whether a letter is x or z
 abbrev pub is_unclear : Bit → Bool

@@ -1,6 +1,6 @@
 -- The words of a serial peripheral interface. The edge at which a mode samples is the field's common rule (clock
 -- polarity and phase, 0 to 3); the cut of ticks into words is the project's own.
-use Rattle.std.specs.Prelude.{ℕ, suc, ◌-◌, ◌==◌, ◌&&◌, ◌||◌, nat_lt, Bool, true, not, if◌then◌else◌, Option, Some, None}
+use Rattle.std.specs.Prelude.{ℕ, suc, ◌-◌, ◌==◌, ◌&&◌, ◌||◌, nat_lt, Bool, true, not, Option, Some, None}
 use Rattle.std.specs.Prelude.{List, map, filter, length, reverse, slice_index}
 use Rattle.std.specs.List.{flat_map, list_any, range_with_len, slice_split}
 use Rattle.vcd_core.specs.declared.bit.Bit.{Bit}
@@ -13,20 +13,14 @@ use Rattle.vcd_decode.specs.declared.spi_setup.BitOrder.TheVariants.{Msb, Lsb}
 use Rattle.vcd_decode.specs.SpiSetup.{SpiSetup}
 use Rattle.vcd_decode.specs.Groups.{groups_of}
 use Rattle.vcd_decode.specs.Lines.{letter_before, is_zero, is_one, is_unclear, number_from_letters, annotation}
+use Rattle.std.specs.Prelude.{if◌then◌else◌}
 
 -- ---- the sampling ticks
 
--- whether a mode samples where its clock rises
-abbrev pub samples_rise : ℕ → Bool
-samples_rise mode = mode == 0 || mode == 3
-
--- whether a clock is sampled where it changes from one letter to another
-abbrev pub is_sampled : Bool → Bit → Bit → Bool
-is_sampled rise before at = if rise then is_zero before && is_one at else is_one before && is_zero at
-
--- whether the clock has the mode's edge at a tick
-abbrev pub has_edge : ℕ → (ℕ → Bit) → ℕ → Bool
-has_edge mode clk t = is_sampled (samples_rise mode) (letter_before clk t) (clk t)
+-- whether the clock has the mode's edge at a tick: in the modes 0 and 3 it rises, in 1 and 2 it falls
+abbrev pub has_edge : (mode : ℕ) → (clk : ℕ → Bit) → ℕ → Bool
+has_edge mode clk t = if mode == 0 || mode == 3 then is_zero (letter_before clk t) && is_one (clk t)
+    else is_one (letter_before clk t) && is_zero (clk t)
 
 -- whether the chip is selected at a tick: always where there is no such line
 abbrev pub is_selected : Option (ℕ → Bit) → ℕ → Bool
@@ -54,25 +48,13 @@ abbrev pub line_data : BitOrder → Option (ℕ → Bit) → List ℕ → LineDa
 line_data order None ticks = Absent
 line_data order (Some f) ticks = data_of order (map f ticks)
 
--- the first of some ticks
-abbrev pub group_start : List ℕ → ℕ
-group_start ticks = slice_index ticks 0
-
--- the last of some ticks
-abbrev pub group_end : List ℕ → ℕ
-group_end ticks = slice_index ticks (length ticks - 1)
-
--- the annotation of a group: a word, or the number of bits of an unfinished one
-abbrev pub group_annotation : SpiSetup → Option (ℕ → Bit) → Option (ℕ → Bit) → List ℕ → Annotation
-group_annotation u mosi miso ticks = annotation (group_start ticks) (group_end ticks)
+-- the annotation of a group of ticks: a word, or the number of bits of an unfinished one
+abbrev pub group_annotation : SpiSetup → (mosi miso : Option (ℕ → Bit)) → List ℕ → Annotation
+group_annotation u mosi miso ticks = annotation (slice_index ticks 0) (slice_index ticks (length ticks - 1))
     (if nat_lt (length ticks) u.bits then PartialOf (length ticks)
     else Word (line_data u.order mosi ticks) (line_data u.order miso ticks))
 
--- the annotations of a segment
-abbrev pub segment_annotations : SpiSetup → Option (ℕ → Bit) → Option (ℕ → Bit) → List ℕ → List Annotation
-segment_annotations u mosi miso ticks = map (group_annotation u mosi miso) (groups_of u.bits ticks)
-
 -- the annotations of lines with these letters at each tick, up to the capture's end
-unfoldable pub spi_annotations : SpiSetup → (ℕ → Bit) → Option (ℕ → Bit) → Option (ℕ → Bit) → Option (ℕ → Bit) → ℕ
-    → List Annotation
-spi_annotations u clk mosi miso cs end = flat_map (segment_annotations u mosi miso) (segments u clk cs end)
+unfoldable pub spi_annotations : SpiSetup → (clk : ℕ → Bit) → (mosi miso cs : Option (ℕ → Bit)) → ℕ → List Annotation
+spi_annotations u clk mosi miso cs end =
+    flat_map (λ ticks. map (group_annotation u mosi miso) (groups_of u.bits ticks)) (segments u clk cs end)

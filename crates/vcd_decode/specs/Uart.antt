@@ -1,7 +1,7 @@
 -- The frames of an asynchronous serial line. A frame is a start bit 0, data bits with the least significant first, a
 -- parity bit where there is one, and stop bits 1 (ISO 1177). Its beginning and its sample ticks are the project's own.
-use Rattle.std.specs.Prelude.{ℕ, suc, ◌+◌, ◌*◌, ◌/◌, ◌%◌, ◌==◌, ◌&&◌, nat_lt, nat_le, Bool, false, not, if◌then◌else◌}
-use Rattle.std.specs.Prelude.{Option, Some, None, List, [], ◌∷◌, ◌++◌, map, filter, take, drop, count_by}
+use Rattle.std.specs.Prelude.{ℕ, suc, ◌+◌, ◌*◌, ◌/◌, ◌%◌, ◌==◌, ◌&&◌, nat_lt, nat_le, Bool, false, not, []}
+use Rattle.std.specs.Prelude.{Option, Some, None, List, ◌∷◌, ◌++◌, map, filter, take, drop, count_by}
 use Rattle.std.specs.List.{list_any, range_with_len}
 use Rattle.std.specs.Option.{option_map_or, option_to_list}
 use Rattle.vcd_core.specs.declared.bit.Bit.{Bit}
@@ -12,14 +12,14 @@ use Rattle.vcd_decode.specs.declared.uart_setup.Parity.{Parity}
 use Rattle.vcd_decode.specs.declared.uart_setup.Parity.TheVariants as parities
 use Rattle.vcd_decode.specs.UartSetup.{UartSetup}
 use Rattle.vcd_decode.specs.Lines.{letter_before, is_zero, is_one, is_unclear, number_from_letters, annotation}
+use Rattle.std.specs.Prelude.{if◌then◌else◌}
 
 -- ---- where a frame is sampled
 
 -- the number of parity bits in a frame
 abbrev pub parity_bits : Parity → ℕ
 parity_bits parities.None = 0
-parity_bits parities.Even = 1
-parity_bits parities.Odd = 1
+parity_bits parity = 1
 
 -- the number of bits before the stop bits, without the start bit
 abbrev pub checked_bits : UartSetup → ℕ
@@ -69,13 +69,9 @@ begun_frame f end u start =
 
 -- ---- all frames
 
--- whether the line falls from 1 to 0 at a tick
-abbrev pub is_fall : (ℕ → Bit) → ℕ → Bool
-is_fall f t = is_one (letter_before f t) && is_zero (f t)
-
--- the ticks 0 to `end` at which the line falls
+-- the ticks 0 to `end` at which the line falls from 1 to 0
 unfoldable pub falls : (ℕ → Bit) → ℕ → List ℕ
-falls f end = filter (is_fall f) (range_with_len 0 (suc end))
+falls f end = filter (λ t. is_one (letter_before f t) && is_zero (f t)) (range_with_len 0 (suc end))
 
 -- the frames that falls begin: a fall up to the tick `taken`, the end of the frame before, begins none
 unfoldable pub frames : (ℕ → Option Annotation) → ℕ → List ℕ → List Annotation

@@ -1,10 +1,6 @@
--- The setup of an asynchronous serial line, and its faults: the project's own.
-use Rattle.std.specs.Prelude.{ℕ, ◌≡◌, ◌≤◌, ◌*◌, ◌&&◌, Bool, not, nat_le, nat_lt, if◌then◌else◌, Option, Some, None}
-use Rattle.std.specs.Prelude.{Result, MatchResult}
+-- The setup of an asynchronous serial line: the project's own.
+use Rattle.std.specs.Prelude.{ℕ, ◌&&◌, Bool, nat_le}
 use Rattle.vcd_decode.specs.declared.uart_setup.Parity.{Parity}
-use Rattle.vcd_decode.specs.declared.uart_setup.TheConstants.{RATIO_LIMIT}
-use Rattle.vcd_decode.specs.declared.setup_error.SetupError.{SetupError}
-use Rattle.vcd_decode.specs.declared.setup_error.SetupError.TheVariants.{BadRatio, BitTooShort, BadData, BadStop}
 
 -- a setup as contracts see it: a bit lasts `numerator / denominator` ticks
 pub record UartSetup : Type 0 where
@@ -16,33 +12,9 @@ pub record UartSetup : Type 0 where
 
 -- a setup of these numbers
 abbrev pub uart_setup : ℕ → ℕ → ℕ → Parity → ℕ → UartSetup
-uart_setup numerator denominator data_bits parity stop_bits = record {
-  numerator = numerator;
-  denominator = denominator;
-  data_bits = data_bits;
-  parity = parity;
-  stop_bits = stop_bits;
-}
+uart_setup n d bits parity stop =
+    record { numerator = n; denominator = d; data_bits = bits; parity = parity; stop_bits = stop }
 
 -- whether a number is in this range, both ends included
 abbrev pub is_between : ℕ → ℕ → ℕ → Bool
 is_between least greatest n = nat_le least n && nat_le n greatest
-
--- the first fault of a setup, or none
-abbrev pub uart_fault : UartSetup → Option SetupError
-uart_fault u =
-    if not (is_between 1 RATIO_LIMIT u.numerator && is_between 1 RATIO_LIMIT u.denominator) then Some BadRatio
-    else (if nat_lt u.numerator (2 * u.denominator) then Some BitTooShort
-    else (if not (is_between 5 9 u.data_bits) then Some BadData
-    else (if not (is_between 1 2 u.stop_bits) then Some BadStop
-    else None)))
-
--- the result of making a setup, by its fault
-abbrev pub SetupFaultIs : {T : Type 0} → Result T SetupError → Option SetupError → Type 0
-SetupFaultIs answer found = MatchResult answer (λ _. found ≡ None) (λ fault. found ≡ Some fault)
-
--- the numbers of a setup without a fault
-abbrev pub IsUartSetup : ℕ → ℕ → ℕ → ℕ → Type 0
-IsUartSetup numerator denominator data_bits stop_bits =
-    (numerator ≤ RATIO_LIMIT) × (1 ≤ denominator) × (denominator ≤ RATIO_LIMIT) × (2 * denominator ≤ numerator)
-    × (5 ≤ data_bits) × (data_bits ≤ 9) × (1 ≤ stop_bits) × (stop_bits ≤ 2)

@@ -4,3 +4,6 @@ pub mod SpiClock
 pub mod SpiGroup
 pub mod SpiWalk
 pub mod BusWalk
+pub mod FallTicks
+pub mod SpiParts
+pub mod LevelEvents

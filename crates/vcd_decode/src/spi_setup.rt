@@ -1,8 +1,9 @@
 //! The setup of a serial peripheral interface.
 
 ghost use Rattle.std.specs.Prelude.{◌≡◌, ◌≤◌, IfOk};
-ghost use Rattle.vcd_decode.specs.SpiSetup.{spi_setup, spi_fault};
-ghost use Rattle.vcd_decode.specs.UartSetup.{SetupFaultIs};
+ghost use Rattle.vcd_decode.specs.SetupFaults.{spi_fault};
+ghost use Rattle.vcd_decode.specs.SpiSetup.{spi_setup};
+ghost use Rattle.vcd_decode.specs.SetupFaults.{SetupFaultIs};
 ghost use Rattle.vcd_decode.specs.Lines.{is_zero as zero_test, is_one as one_test};
 ghost use Rattle.vcd_decode.specs.inside.SpiClock.{passes};
 
@@ -53,7 +54,7 @@ impl Model for Spi {
 }
 
 impl Spi {
-    ghost use Rattle.vcd_decode.specs.Spi.{samples_rise};
+    ghost use Rattle.vcd_decode.specs.inside.SpiParts.{samples_rise};
     ghost use Rattle.vcd_decode.specs.inside.SpiClock.{samples};
 
     /// A setup of a mode, the number of bits in a word and their order.

@@ -4,7 +4,7 @@ ghost use Rattle.std.specs.Prelude.{◌≡◌, ◌++◌, [], ◌∷◌, Some, If
 ghost use Rattle.std.specs.Option.{option_copied, option_map};
 ghost use Rattle.vcd_core.specs.Edges.{EachUpTo};
 ghost use Rattle.vcd_core.specs.BitEdges.{EachOneBit};
-ghost use Rattle.vcd_decode.specs.Lines.{line_of};
+ghost use Rattle.vcd_decode.specs.WaveLines.{line_of};
 ghost use Rattle.vcd_decode.specs.Spi.{spi_annotations};
 ghost use Rattle.vcd_decode.specs.inside.SpiWalk.{selects, deselects, is_sampling, HasRoomForBit, annotations_at_rest, annotations_at_edge, edge_group, annotations_at_bit, bit_group};
 

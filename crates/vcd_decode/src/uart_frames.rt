@@ -4,7 +4,8 @@ ghost use Rattle.std.specs.Prelude.{◌≡◌, ℕ, ◌+◌, ◌*◌, ◌/◌, �
 ghost use Rattle.std.specs.List.{list_any};
 ghost use Rattle.std.specs.Option.{option_to_list, option_map_or};
 ghost use Rattle.vcd_core.specs.Wave.{AllUpTo};
-ghost use Rattle.vcd_decode.specs.Lines.{line_of, is_zero as zero_test, is_one as one_test, is_unclear as unclear_test, number_from_letters};
+ghost use Rattle.vcd_decode.specs.Lines.{is_zero as zero_test, is_one as one_test, is_unclear as unclear_test, number_from_letters};
+ghost use Rattle.vcd_decode.specs.WaveLines.{line_of};
 ghost use Rattle.vcd_decode.specs.Uart.{last_bit, sample_tick, frame_letters, frame_kind as kind_of_frame, begun_frame as begun_by_fall, uart_annotations};
 
 use crate::annotation::{Annotation, Kind};

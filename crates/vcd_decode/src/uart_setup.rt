@@ -1,7 +1,9 @@
 //! The setup of an asynchronous serial line.
 
 ghost use Rattle.std.specs.Prelude.{◌≡◌, ◌≤◌, IfOk};
-ghost use Rattle.vcd_decode.specs.UartSetup.{uart_setup, uart_fault, is_between, SetupFaultIs};
+ghost use Rattle.vcd_decode.specs.UartSetup.{is_between};
+ghost use Rattle.vcd_decode.specs.SetupFaults.{uart_fault, SetupFaultIs};
+ghost use Rattle.vcd_decode.specs.UartSetup.{uart_setup};
 
 use crate::setup_error::SetupError;
 use std::marker::Model;
@@ -36,7 +38,8 @@ pub struct Uart {
 }
 
 impl Model for Uart {
-    ghost use Rattle.vcd_decode.specs.UartSetup.{UartSetup, IsUartSetup};
+    ghost use Rattle.vcd_decode.specs.UartSetup.{UartSetup};
+    ghost use Rattle.vcd_decode.specs.SetupFaults.{IsUartSetup};
 
     ghost Value = { UartSetup };
 

@@ -15,7 +15,7 @@ use Rattle.vcd_edit.specs.RecordView.{PieceView}
 use Rattle.vcd_edit.specs.Effect.{cut_value, signal_after_cut, effect}
 use Rattle.vcd_edit.specs.Allowed.{edit_fault}
 use Rattle.vcd_edit.specs.AppliedRecords.{apply_record, IsOneStep}
-use Rattle.vcd_edit.specs.inside.Records.{piece_view}
+use Rattle.vcd_edit.specs.Records.{piece_view}
 use Rattle.vcd_edit.specs.inside.Plans.{IsPlan, GivesValues, LeadEach}
 use Rattle.vcd_edit.proofs.Faults.{no_fault}
 use Rattle.vcd_edit.proofs.SoundEffects.{sound_at}

@@ -21,7 +21,7 @@ use Rattle.vcd_edit.specs.Effect.{first_operand, rule_bit, derived_signal, effec
 use Rattle.vcd_edit.specs.Allowed.{edit_fault}
 use Rattle.vcd_edit.specs.AppliedRecords.{with_pieces, apply_record, PieceFits}
 use Rattle.vcd_edit.specs.Touched.{puts_in}
-use Rattle.vcd_edit.specs.inside.Records.{piece_view}
+use Rattle.vcd_edit.specs.Records.{piece_view}
 use Rattle.vcd_edit.specs.inside.Derived.{last_operand, operator_bit}
 use Rattle.vcd_edit.specs.inside.Plans.{IsPlan}
 use Rattle.vcd_edit.proofs.Plans.{is_plan}

@@ -7,7 +7,7 @@ use Rattle.vcd_edit.specs.RecordView.{PieceView, RecordView}
 use Rattle.vcd_edit.specs.AppliedRecords.{with_pieces, with_first_word, with_moved_signal, with_end, apply_record}
 use Rattle.vcd_edit.specs.AppliedRecords.{PieceFits, WordFits, Fits, AreApart, IsOneStep}
 use Rattle.vcd_edit.specs.declared.record.Piece.{Piece}
-use Rattle.vcd_edit.specs.inside.Records.{piece_view}
+use Rattle.vcd_edit.specs.Records.{piece_view}
 use Rattle.vcd_edit.specs.inside.Exchanges.{PieceReadyIn, AreInversePieces}
 use Rattle.vcd_edit.specs.inside.Opposites.{opposite_word, opposite_move, opposite_end, opposite_record, IsNamedAt}
 use Rattle.vcd_edit.specs.inside.Opposites.{IsInverse}

@@ -17,7 +17,7 @@ use Rattle.vcd_edit.specs.RecordView.{PieceView}
 use Rattle.vcd_edit.specs.AppliedRecords.{changes_with_piece, signal_with_changes, with_piece, with_pieces, PieceFits}
 use Rattle.vcd_edit.specs.AppliedRecords.{NoneFor, AreApart}
 use Rattle.vcd_edit.specs.declared.record.Piece.{Piece}
-use Rattle.vcd_edit.specs.inside.Records.{piece_view}
+use Rattle.vcd_edit.specs.Records.{piece_view}
 use Rattle.vcd_edit.specs.inside.Adjacency.{IsValidPiece}
 use Rattle.vcd_edit.specs.inside.Fitting.{HasSoundNames, IsFormedSignal, late_count, IsValidIn, AreSoundSignals}
 use Rattle.vcd_edit.proofs.TouchedSums.{sum_by-map}

@@ -10,7 +10,7 @@ use Rattle.vcd_core.specs.WaveView.{WaveView}
 use Rattle.vcd_edit.specs.declared.record.Piece.{Piece}
 use Rattle.vcd_edit.specs.RecordView.{PieceView}
 use Rattle.vcd_edit.specs.AppliedRecords.{with_piece, with_pieces, AreApart}
-use Rattle.vcd_edit.specs.inside.Records.{piece_view}
+use Rattle.vcd_edit.specs.Records.{piece_view}
 use Rattle.vcd_edit.specs.inside.Exchanges.{IsInversePiece, PieceReadyIn, AreInversePieces, wave_at, HasNoLessRoom}
 use Rattle.vcd_edit.specs.inside.Exchanges.{HasRoomForPiece, ReservedSoFar, PutSoFar}
 use Rattle.vcd_edit.proofs.PiecesBack.{ready_after, with_pieces-push, AreInversePieces-push, none_all}

@@ -27,7 +27,7 @@ use Rattle.vcd_edit.specs.Allowed.{edit_fault, is_no_signal}
 use Rattle.vcd_edit.specs.AppliedRecords.{changes_with_piece, signal_with_changes, with_pieces, apply_record, PieceFits}
 use Rattle.vcd_edit.specs.AppliedRecords.{WordFits, MovedSignalFits}
 use Rattle.vcd_edit.specs.inside.Ranges.{LeadsTo}
-use Rattle.vcd_edit.specs.inside.Records.{piece_view}
+use Rattle.vcd_edit.specs.Records.{piece_view}
 use Rattle.vcd_edit.specs.inside.Plans.{IsPlan, GivesValues}
 use Rattle.vcd_edit.proofs.Faults.{no_fault, signal_there}
 use Rattle.vcd_edit.proofs.SoundEffects.{sound_at, effect_is_sound}

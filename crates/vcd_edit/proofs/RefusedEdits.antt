@@ -1,5 +1,6 @@
 -- The word with which an edit is refused is the name of its fault.
-use Rattle.std.proofs.Common.{◌≡◌, Bool, true, false, List, [], ◌∷◌, ℕ, Option, Some, None, refl, ◌∙◌}
+use Rattle.std.proofs.Common.{◌≡◌, Bool, true, false, List, [], ◌∷◌, ℕ, Option, Some, None, Result, Ok, Err}
+use Rattle.std.proofs.Common.{refl, ◌∙◌, ap}
 use Rattle.std.specs.Prelude.{map, option_map, if◌then◌else◌}
 use Rattle.vcd_core.specs.Contents.{Contents}
 use Rattle.vcd_edit.specs.declared.edit.Edit.{Edit}
@@ -8,7 +9,27 @@ use Rattle.vcd_edit.specs.declared.edit.Rule.TheVariants.{Not, And, Or, Xor, Bit
 use Rattle.vcd_edit.specs.declared.fault.EditError.{EditError}
 use Rattle.vcd_edit.specs.EditErrorNames.{edit_error_name}
 use Rattle.vcd_edit.specs.Allowed.{first_fault, fault_rows, edit_fault}
-use Rattle.vcd_edit.specs.Refused.{Tests, refusal_among, edit_tests}
+use Rattle.vcd_edit.specs.Refused.{Tests, unless_refused, edit_tests}
+
+-- the word of the first test that holds
+abbrev refusal_among : Tests → Option (List ℕ)
+refusal_among [] = None
+refusal_among (test ∷ tests) = if test.0 then Some test.1 else refusal_among tests
+
+-- this, unless it is refused with a word
+abbrev unless_word : {A : Type 0} → Option (List ℕ) → A → Result A (List ℕ)
+unless_word None x = Ok x
+unless_word (Some word) x = Err word
+
+one_refused : {A : Type 0} (b : Bool) (word : List ℕ) (refusal : Option (List ℕ)) (r : Result A (List ℕ)) (x : A)
+    → unless_word refusal x ≡ r → unless_word (if b then Some word else refusal) x ≡ (if b then Err word else r)
+one_refused true word refusal r x same = refl
+one_refused false word refusal r x same = same
+
+refused_is : {A : Type 0} (tests : Tests) (x : A) → unless_word (refusal_among tests) x ≡ unless_refused tests x
+refused_is [] x = refl
+refused_is (test ∷ tests) x =
+    one_refused test.0 test.1 (refusal_among tests) (unless_refused tests x) x (refused_is tests x)
 
 -- rows with the names of their faults
 abbrev named : List (Bool × EditError) → Tests
@@ -25,7 +46,7 @@ rows_named : (rows : List (Bool × EditError))
 rows_named [] = refl
 rows_named (row ∷ rows) = one_named row.0 row.1 (first_fault rows) (refusal_among (named rows)) (rows_named rows)
 
-pub edit_refusal_is : (c : Contents) (e : Edit) → option_map edit_error_name (edit_fault e c)
+edit_refusal_is : (c : Contents) (e : Edit) → option_map edit_error_name (edit_fault e c)
     ≡ refusal_among (edit_tests c e)
 unfolding edit_fault
 edit_refusal_is c (Rename k word) = rows_named (fault_rows (Rename k word) c)
@@ -40,3 +61,19 @@ edit_refusal_is c (Derive word (And a b)) = rows_named (fault_rows (Derive word 
 edit_refusal_is c (Derive word (Or a b)) = rows_named (fault_rows (Derive word (Or a b)) c)
 edit_refusal_is c (Derive word (Xor a b)) = rows_named (fault_rows (Derive word (Xor a b)) c)
 edit_refusal_is c (Derive word (BitOf a k)) = rows_named (fault_rows (Derive word (BitOf a k)) c)
+
+-- what the fault of an edit makes of a result
+abbrev pub unless_fault : {A : Type 0} → Option EditError → A → Result A (List ℕ)
+unless_fault None x = Ok x
+unless_fault (Some error) x = Err (edit_error_name error)
+
+fault_named : {A : Type 0} (found : Option EditError) (x : A)
+    → unless_fault found x ≡ unless_word (option_map edit_error_name found) x
+fault_named None x = refl
+fault_named (Some error) x = refl
+
+pub edit_refused_is : {A : Type 0} (c : Contents) (e : Edit) (x : A)
+    → unless_fault (edit_fault e c) x ≡ unless_refused (edit_tests c e) x
+edit_refused_is c e x =
+    fault_named (edit_fault e c) x ∙ ap (λ (word : Option (List ℕ)). unless_word word x) (edit_refusal_is c e)
+    ∙ refused_is (edit_tests c e) x

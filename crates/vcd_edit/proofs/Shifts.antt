@@ -20,7 +20,7 @@ use Rattle.vcd_core.proofs.Pushes.{upto_from_all}
 use Rattle.vcd_core.proofs.EdgeLines.{value_last}
 use Rattle.vcd_core.specs.declared.memory.NoMemory.{NoMemory}
 use Rattle.vcd_edit.specs.declared.record.Piece.{Piece}
-use Rattle.vcd_edit.specs.inside.Records.{piece_view}
+use Rattle.vcd_edit.specs.Records.{piece_view}
 use Rattle.vcd_edit.specs.inside.Plans.{GivesValues}
 use Rattle.vcd_edit.proofs.Plans.{at_ok}
 use Rattle.vcd_edit.specs.RecordView.{PieceView}

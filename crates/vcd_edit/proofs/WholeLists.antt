@@ -11,7 +11,7 @@ use Rattle.vcd_core.specs.Splice.{moved_change, TickFits, AllTicksFit, spliced_c
 use Rattle.std.specs.Prelude.{pos}
 use Rattle.vcd_core.specs.Contents.{SignalContents}
 use Rattle.vcd_edit.specs.declared.record.Piece.{Piece}
-use Rattle.vcd_edit.specs.inside.Records.{piece_view}
+use Rattle.vcd_edit.specs.Records.{piece_view}
 use Rattle.vcd_edit.specs.inside.Plans.{GivesValues}
 use Rattle.vcd_edit.specs.RecordView.{PieceView}
 use Rattle.vcd_edit.specs.inside.Ranges.{LeadsTo}

@@ -6,6 +6,7 @@ pub mod Allowed
 pub mod Refused
 pub mod Laws
 pub mod RecordView
+pub mod Records
 pub mod AppliedRecords
 pub mod Touched
 pub mod TouchedByEdit

@@ -1,6 +1,6 @@
 -- Which edits are refused, and with which word: the project's own.
 use Rattle.std.specs.Prelude.{ℕ, ◌+◌, ◌==◌, ◌||◌, nat_lt, nat_le, Bool, not, if◌then◌else◌, List, [], ◌∷◌, ◌++◌, length}
-use Rattle.std.specs.Prelude.{Option, Some, None, codes}
+use Rattle.std.specs.Prelude.{Result, Ok, Err, codes}
 use Rattle.std.specs.List.{list_any, remove}
 use Rattle.std.specs.Str.{bytes_eq}
 use Rattle.vcd_core.specs.Contents.{Contents, SignalContents, signal_at}
@@ -17,10 +17,10 @@ use Rattle.vcd_edit.specs.Effect.{renamed_signal, derived_signal}
 abbrev pub Tests : Type 0
 Tests = List (Bool × List ℕ)
 
--- the word of the first test that holds
-abbrev pub refusal_among : Tests → Option (List ℕ)
-refusal_among [] = None
-refusal_among (test ∷ tests) = if test.0 then Some test.1 else refusal_among tests
+-- this, unless a test holds: then it is refused with the word of the first that does
+abbrev pub unless_refused : {A : Type 0} → Tests → A → Result A (List ℕ)
+unless_refused [] x = Ok x
+unless_refused (test ∷ tests) x = if test.0 then Err test.1 else unless_refused tests x
 
 -- there is no signal at this position
 abbrev pub no_signal_test : Contents → ℕ → Bool × List ℕ

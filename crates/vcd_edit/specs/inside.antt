@@ -4,7 +4,6 @@ pub mod Ranges
 pub mod Plans
 pub mod Thinned
 pub mod Derived
-pub mod Records
 pub mod Trims
 pub mod Exchanges
 pub mod Opposites

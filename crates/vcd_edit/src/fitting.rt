@@ -5,7 +5,7 @@ ghost use Rattle.vcd_core.specs.Contents.{Contents, contents, signal_contents};
 ghost use Rattle.vcd_core.specs.Sound.{IsSoundSignal};
 ghost use Rattle.std.specs.List.{insert, remove};
 ghost use Rattle.vcd_edit.specs.AppliedRecords.{with_first_word, with_moved_signal, MayMoveSignal, Fits, IsOneStep};
-ghost use Rattle.vcd_edit.specs.inside.Records.{piece_view, word_view, contents_of_signal, moved_signal_view, record_view};
+ghost use Rattle.vcd_edit.specs.Records.{piece_view, word_view, contents_of_signal, moved_signal_view, record_view};
 ghost use Rattle.vcd_edit.specs.inside.Fitting.{AreSoundSignals, PartsFit, HasSoundMetadata};
 
 mod pieces;

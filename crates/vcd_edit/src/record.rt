@@ -3,7 +3,7 @@
 ghost use Rattle.std.specs.Prelude.{◌≡◌, ℕ, ◌^◌, ◌<◌, length};
 ghost use Rattle.std.specs.List.{sum_by};
 ghost use Rattle.vcd_edit.specs.Touched.{moved_change_count};
-ghost use Rattle.vcd_edit.specs.inside.Records.{moved_signal_view};
+ghost use Rattle.vcd_edit.specs.Records.{moved_signal_view};
 
 use std::marker::Model;
 use vcd_core::{Change, Signal};
@@ -35,7 +35,7 @@ pub struct Record {
 impl Model for Record {
     ghost use Rattle.vcd_edit.specs.RecordView.{RecordView};
     ghost use Rattle.vcd_edit.specs.AppliedRecords.{IsOneStep};
-    ghost use Rattle.vcd_edit.specs.inside.Records.{record_view};
+    ghost use Rattle.vcd_edit.specs.Records.{record_view};
 
     ghost Value = { RecordView };
 

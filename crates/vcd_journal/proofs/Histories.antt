@@ -12,7 +12,8 @@ use Rattle.vcd_edit.specs.RecordView.{RecordView}
 use Rattle.vcd_edit.specs.AppliedRecords.{apply_record, Fits}
 use Rattle.vcd_journal.specs.declared.step.Step.TheVariants as steps
 use Rattle.vcd_journal.specs.Machine.{Machine, machine_after_edit, machine_after_depth, may_want_memory}
-use Rattle.vcd_journal.specs.inside.Histories.{reached_captures, AllRecordsFit, HasNoFewerSignals, IsHistory}
+use Rattle.vcd_journal.specs.inside.Histories.{AllRecordsFit, HasNoFewerSignals, IsHistory}
+use Rattle.vcd_journal.specs.ReachedCaptures.{reached_captures}
 use Rattle.vcd_journal.specs.inside.Histories.{PopsRecord}
 
 -- a capture for each record

@@ -4,4 +4,5 @@ pub mod Machine
 pub mod History
 pub mod InForce
 pub mod Laws
+pub mod ReachedCaptures
 pub mod inside

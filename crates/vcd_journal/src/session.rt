@@ -35,7 +35,8 @@ pub struct Session {
 impl Model for Session {
     ghost use Rattle.vcd_core.specs.Contents.{contents};
     ghost use Rattle.vcd_journal.specs.Machine.{Machine};
-    ghost use Rattle.vcd_journal.specs.inside.Histories.{reached_captures, IsHistory};
+    ghost use Rattle.vcd_journal.specs.inside.Histories.{IsHistory};
+    ghost use Rattle.vcd_journal.specs.ReachedCaptures.{reached_captures};
 
     ghost Value = { Machine };
 

@@ -20,20 +20,23 @@ use Rattle.vcd_text.specs.declared.reading.reader.Reader.{Reader}
 use Rattle.vcd_text.specs.Words.{PlacedWord, line_after, ends_before, with_longer_first, with_byte, words_from}
 use Rattle.vcd_text.specs.Words.{words_of, closed_words, last_line}
 use Rattle.vcd_text.specs.Grammar.{ParseState, initial_state, state_after, word_texts}
-use Rattle.vcd_text.specs.Faults.{FileFault, shown as word_shown, too_early, FrontFault, ShowsFault, WordFault}
+use Rattle.vcd_text.specs.Faults.{FileFault, ShowsFault, WordFault, shown, none_shown}
+use Rattle.vcd_text.specs.FoundFaults.{FoundFault, word_shows}
+use Rattle.vcd_text.specs.FoundFaults.{too_early, FrontFault}
 use Rattle.vcd_text.specs.Faults.{among_declarations, among_changes, DeclarationFault, ChangeFault, no_declaration}
 use Rattle.vcd_text.specs.Faults.{no_timescale, no_kind, upscope_at_top, upscope_goes_on, no_size, no_variable}
 use Rattle.vcd_text.specs.Faults.{code_mixed, no_room, definitions_go_on, no_tick, tick_goes_back, value_alone}
 use Rattle.vcd_text.specs.Faults.{value_of_none, pair_of_none, no_value, value_too_long, declaration_late, no_change}
-use Rattle.vcd_text.specs.Refusals.{IsRefusal, has_fault, too_large, no_memory, IsFrontAnswer, shown, no_fault}
-use Rattle.vcd_text.specs.Refusals.{memory_error}
+use Rattle.vcd_text.specs.Refusals.{IsRefusal, has_fault, too_large, no_memory, IsFrontAnswer}
+use Rattle.vcd_text.specs.MemoryErrors.{memory_error}
 use Rattle.vcd_text.specs.inside.Spaces.{is_closed}
 use Rattle.vcd_text.specs.inside.Reading.{Reads}
 use Rattle.vcd_text.specs.inside.Chunks.{HasTaken, HasCome}
 use Rattle.vcd_text.specs.inside.WordWalk.{feeds}
 use Rattle.vcd_text.proofs.Ended.{no_fault as shows_none}
 use Rattle.vcd_text.proofs.FrontAnswers.{larger, failing}
-use Rattle.vcd_text.proofs.FrontFaults.{front_fault_stays, longer_front_fault}
+use Rattle.vcd_text.proofs.FrontFaults.{longer_front_fault}
+use Rattle.vcd_text.proofs.FileFaults.{file_fault, front_fault_stays}
 use Rattle.vcd_text.proofs.WordLaws.{feeds_both, no_feeds, word_part}
 
 -- ---- line feeds
@@ -211,10 +214,10 @@ pub last_shown : (m : Reader) (word : List ℕ) (passed left : ℕ) (bytes : Lis
     (e : ReadError) → HasTaken m word passed left bytes
     → words ≡ words_from true (passed + 1) word
     → (e ≡ memory_error) ⊎ ShowsFault (closed_words bytes ++ words) e.line e.fault
-    → (e ≡ memory_error) ⊎ FileFault bytes e.line e.fault
+    → (e ≡ memory_error) ⊎ FoundFault bytes e.line e.fault
 last_shown m word passed left bytes words e taken is (inl none) = inl none
 last_shown m word passed left bytes words e taken is (inr shows) =
-    inr (word_shown (subst (λ words. ShowsFault words e.line e.fault) (ap (λ words. closed_words bytes ++ words) is
+    inr (word_shows (subst (λ words. ShowsFault words e.line e.fault) (ap (λ words. closed_words bytes ++ words) is
     ∙ all_words m word passed left bytes taken) shows))
 
 -- ---- results for a file of which these bytes have come
@@ -252,8 +255,8 @@ pub full : (coming middle left : Option (List ℕ)) (failed : Bool) (m : Reader)
     → IfSome coming (λ file. IsRefusal file failed left e)
 full coming middle left failed m word passed bytes chunk e first second some taken is =
     larger coming left failed bytes e (over coming left (Consumes-trans coming middle left bytes chunk first second))
-    (inr (no_fault (shows_none m (closed_words bytes) taken.reads) (is
-    ∙ (λ i. record { line = sym taken.lines i; fault = faults.TooLarge }))))
+    (inr (none_shown (shows_none m (closed_words bytes) taken.reads)
+    (ap (λ (e : ReadError). e.line) is ∙ sym taken.lines) (ap (λ (e : ReadError). e.fault) is)))
   where
     over : (coming left : Option (List ℕ)) → Consumes coming left (bytes ++ chunk)
         → IfSome coming (λ xs. (FILE_LIMIT < length xs) × (bytes ≡ take FILE_LIMIT xs))
@@ -280,20 +283,20 @@ pub broken : (coming middle left : Option (List ℕ)) (failed : Bool) (m : Reade
 broken coming middle left failed m word passed rest bytes e has consumes keeps taken is =
     failing coming left failed bytes e has (Consumes-kept coming middle left bytes consumes keeps)
     (omega (arith, taken.room))
-    (inr (no_fault (shows_none m (closed_words bytes) taken.reads) (is
-    ∙ (λ i. record { line = sym taken.lines i; fault = faults.ReadFault }))))
+    (inr (none_shown (shows_none m (closed_words bytes) taken.reads)
+    (ap (λ (e : ReadError). e.line) is ∙ sym taken.lines) (ap (λ (e : ReadError). e.fault) is)))
 
 -- the whole file came
 pub at_end : (coming left : Option (List ℕ)) (failed : Bool) (bytes : List ℕ) (e : ReadError) → IsFalse failed
     → Consumes coming left bytes → IsAtEnd left → length bytes ≤ FILE_LIMIT
-    → (e ≡ memory_error) ⊎ FileFault bytes e.line e.fault → IfSome coming (λ file. IsRefusal file failed left e)
+    → (e ≡ memory_error) ⊎ FoundFault bytes e.line e.fault → IfSome coming (λ file. IsRefusal file failed left e)
 at_end None left failed bytes e ready consumes ends within answer = tt
 at_end (Some xs) None failed bytes e ready consumes ends within answer = absurd consumes
 at_end (Some xs) (Some ys) failed bytes e ready consumes ends within (inl none) = no_memory none
 at_end (Some xs) (Some ys) failed bytes e ready consumes ends within (inr fault) =
     let all : bytes ≡ xs = sym (consumes ∙ ap (λ ys. bytes ++ ys) ends ∙ append-nil bytes) in
     has_fault ready (omega (arith, within, ap (length {A = ℕ}) all))
-    (subst (λ file. FileFault file e.line e.fault) all fault)
+    (file_fault xs e.line e.fault (subst (λ file. FoundFault file e.line e.fault) all fault))
 
 -- a fact about the bytes is one about the file
 pub of_all : (coming left : Option (List ℕ)) (bytes : List ℕ) (P : List ℕ → Type 0) → Consumes coming left bytes
@@ -341,11 +344,11 @@ is_no_failure bytes e (inl none) is = let fault : e.fault ≡ faults.NoMemory = 
 is_no_failure bytes e (inr shows) is =
     by_word (state_after initial_state shows.items) (word_texts shows.begun) shows.word.text e.fault is shows.decided
 
-pub is_no_file_failure : (bytes : List ℕ) (e : ReadError) → (e ≡ memory_error) ⊎ FileFault bytes e.line e.fault
+pub is_no_file_failure : (bytes : List ℕ) (e : ReadError) → (e ≡ memory_error) ⊎ FoundFault bytes e.line e.fault
     → e.fault ≡ faults.ReadFault → ⊥
 is_no_file_failure bytes e (inl none) is = let fault : e.fault ≡ faults.NoMemory =
     ap (λ (e : ReadError). e.fault) none in absurd (cc)
-is_no_file_failure bytes e (inr (word_shown shows)) is =
+is_no_file_failure bytes e (inr (word_shows shows)) is =
     by_word (state_after initial_state shows.items) (word_texts shows.begun) shows.word.text e.fault is shows.decided
 is_no_file_failure bytes e (inr (too_early stops line fault)) is = absurd (cc)
 

@@ -11,9 +11,13 @@ use Rattle.vcd_text.specs.declared.fault.Fault.TheVariants.{Truncated}
 use Rattle.vcd_text.specs.Words.{PlacedWord, words_of, last_line}
 use Rattle.vcd_text.specs.Items.{Item, spelling, spellings}
 use Rattle.vcd_text.specs.Grammar.{ParseState, Allows, Accepts, state_after_item, initial_state, word_texts}
-use Rattle.vcd_text.specs.Faults.{WordFault, IsUnfinished, declaration_due, fault_line, ShowsFault, Stops, FileFault}
-use Rattle.vcd_text.specs.Faults.{shown, too_early}
-use Rattle.vcd_text.specs.Meaning.{FileMeans, meaning, skipped_count}
+use Rattle.vcd_text.specs.Faults.{WordFault, fault_line, ShowsFault}
+use Rattle.vcd_text.specs.FoundFaults.{FoundFault}
+use Rattle.vcd_text.specs.FoundFaults.{IsUnfinished, declaration_due, Stops}
+use Rattle.vcd_text.specs.FoundFaults.{word_shows}
+use Rattle.vcd_text.specs.FoundFaults.{too_early}
+use Rattle.vcd_text.specs.Meaning.{FileMeans, meaning}
+use Rattle.vcd_text.specs.inside.SkippedVariables.{skipped_count}
 use Rattle.vcd_text.proofs.ItemsInTurn.{Leads, leads_none, leads_one, leads_both}
 use Rattle.vcd_text.proofs.WordLaws.{is_run, words_are_words}
 use Rattle.vcd_text.proofs.WordOutcomes.{IsOpen, between, inside, shows_fault, ends_item, goes_on, word_outcome}
@@ -170,9 +174,9 @@ nothing_taken words = record {
   open_item = between refl;
 }
 
-pub an_answer : (bytes : List ℕ) → ((c : Contents) × (n : ℕ) × FileMeans bytes c n)
-    ⊎ ((line : ℕ) × (fault : Fault) × FileFault bytes line fault)
-an_answer bytes =
+pub a_found_answer : (bytes : List ℕ) → ((c : Contents) × (n : ℕ) × FileMeans bytes c n)
+    ⊎ ((line : ℕ) × (fault : Fault) × FoundFault bytes line fault)
+a_found_answer bytes =
     elim (answer_after (words_of bytes) (words_of bytes) (words_are_words true 1 bytes)
     (nothing_taken (words_of bytes))) [
       | is_accepted told accepts ↦
@@ -182,5 +186,5 @@ an_answer bytes =
             record { told = told; accepted = accepts; means = refl; left_out = refl },
           )
       | stops_early stops ↦ inr (last_line bytes, Truncated, too_early stops refl refl)
-      | is_refused line fault s ↦ inr (line, fault, shown s)
+      | is_refused line fault s ↦ inr (line, fault, word_shows s)
     ]

@@ -5,7 +5,9 @@ use Rattle.vcd_core.specs.Word.{is_white_space}
 use Rattle.vcd_text.specs.declared.fault.Fault.{Fault}
 use Rattle.vcd_text.specs.Words.{PlacedWord, word_on, line_after, ends_before, with_longer_first, with_byte, words_from}
 use Rattle.vcd_text.specs.Words.{words_of, closed_words}
-use Rattle.vcd_text.specs.Faults.{FileFault, FrontFault, ShowsFault, shown}
+use Rattle.vcd_text.specs.Faults.{ShowsFault}
+use Rattle.vcd_text.specs.FoundFaults.{FoundFault, word_shows}
+use Rattle.vcd_text.specs.FoundFaults.{FrontFault}
 
 -- the first words of a list of words
 abbrev IsFront : List PlacedWord → List PlacedWord → Type 0
@@ -59,11 +61,11 @@ shown_further words all line fault front s = record {
   at = s.at;
 }
 
-pub front_fault_stays : (front rest : List ℕ) (line : ℕ) (fault : Fault) → FrontFault front line fault
-    → FileFault (front ++ rest) line fault
-front_fault_stays front rest line fault s =
-    shown (shown_further (closed_words front) (words_of (front ++ rest)) line fault (closed_in_front true 1 front rest)
-    s)
+pub front_fault_found : (front rest : List ℕ) (line : ℕ) (fault : Fault) → FrontFault front line fault
+    → FoundFault (front ++ rest) line fault
+front_fault_found front rest line fault s =
+    word_shows (shown_further (closed_words front) (words_of (front ++ rest)) line fault
+    (closed_in_front true 1 front rest) s)
 
 -- the fault of a front is that of a longer front as well
 pub longer_front_fault : (front rest : List ℕ) (line : ℕ) (fault : Fault) → FrontFault front line fault

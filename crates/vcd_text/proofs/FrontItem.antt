@@ -24,12 +24,14 @@ use Rattle.vcd_text.specs.Items.{has_no_end_word, dump_words, declaring_words, h
 use Rattle.vcd_text.specs.Items.{is_other, timescale_of, vector_prefixes, dropped_prefixes}
 use Rattle.vcd_text.specs.Grammar.{ParseState, VariableDeclaration, Allows, is_skipped, has_good_size, declaration_of}
 use Rattle.vcd_text.specs.Grammar.{variable_of, may_have_code, has_room, is_tick, is_binary_number, takes_binary_number}
-use Rattle.vcd_text.specs.Faults.{DeclarationFault, ChangeFault, WordFault, IsUnfinished, pair_prefixes, no_declaration}
+use Rattle.vcd_text.specs.Faults.{DeclarationFault, ChangeFault, WordFault, pair_prefixes, no_declaration}
+use Rattle.vcd_text.specs.FoundFaults.{IsUnfinished}
 use Rattle.vcd_text.specs.Faults.{no_timescale, no_kind, upscope_at_top, upscope_goes_on, no_size, no_variable}
 use Rattle.vcd_text.specs.Faults.{code_mixed, no_room, definitions_go_on, no_tick, tick_goes_back, value_alone}
 use Rattle.vcd_text.specs.Faults.{value_of_none, pair_of_none, no_value, value_too_long, declaration_late, no_change}
-use Rattle.vcd_text.specs.Faults.{among_declarations, among_changes, declaration_due, words_due, upscope_due}
-use Rattle.vcd_text.specs.Faults.{variable_due, definitions_due, code_due, other_due}
+use Rattle.vcd_text.specs.Faults.{among_declarations, among_changes}
+use Rattle.vcd_text.specs.FoundFaults.{declaration_due, words_due, upscope_due}
+use Rattle.vcd_text.specs.FoundFaults.{variable_due, definitions_due, code_due, other_due}
 
 -- a fault is at a place, counted from the front
 pub data Front : Type 0 where

@@ -61,6 +61,7 @@ pub mod ItemsInTurn
 pub mod SharedScopes
 pub mod TextDeclarations
 pub mod FrontFaults
+pub mod FileFaults
 pub mod OneOf
 pub mod WordOutcomes
 pub mod FileAnswers

@@ -9,8 +9,11 @@ use Rattle.vcd_text.specs.Words.{PlacedWord, words_of}
 use Rattle.vcd_text.specs.Items.{Item, spelling, spellings}
 use Rattle.vcd_text.specs.Grammar.{ParseState, AllowsAll, Accepts, state_after, state_after_item, initial_state}
 use Rattle.vcd_text.specs.Grammar.{word_texts}
-use Rattle.vcd_text.specs.Faults.{ShowsFault, Stops, FileFault, shown, too_early, fault_line}
-use Rattle.vcd_text.specs.Meaning.{FileMeans, meaning, skipped_count}
+use Rattle.vcd_text.specs.Faults.{ShowsFault, fault_line}
+use Rattle.vcd_text.specs.FoundFaults.{FoundFault, word_shows}
+use Rattle.vcd_text.specs.FoundFaults.{Stops, too_early}
+use Rattle.vcd_text.specs.Meaning.{FileMeans, meaning}
+use Rattle.vcd_text.specs.inside.SkippedVariables.{skipped_count}
 use Rattle.vcd_text.proofs.FrontItem.{Front, whole, faulty, unfinished, ended, front_of, front_at, whole_front}
 use Rattle.vcd_text.proofs.FrontItem.{fault_front, unfinished_front, place_of}
 
@@ -207,18 +210,20 @@ one_meaning bytes c d m n p q =
     let e = one_telling (words_of bytes) p.told q.told p.accepted q.accepted in
     (p.means ∙ ap meaning e ∙ sym q.means, p.left_out ∙ ap skipped_count e ∙ sym q.left_out)
 
-pub one_file_fault : (bytes : List ℕ) (line other_line : ℕ) (fault other_fault : Fault) → FileFault bytes line fault
-    → FileFault bytes other_line other_fault
+pub one_found_fault : (bytes : List ℕ) (line other_line : ℕ) (fault other_fault : Fault) → FoundFault bytes line fault
+    → FoundFault bytes other_line other_fault
     → (line ≡ other_line) × (fault ≡ other_fault)
-one_file_fault bytes line other_line fault other_fault (shown p) (shown q) =
+one_found_fault bytes line other_line fault other_fault (word_shows p) (word_shows q) =
     one_fault (words_of bytes) line other_line fault other_fault p q
-one_file_fault bytes line other_line fault other_fault (shown p) (too_early q l f) =
+one_found_fault bytes line other_line fault other_fault (word_shows p) (too_early q l f) =
     absurd (stopped-not_refused (words_of bytes) line fault q p)
-one_file_fault bytes line other_line fault other_fault (too_early p l f) (shown q) =
+one_found_fault bytes line other_line fault other_fault (too_early p l f) (word_shows q) =
     absurd (stopped-not_refused (words_of bytes) other_line other_fault p q)
-one_file_fault bytes line other_line fault other_fault (too_early p l f) (too_early q m g) = (l ∙ sym m, f ∙ sym g)
+one_found_fault bytes line other_line fault other_fault (too_early p l f) (too_early q m g) = (l ∙ sym m, f ∙ sym g)
 
-pub meaning-no_fault : (bytes : List ℕ) (c : Contents) (n line : ℕ) (fault : Fault) → FileMeans bytes c n
-    → FileFault bytes line fault → ⊥
-meaning-no_fault bytes c n line fault p (shown q) = accepted-not_refused (words_of bytes) p.told line fault p.accepted q
-meaning-no_fault bytes c n line fault p (too_early q l f) = accepted-not_stopped (words_of bytes) p.told p.accepted q
+pub meaning-no_found_fault : (bytes : List ℕ) (c : Contents) (n line : ℕ) (fault : Fault) → FileMeans bytes c n
+    → FoundFault bytes line fault → ⊥
+meaning-no_found_fault bytes c n line fault p (word_shows q) =
+    accepted-not_refused (words_of bytes) p.told line fault p.accepted q
+meaning-no_found_fault bytes c n line fault p (too_early q l f) =
+    accepted-not_stopped (words_of bytes) p.told p.accepted q

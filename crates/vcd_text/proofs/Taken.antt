@@ -21,7 +21,7 @@ use Rattle.vcd_text.specs.inside.OpenItems.{shown_line}
 use Rattle.vcd_text.specs.inside.Reading.{Reads, WordStep, goes_on, ends_item, ReaderMatches, IsBegun}
 use Rattle.vcd_text.specs.inside.Reading.{is_want_of_memory, error_at, BeginsVector, WordsResult}
 use Rattle.vcd_text.specs.inside.Variables.{VariablesMatch, BinaryNumberFault, ChangeResult}
-use Rattle.vcd_text.specs.Refusals.{memory_error}
+use Rattle.vcd_text.specs.MemoryErrors.{memory_error}
 use Rattle.vcd_text.specs.declared.fault.Fault.TheVariants.{NoMemory}
 use Rattle.vcd_text.specs.declared.reading.reader.OpenItem.{OpenItem}
 use Rattle.vcd_text.specs.declared.reading.reader.OpenItem.TheVariants as items

@@ -5,7 +5,8 @@ use Rattle.vcd_core.specs.Contents.{Contents, SignalContents}
 use Rattle.vcd_core.specs.Sound.{IsSound, IsSoundSignal}
 use Rattle.vcd_core.proofs.Waves.{wave_is}
 use Rattle.vcd_text.specs.Grammar.{VariableDeclaration, kept_variables}
-use Rattle.vcd_text.specs.Meaning.{declared_signal, meaning, latest_value, skipped_count}
+use Rattle.vcd_text.specs.Meaning.{declared_signal, meaning, latest_value}
+use Rattle.vcd_text.specs.inside.SkippedVariables.{skipped_count}
 use Rattle.vcd_text.specs.Text.{code_of}
 use Rattle.vcd_text.proofs.DeclaredSignals.{all_sound_kept, declared_as, declared_of, none_skipped}
 use Rattle.vcd_text.proofs.ReadValues.{length-value_at}

@@ -21,12 +21,14 @@ use Rattle.vcd_text.specs.Items.{has_no_end_word, dump_words, declaring_words, h
 use Rattle.vcd_text.specs.Items.{timescale_of, vector_prefixes, dropped_prefixes}
 use Rattle.vcd_text.specs.Grammar.{ParseState, VariableDeclaration, Allows, is_skipped, has_good_size, declaration_of}
 use Rattle.vcd_text.specs.Grammar.{variable_of, may_have_code, has_room, is_tick, is_binary_number, takes_binary_number}
-use Rattle.vcd_text.specs.Faults.{WordFault, IsUnfinished, pair_prefixes, no_declaration, no_timescale, no_kind}
+use Rattle.vcd_text.specs.Faults.{WordFault, pair_prefixes, no_declaration, no_timescale, no_kind}
+use Rattle.vcd_text.specs.FoundFaults.{IsUnfinished}
 use Rattle.vcd_text.specs.Faults.{upscope_at_top, upscope_goes_on, no_size, no_variable, code_mixed, no_room}
 use Rattle.vcd_text.specs.Faults.{definitions_go_on, no_tick, tick_goes_back, value_alone, value_of_none, pair_of_none}
 use Rattle.vcd_text.specs.Faults.{no_value, value_too_long, declaration_late, no_change, among_declarations}
-use Rattle.vcd_text.specs.Faults.{among_changes, declaration_due, words_due, upscope_due, variable_due, definitions_due}
-use Rattle.vcd_text.specs.Faults.{code_due, other_due}
+use Rattle.vcd_text.specs.Faults.{among_changes}
+use Rattle.vcd_text.specs.FoundFaults.{declaration_due, words_due, upscope_due, variable_due, definitions_due}
+use Rattle.vcd_text.specs.FoundFaults.{code_due, other_due}
 use Rattle.vcd_text.proofs.OneOf.{by_among, by_one_of}
 
 -- no word of an item has come, or a word must follow these

@@ -1,17 +1,19 @@
 -- The one fault of a file that is not accepted: after the whole items at its front, the fault that the earliest word
 -- shows (the project's own).
-use Rattle.std.specs.Prelude.{◌≡◌, ℕ, ◌<◌, Bool, true, false, List, [], ◌∷◌, ◌++◌, length, Some, None, IsTrue, IsFalse}
-use Rattle.std.specs.Prelude.{codes}
+use Rattle.std.specs.Prelude.{◌≡◌, ℕ, ◌<◌, Bool, true, false, List, ◌∷◌, ◌++◌, length, Some, None, IsTrue, IsFalse}
+use Rattle.std.specs.Prelude.{codes, []}
 use Rattle.vcd_text.specs.declared.fault.Fault.{Fault}
 use Rattle.vcd_text.specs.declared.fault.Fault.TheVariants.{Truncated, UnexpectedWord, BadTimescale, BadScope}
 use Rattle.vcd_text.specs.declared.fault.Fault.TheVariants.{UpscopeAtTop, BadVar, MixedCode, BadTime, TimeBackwards}
 use Rattle.vcd_text.specs.declared.fault.Fault.TheVariants.{BadChange, UnknownCode, ValueTooLong, TooManySignals}
-use Rattle.vcd_text.specs.Words.{PlacedWord, words_of, closed_words, last_line}
+use Rattle.vcd_core.specs.Contents.{Contents}
+use Rattle.vcd_text.specs.Words.{PlacedWord, words_of, last_line}
+use Rattle.vcd_text.specs.Meaning.{FileMeans}
 use Rattle.vcd_core.specs.Decimal.{is_number, number_of}
 use Rattle.vcd_core.specs.Word.{is_one_of}
 use Rattle.vcd_text.specs.Letters.{is_among, is_binary_digit}
-use Rattle.vcd_text.specs.Items.{Item, spellings, end_word, is_end_word, has_no_end_word, declaring_words, header_words}
-use Rattle.vcd_text.specs.Items.{begins_declaration, is_other, timescale_of, vector_prefixes, dropped_prefixes}
+use Rattle.vcd_text.specs.Items.{Item, spellings, end_word, is_end_word, has_no_end_word, declaring_words}
+use Rattle.vcd_text.specs.Items.{begins_declaration, timescale_of, vector_prefixes, dropped_prefixes}
 use Rattle.vcd_text.specs.Grammar.{ParseState, VariableDeclaration, is_skipped, has_good_size, declaration_of}
 use Rattle.vcd_text.specs.Grammar.{variable_of, may_have_code, has_room, is_tick, is_binary_number, initial_state}
 use Rattle.vcd_text.specs.Grammar.{word_texts, AllowsAll, state_after}
@@ -21,18 +23,17 @@ use Rattle.vcd_text.specs.Grammar.{word_texts, AllowsAll, state_after}
 -- among the declarations
 pub data DeclarationFault (c : ParseState) (begun : List (List ℕ)) (word : List ℕ) (fault : Fault) : Type 0 where
   -- a word that begins no declaration
-  no_declaration : begun ≡ [] → IsFalse (begins_declaration word)
-      → fault ≡ UnexpectedWord → DeclarationFault c begun word fault
+  no_declaration : begun ≡ [] → IsFalse (begins_declaration word) → fault ≡ UnexpectedWord
+      → DeclarationFault c begun word fault
   -- at its `$end`: a `$timescale` that spells none
   no_timescale : (words : List (List ℕ)) → begun ≡ codes "$timescale" ∷ words → word ≡ end_word
-      → IsTrue (has_no_end_word words) → timescale_of words ≡ None
-      → fault ≡ BadTimescale → DeclarationFault c begun word fault
+      → IsTrue (has_no_end_word words) → timescale_of words ≡ None → fault ≡ BadTimescale
+      → DeclarationFault c begun word fault
   -- `$end` in the place of a scope's kind
-  no_kind : begun ≡ codes "$scope" ∷ [] → word ≡ end_word
-      → fault ≡ BadScope → DeclarationFault c begun word fault
+  no_kind : begun ≡ codes "$scope" ∷ [] → word ≡ end_word → fault ≡ BadScope → DeclarationFault c begun word fault
   -- `$upscope` where no scope is open
-  upscope_at_top : begun ≡ [] → word ≡ codes "$upscope" → c.scopes ≡ []
-      → fault ≡ UpscopeAtTop → DeclarationFault c begun word fault
+  upscope_at_top : begun ≡ [] → word ≡ codes "$upscope" → c.scopes ≡ [] → fault ≡ UpscopeAtTop
+      → DeclarationFault c begun word fault
   -- a word other than `$end` after `$upscope`
   upscope_goes_on : begun ≡ codes "$upscope" ∷ [] → IsFalse (is_end_word word) → 0 < length c.scopes
       → fault ≡ UnexpectedWord → DeclarationFault c begun word fault
@@ -41,21 +42,20 @@ pub data DeclarationFault (c : ParseState) (begun : List (List ℕ)) (word : Lis
       → fault ≡ BadVar → DeclarationFault c begun word fault
   -- `$end` in the place of a variable's kind, size, code or name
   no_variable : (words : List (List ℕ)) → begun ≡ codes "$var" ∷ words → word ≡ end_word
-      → IsTrue (has_no_end_word words) → IsTrue (has_good_size words) → declaration_of c words ≡ None
-      → fault ≡ BadVar → DeclarationFault c begun word fault
+      → IsTrue (has_no_end_word words) → IsTrue (has_good_size words) → declaration_of c words ≡ None → fault ≡ BadVar
+      → DeclarationFault c begun word fault
   -- at its `$end`: a variable that does not agree with the one of its code
   code_mixed : (words : List (List ℕ)) (d : VariableDeclaration) → begun ≡ codes "$var" ∷ words → word ≡ end_word
       → IsTrue (has_no_end_word words) → IsTrue (has_good_size words) → declaration_of c words ≡ Some d
-      → IsFalse (may_have_code (variable_of c d.code) d)
-      → fault ≡ MixedCode → DeclarationFault c begun word fault
+      → IsFalse (may_have_code (variable_of c d.code) d) → fault ≡ MixedCode → DeclarationFault c begun word fault
   -- at its `$end`: one signal too many
   no_room : (words : List (List ℕ)) (d : VariableDeclaration) → begun ≡ codes "$var" ∷ words → word ≡ end_word
       → IsTrue (has_no_end_word words) → IsTrue (has_good_size words) → declaration_of c words ≡ Some d
-      → IsTrue (may_have_code (variable_of c d.code) d) → IsFalse (has_room c.declared d)
-      → fault ≡ TooManySignals → DeclarationFault c begun word fault
+      → IsTrue (may_have_code (variable_of c d.code) d) → IsFalse (has_room c.declared d) → fault ≡ TooManySignals
+      → DeclarationFault c begun word fault
   -- a word other than `$end` after `$enddefinitions`
-  definitions_go_on : begun ≡ codes "$enddefinitions" ∷ [] → IsFalse (is_end_word word)
-      → fault ≡ UnexpectedWord → DeclarationFault c begun word fault
+  definitions_go_on : begun ≡ codes "$enddefinitions" ∷ [] → IsFalse (is_end_word word) → fault ≡ UnexpectedWord
+      → DeclarationFault c begun word fault
 
 -- the first bytes of a change of two words
 abbrev pub pair_prefixes : List ℕ
@@ -64,67 +64,40 @@ pair_prefixes = vector_prefixes ++ dropped_prefixes
 -- among the changes
 pub data ChangeFault (c : ParseState) (begun : List (List ℕ)) (word : List ℕ) (fault : Fault) : Type 0 where
   -- a stamp that is no tick
-  no_tick : (digits : List ℕ) → begun ≡ [] → word ≡ 35 ∷ digits → IsFalse (is_tick digits)
-      → fault ≡ BadTime → ChangeFault c begun word fault
+  no_tick : (digits : List ℕ) → begun ≡ [] → word ≡ 35 ∷ digits → IsFalse (is_tick digits) → fault ≡ BadTime
+      → ChangeFault c begun word fault
   -- a stamp below the one before it
   tick_goes_back : (digits : List ℕ) → begun ≡ [] → word ≡ 35 ∷ digits → IsTrue (is_tick digits)
-      → number_of digits < c.tick
-      → fault ≡ TimeBackwards → ChangeFault c begun word fault
+      → number_of digits < c.tick → fault ≡ TimeBackwards → ChangeFault c begun word fault
   -- a binary digit without a code
-  value_alone : (digit : ℕ) → begun ≡ [] → word ≡ digit ∷ [] → IsTrue (is_binary_digit digit)
-      → fault ≡ BadChange → ChangeFault c begun word fault
+  value_alone : (digit : ℕ) → begun ≡ [] → word ≡ digit ∷ [] → IsTrue (is_binary_digit digit) → fault ≡ BadChange
+      → ChangeFault c begun word fault
   -- a binary digit with a code that was not declared
   value_of_none : (digit : ℕ) (code : List ℕ) → begun ≡ [] → word ≡ digit ∷ code → IsTrue (is_binary_digit digit)
-      → 0 < length code → variable_of c code ≡ None
-      → fault ≡ UnknownCode → ChangeFault c begun word fault
+      → 0 < length code → variable_of c code ≡ None → fault ≡ UnknownCode → ChangeFault c begun word fault
   -- a change of two words with a code that was not declared
   pair_of_none : (first : ℕ) (text : List ℕ) → begun ≡ (first ∷ text) ∷ [] → IsTrue (is_among pair_prefixes first)
-      → variable_of c word ≡ None
-      → fault ≡ UnknownCode → ChangeFault c begun word fault
+      → variable_of c word ≡ None → fault ≡ UnknownCode → ChangeFault c begun word fault
   -- no digit, or one that is no binary digit, for a kept variable
   no_value : (first : ℕ) (digits : List ℕ) (d : VariableDeclaration) → begun ≡ (first ∷ digits) ∷ []
-      → IsTrue (is_among vector_prefixes first)
-      → variable_of c word ≡ Some d → IsFalse (is_skipped d) → IsFalse (is_binary_number digits)
-      → fault ≡ BadChange → ChangeFault c begun word fault
+      → IsTrue (is_among vector_prefixes first) → variable_of c word ≡ Some d → IsFalse (is_skipped d)
+      → IsFalse (is_binary_number digits) → fault ≡ BadChange → ChangeFault c begun word fault
   -- more digits than the variable has bits
   value_too_long : (first : ℕ) (digits : List ℕ) (d : VariableDeclaration) → begun ≡ (first ∷ digits) ∷ []
-      → IsTrue (is_among vector_prefixes first)
-      → variable_of c word ≡ Some d → IsFalse (is_skipped d) → IsTrue (is_binary_number digits) → d.size < length digits
-      → fault ≡ ValueTooLong → ChangeFault c begun word fault
+      → IsTrue (is_among vector_prefixes first) → variable_of c word ≡ Some d → IsFalse (is_skipped d)
+      → IsTrue (is_binary_number digits) → d.size < length digits → fault ≡ ValueTooLong
+      → ChangeFault c begun word fault
   -- a word of the declarations
-  declaration_late : begun ≡ [] → IsTrue (is_one_of declaring_words word)
-      → fault ≡ UnexpectedWord → ChangeFault c begun word fault
+  declaration_late : begun ≡ [] → IsTrue (is_one_of declaring_words word) → fault ≡ UnexpectedWord
+      → ChangeFault c begun word fault
   -- a word that begins no change
-  no_change : (first : ℕ) (text : List ℕ) → begun ≡ [] → word ≡ first ∷ text
-      → IsFalse (is_binary_digit first) → IsFalse (is_among (codes "#$" ++ pair_prefixes) first)
-      → fault ≡ BadChange → ChangeFault c begun word fault
+  no_change : (first : ℕ) (text : List ℕ) → begun ≡ [] → word ≡ first ∷ text → IsFalse (is_binary_digit first)
+      → IsFalse (is_among (codes "#$" ++ pair_prefixes) first) → fault ≡ BadChange → ChangeFault c begun word fault
 
 -- among the declarations or the changes, by the state
 pub data WordFault (c : ParseState) (begun : List (List ℕ)) (word : List ℕ) (fault : Fault) : Type 0 where
   among_declarations : IsFalse c.changing → DeclarationFault c begun word fault → WordFault c begun word fault
   among_changes : IsTrue c.changing → ChangeFault c begun word fault → WordFault c begun word fault
-
--- the words `begun` of an incomplete item show no fault, and a word must follow them
-pub data IsUnfinished (c : ParseState) (begun : List (List ℕ)) : Type 0 where
-  -- the next declaration must follow
-  declaration_due : IsFalse c.changing → begun ≡ [] → IsUnfinished c begun
-  -- words up to the `$end` of a header entry, a timescale or a scope must follow
-  words_due : (word : List ℕ) (words : List (List ℕ)) → IsFalse c.changing → begun ≡ word ∷ words
-      → IsTrue (is_one_of (codes "$timescale" ∷ codes "$scope" ∷ header_words) word) → IsTrue (has_no_end_word words)
-      → IsUnfinished c begun
-  -- the `$end` of `$upscope` must follow
-  upscope_due : IsFalse c.changing → begun ≡ codes "$upscope" ∷ [] → 0 < length c.scopes → IsUnfinished c begun
-  -- words up to the `$end` of a `$var` must follow
-  variable_due : (words : List (List ℕ)) → IsFalse c.changing → begun ≡ codes "$var" ∷ words
-      → IsTrue (has_no_end_word words) → IsTrue (has_good_size words) → IsUnfinished c begun
-  -- the `$end` of `$enddefinitions` must follow
-  definitions_due : IsFalse c.changing → begun ≡ codes "$enddefinitions" ∷ [] → IsUnfinished c begun
-  -- the code of a change of two words must follow
-  code_due : (first : ℕ) (text : List ℕ) → IsTrue c.changing → begun ≡ (first ∷ text) ∷ []
-      → IsTrue (is_among pair_prefixes first) → IsUnfinished c begun
-  -- words up to the `$end` of any other command must follow
-  other_due : (word : List ℕ) (words : List (List ℕ)) → begun ≡ word ∷ words
-      → IsTrue (is_other c.changing word) → IsTrue (has_no_end_word words) → IsUnfinished c begun
 
 -- ---- files
 
@@ -147,23 +120,13 @@ pub record ShowsFault (words : List PlacedWord) (line : ℕ) (fault : Fault) : T
   pub decided : WordFault (state_after initial_state items) (word_texts begun) word.text fault
   pub at : line ≡ fault_line (state_after initial_state items).changing begun word
 
--- the words end too early, and no word shows a fault
-pub record Stops (words : List PlacedWord) : Type 0 where
-  pub items : List Item
-  pub begun : List (List ℕ)
-  pub spelled : word_texts words ≡ spellings items ++ begun
-  pub allowed : AllowsAll initial_state items
-  pub unfinished : IsUnfinished (state_after initial_state items) begun
+-- the fault of a file with these words: the one that a word shows; or, where none shows one, this one at the last line
+pub data FaultOf (words : List PlacedWord) (last : ℕ) (otherwise : Fault) (line : ℕ) (fault : Fault) : Type 0 where
+  shown : ShowsFault words line fault → FaultOf words last otherwise line fault
+  none_shown : ((at : ℕ) (other : Fault) → ShowsFault words at other → ⊥) → line ≡ last → fault ≡ otherwise
+      → FaultOf words last otherwise line fault
 
--- the file has this fault, at this line: a word shows it, or the words end too early
-pub data FileFault (bytes : List ℕ) (line : ℕ) (fault : Fault) : Type 0 where
-  shown : ShowsFault (words_of bytes) line fault → FileFault bytes line fault
-  too_early : Stops (words_of bytes) → line ≡ last_line bytes → fault ≡ Truncated → FileFault bytes line fault
-
--- a closed word of this front of a file shows this fault, at this line, whatever follows the front
-abbrev pub FrontFault : List ℕ → ℕ → Fault → Type 0
-FrontFault bytes line fault = ShowsFault (closed_words bytes) line fault
-
--- no closed word of this front shows a fault
-abbrev pub HasNoFrontFault : List ℕ → Type 0
-HasNoFrontFault bytes = (line : ℕ) (fault : Fault) → FrontFault bytes line fault → ⊥
+-- the file has no meaning, and this fault, at this line
+abbrev pub FileFault : List ℕ → ℕ → Fault → Type 0
+FileFault bytes line fault = ((c : Contents) (skipped : ℕ) → FileMeans bytes c skipped → ⊥)
+    × FaultOf (words_of bytes) (last_line bytes) Truncated line fault

@@ -1,7 +1,7 @@
 -- The accepted files and their state: the conditions of each item, and its effect (IEEE 1364-2005, 18.2, in the
 -- project's profile).
-use Rattle.std.specs.Prelude.{◌≡◌, ℕ, ◌-◌, ◌<◌, ◌≤◌, Bool, true, false, not, ◌&&◌, ◌||◌, ◌==◌, nat_lt, nat_le}
-use Rattle.std.specs.Prelude.{if◌then◌else◌, List, [], ◌∷◌, ◌++◌, map, length, take, filter, find, Option, Some, None}
+use Rattle.std.specs.Prelude.{◌≡◌, ℕ, ◌-◌, ◌<◌, ◌≤◌, Bool, true, false, not, ◌&&◌, ◌||◌, ◌==◌, nat_lt, nat_le, []}
+use Rattle.std.specs.Prelude.{if◌then◌else◌, List, ◌∷◌, ◌++◌, map, length, take, filter, find, Option, Some, None}
 use Rattle.std.specs.Prelude.{IsSome, IsSomeAnd, IsTrue, IsFalse, option_to_list, bytes_eq}
 use Rattle.std.specs.List.{list_all}
 use Rattle.vcd_core.specs.declared.bit.Bit.{Bit}
@@ -47,15 +47,8 @@ pub record ParseState : Type 0 where
 
 -- the state before the first item
 abbrev pub initial_state : ParseState
-initial_state = record {
-  header = [];
-  timescale = None;
-  scopes = [];
-  declared = [];
-  changing = false;
-  value_changes = [];
-  tick = 0;
-}
+initial_state =
+    record { header = []; timescale = None; scopes = []; declared = []; changing = false; value_changes = []; tick = 0 }
 
 -- ---- variables
 
@@ -69,31 +62,24 @@ kept_variables declared = filter (λ d. not (is_skipped d)) declared
 
 -- whether the size in the words of a `$var`, if it has come, is a decimal number
 abbrev pub has_good_size : List (List ℕ) → Bool
-has_good_size [] = true
-has_good_size (kind ∷ []) = true
 has_good_size (kind ∷ size ∷ words) = is_number size
+has_good_size words = true
 
 -- the variable that the words of a `$var` declare: kind, size, code, and one or more words of the name
 abbrev pub declaration_of : ParseState → List (List ℕ) → Option VariableDeclaration
-declaration_of c [] = None
-declaration_of c (kind ∷ []) = None
-declaration_of c (kind ∷ size ∷ []) = None
-declaration_of c (kind ∷ size ∷ code ∷ []) = None
-declaration_of c (kind ∷ size ∷ code ∷ name ∷ names) = Some
-    (record { scopes = c.scopes; kind = kind; size = number_of size; code = code; words = name ∷ names })
+declaration_of c (kind ∷ size ∷ code ∷ name ∷ names) =
+    Some (record { scopes = c.scopes; kind = kind; size = number_of size; code = code; words = name ∷ names })
+declaration_of c words = None
 
 -- the first variable of this code; the later ones agree with it
 abbrev pub variable_of : ParseState → List ℕ → Option VariableDeclaration
 variable_of c code = find (λ d. bytes_eq code d.code) c.declared
 
--- whether two variables can have one code: both are skipped, or both are kept with one size
-abbrev pub may_share : VariableDeclaration → VariableDeclaration → Bool
-may_share a b = (is_skipped a && is_skipped b) || (not (is_skipped a) && not (is_skipped b) && (a.size == b.size))
-
--- whether a variable can have its code, with the one that has it already, if there is one
+-- whether a variable can have the code of the variable `a`, if there is one: both are skipped, or kept with one size
 abbrev pub may_have_code : Option VariableDeclaration → VariableDeclaration → Bool
-may_have_code None d = true
-may_have_code (Some before) d = may_share before d
+may_have_code None b = true
+may_have_code (Some a) b =
+    (is_skipped a && is_skipped b) || (not (is_skipped a) && not (is_skipped b) && (a.size == b.size))
 
 -- whether there is room for a variable among the signals
 abbrev pub has_room : List VariableDeclaration → VariableDeclaration → Bool
@@ -121,16 +107,14 @@ Allows c (entry kind words) = IsFalse c.changing × IsTrue (has_no_end_word word
 Allows c (timescale words) = IsFalse c.changing × IsTrue (has_no_end_word words) × IsSome (timescale_of words)
 Allows c (scope kind words) = IsFalse c.changing × IsTrue (has_no_end_word (kind ∷ words))
 Allows c upscope = IsFalse c.changing × (0 < length c.scopes)
-Allows c (variable words) =
-    IsFalse c.changing × IsTrue (has_no_end_word words) × IsTrue (has_good_size words)
+Allows c (variable words) = IsFalse c.changing × IsTrue (has_no_end_word words) × IsTrue (has_good_size words)
     × IsSomeAnd (declaration_of c words)
     (λ d. IsTrue (may_have_code (variable_of c d.code) d) × IsTrue (has_room c.declared d))
 Allows c end_definitions = IsFalse c.changing
 Allows c (stamp digits) = IsTrue c.changing × IsTrue (is_tick digits) × (c.tick ≤ number_of digits)
 Allows c (scalar digit code) = IsTrue c.changing × IsTrue (is_binary_digit digit) × (0 < length code)
     × IsSome (variable_of c code)
-Allows c (vector first digits code) =
-    IsTrue c.changing × IsTrue (is_among vector_prefixes first)
+Allows c (vector first digits code) = IsTrue c.changing × IsTrue (is_among vector_prefixes first)
     × IsSomeAnd (variable_of c code) (λ d. IsTrue (takes_binary_number d digits))
 Allows c (real_or_string first text code) = IsTrue c.changing × IsTrue (is_among dropped_prefixes first)
     × IsSome (variable_of c code)
@@ -142,15 +126,13 @@ Allows c (other word words) = IsTrue (is_other c.changing word) × IsTrue (has_n
 -- a value change to these letters at the tick, for a kept variable
 abbrev pub value_changes_after : ParseState → List ℕ → List Bit → Option VariableDeclaration → List ValueChange
 value_changes_after c code letters None = []
-value_changes_after c code letters (Some d) = if is_skipped d
-    then [] else record { tick = c.tick; code = code; letters = letters } ∷ []
+value_changes_after c code letters (Some d) =
+    if is_skipped d then [] else record { tick = c.tick; code = code; letters = letters } ∷ []
 
 -- the state with this value change added last
 abbrev pub with_value_change : ParseState → List ℕ → List Bit → ParseState
-with_value_change c code letters = record c {
-  value_changes = c.value_changes
-      ++ value_changes_after c code letters (variable_of c code);
-}
+with_value_change c code letters =
+    record c { value_changes = c.value_changes ++ value_changes_after c code letters (variable_of c code) }
 
 -- the state after an item
 abbrev pub state_after_item : ParseState → Item → ParseState
@@ -163,9 +145,7 @@ state_after_item c end_definitions = record c { changing = true }
 state_after_item c (stamp digits) = record c { tick = number_of digits }
 state_after_item c (scalar digit code) = with_value_change c code (letters_of_digits (digit ∷ []))
 state_after_item c (vector first digits code) = with_value_change c code (letters_of_digits digits)
-state_after_item c (real_or_string first text code) = c
-state_after_item c (bracket word) = c
-state_after_item c (other word words) = c
+state_after_item c item = c
 
 -- the state after a list of items
 abbrev pub state_after : ParseState → List Item → ParseState

@@ -1,6 +1,6 @@
 -- The items of a file, declarations and changes, and their spelling in words (IEEE 1364-2005, 18.2, in the project's
 -- profile).
-use Rattle.std.specs.Prelude.{ℕ, Bool, false, not, ◌&&◌, ◌||◌, ◌==◌, List, [], ◌∷◌, ◌++◌, map, find, Option, codes}
+use Rattle.std.specs.Prelude.{ℕ, Bool, false, not, ◌&&◌, ◌||◌, ◌==◌, List, ◌∷◌, ◌++◌, map, find, Option, codes, []}
 use Rattle.std.specs.Prelude.{decimal, bytes_eq}
 use Rattle.std.specs.List.{list_all, flat_map, concat}
 use Rattle.vcd_core.specs.Word.{is_one_of}
@@ -8,7 +8,6 @@ use Rattle.vcd_core.specs.TimeUnits.{unit_text}
 use Rattle.vcd_core.specs.declared.capture.HeaderKind.{HeaderKind}
 use Rattle.vcd_core.specs.declared.capture.HeaderKind.TheVariants.{Date, Version, Comment}
 use Rattle.vcd_core.specs.declared.capture.Timescale.{Timescale}
-use Rattle.vcd_core.specs.declared.capture.TimeUnit.{TimeUnit}
 use Rattle.vcd_core.specs.declared.capture.TimeUnit.TheVariants.{Second, Millisecond, Microsecond, Nanosecond}
 use Rattle.vcd_core.specs.declared.capture.TimeUnit.TheVariants.{Picosecond, Femtosecond}
 
@@ -69,14 +68,10 @@ dropped_prefixes = codes "rRsS"
 
 -- ---- timescales
 
--- 1, 10 and 100 of a unit
-abbrev pub unit_timescales : TimeUnit → List Timescale
-unit_timescales unit = record { count = 1; unit = unit } ∷ record { count = 10; unit = unit }
-    ∷ record { count = 100; unit = unit } ∷ []
-
--- all timescales
+-- all timescales: 1, 10 and 100 of each unit
 abbrev pub timescales : List Timescale
-timescales = flat_map unit_timescales (Second ∷ Millisecond ∷ Microsecond ∷ Nanosecond ∷ Picosecond ∷ Femtosecond ∷ [])
+timescales = flat_map (λ unit. map (λ count. record { count = count; unit = unit }) (1 ∷ 10 ∷ 100 ∷ []))
+    (Second ∷ Millisecond ∷ Microsecond ∷ Nanosecond ∷ Picosecond ∷ Femtosecond ∷ [])
 
 -- the timescale that words spell when they are run together, or none
 abbrev pub timescale_of : List (List ℕ) → Option Timescale

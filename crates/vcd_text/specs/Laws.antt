@@ -3,7 +3,8 @@ use Rattle.std.specs.Prelude.{◌≡◌, ℕ, ◌⊎◌, List, ◌++◌}
 use Rattle.vcd_core.specs.Contents.{Contents}
 use Rattle.vcd_core.specs.Sound.{IsSound}
 use Rattle.vcd_text.specs.declared.fault.Fault.{Fault}
-use Rattle.vcd_text.specs.Faults.{FileFault, FrontFault}
+use Rattle.vcd_text.specs.Faults.{FileFault}
+use Rattle.vcd_text.specs.FoundFaults.{FoundFault, FrontFault}
 use Rattle.vcd_text.specs.Meaning.{FileMeans}
 use Rattle.vcd_text.specs.Text.{text}
 
@@ -31,6 +32,11 @@ abbrev pub EveryFileHasMeaningOrFault : Type 0
 EveryFileHasMeaningOrFault =
     (bytes : List ℕ) → ((c : Contents) × (n : ℕ) × FileMeans bytes c n)
     ⊎ ((line : ℕ) × (fault : Fault) × FileFault bytes line fault)
+
+-- where a file has a fault, it is found so: a word shows it, or the words end within an item
+abbrev pub EveryFaultIsFound : Type 0
+EveryFaultIsFound = (bytes : List ℕ) (line : ℕ) (fault : Fault) → FileFault bytes line fault
+    → FoundFault bytes line fault
 
 -- ---- fronts
 

@@ -1,6 +1,6 @@
 -- Binary digits, their letters, the extension and the short form of letters (IEEE 1364-2005, 18.2).
-use Rattle.std.specs.Prelude.{ℕ, ◌-◌, ◌==◌, ◌&&◌, not, nat_le, Bool, if◌then◌else◌, List, [], ◌∷◌, ◌++◌, nat_eq, length}
-use Rattle.std.specs.Prelude.{map, replicate, find, Option, Some, None, is_some, unwrap_or, codes}
+use Rattle.std.specs.Prelude.{ℕ, ◌-◌, ◌==◌, ◌&&◌, not, nat_le, Bool, if◌then◌else◌, List, ◌∷◌, ◌++◌, nat_eq, length}
+use Rattle.std.specs.Prelude.{map, replicate, find, Option, Some, None, is_some, unwrap_or, codes, []}
 use Rattle.std.specs.List.{list_any, list_all}
 use Rattle.vcd_core.specs.declared.bit.Bit.{Bit}
 use Rattle.vcd_core.specs.declared.bit.Bit.TheVariants.{Zero, One, X, Z}
@@ -13,12 +13,8 @@ is_among bytes b = list_any (nat_eq b) bytes
 -- the letter that a binary digit writes: 0 1 x X z Z by IEEE 1364-2005, 18.2; the others, of VHDL simulators, are the
 -- project's own
 abbrev pub letter_of_digit : ℕ → Option Bit
-letter_of_digit b =
-    if is_among (codes "0lL") b then Some Zero
-    else (if is_among (codes "1hH") b then Some One
-    else (if is_among (codes "xXuUwW-") b then Some X
-    else (if is_among (codes "zZ") b then Some Z
-    else None)))
+letter_of_digit b = if is_among (codes "0lL") b then Some Zero else (if is_among (codes "1hH") b then Some One
+    else (if is_among (codes "xXuUwW-") b then Some X else (if is_among (codes "zZ") b then Some Z else None)))
 
 -- whether a byte is a binary digit
 abbrev pub is_binary_digit : ℕ → Bool
@@ -38,8 +34,7 @@ abbrev pub pad_letter : List Bit → Bit
 pad_letter [] = X
 pad_letter (Zero ∷ s) = Zero
 pad_letter (One ∷ s) = Zero
-pad_letter (X ∷ s) = X
-pad_letter (Z ∷ s) = Z
+pad_letter (b ∷ s) = b
 
 -- letters extended on the left to a width (18.2)
 abbrev pub extension : ℕ → List Bit → List Bit

@@ -6,9 +6,11 @@ pub mod WriteEnds
 pub mod Items
 pub mod Grammar
 pub mod Faults
+pub mod FoundFaults
 pub mod Meaning
 pub mod Text
 pub mod Laws
 pub mod LentWords
+pub mod MemoryErrors
 pub mod Refusals
 pub mod inside

@@ -1,5 +1,5 @@
 -- The meaning of a file: its signals, each with its value at every tick (IEEE 1364-2005, 18.2).
-use Rattle.std.specs.Prelude.{◌≡◌, ℕ, ◌&&◌, if◌then◌else◌, nat_le, List, [], ◌∷◌, map, count_by, bytes_eq}
+use Rattle.std.specs.Prelude.{◌≡◌, ℕ, ◌&&◌, if◌then◌else◌, nat_le, List, ◌∷◌, map, count_by, bytes_eq, []}
 use Rattle.vcd_core.specs.declared.bit.Bit.{Bit}
 use Rattle.vcd_core.specs.Value.{all_x}
 use Rattle.vcd_core.specs.Wave.{changes_of}
@@ -35,13 +35,9 @@ meaning c = record {
   signals = map (declared_signal c.value_changes c.tick) (kept_variables c.declared);
 }
 
--- the number of skipped variables
-abbrev pub skipped_count : ParseState → ℕ
-skipped_count c = count_by is_skipped c.declared
-
 -- the file is accepted and means these contents, with this number of skipped variables
 pub record FileMeans (bytes : List ℕ) (contents : Contents) (skipped : ℕ) : Type 0 where
   pub told : ParseState
   pub accepted : Accepts (words_of bytes) told
   pub means : contents ≡ meaning told
-  pub left_out : skipped ≡ skipped_count told
+  pub left_out : skipped ≡ count_by is_skipped told.declared

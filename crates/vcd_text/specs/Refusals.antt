@@ -4,19 +4,12 @@ use Rattle.vcd_text.specs.declared.reading.TheConstants.{FILE_LIMIT}
 use Rattle.vcd_text.specs.declared.fault.Fault.{Fault}
 use Rattle.vcd_text.specs.declared.fault.Fault.TheVariants as faults
 use Rattle.vcd_text.specs.declared.fault.ReadError.{ReadError}
-use Rattle.vcd_text.specs.Words.{last_line}
-use Rattle.vcd_text.specs.Faults.{FileFault, FrontFault, HasNoFrontFault}
+use Rattle.vcd_text.specs.Words.{closed_words, last_line}
+use Rattle.vcd_text.specs.Faults.{FileFault, FaultOf}
 
--- the fault where memory runs out: no line
-abbrev pub memory_error : ReadError
-memory_error = record { line = 0; fault = faults.NoMemory }
-
--- only this front of a file was read, for this reason: the fault of its closed words, or the reason at the front's last
--- line
-pub data IsFrontAnswer (front : List ℕ) (reason : Fault) (e : ReadError) : Type 0 where
-  shown : FrontFault front e.line e.fault → IsFrontAnswer front reason e
-  no_fault : HasNoFrontFault front → e ≡ record { line = last_line front; fault = reason }
-      → IsFrontAnswer front reason e
+-- only this front of a file was read, for this reason: the fault of its closed words, or the reason at its last line
+abbrev pub IsFrontAnswer : (front : List ℕ) → (reason : Fault) → ReadError → Type 0
+IsFrontAnswer front reason e = FaultOf (closed_words front) (last_line front) reason e.line e.fault
 
 -- the fault of reading a file, from a reader that has failed or not, with these bytes left where it shows them
 pub data IsRefusal (file : List ℕ) (failed : Bool) (left : Option (List ℕ)) (e : ReadError) : Type 0 where
@@ -27,7 +20,6 @@ pub data IsRefusal (file : List ℕ) (failed : Bool) (left : Option (List ℕ)) 
       → IsRefusal file failed left e
   -- the reader failed after this front
   reader_failed : (front rest : List ℕ) → IsTrue failed → left ≡ Some rest → file ≡ front ++ rest
-      → length front ≤ FILE_LIMIT
-      → IsFrontAnswer front faults.ReadFault e → IsRefusal file failed left e
-  -- memory ran out
-  no_memory : e ≡ memory_error → IsRefusal file failed left e
+      → length front ≤ FILE_LIMIT → IsFrontAnswer front faults.ReadFault e → IsRefusal file failed left e
+  -- memory ran out: no line
+  no_memory : e ≡ record { line = 0; fault = faults.NoMemory } → IsRefusal file failed left e

@@ -1,7 +1,7 @@
 -- The text of a capture: its items in a fixed order, each on its own line (the format: IEEE 1364-2005, 18.2; the order
 -- and the codes: the project's own).
-use Rattle.std.specs.Prelude.{ℕ, zero, suc, Bool, ◌+◌, ◌-◌, ◌/◌, ◌%◌, ◌==◌, ◌&&◌, not, if◌then◌else◌, nat_lt, List, []}
-use Rattle.std.specs.Prelude.{◌∷◌, ◌++◌, length, map, drop, replicate, Option, Some, None, codes}
+use Rattle.std.specs.Prelude.{ℕ, zero, suc, Bool, ◌+◌, ◌-◌, ◌/◌, ◌%◌, ◌==◌, ◌&&◌, not, if◌then◌else◌, nat_lt, List}
+use Rattle.std.specs.Prelude.{◌∷◌, ◌++◌, length, map, drop, replicate, Option, Some, None, codes, []}
 use Rattle.std.specs.List.{filter, flat_map, enumerate_from, join_with_byte, common_prefix_len}
 use Rattle.std.specs.Str.{bytes_eq}
 use Rattle.std.specs.Cmp.Lexicographic.{pointwise}
@@ -115,14 +115,8 @@ end_items signals end = if nat_lt 0 end && (length (new_values signals end) == 0
 -- the items of a capture: header, timescale, declarations, the values at tick 0, the values that differ at the ticks 1
 -- to the end, and the end
 unfoldable pub items_of : Contents → List Item
-items_of c =
-    header_items c.header
-    ++ timescale_items c.timescale
-    ++ signal_items [] 0 c.signals
-    ++ end_definitions
-    ∷ first_items c.signals
-    ++ tick_items c.signals 1 c.end
-    ++ end_items c.signals c.end
+items_of c = header_items c.header ++ timescale_items c.timescale ++ signal_items [] 0 c.signals
+    ++ end_definitions ∷ first_items c.signals ++ tick_items c.signals 1 c.end ++ end_items c.signals c.end
 
 -- the text of a capture, byte for byte
 unfoldable pub text : Contents → List ℕ

@@ -20,3 +20,4 @@ pub mod TextParts
 pub mod NextChanges
 pub mod Waiting
 pub mod Windows
+pub mod SkippedVariables

@@ -1,7 +1,7 @@
 //! Laws about the definitions of a file and of a text.
 
 ghost use Rattle.vcd_text.specs.Laws.{EveryFileHasAtMostOneMeaning, EveryFileHasAtMostOneFault};
-ghost use Rattle.vcd_text.specs.Laws.{NoFileHasMeaningAndFault, EveryFileHasMeaningOrFault};
+ghost use Rattle.vcd_text.specs.Laws.{NoFileHasMeaningAndFault, EveryFileHasMeaningOrFault, EveryFaultIsFound};
 ghost use Rattle.vcd_text.specs.Laws.{EveryFrontHasAtMostOneFault, FrontFaultIsFileFault};
 ghost use Rattle.vcd_text.specs.Laws.{TextIsReadBack, NothingElseIsReadBack, TextHasNoFault};
 
@@ -13,9 +13,11 @@ pub fn has_one_answer()
     ensures never_both { NoFileHasMeaningAndFault }
 {}
 
-/// A file has a result, whatever its bytes are: a meaning or a fault.
+/// A file has a result, whatever its bytes are: a meaning or a fault. A fault is that of a word, or
+/// the words end within an item.
 pub fn has_an_answer()
-    ensures { EveryFileHasMeaningOrFault }
+    ensures one { EveryFileHasMeaningOrFault }
+    ensures found { EveryFaultIsFound }
 {}
 
 /// A front of a file shows at most one fault, at one line. Only words of the front that white space

@@ -16,7 +16,7 @@ use Rattle.vcdedit.specs.MachineReplies.{line_reply}
 use Rattle.vcdedit.specs.RunMachines.{machine_after_line, machine_after_lines, refusal_count}
 use Rattle.vcdedit.specs.Run.{RunOutcome}
 use Rattle.vcdedit.specs.RunOutcomes.{line_replies, run_outcome, RunWrites}
-use Rattle.vcdedit.specs.RunEnds.{ReaderEnd, RunEnds}
+use Rattle.vcdedit.specs.RunEnds.{DeviceEnd, RunEnds}
 use Rattle.vcdedit.specs.declared.running.run_error.RunError.TheVariants as run_errors
 use Rattle.vcdedit.proofs.RunHistories.{run_is}
 use Rattle.vcd_text.proofs.CasesOfFiles.{one_scalar as one_scalar_file, one_scalar_contents, one_scalar_means}
@@ -80,8 +80,8 @@ unfolding undone script_lines words_from command_of_line lookup name_in edit_fau
 undo_of_file = record { contents = one_scalar_contents; skipped = 0; means = one_scalar_means; run = refl }
 
 -- a reader that was read to its end
-abbrev read_whole : List ℕ → ReaderEnd
-read_whole bytes = record { coming = Some bytes; left = Some []; has_failed = false }
+abbrev read_whole : List ℕ → DeviceEnd
+read_whole bytes = record { before = Some bytes; after = Some []; has_failed = false }
 
 -- if memory runs out at the second line, the reply to the first was written
 stops_at_second_line : RunEnds (Err (run_errors.NoMemory 2)) 100 (read_whole one_scalar_file)

@@ -1,13 +1,13 @@
 -- What a run writes by a machine is what it writes by the edits in force.
 use Rattle.std.proofs.Common.{◌≡◌, ◌≤◌, ◌+◌, ◌-◌, ℕ, zero, suc, Bool, true, false, cond, List, [], ◌∷◌, ◌++◌, take}
 use Rattle.std.proofs.Common.{length, Option, Some, None, Result, Ok, Err, is_err, refl, sym, ◌∙◌, ap, subst, arith}
-use Rattle.std.proofs.Common.{map}
-use Rattle.std.specs.Prelude.{◌==◌, not, nat_lt, min, fold, count_by, option_map, drop}
+use Rattle.std.proofs.Common.{map, append_assoc}
+use Rattle.std.specs.Prelude.{◌==◌, not, nat_lt, min, fold, count_by, drop, codes}
 use Rattle.std.specs.List.{enumerate_from}
-use Rattle.std.proofs.Math.Seq.{take-length}
+use Rattle.std.proofs.Math.Seq.{take-length, take-append_seam}
 use Rattle.std.proofs.lemmas.Bool.Decides.{nat_tests}
-use Rattle.std.proofs.lemmas.List.{length-take}
-use Rattle.std.proofs.lemmas.List.Sums.{sum_by-cons}
+use Rattle.std.proofs.lemmas.List.{length-take, length-append}
+use Rattle.std.proofs.lemmas.List.Sums.{sum_by-cons, fold-append}
 use Rattle.vcd_core.specs.Contents.{Contents}
 use Rattle.vcd_core.specs.Sound.{IsSound}
 use Rattle.vcd_text.specs.Text.{text}
@@ -19,8 +19,8 @@ use Rattle.vcd_edit.specs.declared.edit.Edit.{Edit}
 use Rattle.vcd_edit.specs.declared.fault.EditError.{EditError}
 use Rattle.vcd_edit.specs.EditErrorNames.{edit_error_name}
 use Rattle.vcd_edit.specs.Allowed.{edit_fault}
-use Rattle.vcd_edit.specs.Refused.{refusal_among}
-use Rattle.vcd_edit.proofs.RefusedEdits.{edit_refusal_is}
+use Rattle.vcd_edit.specs.Refused.{unless_refused}
+use Rattle.vcd_edit.proofs.RefusedEdits.{unless_fault, edit_refused_is}
 use Rattle.vcd_journal.specs.declared.step.Step.{Step}
 use Rattle.vcd_journal.specs.declared.step.Step.TheVariants as steps
 use Rattle.vcd_journal.specs.declared.step.StepError.TheVariants as refusals
@@ -35,14 +35,17 @@ use Rattle.vcdedit.specs.declared.script.command.Command.{Command}
 use Rattle.vcdedit.specs.declared.script.command.Command.TheVariants as commands
 use Rattle.vcdedit.specs.declared.script.line_error.LineError.{LineError}
 use Rattle.vcdedit.specs.LineErrorNames.{line_error_name}
-use Rattle.vcdedit.specs.Script.{script_lines, asked_by}
-use Rattle.vcdedit.specs.ParsedLines.{command_of_line, with_refusal}
-use Rattle.vcdedit.proofs.TableCommands.{asked_is}
-use Rattle.vcdedit.specs.Reply.{LineReply, ok_reply, step_answer, command_answer, asked_answer, reply_text}
-use Rattle.vcdedit.specs.Run.{RunOutcome, history_after_asked, line_answer, history_after_line, history_at}
-use Rattle.vcdedit.specs.Run.{line_answers, capture_at, IsRunOfLines, IsRun}
-use Rattle.vcdedit.specs.MachineReplies.{edit_reply, history_reply, depth_reply, step_reply, command_reply, line_reply}
-use Rattle.vcdedit.specs.MachineReplies.{is_line_refused}
+use Rattle.vcdedit.specs.Script.{script_lines, line_words}
+use Rattle.vcdedit.specs.ParsedLines.{command_of_line}
+use Rattle.vcdedit.specs.LineReads.{Read, ◌▷◌}
+use Rattle.vcdedit.specs.CommandTable.{Request, asked_by_words}
+use Rattle.vcdedit.proofs.TableCommands.{requested, asked_is}
+use Rattle.vcdedit.specs.Reply.{reply_text}
+use Rattle.vcdedit.specs.Run.{RunOutcome, answer, history_after_asked, line_answer, history_after_line, history_at}
+use Rattle.vcdedit.specs.Run.{answers, capture_at, IsRunOfLines, IsRun}
+use Rattle.vcdedit.specs.inside.LineAnswers.{line_answers}
+use Rattle.vcdedit.specs.MachineReplies.{LineReply, ok_reply, edit_reply, history_reply, depth_reply, step_reply}
+use Rattle.vcdedit.specs.MachineReplies.{command_reply, line_reply, is_line_refused}
 use Rattle.vcdedit.specs.RunMachines.{machine_after_command, machine_after_line, machine_after_lines, refusal_count}
 use Rattle.vcdedit.specs.RunOutcomes.{line_replies, run_outcome, RunWrites}
 use Rattle.vcdedit.specs.Laws.{EveryRunIs, RunsAreOfReplays}
@@ -76,22 +79,26 @@ past_count c (e ∷ es) (back ∷ older) p =
 
 -- ---- what is said
 
-edit_said : (found : Option EditError) → edit_reply found ≡ step_answer (option_map edit_error_name found)
+-- the reply to an accepted step
+abbrev ok_lines : List (List ℕ)
+ok_lines = codes "ok" ∷ []
+
+edit_said : (found : Option EditError) → edit_reply found ≡ unless_fault found ok_lines
 edit_said None = refl
 edit_said (Some error) = refl
 
-passed : (b : Bool) (refusal : List ℕ) → b ≡ false → ok_reply ≡ step_answer (refusal_among ((b, refusal) ∷ []))
+passed : (b : Bool) (refusal : List ℕ) → b ≡ false → ok_reply ≡ unless_refused ((b, refusal) ∷ []) ok_lines
 passed true refusal fails = absurd (cc)
 passed false refusal fails = refl
 
 undo_said : (held : ℕ) → history_reply held refusals.NothingToUndo
-    ≡ step_answer (refusal_among ((held == 0, step_error_name refusals.NothingToUndo) ∷ []))
+    ≡ unless_refused ((held == 0, step_error_name refusals.NothingToUndo) ∷ []) ok_lines
 undo_said zero = refl
 undo_said (suc held) =
     passed (suc held == 0) (step_error_name refusals.NothingToUndo) (grind (arith, nat_tests))
 
 redo_said : (held : ℕ) → history_reply held refusals.NothingToRedo
-    ≡ step_answer (refusal_among ((held == 0, step_error_name refusals.NothingToRedo) ∷ []))
+    ≡ unless_refused ((held == 0, step_error_name refusals.NothingToRedo) ∷ []) ok_lines
 redo_said zero = refl
 redo_said (suc held) =
     passed (suc held == 0) (step_error_name refusals.NothingToRedo) (grind (arith, nat_tests))
@@ -99,16 +106,16 @@ redo_said (suc held) =
 depth_said : (bad small : Bool) →
     cond bad (Err (step_error_name refusals.BadDepth))
     (cond small (Err (step_error_name refusals.DepthTooSmall)) ok_reply)
-    ≡ step_answer (refusal_among ((bad, step_error_name refusals.BadDepth)
-    ∷ (small, step_error_name refusals.DepthTooSmall) ∷ []))
+    ≡ unless_refused ((bad, step_error_name refusals.BadDepth)
+    ∷ (small, step_error_name refusals.DepthTooSmall) ∷ []) ok_lines
 depth_said true small = refl
 depth_said false true = refl
 depth_said false false = refl
 
 step_said : (c : Contents) (h : History) (s : Step) (undoable redoable : ℕ) → h.undoable ≡ undoable
-    → length h.undone ≡ redoable → step_reply s c undoable redoable ≡ step_answer (refusal_among (step_tests c h s))
+    → length h.undone ≡ redoable → step_reply s c undoable redoable ≡ unless_refused (step_tests c h s) ok_lines
 step_said c h (steps.Edit e) undoable redoable held undone =
-    edit_said (edit_fault e c) ∙ ap step_answer (edit_refusal_is c e)
+    edit_said (edit_fault e c) ∙ edit_refused_is c e ok_lines
 step_said c h steps.Undo undoable redoable held undone = rw (← held) (undo_said h.undoable)
 step_said c h steps.Redo undoable redoable held undone = rw (← undone) (redo_said (length h.undone))
 step_said c h (steps.Depth depth) undoable redoable held undone =
@@ -116,7 +123,7 @@ step_said c h (steps.Depth depth) undoable redoable held undone =
 
 command_said : (c : Contents) (skipped : ℕ) (h : History) (asked : Result Command LineError) (undoable redoable : ℕ)
     → h.undoable ≡ undoable → length h.undone ≡ redoable →
-    command_reply asked c skipped undoable redoable ≡ asked_answer c skipped h (with_refusal asked)
+    command_reply asked c skipped undoable redoable ≡ (requested c skipped asked ▷ answer c h)
 command_said c skipped h (Err fault) undoable redoable held undone = refl
 command_said c skipped h (Ok commands.Nothing) undoable redoable held undone = refl
 command_said c skipped h (Ok (commands.Step step)) undoable redoable held undone =
@@ -200,7 +207,7 @@ step_matches c h m (steps.Depth depth) is accepted =
 asked_matches : (c : Contents) (h : History) (m : Machine) (skipped : ℕ) (asked : Result Command LineError)
     → Matches c h m →
     is_err (command_reply asked m.now skipped (length m.past) (length m.future)) ≡ false
-    → Matches c (history_after_asked h (with_refusal asked)) (machine_after_command m asked)
+    → Matches c (history_after_asked h (requested m.now skipped asked)) (machine_after_command m asked)
 asked_matches c h m skipped (Err fault) is accepted = is
 asked_matches c h m skipped (Ok commands.Nothing) is accepted = is
 asked_matches c h m skipped (Ok (commands.Step step)) is accepted = step_matches c h m step is accepted
@@ -215,7 +222,7 @@ asked_matches c h m skipped (Ok (commands.I2c scl sda)) is accepted = is
 
 -- what is said to a line on this capture
 abbrev said_on : Contents → (skipped : ℕ) → History → List ℕ → LineReply
-said_on now skipped h line = asked_answer now skipped h (asked_by now line)
+said_on now skipped h line = asked_by_words now skipped (line_words line) ▷ answer now h
 
 answer_here : (c : Contents) (h : History) (m : Machine) (skipped : ℕ) (line : List ℕ) → Matches c h m →
     line_reply line m.now skipped (length m.past) (length m.future) ≡ said_on m.now skipped h line
@@ -223,7 +230,7 @@ unfolding line_reply
 answer_here c h m skipped line is =
     command_said m.now skipped h (command_of_line m.now line) (length m.past) (length m.future) is.undoable
     (undone_count c h.edits h.undone m.future is.follows.future)
-    ∙ ap (asked_answer m.now skipped h) (asked_is m.now line)
+    ∙ ap (λ (asked : Read Request). asked ▷ answer m.now h) (asked_is m.now skipped line)
 
 answer_is : (c : Contents) (h : History) (m : Machine) (skipped : ℕ) (line : List ℕ) → Matches c h m →
     line_reply line m.now skipped (length m.past) (length m.future) ≡ line_answer c skipped h line
@@ -233,19 +240,21 @@ answer_is c h m skipped line is =
 -- the history after a line that is refused or not
 by_refusal : (c : Contents) (h : History) (m : Machine) (skipped : ℕ) (line : List ℕ) (refused : Bool) → Matches c h m →
     is_err (line_reply line m.now skipped (length m.past) (length m.future)) ≡ refused →
-    Matches c (cond refused h (history_after_asked h (asked_by m.now line))) (machine_after_line m line)
+    Matches c (cond refused h (history_after_asked h (asked_by_words m.now skipped (line_words line))))
+    (machine_after_line m line)
 unfolding line_reply machine_after_line
 by_refusal c h m skipped line true is said =
     subst (Matches c h) (sym (refused_line_changes_nothing m line skipped said)) is
 by_refusal c h m skipped line false is said =
-    subst (λ (asked : Result Command (List ℕ)). Matches c (history_after_asked h asked) (machine_after_line m line))
-    (asked_is m.now line) (asked_matches c h m skipped (command_of_line m.now line) is said)
+    subst (λ (asked : Read Request). Matches c (history_after_asked h asked) (machine_after_line m line))
+    (asked_is m.now skipped line) (asked_matches c h m skipped (command_of_line m.now line) is said)
 
 line_matches : (c : Contents) (h : History) (m : Machine) (skipped : ℕ) (line : List ℕ) → Matches c h m
     → Matches c (history_after_line c skipped h line) (machine_after_line m line)
 line_matches c h m skipped line is =
     subst (λ (now : Contents). Matches c
-    (cond (is_err (line_answer c skipped h line)) h (history_after_asked h (asked_by now line)))
+    (cond (is_err (line_answer c skipped h line)) h
+    (history_after_asked h (asked_by_words now skipped (line_words line))))
     (machine_after_line m line)) is.follows.now
     (by_refusal c h m skipped line (is_err (line_answer c skipped h line)) is
     (ap is_err (answer_is c h m skipped line is)))
@@ -288,6 +297,31 @@ refusals_are c h m skipped (line ∷ lines) is =
     both ∙ sym (sum_by-cons one (line_answer c skipped h line)
     (line_answers c skipped (history_after_line c skipped h line) lines))
 
+-- the same answers, each with the history after the lines before it
+answers_from : (c : Contents) (skipped : ℕ) (h : History) (before lines : List (List ℕ)) →
+    map (λ (p : ℕ × List ℕ). line_answer c skipped
+    (fold (history_after_line c skipped) h (take p.0 (before ++ lines))) p.1) (enumerate_from (length before) lines)
+    ≡ line_answers c skipped (fold (history_after_line c skipped) h before) lines
+unfolding line_answers
+answers_from c skipped h before [] = refl
+answers_from c skipped h before (line ∷ lines) =
+    let step : History → List ℕ → History = history_after_line c skipped in
+    let said : List (List ℕ) → ℕ → List (Read (List (List ℕ))) = λ all n.
+    map (λ (p : ℕ × List ℕ). line_answer c skipped (fold step h (take p.0 all)) p.1) (enumerate_from n lines) in
+    let first = ap (λ (ls : List (List ℕ)). line_answer c skipped (fold step h ls) line)
+    (take-append_seam before (line ∷ lines)) in
+    let rest : said (before ++ line ∷ lines) (length before + 1)
+    ≡ line_answers c skipped (step (fold step h before) line) lines =
+    sym (ap (λ (all : List (List ℕ)). said all (length before + 1)) (append_assoc before (line ∷ []) lines))
+    ∙ sym (ap (said ((before ++ line ∷ []) ++ lines)) (length-append before (line ∷ [])))
+    ∙ answers_from c skipped h (before ++ line ∷ []) lines
+    ∙ ap (λ (g : History). line_answers c skipped g lines) (fold-append step h before (line ∷ [])) in
+    λ i. first i ∷ rest i
+
+answers_are : (c : Contents) (skipped depth : ℕ) (lines : List (List ℕ))
+    → line_answers c skipped (first_history depth) lines ≡ answers c skipped depth lines
+answers_are c skipped depth lines = sym (answers_from c skipped (first_history depth) [] lines)
+
 -- ---- runs
 
 first_matches : (c : Contents) (depth : ℕ) → Matches c (first_history depth) (first_machine c depth)
@@ -325,8 +359,10 @@ lines_are_run c depth skipped lines sound =
           let few = past_count c (history_at c skipped depth lines count).edits
           (machine_after_lines (first_machine c depth) (take count lines)).past (here count).follows.past in
           omega (arith, held, few);
-      replies = replies_are c (first_history depth) (first_machine c depth) skipped 1 lines first;
-      refused = refusals_are c (first_history depth) (first_machine c depth) skipped lines first;
+      replies = replies_are c (first_history depth) (first_machine c depth) skipped 1 lines first
+          ∙ ap (numbered 1) (answers_are c skipped depth lines);
+      refused = refusals_are c (first_history depth) (first_machine c depth) skipped lines first
+          ∙ ap (count_by is_err) (answers_are c skipped depth lines);
       output = ap text last;
       read_again = back;
       only = λ d count means. one_meaning (text (machine_after_lines (first_machine c depth) lines).now) d

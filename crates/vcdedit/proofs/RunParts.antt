@@ -21,7 +21,7 @@ use Rattle.vcdedit.specs.declared.running.run_error.Summary.{Summary}
 use Rattle.vcdedit.specs.Script.{script_lines}
 use Rattle.vcdedit.specs.Run.{RunOutcome, IsRun}
 use Rattle.vcdedit.specs.RunOutcomes.{run_outcome}
-use Rattle.vcdedit.specs.RunEnds.{ReaderEnd, WriterEnd, IsAccepted, IsWholeScript, IsUnread, HasText, RunEnds}
+use Rattle.vcdedit.specs.RunEnds.{DeviceEnd, IsAccepted, IsWholeScript, IsUntouched, HasText, RunEnds}
 use Rattle.vcdedit.specs.inside.RunLines.{IfReplyFault, RunsLines, StopsInLines}
 use Rattle.vcdedit.specs.inside.RunStages.{EndsBeforeOutput, EndsBeforeReplies}
 use Rattle.vcdedit.specs.inside.ScriptRuns.{ScriptGives}
@@ -42,11 +42,11 @@ file_has_meaning None c skipped read = tt
 file_has_meaning (Some f) c skipped read = (read.0, c, skipped, read.1)
 
 -- a capture that was read to its end, within the limit, and means something
-pub is_accepted : (capture : ReaderEnd) (c : Contents) (skipped : ℕ) → capture.has_failed ≡ false
-    → IsAtEnd capture.left → IfSome capture.coming (λ f. (length f ≤ FILE_LIMIT) × FileMeans f c skipped)
+pub is_accepted : (capture : DeviceEnd) (c : Contents) (skipped : ℕ) → capture.has_failed ≡ false
+    → IsAtEnd capture.after → IfSome capture.before (λ f. (length f ≤ FILE_LIMIT) × FileMeans f c skipped)
     → IsAccepted capture
 is_accepted capture c skipped ready ended read =
-    ((ready, ended), file_has_meaning capture.coming c skipped read)
+    ((ready, ended), file_has_meaning capture.before c skipped read)
 
 -- ---- the result of the script
 
@@ -117,18 +117,18 @@ if_run_writes (Some f) (Some s) depth count took_replies now said ran follows =
 -- ---- ends before the output
 
 -- at a fault of the capture
-pub capture_ends : (capture script : ReaderEnd) (e : ReadError)
-    → IfSome capture.coming (λ file. IsRefusal file capture.has_failed capture.left e) →
-    (e.fault ≡ faults.ReadFault → capture.has_failed ≡ true) → IsUnread script
+pub capture_ends : (capture script : DeviceEnd) (e : ReadError)
+    → IfSome capture.before (λ file. IsRefusal file capture.has_failed capture.after e) →
+    (e.fault ≡ faults.ReadFault → capture.has_failed ≡ true) → IsUntouched script
     → EndsBeforeReplies capture script (run_errors.Capture e)
 capture_ends capture script e refused failed unread depth replies untouched output kept =
     (refused, failed, unread, untouched, kept)
 
 -- in the lines
-pub lines_end : (capture script : ReaderEnd) (replies : WriterEnd) (bytes : List ℕ) (depth skipped : ℕ) (c : Contents)
+pub lines_end : (capture script replies : DeviceEnd) (bytes : List ℕ) (depth skipped : ℕ) (c : Contents)
     (e : RunError) →
-    IsAccepted capture → IsWholeScript script → IfSome capture.coming (λ f. FileMeans f c skipped)
-    → IfSome script.coming (λ s. bytes ≡ s) →
+    IsAccepted capture → IsWholeScript script → IfSome capture.before (λ f. FileMeans f c skipped)
+    → IfSome script.before (λ s. bytes ≡ s) →
     IfReplyFault e (λ _. replies.has_failed ≡ true)
     → StopsInLines skipped (script_lines bytes) (first_machine c depth) replies.before replies.after e →
     EndsBeforeOutput depth capture script replies e
@@ -142,11 +142,11 @@ lines_end capture script replies bytes depth skipped c (run_errors.NoMemory (suc
       accepted,
       whole,
       kept,
-      where_told capture.coming script.coming bytes depth skipped c _ means is (omega (arith, stops.1), took),
+      where_told capture.before script.before bytes depth skipped c _ means is (omega (arith, stops.1), took),
     )
 lines_end capture script replies bytes depth skipped c (run_errors.ReplyFault written) accepted whole means is failed
     stops output kept =
-    (accepted, whole, failed, kept, where_told capture.coming script.coming bytes depth skipped c _ means is stops)
+    (accepted, whole, failed, kept, where_told capture.before script.before bytes depth skipped c _ means is stops)
 lines_end capture script replies bytes depth skipped c (run_errors.Capture fault) accepted whole means is failed stops
     output kept = absurd stops
 lines_end capture script replies bytes depth skipped c run_errors.ScriptTooLarge accepted whole means is failed stops
@@ -159,11 +159,11 @@ lines_end capture script replies bytes depth skipped c (run_errors.Write fault) 
 -- ---- the output
 
 -- the run is completed, with an output or without
-pub run_reaches_end : (capture script : ReaderEnd) (replies : WriterEnd) (output : Option WriterEnd) (depth : ℕ)
+pub run_reaches_end : (capture script replies : DeviceEnd) (output : Option DeviceEnd) (depth : ℕ)
     (summary : Summary) (now : Contents) →
     IsAccepted capture → IsWholeScript script → replies.has_failed ≡ false →
-    IfSome capture.coming
-    (λ f. IfSome script.coming
+    IfSome capture.before
+    (λ f. IfSome script.before
     (λ s. ScriptGives f s depth summary.refused (Appends replies.before replies.after) now)) →
     IfSome output (λ out. (out.has_failed ≡ false) × HasText out (text now))
     → RunEnds (Ok summary) depth capture script replies output
@@ -172,7 +172,7 @@ run_reaches_end capture script replies None depth summary now accepted whole rea
   whole,
   ready,
   tt,
-  if_run_writes capture.coming script.coming depth summary.refused _ now _ ran
+  if_run_writes capture.before script.before depth summary.refused _ now _ ran
       (λ written told output refused. (told, tt, refused)),
 )
 run_reaches_end capture script replies (Some out) depth summary now accepted whole ready ran wrote = (
@@ -180,26 +180,26 @@ run_reaches_end capture script replies (Some out) depth summary now accepted who
   whole,
   ready,
   wrote.0,
-  if_run_writes capture.coming script.coming depth summary.refused _ now _ ran
+  if_run_writes capture.before script.before depth summary.refused _ now _ ran
       (λ written told output refused. (told, rw output wrote.1, refused)),
 )
 
-pub run_reaches_end_with : (capture script : ReaderEnd) (replies out : WriterEnd) (depth : ℕ) (summary : Summary)
+pub run_reaches_end_with : (capture script replies out : DeviceEnd) (depth : ℕ) (summary : Summary)
     (now : Contents) →
     IsAccepted capture → IsWholeScript script → replies.has_failed ≡ false →
-    IfSome capture.coming
-    (λ f. IfSome script.coming
+    IfSome capture.before
+    (λ f. IfSome script.before
     (λ s. ScriptGives f s depth summary.refused (Appends replies.before replies.after) now)) →
     out.has_failed ≡ false → HasText out (text now) → RunEnds (Ok summary) depth capture script replies (Some out)
 run_reaches_end_with capture script replies out depth summary now accepted whole ready ran out_ready wrote =
     run_reaches_end capture script replies (Some out) depth summary now accepted whole ready ran (out_ready, wrote)
 
 -- or stops at its output
-pub run_stops_at_output : (capture script : ReaderEnd) (replies out : WriterEnd) (depth count : ℕ) (now : Contents)
+pub run_stops_at_output : (capture script replies out : DeviceEnd) (depth count : ℕ) (now : Contents)
     (fault : WriteError) →
     IsAccepted capture → IsWholeScript script → replies.has_failed ≡ false →
-    IfSome capture.coming
-    (λ f. IfSome script.coming (λ s. ScriptGives f s depth count (Appends replies.before replies.after) now)) →
+    IfSome capture.before
+    (λ f. IfSome script.before (λ s. ScriptGives f s depth count (Appends replies.before replies.after) now)) →
     TookBefore (text now) out.before out.after out.has_failed fault
     → RunEnds (Err (run_errors.Write fault)) depth capture script replies (Some out)
 run_stops_at_output capture script replies out depth count now write_errors.NoMemory accepted whole ready ran took = (
@@ -207,7 +207,7 @@ run_stops_at_output capture script replies out depth count now write_errors.NoMe
   whole,
   ready,
   took,
-  if_run_writes capture.coming script.coming depth count _ now _ ran (λ written told output refused. told),
+  if_run_writes capture.before script.before depth count _ now _ ran (λ written told output refused. told),
 )
 run_stops_at_output capture script replies out depth count now (write_errors.WriteFault written) accepted whole ready
     ran took = (
@@ -216,7 +216,7 @@ run_stops_at_output capture script replies out depth count now (write_errors.Wri
       ready,
       (
         took.2,
-        if_run_writes capture.coming script.coming depth count _ now _ ran
+        if_run_writes capture.before script.before depth count _ now _ ran
             (λ outcome told output refused. (told, rw output (took.1, took.0))),
       ),
     )
@@ -235,8 +235,8 @@ at_error (Ok v) error P gives holds = tt
 at_error (Err e) error P gives holds = rw gives holds
 
 -- a run that an error ended
-pub ends_with : (r : Result Summary RunError) (error : RunError) (depth : ℕ) (capture script : ReaderEnd)
-    (replies : WriterEnd) (output : Option WriterEnd) →
+pub ends_with : (r : Result Summary RunError) (error : RunError) (depth : ℕ) (capture script : DeviceEnd)
+    (replies : DeviceEnd) (output : Option DeviceEnd) →
     IsErrAnd r (λ e. e ≡ error) → RunEnds (Err error) depth capture script replies output
     → RunEnds r depth capture script replies output
 ends_with (Ok summary) error depth capture script replies output gives ends = absurd gives

@@ -19,8 +19,7 @@ use Rattle.vcdedit.specs.declared.script.command.Command.{Command}
 use Rattle.vcdedit.specs.declared.script.command.Command.TheVariants as commands
 use Rattle.vcdedit.specs.declared.script.line_error.LineError.{LineError}
 use Rattle.vcdedit.specs.ParsedLines.{command_of_line}
-use Rattle.vcdedit.specs.Reply.{ok_reply}
-use Rattle.vcdedit.specs.MachineReplies.{step_reply, edit_reply}
+use Rattle.vcdedit.specs.MachineReplies.{ok_reply, step_reply, edit_reply}
 use Rattle.vcd_journal.specs.InForce.{Tally, IsReplay, tally_after_all}
 use Rattle.vcdedit.specs.RunMachines.{machine_after_line, machine_after_lines, machine_after_command, no_edits}
 use Rattle.vcdedit.specs.RunMachines.{tally_after_command, tally_after_lines}

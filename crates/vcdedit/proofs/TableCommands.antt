@@ -15,9 +15,10 @@ use Rattle.vcd_decode.specs.declared.setup_error.SetupError.TheVariants.{BadMode
 use Rattle.vcd_decode.specs.declared.uart_setup.TheConstants.{RATIO_LIMIT}
 use Rattle.vcd_decode.specs.declared.spi_setup.TheConstants.{GREATEST_MODE, WORD_BITS_LIMIT}
 use Rattle.vcd_decode.specs.SetupErrorNames.{setup_error_name}
-use Rattle.vcd_decode.specs.UartSetup.{UartSetup, uart_setup, uart_fault, is_between}
-use Rattle.vcd_decode.specs.SpiSetup.{SpiSetup, spi_setup, spi_fault}
-use Rattle.vcd_edit.specs.Refused.{refusal_among}
+use Rattle.vcd_decode.specs.UartSetup.{UartSetup, uart_setup, is_between}
+use Rattle.vcd_decode.specs.SpiSetup.{SpiSetup, spi_setup}
+use Rattle.vcd_decode.specs.SetupFaults.{uart_fault, spi_fault}
+use Rattle.vcd_edit.specs.Refused.{Tests, unless_refused}
 use Rattle.vcd_edit.specs.declared.edit.Edit.TheVariants.{Rename, Remove, Invert, Shift, Cut, Deglitch, Force, Derive}
 use Rattle.vcd_edit.specs.declared.edit.Rule.{Rule}
 use Rattle.vcd_edit.specs.declared.edit.Rule.TheVariants.{Not, And, Or, Xor, BitOf}
@@ -37,12 +38,16 @@ use Rattle.vcdedit.specs.DecoderWords.{ratio_at, ratio_of_word, slash_place, par
 use Rattle.vcdedit.specs.DecoderWords.{signal_or_absent, one_bit_signal, one_bit_signal_or_absent, faultless_setup}
 use Rattle.vcdedit.specs.DecoderWords.{faultless_uart, faultless_spi}
 use Rattle.vcdedit.specs.ScriptCommands.{is_comment, edit_command, keyword_words, keyword_of, command_of_words}
-use Rattle.vcdedit.specs.Script.{asked_by, line_words}
-use Rattle.vcdedit.specs.ParsedLines.{command_of_line, with_refusal}
+use Rattle.vcdedit.specs.Script.{line_words}
+use Rattle.vcdedit.specs.ParsedLines.{command_of_line}
+use Rattle.vcdedit.specs.Queries.{listing}
+use Rattle.vcdedit.specs.WaveReplies.{value_line, change_lines}
+use Rattle.vcdedit.specs.DecoderReply.{uart_lines, spi_lines, i2c_lines}
 use Rattle.vcdedit.specs.LineReads.{Read, ◌▷◌, read_listed, read_signal, read_fitting, read_number, read_forth}
 use Rattle.vcdedit.specs.LineReads.{read_distance, read_value, read_ratio_at, read_ratio, read_parity, read_order}
-use Rattle.vcdedit.specs.LineReads.{read_line, scalar, scalar_line, uart_tests, spi_tests, unless_refused}
-use Rattle.vcdedit.specs.CommandTable.{OfWords, of_words, ask_pair, rule_rows, ask_derive, command_rows, asked_by_words}
+use Rattle.vcdedit.specs.LineReads.{read_line, scalar, scalar_line, uart_tests, spi_tests}
+use Rattle.vcdedit.specs.CommandTable.{Request, step, reply, OfWords, of_words, ask_pair, rule_rows, ask_derive}
+use Rattle.vcdedit.specs.CommandTable.{command_rows, asked_by_words}
 use Rattle.vcdedit.specs.inside.ParsedCommands.{not_command, pair_command, bit_command, rule_command, derive_by}
 use Rattle.vcdedit.specs.inside.ParsedCommands.{keyword_command, words_command, keyword_in_tables, derive_command}
 use Rattle.vcdedit.specs.inside.WordCounts.{no_word, one_word, two_words, four_words, five_words, seven_words}
@@ -128,261 +133,296 @@ scalar_line_is : (c : Contents) (line : Option ℕ) → named (one_bit_signal_or
 scalar_line_is c None = refl
 scalar_line_is c (Some k) = then (one_bit_signal c k) (scalar c k) _ _ (scalar_is c k) (λ k. refl)
 
--- ---- setups
+-- ---- requests
 
-setup_named : {S : Type 0} (fault : Option SetupError) (setup : S)
-    → named (faultless_setup fault setup) ≡ unless_refused (option_map setup_error_name fault) setup
-setup_named None setup = refl
-setup_named (Some fault) setup = refl
+-- what a command asks for
+abbrev pub request_of : Contents → (skipped : ℕ) → Command → Request
+request_of c skipped commands.Nothing = reply []
+request_of c skipped (commands.Step s) = step s
+request_of c skipped commands.List = reply (listing c skipped)
+request_of c skipped (commands.Value k tick) = reply (value_line (signal_at c k) tick ∷ [])
+request_of c skipped (commands.Changes k) = reply (change_lines (signal_at c k).changes)
+request_of c skipped (commands.Uart k setup) = reply (uart_lines c k setup)
+request_of c skipped (commands.Spi clk mosi miso cs setup) = reply (spi_lines c clk mosi miso cs setup)
+request_of c skipped (commands.I2c scl sda) = reply (i2c_lines c scl sda)
 
-test_named : (b : Bool) (fault : SetupError) (others : Option SetupError) (refusal : Option (List ℕ))
-    → option_map setup_error_name others ≡ refusal →
-    option_map setup_error_name (cond b (Some fault) others) ≡ cond b (Some (setup_error_name fault)) refusal
-test_named true fault others refusal same = refl
-test_named false fault others refusal same = same
+-- what a line that is read so asks for, with the name of its fault
+abbrev pub requested : Contents → (skipped : ℕ) → Result Command LineError → Read Request
+requested c skipped (Ok command) = Ok (request_of c skipped command)
+requested c skipped (Err fault) = Err (line_error_name fault)
 
-uart_is : (u : UartSetup) → named (faultless_uart u) ≡ unless_refused (refusal_among (uart_tests u)) u
-uart_is u = setup_named (uart_fault u) u ∙ ap (λ (refusal : Option (List ℕ)). unless_refused refusal u)
-    (test_named _ BadRatio _ _ (test_named _ BitTooShort _ _ (test_named _ BadData _ _
-    (test_named _ BadStop _ _ refl))))
+-- what the fault of a setup makes of a request
+abbrev match_fault : Option SetupError → Request → Read Request
+match_fault None request = Ok request
+match_fault (Some fault) request = Err (setup_error_name fault)
 
-spi_is : (u : SpiSetup) → named (faultless_spi u) ≡ unless_refused (refusal_among (spi_tests u)) u
-spi_is u = setup_named (spi_fault u) u ∙ ap (λ (refusal : Option (List ℕ)). unless_refused refusal u)
-    (test_named _ BadMode _ _ (test_named _ BadBits _ _ refl))
+fault_row : (request : Request) (b : Bool) (fault : SetupError) (others : Option SetupError) (r : Read Request)
+    → match_fault others request ≡ r → match_fault (cond b (Some fault) others) request
+    ≡ cond b (Err (setup_error_name fault)) r
+fault_row request true fault others r same = refl
+fault_row request false fault others r same = same
 
--- ---- so many words
+-- ---- what a line asks for
 
-of_none : (words : List (List ℕ)) (asked : Result Command LineError) (also : Read Command) → named asked ≡ also
-    → named (no_word words asked) ≡ of_words 0 also words
-of_none [] asked also same = same
-of_none (a ∷ words) asked also same = refl
+module _ (c : Contents) (skipped : ℕ) where
+  abbrev told : Result Command LineError → Read Request
+  told r = requested c skipped r
 
-of_one : (words : List (List ℕ)) (asked : List ℕ → Result Command LineError) (also : OfWords 1)
-    → ((a : List ℕ) → named (asked a) ≡ also a) → named (one_word words asked) ≡ of_words 1 also words
-of_one [] asked also same = refl
-of_one (a ∷ []) asked also same = same a
-of_one (a ∷ b ∷ words) asked also same = refl
+  then_asks : {A : Type 0} (r : Result A LineError) (s : Read A) (f : A → Result Command LineError)
+      (g : A → Read Request) → named r ≡ s → ((x : A) → told (f x) ≡ g x) → told (r >>= f) ≡ (s ▷ g)
+  then_asks (Ok x) s f g same rest = rest x ∙ ap (λ t. t ▷ g) same
+  then_asks (Err fault) s f g same rest = ap (λ t. t ▷ g) same
 
-of_two : (words : List (List ℕ)) (asked : List ℕ → List ℕ → Result Command LineError) (also : OfWords 2)
-    → ((a b : List ℕ) → named (asked a b) ≡ also a b) → named (two_words words asked) ≡ of_words 2 also words
-of_two [] asked also same = refl
-of_two (a ∷ []) asked also same = refl
-of_two (a ∷ b ∷ []) asked also same = same a b
-of_two (a ∷ b ∷ d ∷ words) asked also same = refl
+  either_asks : (b : Bool) (r q : Result Command LineError) (s t : Read Request) → told r ≡ s → told q ≡ t
+      → told (cond b r q) ≡ cond b s t
+  either_asks true r q s t first second = first
+  either_asks false r q s t first second = second
 
-of_four : (words : List (List ℕ)) (asked : List ℕ → List ℕ → List ℕ → List ℕ → Result Command LineError)
-    (also : OfWords 4) → ((a b d e : List ℕ) → named (asked a b d e) ≡ also a b d e)
-    → named (four_words words asked) ≡ of_words 4 also words
-of_four [] asked also same = refl
-of_four (a ∷ []) asked also same = refl
-of_four (a ∷ b ∷ []) asked also same = refl
-of_four (a ∷ b ∷ d ∷ []) asked also same = refl
-of_four (a ∷ b ∷ d ∷ e ∷ []) asked also same = same a b d e
-of_four (a ∷ b ∷ d ∷ e ∷ f ∷ words) asked also same = refl
+  -- ---- setups
 
-of_five : (words : List (List ℕ)) (asked : List ℕ → List ℕ → List ℕ → List ℕ → List ℕ → Result Command LineError)
-    (also : OfWords 5) → ((a b d e f : List ℕ) → named (asked a b d e f) ≡ also a b d e f)
-    → named (five_words words asked) ≡ of_words 5 also words
-of_five [] asked also same = refl
-of_five (a ∷ []) asked also same = refl
-of_five (a ∷ b ∷ []) asked also same = refl
-of_five (a ∷ b ∷ d ∷ []) asked also same = refl
-of_five (a ∷ b ∷ d ∷ e ∷ []) asked also same = refl
-of_five (a ∷ b ∷ d ∷ e ∷ f ∷ []) asked also same = same a b d e f
-of_five (a ∷ b ∷ d ∷ e ∷ f ∷ g ∷ words) asked also same = refl
+  -- a setup whose fault is decided by tests is asked for unless one of them holds
+  setup_asks : {S : Type 0} (fault : Option SetupError) (setup : S) (command : S → Command) (tests : Read Request) →
+      match_fault fault (request_of c skipped (command setup)) ≡ tests
+      → told (faultless_setup fault setup >>= λ s. Ok (command s)) ≡ tests
+  setup_asks None setup command tests same = same
+  setup_asks (Some fault) setup command tests same = same
 
-of_seven : (words : List (List ℕ))
-    (asked : List ℕ → List ℕ → List ℕ → List ℕ → List ℕ → List ℕ → List ℕ → Result Command LineError)
-    (also : OfWords 7) → ((a b d e f g h : List ℕ) → named (asked a b d e f g h) ≡ also a b d e f g h)
-    → named (seven_words words asked) ≡ of_words 7 also words
-of_seven [] asked also same = refl
-of_seven (a ∷ []) asked also same = refl
-of_seven (a ∷ b ∷ []) asked also same = refl
-of_seven (a ∷ b ∷ d ∷ []) asked also same = refl
-of_seven (a ∷ b ∷ d ∷ e ∷ []) asked also same = refl
-of_seven (a ∷ b ∷ d ∷ e ∷ f ∷ []) asked also same = refl
-of_seven (a ∷ b ∷ d ∷ e ∷ f ∷ g ∷ []) asked also same = refl
-of_seven (a ∷ b ∷ d ∷ e ∷ f ∷ g ∷ h ∷ []) asked also same = same a b d e f g h
-of_seven (a ∷ b ∷ d ∷ e ∷ f ∷ g ∷ h ∷ i ∷ words) asked also same = refl
+  uart_asks : (line : ℕ) (u : UartSetup) → told (faultless_uart u >>= λ setup. Ok (commands.Uart line setup))
+      ≡ unless_refused (uart_tests u) (reply (uart_lines c line u))
+  uart_asks line u = setup_asks (uart_fault u) u (commands.Uart line) _
+      (fault_row _ _ BadRatio _ _ (fault_row _ _ BitTooShort _ _ (fault_row _ _ BadData _ _
+      (fault_row _ _ BadStop _ _ refl))))
 
--- ---- rules
+  spi_asks : (clk : ℕ) (mosi miso cs : Option ℕ) (u : SpiSetup) →
+      told (faultless_spi u >>= λ setup. Ok (commands.Spi clk mosi miso cs setup))
+      ≡ unless_refused (spi_tests u) (reply (spi_lines c clk mosi miso cs u))
+  spi_asks clk mosi miso cs u = setup_asks (spi_fault u) u (commands.Spi clk mosi miso cs) _
+      (fault_row _ _ BadMode _ _ (fault_row _ _ BadBits _ _ refl))
 
-pair_is : (c : Contents) (rule : ℕ → ℕ → Rule) (word : List ℕ) (operands : List (List ℕ))
-    → named (pair_command c rule word operands) ≡ of_words 2 (ask_pair c word rule) operands
-pair_is c rule word operands = of_two operands _ _ (λ a b.
-    then (signal_of_name c a) (read_signal c a) _ _ (signal_is c a)
-    (λ j. then (signal_of_name c b) (read_signal c b) _ _ (signal_is c b) (λ k. refl)))
+  -- ---- so many words
 
-not_is : (c : Contents) (word : List ℕ) (operands : List (List ℕ)) → named (not_command c word operands)
-    ≡ of_words 1 (λ a. read_signal c a ▷ λ k.
-    Ok (commands.Step (steps.Edit (Derive (lent_bytes word) (Not k))))) operands
-not_is c word operands = of_one operands _ _ (λ a.
-    then (signal_of_name c a) (read_signal c a) _ _ (signal_is c a) (λ k. refl))
+  of_none : (words : List (List ℕ)) (asked : Result Command LineError) (also : Read Request) → told asked ≡ also
+      → told (no_word words asked) ≡ of_words 0 also words
+  of_none [] asked also same = same
+  of_none (a ∷ words) asked also same = refl
 
-bit_is : (c : Contents) (word : List ℕ) (operands : List (List ℕ)) → named (bit_command c word operands)
-    ≡ of_words 2 (λ a bit. read_signal c a ▷ λ j. read_number bit ▷ λ k.
-    Ok (commands.Step (steps.Edit (Derive (lent_bytes word) (BitOf j k))))) operands
-bit_is c word operands = of_two operands _ _ (λ a bit.
-    then (signal_of_name c a) (read_signal c a) _ _ (signal_is c a)
-    (λ j. then (number_of_word bit) (read_number bit) _ _ (number_is bit) (λ k. refl)))
+  of_one : (words : List (List ℕ)) (asked : List ℕ → Result Command LineError) (also : OfWords 1)
+      → ((a : List ℕ) → told (asked a) ≡ also a) → told (one_word words asked) ≡ of_words 1 also words
+  of_one [] asked also same = refl
+  of_one (a ∷ []) asked also same = same a
+  of_one (a ∷ b ∷ words) asked also same = refl
 
--- what a row of a table asks for, or the rows behind it
-row_asks : (b : Bool) (r q : Result Command LineError) (words : List (List ℕ))
-    (asked : List (List ℕ) → Read Command) (others : Read (List (List ℕ) → Read Command)) →
-    named r ≡ asked words → named q ≡ (others ▷ λ ask. ask words)
-    → named (cond b r q) ≡ (cond b (Ok asked) others ▷ λ ask. ask words)
-row_asks true r q words asked others first second = first
-row_asks false r q words asked others first second = second
+  of_two : (words : List (List ℕ)) (asked : List ℕ → List ℕ → Result Command LineError) (also : OfWords 2)
+      → ((a b : List ℕ) → told (asked a b) ≡ also a b) → told (two_words words asked) ≡ of_words 2 also words
+  of_two [] asked also same = refl
+  of_two (a ∷ []) asked also same = refl
+  of_two (a ∷ b ∷ []) asked also same = same a b
+  of_two (a ∷ b ∷ d ∷ words) asked also same = refl
 
-rule_is : (c : Contents) (word rule : List ℕ) (operands : List (List ℕ)) → named (rule_command c word rule operands)
-    ≡ (read_listed (codes "BadOption") (rule_rows c word) rule ▷ λ asked. asked operands)
-rule_is c word rule operands =
-    row_asks (bytes_eq rule (codes "not")) _ _ operands _ _ (not_is c word operands)
-    (row_asks (bytes_eq rule (codes "and")) _ _ operands _ _ (pair_is c And word operands)
-    (row_asks (bytes_eq rule (codes "or")) _ _ operands _ _ (pair_is c Or word operands)
-    (row_asks (bytes_eq rule (codes "xor")) _ _ operands _ _ (pair_is c Xor word operands)
-    (row_asks (bytes_eq rule (codes "bit")) _ _ operands _ _ (bit_is c word operands) refl))))
+  of_four : (words : List (List ℕ)) (asked : List ℕ → List ℕ → List ℕ → List ℕ → Result Command LineError)
+      (also : OfWords 4) → ((a b d e : List ℕ) → told (asked a b d e) ≡ also a b d e)
+      → told (four_words words asked) ≡ of_words 4 also words
+  of_four [] asked also same = refl
+  of_four (a ∷ []) asked also same = refl
+  of_four (a ∷ b ∷ []) asked also same = refl
+  of_four (a ∷ b ∷ d ∷ []) asked also same = refl
+  of_four (a ∷ b ∷ d ∷ e ∷ []) asked also same = same a b d e
+  of_four (a ∷ b ∷ d ∷ e ∷ f ∷ words) asked also same = refl
 
-derive_is : (c : Contents) (words : List (List ℕ)) → named (derive_command c words) ≡ ask_derive c words
-derive_is c [] = refl
-derive_is c (word ∷ []) = refl
-derive_is c (word ∷ rule ∷ operands) = rule_is c word rule operands
+  of_five : (words : List (List ℕ)) (asked : List ℕ → List ℕ → List ℕ → List ℕ → List ℕ → Result Command LineError)
+      (also : OfWords 5) → ((a b d e f : List ℕ) → told (asked a b d e f) ≡ also a b d e f)
+      → told (five_words words asked) ≡ of_words 5 also words
+  of_five [] asked also same = refl
+  of_five (a ∷ []) asked also same = refl
+  of_five (a ∷ b ∷ []) asked also same = refl
+  of_five (a ∷ b ∷ d ∷ []) asked also same = refl
+  of_five (a ∷ b ∷ d ∷ e ∷ []) asked also same = refl
+  of_five (a ∷ b ∷ d ∷ e ∷ f ∷ []) asked also same = same a b d e f
+  of_five (a ∷ b ∷ d ∷ e ∷ f ∷ g ∷ words) asked also same = refl
 
--- ---- commands
+  of_seven : (words : List (List ℕ))
+      (asked : List ℕ → List ℕ → List ℕ → List ℕ → List ℕ → List ℕ → List ℕ → Result Command LineError)
+      (also : OfWords 7) → ((a b d e f g h : List ℕ) → told (asked a b d e f g h) ≡ also a b d e f g h)
+      → told (seven_words words asked) ≡ of_words 7 also words
+  of_seven [] asked also same = refl
+  of_seven (a ∷ []) asked also same = refl
+  of_seven (a ∷ b ∷ []) asked also same = refl
+  of_seven (a ∷ b ∷ d ∷ []) asked also same = refl
+  of_seven (a ∷ b ∷ d ∷ e ∷ []) asked also same = refl
+  of_seven (a ∷ b ∷ d ∷ e ∷ f ∷ []) asked also same = refl
+  of_seven (a ∷ b ∷ d ∷ e ∷ f ∷ g ∷ []) asked also same = refl
+  of_seven (a ∷ b ∷ d ∷ e ∷ f ∷ g ∷ h ∷ []) asked also same = same a b d e f g h
+  of_seven (a ∷ b ∷ d ∷ e ∷ f ∷ g ∷ h ∷ i ∷ words) asked also same = refl
 
--- a keyword as it is written
-abbrev keyword_text : Keyword → List ℕ
-keyword_text keywords.Rename = codes "rename"
-keyword_text keywords.Remove = codes "remove"
-keyword_text keywords.Invert = codes "invert"
-keyword_text keywords.Shift = codes "shift"
-keyword_text keywords.Cut = codes "cut"
-keyword_text keywords.Deglitch = codes "deglitch"
-keyword_text keywords.Force = codes "force"
-keyword_text keywords.Derive = codes "derive"
-keyword_text keywords.Undo = codes "undo"
-keyword_text keywords.Redo = codes "redo"
-keyword_text keywords.Depth = codes "depth"
-keyword_text keywords.List = codes "list"
-keyword_text keywords.Value = codes "value"
-keyword_text keywords.Changes = codes "changes"
-keyword_text keywords.Uart = codes "uart"
-keyword_text keywords.Spi = codes "spi"
-keyword_text keywords.I2c = codes "i2c"
+  -- ---- rules
 
--- what its row asks for
-abbrev row_of : Contents → Keyword → List (List ℕ) → Read Command
-row_of c keyword words =
-    read_listed (codes "UnknownCommand") (command_rows c) (keyword_text keyword) ▷ λ ask. ask words
+  pair_is : (rule : ℕ → ℕ → Rule) (word : List ℕ) (operands : List (List ℕ))
+      → told (pair_command c rule word operands) ≡ of_words 2 (ask_pair c word rule) operands
+  pair_is rule word operands = of_two operands _ _ (λ a b.
+      then_asks (signal_of_name c a) (read_signal c a) _ _ (signal_is c a)
+      (λ j. then_asks (signal_of_name c b) (read_signal c b) _ _ (signal_is c b) (λ k. refl)))
 
-of_name : (c : Contents) (name : List ℕ) (f : ℕ → Result Command LineError) (g : ℕ → Read Command)
-    → ((k : ℕ) → named (f k) ≡ g k) → named (signal_of_name c name >>= f) ≡ (read_signal c name ▷ g)
-of_name c name f g same = then (signal_of_name c name) (read_signal c name) f g (signal_is c name) same
+  not_is : (word : List ℕ) (operands : List (List ℕ)) → told (not_command c word operands)
+      ≡ of_words 1 (λ a. read_signal c a ▷ λ k.
+      Ok (step (steps.Edit (Derive (lent_bytes word) (Not k))))) operands
+  not_is word operands = of_one operands _ _ (λ a.
+      then_asks (signal_of_name c a) (read_signal c a) _ _ (signal_is c a) (λ k. refl))
 
-of_number : (word : List ℕ) (f : ℕ → Result Command LineError) (g : ℕ → Read Command)
-    → ((n : ℕ) → named (f n) ≡ g n) → named (number_of_word word >>= f) ≡ (read_number word ▷ g)
-of_number word f g same = then (number_of_word word) (read_number word) f g (number_is word) same
+  bit_is : (word : List ℕ) (operands : List (List ℕ)) → told (bit_command c word operands)
+      ≡ of_words 2 (λ a bit. read_signal c a ▷ λ j. read_number bit ▷ λ k.
+      Ok (step (steps.Edit (Derive (lent_bytes word) (BitOf j k))))) operands
+  bit_is word operands = of_two operands _ _ (λ a bit.
+      then_asks (signal_of_name c a) (read_signal c a) _ _ (signal_is c a)
+      (λ j. then_asks (number_of_word bit) (read_number bit) _ _ (number_is bit) (λ k. refl)))
 
-of_line : (c : Contents) (word : List ℕ) (f : Option ℕ → Result Command LineError) (g : Option ℕ → Read Command)
-    → ((l : Option ℕ) → named (f l) ≡ g l) → named (signal_or_absent c word >>= f) ≡ (read_line c word ▷ g)
-of_line c word f g same = then (signal_or_absent c word) (read_line c word) f g (line_is c word) same
+  -- what a row of a table asks for, or the rows behind it
+  row_asks : (b : Bool) (r q : Result Command LineError) (words : List (List ℕ))
+      (asked : List (List ℕ) → Read Request) (others : Read (List (List ℕ) → Read Request)) →
+      told r ≡ asked words → told q ≡ (others ▷ λ ask. ask words)
+      → told (cond b r q) ≡ (cond b (Ok asked) others ▷ λ ask. ask words)
+  row_asks true r q words asked others first second = first
+  row_asks false r q words asked others first second = second
 
-of_scalar : (c : Contents) (k : ℕ) (f : ℕ → Result Command LineError) (g : ℕ → Read Command)
-    → ((n : ℕ) → named (f n) ≡ g n) → named (one_bit_signal c k >>= f) ≡ (scalar c k ▷ g)
-of_scalar c k f g same = then (one_bit_signal c k) (scalar c k) f g (scalar_is c k) same
+  rule_is : (word rule : List ℕ) (operands : List (List ℕ)) → told (rule_command c word rule operands)
+      ≡ (read_listed (codes "BadOption") (rule_rows c word) rule ▷ λ asked. asked operands)
+  rule_is word rule operands =
+      row_asks (bytes_eq rule (codes "not")) _ _ operands _ _ (not_is word operands)
+      (row_asks (bytes_eq rule (codes "and")) _ _ operands _ _ (pair_is And word operands)
+      (row_asks (bytes_eq rule (codes "or")) _ _ operands _ _ (pair_is Or word operands)
+      (row_asks (bytes_eq rule (codes "xor")) _ _ operands _ _ (pair_is Xor word operands)
+      (row_asks (bytes_eq rule (codes "bit")) _ _ operands _ _ (bit_is word operands) refl))))
 
-of_scalar_line : (c : Contents) (line : Option ℕ) (f : Option ℕ → Result Command LineError) (g : Option ℕ
-    → Read Command) → ((l : Option ℕ) → named (f l) ≡ g l)
-    → named (one_bit_signal_or_absent c line >>= f) ≡ (scalar_line c line ▷ g)
-of_scalar_line c line f g same = then (one_bit_signal_or_absent c line) (scalar_line c line) f g (scalar_line_is c line)
-    same
+  derive_is : (words : List (List ℕ)) → told (derive_command c words) ≡ ask_derive c words
+  derive_is [] = refl
+  derive_is (word ∷ []) = refl
+  derive_is (word ∷ rule ∷ operands) = rule_is word rule operands
 
-command_is : (c : Contents) (keyword : Keyword) (words : List (List ℕ))
-    → named (keyword_command c keyword words) ≡ row_of c keyword words
-command_is c keywords.Rename words = of_two words _ _ (λ name word. of_name c name _ _ (λ k. refl))
-command_is c keywords.Remove words = of_one words _ _ (λ name. of_name c name _ _ (λ k. refl))
-command_is c keywords.Invert words = of_one words _ _ (λ name. of_name c name _ _ (λ k. refl))
-command_is c keywords.Shift words = of_two words _ _ (λ name by. of_name c name _ _ (λ k.
-    then (distance_of_word by) (read_distance by) _ _ (distance_is by) (λ d. refl)))
-command_is c keywords.Cut words = of_two words _ _ (λ from to. of_number from _ _ (λ a. of_number to _ _ (λ b. refl)))
-command_is c keywords.Deglitch words =
-    of_two words _ _ (λ name ticks. of_name c name _ _ (λ k. of_number ticks _ _ (λ n. refl)))
-command_is c keywords.Force words = of_four words _ _ (λ name from to value. of_name c name _ _ (λ k.
-    of_number from _ _ (λ a. of_number to _ _ (λ b.
-    then (value_of_word (signal_at c k).width value) (read_value (signal_at c k).width value) _ _
-    (value_is (signal_at c k).width value) (λ v. refl)))))
-command_is c keywords.Derive words = derive_is c words
-command_is c keywords.Undo words = of_none words _ _ refl
-command_is c keywords.Redo words = of_none words _ _ refl
-command_is c keywords.Depth words = of_one words _ _ (λ count. of_number count _ _ (λ n. refl))
-command_is c keywords.List words = of_none words _ _ refl
-command_is c keywords.Value words =
-    of_two words _ _ (λ name tick. of_name c name _ _ (λ k. of_number tick _ _ (λ t. refl)))
-command_is c keywords.Changes words = of_one words _ _ (λ name. of_name c name _ _ (λ k. refl))
-command_is c keywords.Uart words = of_five words _ _ (λ name bit count parity stop. of_name c name _ _ (λ k.
-    then (ratio_of_word bit) (read_ratio bit) _ _ (ratio_at_is bit (slash_place bit)) (λ ratio.
-    of_number count _ _ (λ data_bits.
-    then (parity_of_word parity) (read_parity parity) _ _ (parity_is parity) (λ parity_bit.
-    of_number stop _ _ (λ stop_bits. of_scalar c k _ _ (λ line.
-    then (faultless_uart (uart_setup ratio.0 ratio.1 data_bits parity_bit stop_bits))
-    (unless_refused (refusal_among (uart_tests (uart_setup ratio.0 ratio.1 data_bits parity_bit stop_bits)))
-    (uart_setup ratio.0 ratio.1 data_bits parity_bit stop_bits)) _ _
-    (uart_is (uart_setup ratio.0 ratio.1 data_bits parity_bit stop_bits)) (λ setup. refl))))))))
-command_is c keywords.Spi words = of_seven words _ _ (λ clk mosi miso cs mode bits order. of_name c clk _ _ (λ k.
-    of_line c mosi _ _ (λ m. of_line c miso _ _ (λ n. of_line c cs _ _ (λ s.
-    of_number mode _ _ (λ number. of_number bits _ _ (λ word_bits.
-    then (order_of_word order) (read_order order) _ _ (order_is order) (λ bit_order.
-    of_scalar c k _ _ (λ clock. of_scalar_line c m _ _ (λ out. of_scalar_line c n _ _ (λ input.
-    of_scalar_line c s _ _ (λ select.
-    then (faultless_spi (spi_setup number word_bits bit_order))
-    (unless_refused (refusal_among (spi_tests (spi_setup number word_bits bit_order)))
-    (spi_setup number word_bits bit_order)) _ _ (spi_is (spi_setup number word_bits bit_order)) (λ setup.
-    refl)))))))))))))
-command_is c keywords.I2c words = of_two words _ _ (λ scl sda. of_name c scl _ _ (λ j. of_name c sda _ _ (λ k.
-    of_scalar c j _ _ (λ clock. of_scalar c k _ _ (λ line. refl)))))
+  -- ---- commands
 
--- ---- lines
+  -- a keyword as it is written
+  abbrev keyword_text : Keyword → List ℕ
+  keyword_text keywords.Rename = codes "rename"
+  keyword_text keywords.Remove = codes "remove"
+  keyword_text keywords.Invert = codes "invert"
+  keyword_text keywords.Shift = codes "shift"
+  keyword_text keywords.Cut = codes "cut"
+  keyword_text keywords.Deglitch = codes "deglitch"
+  keyword_text keywords.Force = codes "force"
+  keyword_text keywords.Derive = codes "derive"
+  keyword_text keywords.Undo = codes "undo"
+  keyword_text keywords.Redo = codes "redo"
+  keyword_text keywords.Depth = codes "depth"
+  keyword_text keywords.List = codes "list"
+  keyword_text keywords.Value = codes "value"
+  keyword_text keywords.Changes = codes "changes"
+  keyword_text keywords.Uart = codes "uart"
+  keyword_text keywords.Spi = codes "spi"
+  keyword_text keywords.I2c = codes "i2c"
 
-either_row : (c : Contents) (b : Bool) (row : List ℕ × Keyword) (found : Option (List ℕ × Keyword))
-    (words : List (List ℕ)) (others : Read (List (List ℕ) → Read Command)) →
-    named (ok_or (option_map (λ (r : List ℕ × Keyword). r.1) found) line_errors.UnknownCommand
-    >>= λ k. keyword_command c k words) ≡ (others ▷ λ ask. ask words) →
-    named (ok_or (option_map (λ (r : List ℕ × Keyword). r.1) (cond b (Some row) found)) line_errors.UnknownCommand
-    >>= λ k. keyword_command c k words) ≡ (cond b (Ok (row_of c row.1)) others ▷ λ ask. ask words)
-either_row c true row found words others rest = command_is c row.1 words
-either_row c false row found words others rest = rest
+  -- what its row asks for
+  abbrev row_of : Keyword → List (List ℕ) → Read Request
+  row_of keyword words =
+      read_listed (codes "UnknownCommand") (command_rows c skipped) (keyword_text keyword) ▷ λ ask. ask words
 
-rows_are : (c : Contents) (rows : List (List ℕ × Keyword)) (word : List ℕ) (words : List (List ℕ)) →
-    named (ok_or (option_map (λ (r : List ℕ × Keyword). r.1) (find (λ r. bytes_eq word r.0) rows))
-    line_errors.UnknownCommand >>= λ k. keyword_command c k words)
-    ≡ (read_listed (codes "UnknownCommand") (map (λ r. (r.0, row_of c r.1)) rows) word ▷ λ ask. ask words)
-rows_are c [] word words = refl
-rows_are c (row ∷ rows) word words =
-    either_row c (bytes_eq word row.0) row (find (λ r. bytes_eq word r.0) rows) words
-    (read_listed (codes "UnknownCommand") (map (λ r. (r.0, row_of c r.1)) rows) word) (rows_are c rows word words)
+  of_name : (name : List ℕ) (f : ℕ → Result Command LineError) (g : ℕ → Read Request)
+      → ((k : ℕ) → told (f k) ≡ g k) → told (signal_of_name c name >>= f) ≡ (read_signal c name ▷ g)
+  of_name name f g same = then_asks (signal_of_name c name) (read_signal c name) f g (signal_is c name) same
 
--- the table has the row of each keyword
-table_is : (c : Contents) → map (λ (r : List ℕ × Keyword). (r.0, row_of c r.1)) keyword_words ≡ command_rows c
-table_is c = refl
+  of_number : (word : List ℕ) (f : ℕ → Result Command LineError) (g : ℕ → Read Request)
+      → ((n : ℕ) → told (f n) ≡ g n) → told (number_of_word word >>= f) ≡ (read_number word ▷ g)
+  of_number word f g same = then_asks (number_of_word word) (read_number word) f g (number_is word) same
 
-first_is : (c : Contents) (first : List ℕ) (words : List (List ℕ)) →
-    named (ok_or (keyword_in_tables first) line_errors.UnknownCommand >>= λ k. keyword_command c k words)
-    ≡ (read_listed (codes "UnknownCommand") (command_rows c) first ▷ λ ask. ask words)
-first_is c first words =
-    ap (λ (k : Option Keyword). named (ok_or k line_errors.UnknownCommand >>= λ k. keyword_command c k words))
-    (sym (keyword_is first))
-    ∙ rows_are c keyword_words first words
+  of_line : (word : List ℕ) (f : Option ℕ → Result Command LineError) (g : Option ℕ → Read Request)
+      → ((l : Option ℕ) → told (f l) ≡ g l) → told (signal_or_absent c word >>= f) ≡ (read_line c word ▷ g)
+  of_line word f g same = then_asks (signal_or_absent c word) (read_line c word) f g (line_is c word) same
 
-pub words_table : (c : Contents) (words : List (List ℕ)) → named (words_command c words) ≡ asked_by_words c words
-words_table c [] = refl
-words_table c (first ∷ words) = by_test (is_comment first) _ _ _ _ refl (first_is c first words)
+  of_scalar : (k : ℕ) (f : ℕ → Result Command LineError) (g : ℕ → Read Request)
+      → ((n : ℕ) → told (f n) ≡ g n) → told (one_bit_signal c k >>= f) ≡ (scalar c k ▷ g)
+  of_scalar k f g same = then_asks (one_bit_signal c k) (scalar c k) f g (scalar_is c k) same
 
-same_refusal : (asked : Result Command LineError) → with_refusal asked ≡ named asked
-same_refusal (Ok command) = refl
-same_refusal (Err fault) = refl
+  of_scalar_line : (line : Option ℕ) (f : Option ℕ → Result Command LineError) (g : Option ℕ
+      → Read Request) → ((l : Option ℕ) → told (f l) ≡ g l)
+      → told (one_bit_signal_or_absent c line >>= f) ≡ (scalar_line c line ▷ g)
+  of_scalar_line line f g same =
+      then_asks (one_bit_signal_or_absent c line) (scalar_line c line) f g (scalar_line_is c line) same
+
+  command_is : (keyword : Keyword) (words : List (List ℕ))
+      → told (keyword_command c keyword words) ≡ row_of keyword words
+  command_is keywords.Rename words = of_two words _ _ (λ name word. of_name name _ _ (λ k. refl))
+  command_is keywords.Remove words = of_one words _ _ (λ name. of_name name _ _ (λ k. refl))
+  command_is keywords.Invert words = of_one words _ _ (λ name. of_name name _ _ (λ k. refl))
+  command_is keywords.Shift words = of_two words _ _ (λ name by. of_name name _ _ (λ k.
+      then_asks (distance_of_word by) (read_distance by) _ _ (distance_is by) (λ d. refl)))
+  command_is keywords.Cut words = of_two words _ _ (λ from to. of_number from _ _ (λ a. of_number to _ _ (λ b. refl)))
+  command_is keywords.Deglitch words =
+      of_two words _ _ (λ name ticks. of_name name _ _ (λ k. of_number ticks _ _ (λ n. refl)))
+  command_is keywords.Force words = of_four words _ _ (λ name from to value. of_name name _ _ (λ k.
+      of_number from _ _ (λ a. of_number to _ _ (λ b.
+      then_asks (value_of_word (signal_at c k).width value) (read_value (signal_at c k).width value) _ _
+      (value_is (signal_at c k).width value) (λ v. refl)))))
+  command_is keywords.Derive words = derive_is words
+  command_is keywords.Undo words = of_none words _ _ refl
+  command_is keywords.Redo words = of_none words _ _ refl
+  command_is keywords.Depth words = of_one words _ _ (λ count. of_number count _ _ (λ n. refl))
+  command_is keywords.List words = of_none words _ _ refl
+  command_is keywords.Value words =
+      of_two words _ _ (λ name tick. of_name name _ _ (λ k. of_number tick _ _ (λ t. refl)))
+  command_is keywords.Changes words = of_one words _ _ (λ name. of_name name _ _ (λ k. refl))
+  command_is keywords.Uart words = of_five words _ _ (λ name bit count parity stop. of_name name _ _ (λ k.
+      then_asks (ratio_of_word bit) (read_ratio bit) _ _ (ratio_at_is bit (slash_place bit)) (λ ratio.
+      of_number count _ _ (λ data_bits.
+      then_asks (parity_of_word parity) (read_parity parity) _ _ (parity_is parity) (λ parity_bit.
+      of_number stop _ _ (λ stop_bits. of_scalar k _ _ (λ line.
+      uart_asks line (uart_setup ratio.0 ratio.1 data_bits parity_bit stop_bits))))))))
+  command_is keywords.Spi words = of_seven words _ _ (λ clk mosi miso cs mode bits order. of_name clk _ _ (λ k.
+      of_line mosi _ _ (λ m. of_line miso _ _ (λ n. of_line cs _ _ (λ s.
+      of_number mode _ _ (λ number. of_number bits _ _ (λ word_bits.
+      then_asks (order_of_word order) (read_order order) _ _ (order_is order) (λ bit_order.
+      of_scalar k _ _ (λ clock. of_scalar_line m _ _ (λ out. of_scalar_line n _ _ (λ input.
+      of_scalar_line s _ _ (λ select.
+      spi_asks clock out input select (spi_setup number word_bits bit_order)))))))))))))
+  command_is keywords.I2c words = of_two words _ _ (λ scl sda. of_name scl _ _ (λ j. of_name sda _ _ (λ k.
+      of_scalar j _ _ (λ clock. of_scalar k _ _ (λ line. refl)))))
+
+  -- ---- lines
+
+  either_row : (b : Bool) (row : List ℕ × Keyword) (found : Option (List ℕ × Keyword))
+      (words : List (List ℕ)) (others : Read (List (List ℕ) → Read Request)) →
+      told (ok_or (option_map (λ (r : List ℕ × Keyword). r.1) found) line_errors.UnknownCommand
+      >>= λ k. keyword_command c k words) ≡ (others ▷ λ ask. ask words) →
+      told (ok_or (option_map (λ (r : List ℕ × Keyword). r.1) (cond b (Some row) found)) line_errors.UnknownCommand
+      >>= λ k. keyword_command c k words) ≡ (cond b (Ok (row_of row.1)) others ▷ λ ask. ask words)
+  either_row true row found words others rest = command_is row.1 words
+  either_row false row found words others rest = rest
+
+  rows_are : (rows : List (List ℕ × Keyword)) (word : List ℕ) (words : List (List ℕ)) →
+      told (ok_or (option_map (λ (r : List ℕ × Keyword). r.1) (find (λ r. bytes_eq word r.0) rows))
+      line_errors.UnknownCommand >>= λ k. keyword_command c k words)
+      ≡ (read_listed (codes "UnknownCommand") (map (λ r. (r.0, row_of r.1)) rows) word ▷ λ ask. ask words)
+  rows_are [] word words = refl
+  rows_are (row ∷ rows) word words =
+      either_row (bytes_eq word row.0) row (find (λ r. bytes_eq word r.0) rows) words
+      (read_listed (codes "UnknownCommand") (map (λ r. (r.0, row_of r.1)) rows) word) (rows_are rows word words)
+
+  -- the table has the row of each keyword
+  table_is : map (λ (r : List ℕ × Keyword). (r.0, row_of r.1)) keyword_words ≡ command_rows c skipped
+  table_is = refl
+
+  first_is : (first : List ℕ) (words : List (List ℕ)) →
+      told (ok_or (keyword_in_tables first) line_errors.UnknownCommand >>= λ k. keyword_command c k words)
+      ≡ (read_listed (codes "UnknownCommand") (command_rows c skipped) first ▷ λ ask. ask words)
+  first_is first words =
+      ap (λ (k : Option Keyword). told (ok_or k line_errors.UnknownCommand >>= λ k. keyword_command c k words))
+      (sym (keyword_is first))
+      ∙ rows_are keyword_words first words
+
+  words_table : (words : List (List ℕ)) → told (words_command c words) ≡ asked_by_words c skipped words
+  words_table [] = refl
+  words_table (first ∷ words) = either_asks (is_comment first) _ _ _ _ refl (first_is first words)
 
 -- a line asks for what its parser reads
-pub asked_is : (c : Contents) (line : List ℕ) → with_refusal (command_of_line c line) ≡ asked_by c line
+pub asked_is : (c : Contents) (skipped : ℕ) (line : List ℕ)
+    → requested c skipped (command_of_line c line) ≡ asked_by_words c skipped (line_words line)
 unfolding command_of_line
-asked_is c line =
-    same_refusal (command_of_line c line) ∙ ap named (words_are c (line_words line)) ∙ words_table c (line_words line)
+asked_is c skipped line =
+    ap (requested c skipped) (words_are c (line_words line)) ∙ words_table c skipped (line_words line)

@@ -1,105 +1,107 @@
 -- What the words of a line ask for: the project's own.
-use Rattle.std.specs.Prelude.{ℕ, zero, suc, Bool, false, ◌==◌, if◌then◌else◌, List, [], ◌∷◌, Ok, Err, codes}
+use Rattle.std.specs.Prelude.{ℕ, zero, suc, Bool, false, ◌==◌, if◌then◌else◌, List, [], ◌∷◌, Ok, Err, map, codes}
 use Rattle.vcd_core.specs.Contents.{Contents, signal_at}
 use Rattle.vcd_decode.specs.UartSetup.{uart_setup}
 use Rattle.vcd_decode.specs.SpiSetup.{spi_setup}
-use Rattle.vcd_edit.specs.Refused.{refusal_among}
+use Rattle.vcd_edit.specs.Refused.{unless_refused}
 use Rattle.vcd_edit.specs.declared.edit.Edit.{Edit}
 use Rattle.vcd_edit.specs.declared.edit.Edit.TheVariants.{Rename, Remove, Invert, Shift, Cut, Deglitch, Force, Derive}
 use Rattle.vcd_edit.specs.declared.edit.Rule.{Rule}
 use Rattle.vcd_edit.specs.declared.edit.Rule.TheVariants.{Not, And, Or, Xor, BitOf}
+use Rattle.vcd_core.specs.Contents.{signal_value}
+use Rattle.vcd_text.specs.Letters.{printed_letters}
+use Rattle.vcd_journal.specs.declared.step.Step.{Step}
 use Rattle.vcd_journal.specs.declared.step.Step.TheVariants as steps
-use Rattle.vcdedit.specs.declared.script.command.Command.{Command}
-use Rattle.vcdedit.specs.declared.script.command.Command.TheVariants as commands
+use Rattle.vcdedit.specs.Queries.{listing, change_line}
+use Rattle.vcdedit.specs.DecoderReply.{uart_lines, spi_lines, i2c_lines}
 use Rattle.vcdedit.specs.Lent.{lent_bytes}
 use Rattle.vcdedit.specs.LineReads.{Read, ◌▷◌, read_listed, read_signal, read_number, read_distance, read_value}
 use Rattle.vcdedit.specs.LineReads.{read_ratio, read_parity, read_order, read_line, scalar, scalar_line, uart_tests}
-use Rattle.vcdedit.specs.LineReads.{spi_tests, unless_refused}
+use Rattle.vcdedit.specs.LineReads.{spi_tests}
+
+-- what a line asks for: a step of the history, or these lines as its reply
+pub data Request : Type 0 where
+  step : Step → Request
+  reply : List (List ℕ) → Request
 
 -- what so many words ask for
 abbrev pub OfWords : ℕ → Type 0
-OfWords zero = Read Command
+OfWords zero = Read Request
 OfWords (suc n) = List ℕ → OfWords n
 
 -- and what these do, if they are as many
-abbrev pub of_words : (n : ℕ) → OfWords n → List (List ℕ) → Read Command
+abbrev pub of_words : (n : ℕ) → OfWords n → List (List ℕ) → Read Request
 of_words zero asked [] = asked
 of_words (suc n) asked (word ∷ words) = of_words n (asked word) words
 of_words n asked words = Err (codes "WrongCount")
 
 -- a keyword with what the words behind it ask for
 abbrev pub Row : Type 0
-Row = List ℕ × (List (List ℕ) → Read Command)
+Row = List ℕ × (List (List ℕ) → Read Request)
 
 -- a keyword that wants so many words behind it
 abbrev pub row : List ℕ → (n : ℕ) → OfWords n → Row
 row keyword n asked = (keyword, of_words n asked)
 
 -- an edit
-abbrev pub ask_edit : Edit → Read Command
-ask_edit e = Ok (commands.Step (steps.Edit e))
+abbrev pub ask_edit : Edit → Read Request
+ask_edit e = Ok (step (steps.Edit e))
 
 -- a signal with this name, derived by a rule of two signals
 abbrev pub ask_pair : Contents → List ℕ → (ℕ → ℕ → Rule) → OfWords 2
-ask_pair c word rule a b =
-    read_signal c a ▷ λ j. read_signal c b ▷ λ k. ask_edit (Derive (lent_bytes word) (rule j k))
+ask_pair c word rule a b = read_signal c a ▷ λ j. read_signal c b ▷ λ k. ask_edit (Derive (lent_bytes word) (rule j k))
 
 -- the rules by which a signal with this name is derived
 abbrev pub rule_rows : Contents → List ℕ → List Row
 rule_rows c word =
     row (codes "not") 1 (λ a. read_signal c a ▷ λ k. ask_edit (Derive (lent_bytes word) (Not k)))
-    ∷ row (codes "and") 2 (ask_pair c word And)
-    ∷ row (codes "or") 2 (ask_pair c word Or)
-    ∷ row (codes "xor") 2 (ask_pair c word Xor)
-    ∷ row (codes "bit") 2 (λ a bit.
-    read_signal c a ▷ λ j. read_number bit ▷ λ k. ask_edit (Derive (lent_bytes word) (BitOf j k)))
-    ∷ []
+    ∷ row (codes "and") 2 (ask_pair c word And) ∷ row (codes "or") 2 (ask_pair c word Or)
+    ∷ row (codes "xor") 2 (ask_pair c word Xor) ∷ row (codes "bit") 2 (λ a bit.
+    read_signal c a ▷ λ j. read_number bit ▷ λ k. ask_edit (Derive (lent_bytes word) (BitOf j k))) ∷ []
 
 -- the words behind `derive`: the name, the rule, and its operands
-abbrev pub ask_derive : Contents → List (List ℕ) → Read Command
-ask_derive c (word ∷ rule ∷ operands) =
-    read_listed (codes "BadOption") (rule_rows c word) rule ▷ λ asked. asked operands
+abbrev pub ask_derive : Contents → List (List ℕ) → Read Request
+ask_derive c (word ∷ rule ∷ operands) = read_listed (codes "BadOption") (rule_rows c word) rule ▷ λ ask. ask operands
 ask_derive c words = Err (codes "WrongCount")
 
 -- all commands; the first refusal counts, in the order in which their words are read here
-abbrev pub command_rows : Contents → List Row
-command_rows c =
+abbrev pub command_rows : Contents → (skipped : ℕ) → List Row
+command_rows c skipped =
     row (codes "rename") 2 (λ name word. read_signal c name ▷ λ k. ask_edit (Rename k (lent_bytes word)))
     ∷ row (codes "remove") 1 (λ name. read_signal c name ▷ λ k. ask_edit (Remove k))
     ∷ row (codes "invert") 1 (λ name. read_signal c name ▷ λ k. ask_edit (Invert k))
     ∷ row (codes "shift") 2 (λ name by. read_signal c name ▷ λ k. read_distance by ▷ λ d. ask_edit (Shift k d))
     ∷ row (codes "cut") 2 (λ from to. read_number from ▷ λ a. read_number to ▷ λ b. ask_edit (Cut a b))
-    ∷ row (codes "deglitch") 2 (λ name ticks.
-    read_signal c name ▷ λ k. read_number ticks ▷ λ n. ask_edit (Deglitch k n))
+    ∷ row (codes "deglitch") 2 (λ name n. read_signal c name ▷ λ k. read_number n ▷ λ t. ask_edit (Deglitch k t))
     ∷ row (codes "force") 4 (λ name from to value. read_signal c name ▷ λ k. read_number from ▷ λ a.
     read_number to ▷ λ b. read_value (signal_at c k).width value ▷ λ letters. ask_edit (Force k a b letters))
     ∷ (codes "derive", ask_derive c)
-    ∷ row (codes "undo") 0 (Ok (commands.Step steps.Undo))
-    ∷ row (codes "redo") 0 (Ok (commands.Step steps.Redo))
-    ∷ row (codes "depth") 1 (λ count. read_number count ▷ λ depth. Ok (commands.Step (steps.Depth depth)))
-    ∷ row (codes "list") 0 (Ok commands.List)
-    ∷ row (codes "value") 2 (λ name tick. read_signal c name ▷ λ k. read_number tick ▷ λ t. Ok (commands.Value k t))
-    ∷ row (codes "changes") 1 (λ name. read_signal c name ▷ λ k. Ok (commands.Changes k))
+    ∷ row (codes "undo") 0 (Ok (step steps.Undo)) ∷ row (codes "redo") 0 (Ok (step steps.Redo))
+    ∷ row (codes "depth") 1 (λ count. read_number count ▷ λ depth. Ok (step (steps.Depth depth)))
+    ∷ row (codes "list") 0 (Ok (reply (listing c skipped)))
+    ∷ row (codes "value") 2 (λ name tick. read_signal c name ▷ λ k. read_number tick ▷ λ t.
+    Ok (reply (printed_letters (signal_value (signal_at c k) t) ∷ [])))
+    ∷ row (codes "changes") 1 (λ name. read_signal c name ▷ λ k. Ok (reply (map change_line (signal_at c k).changes)))
     ∷ row (codes "uart") 5 (λ name bit count parity stop. read_signal c name ▷ λ k. read_ratio bit ▷ λ ratio.
     read_number count ▷ λ data_bits. read_parity parity ▷ λ parity_bit. read_number stop ▷ λ stop_bits.
     scalar c k ▷ λ line. let setup = uart_setup ratio.0 ratio.1 data_bits parity_bit stop_bits in
-    unless_refused (refusal_among (uart_tests setup)) setup ▷ λ setup. Ok (commands.Uart line setup))
+    unless_refused (uart_tests setup) (reply (uart_lines c line setup)))
     ∷ row (codes "spi") 7 (λ clk mosi miso cs mode bits order. read_signal c clk ▷ λ k. read_line c mosi ▷ λ m.
     read_line c miso ▷ λ n. read_line c cs ▷ λ s. read_number mode ▷ λ number. read_number bits ▷ λ word_bits.
     read_order order ▷ λ bit_order. scalar c k ▷ λ clock. scalar_line c m ▷ λ out. scalar_line c n ▷ λ input.
     scalar_line c s ▷ λ select. let setup = spi_setup number word_bits bit_order in
-    unless_refused (refusal_among (spi_tests setup)) setup ▷ λ setup. Ok (commands.Spi clock out input select setup))
+    unless_refused (spi_tests setup) (reply (spi_lines c clock out input select setup)))
     ∷ row (codes "i2c") 2 (λ scl sda. read_signal c scl ▷ λ j. read_signal c sda ▷ λ k.
-    scalar c j ▷ λ clock. scalar c k ▷ λ line. Ok (commands.I2c clock line))
-    ∷ []
+    scalar c j ▷ λ clock. scalar c k ▷ λ line. Ok (reply (i2c_lines c clock line))) ∷ []
 
 -- whether a word begins with `#` (35)
 abbrev pub begins_comment : List ℕ → Bool
 begins_comment [] = false
 begins_comment (b ∷ bs) = b == 35
 
--- what the words of a line ask for on a capture, or the word with which it is refused
-abbrev pub asked_by_words : Contents → List (List ℕ) → Read Command
-asked_by_words c [] = Ok commands.Nothing
-asked_by_words c (first ∷ words) = if begins_comment first then Ok commands.Nothing
-    else (read_listed (codes "UnknownCommand") (command_rows c) first ▷ λ asked. asked words)
+-- what the words of a line ask for on a capture, so many variables of whose file were skipped, or the word with which
+-- the line is refused
+abbrev pub asked_by_words : Contents → (skipped : ℕ) → List (List ℕ) → Read Request
+asked_by_words c skipped [] = Ok (reply [])
+asked_by_words c skipped (first ∷ words) = if begins_comment first then Ok (reply [])
+    else (read_listed (codes "UnknownCommand") (command_rows c skipped) first ▷ λ asked. asked words)

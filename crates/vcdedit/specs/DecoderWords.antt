@@ -8,8 +8,10 @@ use Rattle.vcd_decode.specs.declared.spi_setup.BitOrder.{BitOrder}
 use Rattle.vcd_decode.specs.declared.spi_setup.BitOrder.TheVariants.{Msb, Lsb}
 use Rattle.vcd_decode.specs.declared.uart_setup.Parity.{Parity}
 use Rattle.vcd_decode.specs.declared.uart_setup.Parity.TheVariants as parities
-use Rattle.vcd_decode.specs.UartSetup.{UartSetup, uart_fault}
-use Rattle.vcd_decode.specs.SpiSetup.{SpiSetup, spi_fault}
+use Rattle.vcd_decode.specs.UartSetup.{UartSetup}
+use Rattle.vcd_decode.specs.SetupFaults.{uart_fault}
+use Rattle.vcd_decode.specs.SpiSetup.{SpiSetup}
+use Rattle.vcd_decode.specs.SetupFaults.{spi_fault}
 use Rattle.vcdedit.specs.declared.script.line_error.LineError.{LineError}
 use Rattle.vcdedit.specs.declared.script.line_error.LineError.TheVariants.{BadOption, NotScalar, Setup}
 use Rattle.vcdedit.specs.LineWords.{◌>>=◌}

@@ -13,8 +13,7 @@ use Rattle.vcd_journal.specs.Machine.{Machine, first_machine, step_outcome}
 use Rattle.vcd_journal.specs.InForce.{IsReplay}
 use Rattle.vcd_journal.specs.History.{replay}
 use Rattle.vcdedit.specs.ParsedLines.{command_of_line}
-use Rattle.vcdedit.specs.Reply.{LineReply, ok_reply}
-use Rattle.vcdedit.specs.MachineReplies.{step_reply}
+use Rattle.vcdedit.specs.MachineReplies.{LineReply, ok_reply, step_reply}
 use Rattle.vcdedit.specs.Run.{RunOutcome, IsRun}
 use Rattle.vcdedit.specs.RunMachines.{IsRunOfReplays, machine_after_line, machine_after_lines, no_edits}
 use Rattle.vcdedit.specs.RunMachines.{tally_after_lines, is_refused_on}

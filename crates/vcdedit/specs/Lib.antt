@@ -11,6 +11,7 @@ pub mod CommandTable
 pub mod ParsedLines
 pub mod Script
 pub mod Queries
+pub mod WaveReplies
 pub mod CommandSignals
 pub mod DecoderReply
 pub mod Reply

@@ -9,7 +9,7 @@ use Rattle.vcd_core.specs.Contents.{Contents, signal_at}
 use Rattle.vcd_core.specs.Decimal.{is_number, number_of}
 use Rattle.vcd_core.specs.Names.{lookup}
 use Rattle.vcd_text.specs.Letters.{value_of_digits}
-use Rattle.vcd_edit.specs.Refused.{Tests, refusal_among}
+use Rattle.vcd_edit.specs.Refused.{Tests}
 use Rattle.vcd_decode.specs.declared.spi_setup.BitOrder.{BitOrder}
 use Rattle.vcd_decode.specs.declared.spi_setup.BitOrder.TheVariants.{Msb, Lsb}
 use Rattle.vcd_decode.specs.declared.spi_setup.TheConstants.{GREATEST_MODE, WORD_BITS_LIMIT}
@@ -106,8 +106,3 @@ uart_tests u =
 abbrev pub spi_tests : SpiSetup → Tests
 spi_tests u = (not (nat_le u.mode GREATEST_MODE), codes "BadMode")
     ∷ (not (is_between 1 WORD_BITS_LIMIT u.bits), codes "BadBits") ∷ []
-
--- a setup that is refused with this word, or with none
-abbrev pub unless_refused : {S : Type 0} → Option (List ℕ) → S → Read S
-unless_refused None setup = Ok setup
-unless_refused (Some refusal) setup = Err refusal

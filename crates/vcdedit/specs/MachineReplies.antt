@@ -19,8 +19,17 @@ use Rattle.vcdedit.specs.LineErrorNames.{line_error_name}
 use Rattle.vcd_edit.specs.Allowed.{edit_fault}
 use Rattle.vcdedit.specs.DecoderReply.{uart_lines, spi_lines, i2c_lines}
 use Rattle.vcdedit.specs.ParsedLines.{command_of_line}
-use Rattle.vcdedit.specs.Queries.{listing, value_line, change_lines}
-use Rattle.vcdedit.specs.Reply.{LineReply, ok_reply, reply_text}
+use Rattle.vcdedit.specs.Queries.{listing}
+use Rattle.vcdedit.specs.WaveReplies.{value_line, change_lines}
+use Rattle.vcdedit.specs.Reply.{reply_text}
+
+-- the lines of an answer, or the word of a refusal
+abbrev pub LineReply : Type 0
+LineReply = Result (List (List ℕ)) (List ℕ)
+
+-- the reply to an accepted step
+abbrev pub ok_reply : LineReply
+ok_reply = Ok (codes "ok" ∷ [])
 
 -- an edit with this fault, or with none
 abbrev pub edit_reply : Option EditError → LineReply

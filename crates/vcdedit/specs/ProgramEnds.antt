@@ -10,7 +10,7 @@ use Rattle.vcdedit.specs.declared.running.run_error.RunError.{RunError}
 use Rattle.vcdedit.specs.declared.running.run_error.RunError.TheVariants as run_errors
 use Rattle.vcdedit.specs.declared.running.run_error.Summary.{Summary}
 use Rattle.vcdedit.specs.CommandLine.{AskedOptions, asked_options}
-use Rattle.vcdedit.specs.RunEnds.{ReaderEnd, WriterEnd, RunEnds}
+use Rattle.vcdedit.specs.RunEnds.{DeviceEnd, RunEnds}
 use Rattle.vcdedit.specs.Report.{done_status, error_status, error_line}
 
 -- the exit status of the program: 2 if its words are refused
@@ -42,14 +42,14 @@ IsNotBegun e = (e ≡ run_errors.Capture (record { line = 1; fault = faults.Read
 
 -- the outcome is that of a run on these readers; it writes the output if there is a path
 abbrev pub IsRunOn : {P : Type 0} → (path : Option P) → Result Summary RunError → (depth : ℕ)
-    → (capture script : ReaderEnd) → Type 0
-IsRunOn path outcome depth capture script = (replies : WriterEnd) × (output : Option WriterEnd)
+    → (capture script : DeviceEnd) → Type 0
+IsRunOn path outcome depth capture script = (replies : DeviceEnd) × (output : Option DeviceEnd)
     × (is_some output ≡ is_some path) × RunEnds outcome depth capture script replies output
 
 -- the outcome is that of a run with these options, or the run does not begin
 abbrev pub IsOutcome : AskedOptions → Result Summary RunError → Type 0
 IsOutcome options outcome = ((e : RunError) × IsNotBegun e × (outcome ≡ Err e))
-    ⊎ ((capture : ReaderEnd) × (script : ReaderEnd) × IsRunOn options.output outcome options.depth capture script)
+    ⊎ ((capture : DeviceEnd) × (script : DeviceEnd) × IsRunOn options.output outcome options.depth capture script)
 
 -- the ending is that of accepted words
 abbrev pub IsEndingOf : (words : List (List ℕ)) → Ending → Type 0

@@ -1,9 +1,9 @@
--- The replies to `list`, `value` and `changes`. Their form is the project's own.
+-- The replies to `list` and `changes`. Their form is the project's own.
 use Rattle.std.specs.Prelude.{ℕ, ◌+◌, List, [], ◌∷◌, ◌++◌, length, map, Option, Some, None, codes}
 use Rattle.std.specs.Fmt.{decimal}
 use Rattle.vcd_core.specs.declared.capture.Timescale.{Timescale}
 use Rattle.vcd_core.specs.declared.wave.Change.{Change}
-use Rattle.vcd_core.specs.Contents.{Contents, SignalContents, signal_value}
+use Rattle.vcd_core.specs.Contents.{Contents, SignalContents}
 use Rattle.vcd_core.specs.Names.{full_name}
 use Rattle.vcd_core.specs.TimeUnits.{unit_text}
 use Rattle.vcd_text.specs.Letters.{printed_letters}
@@ -31,23 +31,12 @@ signal_lines position (s ∷ ss) = signal_line position s ∷ signal_lines (posi
 
 -- the lines of `list`; edits do not change how many declarations of the file were skipped
 abbrev pub listing : Contents → (skipped : ℕ) → List (List ℕ)
-listing c skipped =
-    timescale_line c.timescale
-    ∷ number_line (codes "end") c.end
-    ∷ number_line (codes "signals") (length c.signals)
-    ∷ number_line (codes "skipped") skipped
+listing c skipped = timescale_line c.timescale ∷ number_line (codes "end") c.end
+    ∷ number_line (codes "signals") (length c.signals) ∷ number_line (codes "skipped") skipped
     ∷ signal_lines 0 c.signals
 
--- ---- `value` and `changes`
+-- ---- `changes`
 
--- the line of `value`: all letters of the value at the tick, most significant first
-abbrev pub value_line : SignalContents → ℕ → List ℕ
-value_line s tick = printed_letters (signal_value s tick)
-
--- a change: its tick and its value
+-- a change: its tick and its value, most significant letter first
 abbrev pub change_line : Change → List ℕ
 change_line c = decimal c.tick ++ codes " " ++ printed_letters c.value
-
--- the lines of `changes`: one for each change, so none for a signal that is always x
-abbrev pub change_lines : List Change → List (List ℕ)
-change_lines changes = map change_line changes

@@ -1,16 +1,17 @@
 -- What a run writes: the headline. The project's own.
 use Rattle.std.specs.Prelude.{◌≡◌, ◌≤◌, ℕ, if◌then◌else◌, List, [], ◌∷◌, length, take, map, fold, count_by, is_err}
-use Rattle.std.specs.Prelude.{Result, Ok}
+use Rattle.std.specs.Prelude.{Ok, codes}
 use Rattle.std.specs.List.{enumerate_from}
 use Rattle.vcd_core.specs.Contents.{Contents}
 use Rattle.vcd_core.specs.Sound.{IsSound}
 use Rattle.vcd_text.specs.Meaning.{FileMeans}
 use Rattle.vcd_text.specs.Text.{text}
-use Rattle.vcd_journal.specs.History.{History, first_history, history_after, replay}
-use Rattle.vcdedit.specs.declared.script.command.Command.{Command}
-use Rattle.vcdedit.specs.declared.script.command.Command.TheVariants as commands
-use Rattle.vcdedit.specs.Script.{script_lines, asked_by}
-use Rattle.vcdedit.specs.Reply.{LineReply, asked_answer, reply_text}
+use Rattle.vcd_edit.specs.Refused.{unless_refused}
+use Rattle.vcd_journal.specs.History.{History, first_history, history_after, replay, step_tests}
+use Rattle.vcdedit.specs.Script.{script_lines, line_words}
+use Rattle.vcdedit.specs.LineReads.{Read, ◌▷◌}
+use Rattle.vcdedit.specs.CommandTable.{Request, step, reply, asked_by_words}
+use Rattle.vcdedit.specs.Reply.{reply_text}
 
 -- what a run writes: a reply to each line, and the output; and how many lines it refuses
 pub record RunOutcome : Type 0 where
@@ -18,26 +19,29 @@ pub record RunOutcome : Type 0 where
   pub output : List ℕ
   pub refused : ℕ
 
--- the history after what a line asks for: steps alone change it
-abbrev pub history_after_asked : History → Result Command (List ℕ) → History
-history_after_asked h (Ok (commands.Step step)) = history_after h step
+-- the answer to a request, where the capture has this history: the lines of the reply, or the word of a refusal
+abbrev pub answer : Contents → History → Request → Read (List (List ℕ))
+answer c h (step s) = unless_refused (step_tests c h s) (codes "ok" ∷ [])
+answer c h (reply lines) = Ok lines
+
+-- the history after it: steps alone change it
+abbrev pub history_after_asked : History → Read Request → History
+history_after_asked h (Ok (step s)) = history_after h s
 history_after_asked h asked = h
 
 -- lines on a capture, so many variables of whose file were skipped
 module _ (c : Contents) (skipped : ℕ) where
-  -- what is said to a line: it is read, and answered, on the replay of the edits in force
-  abbrev pub line_answer : History → List ℕ → LineReply
-  line_answer h line = asked_answer (replay c h.edits) skipped h (asked_by (replay c h.edits) line)
+  -- what a line asks for on the replay of the edits in force
+  abbrev pub asked_by : History → List ℕ → Read Request
+  asked_by h line = asked_by_words (replay c h.edits) skipped (line_words line)
+
+  -- what is said to it there
+  abbrev pub line_answer : History → List ℕ → Read (List (List ℕ))
+  line_answer h line = asked_by h line ▷ answer (replay c h.edits) h
 
   -- the history after a line: a refused one changes nothing
   abbrev pub history_after_line : History → List ℕ → History
-  history_after_line h line =
-      if is_err (line_answer h line) then h else history_after_asked h (asked_by (replay c h.edits) line)
-
-  -- what is said to lines, one after another
-  unfoldable pub line_answers : History → List (List ℕ) → List LineReply
-  line_answers h [] = []
-  line_answers h (line ∷ lines) = line_answer h line ∷ line_answers (history_after_line h line) lines
+  history_after_line h line = if is_err (line_answer h line) then h else history_after_asked h (asked_by h line)
 
 -- the same lines, with a history of at most `depth`
 module _ (c : Contents) (skipped depth : ℕ) (lines : List (List ℕ)) where
@@ -49,9 +53,9 @@ module _ (c : Contents) (skipped depth : ℕ) (lines : List (List ℕ)) where
   abbrev pub capture_at : (count : ℕ) → Contents
   capture_at count = replay c (history_at count).edits
 
-  -- what is said to each
-  abbrev pub answers : List LineReply
-  answers = line_answers c skipped (first_history depth) lines
+  -- what is said to each, on the capture after the lines before it
+  abbrev pub answers : List (Read (List (List ℕ)))
+  answers = map (λ p. line_answer c skipped (history_at p.0) p.1) (enumerate_from 0 lines)
 
   -- what is written where these lines are run
   pub record IsRunOfLines (written : RunOutcome) : Type 0 where

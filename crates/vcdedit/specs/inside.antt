@@ -13,3 +13,4 @@ pub mod SentReplies
 pub mod WordCounts
 pub mod ParsedDecoders
 pub mod ParsedCommands
+pub mod LineAnswers

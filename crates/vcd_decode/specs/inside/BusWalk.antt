@@ -16,7 +16,7 @@ use Rattle.vcd_decode.specs.declared.i2c_bus.bytes.ByteRole.TheVariants as roles
 use Rattle.vcd_decode.specs.declared.i2c_bus.bytes.PartByte.{PartByte}
 use Rattle.vcd_decode.specs.declared.i2c_bus.transfer.Transfer.{Transfer}
 use Rattle.vcd_decode.specs.Lines.{annotation}
-use Rattle.vcd_decode.specs.BusEvents.{bus_event}
+use Rattle.vcd_decode.specs.inside.LevelEvents.{bus_event}
 use Rattle.vcd_decode.specs.BusBytes.{number_with, byte_kind, role_after, acknowledge_kind, ten_bit_address}
 
 -- ---- the bits at hand

@@ -4,7 +4,8 @@ use Rattle.std.specs.Option.{option_map}
 use Rattle.vcd_core.specs.declared.bit.Bit.{Bit}
 use Rattle.vcd_core.specs.declared.bit_edges.BitEdge.{BitEdge}
 use Rattle.vcd_core.specs.WaveView.{WaveView}
-use Rattle.vcd_decode.specs.Lines.{line_of, letter_before}
+use Rattle.vcd_decode.specs.Lines.{letter_before}
+use Rattle.vcd_decode.specs.WaveLines.{line_of}
 
 -- waves of one bit as lines
 abbrev pub lines_of : List (Option WaveView) → List (Option (ℕ → Bit))

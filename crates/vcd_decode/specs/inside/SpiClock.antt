@@ -2,7 +2,7 @@
 use Rattle.std.specs.Prelude.{ℕ, ◌&&◌, Bool, false, if◌then◌else◌, Option, Some, None}
 use Rattle.vcd_core.specs.declared.bit.Bit.{Bit}
 use Rattle.vcd_decode.specs.Lines.{is_zero, is_one}
-use Rattle.vcd_decode.specs.Spi.{samples_rise}
+use Rattle.vcd_decode.specs.inside.SpiParts.{samples_rise}
 
 -- whether a bit is present and passes a test
 abbrev pub passes : (Bit → Bool) → Option Bit → Bool

@@ -8,7 +8,8 @@ use Rattle.vcd_decode.specs.declared.annotation.Annotation.{Annotation}
 use Rattle.vcd_decode.specs.declared.spi_group.Group.{Group}
 use Rattle.vcd_decode.specs.SpiSetup.{SpiSetup}
 use Rattle.vcd_decode.specs.Lines.{is_zero}
-use Rattle.vcd_decode.specs.Spi.{line_data, group_start, group_end, segment_annotations}
+use Rattle.vcd_decode.specs.Spi.{line_data}
+use Rattle.vcd_decode.specs.inside.SpiParts.{group_start, group_end, segment_annotations}
 use Rattle.vcd_decode.specs.inside.LineEdges.{line_edge}
 use Rattle.vcd_decode.specs.inside.SpiClock.{samples}
 use Rattle.vcd_decode.specs.inside.SpiGroup.{line_bit, DataFits, group_before, group_after, word_annotation}

@@ -3,7 +3,7 @@
 ghost use Rattle.std.specs.Prelude.{◌≡◌, ◌++◌, None, List, IfOk};
 ghost use Rattle.std.specs.List.{cons_option};
 ghost use Rattle.vcd_core.specs.Wave.{AllUpTo};
-ghost use Rattle.vcd_decode.specs.Lines.{line_of};
+ghost use Rattle.vcd_decode.specs.WaveLines.{line_of};
 ghost use Rattle.vcd_decode.specs.I2c.{i2c_annotations};
 ghost use Rattle.vcd_decode.specs.declared.i2c_bus.events.BusEvent.{BusEvent};
 ghost use Rattle.vcd_decode.specs.inside.BusWalk as walk;

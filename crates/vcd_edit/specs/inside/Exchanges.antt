@@ -11,7 +11,7 @@ use Rattle.vcd_core.specs.Splice.{AllTicksFit}
 use Rattle.vcd_edit.specs.declared.record.Piece.{Piece}
 use Rattle.vcd_edit.specs.RecordView.{PieceView}
 use Rattle.vcd_edit.specs.AppliedRecords.{changes_with_piece, with_piece, with_pieces, AreApart}
-use Rattle.vcd_edit.specs.inside.Records.{piece_view}
+use Rattle.vcd_edit.specs.Records.{piece_view}
 use Rattle.vcd_edit.specs.Touched.{touched_count}
 
 -- ---- one wave

@@ -10,7 +10,7 @@ use Rattle.vcd_edit.specs.Touched.{record_pairing}
 use Rattle.vcd_edit.specs.TouchedByEdit.{edit_offset, edit_pairing}
 use Rattle.vcd_edit.specs.AppliedRecords.{with_pieces, apply_record, PieceFits, Fits, AreApart}
 use Rattle.vcd_edit.specs.inside.Ranges.{LeadsTo}
-use Rattle.vcd_edit.specs.inside.Records.{piece_view}
+use Rattle.vcd_edit.specs.Records.{piece_view}
 
 -- the record changes a capture into the effect of an edit on it
 pub record IsPlan (e : Edit) (c : Contents) (r : RecordView) : Type 0 where

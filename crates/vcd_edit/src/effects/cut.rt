@@ -5,7 +5,7 @@ ghost use Rattle.vcd_core.specs.Contents.{Contents, contents, signal_contents};
 ghost use Rattle.vcd_core.specs.Sound.{IsSound, IsSoundSignal};
 ghost use Rattle.vcd_edit.specs.Effect.{cut_value, signal_after_cut};
 ghost use Rattle.vcd_edit.specs.Allowed.{edit_fault};
-ghost use Rattle.vcd_edit.specs.inside.Records.{piece_view};
+ghost use Rattle.vcd_edit.specs.Records.{piece_view};
 ghost use Rattle.vcd_edit.specs.inside.Plans.{IsPlan, GivesValues, LeadEach};
 ghost use Rattle.vcd_edit.specs.declared.edit.Edit.TheVariants as edits;
 

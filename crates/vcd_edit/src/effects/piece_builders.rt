@@ -6,7 +6,7 @@ ghost use Rattle.vcd_core.specs.Sound.{IsSound, IsSoundSignal};
 ghost use Rattle.vcd_core.specs.Value.{all_x, same_letters};
 ghost use Rattle.vcd_core.specs.Wave.{change, unless_same, value_at, last_value};
 ghost use Rattle.vcd_edit.specs.Allowed.{is_no_signal};
-ghost use Rattle.vcd_edit.specs.inside.Records.{piece_view};
+ghost use Rattle.vcd_edit.specs.Records.{piece_view};
 ghost use Rattle.vcd_edit.specs.inside.Ranges.{value_just_before};
 
 use crate::record::{Piece, Record};

@@ -4,7 +4,7 @@ ghost use Rattle.std.specs.Prelude.{◌≡◌, ◌↔◌, ℕ, ◌<◌, ◌≤�
 ghost use Rattle.std.specs.List.{sum_by};
 ghost use Rattle.vcd_core.specs.Contents.{Contents, SignalContents, contents, signal_contents, no_signal};
 ghost use Rattle.vcd_edit.specs.AppliedRecords.{with_pieces, PieceFits, AreApart};
-ghost use Rattle.vcd_edit.specs.inside.Records.{piece_view};
+ghost use Rattle.vcd_edit.specs.Records.{piece_view};
 ghost use Rattle.vcd_edit.specs.inside.Fitting.{HasSoundNames, IsFormedSignal, late_count as lateness_of, IsValidIn, AreSoundSignals};
 
 use crate::fitting::sound_names::has_sound_names;

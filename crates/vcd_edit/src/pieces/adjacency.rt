@@ -5,7 +5,7 @@ ghost use Rattle.vcd_core.specs.Splice.{moved_change, TickFits, AllTicksFit};
 ghost use Rattle.vcd_core.specs.Wave.{last_value, AreChangesFrom, AllUpTo};
 ghost use Rattle.vcd_core.specs.declared.bit.Bit.{Bit as BitLetter};
 ghost use Rattle.vcd_edit.specs.inside.Adjacency.{floor_after, value_following, may_follow, may_all_follow, MovesTo, IsValidPiece};
-ghost use Rattle.vcd_edit.specs.inside.Records.{piece_view};
+ghost use Rattle.vcd_edit.specs.Records.{piece_view};
 
 use crate::record::Piece;
 use vcd_core::{Change, WIDTH_LIMIT, Wave, ends_by, last_value, moved_change};

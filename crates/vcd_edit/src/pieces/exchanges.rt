@@ -6,7 +6,7 @@ ghost use Rattle.vcd_core.specs.declared.capture.TheConstants.{END_LIMIT};
 ghost use Rattle.vcd_core.specs.Contents.{contents, signal_at};
 ghost use Rattle.vcd_edit.specs.RecordView.{PieceView};
 ghost use Rattle.vcd_edit.specs.AppliedRecords.{changes_with_piece, with_piece, with_pieces, AreApart};
-ghost use Rattle.vcd_edit.specs.inside.Records.{piece_view};
+ghost use Rattle.vcd_edit.specs.Records.{piece_view};
 ghost use Rattle.vcd_edit.specs.inside.Exchanges.{PieceReady, PieceReadyIn, IsInversePiece, AreInversePieces, wave_at, HasRoomForPiece};
 
 use crate::pieces::spare_room::release_rooms;

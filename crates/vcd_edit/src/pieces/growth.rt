@@ -2,7 +2,7 @@
 
 ghost use Rattle.std.specs.Prelude.{◌≡◌, ℕ, ◌+◌, ◌-◌, ◌<◌, ◌≤◌, [], All, IsOk, OnOk, map, length};
 ghost use Rattle.vcd_core.specs.Contents.{contents, signal_at};
-ghost use Rattle.vcd_edit.specs.inside.Records.{piece_view};
+ghost use Rattle.vcd_edit.specs.Records.{piece_view};
 ghost use Rattle.vcd_edit.specs.inside.Exchanges.{wave_at, HasNoLessRoom, HasRoomForPiece};
 
 use crate::record::Piece;

@@ -1,7 +1,7 @@
 //! Gives back the memory that pieces no longer need, so that a record holds no more than its changes.
 
 ghost use Rattle.std.specs.Prelude.{◌≡◌, map};
-ghost use Rattle.vcd_edit.specs.inside.Records.{piece_view};
+ghost use Rattle.vcd_edit.specs.Records.{piece_view};
 
 use crate::record::Piece;
 

@@ -5,7 +5,7 @@ ghost use Rattle.std.specs.List.{common_prefix_len};
 ghost use Rattle.std.specs.Ordering.{int_eq};
 ghost use Rattle.vcd_core.specs.Splice.{AllTicksFit};
 ghost use Rattle.vcd_edit.specs.Touched.{same_change, same_lowered, common_suffix_lowered};
-ghost use Rattle.vcd_edit.specs.inside.Records.{piece_view};
+ghost use Rattle.vcd_edit.specs.Records.{piece_view};
 ghost use Rattle.vcd_edit.specs.inside.Trims.{IsTrimmed};
 
 use crate::record::Piece;

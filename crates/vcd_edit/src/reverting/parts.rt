@@ -6,7 +6,7 @@ ghost use Rattle.vcd_core.specs.Contents.{contents, signal_contents, signal_at, 
 ghost use Rattle.vcd_core.specs.Sound.{IsSound};
 ghost use Rattle.vcd_edit.specs.Effect.{renamed_signal};
 ghost use Rattle.vcd_edit.specs.AppliedRecords.{with_first_word, with_moved_signal, PutsNoneIn, with_end, WordFits, MovedSignalFits};
-ghost use Rattle.vcd_edit.specs.inside.Records.{word_view, moved_signal_view};
+ghost use Rattle.vcd_edit.specs.Records.{word_view, moved_signal_view};
 ghost use Rattle.vcd_edit.specs.inside.Opposites.{opposite_word, opposite_move, opposite_end, IsNamedAt};
 
 use std::alloc::Global;

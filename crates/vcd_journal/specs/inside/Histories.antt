@@ -1,4 +1,4 @@
--- The captures that the records of a session reach.
+-- What holds of the records of a session.
 use Rattle.std.specs.Prelude.{◌≡◌, ℕ, suc, ◌+◌, ◌≤◌, List, [], ◌∷◌, length}
 use Rattle.circular_buffer.specs.Buffer.{Buffer}
 use Rattle.vcd_core.specs.Contents.{Contents}
@@ -6,11 +6,7 @@ use Rattle.vcd_core.specs.Sound.{IsSound}
 use Rattle.vcd_edit.specs.RecordView.{RecordView}
 use Rattle.vcd_edit.specs.AppliedRecords.{apply_record, Fits}
 use Rattle.vcd_journal.specs.declared.step.TheConstants.{DEPTH_LIMIT}
-
--- the captures after records are applied, one after another
-abbrev pub reached_captures : Contents → List RecordView → List Contents
-reached_captures c [] = []
-reached_captures c (r ∷ rs) = apply_record r c ∷ reached_captures (apply_record r c) rs
+use Rattle.vcd_journal.specs.ReachedCaptures.{reached_captures}
 
 -- each record fits the capture that those before it reach
 abbrev pub AllRecordsFit : Contents → List RecordView → Type 0

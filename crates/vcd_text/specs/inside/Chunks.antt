@@ -8,8 +8,8 @@ use Rattle.vcd_text.specs.declared.reading.TheConstants.{FILE_LIMIT}
 use Rattle.vcd_text.specs.declared.reading.chunks.Progress.{Progress}
 use Rattle.vcd_text.specs.declared.reading.reader.Reader.{Reader}
 use Rattle.vcd_text.specs.Words.{words_from, closed_words, last_line}
-use Rattle.vcd_text.specs.Faults.{FrontFault}
-use Rattle.vcd_text.specs.Refusals.{memory_error}
+use Rattle.vcd_text.specs.FoundFaults.{FrontFault}
+use Rattle.vcd_text.specs.MemoryErrors.{memory_error}
 use Rattle.vcd_text.specs.inside.Reading.{Reads}
 
 -- of these bytes, the words that white space follows have been taken; the others are those of a word that can go on

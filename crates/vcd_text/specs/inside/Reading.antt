@@ -15,7 +15,7 @@ use Rattle.vcd_text.specs.Items.{dropped_prefixes}
 use Rattle.vcd_text.specs.Grammar.{ParseState, Allows, AllowsAll, state_after, state_after_item, initial_state}
 use Rattle.vcd_text.specs.Grammar.{word_texts, has_good_size}
 use Rattle.vcd_text.specs.Faults.{WordFault, ShowsFault}
-use Rattle.vcd_text.specs.Refusals.{memory_error}
+use Rattle.vcd_text.specs.MemoryErrors.{memory_error}
 use Rattle.vcd_text.specs.inside.Scopes.{HoldsScopes}
 use Rattle.vcd_text.specs.inside.Variables.{VariablesMatch}
 use Rattle.vcd_text.specs.declared.reading.reader.Reader.{Reader}

@@ -9,8 +9,9 @@ ghost use Rattle.vcd_core.specs.Sound.{IsSound};
 ghost use Rattle.vcd_text.specs.Words.{words_from, PlacedWord as WordInFile};
 ghost use Rattle.vcd_text.specs.LentWords.{word_at};
 ghost use Rattle.vcd_text.specs.Meaning.{FileMeans};
-ghost use Rattle.vcd_text.specs.Faults.{FileFault};
-ghost use Rattle.vcd_text.specs.Refusals.{memory_error, IsRefusal};
+ghost use Rattle.vcd_text.specs.FoundFaults.{FoundFault};
+ghost use Rattle.vcd_text.specs.Refusals.{IsRefusal};
+ghost use Rattle.vcd_text.specs.MemoryErrors.{memory_error};
 ghost use Rattle.vcd_text.specs.inside.Spaces.{is_closed};
 ghost use Rattle.vcd_text.specs.inside.Reading.{Reads, IsUnderway, WordsResult, HasRoomFor, AllWordsResult, is_complete};
 ghost use Rattle.vcd_text.specs.inside.WordWalk.{words_left, feeds_at_end, LinesFit};
@@ -109,7 +110,7 @@ impl Progress {
             FileMeans bytes (contents loaded.capture) loaded.skipped) }
         ensures sound { IfOk result (λ loaded. IsSound (contents loaded.capture)) }
         ensures fault { IfErr result (λ e. (bytes : List ℕ) → HasConsumed self bytes →
-            (e ≡ memory_error) ⊎ FileFault bytes e.line e.fault) }
+            (e ≡ memory_error) ⊎ FoundFault bytes e.line e.fault) }
     {
         let Progress {
             mut reader,

@@ -1,18 +1,18 @@
 -- A run that ends before its replies or its output, for any such writers.
 use Rattle.std.specs.Prelude.{ℕ, Option, Err, IfSome}
 use Rattle.vcdedit.specs.declared.running.run_error.RunError.{RunError}
-use Rattle.vcdedit.specs.RunEnds.{ReaderEnd, WriterEnd, IsAccepted, IsUntouched, RunEnds}
+use Rattle.vcdedit.specs.RunEnds.{DeviceEnd, IsAccepted, IsUntouched, RunEnds}
 
 -- it ends before its output
-abbrev pub EndsBeforeOutput : (depth : ℕ) → (capture script : ReaderEnd) → (replies : WriterEnd) → RunError → Type 0
+abbrev pub EndsBeforeOutput : (depth : ℕ) → (capture script : DeviceEnd) → (replies : DeviceEnd) → RunError → Type 0
 EndsBeforeOutput depth capture script replies e =
-    (output : Option WriterEnd) → IfSome output IsUntouched → RunEnds (Err e) depth capture script replies output
+    (output : Option DeviceEnd) → IfSome output IsUntouched → RunEnds (Err e) depth capture script replies output
 
 -- it ends before its replies
-abbrev pub EndsBeforeReplies : (capture script : ReaderEnd) → RunError → Type 0
+abbrev pub EndsBeforeReplies : (capture script : DeviceEnd) → RunError → Type 0
 EndsBeforeReplies capture script e =
-    (depth : ℕ) (replies : WriterEnd) → IsUntouched replies → EndsBeforeOutput depth capture script replies e
+    (depth : ℕ) (replies : DeviceEnd) → IsUntouched replies → EndsBeforeOutput depth capture script replies e
 
 -- it ends after an accepted capture and before its replies
-abbrev pub EndsAfterCapture : (script : ReaderEnd) → RunError → Type 0
-EndsAfterCapture script e = (capture : ReaderEnd) → IsAccepted capture → EndsBeforeReplies capture script e
+abbrev pub EndsAfterCapture : (script : DeviceEnd) → RunError → Type 0
+EndsAfterCapture script e = (capture : DeviceEnd) → IsAccepted capture → EndsBeforeReplies capture script e

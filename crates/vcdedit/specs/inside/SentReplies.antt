@@ -5,10 +5,10 @@ use Rattle.std.specs.Io.KnownBytes.{Appends}
 use Rattle.vcdedit.specs.declared.running.run_error.RunError.{RunError}
 use Rattle.vcdedit.specs.declared.running.run_error.RunError.TheVariants as run_errors
 use Rattle.vcdedit.specs.declared.running.run_error.Summary.{Summary}
-use Rattle.vcdedit.specs.RunEnds.{ReaderEnd, OfRun}
+use Rattle.vcdedit.specs.RunEnds.{DeviceEnd, OfRun}
 
 -- all replies, or those to the lines before the one at which memory ran out
-abbrev pub HasSentReplies : Result Summary RunError → (depth : ℕ) → (capture script : ReaderEnd)
+abbrev pub HasSentReplies : Result Summary RunError → (depth : ℕ) → (capture script : DeviceEnd)
     → (before after : Option (List ℕ)) → Type 0
 HasSentReplies (Ok summary) depth capture script before after =
     OfRun capture script depth (λ written. Appends before after (concat written.replies))

@@ -7,7 +7,7 @@ ghost use Rattle.vcd_core.specs.BitEdges.{IsOneBit};
 ghost use Rattle.vcd_core.specs.Contents.{contents};
 ghost use Rattle.vcd_core.specs.Sound.{IsSound};
 ghost use Rattle.vcd_core.specs.Wave.{AllUpTo};
-ghost use Rattle.vcd_decode.specs.Lines.{line_of};
+ghost use Rattle.vcd_decode.specs.WaveLines.{line_of};
 ghost use Rattle.vcdedit.specs.DecoderReply as spec;
 ghost use Rattle.vcdedit.specs.CommandSignals.{IsScalarAt};
 ghost use Rattle.vcdedit.specs.Reply.{with_line_feed};

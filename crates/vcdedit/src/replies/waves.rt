@@ -3,7 +3,8 @@
 ghost use Rattle.std.specs.Prelude.{◌≡◌, ◌<◌, ◌++◌, length, OnOk, IfOk};
 ghost use Rattle.std.specs.List.{flat_map};
 ghost use Rattle.vcd_core.specs.Contents.{contents, signal_at};
-ghost use Rattle.vcdedit.specs.Queries.{value_line, change_line, change_lines as lines_of};
+ghost use Rattle.vcdedit.specs.Queries.{change_line};
+ghost use Rattle.vcdedit.specs.WaveReplies.{value_line, change_lines as lines_of};
 ghost use Rattle.vcdedit.specs.Reply.{with_line_feed};
 
 use crate::replies::Made;

@@ -1,7 +1,7 @@
 //! The script, which a run reads whole before it runs the first line.
 
 ghost use Rattle.std.specs.Prelude.{◌≡◌, ◌≤◌, false, length, OnOk, IfOk, IfErr, IfSome};
-ghost use Rattle.vcdedit.specs.RunEnds.{reader_end, IsWholeScript};
+ghost use Rattle.vcdedit.specs.RunEnds.{device_end, IsWholeScript};
 ghost use Rattle.vcdedit.specs.inside.RunStages.{EndsAfterCapture};
 
 use crate::running::RunError;
@@ -18,9 +18,9 @@ pub fn read_script<S: Source>(alloc: Global, reader: &mut S) -> Result<Vec<u8>, 
         (λ bytes. script.items ≡ bytes)) }
     ensures short { IfOk result (λ script. length script.items ≤ SCRIPT_LIMIT) }
     ensures whole { OnOk result (IsWholeScript
-        (reader_end S.coming S.has_failed reader.old reader.new)) }
+        (device_end S.coming S.has_failed reader.old reader.new)) }
     ensures ended { IfErr result (EndsAfterCapture
-        (reader_end S.coming S.has_failed reader.old reader.new)) }
+        (device_end S.coming S.has_failed reader.old reader.new)) }
 {
     let mut bytes = Vec::new(alloc);
     match read_whole(reader, SCRIPT_LIMIT, &mut bytes) {

@@ -5,7 +5,7 @@ ghost use Rattle.std.specs.Option.{ForSome};
 ghost use Rattle.std.specs.Io.KnownBytes.{Appends};
 ghost use Rattle.vcd_core.specs.Contents.{contents};
 ghost use Rattle.vcd_core.specs.Sound.{IsSound};
-ghost use Rattle.vcdedit.specs.RunEnds.{reader_end, writer_end, IsAccepted, IsWholeScript, OfOutput, RunEnds};
+ghost use Rattle.vcdedit.specs.RunEnds.{device_end, IsAccepted, IsWholeScript, OfOutput, RunEnds};
 ghost use Rattle.vcd_journal.specs.Machine.{first_machine};
 ghost use Rattle.vcdedit.specs.inside.RunStages.{EndsBeforeOutput};
 ghost use Rattle.vcdedit.specs.inside.ScriptRuns.{ScriptGives};
@@ -38,9 +38,9 @@ pub fn run<R: Source, S: Source, P: Sink, W: Sink>(
     requires depth_most { depth ≤ DEPTH_LIMIT }
 
     ensures headline { OfOutput W.taken W.has_failed out.entry out.exit (RunEnds result depth
-        (reader_end R.coming R.has_failed capture_reader.old capture_reader.new)
-        (reader_end S.coming S.has_failed script_reader.old script_reader.new)
-        (writer_end P.taken P.has_failed replies.old replies.new)) }
+        (device_end R.coming R.has_failed capture_reader.old capture_reader.new)
+        (device_end S.coming S.has_failed script_reader.old script_reader.new)
+        (device_end P.taken P.has_failed replies.old replies.new)) }
 {
     let (session, refused) = run_script(alloc, capture_reader, script_reader, replies, depth)?;
     let summary = Summary { refused };
@@ -72,14 +72,14 @@ fn run_script<R: Source, S: Source, P: Sink>(
         ScriptGives file script depth done.1
         (Appends (P.taken replies.old) (P.taken replies.new)) done.0.now))) }
     ensures accepted { OnOk result (IsAccepted
-        (reader_end R.coming R.has_failed capture_reader.old capture_reader.new)) }
+        (device_end R.coming R.has_failed capture_reader.old capture_reader.new)) }
     ensures whole { OnOk result (IsWholeScript
-        (reader_end S.coming S.has_failed script_reader.old script_reader.new)) }
+        (device_end S.coming S.has_failed script_reader.old script_reader.new)) }
     ensures not_failed { OnOk result (P.has_failed replies.new ≡ false) }
     ensures ended { IfErr result (EndsBeforeOutput depth
-        (reader_end R.coming R.has_failed capture_reader.old capture_reader.new)
-        (reader_end S.coming S.has_failed script_reader.old script_reader.new)
-        (writer_end P.taken P.has_failed replies.old replies.new)) }
+        (device_end R.coming R.has_failed capture_reader.old capture_reader.new)
+        (device_end S.coming S.has_failed script_reader.old script_reader.new)
+        (device_end P.taken P.has_failed replies.old replies.new)) }
 {
     let loaded = read(alloc, capture_reader)?;
     let script = read_script(alloc, script_reader)?;

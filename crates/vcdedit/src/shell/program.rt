@@ -7,7 +7,7 @@ ghost use Rattle.std.specs.String.{string_bytes};
 ghost use Rattle.clap.specs.Words.{fault_of};
 ghost use Rattle.vcdedit.specs.CommandLine.{option_app, options_in};
 ghost use Rattle.vcdedit.specs.ProgramEnds.{is_done, ending_of, IsRunOn, IsOutcome, IsEndingOf, program_status, program_text};
-ghost use Rattle.vcdedit.specs.RunEnds.{WriterEnd, reader_end, writer_end, RunEnds};
+ghost use Rattle.vcdedit.specs.RunEnds.{DeviceEnd, device_end, RunEnds};
 ghost use Rattle.vcdedit.specs.inside.SentReplies.{HasSentReplies};
 ghost use Rattle.vcdedit.specs.declared.shell.ending.Ending.{Ending as ProgramEnding};
 
@@ -130,8 +130,8 @@ fn run_inputs<R: Runtime + AllocGlobal, C: Source, S: Source>(
     requires capture_ready { C.has_failed capture.old ≡ false }
     requires script_ready { S.has_failed script.old ≡ false }
     ensures { (result ≡ Err NO_MEMORY) ⊎ IsRunOn output.entry result depth
-        (reader_end C.coming C.has_failed capture.old capture.new)
-        (reader_end S.coming S.has_failed script.old script.new) }
+        (device_end C.coming C.has_failed capture.old capture.new)
+        (device_end S.coming S.has_failed script.old script.new) }
 {
     let buffer = new_buffer(rt, io::writer(rt))?;
     let (ending, _) = run_gathered(rt, capture, script, buffer, output, depth);
@@ -152,15 +152,15 @@ fn run_gathered<R: Runtime + AllocGlobal, C: Source, S: Source, W: Write + Drop>
     requires depth_most { depth ≤ DEPTH_LIMIT }
     requires capture_ready { C.has_failed capture.old ≡ false }
     requires script_ready { S.has_failed script.old ≡ false }
-    ensures ends { (replies : WriterEnd) × (out : Option WriterEnd) ×
+    ensures ends { (replies : DeviceEnd) × (out : Option DeviceEnd) ×
         (is_some out ≡ is_some output.entry) ×
         (result.1 ≡ Err None → replies.has_failed ≡ true) ×
         RunEnds result.0 depth
-        (reader_end C.coming C.has_failed capture.old capture.new)
-        (reader_end S.coming S.has_failed script.old script.new) replies out }
+        (device_end C.coming C.has_failed capture.old capture.new)
+        (device_end S.coming S.has_failed script.old script.new) replies out }
     ensures sent { IfOk result.1 (λ writer. HasSentReplies result.0 depth
-        (reader_end C.coming C.has_failed capture.old capture.new)
-        (reader_end S.coming S.has_failed script.old script.new)
+        (device_end C.coming C.has_failed capture.old capture.new)
+        (device_end S.coming S.has_failed script.old script.new)
         (writer_contents W.contents buffer) (W.contents writer)) }
 {
     let mut device = ToWrite::new(buffer);
@@ -182,10 +182,10 @@ fn run_devices<R: Runtime + AllocGlobal, C: Source, S: Source, P: Sink>(
     requires capture_ready { C.has_failed capture.old ≡ false }
     requires script_ready { S.has_failed script.old ≡ false }
     requires replies_ready { P.has_failed replies.old ≡ false }
-    ensures { (out : Option WriterEnd) × (is_some out ≡ is_some output.entry) × RunEnds result depth
-        (reader_end C.coming C.has_failed capture.old capture.new)
-        (reader_end S.coming S.has_failed script.old script.new)
-        (writer_end P.taken P.has_failed replies.old replies.new) out }
+    ensures { (out : Option DeviceEnd) × (is_some out ≡ is_some output.entry) × RunEnds result depth
+        (device_end C.coming C.has_failed capture.old capture.new)
+        (device_end S.coming S.has_failed script.old script.new)
+        (device_end P.taken P.has_failed replies.old replies.new) out }
 {
     // no buffer, since `write` of `vcd_text` has its own
     let mut out = match output {

@@ -2,7 +2,7 @@ use Rattle.std.proofs.Common.{◌≡◌, ◌<◌, Option, Some, None, refl, ◌�
 use Rattle.std.specs.Borrow.{Bor}
 use Rattle.std.specs.Option.{is_some, option_copied, option_map}
 use Rattle.vcd_core.specs.WaveView.{WaveView}
-use Rattle.vcd_decode.specs.Lines.{line_of}
+use Rattle.vcd_decode.specs.WaveLines.{line_of}
 use Rattle.vcd_decode.specs.Spi.{spi_annotations}
 use Rattle.vcd_decode.proofs.SpiSteps.{so_far_none, so_far_open, so_far_more, so_far_ends}
 use Rattle.vcd_decode.proofs.spi_words.spi.Goals as goal

@@ -1,5 +1,5 @@
 use Rattle.std.specs.Option.{option_copied, option_map}
-use Rattle.vcd_decode.specs.Lines.{line_of}
+use Rattle.vcd_decode.specs.WaveLines.{line_of}
 use Rattle.vcd_decode.specs.Spi.{spi_annotations}
 use Rattle.vcd_decode.specs.inside.SpiWalk.{SpiProgress}
 use Rattle.vcd_decode.proofs.spi_words.spi.Given as goal

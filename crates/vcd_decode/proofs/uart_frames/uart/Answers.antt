@@ -2,7 +2,8 @@ use Rattle.std.proofs.Common.{◌≡◌, ◌∙◌, ◌&&◌, nat_lt, if◌then�
 use Rattle.vcd_core.specs.declared.bit.Bit.TheVariants.{X}
 use Rattle.vcd_core.specs.Wave.{AllUpTo}
 use Rattle.vcd_decode.specs.declared.annotation.Annotation.{Annotation}
-use Rattle.vcd_decode.specs.Lines.{line_of, is_one, is_zero}
+use Rattle.vcd_decode.specs.Lines.{is_one, is_zero}
+use Rattle.vcd_decode.specs.WaveLines.{line_of}
 use Rattle.vcd_decode.specs.Uart.{begun_frame, frames}
 use Rattle.vcd_decode.proofs.Falls.{fall_ticks, walked, all_walked, frames_by_changes}
 use Rattle.vcd_decode.proofs.LineLetters.{letter_at_item, up_to_at}

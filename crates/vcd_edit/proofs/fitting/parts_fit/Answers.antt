@@ -1,5 +1,5 @@
 use Rattle.std.proofs.Common.{◌∙◌, Some, ℕ, List, sym, ap}
-use Rattle.vcd_edit.specs.inside.Records.{word_view, contents_of_signal, moved_signal_view, record_view}
+use Rattle.vcd_edit.specs.Records.{word_view, contents_of_signal, moved_signal_view, record_view}
 use Rattle.vcd_edit.proofs.FitKinds.{parts_by_move, parts_by_word, parts_by_pieces}
 use Rattle.vcd_edit.proofs.fitting.parts_fit.Goals as goal
 

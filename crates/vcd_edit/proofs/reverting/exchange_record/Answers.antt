@@ -3,7 +3,7 @@ use Rattle.std.proofs.lemmas.List.{length-map}
 use Rattle.vcd_core.specs.Contents.{signal_contents, signal_at, contents}
 use Rattle.vcd_edit.specs.declared.record.Piece.{Piece}
 use Rattle.vcd_edit.specs.AppliedRecords.{apply_record, with_moved_signal, Fits}
-use Rattle.vcd_edit.specs.inside.Records.{piece_view, record_view, moved_signal_view}
+use Rattle.vcd_edit.specs.Records.{piece_view, record_view, moved_signal_view}
 use Rattle.vcd_edit.specs.inside.Opposites.{opposite_move, IsInverse}
 use Rattle.vcd_edit.proofs.TouchedParts.{whole_list}
 use Rattle.vcd_edit.proofs.Exchanged.{fits_each, ready_then, word_fits_then, word_named_then, end_is_back}

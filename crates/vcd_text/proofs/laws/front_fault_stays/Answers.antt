@@ -1,4 +1,4 @@
-use Rattle.vcd_text.proofs.FrontFaults.{front_fault_stays}
+use Rattle.vcd_text.proofs.FileFaults.{front_fault_stays}
 use Rattle.vcd_text.proofs.laws.front_fault_stays.Goals as goal
 
 pub returns : goal.returns

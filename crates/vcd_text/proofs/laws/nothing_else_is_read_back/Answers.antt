@@ -1,5 +1,6 @@
 use Rattle.vcd_text.specs.Text.{text}
-use Rattle.vcd_text.proofs.OneAnswer.{one_meaning, meaning-no_fault}
+use Rattle.vcd_text.proofs.OneAnswer.{one_meaning}
+use Rattle.vcd_text.proofs.FileFaults.{meaning-no_fault}
 use Rattle.vcd_text.proofs.TextReadBack.{read_back}
 use Rattle.vcd_text.proofs.laws.nothing_else_is_read_back.Goals as goal
 

@@ -1,6 +1,6 @@
 use Rattle.std.proofs.Common.{◌≡◌, ap, subst, ◌∙◌, None, IfOk, List}
 use Rattle.vcd_decode.specs.declared.annotation.Annotation.{Annotation}
-use Rattle.vcd_decode.specs.Lines.{line_of}
+use Rattle.vcd_decode.specs.WaveLines.{line_of}
 use Rattle.vcd_decode.specs.BusEvents.{bus_events}
 use Rattle.vcd_decode.specs.inside.BusWalk.{walk_annotations, edge_events}
 use Rattle.vcd_decode.proofs.BusEdges.{events_are}

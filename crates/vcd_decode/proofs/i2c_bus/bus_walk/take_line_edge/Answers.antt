@@ -1,5 +1,5 @@
 use Rattle.std.proofs.Common.{sym, ◌∙◌}
-use Rattle.vcd_decode.specs.BusEvents.{bus_event}
+use Rattle.vcd_decode.specs.inside.LevelEvents.{bus_event}
 use Rattle.vcd_decode.specs.inside.BusWalk.{edge_event}
 use Rattle.vcd_decode.proofs.BusWalks.{event_taken}
 use Rattle.vcd_decode.proofs.i2c_bus.bus_walk.take_line_edge.Goals as goal

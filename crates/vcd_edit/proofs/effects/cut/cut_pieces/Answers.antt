@@ -1,5 +1,5 @@
 use Rattle.std.proofs.Common.{map, ap, arith}
-use Rattle.vcd_edit.specs.inside.Records.{piece_view}
+use Rattle.vcd_edit.specs.Records.{piece_view}
 use Rattle.vcd_edit.proofs.PieceLists.{lead_none}
 use Rattle.vcd_edit.proofs.CutPlans.{cut_without, cut_with, cut_end}
 use Rattle.vcd_edit.proofs.effects.cut.cut_pieces.Goals as goal

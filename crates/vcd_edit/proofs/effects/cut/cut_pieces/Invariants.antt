@@ -3,7 +3,7 @@ use Rattle.std.specs.Prelude.{neg_ℤ}
 use Rattle.vcd_core.specs.Contents.{Contents, signal_contents}
 use Rattle.vcd_core.specs.Sound.{IsSound}
 use Rattle.vcd_edit.specs.Effect.{signal_after_cut}
-use Rattle.vcd_edit.specs.inside.Records.{piece_view}
+use Rattle.vcd_edit.specs.Records.{piece_view}
 use Rattle.vcd_edit.specs.inside.Plans.{LeadEach}
 use Rattle.vcd_edit.proofs.effects.cut.cut_pieces.Given as goal
 

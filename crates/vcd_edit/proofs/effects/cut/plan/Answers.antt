@@ -1,6 +1,6 @@
 use Rattle.std.proofs.Common.{◌≤◌, map, refl, arith}
 use Rattle.vcd_core.specs.Contents.{Contents, contents}
-use Rattle.vcd_edit.specs.inside.Records.{piece_view}
+use Rattle.vcd_edit.specs.Records.{piece_view}
 use Rattle.vcd_edit.proofs.CutPlans.{cut_ticks, cut_plan, cut_is_one_step}
 use Rattle.vcd_edit.proofs.effects.cut.plan.Goals as goal
 

@@ -2,7 +2,7 @@ use Rattle.std.proofs.Common.{rules, ◌↔◌, IsTrue, All, map}
 use Rattle.std.proofs.lemmas.List.Elements.{All-map}
 use Rattle.vcd_core.specs.Contents.{signal_contents}
 use Rattle.vcd_edit.specs.declared.record.Piece.{Piece}
-use Rattle.vcd_edit.specs.inside.Records.{piece_view}
+use Rattle.vcd_edit.specs.Records.{piece_view}
 use Rattle.vcd_edit.specs.inside.Fitting.{IsValidIn}
 use Rattle.vcd_edit.proofs.Fittings.{unmapped}
 use Rattle.vcd_edit.proofs.fitting.pieces.are_valid_in.Goals as goal

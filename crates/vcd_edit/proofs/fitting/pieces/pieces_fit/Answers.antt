@@ -3,7 +3,7 @@ use Rattle.std.specs.List.{sum_by}
 use Rattle.std.proofs.lemmas.Bool.{false≢true, eqb-true, eq-eqb}
 use Rattle.std.proofs.lemmas.List.{length-map}
 use Rattle.vcd_core.specs.Contents.{SignalContents, signal_contents}
-use Rattle.vcd_edit.specs.inside.Records.{piece_view}
+use Rattle.vcd_edit.specs.Records.{piece_view}
 use Rattle.vcd_edit.specs.inside.Fitting.{HasSoundNames, IsFormedSignal, late_count, IsValidIn}
 use Rattle.vcd_edit.proofs.AdjacencyTests.{refused}
 use Rattle.vcd_edit.proofs.Fittings.{unmapped, late_pieces_are, few_before, fit_by_tests, names_before, stand_before}

@@ -7,7 +7,7 @@ use Rattle.vcd_core.specs.declared.wave.Change.{Change}
 use Rattle.vcd_core.specs.Value.{all_x}
 use Rattle.vcd_core.specs.Wave.{IsWave, AreChangesFrom, AllUpTo, last_value}
 use Rattle.vcd_core.specs.Splice.{moved_change, AllTicksFit}
-use Rattle.vcd_edit.specs.inside.Records.{piece_view}
+use Rattle.vcd_edit.specs.Records.{piece_view}
 use Rattle.vcd_edit.specs.inside.Adjacency.{floor_after, value_following, may_all_follow, MovesTo}
 use Rattle.vcd_edit.proofs.AdjacencyTests.{front_rises, later_rises, follow_rise, moves_fit, stands_by_tests}
 use Rattle.vcd_edit.proofs.AdjacencyTests.{front_ends, piece_ends, later_move, at_both_seams, refused}

@@ -4,7 +4,7 @@ use Rattle.std.specs.Int.{FitsUnsigned}
 use Rattle.std.proofs.lemmas.Int.{to_z-of_z}
 use Rattle.vcd_core.specs.declared.capture.TheConstants.{END_LIMIT}
 use Rattle.vcd_edit.specs.inside.Trims.{IsTrimmed}
-use Rattle.vcd_edit.specs.inside.Records.{piece_view}
+use Rattle.vcd_edit.specs.Records.{piece_view}
 use Rattle.vcd_edit.proofs.SplicedBack.{led_back}
 use Rattle.vcd_edit.proofs.pieces.exchanges.exchange_piece.Goals as goal
 

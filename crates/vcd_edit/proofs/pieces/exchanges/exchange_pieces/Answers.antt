@@ -1,5 +1,5 @@
 use Rattle.std.proofs.Common.{◌∙◌, ap, map, arith}
-use Rattle.vcd_edit.specs.inside.Records.{piece_view}
+use Rattle.vcd_edit.specs.Records.{piece_view}
 use Rattle.vcd_edit.proofs.TouchedParts.{whole_list}
 use Rattle.vcd_edit.proofs.pieces.exchanges.exchange_pieces.Goals as goal
 

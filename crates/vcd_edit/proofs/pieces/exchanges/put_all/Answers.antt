@@ -2,7 +2,7 @@ use Rattle.std.proofs.Common.{◌≡◌, ◌≢◌, ◌∙◌, ◌<◌, ℕ, ref
 use Rattle.vcd_core.specs.Contents.{contents, signal_at}
 use Rattle.vcd_edit.specs.declared.record.Piece.{Piece}
 use Rattle.vcd_edit.specs.AppliedRecords.{with_piece, with_pieces}
-use Rattle.vcd_edit.specs.inside.Records.{piece_view}
+use Rattle.vcd_edit.specs.Records.{piece_view}
 use Rattle.vcd_edit.specs.inside.Exchanges.{IsInversePiece, PieceReadyIn, wave_at, HasRoomForPiece}
 use Rattle.vcd_edit.proofs.PieceLoops.{next_ready, next_room, put_more}
 use Rattle.vcd_edit.proofs.pieces.exchanges.put_all.Goals as goal

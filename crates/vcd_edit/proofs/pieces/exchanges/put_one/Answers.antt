@@ -2,7 +2,7 @@ use Rattle.std.proofs.Common.{List, ap, sym, ◌∙◌, ◌<◌, length, arith}
 use Rattle.std.proofs.lemmas.List.{length-map}
 use Rattle.vcd_core.specs.Contents.{Contents, SignalContents, contents, signal_contents}
 use Rattle.vcd_edit.specs.AppliedRecords.{changes_with_piece}
-use Rattle.vcd_edit.specs.inside.Records.{piece_view}
+use Rattle.vcd_edit.specs.Records.{piece_view}
 use Rattle.vcd_edit.proofs.PiecesPut.{contents_at, changes_written, other_waves}
 use Rattle.vcd_edit.proofs.pieces.exchanges.put_one.Goals as goal
 

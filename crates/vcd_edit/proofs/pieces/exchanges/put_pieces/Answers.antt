@@ -1,6 +1,6 @@
 use Rattle.std.proofs.Common.{◌∙◌, ap, subst, map, reverse, arith}
 use Rattle.vcd_core.specs.Contents.{contents}
-use Rattle.vcd_edit.specs.inside.Records.{piece_view}
+use Rattle.vcd_edit.specs.Records.{piece_view}
 use Rattle.vcd_edit.specs.inside.Exchanges.{AreInversePieces}
 use Rattle.vcd_edit.proofs.TouchedParts.{map-reverse, whole_list}
 use Rattle.vcd_edit.proofs.pieces.exchanges.put_pieces.Goals as goal

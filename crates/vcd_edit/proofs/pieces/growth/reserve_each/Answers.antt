@@ -2,7 +2,7 @@ use Rattle.std.proofs.Common.{◌≡◌, ◌∙◌, ◌<◌, ◌≤◌, All, sub
 use Rattle.std.proofs.lemmas.List.{length-map, take_all}
 use Rattle.vcd_core.specs.Contents.{Contents, contents, signal_at, signal_contents}
 use Rattle.vcd_edit.specs.declared.record.Piece.{Piece}
-use Rattle.vcd_edit.specs.inside.Records.{piece_view}
+use Rattle.vcd_edit.specs.Records.{piece_view}
 use Rattle.vcd_edit.specs.inside.Exchanges.{HasRoomForPiece}
 use Rattle.vcd_edit.proofs.PieceLoops.{item_as_first, views_kept, reserved_more}
 use Rattle.vcd_edit.proofs.pieces.growth.reserve_each.Goals as goal

@@ -3,7 +3,7 @@ use Rattle.std.specs.Option.{unwrap_or}
 use Rattle.vcd_core.specs.Contents.{contents, signal_contents}
 use Rattle.vcd_edit.specs.declared.record.Piece.{Piece}
 use Rattle.vcd_edit.specs.AppliedRecords.{Fits}
-use Rattle.vcd_edit.specs.inside.Records.{record_view}
+use Rattle.vcd_edit.specs.Records.{record_view}
 use Rattle.vcd_edit.specs.inside.Fitting.{PartsFit, HasSoundMetadata}
 use Rattle.vcd_edit.proofs.AdjacencyTests.{refused}
 use Rattle.vcd_edit.proofs.FitKinds.{frame_fits, fits_by_parts, parts_fits}

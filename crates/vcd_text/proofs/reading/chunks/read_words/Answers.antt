@@ -5,7 +5,7 @@ use Rattle.vcd_text.specs.declared.fault.ReadError.{ReadError}
 use Rattle.vcd_text.specs.Words.{PlacedWord}
 use Rattle.vcd_text.specs.LentWords.{word_at}
 use Rattle.vcd_text.specs.Faults.{ShowsFault}
-use Rattle.vcd_text.specs.Refusals.{memory_error}
+use Rattle.vcd_text.specs.MemoryErrors.{memory_error}
 use Rattle.vcd_text.specs.inside.Reading.{Reads, AllWordsResult}
 use Rattle.vcd_text.specs.inside.WordWalk.{words_left}
 use Rattle.vcd_text.proofs.reading.chunks.read_words.Goals as goal

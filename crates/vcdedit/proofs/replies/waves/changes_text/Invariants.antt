@@ -1,7 +1,7 @@
 -- The text so far and the lines of the changes left make the whole text.
 use Rattle.std.proofs.Common.{◌≡◌, ◌++◌, drop}
 use Rattle.std.specs.List.{flat_map}
-use Rattle.vcdedit.specs.Queries.{change_lines}
+use Rattle.vcdedit.specs.WaveReplies.{change_lines}
 use Rattle.vcdedit.specs.Reply.{with_line_feed}
 use Rattle.vcdedit.proofs.replies.waves.changes_text.Given as goal
 

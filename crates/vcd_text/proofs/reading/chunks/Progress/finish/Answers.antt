@@ -2,8 +2,8 @@ use Rattle.std.proofs.Common.{◌≡◌, ◌⊎◌, inr, ℕ, ◌+◌, true, fal
 use Rattle.std.proofs.lemmas.Result.{err_from_is_err_and}
 use Rattle.vcd_text.specs.declared.fault.ReadError.{ReadError}
 use Rattle.vcd_text.specs.Words.{words_from, closed_words}
-use Rattle.vcd_text.specs.Faults.{FileFault, too_early}
-use Rattle.vcd_text.specs.Refusals.{memory_error}
+use Rattle.vcd_text.specs.FoundFaults.{FoundFault, too_early}
+use Rattle.vcd_text.specs.MemoryErrors.{memory_error}
 use Rattle.vcd_text.specs.inside.Chunks.{HasConsumed}
 use Rattle.vcd_text.proofs.Chunks.{last_taken, last_shown}
 use Rattle.vcd_text.proofs.Ended.{stops}
@@ -31,7 +31,7 @@ returns-in_err-read_words-clause-fault c =
     let p = c.args.self in
     let refused = err_from_is_err_and c.from_residual.result c.from_residual.ensures.1 in
     subst (λ r. IfErr r (λ (e : ReadError). (bytes : List ℕ) → HasConsumed p bytes
-    → (e ≡ memory_error) ⊎ FileFault bytes e.line e.fault)) (sym (refused.1 ∙ ap Err refused.2))
+    → (e ≡ memory_error) ⊎ FoundFault bytes e.line e.fault)) (sym (refused.1 ∙ ap Err refused.2))
     (λ bytes taken. last_shown p.reader p.buffer.bytes p.passed p.left bytes
     (words_from true (p.passed + 1) c.as_slice.result.now) c.in_err-read_words.field-0.0 taken
     (ap (words_from true (p.passed + 1)) c.as_slice.ensures)
@@ -45,7 +45,7 @@ returns-in_err-check_complete-clause-fault c =
     c.from_residual-in_err-check_complete.ensures.1 in
     let (open_still, truncated) = c.in_err-check_complete.ensures.truncated in
     subst (λ r. IfErr r (λ (e : ReadError). (bytes : List ℕ) → HasConsumed p bytes
-    → (e ≡ memory_error) ⊎ FileFault bytes e.line e.fault)) (sym (refused.1 ∙ ap Err refused.2))
+    → (e ≡ memory_error) ⊎ FoundFault bytes e.line e.fault)) (sym (refused.1 ∙ ap Err refused.2))
     (λ bytes taken.
     let reads = last_taken p.reader m p.buffer.bytes p.passed p.left bytes
     (words_from true (p.passed + 1) c.as_slice.result.now) taken

@@ -1,7 +1,7 @@
 use Rattle.std.proofs.Common.{◌≡◌, ◌∷◌, ◌++◌, ◌⊎◌, [], ap, sym, subst, ◌∙◌}
 use Rattle.vcd_text.specs.Words.{word_on}
 use Rattle.vcd_text.specs.inside.Reading.{error_at}
-use Rattle.vcd_text.specs.Refusals.{memory_error}
+use Rattle.vcd_text.specs.MemoryErrors.{memory_error}
 use Rattle.vcd_text.specs.Faults.{ShowsFault}
 use Rattle.vcd_text.specs.declared.fault.ReadError.{ReadError}
 use Rattle.vcd_text.proofs.Taken.{words_taken, one_shown}

@@ -1,4 +1,4 @@
--- The parts of a record as plain data.
+-- A record as contracts see it: the parts of the type as plain data, nothing left out but room.
 use Rattle.std.specs.Prelude.{ℕ, List, Option, Some, None, map}
 use Rattle.std.specs.Global.{Vec}
 use Rattle.vcd_core.specs.declared.capture.Signal.{Signal}

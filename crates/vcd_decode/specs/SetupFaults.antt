@@ -1,0 +1,38 @@
+-- The faults of setups: the project's own.
+use Rattle.std.specs.Prelude.{ℕ, ◌≡◌, ◌≤◌, ◌*◌, ◌&&◌, not, nat_lt, Option, Some, None}
+use Rattle.std.specs.Prelude.{Result, MatchResult}
+use Rattle.vcd_decode.specs.declared.uart_setup.TheConstants.{RATIO_LIMIT}
+use Rattle.vcd_decode.specs.declared.setup_error.SetupError.{SetupError}
+use Rattle.vcd_decode.specs.declared.setup_error.SetupError.TheVariants.{BadRatio, BitTooShort, BadData, BadStop}
+use Rattle.vcd_decode.specs.UartSetup.{UartSetup, is_between}
+use Rattle.std.specs.Prelude.{nat_le}
+use Rattle.vcd_decode.specs.declared.setup_error.SetupError.TheVariants.{BadMode, BadBits}
+use Rattle.vcd_decode.specs.declared.spi_setup.TheConstants.{GREATEST_MODE, WORD_BITS_LIMIT}
+use Rattle.vcd_decode.specs.SpiSetup.{SpiSetup}
+use Rattle.std.specs.Prelude.{if◌then◌else◌}
+
+-- the first fault of a setup, or none
+abbrev pub uart_fault : UartSetup → Option SetupError
+uart_fault u =
+    if not (is_between 1 RATIO_LIMIT u.numerator && is_between 1 RATIO_LIMIT u.denominator) then Some BadRatio
+    else (if nat_lt u.numerator (2 * u.denominator) then Some BitTooShort
+    else (if not (is_between 5 9 u.data_bits) then Some BadData
+    else (if not (is_between 1 2 u.stop_bits) then Some BadStop
+    else None)))
+
+-- the result of making a setup, by its fault
+abbrev pub SetupFaultIs : {T : Type 0} → Result T SetupError → Option SetupError → Type 0
+SetupFaultIs answer found = MatchResult answer (λ _. found ≡ None) (λ fault. found ≡ Some fault)
+
+-- the numbers of a setup without a fault
+abbrev pub IsUartSetup : ℕ → ℕ → ℕ → ℕ → Type 0
+IsUartSetup numerator denominator data_bits stop_bits =
+    (numerator ≤ RATIO_LIMIT) × (1 ≤ denominator) × (denominator ≤ RATIO_LIMIT) × (2 * denominator ≤ numerator)
+    × (5 ≤ data_bits) × (data_bits ≤ 9) × (1 ≤ stop_bits) × (stop_bits ≤ 2)
+
+-- the first fault of a setup, or none
+abbrev pub spi_fault : SpiSetup → Option SetupError
+spi_fault u =
+    if not (nat_le u.mode GREATEST_MODE) then Some BadMode
+    else (if not (is_between 1 WORD_BITS_LIMIT u.bits) then Some BadBits
+    else None)
