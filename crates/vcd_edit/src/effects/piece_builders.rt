@@ -1,6 +1,6 @@
 //! The parts of which plans are made.
 
-ghost use Rattle.std.specs.Prelude.{◌≡◌, ◌++◌, ◌∷◌, [], None, OnOk, IfOk, Some, false, ◌<◌, length, take, count_by, nat_lt, ◌≤◌, pos, neg_ℤ};
+ghost use Rattle.std.specs.Prelude.{◌≡◌, ◌++◌, ◌+◌, ◌∷◌, [], None, OnOk, IfOk, Some, false, max, vec_len, vec_capacity, ◌<◌, length, take, count_by, nat_lt, ◌≤◌, pos, neg_ℤ};
 ghost use Rattle.vcd_core.specs.Contents.{contents, signal_contents, signal_at};
 ghost use Rattle.vcd_core.specs.Sound.{IsSound, IsSoundSignal};
 ghost use Rattle.vcd_core.specs.Value.{all_x, same_letters};
@@ -50,12 +50,14 @@ pub(crate) fn put_change(
     tick: u64,
     value: Value,
 ) -> Result<(), NoMemory>
-    ensures { OnOk result (changes.new.items
+    ensures added { OnOk result (changes.new.items
         ≡ changes.old.items ++ unless_same (same_letters value before) (change tick value) []) }
+    ensures exact { vec_capacity changes.new ≤ max (vec_capacity changes.old) (vec_len changes.old + 1) }
 {
     if value != before {
         changes.reserve_exact(1)?;
-        changes.push(Change { tick, value })?;
+        // `push` does not say that the room stays as it is
+        changes.insert(changes.len(), Change { tick, value })?;
     }
     Ok(())
 }

@@ -1,6 +1,6 @@
 //! The room that pieces and waves need for their exchange.
 
-ghost use Rattle.std.specs.Prelude.{◌≡◌, ℕ, ◌+◌, ◌-◌, ◌<◌, ◌≤◌, [], All, IsOk, OnOk, map, length};
+ghost use Rattle.std.specs.Prelude.{◌≡◌, ℕ, ◌+◌, ◌-◌, ◌<◌, ◌≤◌, [], All, IsOk, OnOk, map, max, length, vec_capacity};
 ghost use Rattle.vcd_core.specs.Contents.{contents, signal_at};
 ghost use Rattle.vcd_edit.specs.Records.{piece_view};
 ghost use Rattle.vcd_edit.specs.inside.Exchanges.{wave_at, HasNoLessRoom, HasRoomForPiece};
@@ -33,8 +33,8 @@ fn reserve_wave(
         .reserve_splice(from, to, changes)
 }
 
-/// Makes room for the exchange of one piece with its wave. The contents of both stay the same, also if the memory is
-/// refused.
+/// Makes room for the exchange of one piece with its wave: in the piece for just the changes that it gets. The contents
+/// of both stay the same, also if the memory is refused.
 fn reserve_one(capture: &mut Capture, piece: &mut Piece) -> Result<(), NoMemory>
     requires signal { piece.old.signal < length capture.old.signals }
     requires ordered { piece.old.from ≤ piece.old.to }
@@ -43,12 +43,14 @@ fn reserve_one(capture: &mut Capture, piece: &mut Piece) -> Result<(), NoMemory>
     ensures contents { contents capture.new ≡ contents capture.old }
     ensures piece { piece_view piece.new ≡ piece_view piece.old }
     ensures room { OnOk result (HasRoomForPiece capture.new.signals piece.new) }
+    ensures exact { vec_capacity piece.new.changes
+        ≤ max (vec_capacity piece.old.changes) (piece.old.to - piece.old.from) }
     ensures never_less { (k : ℕ) →
         HasNoLessRoom (wave_at capture.old.signals k) (wave_at capture.new.signals k) }
 {
     let come = piece.changes.as_slice().len();
     let part = piece.to - piece.from;
-    piece.changes.reserve(part.saturating_sub(come))?;
+    piece.changes.reserve_exact(part.saturating_sub(come))?;
     let changes = piece.changes.as_slice();
     reserve_wave(capture, piece.signal, piece.from, piece.to, changes)
 }

@@ -27,7 +27,7 @@ returns c = λ end stop sound long there small.
           c.count_until-first.ensures c.count_until-last.ensures
           (to_z-of_z w64 c.offset_back.result (record { sfits = c.offset_back.type_inv })
           ∙ c.offset_back.ensures) (cc (
-            c.in_ok-put_change.ensures,
+            c.in_ok-put_change.ensures.added,
             c.new-changes.ensures.items,
             c.value_after-before.ensures,
             before,

@@ -19,7 +19,7 @@ returns-then-to-end c =
           (omega (arith, c.requires.within)) (ap (λ (q : PieceView). q.to) c.piece_between.ensures)
           (cc (
             ap (λ (q : PieceView). q.changes) c.piece_between.ensures,
-            c.in_ok-put_change.ensures,
+            c.in_ok-put_change.ensures.added,
             c.new-changes.ensures.items,
             c.value_just_before.ensures,
           ));
@@ -39,8 +39,8 @@ returns c =
           (omega arith) (ap (λ (q : PieceView). q.to) c.piece_between-2.ensures)
           (cc (
             ap (λ (q : PieceView). q.changes) c.piece_between-2.ensures,
-            c.in_ok-put_change.ensures,
-            c.in_ok-put_change-2.ensures,
+            c.in_ok-put_change.ensures.added,
+            c.in_ok-put_change-2.ensures.added,
             c.new-changes.ensures.items,
             c.value_just_before.ensures,
             c.at.ensures,

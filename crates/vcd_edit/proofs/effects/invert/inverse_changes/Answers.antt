@@ -11,7 +11,7 @@ loop-change-preserved c =
     inverse_more c.args.before c.loop-change.last c.inverse_of-value.result c.args.changes.now
     c.loop-change.change-index c.change-item.result c.loop-change.inverse.items c.put_change.new.changes.items
     c.loop-change-test.true c.change-item.is c.inverse_of-value.ensures c.loop-change.invariant
-    c.in_ok-put_change.ensures
+    c.in_ok-put_change.ensures.added
 
 pub returns : goal.returns
 returns c = inverse_done c.args.before c.loop-change.last c.args.changes.now c.loop-change.change-index
