@@ -4,7 +4,7 @@ ghost use Rattle.std.specs.Prelude.{◌≡◌, ◌++◌, ℕ, Ok, Err, OnOk, IfO
 ghost use Rattle.vcdedit.specs.Reply.{ok_reply, reply_text};
 ghost use Rattle.vcdedit.specs.inside.Replies.{IsReplyTo};
 
-use crate::replies::Made;
+use crate::replies::MemoryResult;
 use crate::replies::appending::append_number;
 use std::alloc::Global;
 
@@ -30,7 +30,7 @@ impl Reply {
     }
 
     /// The reply to an accepted step.
-    pub fn accepted(alloc: Global) -> Made<Reply>
+    pub fn accepted(alloc: Global) -> MemoryResult<Reply>
         ensures { IfOk result (λ reply. (number : ℕ) → IsReplyTo number ok_reply reply) }
     {
         let mut text = Vec::new(alloc);
@@ -39,7 +39,7 @@ impl Reply {
     }
 
     /// The reply to a refused line: its number, counted from 1, and the name of its fault.
-    pub fn refused(alloc: Global, number: u64, name: &str) -> Made<Reply>
+    pub fn refused(alloc: Global, number: u64, name: &str) -> MemoryResult<Reply>
         ensures { IfOk result (λ reply. IsReplyTo number (Err name.now) reply) }
     {
         let mut text = Vec::new(alloc);
@@ -52,7 +52,7 @@ impl Reply {
 }
 
 /// Appends the line with the number of a refused line and its fault.
-fn append_refusal(text: &mut Vec<u8>, number: u64, name: &str) -> Made<()>
+fn append_refusal(text: &mut Vec<u8>, number: u64, name: &str) -> MemoryResult<()>
     ensures { OnOk result (text.new.items ≡ text.old.items ++ reply_text number (Err name.now)) }
 {
     append_number(text, b"line", number)?;
