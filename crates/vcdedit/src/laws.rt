@@ -2,8 +2,8 @@
 
 ghost use Rattle.vcdedit.specs.Laws.{EveryRunIs, EveryRunIsOfReplays, EveryRunWritesOneThing, ReplaysAreOfRun, RunsAreOfReplays, RefusedLineChangesNothing, ReplyIsAnswer, RunIsReplay, UndoGivesBack, UndoInRunGivesBack, UndoTakesBackTheLast};
 
-/// What a run writes is of replays of the capture that the file means, by the lines of the script. Nothing else is. So
-/// a file and a script determine what a run writes.
+/// A run writes what replaying the edits in force gives, line by line, and nothing else. So a file and a script
+/// determine what a run writes.
 pub fn run_is_of_replays()
     ensures run { EveryRunIs }
     ensures of_machine { RunsAreOfReplays }

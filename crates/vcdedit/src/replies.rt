@@ -12,5 +12,5 @@ pub use answering::answer_line;
 pub use reply::Reply;
 use vcd_core::NoMemory;
 
-/// What is made for a reply, or want of memory for it.
-type Made<T> = Result<T, NoMemory>;
+/// The value, or that memory ran out.
+type MemoryResult<T> = Result<T, NoMemory>;

@@ -7,7 +7,7 @@ ghost use Rattle.vcdedit.specs.Reply.{with_line_feed};
 ghost use Rattle.vcd_decode.specs.declared.annotation.Kind.TheVariants as kinds;
 ghost use Rattle.vcdedit.specs.inside.Annotations.{annotations_text};
 
-use crate::replies::Made;
+use crate::replies::MemoryResult;
 use crate::replies::appending::{append_decimal, append_number, append_word};
 use std::alloc::Global;
 use vcd_decode::{Annotation, Direction, Kind, LineData};
@@ -19,7 +19,7 @@ pub fn annotations_to_bytes(
     decoder: &[u8],
     digits: u64,
     annotations: &[Annotation],
-) -> Made<Vec<u8>>
+) -> MemoryResult<Vec<u8>>
     ensures { IfOk result (λ text. text.items ≡ annotations_text decoder.now digits annotations.now) }
 {
     let mut text = Vec::new(alloc);
@@ -35,7 +35,7 @@ fn append_annotation(
     decoder: &[u8],
     digits: u64,
     annotation: &Annotation,
-) -> Made<()>
+) -> MemoryResult<()>
     ensures { OnOk result (text.new.items
         ≡ text.old.items ++ with_line_feed (annotation_line decoder.now digits annotation.now)) }
 {
@@ -48,7 +48,7 @@ fn append_annotation(
 }
 
 /// Appends the first and the last tick of an annotation, with a blank.
-fn append_ticks(text: &mut Vec<u8>, annotation: &Annotation) -> Made<()>
+fn append_ticks(text: &mut Vec<u8>, annotation: &Annotation) -> MemoryResult<()>
     ensures { OnOk result (text.new.items ≡ text.old.items ++ (decimal annotation.now.start
         ++ codes "-" ++ decimal annotation.now.end ++ codes " ")) }
 {
@@ -60,7 +60,7 @@ fn append_ticks(text: &mut Vec<u8>, annotation: &Annotation) -> Made<()>
 }
 
 /// Appends the kind of an annotation.
-fn append_kind(text: &mut Vec<u8>, digits: u64, kind: Kind) -> Made<()>
+fn append_kind(text: &mut Vec<u8>, digits: u64, kind: Kind) -> MemoryResult<()>
     ensures { OnOk result (text.new.items ≡ text.old.items ++ kind_text digits kind) }
 {
     match kind {
@@ -89,8 +89,8 @@ fn append_kind(text: &mut Vec<u8>, digits: u64, kind: Kind) -> Made<()>
     }
 }
 
-/// Appends a name and a number of so many hexadecimal digits.
-fn append_data(text: &mut Vec<u8>, name: &[u8], digits: u64, number: u32) -> Made<()>
+/// Appends a name and a number in `digits` hexadecimal digits.
+fn append_data(text: &mut Vec<u8>, name: &[u8], digits: u64, number: u32) -> MemoryResult<()>
     ensures { OnOk result (text.new.items
         ≡ text.old.items ++ (name.now ++ hex_text digits number)) }
 {
@@ -99,14 +99,14 @@ fn append_data(text: &mut Vec<u8>, name: &[u8], digits: u64, number: u32) -> Mad
     append_hex(text, digits, number)
 }
 
-/// Appends a name, an address of so many hexadecimal digits, and the direction.
+/// Appends a name, an address in `digits` hexadecimal digits, and the direction.
 fn append_address(
     text: &mut Vec<u8>,
     name: &[u8],
     digits: u64,
     address: u32,
     direction: Direction,
-) -> Made<()>
+) -> MemoryResult<()>
     ensures { OnOk result (text.new.items
         ≡ text.old.items ++ (name.now ++ hex_text digits address ++ direction_text direction)) }
 {
@@ -118,7 +118,12 @@ fn append_address(
 }
 
 /// Appends what the two SPI data lines show of a word.
-fn append_line_data(text: &mut Vec<u8>, digits: u64, mosi: LineData, miso: LineData) -> Made<()>
+fn append_line_data(
+    text: &mut Vec<u8>,
+    digits: u64,
+    mosi: LineData,
+    miso: LineData,
+) -> MemoryResult<()>
     ensures { OnOk result (text.new.items
         ≡ text.old.items ++ kind_text digits (kinds.Word mosi miso)) }
 {
@@ -128,7 +133,7 @@ fn append_line_data(text: &mut Vec<u8>, digits: u64, mosi: LineData, miso: LineD
 }
 
 /// Appends a name and what its data line shows; nothing if the line is absent.
-fn append_line(text: &mut Vec<u8>, name: &[u8], digits: u64, shown: LineData) -> Made<()>
+fn append_line(text: &mut Vec<u8>, name: &[u8], digits: u64, shown: LineData) -> MemoryResult<()>
     ensures { OnOk result (text.new.items
         ≡ text.old.items ++ line_data_text name.now digits shown) }
 {
@@ -140,7 +145,7 @@ fn append_line(text: &mut Vec<u8>, name: &[u8], digits: u64, shown: LineData) ->
 }
 
 /// Appends a name and `?`.
-fn append_unknown(text: &mut Vec<u8>, name: &[u8]) -> Made<()>
+fn append_unknown(text: &mut Vec<u8>, name: &[u8]) -> MemoryResult<()>
     ensures { OnOk result (text.new.items ≡ text.old.items ++ (name.now ++ codes "?")) }
 {
     text.extend_from_slice(name)?;
@@ -149,7 +154,7 @@ fn append_unknown(text: &mut Vec<u8>, name: &[u8]) -> Made<()>
 }
 
 /// Appends the last `digits` hexadecimal digits of a number.
-fn append_hex(text: &mut Vec<u8>, digits: u64, number: u32) -> Made<()>
+fn append_hex(text: &mut Vec<u8>, digits: u64, number: u32) -> MemoryResult<()>
     ensures { OnOk result (text.new.items ≡ text.old.items ++ hex_digits digits number) }
 {
     if digits == 0 {

@@ -9,15 +9,15 @@ ghost use Rattle.vcdedit.specs.inside.Replies.{IsReplyTo};
 use crate::replies::decoding::{i2c_text, spi_text, uart_text};
 use crate::replies::listing::listing_text;
 use crate::replies::waves::{changes_text, value_text};
-use crate::replies::{Made, Reply};
+use crate::replies::{MemoryResult, Reply};
 use crate::script::{Command, parse_line};
 use std::alloc::Global;
 use vcd_core::NoMemory;
 use vcd_edit::EditError;
 use vcd_journal::{Session, Step, StepError};
 
-/// Does what the line of this number asks for, on the current capture, and gives the reply. So many declarations of
-/// the capture's file were skipped.
+/// Does what the line of this number asks for, on the current capture, and gives the reply. `skipped`: how many
+/// variables of the file were left out.
 ///
 /// The only error is that memory runs out. The session is then as before, since the reply is made before the step.
 pub fn answer_line(
@@ -26,7 +26,7 @@ pub fn answer_line(
     skipped: u64,
     number: u64,
     line: &[u8],
-) -> Made<Reply>
+) -> MemoryResult<Reply>
     ensures answers { IfOk result (λ reply.
         AnswersLine skipped number line.now session.old session.new reply) }
     ensures unchanged { OnErr result (session.new ≡ session.old) }
@@ -44,7 +44,7 @@ fn answer_command(
     skipped: u64,
     number: u64,
     command: &Command,
-) -> Made<Reply>
+) -> MemoryResult<Reply>
     requires signals { HasItsSignals session.old.now command.now }
     ensures answers { IfOk result (λ reply.
         AnswersCommand skipped number command.now session.old session.new reply) }
@@ -74,7 +74,12 @@ fn answer_command(
 }
 
 /// Makes the step that the line of this number asks for, and gives the reply.
-fn answer_step(alloc: Global, session: &mut Session, number: u64, step: &Step) -> Made<Reply>
+fn answer_step(
+    alloc: Global,
+    session: &mut Session,
+    number: u64,
+    step: &Step,
+) -> MemoryResult<Reply>
     ensures answers { IfOk result (λ reply.
         AnswersStep number step.now session.old session.new reply) }
     ensures unchanged { OnErr result (session.new ≡ session.old) }
@@ -88,7 +93,7 @@ fn answer_step(alloc: Global, session: &mut Session, number: u64, step: &Step) -
 }
 
 /// The reply to a refused step, unless memory was refused.
-fn refuse_step(alloc: Global, number: u64, refusal: StepError) -> Made<Reply>
+fn refuse_step(alloc: Global, number: u64, refusal: StepError) -> MemoryResult<Reply>
     ensures named { IfOk result (λ reply.
         IsReplyTo number (Err (step_error_name refusal)) reply) }
     ensures memory { IfOk result (λ _. wants_memory refusal ≡ false) }

@@ -5,12 +5,12 @@ ghost use Rattle.std.specs.Fmt.{decimal};
 ghost use Rattle.vcd_text.specs.Letters.{printed_letters};
 ghost use Rattle.vcdedit.specs.Queries.{number_line};
 
-use crate::replies::Made;
+use crate::replies::MemoryResult;
 use itoa::Buffer;
 use vcd_core::Value;
 
 /// Appends all letters of a value, most significant first. The cost is the width.
-pub fn append_letters(text: &mut Vec<u8>, value: &Value) -> Made<()>
+pub fn append_letters(text: &mut Vec<u8>, value: &Value) -> MemoryResult<()>
     ensures { OnOk result (text.new.items ≡ text.old.items ++ printed_letters value.now) }
 {
     let width = value.width();
@@ -21,7 +21,7 @@ pub fn append_letters(text: &mut Vec<u8>, value: &Value) -> Made<()>
 }
 
 /// Appends a number in decimal digits.
-pub fn append_decimal(text: &mut Vec<u8>, number: u64) -> Made<()>
+pub fn append_decimal(text: &mut Vec<u8>, number: u64) -> MemoryResult<()>
     ensures { OnOk result (text.new.items ≡ text.old.items ++ decimal number) }
 {
     text.extend_from_slice(Buffer::new().format(number).as_bytes())?;
@@ -29,7 +29,7 @@ pub fn append_decimal(text: &mut Vec<u8>, number: u64) -> Made<()>
 }
 
 /// Appends a word.
-pub fn append_word(text: &mut Vec<u8>, word: &[u8]) -> Made<()>
+pub fn append_word(text: &mut Vec<u8>, word: &[u8]) -> MemoryResult<()>
     ensures { OnOk result (text.new.items ≡ text.old.items ++ word.now) }
 {
     text.extend_from_slice(word)?;
@@ -37,7 +37,7 @@ pub fn append_word(text: &mut Vec<u8>, word: &[u8]) -> Made<()>
 }
 
 /// Appends a word and a number.
-pub fn append_number(text: &mut Vec<u8>, word: &[u8], number: u64) -> Made<()>
+pub fn append_number(text: &mut Vec<u8>, word: &[u8], number: u64) -> MemoryResult<()>
     ensures { OnOk result (text.new.items ≡ text.old.items ++ number_line word.now number) }
 {
     text.extend_from_slice(word)?;

@@ -12,14 +12,19 @@ ghost use Rattle.vcdedit.specs.DecoderReply as spec;
 ghost use Rattle.vcdedit.specs.CommandSignals.{IsScalarAt};
 ghost use Rattle.vcdedit.specs.Reply.{with_line_feed};
 
-use crate::replies::Made;
+use crate::replies::MemoryResult;
 use crate::replies::annotations::annotations_to_bytes;
 use std::alloc::Global;
 use vcd_core::{Capture, Wave};
 use vcd_decode::{Spi, Uart, i2c, spi, uart};
 
 /// The lines for a UART line. The cost is that of [`uart`], and of the text.
-pub fn uart_text(alloc: Global, capture: &Capture, signal: usize, setup: &Uart) -> Made<Vec<u8>>
+pub fn uart_text(
+    alloc: Global,
+    capture: &Capture,
+    signal: usize,
+    setup: &Uart,
+) -> MemoryResult<Vec<u8>>
     requires sound { IsSound (contents capture.now) }
     requires one_bit_signal { IsScalarAt (contents capture.now) signal }
     ensures { IfOk result (λ text. text.items ≡
@@ -45,7 +50,7 @@ pub fn spi_text(
     miso: Option<usize>,
     cs: Option<usize>,
     setup: &Spi,
-) -> Made<Vec<u8>>
+) -> MemoryResult<Vec<u8>>
     requires sound { IsSound (contents capture.now) }
     requires clk { IsScalarAt (contents capture.now) clk }
     requires mosi { IfSome mosi (IsScalarAt (contents capture.now)) }
@@ -70,7 +75,7 @@ fn spi_digits(setup: &Spi) -> u64
 }
 
 /// The lines for an I2C bus. The cost is that of [`i2c`], and of the text.
-pub fn i2c_text(alloc: Global, capture: &Capture, scl: usize, sda: usize) -> Made<Vec<u8>>
+pub fn i2c_text(alloc: Global, capture: &Capture, scl: usize, sda: usize) -> MemoryResult<Vec<u8>>
     requires sound { IsSound (contents capture.now) }
     requires scl { IsScalarAt (contents capture.now) scl }
     requires sda { IsScalarAt (contents capture.now) sda }
@@ -94,7 +99,7 @@ fn scalar_wave(capture: &Capture, signal: usize) -> &Wave
     &capture.signals()[signal].wave
 }
 
-/// The same for a line that may be absent.
+/// The wave of a line that may be absent.
 fn wave_or_absent(capture: &Capture, line: Option<usize>) -> Option<&Wave>
     requires sound { IsSound (contents capture.now) }
     requires one_bit_signal { IfSome line (IsScalarAt (contents capture.now)) }

@@ -8,14 +8,14 @@ ghost use Rattle.vcd_core.specs.Names.{full_name};
 ghost use Rattle.vcdedit.specs.Queries.{timescale_line, number_line, signal_line, signal_lines, listing};
 ghost use Rattle.vcdedit.specs.Reply.{with_line_feed};
 
-use crate::replies::Made;
+use crate::replies::MemoryResult;
 use crate::replies::appending::{append_decimal, append_number, append_word};
 use std::alloc::Global;
 use vcd_core::{Capture, Signal, Timescale, Word};
 
-/// The lines of `list` on a capture. So many declarations of its file were skipped. The cost is that of its names; no
-/// wave is read.
-pub fn listing_text(alloc: Global, capture: &Capture, skipped: u64) -> Made<Vec<u8>>
+/// The lines of `list` on a capture. `skipped`: how many variables of the file were left out. The cost is that of the
+/// names; no wave is read.
+pub fn listing_text(alloc: Global, capture: &Capture, skipped: u64) -> MemoryResult<Vec<u8>>
     ensures { IfOk result (λ text. text.items ≡
         flat_map with_line_feed (listing (contents capture.now) skipped)) }
 {
@@ -30,7 +30,7 @@ pub fn listing_text(alloc: Global, capture: &Capture, skipped: u64) -> Made<Vec<
 }
 
 /// Appends the line of the timescale.
-fn append_timescale_line(text: &mut Vec<u8>, timescale: Option<Timescale>) -> Made<()>
+fn append_timescale_line(text: &mut Vec<u8>, timescale: Option<Timescale>) -> MemoryResult<()>
     ensures { OnOk result (text.new.items ≡
         text.old.items ++ with_line_feed (timescale_line timescale)) }
 {
@@ -41,7 +41,7 @@ fn append_timescale_line(text: &mut Vec<u8>, timescale: Option<Timescale>) -> Ma
 }
 
 /// Appends the line of a given timescale.
-fn append_unit(text: &mut Vec<u8>, timescale: Timescale) -> Made<()>
+fn append_unit(text: &mut Vec<u8>, timescale: Timescale) -> MemoryResult<()>
     ensures { OnOk result (text.new.items ≡
         text.old.items ++ with_line_feed (timescale_line (Some timescale))) }
 {
@@ -53,7 +53,7 @@ fn append_unit(text: &mut Vec<u8>, timescale: Timescale) -> Made<()>
 }
 
 /// Appends the line of a word and a number.
-fn append_number_line(text: &mut Vec<u8>, word: &[u8], number: u64) -> Made<()>
+fn append_number_line(text: &mut Vec<u8>, word: &[u8], number: u64) -> MemoryResult<()>
     ensures { OnOk result (text.new.items ≡
         text.old.items ++ with_line_feed (number_line word.now number)) }
 {
@@ -63,7 +63,7 @@ fn append_number_line(text: &mut Vec<u8>, word: &[u8], number: u64) -> Made<()>
 }
 
 /// Appends a line for each signal.
-fn append_signal_lines(text: &mut Vec<u8>, signals: &[Signal]) -> Made<()>
+fn append_signal_lines(text: &mut Vec<u8>, signals: &[Signal]) -> MemoryResult<()>
     ensures { OnOk result (text.new.items ≡ text.old.items
         ++ flat_map with_line_feed (signal_lines 0 (map signal_contents signals.now))) }
 {
@@ -74,7 +74,7 @@ fn append_signal_lines(text: &mut Vec<u8>, signals: &[Signal]) -> Made<()>
 }
 
 /// Appends the line of the signal at a position.
-fn append_signal_line(text: &mut Vec<u8>, position: usize, signal: &Signal) -> Made<()>
+fn append_signal_line(text: &mut Vec<u8>, position: usize, signal: &Signal) -> MemoryResult<()>
     ensures { OnOk result (text.new.items ≡
         text.old.items ++ with_line_feed (signal_line position (signal_contents signal.now))) }
 {
@@ -86,7 +86,7 @@ fn append_signal_line(text: &mut Vec<u8>, position: usize, signal: &Signal) -> M
 }
 
 /// Appends the front of a signal's line: its position and its width.
-fn append_place_and_width(text: &mut Vec<u8>, position: usize, width: u64) -> Made<()>
+fn append_place_and_width(text: &mut Vec<u8>, position: usize, width: u64) -> MemoryResult<()>
     ensures { OnOk result (text.new.items ≡
         text.old.items ++ number_line (codes "@" ++ decimal position) width) }
 {
@@ -97,7 +97,7 @@ fn append_place_and_width(text: &mut Vec<u8>, position: usize, width: u64) -> Ma
 }
 
 /// Appends a signal's kind between two blanks.
-fn append_signal_kind(text: &mut Vec<u8>, kind: &[u8]) -> Made<()>
+fn append_signal_kind(text: &mut Vec<u8>, kind: &[u8]) -> MemoryResult<()>
     ensures { OnOk result (text.new.items ≡ text.old.items ++ codes " " ++ kind.now ++ codes " ") }
 {
     text.extend_from_slice(b" ")?;
@@ -107,7 +107,7 @@ fn append_signal_kind(text: &mut Vec<u8>, kind: &[u8]) -> Made<()>
 }
 
 /// Appends the full name of a signal.
-fn append_full_name(text: &mut Vec<u8>, signal: &Signal) -> Made<()>
+fn append_full_name(text: &mut Vec<u8>, signal: &Signal) -> MemoryResult<()>
     ensures { OnOk result (text.new.items ≡
         text.old.items ++ full_name (signal_contents signal.now)) }
 {
@@ -121,7 +121,7 @@ fn append_full_name(text: &mut Vec<u8>, signal: &Signal) -> Made<()>
 }
 
 /// Appends words without a separator.
-fn append_joined(text: &mut Vec<u8>, words: &[Word]) -> Made<()>
+fn append_joined(text: &mut Vec<u8>, words: &[Word]) -> MemoryResult<()>
     ensures { OnOk result (text.new.items ≡ text.old.items ++ concat words.now) }
 {
     for word in words {

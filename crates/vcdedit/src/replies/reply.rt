@@ -5,7 +5,7 @@ ghost use Rattle.vcdedit.specs.Reply.{reply_text};
 ghost use Rattle.vcdedit.specs.MachineReplies.{ok_reply};
 ghost use Rattle.vcdedit.specs.inside.Replies.{IsReplyTo};
 
-use crate::replies::Made;
+use crate::replies::MemoryResult;
 use crate::replies::appending::append_number;
 use std::alloc::Global;
 
@@ -31,7 +31,7 @@ impl Reply {
     }
 
     /// The reply to an accepted step.
-    pub fn accepted(alloc: Global) -> Made<Reply>
+    pub fn accepted(alloc: Global) -> MemoryResult<Reply>
         ensures { IfOk result (λ reply. (number : ℕ) → IsReplyTo number ok_reply reply) }
     {
         let mut text = Vec::new(alloc);
@@ -40,7 +40,7 @@ impl Reply {
     }
 
     /// The reply to a refused line: its number, counted from 1, and the name of its fault.
-    pub fn refused(alloc: Global, number: u64, name: &str) -> Made<Reply>
+    pub fn refused(alloc: Global, number: u64, name: &str) -> MemoryResult<Reply>
         ensures { IfOk result (λ reply. IsReplyTo number (Err name.now) reply) }
     {
         let mut text = Vec::new(alloc);
@@ -53,7 +53,7 @@ impl Reply {
 }
 
 /// Appends the line with the number of a refused line and its fault.
-fn append_refusal(text: &mut Vec<u8>, number: u64, name: &str) -> Made<()>
+fn append_refusal(text: &mut Vec<u8>, number: u64, name: &str) -> MemoryResult<()>
     ensures { OnOk result (text.new.items ≡ text.old.items ++ reply_text number (Err name.now)) }
 {
     append_number(text, b"line", number)?;

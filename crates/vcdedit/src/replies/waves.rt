@@ -7,14 +7,19 @@ ghost use Rattle.vcdedit.specs.Queries.{change_line};
 ghost use Rattle.vcdedit.specs.WaveReplies.{value_line, change_lines as lines_of};
 ghost use Rattle.vcdedit.specs.Reply.{with_line_feed};
 
-use crate::replies::Made;
+use crate::replies::MemoryResult;
 use crate::replies::appending::{append_decimal, append_letters};
 use std::alloc::Global;
 use vcd_core::{Capture, Change};
 
 /// The line of `value` for the signal at a position, at a tick. The cost is the logarithm of its number of changes,
 /// and its width.
-pub fn value_text(alloc: Global, capture: &Capture, signal: usize, tick: u64) -> Made<Vec<u8>>
+pub fn value_text(
+    alloc: Global,
+    capture: &Capture,
+    signal: usize,
+    tick: u64,
+) -> MemoryResult<Vec<u8>>
     requires { signal < length capture.now.signals }
     ensures { IfOk result (λ text. text.items ≡
         with_line_feed (value_line (signal_at (contents capture.now) signal) tick)) }
@@ -26,7 +31,7 @@ pub fn value_text(alloc: Global, capture: &Capture, signal: usize, tick: u64) ->
 }
 
 /// The lines of `changes` for the signal at a position. The cost is that of its changes.
-pub fn changes_text(alloc: Global, capture: &Capture, signal: usize) -> Made<Vec<u8>>
+pub fn changes_text(alloc: Global, capture: &Capture, signal: usize) -> MemoryResult<Vec<u8>>
     requires { signal < length capture.now.signals }
     ensures { IfOk result (λ text. text.items ≡ flat_map with_line_feed
         (lines_of (signal_at (contents capture.now) signal).changes)) }
@@ -40,7 +45,7 @@ pub fn changes_text(alloc: Global, capture: &Capture, signal: usize) -> Made<Vec
 }
 
 /// Appends the line of a change.
-fn append_change_line(text: &mut Vec<u8>, change: &Change) -> Made<()>
+fn append_change_line(text: &mut Vec<u8>, change: &Change) -> MemoryResult<()>
     ensures { OnOk result (text.new.items ≡
         text.old.items ++ with_line_feed (change_line change.now)) }
 {

@@ -13,8 +13,8 @@ use vcd_core::{Sink, write_all};
 use vcd_journal::Session;
 
 /// Runs the lines of a script, in order, each on the current capture. Its reply is written whole before the next line
-/// is read. Then the replies are flushed. So many declarations of the capture's file were skipped. Gives how many
-/// lines were refused.
+/// is read. Then the replies are flushed. Gives how many lines were refused. `skipped`: how many variables of the file
+/// were left out.
 ///
 /// The first error ends it: memory is refused at a line, or the writer of the replies fails. It holds the reply of one
 /// line at a time.

@@ -102,7 +102,7 @@ pub fn one_bit_signal(capture: &Capture, signal: usize) -> Result<usize, LineErr
     }
 }
 
-/// The same for a line that may be absent.
+/// Checks that a line, if it is there, has one bit.
 pub fn one_bit_signal_or_absent(
     capture: &Capture,
     line: Option<usize>,
@@ -116,7 +116,7 @@ pub fn one_bit_signal_or_absent(
     }
 }
 
-/// The same for a line that is there.
+/// Checks that a line that is there has one bit.
 fn some_scalar(capture: &Capture, signal: usize) -> Result<Option<usize>, LineError>
     requires { signal < length capture.now.signals }
     ensures { result ≡ spec.one_bit_signal_or_absent (contents capture.now) (Some signal) }

@@ -55,7 +55,7 @@ fn parse_rule(name: &[u8], words: &mut Words<'_>, capture: &Capture) -> Result<R
     Err(LineError::BadOption)
 }
 
-/// Reads `A`.
+/// Reads `A B`.
 fn parse_pair(words: &mut Words<'_>, capture: &Capture) -> Result<(usize, usize), LineError>
     ensures both { IfOk result (λ k. (rule : ℕ → ℕ → EditRule) (word : List ℕ) →
         pair_command (contents capture.now) rule word (word_texts words.old) ≡

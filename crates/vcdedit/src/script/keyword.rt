@@ -1,4 +1,4 @@
-//! The first words of lines.
+//! The keyword of a line: its first word, which names the command.
 
 ghost use Rattle.std.specs.Prelude.{◌≡◌, if◌then◌else◌, Some, None};
 ghost use Rattle.std.specs.Str.{bytes_eq};
@@ -49,7 +49,7 @@ pub fn keyword_of(word: &[u8]) -> Option<Keyword>
         .or(keyword_if(word, b"i2c", Keyword::I2c))
 }
 
-/// The edit that has this name.
+/// The keyword, if the word is its name.
 fn keyword_if(word: &[u8], name: &[u8], keyword: Keyword) -> Option<Keyword>
     ensures { result ≡ (if bytes_eq word.now name.now then Some keyword else None) }
 {

@@ -134,13 +134,13 @@ fn run_inputs<R: Runtime + AllocGlobal, C: Source, S: Source>(
         (device_end S.coming S.has_failed script.old script.new) }
 {
     let buffer = new_buffer(rt, io::writer(rt))?;
-    let (ending, _) = run_gathered(rt, capture, script, buffer, output, depth);
-    ending
+    let (outcome, _) = run_with_reply_buffer(rt, capture, script, buffer, output, depth);
+    outcome
 }
 
 /// Runs with a buffer for the replies. What it holds at the end is sent to the writer after it, also if memory ran
 /// out. Gives how the run ended, and that writer: if it failed, it is gone, and only an error after the run is kept.
-fn run_gathered<R: Runtime + AllocGlobal, C: Source, S: Source, W: Write + Drop>(
+fn run_with_reply_buffer<R: Runtime + AllocGlobal, C: Source, S: Source, W: Write + Drop>(
     rt: &R,
     capture: &mut C,
     script: &mut S,
@@ -164,8 +164,8 @@ fn run_gathered<R: Runtime + AllocGlobal, C: Source, S: Source, W: Write + Drop>
         (writer_contents W.contents buffer) (W.contents writer)) }
 {
     let mut device = ToWrite::new(buffer);
-    let ending = run_devices(rt, capture, script, &mut device, output, depth);
-    (ending, close_device(device))
+    let outcome = run_devices(rt, capture, script, &mut device, output, depth);
+    (outcome, close_device(device))
 }
 
 /// Runs with the file at `output` for the output, if there is one.

@@ -45,7 +45,7 @@ impl Write for FlushCounter {
     }
 }
 
-/// A writer with room for so many bytes. Once full it takes no more, and a flush fails.
+/// A writer with room for `room` bytes. Once full it takes no more, and a flush fails.
 #[derive(Drop)]
 pub struct SmallWriter {
     held: Vec<u8>,

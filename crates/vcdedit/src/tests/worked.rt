@@ -60,7 +60,7 @@ fn run_in_memory(
     })
 }
 
-/// Stops unless a run refused so many lines, and wrote these replies and this output.
+/// Stops unless a run refused `refused` lines, and wrote these replies and this output.
 fn check_done(rt: &impl Abort, run: &EndedRun, refused: u64, replies: &[u8], output: &[u8]) {
     assert!(rt; run.ending == Ok(Summary { refused }));
     assert!(rt; run.replies.as_slice() == replies);

@@ -39,7 +39,7 @@ const REFUSED: &str = "\
 124 124 line 11: BadChange
 127 127 line 12: BadTime";
 
-/// The fault of the file that is cut after so many bytes, if it has one.
+/// The fault of the file that is cut after `len` bytes, if it has one.
 fn fault_at(len: usize) -> Result<Option<&'static str>, Fail> {
     for row in REFUSED.lines() {
         let (from, rest) = row.split_once(' ').ok_or("no length")?;

@@ -7,7 +7,7 @@ use std::process::Abort;
 use std::test::Fail;
 use vcd_core::{SIGNAL_LIMIT, WIDTH_LIMIT};
 
-/// Appends a text so many times.
+/// Appends a text `count` times.
 fn push_copies(bytes: &mut Vec<u8>, text: &[u8], count: usize) -> Result<(), Fail> {
     for _ in 0..count {
         bytes.extend_from_slice(text)?;
@@ -15,7 +15,7 @@ fn push_copies(bytes: &mut Vec<u8>, text: &[u8], count: usize) -> Result<(), Fai
     Ok(())
 }
 
-/// A text so many times, and another after it.
+/// A text `count` times, and another after it.
 fn copies_then(alloc: Global, text: &[u8], count: usize, last: &[u8]) -> Result<Vec<u8>, Fail> {
     let mut bytes = Vec::new(alloc);
     push_copies(&mut bytes, text, count)?;
@@ -73,7 +73,7 @@ fn one_signal_too_many(rt: HostRuntime) -> Result<(), Fail> {
 /// A capture without signals, as it is written.
 const EMPTY: &[u8] = b"$enddefinitions $end\n#0\n$dumpvars\n$end\n";
 
-/// A comment of so many bytes: the longest accepted script, and one byte more.
+/// The longest accepted script is a comment of that many bytes. One byte more is refused.
 #[test]
 fn the_longest_script(rt: HostRuntime) -> Result<(), Fail> {
     let mut script = copies_then(rt.alloc(), b"#", SCRIPT_LIMIT as usize, b"")?;
@@ -110,7 +110,7 @@ output: [v:{WIDTH_LIMIT} 1@0 z@1 1@2; end 2]"
     check_case(&rt, rt.alloc(), case.as_str())
 }
 
-/// So many letters `1` as the widest signal has bits, and one more.
+/// One letter `1` more than the widest signal has bits.
 fn letters(alloc: Global) -> Result<String, Fail> {
     let mut text = String::new(alloc);
     for _ in 0..=WIDTH_LIMIT {
