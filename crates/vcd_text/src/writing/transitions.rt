@@ -7,14 +7,14 @@ ghost use Rattle.vcd_core.specs.declared.capture.TheConstants.{END_LIMIT, SIGNAL
 ghost use Rattle.vcd_text.specs.inside.Transitions.{last_tick, transition_items};
 ghost use Rattle.vcd_text.specs.inside.Windows.{IsKey, IsReady, transitions_of};
 ghost use Rattle.vcd_text.specs.inside.Written.{Emits};
-ghost use Rattle.vcd_text.specs.declared.writing.window.TheConstants.{PLACES, SPAN};
+ghost use Rattle.vcd_text.specs.declared.writing.window.TheConstants.{PLACES};
 ghost use Rattle.vcd_text.specs.Text.{end_items, item_line, tick_items};
 
 use super::buffer::WriteBuffer;
 use super::next_changes::NextChange;
 use super::stamps::{write_last_stamp, write_new_stamp};
 use super::values::write_value_near;
-use super::window::{PLACES, SPAN, Window, fill_window};
+use super::window::{PLACES, Window, fill_window};
 use vcd_core::{Signal, Sink};
 
 /// Writes the changes after tick 0, and the end, window by window. Ticks without a change are not
@@ -50,11 +50,10 @@ pub fn write_transitions<W: Sink>(
 /// The greatest number of ticks of the first window: as many as use seven eighths of its room, if
 /// the changes are spread evenly.
 fn first_most(signals: &[Signal], room: usize, end: u64) -> u64
-    ensures some { 1 ≤ result }
-    ensures span { result ≤ SPAN }
+    ensures { 1 ≤ result }
 {
     let windows = change_count(signals) / (room / 8).saturating_mul(7).max(1);
-    (end / (windows as u64).saturating_add(1)).clamp(1, SPAN)
+    (end / (windows as u64).saturating_add(1)).max(1)
 }
 
 /// The number of changes of all signals.
@@ -69,13 +68,11 @@ fn change_count(signals: &[Signal]) -> usize {
 /// The greatest number of ticks of the next window: twice as many where this one used less than a
 /// quarter of its room.
 fn next_most(count: u64, used: usize, room: usize) -> u64
-    requires some { 1 ≤ count }
-    requires span { count ≤ SPAN }
-    ensures some { 1 ≤ result }
-    ensures span { result ≤ SPAN }
+    requires { 1 ≤ count }
+    ensures { 1 ≤ result }
 {
     if used < room / 4 {
-        return count.saturating_mul(2).min(SPAN);
+        return count.saturating_mul(2);
     }
     count
 }

@@ -1,7 +1,7 @@
 //! A window of ticks: a key for each change of the signals in it, in the order of the text, and room
 //! that was made beforehand.
 
-ghost use Rattle.std.specs.Prelude.{◌≡◌, ◌<◌, ◌≤◌, ◌+◌, ◌-◌, ◌*◌, ◌++◌, ◌∷◌, [], ℕ, true, false, length, map, All, vec_capacity, IfOk, IfSome, IfNone};
+ghost use Rattle.std.specs.Prelude.{◌≡◌, ◌⊎◌, ◌<◌, ◌≤◌, ◌+◌, ◌-◌, ◌*◌, ◌++◌, ◌∷◌, [], ℕ, true, false, length, map, All, vec_capacity, IfOk, IfSome, IfNone};
 ghost use Rattle.vcd_core.specs.Contents.{signal_contents};
 ghost use Rattle.vcd_core.specs.Sound.{IsSoundSignal};
 ghost use Rattle.vcd_core.specs.declared.capture.TheConstants.{END_LIMIT, SIGNAL_LIMIT};
@@ -51,11 +51,10 @@ impl Window {
 }
 
 /// Makes the window that of the ticks from `from` on. Returns the number of these ticks: at most
-/// `most`, halved until the window has room.
+/// `most`, halved until the window has room and its changes are within `SPAN`.
 pub fn fill_window(window: &mut Window, signals: &[Signal], from: u64, most: u64, end: u64) -> u64
     requires ready { IsReady end from signals.now window.old }
     requires some { 1 ≤ most }
-    requires span { most ≤ SPAN }
     requires most { from + most ≤ END_LIMIT + 1 }
     ensures some { 1 ≤ result }
     ensures most { result ≤ most }
@@ -96,7 +95,6 @@ fn list_some(
     requires begun { AreNext from signals.now begun.now }
     requires next { length nexts.old ≡ length signals.now }
     requires some { 1 ≤ most }
-    requires span { most ≤ SPAN }
     requires most { from + most ≤ END_LIMIT + 1 }
     ensures some { 1 ≤ result }
     ensures most { result ≤ most }
@@ -113,7 +111,8 @@ fn list_some(
     count
 }
 
-/// Lists the keys of a window, signal by signal. Returns whether there was room.
+/// Lists the keys of a window, signal by signal. Returns whether there was room, and no change was
+/// too far from the window's first tick for a key.
 fn list_window(
     keys: &mut Vec<u64>,
     signals: &[Signal],
@@ -128,15 +127,14 @@ fn list_window(
     requires begun { AreNext from signals.now begun.now }
     requires next { length nexts.old ≡ length signals.now }
     requires order { from ≤ to }
-    requires span { to ≤ from + SPAN }
     requires end { to ≤ END_LIMIT + 1 }
     ensures all { result ≡ true → transitions_of from keys.new.items
         ≡ unsorted_window from to 0 (map signal_contents signals.now) }
     ensures keys { All (IsKey from (length signals.now)) keys.new.items }
     ensures next { result ≡ true → AreNext to signals.now nexts.new }
     ensures all_next { length nexts.new ≡ length signals.now }
-    ensures full { result ≡ false → vec_capacity keys.old
-        < length (unsorted_window from to 0 (map signal_contents signals.now)) }
+    ensures full { result ≡ false → (from + SPAN < to) ⊎ (vec_capacity keys.old
+        < length (unsorted_window from to 0 (map signal_contents signals.now))) }
     ensures room { vec_capacity keys.old ≤ vec_capacity keys.new }
 {
     keys.clear();
@@ -151,8 +149,8 @@ fn list_window(
 }
 
 /// Lists the keys of the signal at `position` in a window, the first of which is that of the next
-/// change. Returns its next change after the window; none where there is no room. Where no change is
-/// in the window, it reads none.
+/// change. Returns its next change after the window; none where there is no room, or a change is too
+/// far from the first tick for a key. Where no change is in the window, it reads none.
 fn list_signal(
     keys: &mut Vec<u64>,
     position: usize,
@@ -165,20 +163,22 @@ fn list_signal(
     requires rise { AreRising changes.now }
     requires next { IsNext from from changes.now next }
     requires order { from ≤ to }
-    requires span { to ≤ from + SPAN }
     requires end { to ≤ END_LIMIT + 1 }
     ensures all { IfSome result (λ _. transitions_of from keys.new.items
         ≡ transitions_of from keys.old.items ++ window_of_signal from to position changes.now) }
     ensures keys { (count : ℕ) → position < count →
         All (IsKey from count) keys.old.items → All (IsKey from count) keys.new.items }
     ensures next { IfSome result (λ later. IsNext to to changes.now later) }
-    ensures full { IfNone result (vec_capacity keys.old
-        < length keys.old.items + length (window_of_signal from to position changes.now)) }
+    ensures full { IfNone result ((from + SPAN < to) ⊎ (vec_capacity keys.old
+        < length keys.old.items + length (window_of_signal from to position changes.now))) }
     ensures room { vec_capacity keys.old ≤ vec_capacity keys.new }
 {
     let mut next = next;
     while next.tick < to {
         if keys.len() >= keys.capacity() {
+            return None;
+        }
+        if next.tick - from >= SPAN {
             return None;
         }
         push_in_room(keys, key_of(next.tick - from, position));

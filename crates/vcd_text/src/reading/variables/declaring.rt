@@ -16,8 +16,8 @@ use crate::reading::ticks_and_sizes::size_of;
 use crate::reading::variables::{Variable, Variables};
 use std::alloc::Global;
 use vcd_core::{
-    NameWords, NoMemory, SIGNAL_LIMIT, ScopePath, Signal, WIDTH_LIMIT, Wave, Word, copy_word, copy_words,
-    is_skipped_kind,
+    NameWords, NoMemory, SIGNAL_LIMIT, ScopePath, Signal, WIDTH_LIMIT, Wave, Word, copy_word,
+    copy_words, is_skipped_kind,
 };
 
 impl Variables {

@@ -12,8 +12,7 @@ loop-from-init g c =
       text = front_begun (whole_walk (map signal_contents c.args.signals.now) c.args.end);
       ready = c.requires.ready;
       within = omega arith;
-      some = c.first_most-most.ensures.some;
-      span = c.first_most-most.ensures.span;
+      some = c.first_most-most.ensures;
     }
 
 pub loop-from-preserved : goal.loop-from-preserved
@@ -39,8 +38,7 @@ loop-from-preserved g c =
         begun = written.ensures.begun;
       };
       within = following;
-      some = c.next_most-most.ensures.some;
-      span = c.next_most-most.ensures.span;
+      some = c.next_most-most.ensures;
     }
 
 pub returns : goal.returns

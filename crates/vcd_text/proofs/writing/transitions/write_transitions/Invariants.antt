@@ -3,7 +3,6 @@ use Rattle.std.proofs.Common.{◌≤◌, ◌+◌, ◌-◌, ◌++◌, map}
 use Rattle.std.specs.List.{flat_map}
 use Rattle.vcd_core.specs.Contents.{signal_contents}
 use Rattle.vcd_text.specs.Text.{end_items, item_line, tick_items}
-use Rattle.vcd_text.specs.declared.writing.window.TheConstants.{SPAN}
 use Rattle.vcd_text.specs.inside.Transitions.{transitions_from}
 use Rattle.vcd_text.specs.inside.Windows.{IsReady}
 use Rattle.vcd_text.proofs.Walks.{walk}
@@ -21,7 +20,6 @@ invariant-loop-from g l =
       ready : IsReady l.end l.from l.signals l.window;
       within : l.from ≤ l.end + 1;
       some : 1 ≤ l.most;
-      span : l.most ≤ SPAN;
     }
 
 abbrev pub decreases-loop-from : goal.decreases-loop-from

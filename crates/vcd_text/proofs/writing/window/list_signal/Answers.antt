@@ -1,5 +1,5 @@
 -- Each turn lists the key of the next change, which is in the window.
-use Rattle.std.proofs.Common.{◌<◌, ◌++◌, length, drop, sym, ap, ◌∙◌, arith}
+use Rattle.std.proofs.Common.{◌<◌, ◌++◌, inr, length, drop, sym, ap, ◌∙◌, arith}
 use Rattle.std.proofs.lemmas.List.{append-nil, length-append, length-map}
 use Rattle.vcd_text.specs.inside.Transitions.{Transition, window_of_signal}
 use Rattle.vcd_text.specs.inside.Windows.{transition_of_key, transitions_of}
@@ -53,7 +53,7 @@ loop-next-preserved c =
     }
 
 pub returns-then-len-capacity-clause-full : goal.returns-then-len-capacity-clause-full
-returns-then-len-capacity-clause-full c =
+returns-then-len-capacity-clause-full c = inr (
     let kept = c.loop-next.invariant in
     let next = c.loop-next.next in
     let cs = c.args.changes.now in
@@ -70,7 +70,7 @@ returns-then-len-capacity-clause-full c =
       length-append (transitions_of c.args.from old) (window cs),
       length-map keys (transition_of_key c.args.from),
       length-map old (transition_of_key c.args.from),
-    )
+    ))
 
 pub returns-clause-all : goal.returns-clause-all
 returns-clause-all c =

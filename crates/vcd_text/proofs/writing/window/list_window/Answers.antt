@@ -1,5 +1,5 @@
 -- Each turn lists the keys of one signal.
-use Rattle.std.proofs.Common.{◌<◌, ◌++◌, List, length, get_or, sym, ap, ◌∙◌, subst, arith}
+use Rattle.std.proofs.Common.{◌<◌, ◌++◌, List, inl, inr, length, get_or, sym, ap, ◌∙◌, subst, arith}
 use Rattle.std.specs.List.{filter}
 use Rattle.std.proofs.lemmas.List.{length-map, length-set}
 use Rattle.vcd_core.specs.declared.capture.Signal.{Signal}
@@ -43,25 +43,28 @@ returns-clause-all c = λ all.
     c.loop-position.invariant.all
 
 pub returns-in-None-clause-full : goal.returns-in-None-clause-full
-returns-in-None-clause-full c = λ _.
-    let k = c.loop-position.position in
-    let s = c.index-signals-position.result in
-    let longer = longer_than c.args.from c.args.to k c.args.signals.now s _ _
-    (omega arith) c.index-signals-position.is c.loop-position.invariant.all in
-    let part = length-map
-    (filter (λ (x : Change). is_in_window c.args.from c.args.to x.tick) s.wave.changes)
-    (λ (x : Change). transition_of x.tick k) in
-    let same = ap (λ (l : List Change). length (window_of_signal c.args.from c.args.to k l))
-    c.changes-changes.ensures.changes in
-    omega (
-      arith,
-      longer,
-      part,
-      same,
-      c.in-None.ensures.full,
-      c.loop-position.invariant.room,
-      length-map c.loop-position.keys.items (transition_of_key c.args.from),
-    )
+returns-in-None-clause-full c = λ _. elim c.in-None.ensures.full [
+  | inl far ↦ inl far
+  | inr full ↦ inr (
+      let k = c.loop-position.position in
+      let s = c.index-signals-position.result in
+      let longer = longer_than c.args.from c.args.to k c.args.signals.now s _ _
+      (omega arith) c.index-signals-position.is c.loop-position.invariant.all in
+      let part = length-map
+      (filter (λ (x : Change). is_in_window c.args.from c.args.to x.tick) s.wave.changes)
+      (λ (x : Change). transition_of x.tick k) in
+      let same = ap (λ (l : List Change). length (window_of_signal c.args.from c.args.to k l))
+      c.changes-changes.ensures.changes in
+      omega (
+        arith,
+        longer,
+        part,
+        same,
+        full,
+        c.loop-position.invariant.room,
+        length-map c.loop-position.keys.items (transition_of_key c.args.from),
+      ))
+]
 
 pub loop-position-preserved : goal.loop-position-preserved
 loop-position-preserved c =
