@@ -3,7 +3,7 @@
 use std::alloc::Global;
 use std::process::Abort;
 use std::test::Fail;
-use vcd_core::{Bit, Capture, NoMemory, ScopePath, Seq, Signal, Value, Wave, Word};
+use vcd_core::{Bit, Capture, NameWords, NoMemory, ScopePath, Seq, Signal, Value, Wave, Word};
 use vcd_edit::Edit;
 use vcd_journal::{Answer, DEPTH_LIMIT, Session, Step, run};
 
