@@ -58,7 +58,7 @@ pub fn following_change(changes: &[Change], next: NextChange) -> NextChange
 }
 
 /// The tick of the change at a place, past all ticks where there is none.
-fn tick_at_place(changes: &[Change], place: usize) -> u64
+pub fn tick_at_place(changes: &[Change], place: usize) -> u64
     ensures { result ≡ tick_at changes.now place }
 {
     match changes.get(place) {

@@ -11,7 +11,7 @@ ghost use Rattle.vcd_text.specs.declared.writing.window.TheConstants.{PLACES};
 ghost use Rattle.vcd_text.specs.Text.{end_items, item_line, tick_items};
 
 use super::buffer::WriteBuffer;
-use super::next_changes::NextChange;
+use super::next_changes::{NextChange, tick_at_place};
 use super::stamps::{write_last_stamp, write_new_stamp};
 use super::values::write_value_near;
 use super::window::{PLACES, Window, fill_window};
@@ -134,7 +134,8 @@ fn write_keys<W: Sink>(
     ensures begun { length begun.new ≡ length begun.old }
 {
     let mut last = last;
-    for key in keys {
+    for (k, key) in keys.iter().enumerate() {
+        look_ahead(signals, begun, keys, k);
         let tick = from + *key / PLACES;
         let position = (*key % PLACES) as usize;
         let place = begun[position].place;
@@ -151,4 +152,32 @@ fn write_keys<W: Sink>(
         last = tick;
     }
     last
+}
+
+/// The number of changes that are looked at before they are written: enough for the memory accesses
+/// to overlap.
+const AHEAD: usize = 32;
+
+/// Looks at the changes of the next `AHEAD` keys, where the place is a multiple of that number.
+fn look_ahead(signals: &[Signal], begun: &mut [NextChange], keys: &[u64], place: usize)
+    ensures { length begun.new ≡ length begun.old }
+{
+    if place % AHEAD != 0 {
+        return;
+    }
+    for k in place..keys.len().min(place.saturating_add(AHEAD)) {
+        look_at(signals, begun, keys[k]);
+    }
+}
+
+/// Looks at the change of a key. Nothing waits for what it reads.
+fn look_at(signals: &[Signal], begun: &mut [NextChange], key: u64)
+    ensures { length begun.new ≡ length begun.old }
+{
+    let position = (key % PLACES) as usize;
+    if position >= begun.len() || position >= signals.len() {
+        return;
+    }
+    let changes = signals[position].wave.changes();
+    begun[position].tick = tick_at_place(changes, begun[position].place);
 }

@@ -9,28 +9,28 @@ use Rattle.vcd_text.proofs.Orders.{last_written, none_written, one_later, one_wr
 use Rattle.vcd_text.proofs.Written.{front_begun, front_grows, front_whole, writes_as, writes_both}
 use Rattle.vcd_text.proofs.writing.transitions.write_keys.Goals as goal
 
-pub loop-key-init : goal.loop-key-init
-loop-key-init g c = record { text = front_begun refl; last = refl; begun = refl }
+pub loop-k-init : goal.loop-k-init
+loop-k-init g c = record { text = front_begun refl; last = refl; begun = refl }
 
 pub overflow_add-tick : goal.overflow_add-tick
-overflow_add-tick g c = omega (arith, (c.requires.keys c.loop-key.key-index 0 (omega arith)).tick)
+overflow_add-tick g c = omega (arith, (c.requires.keys c.loop-k.k 0 (omega arith)).tick)
 
 pub bounds-begun-position : goal.bounds-begun-position
 bounds-begun-position g c =
-    omega (arith, (c.requires.keys c.loop-key.key-index 0 (omega arith)).position, c.loop-key.invariant.begun)
+    omega (arith, (c.requires.keys c.loop-k.k 0 (omega arith)).position, c.look_ahead.ensures, c.loop-k.invariant.begun)
 
 pub bounds-signals-position : goal.bounds-signals-position
-bounds-signals-position g c = omega (arith, (c.requires.keys c.loop-key.key-index 0 (omega arith)).position)
+bounds-signals-position g c = omega (arith, (c.requires.keys c.loop-k.k 0 (omega arith)).position)
 
 pub write_value_near-requires : goal.write_value_near-requires
 write_value_near-requires g c =
-    omega (arith, (c.requires.keys c.loop-key.key-index 0 (omega arith)).position, c.requires.few)
+    omega (arith, (c.requires.keys c.loop-k.k 0 (omega arith)).position, c.requires.few)
 
-pub loop-key-preserved : goal.loop-key-preserved
-loop-key-preserved g c =
+pub loop-k-preserved : goal.loop-k-preserved
+loop-k-preserved g c =
     let keys = c.args.keys.now in
-    let k = c.loop-key.key-index in
-    let kept = c.loop-key.invariant in
+    let k = c.loop-k.k in
+    let kept = c.loop-k.invariant in
     let signals = c.args.signals.now in
     let inside : k < length keys = omega arith in
     let key = get_or keys k 0 in
@@ -42,18 +42,18 @@ loop-key-preserved g c =
       text = front_grows _ kept.text (writes_both c.write_new_stamp.ensures
           (writes_as (ap (λ v. item_line (value_item (code_of (key % PLACES)) v)) (sym value))
           c.write_value_near.ensures))
-          (one_written (map signal_contents signals) c.args.from c.loop-key.last k keys inside);
-      last = one_later c.args.from c.loop-key.last k _ keys inside kept.last;
-      begun = length-set c.loop-key.begun (key % PLACES) _ ∙ kept.begun;
+          (one_written (map signal_contents signals) c.args.from c.loop-k.last k keys inside);
+      last = one_later c.args.from c.loop-k.last k _ keys inside kept.last;
+      begun = length-set c.look_ahead.new.begun (key % PLACES) _ ∙ c.look_ahead.ensures ∙ kept.begun;
     }
 
 pub returns-clause-text : goal.returns-clause-text
 returns-clause-text g c =
-    front_whole c.loop-key.invariant.text
-    (none_written (map signal_contents c.args.signals.now) c.args.from c.loop-key.last c.loop-key.key-index
+    front_whole c.loop-k.invariant.text
+    (none_written (map signal_contents c.args.signals.now) c.args.from c.loop-k.last c.loop-k.k
     c.args.keys.now (omega arith))
 
 pub returns-clause-last : goal.returns-clause-last
 returns-clause-last g c =
-    last_written c.args.from c.loop-key.last c.loop-key.key-index _ c.args.keys.now (omega arith)
-    c.loop-key.invariant.last
+    last_written c.args.from c.loop-k.last c.loop-k.k _ c.args.keys.now (omega arith)
+    c.loop-k.invariant.last

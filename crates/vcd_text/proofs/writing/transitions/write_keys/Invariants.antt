@@ -8,15 +8,15 @@ use Rattle.vcd_text.specs.inside.Windows.{transitions_of}
 use Rattle.vcd_text.proofs.Written.{WritesFront}
 use Rattle.vcd_text.proofs.writing.transitions.write_keys.Given as goal
 
-abbrev pub invariant-loop-key : goal.invariant-loop-key
-invariant-loop-key g l =
+abbrev pub invariant-loop-k : goal.invariant-loop-k
+invariant-loop-k g l =
     record {
       text : WritesFront g.W.Sink.taken g.W.Sink.has_failed (l.initial.buffer, l.initial.writer) (l.buffer, l.writer)
           (flat_map item_line (transition_items (map signal_contents l.signals) l.last
-          (transitions_of l.from (drop l.key-index l.keys))))
+          (transitions_of l.from (drop l.k l.keys))))
           (flat_map item_line (transition_items (map signal_contents l.signals) l.initial.last
           (transitions_of l.from l.keys)));
-      last : last_tick l.last (transitions_of l.from (drop l.key-index l.keys))
+      last : last_tick l.last (transitions_of l.from (drop l.k l.keys))
           ≡ last_tick l.initial.last (transitions_of l.from l.keys);
       begun : length l.begun ≡ length l.initial.begun;
     }
