@@ -1,4 +1,4 @@
--- The fault of a file as it is found: a word shows it, or the words end within an item.
+-- The fault of a file as it is found: a word shows it, or the words end too early.
 use Rattle.std.specs.Prelude.{◌≡◌, ℕ, ◌<◌, List, ◌∷◌, ◌++◌, length, IsTrue, IsFalse, []}
 use Rattle.std.specs.Prelude.{codes}
 use Rattle.vcd_text.specs.declared.fault.Fault.{Fault}

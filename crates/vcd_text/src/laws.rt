@@ -14,7 +14,7 @@ pub fn has_one_answer()
 {}
 
 /// A file has a result, whatever its bytes are: a meaning or a fault. A fault is that of a word, or
-/// the words end within an item.
+/// the words end too early.
 pub fn has_an_answer()
     ensures one { EveryFileHasMeaningOrFault }
     ensures found { EveryFaultIsFound }
