@@ -41,12 +41,14 @@ impl NameWords {
         NameWords { words, key }
     }
 
+    /// The words, lent.
     pub fn as_slice(&self) -> &[Word]
         ensures { result.now ≡ self.now }
     {
         self.words.as_slice()
     }
 
+    /// Whether there is no word.
     pub fn is_empty(&self) -> bool
         ensures { result ≡ (length self.now == 0) }
     {
