@@ -1,6 +1,6 @@
 //! Counting the bytes of a text before the first is written.
 
-ghost use Rattle.std.specs.Prelude.{◌≡◌, ◌<◌, ◌≤◌, ◌^◌, length, OnOk};
+ghost use Rattle.std.specs.Prelude.{◌≡◌, ◌<◌, ◌≤◌, ◌^◌, length, OnOk, OnErr};
 ghost use Rattle.vcd_core.specs.Contents.{contents};
 ghost use Rattle.vcd_core.specs.declared.capture.TheConstants.{SIGNAL_LIMIT};
 ghost use Rattle.vcd_text.specs.inside.TextParts.{declarations_text};
@@ -40,7 +40,8 @@ impl Sink for NullSink {
 /// them to a sink that keeps nothing, through a buffer without room. It takes no memory.
 pub fn check_countable(alloc: Global, capture: &Capture) -> Result<(), NoMemory>
     requires { length capture.now.signals ≤ SIGNAL_LIMIT }
-    ensures { OnOk result (length (declarations_text (contents capture.now)) < 2 ^ 127) }
+    ensures counted { OnOk result (length (declarations_text (contents capture.now)) < 2 ^ 127) }
+    ensures refused { OnErr result (2 ^ 126 ≤ length (declarations_text (contents capture.now))) }
 {
     let waiting = Vec::new(alloc);
     let mut buffer = WriteBuffer { waiting, sent: 0 };

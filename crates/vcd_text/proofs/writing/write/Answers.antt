@@ -40,7 +40,7 @@ returns-clause-written g c =
     let whole = contents c.args.capture.now in
     on_ok c.finish.result
     (λ ends. ends (g.W.Sink.taken c.args.writer.now) (text whole)
-    (text_countable whole c.requires.sound c.in_ok-check_countable.ensures)
+    (text_countable whole c.requires.sound c.in_ok-check_countable.ensures.counted)
     (all_written whole c.signals-signals.result.now c.end-end.result
     (ap (map signal_contents) c.signals-signals.ensures) c.end-end.ensures c.in_ok-buffer.ensures.waiting
     c.in_ok-buffer.ensures.sent c.write_declarations.ensures c.write_first_values.ensures c.write_transitions.ensures))
@@ -51,7 +51,7 @@ returns-clause-fault g c =
     let whole = contents c.args.capture.now in
     IfErr-weaker c.finish.result _ _
     (λ e ends. ends (g.W.Sink.taken c.args.writer.now) (text whole)
-    (text_countable whole c.requires.sound c.in_ok-check_countable.ensures)
+    (text_countable whole c.requires.sound c.in_ok-check_countable.ensures.counted)
     (all_written whole c.signals-signals.result.now c.end-end.result
     (ap (map signal_contents) c.signals-signals.ensures) c.end-end.ensures c.in_ok-buffer.ensures.waiting
     c.in_ok-buffer.ensures.sent c.write_declarations.ensures c.write_first_values.ensures c.write_transitions.ensures))

@@ -5,8 +5,8 @@ use Rattle.vcd_text.specs.inside.TextParts.{declarations_text}
 use Rattle.vcd_text.proofs.Written.{length_written, whole_written}
 use Rattle.vcd_text.proofs.writing.counting.check_countable.Goals as goal
 
-pub returns : goal.returns
-returns c =
+pub returns-clause-counted : goal.returns-clause-counted
+returns-clause-counted c =
     let buffer = c.write_declarations.new.buffer in
     let count =
     length_written _ _ _ buffer (declarations_text (contents c.args.capture.now)) refl
