@@ -1,10 +1,11 @@
 #!/usr/bin/env python3
 """Rewrites docs/DEFINITIONS.md from the comments of the files in specs/, and its numbers of lines.
 
-    python3 docs/definitions.py [--print]
+    docs/definitions.py [--print]
 
-With --print the page is printed and not written. What is before the first crate is kept, but for the numbers in its table. Files keep the order that they have in
-the document; new ones come last. A definition or file without a comment is named, and the status is then 1.
+With --print the page is printed and not written. What is before the first crate is kept, but for the numbers in its
+table. Files keep the order that they have in the document; new ones come last. A definition or file without a comment
+is named, and the status is then 1.
 """
 import itertools
 import pathlib
