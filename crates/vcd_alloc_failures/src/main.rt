@@ -1,14 +1,23 @@
-//! One call of a library crate, between two lines on standard output that say where memory may be refused.
+//! Makes one call of a library crate, between two lines on standard output that say where memory may be refused.
 //!
-//! The words of the command line are `make` or `omit`, a call, and after some calls one more word: an edit or a step,
-//! or for `run` a step's position. After a step comes the word of the steps made before it. Standard input is a
-//! capture.
+//! Usage, with a capture on standard input:
 //!
-//! The program makes all that the call needs and writes `refuse`. Then it makes the call, and writes `allow`, and
-//! `done` or the name of a fault. Last it writes all that the call left. A test refuses growths of memory between the
-//! two lines, and compares that with the output of `omit`. That leaves out only the call, and for `run` only the step
-//! at that position. The call `counted` writes the capture to a sink that counts its calls, and prints the counts. The
-//! call `bytes` reads the capture byte by byte. The call `held` lets a record go between the two lines.
+//! `vcd_alloc_failures make|omit CALL [ARGUMENT [BEFORE]]`
+//!
+//! | CALL | ARGUMENT | BEFORE |
+//! |---|---|---|
+//! | `push`, `share`, `reserve`, `reserve_exact`, `reserve_splice` | `shared`, or nothing | |
+//! | `read`, `write`, `uart`, `spi`, `i2c`, `Session::new` | | |
+//! | `apply`, `revert` | an edit | |
+//! | `held`: lets the record of an edit go | an edit | `undo`, or nothing |
+//! | `step` | a step | the steps made before it |
+//! | `run`: makes some steps | the position of the step that `omit` leaves out | |
+//! | `counted`: writes to a sink that counts its calls, and prints the counts | | |
+//! | `bytes`: reads the capture byte by byte | | |
+//!
+//! The program makes all that the call needs, and writes `refuse`. With `make` it makes the call. Then it writes
+//! `allow`, and `done` or the name of a fault. Last it writes all that the call left. A test refuses growths of memory
+//! between the two lines, and compares the output with that of `omit`.
 #![tactic(auto)]
 
 mod calls;

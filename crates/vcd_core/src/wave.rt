@@ -31,9 +31,8 @@ pub struct Change {
 /// wave gives it its own list first, so the other waves stay unchanged.
 ///
 /// Contracts see the width in bits, the changes, and two numbers of room. The first is one more
-/// than the number of changes that the wave's own list can have without new memory, and 0 where the
-/// list is shared. The second is the same for the list that [`Wave::splice`] makes; it is 0 where
-/// that would need memory.
+/// than the number of changes that fit the wave's own list, and 0 if the list is shared. The second
+/// is the same for the list that [`Wave::splice`] makes; it is 0 where that would need memory.
 #[derive(Drop)]
 pub struct Wave {
     width: u64,
@@ -147,8 +146,8 @@ impl Wave {
         ensures adds_none { 0 < self.old.room → value_at self.old.width self.old.changes tick ≡ value → IsOk result }
         ensures room { self.old.room ≤ self.new.room }
 
-        // That room stays as it is; without any, room for at least `LEAST_ROOM` changes is made, and
-        // for no more than there are.
+        // That room stays as it is; without any, room for at least `LEAST_ROOM` changes is made,
+        // and for no more than there are.
         ensures kept_room { length self.old.changes + 1 < self.old.room →
             self.new.room ≡ self.old.room }
         ensures grown_room { 0 < self.old.room → self.new.room ≤ max self.old.room
@@ -162,8 +161,8 @@ impl Wave {
         Ok(())
     }
 
-    /// Does what [`Wave::push`] does with the value whose letters are in this word, bit 0 the lowest.
-    /// Letters of the word from the width on are ignored.
+    /// Does what [`Wave::push`] does with the value whose letters are in this word, bit 0 the
+    /// lowest. Letters of the word from the width on are ignored.
     pub fn push_word(&mut self, tick: u64, word: LetterWord) -> Result<(), NoMemory>
         requires width { self.old.width ≤ 64 }
         requires late { All (λ c. c.tick ≤ tick) self.old.changes }
@@ -185,8 +184,8 @@ impl Wave {
             value_at self.old.width self.old.changes tick ≡ value → IsOk result }
         ensures room { self.old.room ≤ self.new.room }
 
-        // That room stays as it is; without any, room for at least `LEAST_ROOM` changes is made, and
-        // for no more than there are.
+        // That room stays as it is; without any, room for at least `LEAST_ROOM` changes is made,
+        // and for no more than there are.
         ensures kept_room { length self.old.changes + 1 < self.old.room →
             self.new.room ≡ self.old.room }
         ensures grown_room { 0 < self.old.room → self.new.room ≤ max self.old.room
@@ -254,8 +253,9 @@ impl Wave {
     /// wave stay the same, also where the memory is refused.
     ///
     /// It takes no memory where the room is there already. A wave with its own list gets room for
-    /// the growth, or for as many changes as it has. A wave that shares its list keeps sharing it, and gets memory for the
-    /// changes that the splice keeps and those of the piece. No change is copied yet.
+    /// the growth, or for as many changes as it has. A wave that shares its list keeps sharing it,
+    /// and gets memory for the changes that the splice keeps and those of the piece. No change is
+    /// copied yet.
     pub fn reserve_splice(
         &mut self,
         from: usize,

@@ -110,8 +110,8 @@ fn share_list(alloc: Global, list: WaveList) -> (WaveList, Result<WaveList, NoMe
     }
 }
 
-/// Makes room for `more` changes where it is missing: for at least as many as there are, so that a list that grows
-/// change by change is seldom moved.
+/// Makes room for `more` changes where it is missing. The list is at least doubled, so that a list
+/// that grows change by change is seldom moved.
 fn make_room_for(list: &mut Vec<Change>, more: usize) -> Result<(), NoMemory>
     ensures changes { list.new.items ≡ list.old.items }
     ensures room { OnOk result (vec_len list.new + more ≤ vec_capacity list.new) }

@@ -14,8 +14,8 @@ pub fn is_white_space(byte: u8) -> bool
     matches!(byte, 9..=13 | 32)
 }
 
-/// Whether the bytes are a word of a header entry, a name or a kind: at least one byte, no white
-/// space, and not `$end`, which closes a list of words.
+/// Whether the bytes are a word of a header entry, a name or a kind. It is not empty, has no white
+/// space, and is not `$end`, which closes a list of words.
 pub fn is_word(bytes: &[u8]) -> bool
     ensures { result ≡ word_test bytes.now }
 {

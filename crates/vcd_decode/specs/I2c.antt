@@ -71,8 +71,8 @@ abbrev pub start_kind : Option (Option ℕ) → Kind
 start_kind None = kinds.Start
 start_kind (Some given) = kinds.RepeatedStart
 
--- the annotations of conditions and bits, where the last condition before them was a START (with the address of ten
--- bits that came since) or none
+-- the annotations of conditions and bits; `last` is none unless the condition before them was a START, and has the
+-- address of ten bits after it
 unfoldable pub events_annotations : Option (Option ℕ) → List BusEvent → List Annotation
 events_annotations last [] = []
 events_annotations last (events.Bit b ∷ es) = events_annotations last es

@@ -1,5 +1,5 @@
 -- The words of a serial peripheral interface. The edge at which a mode samples is the field's common rule (clock
--- polarity and phase, 0 to 3); the cut of ticks into words is the project's own.
+-- polarity and phase). How ticks are cut into words is the project's own.
 use Rattle.std.specs.Prelude.{ℕ, suc, ◌-◌, ◌==◌, ◌&&◌, ◌||◌, nat_lt, Bool, true, not, Option, Some, None}
 use Rattle.std.specs.Prelude.{List, map, filter, length, reverse, slice_index}
 use Rattle.std.specs.List.{flat_map, list_any, range_with_len, slice_split}

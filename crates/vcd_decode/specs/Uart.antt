@@ -1,5 +1,5 @@
--- The frames of an asynchronous serial line. A frame is a start bit 0, data bits with the least significant first, a
--- parity bit where there is one, and stop bits 1 (ISO 1177). Its beginning and its sample ticks are the project's own.
+-- The frames of an asynchronous serial line. A frame is a start bit 0, data bits, the least significant first, perhaps
+-- a parity bit, and stop bits 1 (ISO 1177). Its beginning and its sample ticks are the project's own.
 use Rattle.std.specs.Prelude.{ℕ, suc, ◌+◌, ◌*◌, ◌/◌, ◌%◌, ◌==◌, ◌&&◌, nat_lt, nat_le, Bool, false, not, []}
 use Rattle.std.specs.Prelude.{Option, Some, None, List, ◌∷◌, ◌++◌, map, filter, take, drop, count_by}
 use Rattle.std.specs.List.{list_any, range_with_len}
@@ -58,8 +58,8 @@ frame_kind u letters =
     then ParityError (number_from_letters (take u.data_bits letters))
     else Byte (number_from_letters (take u.data_bits letters))))
 
--- the frame that a fall at the tick `start` begins: none where the line is not 0 in the middle of the start bit; one
--- that is not sampled up to the capture's end is cut off there
+-- the frame that a fall at the tick `start` begins, cut off at the capture's end; none if the line is not 0 in the
+-- middle of the start bit
 unfoldable pub begun_frame : (ℕ → Bit) → ℕ → UartSetup → ℕ → Option Annotation
 begun_frame f end u start =
     if nat_lt end (sample_tick u start 0) then Some (annotation start end Partial)

@@ -18,8 +18,7 @@ pub enum Kind {
     ParityError(u16),
     /// A frame with a stop bit that is 0.
     FrameError,
-    /// A frame, byte or acknowledge with an unknown bit: x or z on a line of UART, x alone on an
-    /// I2C bus, where z is high.
+    /// A frame, byte or acknowledge with an unknown bit: x, and on a line of UART also z.
     Unknown,
     /// A frame that the capture's end cuts off.
     Partial,

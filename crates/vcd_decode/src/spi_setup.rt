@@ -27,8 +27,8 @@ pub enum BitOrder {
     Lsb,
 }
 
-/// The setup of a serial peripheral interface: the edge of the clock at which a bit is read, the
-/// number of bits in a word, and their order.
+/// The setup of a serial peripheral interface: the clock edge at which a bit is read, the bits of a
+/// word, and their order.
 ///
 /// The modes 0 and 3 read where the clock rises, 1 and 2 where it falls. Contracts see the three
 /// numbers.

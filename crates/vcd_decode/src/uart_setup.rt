@@ -23,9 +23,8 @@ pub enum Parity {
     Odd,
 }
 
-/// The frames of an asynchronous serial line: a start bit, 5 to 9 data bits, a parity bit where
-/// there is one, and 1 or 2 stop bits. Each bit lasts `numerator / denominator` ticks, at least
-/// two.
+/// The frames of an asynchronous serial line: a start bit, 5 to 9 data bits, perhaps a parity bit,
+/// and 1 or 2 stop bits. Each bit lasts `numerator / denominator` ticks, at least two.
 ///
 /// Contracts see these numbers.
 #[derive(Clone, Copy, Debug, PartialEq, Eq)]

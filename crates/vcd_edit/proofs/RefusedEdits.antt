@@ -11,7 +11,7 @@ use Rattle.vcd_edit.specs.EditErrorNames.{edit_error_name}
 use Rattle.vcd_edit.specs.Allowed.{first_fault, fault_rows, edit_fault}
 use Rattle.vcd_edit.specs.Refused.{Tests, unless_refused, edit_tests}
 
--- the word of the first test that holds
+-- the name of the first test that holds
 abbrev refusal_among : Tests → Option (List ℕ)
 refusal_among [] = None
 refusal_among (test ∷ tests) = if test.0 then Some test.1 else refusal_among tests

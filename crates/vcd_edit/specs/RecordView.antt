@@ -11,8 +11,8 @@ pub record PieceView : Type 0 where
   pub changes : List Change
   pub by : ℤ
 
--- pieces; the new first word of the signal at a position; the signal to put in at a position, or none to take the one
--- there out; and the new end
+-- pieces; the position of a signal with its new first word; the position of a signal to put in, or to take out (none);
+-- the new end
 pub record RecordView : Type 0 where
   pub pieces : List PieceView
   pub word : Option (ℕ × List ℕ)

@@ -1,4 +1,4 @@
--- Which edits are refused, and with which word: the project's own.
+-- Which edits are refused, and by which name: the project's own.
 use Rattle.std.specs.Prelude.{ℕ, ◌+◌, ◌==◌, ◌||◌, nat_lt, nat_le, Bool, not, if◌then◌else◌, List, [], ◌∷◌, ◌++◌, length}
 use Rattle.std.specs.Prelude.{Result, Ok, Err, codes}
 use Rattle.std.specs.List.{list_any, remove}
@@ -13,11 +13,11 @@ use Rattle.vcd_edit.specs.declared.edit.Rule.{Rule}
 use Rattle.vcd_edit.specs.declared.edit.Rule.TheVariants.{Not, And, Or, Xor, BitOf}
 use Rattle.vcd_edit.specs.Effect.{renamed_signal, derived_signal}
 
--- tests, each with the word of its refusal
+-- tests, each with the name of its refusal
 abbrev pub Tests : Type 0
 Tests = List (Bool × List ℕ)
 
--- this, unless a test holds: then it is refused with the word of the first that does
+-- this, or the name of the first test that holds
 abbrev pub unless_refused : {A : Type 0} → Tests → A → Result A (List ℕ)
 unless_refused [] x = Ok x
 unless_refused (test ∷ tests) x = if test.0 then Err test.1 else unless_refused tests x

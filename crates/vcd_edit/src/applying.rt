@@ -24,11 +24,11 @@ use vcd_core::Capture;
 /// fault is refused only if memory runs out; a remove never is. A refused edit leaves the capture as it was. The
 /// record stores touched changes only.
 ///
-/// A force and a shift cost a binary search, the changes that they put in and take out, and one move of the later
-/// ones. A cut costs that for every signal with changes from its first tick on. An invert and a deglitch cost one
-/// pass over the wave and a new list of its changes; so does a shift that pushes changes past the end. A derive costs
-/// one merged pass over its operands. Variables of one code share their list of changes. A signal that shares its
-/// list gets one of its own: a copy of each change that it keeps.
+/// A force and a shift cost a binary search, the changes that they put in and take out, and one move of the later ones.
+/// A cut costs that for every signal with changes from its first tick on. An invert, a deglitch, and a shift that
+/// pushes changes past the end cost one pass over the wave and a new list of its changes. A derive costs one merged
+/// pass over its operands. Variables of one code share their list of changes. A signal that shares its list gets one of
+/// its own: a copy of each change that it keeps.
 pub fn apply(alloc: Global, capture: &mut Capture, edit: &Edit) -> Result<Record, EditError>
     requires { IsSound (contents capture.old) }
     ensures allowed { OnOk result (edit_fault edit.now (contents capture.old) ≡ None) }

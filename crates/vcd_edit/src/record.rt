@@ -19,8 +19,8 @@ pub struct Piece {
     pub(crate) by: i64,
 }
 
-/// A patch from one capture to another. It has pieces of waves, or a new first word of a signal's name, or a signal to
-/// put in (or none, to take one out). It may also have another end.
+/// A patch from one capture to another. It has pieces of waves, a new first word of a signal's name, or a signal to put
+/// in or take out. It may also have another end.
 ///
 /// Each signal has at most one piece. A record with a word has no pieces, and one with a signal to put in or take out
 /// has neither. Contracts see a record as plain data.

@@ -121,7 +121,7 @@ pub record_put_back : (r : RecordView) (rs : List RecordView) (n : ℕ) → Some
 record_put_back r [] n first within = absurd (cc)
 record_put_back r (q ∷ rs) n first within = let same : r ≡ q = cc in rw same (take_all n (q ∷ rs) within)
 
--- ---- want of memory
+-- ---- out of memory
 
 -- a step by the first record that is never refused where fewer signals are left
 pub no_fewer_left : (c : Contents) (r : RecordView) (rs : List RecordView) → Some r ≡ slice_get rs 0

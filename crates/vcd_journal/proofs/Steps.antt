@@ -25,7 +25,7 @@ pub edit_accepted : (e : Edit) (m n : Machine) → edit_fault e m.now ≡ None �
     → IsStep m (steps.Edit e) Done n
 edit_accepted e m n none is = inl (rw (none, is) refl)
 
--- an edit without a fault may want memory where it is no remove
+-- an edit without a fault may need memory unless it is a remove
 edit_wants : (e : Edit) (m : Machine) → edit_fault e m.now ≡ None → (IsRemove e → ⊥)
     → may_want_memory m (steps.Edit e) ≡ true
 edit_wants e m none other = let keeps = effect_keeps e m.now other in rw none (grind (arith, nat_tests))

@@ -1,4 +1,4 @@
--- Which edits are in force on a capture, and what steps make of them: the project's own.
+-- A session as a list of edits: those in force and those undone. The headline speaks of this model. The project's own.
 use Rattle.std.specs.Prelude.{ℕ, ◌+◌, ◌-◌, ◌==◌, ◌&&◌, nat_lt, nat_le, not, min, List, [], ◌∷◌, ◌++◌, length, take}
 use Rattle.std.specs.Prelude.{drop, codes}
 use Rattle.vcd_core.specs.Contents.{Contents}

@@ -1,4 +1,4 @@
--- Which edits are in force, and what they make of a capture. The rules are the project's own.
+-- The edits in force after answered steps, and the captures of a session as replays of them. The project's own.
 use Rattle.std.specs.Prelude.{◌≡◌, List, [], ◌∷◌, length, take}
 use Rattle.vcd_core.specs.Contents.{Contents}
 use Rattle.vcd_edit.specs.declared.edit.Edit.{Edit}
@@ -50,8 +50,8 @@ unfoldable pub later_replays : Contents → List Edit → List Edit → List Con
 later_replays c es [] = []
 later_replays c es (u ∷ undone_edits) = replay c (u ∷ es) ∷ later_replays c (u ∷ es) undone_edits
 
--- the capture is the replay of the edits in force; the past is replays of fewer of them, the future replays with more
--- of the undone edits; the past may have lost its oldest captures
+-- the capture is the replay of the edits in force; the past has the newest replays of fewer edits, the future those
+-- with undone edits made again
 pub record IsReplay (c : Contents) (t : Tally) (m : Machine) : Type 0 where
   pub now : m.now ≡ replay c t.edits_in_force
   pub past : m.past ≡ take (length m.past) (earlier_replays c t.edits_in_force)

@@ -1,4 +1,4 @@
--- The bounded history of a capture as a machine. The rules are the project's own.
+-- A session as a list of captures: the current one, and those that undo and redo reach. The project's own.
 use Rattle.std.specs.Prelude.{◌≡◌, ◌⊎◌, ℕ, ◌-◌, nat_lt, nat_le, Bool, not, ◌&&◌, IsTrue, if◌then◌else◌, List, [], ◌∷◌}
 use Rattle.std.specs.Prelude.{length, take, Option, Some, None, Result, MatchResult}
 use Rattle.vcd_core.specs.Contents.{Contents}

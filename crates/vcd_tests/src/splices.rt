@@ -122,9 +122,9 @@ fn splice(
 /// The changes of the rows' wave.
 const WAVE: &str = "1@3 0@5 1@7 0@9 z@11";
 
-/// The place, by how many ticks the later changes move, the piece, and the changes after the splice. The rows are: an
-/// empty splice; at the front, in the middle and at the end, with a piece as long as its part, longer, shorter and
-/// empty; the whole list, and great ticks.
+/// The place, by how many ticks the later changes move, the piece, and the changes after the splice. The rows are an
+/// empty splice, splices at the front, in the middle and at the end, of the whole list, and at great ticks. Pieces are
+/// as long as their part, longer, shorter and empty.
 const SPLICES: &str = "\
 0 0 0:: 1@3 0@5 1@7 0@9 z@11
 0 1 0: z@1: z@1 0@5 1@7 0@9 z@11

@@ -1,5 +1,5 @@
 -- The one fault of a file that is not accepted: after the whole items at its front, the fault that the earliest word
--- shows (the project's own).
+-- shows. The project's own.
 use Rattle.std.specs.Prelude.{◌≡◌, ℕ, ◌<◌, Bool, true, false, List, ◌∷◌, ◌++◌, length, Some, None, IsTrue, IsFalse}
 use Rattle.std.specs.Prelude.{codes, []}
 use Rattle.vcd_text.specs.declared.fault.Fault.{Fault}

@@ -10,8 +10,7 @@ use Rattle.vcd_core.specs.Value.{same_letters, printed_letter}
 abbrev pub is_among : List ℕ → ℕ → Bool
 is_among bytes b = list_any (nat_eq b) bytes
 
--- the letter that a binary digit writes: 0 1 x X z Z by IEEE 1364-2005, 18.2; the others, of VHDL simulators, are the
--- project's own
+-- the letter that a binary digit writes: 0 1 x X z Z by IEEE 1364-2005, 18.2; the others come from VHDL simulators
 abbrev pub letter_of_digit : ℕ → Option Bit
 letter_of_digit b = if is_among (codes "0lL") b then Some Zero else (if is_among (codes "1hH") b then Some One
     else (if is_among (codes "xXuUwW-") b then Some X else (if is_among (codes "zZ") b then Some Z else None)))
@@ -28,8 +27,8 @@ letters_of_digits digits = map (λ b. unwrap_or (letter_of_digit b) X) digits
 abbrev pub printed_letters : List Bit → List ℕ
 printed_letters letters = map printed_letter letters
 
--- the letter that extends letters on the left: 0 where the leftmost is 0 or 1, else the leftmost (18.2); no list that
--- is read is empty
+-- the letter that extends letters on the left: 0 if the leftmost is 1, else the leftmost (18.2); no list that is read
+-- is empty
 abbrev pub pad_letter : List Bit → Bit
 pad_letter [] = X
 pad_letter (Zero ∷ s) = Zero
@@ -40,8 +39,8 @@ pad_letter (b ∷ s) = b
 abbrev pub extension : ℕ → List Bit → List Bit
 extension width s = replicate (width - length s) (pad_letter s) ++ s
 
--- the value of a width that binary digits write, extended on the left; none where there is no digit, a byte is no
--- binary digit, or there are more than the width
+-- the value of a width that binary digits write, extended on the left; none without digits, with another byte, or with
+-- more digits than bits
 abbrev pub value_of_digits : ℕ → List ℕ → Option (List Bit)
 value_of_digits width digits =
     if not (length digits == 0) && list_all is_binary_digit digits && nat_le (length digits) width

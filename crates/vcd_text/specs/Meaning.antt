@@ -8,8 +8,8 @@ use Rattle.vcd_text.specs.Words.{words_of}
 use Rattle.vcd_text.specs.Letters.{extension}
 use Rattle.vcd_text.specs.Grammar.{VariableDeclaration, ValueChange, ParseState, Accepts, is_skipped, kept_variables}
 
--- the value of a code of this width at a tick t: the extension of the last value change in the file with that code and
--- a tick at most t; else `before`
+-- the value of a code at a tick: the last change of that code at or before it, extended to the width; `before` without
+-- one
 unfoldable pub latest_value : ℕ → List ℕ → ℕ → List Bit → List ValueChange → List Bit
 latest_value width code t before [] = before
 latest_value width code t before (r ∷ rs) =
@@ -25,8 +25,8 @@ declared_signal value_changes end d = record {
   changes = changes_of d.size end (λ t. latest_value d.size d.code t (all_x d.size) value_changes);
 }
 
--- the meaning of a file with this state: each kept variable is a signal, in the order of the file; the end is the last
--- stamp, or 0
+-- the meaning of a file with this state: its kept variables are the signals, in their order; the end is the last stamp,
+-- or 0
 abbrev pub meaning : ParseState → Contents
 meaning c = record {
   header = c.header;

@@ -43,8 +43,7 @@ scope_items opened path =
     let shared : ℕ = common_prefix_len same_scope opened path in
     replicate (length opened - shared) upscope ++ map (λ s. scope s.kind s.words) (drop shared path)
 
--- n in bijective base 94, lowest digit first, where the digits 1 to 94 are the bytes 33 to 126; the first number bounds
--- the number of digits
+-- n in bijective base 94, lowest digit first, with at most `most` digits; the digits 1 to 94 are the bytes 33 to 126
 unfoldable pub code_digits : ℕ → ℕ → List ℕ
 code_digits most zero = []
 code_digits zero (suc n) = []
@@ -112,8 +111,7 @@ end_items signals end = if nat_lt 0 end && (length (new_values signals end) == 0
 
 -- ---- files
 
--- the items of a capture: header, timescale, declarations, the values at tick 0, the values that differ at the ticks 1
--- to the end, and the end
+-- the items of a capture: header, timescale, declarations, the values at tick 0, those that change later, and the end
 unfoldable pub items_of : Contents → List Item
 items_of c = header_items c.header ++ timescale_items c.timescale ++ signal_items [] 0 c.signals
     ++ end_definitions ∷ first_items c.signals ++ tick_items c.signals 1 c.end ++ end_items c.signals c.end

@@ -25,15 +25,15 @@ abbrev pub with_longer_first : ℕ → ℕ → List PlacedWord → List PlacedWo
 with_longer_first b line [] = []
 with_longer_first b line (w ∷ ws) = word_on (b ∷ w.text) line ∷ ws
 
--- the words with the byte b before them: white space adds nothing, the last byte of a word is a word, any other byte
+-- the words with the byte b before them: white space adds nothing; another byte is a word if it ends one, else it
 -- lengthens the word after it
 abbrev pub with_byte : (space last : Bool) → ℕ → ℕ → List PlacedWord → List PlacedWord
 with_byte true last b line ws = ws
 with_byte false true b line ws = word_on (b ∷ []) line ∷ ws
 with_byte false false b line ws = with_longer_first b line ws
 
--- the maximal runs of bytes other than white space, with the first byte on this line; only those that white space
--- follows unless the text is whole
+-- the runs of bytes between white space, with the first byte on this line; if the text is not whole, only those that
+-- white space follows
 unfoldable pub words_from : Bool → ℕ → List ℕ → List PlacedWord
 words_from whole line [] = []
 words_from whole line (b ∷ bs) = with_byte (is_white_space b) (ends_before whole bs) b line

@@ -18,7 +18,7 @@ use Rattle.vcdedit.specs.inside.ParsedCommands.{derive_by}
 use Rattle.vcdedit.specs.ParsedLines.{command_of_line}
 use Rattle.vcdedit.proofs.CasesOfRun.{two_signals}
 
--- what a line asks for on a one_bit_signal `top.a` and a vector `top.v` of four bits
+-- what a line asks for on a signal `top.a` of one bit and a vector `top.v` of four bits
 abbrev asked : List ℕ → Result Command LineError
 asked line = command_of_line two_signals line
 

@@ -21,7 +21,7 @@ use Rattle.vcdedit.specs.RunOutcomes.{line_replies}
 use Rattle.vcd_journal.specs.Machine.{first_machine}
 use Rattle.vcd_text.proofs.CasesOfText.{capture, wire, top, from}
 
--- a one_bit_signal that changes, a vector, and a signal in no scope that is always x
+-- a signal of one bit that changes, a vector, and a signal in no scope that is always x
 abbrev three : Contents
 three = capture 9 (wire (top ∷ []) (codes "a") 1 (from 0 (codes "z") ∷ from 4 (codes "1") ∷ [])
     ∷ wire (top ∷ []) (codes "v") 4 (from 2 (codes "01xz") ∷ []) ∷ wire [] (codes "n") 2 [] ∷ [])

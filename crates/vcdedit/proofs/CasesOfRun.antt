@@ -30,7 +30,7 @@ lines_of_scripts : (script_lines [] ≡ [])
 unfolding script_lines
 lines_of_scripts = (refl, refl, refl, refl)
 
--- a rename of the one one_bit_signal
+-- a rename of the only signal
 rename_run : run_outcome (one_scalar (codes "a")) 0 (codes "rename top.a b\n") 100
     ≡ record { replies = codes "ok\n" ∷ []; output = one_scalar_text (codes "b"); refused = 0 }
 unfolding script_lines words_from command_of_line lookup name_in edit_fault effect line_reply machine_after_line

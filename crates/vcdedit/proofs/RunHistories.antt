@@ -62,7 +62,7 @@ pub record Matches (c : Contents) (h : History) (m : Machine) : Type 0 where
   pub undoable : h.undoable ≡ length m.past
   pub depth : h.depth ≡ m.depth
 
--- as many edits are undone as captures stand in the future
+-- as many edits are undone as the future has captures
 undone_count : (c : Contents) (es us : List Edit) (future : List Contents) → FutureFollows c es us future
     → length us ≡ length future
 undone_count c es [] [] p = refl

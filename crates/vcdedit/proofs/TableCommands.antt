@@ -275,7 +275,7 @@ module _ (c : Contents) (skipped : ℕ) where
       then_asks (signal_of_name c a) (read_signal c a) _ _ (signal_is c a)
       (λ j. then_asks (number_of_word bit) (read_number bit) _ _ (number_is bit) (λ k. refl)))
 
-  -- what a row of a table asks for, or the rows behind it
+  -- what a row of a table asks for, or the rows after it
   row_asks : (b : Bool) (r q : Result Command LineError) (words : List (List ℕ))
       (asked : List (List ℕ) → Read Request) (others : Read (List (List ℕ) → Read Request)) →
       told r ≡ asked words → told q ≡ (others ▷ λ ask. ask words)

@@ -29,17 +29,17 @@ abbrev pub OfWords : ℕ → Type 0
 OfWords zero = Read Request
 OfWords (suc n) = List ℕ → OfWords n
 
--- and what these do, if they are as many
+-- the request of these words, if they are as many
 abbrev pub of_words : (n : ℕ) → OfWords n → List (List ℕ) → Read Request
 of_words zero asked [] = asked
 of_words (suc n) asked (word ∷ words) = of_words n (asked word) words
 of_words n asked words = Err (codes "WrongCount")
 
--- a keyword with what the words behind it ask for
+-- a keyword, with what the words after it ask for
 abbrev pub Row : Type 0
 Row = List ℕ × (List (List ℕ) → Read Request)
 
--- a keyword that wants so many words behind it
+-- a keyword that needs so many words after it
 abbrev pub row : List ℕ → (n : ℕ) → OfWords n → Row
 row keyword n asked = (keyword, of_words n asked)
 
@@ -59,7 +59,7 @@ rule_rows c word =
     ∷ row (codes "xor") 2 (ask_pair c word Xor) ∷ row (codes "bit") 2 (λ a bit.
     read_signal c a ▷ λ j. read_number bit ▷ λ k. ask_edit (Derive (lent_bytes word) (BitOf j k))) ∷ []
 
--- the words behind `derive`: the name, the rule, and its operands
+-- the words after `derive`: the name, the rule, and its operands
 abbrev pub ask_derive : Contents → List (List ℕ) → Read Request
 ask_derive c (word ∷ rule ∷ operands) = read_listed (codes "BadOption") (rule_rows c word) rule ▷ λ ask. ask operands
 ask_derive c words = Err (codes "WrongCount")
@@ -99,8 +99,8 @@ abbrev pub begins_comment : List ℕ → Bool
 begins_comment [] = false
 begins_comment (b ∷ bs) = b == 35
 
--- what the words of a line ask for on a capture, so many variables of whose file were skipped, or the word with which
--- the line is refused
+-- what the words of a line ask for on a capture, or the name of the refusal; `skipped`: the variables that were left
+-- out
 abbrev pub asked_by_words : Contents → (skipped : ℕ) → List (List ℕ) → Read Request
 asked_by_words c skipped [] = Ok (reply [])
 asked_by_words c skipped (first ∷ words) = if begins_comment first then Ok (reply [])

@@ -75,7 +75,7 @@ kind_text digits kinds.Nack = codes "nack"
 
 -- ---- lines
 
--- the line of an annotation: its first and last tick, the decoder's word, its kind
+-- the line of an annotation: its first and last tick, the decoder's name, its kind
 abbrev pub annotation_line : List ℕ → ℕ → Annotation → List ℕ
 annotation_line decoder digits a =
     decimal a.start ++ codes "-" ++ decimal a.end ++ codes " " ++ decoder ++ codes " " ++ kind_text digits a.kind

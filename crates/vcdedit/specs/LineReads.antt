@@ -1,4 +1,4 @@
--- What a word of a line of a script is read as, or the word with which the line is refused: the project's own.
+-- What a word of a line is read as, or the name of the refusal: the project's own.
 use Rattle.std.specs.Prelude.{ℕ, ◌+◌, ◌*◌, ◌^◌, ◌==◌, ◌&&◌, nat_lt, nat_le, not, Bool, if◌then◌else◌, ℤ, pos, neg_ℤ}
 use Rattle.std.specs.Prelude.{List, [], ◌∷◌, take, drop, Option, Some, None, Result, Ok, Err, codes}
 use Rattle.std.specs.List.{position}
@@ -19,17 +19,17 @@ use Rattle.vcd_decode.specs.declared.uart_setup.TheConstants.{RATIO_LIMIT}
 use Rattle.vcd_decode.specs.UartSetup.{UartSetup, is_between}
 use Rattle.vcd_decode.specs.SpiSetup.{SpiSetup}
 
--- what is read, or the word of a refusal
+-- what is read, or the name of the refusal
 abbrev pub Read : Type 0 → Type 0
 Read A = Result A (List ℕ)
 
--- what is read on
+-- the next reading, unless the line is refused
 infixl 10 ◌▷◌
 abbrev pub ◌▷◌ : {A B : Type 0} → Read A → (A → Read B) → Read B
 (Ok x) ▷ f = f x
 (Err refusal) ▷ f = Err refusal
 
--- what a table has for a word
+-- the entry of a table for a word
 abbrev pub read_listed : {A : Type 0} → (refusal : List ℕ) → List (List ℕ × A) → List ℕ → Read A
 read_listed refusal [] word = Err refusal
 read_listed refusal (row ∷ rows) word = if bytes_eq word row.0 then Ok row.1 else read_listed refusal rows word
@@ -38,7 +38,7 @@ read_listed refusal (row ∷ rows) word = if bytes_eq word row.0 then Ok row.1 e
 abbrev pub read_signal : Contents → List ℕ → Read ℕ
 read_signal c name = ok_or (lookup c.signals name) (codes "NoSuchName")
 
--- what comes of the decimal number that a word writes, where it fits
+-- the decimal number that a word writes, converted, if it is in range
 abbrev pub read_fitting : {A : Type 0} → (ℕ → Bool) → (ℕ → A) → List ℕ → Read A
 read_fitting fits made word =
     if is_number word && fits (number_of word) then Ok (made (number_of word)) else Err (codes "BadNumber")
@@ -47,11 +47,12 @@ read_fitting fits made word =
 abbrev pub read_number : List ℕ → Read ℕ
 read_number = read_fitting (λ n. nat_lt n (2 ^ 64)) (λ n. n)
 
--- a distance forth in time: below 2^63
+-- a distance to a later tick: below 2^63
 abbrev pub read_forth : List ℕ → Read ℤ
 read_forth = read_fitting (λ n. nat_lt n (2 ^ 63)) pos
 
--- the distance that a word writes: behind `-` (45) at most 2^63 back, behind `+` (43) or neither forth
+-- the distance that a word writes: after `-` (45) to an earlier tick, at most 2^63; after `+` (43) or neither to a
+-- later one
 abbrev pub read_distance : List ℕ → Read ℤ
 read_distance [] = Err (codes "BadNumber")
 read_distance (c ∷ digits) = if c == 45 then read_fitting (λ n. nat_le n (2 ^ 63)) (λ n. neg_ℤ (pos n)) digits
@@ -63,7 +64,7 @@ read_value width word = ok_or (value_of_digits width word) (codes "BadValueText"
 
 -- ---- of lines that decode signals
 
--- the ratio that a word writes, whose first `/` stands here: without one the second number is 1
+-- the ratio that a word writes, given the place of its first `/`; without one the second number is 1
 abbrev pub read_ratio_at : List ℕ → Option ℕ → Read (ℕ × ℕ)
 read_ratio_at word None = read_number word ▷ λ n. Ok (n, 1)
 read_ratio_at word (Some place) =
@@ -82,27 +83,27 @@ read_parity = read_listed (codes "BadOption")
 abbrev pub read_order : List ℕ → Read BitOrder
 read_order = read_listed (codes "BadOption") ((codes "msb", Msb) ∷ (codes "lsb", Lsb) ∷ [])
 
--- the position of the signal that a word names; `-` stands for a line that is not there
+-- the position of the signal that a word names; `-` means that the line is absent
 abbrev pub read_line : Contents → List ℕ → Read (Option ℕ)
 read_line c word = if bytes_eq word (codes "-") then Ok None else (read_signal c word ▷ λ k. Ok (Some k))
 
--- a decoder's signal has one bit
+-- a decoder's signal, which must have one bit
 abbrev pub scalar : Contents → ℕ → Read ℕ
 scalar c k = if (signal_at c k).width == 1 then Ok k else Err (codes "NotScalar")
 
--- and so has a line that is there
+-- the same for a line that may be absent
 abbrev pub scalar_line : Contents → Option ℕ → Read (Option ℕ)
 scalar_line c None = Ok None
 scalar_line c (Some k) = scalar c k ▷ λ k. Ok (Some k)
 
--- the numbers that a UART line can have
+-- the tests of a UART setup, each with the name of its refusal
 abbrev pub uart_tests : UartSetup → Tests
 uart_tests u =
     (not (is_between 1 RATIO_LIMIT u.numerator && is_between 1 RATIO_LIMIT u.denominator), codes "BadRatio")
     ∷ (nat_lt u.numerator (2 * u.denominator), codes "BitTooShort")
     ∷ (not (is_between 5 9 u.data_bits), codes "BadData") ∷ (not (is_between 1 2 u.stop_bits), codes "BadStop") ∷ []
 
--- and those of a serial peripheral interface
+-- the same for a serial peripheral interface
 abbrev pub spi_tests : SpiSetup → Tests
 spi_tests u = (not (nat_le u.mode GREATEST_MODE), codes "BadMode")
     ∷ (not (is_between 1 WORD_BITS_LIMIT u.bits), codes "BadBits") ∷ []

@@ -23,7 +23,7 @@ use Rattle.vcdedit.specs.Queries.{listing}
 use Rattle.vcdedit.specs.WaveReplies.{value_line, change_lines}
 use Rattle.vcdedit.specs.Reply.{reply_text}
 
--- the lines of an answer, or the word of a refusal
+-- the lines of a reply, or the name of the refusal
 abbrev pub LineReply : Type 0
 LineReply = Result (List (List ℕ)) (List ℕ)
 

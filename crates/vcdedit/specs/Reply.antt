@@ -8,7 +8,7 @@ use Rattle.vcdedit.specs.LineReads.{Read}
 abbrev pub with_line_feed : List ℕ → List ℕ
 with_line_feed bytes = bytes ++ 10 ∷ []
 
--- the reply to the line of this number: these lines, or the word with which it is refused
+-- the reply to the line of this number: these lines, or the name of the refusal
 abbrev pub reply_text : ℕ → Read (List (List ℕ)) → List ℕ
 reply_text number (Ok lines) = flat_map with_line_feed lines
 reply_text number (Err name) = with_line_feed (codes "line " ++ decimal number ++ codes ": refused: " ++ name)

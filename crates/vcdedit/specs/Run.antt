@@ -19,7 +19,7 @@ pub record RunOutcome : Type 0 where
   pub output : List ℕ
   pub refused : ℕ
 
--- the answer to a request, where the capture has this history: the lines of the reply, or the word of a refusal
+-- the answer to a request, where the capture has this history: the lines of the reply, or the name of the refusal
 abbrev pub answer : Contents → History → Request → Read (List (List ℕ))
 answer c h (step s) = unless_refused (step_tests c h s) (codes "ok" ∷ [])
 answer c h (reply lines) = Ok lines

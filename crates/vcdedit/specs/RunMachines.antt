@@ -25,7 +25,7 @@ abbrev pub machine_after_command : Machine → Result Command LineError → Mach
 machine_after_command m (Ok (commands.Step step)) = (step_outcome m step).after
 machine_after_command m asked = m
 
--- the machine after a line, read on the capture that then stands
+-- the machine after a line, which is read on the current capture
 unfoldable pub machine_after_line : Machine → List ℕ → Machine
 machine_after_line m line = machine_after_command m (command_of_line m.now line)
 

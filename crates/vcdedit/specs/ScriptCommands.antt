@@ -26,7 +26,7 @@ use Rattle.vcdedit.specs.DecoderWords.{one_bit_signal_or_absent, faultless_uart,
 
 -- ---- the first word
 
--- the word of each command
+-- the name of each command
 abbrev pub keyword_words : List (List ℕ × Keyword)
 keyword_words =
     (codes "rename", keywords.Rename) ∷ (codes "remove", keywords.Remove) ∷ (codes "invert", keywords.Invert)

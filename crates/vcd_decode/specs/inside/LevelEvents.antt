@@ -18,7 +18,7 @@ is_stop before at = is_line_high before.scl && is_line_high at.scl && is_zero be
 abbrev pub is_bit : BusLevels → BusLevels → Bool
 is_bit before at = is_zero before.scl && is_line_high at.scl
 
--- the event on the lines at a tick, by their levels just before it and at it; the level of a bit is that of SDA
+-- the event at a tick, by the levels of the lines just before it and at it; a bit has the level of SDA
 abbrev pub bus_event : ℕ → BusLevels → BusLevels → Option BusEvent
 bus_event t before at =
     if is_start before at then Some (events.Start t)

@@ -20,9 +20,8 @@ pub(super) enum ByteRole {
     Data,
 }
 
-/// The bits of the current byte: their number, the ticks of the first and the last, and their
-/// number as a value, most significant bit first. The value is none where a bit is neither high nor
-/// low.
+/// The bits of the current byte: how many, the ticks of the first and the last, and the number that
+/// they give, most significant bit first. The value is none where a bit is neither high nor low.
 #[derive(Clone, Copy)]
 pub(super) struct PartByte {
     pub(super) count: u64,

@@ -44,8 +44,8 @@ abbrev pub IsNamedAt : Contents → Option (ℕ × List ℕ) → Type 0
 IsNamedAt c None = Unit {0}
 IsNamedAt c (Some w) = 0 < length (signal_at c w.0).words
 
--- the second record undoes the first one on a capture, and stores no more than that one touches; the offset of each
--- signal is the opposite of its piece's
+-- the second record undoes the first one on a capture; it stores no more than that one touches, and has the opposite
+-- offsets
 pub record IsInverse (c : Contents) (r q : RecordView) : Type 0 where
   pub fits : Fits q (apply_record r c)
   pub leads : apply_record q (apply_record r c) ≡ c

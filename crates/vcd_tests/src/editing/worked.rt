@@ -8,8 +8,8 @@ use std::test::Fail;
 use vcd_core::Capture;
 use vcd_edit::{Edit, Rule, apply, revert};
 
-/// A row is the edit; then a position and the end of the capture after it; then how many changes the record may store
-/// at most, and that of its undo; then the changes of the signal at the position.
+/// A row has the edit, a position, the end of the capture after it, and the most changes that its record and that of
+/// its undo may store. Then come the changes of the signal at the position.
 const TWO: &str = "\
 $var wire 1 ! a $end $var wire 1 \" b $end $enddefinitions $end
 #0 0! 1\" #3 1! #5 x\" #8";

@@ -19,7 +19,7 @@ const OF_DECLARATIONS: &str = "\
 2 Truncated:$scope|
 2 Truncated:$var wire 1 !|
 3 Truncated:$x||$dumpvars
--- words that may not stand there
+-- words that have no place there
 2 UnexpectedWord:|$end
 1 UnexpectedWord:wire
 1 UnexpectedWord:#0
@@ -74,7 +74,7 @@ const OF_CHANGES: &str = "\
 4 Truncated:r1.5||
 2 Truncated:s
 4 Truncated:$comment 1!||
--- words that may not stand there
+-- words that have no place there
 3 UnexpectedWord:#0|$scope module a $end
 2 UnexpectedWord:$upscope $end
 2 UnexpectedWord:$var|
@@ -126,8 +126,7 @@ const OF_CHANGES: &str = "\
 2 BadChange:#5 0|#4
 3 TimeBackwards:$date $end $dumpoff|#5 #4 $var";
 
-/// The line, the fault, and the bytes that a reader gives before it fails: the answer is a fault in the complete words
-/// and no other.
+/// The line, the fault, and the bytes that a reader gives before it fails. The answer is a fault in the complete words.
 const OF_READERS_THAT_FAIL: &str = "\
 1 ReadFault:
 4 ReadFault:$var wire 1 ! a $end|$enddefinitions $end|#10|

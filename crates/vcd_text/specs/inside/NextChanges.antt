@@ -14,8 +14,7 @@ pub record AreRising (changes : List Change) : Type 0 where
 abbrev pub tick_at : List Change → ℕ → ℕ
 tick_at changes place = slice_index_or (map (λ c. c.tick) changes) place (2 ^ 64 - 1)
 
--- a change with the tick after it, where the changes before it come before the tick `to`, and it does not come before
--- the tick `from`
+-- a change and the tick after it: it is not before the tick `from`, and those before it are before the tick `to`
 pub record IsNext (from to : ℕ) (changes : List Change) (next : NextChange) : Type 0 where
   pub passed : All (λ c. c.tick < to) (take next.place changes)
   pub left : from ≤ next.tick

@@ -1,5 +1,4 @@
--- The changes of signals in a window of ticks: by tick, in the order of the text, and signal by signal, in the order of
--- waves.
+-- The changes in a window of ticks, in two orders: by tick, as in the text, and signal by signal, as in waves.
 use Rattle.std.specs.Prelude.{ℕ, zero, suc, ◌+◌, ◌==◌, if◌then◌else◌, List, [], ◌∷◌, ◌++◌, map, ◌&&◌, Bool, nat_le}
 use Rattle.std.specs.Prelude.{nat_lt, slice_index_or}
 use Rattle.std.specs.List.{filter, enumerate_from}

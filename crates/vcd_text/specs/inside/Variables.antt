@@ -47,8 +47,8 @@ declaration v = declaration_by v.code v.signal
 abbrev pub target_of : Variables → List ℕ → Option CodeTarget
 target_of vs code = code_target vs.code_targets.codes code
 
--- the variable of this code and size is at this position, and its wave with its changes of the log follows the value
--- changes, the last of which is at the tick or before
+-- the variable of this code and size is at this position; its wave and its changes of the log have the value changes up
+-- to the tick
 pub record HasWave (vs : List Variable) (log : ℕ → List LoggedChange) (position : ℕ) (code : List ℕ) (size : ℕ)
     (value_changes : List ValueChange) (tick : ℕ) : Type 0 where
   pub first : Variable

@@ -3,8 +3,8 @@ use Rattle.std.specs.Prelude.{◌≡◌, ◌<◌, ◌≤◌, ◌-◌, ◌^◌, �
 use Rattle.std.specs.Io.KnownBytes.{Appends}
 use Rattle.vcd_text.specs.declared.writing.buffer.WriteBuffer.{WriteBuffer}
 
--- a text was written since a writer held these bytes: unless the count of bytes sent has reached its limit, the writer
--- took the front, and the rest waits, unless it has failed
+-- a text was written since a writer held these bytes: it took the front and, unless it failed, the rest waits; at the
+-- greatest count nothing is said
 pub record HasEmitted (before after : Option (List ℕ)) (failed : Bool) (buffer : WriteBuffer) (text : List ℕ) : Type 0
   where
     pub within : buffer.sent ≤ length text

@@ -86,8 +86,8 @@ impl Reader {
         }
     }
 
-    /// Takes the two words of a change of several bits at once: the code, and these digits, which
-    /// follow the letter of the first word on this line.
+    /// Takes both words of a change of several bits: the code, and these digits, which follow the
+    /// letter of the first word on this line.
     pub fn take_vector(
         &mut self,
         alloc: Global,

@@ -197,8 +197,8 @@ fn kept_in_word(count: u64, word: LetterWord) -> u64
 }
 
 /// A word whose bit `i` is set where the extension does not restore the letter of bit `i + 1` from
-/// that of bit `i`. These are the pairs with one of x and z and one of 0 and 1, those with 1 as the
-/// higher letter, and those of x and z.
+/// that of bit `i`. These are the pairs that mix x or z with 0 or 1, those with 1 as the higher
+/// letter, and those of x and z.
 fn needed_above(low: u64, high: u64) -> u64
     ensures { (i : ℕ) → i < 64 →
         bit_at result i ≡ (if is_spare_above (record { low = low; high = high }) i then 0 else 1) }

@@ -1,5 +1,5 @@
-//! A window of ticks: a key for each change of the signals in it, in the order of the text, and room
-//! that was made beforehand.
+//! A window of ticks: a key for each change in it, in the order of the text, in room that was made
+//! beforehand.
 
 ghost use Rattle.std.specs.Prelude.{◌≡◌, ◌⊎◌, ◌<◌, ◌≤◌, ◌+◌, ◌-◌, ◌*◌, ◌++◌, ◌∷◌, [], ℕ, true, false, length, map, All, vec_capacity, IfOk, IfSome, IfNone};
 ghost use Rattle.vcd_core.specs.Contents.{signal_contents};
@@ -149,8 +149,8 @@ fn list_window(
 }
 
 /// Lists the keys of the signal at `position` in a window, the first of which is that of the next
-/// change. Returns its next change after the window; none where there is no room, or a change is too
-/// far from the first tick for a key. Where no change is in the window, it reads none.
+/// change. Returns its next change after the window; none if there is no room, or a change is too
+/// late for a key. Where no change is in the window, it reads none.
 fn list_signal(
     keys: &mut Vec<u64>,
     position: usize,

@@ -48,8 +48,8 @@ IsLineFault run_errors.ScriptTooLarge = ⊥
 IsLineFault run_errors.ScriptReadFault = ⊥
 IsLineFault (run_errors.Write e) = ⊥
 
--- the fault ended the writing of this text for the line of this number, after so many bytes of others; if memory ran
--- out, none of its bytes was taken, otherwise its first ones
+-- the fault ended the writing of this text, the reply to the line of this number, after so many bytes; if memory ran
+-- out, none of the text was taken, else its first bytes
 abbrev pub StopsAtReply : (number : ℕ) → (text : List ℕ) → (told : ℕ) → (before after : Option (List ℕ)) → RunError
     → Type 0
 StopsAtReply number text told before after (run_errors.NoMemory line) = (line ≡ number) × Keeps before after

@@ -26,9 +26,9 @@ use vcd_text::Words;
 
 /// Reads a line of the script, on the current capture. It takes no memory.
 ///
-/// The faults in the order in which they count: the first word names no command; the command takes another number of
-/// words; a word, from left to right, is not what its place requires; a decoder's signal is wider than one bit; the
-/// decoder's setup has a fault.
+/// The first fault counts. Their order is: the first word names no command; the command takes another number of words;
+/// a word, from left to right, is not what its place requires. Then a decoder's signal is wider than one bit, or its
+/// setup has a fault.
 ///
 /// The cost is that of the line, and for each name in it a comparison with each full name. `@` and a position needs no
 /// comparison.

@@ -37,8 +37,8 @@ const NOT_OPENED: RunError = RunError::Capture(ReadError {
 pub fn status_of_program<R: Runtime + AllocGlobal, E: Sink>(rt: &R, errors: &mut E) -> u8
     requires { E.has_failed errors.old ≡ false }
     ensures most { result ≤ 5 }
-    // the status and the text are those of one ending; if that is one of a completed run, some words asked for that
-    // run, and it had that ending
+    // The status and the text are those of one ending. If that is of a completed run, some words asked for that run,
+    // and it had that ending.
     ensures told { (ending : ProgramEnding) ×
         (is_done ending ≡ true → (words : List (List ℕ)) ×
         (fault_of option_app words ≡ []) × IsEndingOf words ending) ×

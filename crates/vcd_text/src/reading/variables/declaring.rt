@@ -27,8 +27,8 @@ impl Variables {
     /// variable of its code takes another copy of the code, in the map; a skipped one takes at most
     /// that copy.
     ///
-    /// The error is `BadVar` where a part is missing, `MixedCode` where the code has another size
-    /// or is skipped for one variable alone, `TooManySignals`, or `NoMemory`.
+    /// The error is `BadVar` if a part is missing, `TooManySignals`, or `NoMemory`. It is
+    /// `MixedCode` if the code has another size, or is skipped for one variable alone.
     pub fn declare(&mut self, alloc: Global, words: &[Word]) -> Result<(), Fault>
         requires size { IsTrue (has_good_size words.now) }
         requires few { self.old.skipped + 1 < 2 ^ 64 }
