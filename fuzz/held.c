@@ -11,7 +11,7 @@ extern void *__libc_malloc(size_t);
 extern void *__libc_realloc(void *, size_t);
 extern void __libc_free(void *);
 
-/* What stands in front of a block; blocks keep their alignment of 16 bytes. */
+/* What comes before a block; blocks keep their alignment of 16 bytes. */
 struct head {
     size_t size, unused;
 };
