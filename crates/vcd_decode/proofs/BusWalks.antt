@@ -289,13 +289,13 @@ walk_is es = (walked es).0
 
 -- the annotations of an event, and then those after it
 pub event_taken : (r : Result (Option Transfer) NoMemory) (old new : List Annotation) (bus : Option Transfer)
-    (told : Option BusEvent) (e : BusEvent) → told ≡ Some e
+    (seen : Option BusEvent) (e : BusEvent) → seen ≡ Some e
     → OnOk r (new ≡ old ++ event_annotations bus e) → IfOk r (λ next. next ≡ bus_after bus e)
     → IfOk r (λ next. (es : List BusEvent)
-    → new ++ walk_annotations next es ≡ old ++ walk_annotations bus (cons_option told es))
+    → new ++ walk_annotations next es ≡ old ++ walk_annotations bus (cons_option seen es))
 unfolding walk_annotations
-event_taken (Err fault) old new bus told e is annotations after = tt
-event_taken (Ok next) old new bus told e is annotations after = λ es.
+event_taken (Err fault) old new bus seen e is annotations after = tt
+event_taken (Ok next) old new bus seen e is annotations after = λ es.
     (λ i. annotations i ++ walk_annotations (after i) es)
     ∙ append_assoc old (event_annotations bus e) (walk_annotations (bus_after bus e) es)
     ∙ ap (λ (o : Option BusEvent). old ++ walk_annotations bus (cons_option o es)) (sym is)

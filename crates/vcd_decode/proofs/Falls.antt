@@ -146,7 +146,7 @@ pub walked : (begun : ℕ → Option Annotation) (taken last : ℕ) (before lett
     → found ++ frames begun taken (fall_ticks before (drop i changes)) ≡ all
     → later ++ frames begun last (fall_ticks letter (drop (i + 1) changes)) ≡ all
 walked begun taken last before letter changes i c frame found later all within at is_letter is_frame is_later is_last
-    told =
+    seen =
     let rest = drop (i + 1) changes in
     let list : drop i changes ≡ c ∷ rest = drop-cons changes i c within
     ∙ (λ j. sym at j ∷ drop (sym (add-one i) j) changes) in
@@ -158,16 +158,16 @@ walked begun taken last before letter changes i c frame found later all within a
     (frames begun (option_map_or (λ a. a.end) frame taken) (fall_ticks (letter_of c) rest))
     ∙ ap (λ l. found ++ l) (sym (one_change begun taken before c rest frame frame_by))
     ∙ ap (λ cs. found ++ frames begun taken (fall_ticks before cs)) (sym list)
-    ∙ told
+    ∙ seen
 
 -- at the end all frames are found
 pub all_walked : (begun : ℕ → Option Annotation) (taken : ℕ) (before : Bit) (changes : List Change) (i : ℕ)
     (found all : List Annotation) → length changes ≤ i
     → found ++ frames begun taken (fall_ticks before (drop i changes)) ≡ all → found ≡ all
 unfolding fall_ticks frames
-all_walked begun taken before changes i found all past told =
+all_walked begun taken before changes i found all past seen =
     sym (append-nil found)
-    ∙ ap (λ cs. found ++ frames begun taken (fall_ticks before cs)) (sym (drop_all i changes past)) ∙ told
+    ∙ ap (λ cs. found ++ frames begun taken (fall_ticks before cs)) (sym (drop_all i changes past)) ∙ seen
 
 -- all frames are those that the falls begin
 pub frames_by_changes : (wave : WaveView) (changes : List Change) (end : ℕ) (u : UartSetup) → wave.width ≡ 1

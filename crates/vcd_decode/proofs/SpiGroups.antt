@@ -180,10 +180,10 @@ module _ (u : SpiSetup) (mosi miso : Option (ℕ → Bit)) where
   rest_is [] short = sym (ap (map (group_annotation u mosi miso)) (groups_none u.bits))
   rest_is (t ∷ ts) short =
       let some = not_none t ts in
-      let told : group_annotation u mosi miso (t ∷ ts) ≡ rest_annotation (group_of u mosi miso (t ∷ ts)) =
+      let seen : group_annotation u mosi miso (t ∷ ts) ≡ rest_annotation (group_of u mosi miso (t ∷ ts)) =
       rw (lt-ltb (length (t ∷ ts)) u.bits short) refl in
       rw some (sym (ap (map (group_annotation u mosi miso)) (groups_short u.bits (t ∷ ts) (omega arith) (omega arith))
-      ∙ ap (λ a. a ∷ []) told))
+      ∙ ap (λ a. a ∷ []) seen))
 
   -- the annotation of a whole word
   pub word_is : (ts : List ℕ) → length ts ≡ u.bits

@@ -43,7 +43,7 @@ module _ (u : SpiSetup) (some : 0 < u.bits) (mosi miso : Option (ℕ → Bit)) w
   unfolding annotations_at_marks
   word_first c ts [] whole = ap (map (group_annotation u mosi miso)) (groups_whole u.bits c ts some whole)
   word_first c ts (None ∷ marks) whole =
-      ap (λ told. told ++ annotations_at_marks u mosi miso [] marks)
+      ap (λ appended. appended ++ annotations_at_marks u mosi miso [] marks)
       (ap (map (group_annotation u mosi miso)) (groups_whole u.bits c ts some whole))
   word_first c ts (Some t ∷ marks) whole =
       ap (λ us. annotations_at_marks u mosi miso us marks) (append_assoc c ts (t ∷ []))
@@ -57,7 +57,7 @@ module _ (u : SpiSetup) (some : 0 < u.bits) (mosi miso : Option (ℕ → Bit)) w
     pub group : (if divides then group_before (group_of u mosi miso ts)
         else (if not reads then group_of u mosi miso ts else
         (if nat_lt (length ts + 1) u.bits then longer else group_before longer))) ≡ group_of u mosi miso after
-    pub told : (if divides then annotations_at_rest (group_of u mosi miso ts)
+    pub appended : (if divides then annotations_at_rest (group_of u mosi miso ts)
         else (if not reads then [] else (if nat_lt (length ts + 1) u.bits then [] else word_annotation longer ∷ [])))
         ++ annotations_at_marks u mosi miso after marks
         ≡ annotations_at_marks u mosi miso ts ((if divides then None ∷ [] else (if reads then Some t ∷ [] else []))
@@ -70,9 +70,9 @@ module _ (u : SpiSetup) (some : 0 < u.bits) (mosi miso : Option (ℕ → Bit)) w
     after = [];
     short = some;
     group = group_none u mosi miso ts;
-    told = ap (λ a. a ++ annotations_at_marks u mosi miso [] marks) (rest_is u mosi miso ts short);
+    appended = ap (λ a. a ++ annotations_at_marks u mosi miso [] marks) (rest_is u mosi miso ts short);
   }
-  goes false false longer t ts marks short is = record { after = ts; short = short; group = refl; told = refl }
+  goes false false longer t ts marks short is = record { after = ts; short = short; group = refl; appended = refl }
   goes false true longer t ts marks short is =
       elim (cases_lt (length ts + 1) u.bits) [
         | inl less ↦
@@ -81,7 +81,7 @@ module _ (u : SpiSetup) (some : 0 < u.bits) (mosi miso : Option (ℕ → Bit)) w
               after = ts ++ t ∷ [];
               short = omega (arith, length_last ts t);
               group = rw test is;
-              told = rw test refl;
+              appended = rw test refl;
             }
         | inr full ↦
             let test : nat_lt (length ts + 1) u.bits ≡ false = le-ltb (length ts + 1) u.bits full in
@@ -90,7 +90,7 @@ module _ (u : SpiSetup) (some : 0 < u.bits) (mosi miso : Option (ℕ → Bit)) w
               after = [];
               short = some;
               group = rw test (ap group_before is ∙ group_none u mosi miso (ts ++ t ∷ []));
-              told = rw test (
+              appended = rw test (
                   ap (λ g. word_annotation g ∷ annotations_at_marks u mosi miso [] marks) is
                   ∙ ap (λ a. a ∷ annotations_at_marks u mosi miso [] marks)
                   (sym (word_is u mosi miso (ts ++ t ∷ []) whole))
@@ -132,7 +132,7 @@ module _ (u : SpiSetup) (some : 0 < u.bits) (mosi miso : Option (ℕ → Bit)) w
         → SoFar all found g left → left ≡ e ∷ rest
         → more ≡ found ++ annotations_at_edge u g e → next ≡ edge_group u g e → SoFar all more next rest
     unfolding edge_marks
-    so_far_more all found more g next left rest e so_far split told grown =
+    so_far_more all found more g next left rest e so_far split appended grown =
         let ts = so_far.ticks in
         let marks : List (Option ℕ) = flat_map (edge_marks u) rest in
         let each = subst (AllByRecursion (λ x. x ≡ line_edge lines x.tick)) split so_far.each in
@@ -146,11 +146,11 @@ module _ (u : SpiSetup) (some : 0 < u.bits) (mosi miso : Option (ℕ → Bit)) w
           is_group = grown ∙ ap (λ (x : Group). edge_group u x e) so_far.is_group ∙ step.group;
           each = each.1;
           rest =
-              ap (λ xs. xs ++ annotations_at_marks u mosi miso step.after marks) (told
+              ap (λ xs. xs ++ annotations_at_marks u mosi miso step.after marks) (appended
               ∙ ap (λ (x : Group). found ++ annotations_at_edge u x e) so_far.is_group)
               ∙ append_assoc found (annotations_at_edge u (group_of u mosi miso ts) e)
               (annotations_at_marks u mosi miso step.after marks)
-              ∙ ap (λ xs. found ++ xs) step.told
+              ∙ ap (λ xs. found ++ xs) step.appended
               ∙ before;
         }
 
@@ -158,9 +158,9 @@ module _ (u : SpiSetup) (some : 0 < u.bits) (mosi miso : Option (ℕ → Bit)) w
     pub so_far_ends : (all found more : List Annotation) (g : Group) (left : List BitEdge) → SoFar all found g left
         → left ≡ [] → more ≡ found ++ annotations_at_rest g → more ≡ all
     unfolding annotations_at_marks
-    so_far_ends all found more g left so_far over told =
+    so_far_ends all found more g left so_far over appended =
         let ts = so_far.ticks in
-        told ∙ ap (λ (x : Group). found ++ annotations_at_rest x) so_far.is_group
+        appended ∙ ap (λ (x : Group). found ++ annotations_at_rest x) so_far.is_group
         ∙ ap (λ xs. found ++ xs) (rest_is u mosi miso ts so_far.short)
         ∙ ap (λ (es : List BitEdge). found ++ annotations_at_marks u mosi miso ts (flat_map (edge_marks u) es))
         (sym over)
@@ -213,13 +213,13 @@ module _ (u : SpiSetup) (some : 0 < u.bits) (mosi miso : Option (ℕ → Bit)) w
     abbrev parts : ℕ → ℕ → List (List ℕ)
     parts a n = slice_split (λ t. not (is_selected cs t)) (range_with_len a n)
 
-    none_told : annotations_of_ticks [] ≡ []
-    none_told = ap (map (group_annotation u mosi miso)) (groups_none u.bits)
+    none_is : annotations_of_ticks [] ≡ []
+    none_is = ap (map (group_annotation u mosi miso)) (groups_none u.bits)
 
     -- without ticks before, they are those of each part
     parts_alone : (ps : List (List ℕ))
         → parts_annotations [] ps ≡ flat_map annotations_of_ticks (map (filter (has_edge u.mode clk)) ps)
-    parts_alone [] = none_told
+    parts_alone [] = none_is
     parts_alone (part ∷ ps) = refl
 
     -- a tick at which the chip is selected belongs to the first part
@@ -256,7 +256,7 @@ module _ (u : SpiSetup) (some : 0 < u.bits) (mosi miso : Option (ℕ → Bit)) w
         later ts (λ none. following refl)
         ∙ ap (λ us. parts_annotations us ps) (following refl)
         ∙ parts_alone ps
-        ∙ ap (λ xs. xs ++ flat_map annotations_of_ticks (map (filter (has_edge u.mode clk)) ps)) (sym none_told)
+        ∙ ap (λ xs. xs ++ flat_map annotations_of_ticks (map (filter (has_edge u.mode clk)) ps)) (sym none_is)
         ∙ ap (λ us. annotations_of_ticks (us ++ [])
         ++ flat_map annotations_of_ticks (map (filter (has_edge u.mode clk)) ps)) (sym (following refl))
 
@@ -276,11 +276,11 @@ module _ (u : SpiSetup) (some : 0 < u.bits) (mosi miso : Option (ℕ → Bit)) w
         (flat_map (λ t. edge_marks u (line_edge lines t)) (range_with_len (a + 1) n)) (parts (a + 1) n) following
         refl later
 
-    all_told : (end : ℕ) → annotations_at_marks u mosi miso []
+    all_is : (end : ℕ) → annotations_at_marks u mosi miso []
         (flat_map (λ t. edge_marks u (line_edge lines t)) (range_with_len 0 (suc end)))
         ≡ spi_annotations u clk mosi miso cs end
     unfolding spi_annotations
-    all_told end = annotations_at_ticks 0 (suc end) [] (λ none. refl) ∙ parts_alone (parts 0 (suc end))
+    all_is end = annotations_at_ticks 0 (suc end) [] (λ none. refl) ∙ parts_alone (parts 0 (suc end))
 
 -- ---- the beginning
 
@@ -337,5 +337,5 @@ so_far_none u some w mosi miso cs end es found g out back edges none out_is back
           (flat_map (edge_marks u) xs)) edges
           ∙ ap (annotations_at_marks u (option_map line_of mosi) (option_map line_of miso) [])
           (over_edges waves (edge_marks u) (λ t quiet. still u (line_edge (lines_of waves) t) quiet) end)
-          ∙ all_told u some (option_map line_of mosi) (option_map line_of miso) (line_of w) (option_map line_of cs) end;
+          ∙ all_is u some (option_map line_of mosi) (option_map line_of miso) (line_of w) (option_map line_of cs) end;
     }

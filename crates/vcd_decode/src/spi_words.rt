@@ -63,7 +63,7 @@ fn take_clock_edge(
     edge: &BitEdge,
 ) -> Result<Group, NoMemory>
     requires { HasRoomForBit setup.now group.now }
-    ensures told { OnOk result (found.new.items
+    ensures appended { OnOk result (found.new.items
         ≡ found.old.items ++ annotations_at_edge setup.now group.now edge.now) }
     ensures group { IfOk result (λ g. g ≡ edge_group setup.now group.now edge.now) }
 {
@@ -82,7 +82,7 @@ fn take_sample(
     edge: &BitEdge,
 ) -> Result<Group, NoMemory>
     requires { HasRoomForBit setup.now group.now }
-    ensures told { OnOk result (found.new.items
+    ensures appended { OnOk result (found.new.items
         ≡ found.old.items ++ annotations_at_bit setup.now group.now edge.now) }
     ensures group { IfOk result (λ g. g ≡ bit_group setup.now group.now edge.now) }
 {

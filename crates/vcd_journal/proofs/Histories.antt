@@ -11,7 +11,7 @@ use Rattle.vcd_edit.specs.Effect.{effect}
 use Rattle.vcd_edit.specs.RecordView.{RecordView}
 use Rattle.vcd_edit.specs.AppliedRecords.{apply_record, Fits}
 use Rattle.vcd_journal.specs.declared.step.Step.TheVariants as steps
-use Rattle.vcd_journal.specs.Machine.{Machine, machine_after_edit, machine_after_depth, may_want_memory}
+use Rattle.vcd_journal.specs.Machine.{Machine, machine_after_edit, machine_after_depth, may_need_memory}
 use Rattle.vcd_journal.specs.inside.Histories.{AllRecordsFit, HasNoFewerSignals, IsHistory}
 use Rattle.vcd_journal.specs.ReachedCaptures.{reached_captures}
 use Rattle.vcd_journal.specs.inside.Histories.{PopsRecord}
@@ -139,15 +139,15 @@ no_fewer_left c r (q ∷ rs) first never =
         choose true less = absurd (never (grind (arith, nat_tests)))
         choose false more = grind (arith, nat_tests)
 
-pub undo_wants : (c : Contents) (past future : List RecordView) (depth : ℕ) → HasNoFewerSignals c past
-    → may_want_memory (machine_of c past future depth) steps.Undo ≡ true
-undo_wants c [] future depth more = grind (arith, nat_tests)
-undo_wants c (r ∷ rs) future depth more = grind (arith, nat_tests)
+pub undo_needs : (c : Contents) (past future : List RecordView) (depth : ℕ) → HasNoFewerSignals c past
+    → may_need_memory (machine_of c past future depth) steps.Undo ≡ true
+undo_needs c [] future depth more = grind (arith, nat_tests)
+undo_needs c (r ∷ rs) future depth more = grind (arith, nat_tests)
 
-pub redo_wants : (c : Contents) (past future : List RecordView) (depth : ℕ) → HasNoFewerSignals c future
-    → may_want_memory (machine_of c past future depth) steps.Redo ≡ true
-redo_wants c past [] depth more = grind (arith, nat_tests)
-redo_wants c past (r ∷ rs) depth more = grind (arith, nat_tests)
+pub redo_needs : (c : Contents) (past future : List RecordView) (depth : ℕ) → HasNoFewerSignals c future
+    → may_need_memory (machine_of c past future depth) steps.Redo ≡ true
+redo_needs c past [] depth more = grind (arith, nat_tests)
+redo_needs c past (r ∷ rs) depth more = grind (arith, nat_tests)
 
 -- ---- another depth
 

@@ -16,7 +16,7 @@ use Rattle.vcd_journal.specs.declared.step.StepError.TheVariants as refusals
 use Rattle.vcd_journal.specs.declared.step.Answer.{Answer}
 use Rattle.vcd_journal.specs.declared.step.Answer.TheVariants.{Done, Refused}
 use Rattle.vcd_journal.specs.Machine.{Machine, machine_after_edit, machine_after_depth, refused_outcome, undo_outcome}
-use Rattle.vcd_journal.specs.Machine.{redo_outcome, is_depth, step_outcome, may_want_memory, memory_refusal}
+use Rattle.vcd_journal.specs.Machine.{redo_outcome, is_depth, step_outcome, may_need_memory, memory_refusal}
 use Rattle.vcd_journal.specs.Machine.{IsStep, StepsLead}
 
 -- ---- edits
@@ -26,19 +26,19 @@ pub edit_accepted : (e : Edit) (m n : Machine) → edit_fault e m.now ≡ None �
 edit_accepted e m n none is = inl (rw (none, is) refl)
 
 -- an edit without a fault may need memory unless it is a remove
-edit_wants : (e : Edit) (m : Machine) → edit_fault e m.now ≡ None → (IsRemove e → ⊥)
-    → may_want_memory m (steps.Edit e) ≡ true
-edit_wants e m none other = let keeps = effect_keeps e m.now other in rw none (grind (arith, nat_tests))
+edit_needs : (e : Edit) (m : Machine) → edit_fault e m.now ≡ None → (IsRemove e → ⊥)
+    → may_need_memory m (steps.Edit e) ≡ true
+edit_needs e m none other = let keeps = effect_keeps e m.now other in rw none (grind (arith, nat_tests))
 
 pub edit_refused : (e : Edit) (found : EditError) (m n : Machine) → MayRefuse (edit_fault e m.now) found
     → (IsRemove e → edit_fault e m.now ≡ None → ⊥) → n ≡ m
     → IsStep m (steps.Edit e) (Refused (refusals.Edit found)) n
 edit_refused e found m n (inl here) never is = inl (rw (here, is) refl)
-edit_refused e found m n (inr starved) never is =
+edit_refused e found m n (inr refused) never is =
     inr (record {
-      wants = edit_wants e m starved.0 (λ removes. never removes starved.0);
-      accepted = rw (starved.0) refl;
-      answer = ap (λ r. Refused (refusals.Edit r)) starved.1;
+      needs = edit_needs e m refused.0 (λ removes. never removes refused.0);
+      accepted = rw (refused.0) refl;
+      answer = ap (λ r. Refused (refusals.Edit r)) refused.1;
       unchanged = is;
     })
 
@@ -61,10 +61,10 @@ undo_done : (m : Machine) (past : List Contents) → 0 < length past → (undo_o
 undo_done m [] some = absurd (omega arith)
 undo_done m (back ∷ older) some = refl
 
-pub undo_starved : (m n : Machine) → 0 < length m.past → may_want_memory m steps.Undo ≡ true → n ≡ m
+pub undo_no_memory : (m n : Machine) → 0 < length m.past → may_need_memory m steps.Undo ≡ true → n ≡ m
     → IsStep m steps.Undo (Refused refusals.NoMemory) n
-undo_starved m n some wants is =
-    inr (record { wants = wants; accepted = undo_done m m.past some; answer = refl; unchanged = is })
+undo_no_memory m n some needs is =
+    inr (record { needs = needs; accepted = undo_done m m.past some; answer = refl; unchanged = is })
 
 pub redo_accepted : (m n : Machine) → m.future ≡ n.now ∷ n.future → n.past ≡ m.now ∷ m.past → n.depth ≡ m.depth
     → IsStep m steps.Redo Done n
@@ -84,10 +84,10 @@ redo_done : (m : Machine) (future : List Contents) → 0 < length future → (re
 redo_done m [] some = absurd (omega arith)
 redo_done m (next ∷ later) some = refl
 
-pub redo_starved : (m n : Machine) → 0 < length m.future → may_want_memory m steps.Redo ≡ true → n ≡ m
+pub redo_no_memory : (m n : Machine) → 0 < length m.future → may_need_memory m steps.Redo ≡ true → n ≡ m
     → IsStep m steps.Redo (Refused refusals.NoMemory) n
-redo_starved m n some wants is =
-    inr (record { wants = wants; accepted = redo_done m m.future some; answer = refl; unchanged = is })
+redo_no_memory m n some needs is =
+    inr (record { needs = needs; accepted = redo_done m m.future some; answer = refl; unchanged = is })
 
 -- ---- another depth
 
@@ -110,12 +110,12 @@ depth_accepted depth m n is_one most is =
     let small : nat_lt depth (length m.future) ≡ false = grind (arith, nat_tests) in
     inl (rw (is, is_one, small) refl)
 
-pub depth_starved : (depth : ℕ) (m n : Machine) → is_depth depth ≡ true → length m.future ≤ depth → m.depth < depth
+pub depth_no_memory : (depth : ℕ) (m n : Machine) → is_depth depth ≡ true → length m.future ≤ depth → m.depth < depth
     → n ≡ m → IsStep m (steps.Depth depth) (Refused refusals.NoMemory) n
-depth_starved depth m n is_one most greater is =
+depth_no_memory depth m n is_one most greater is =
     let small : nat_lt depth (length m.future) ≡ false = grind (arith, nat_tests) in
-    let wants : nat_lt m.depth depth ≡ true = grind (arith, nat_tests) in
-    inr (record { wants = wants; accepted = rw (is_one, small) refl; answer = refl; unchanged = is })
+    let needs : nat_lt m.depth depth ≡ true = grind (arith, nat_tests) in
+    inr (record { needs = needs; accepted = rw (is_one, small) refl; answer = refl; unchanged = is })
 
 -- ---- all steps
 

@@ -104,9 +104,9 @@ step_outcome m (steps.Depth depth) = depth_outcome depth m
 -- ---- every possible outcome of a step
 
 -- whether a step may run out of memory: a depth only if it is greater, another step only if it leaves no fewer signals
-abbrev pub may_want_memory : Machine → Step → Bool
-may_want_memory m (steps.Depth depth) = nat_lt m.depth depth
-may_want_memory m s = nat_le (length m.now.signals) (length (step_outcome m s).after.now.signals)
+abbrev pub may_need_memory : Machine → Step → Bool
+may_need_memory m (steps.Depth depth) = nat_lt m.depth depth
+may_need_memory m s = nat_le (length m.now.signals) (length (step_outcome m s).after.now.signals)
 
 -- the answer if memory is refused
 abbrev pub memory_refusal : Step → Answer
@@ -115,7 +115,7 @@ memory_refusal s = Refused refusals.NoMemory
 
 -- a step that would be accepted is refused because memory ran out, and changes nothing
 pub record IsMemoryRefusal (m : Machine) (s : Step) (a : Answer) (n : Machine) : Type 0 where
-  pub wants : IsTrue (may_want_memory m s)
+  pub needs : IsTrue (may_need_memory m s)
   pub accepted : (step_outcome m s).answer ≡ Done
   pub answer : a ≡ memory_refusal s
   pub unchanged : n ≡ m

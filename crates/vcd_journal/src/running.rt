@@ -12,8 +12,8 @@ use crate::step::{Answer, Step};
 /// made.
 pub fn run(session: &mut Session, steps: &[Step], answers: &mut Vec<Answer>)
     requires room { vec_len answers.old + length steps.now ≤ vec_capacity answers.old }
-    ensures told { (told : List Answer) × (answers.new.items ≡ answers.old.items ++ told)
-        × StepsLead session.old steps.now told session.new }
+    ensures answered { (given : List Answer) × (answers.new.items ≡ answers.old.items ++ given)
+        × StepsLead session.old steps.now given session.new }
 {
     for step in steps {
         answers.push_reserved(answer_to(session, step));

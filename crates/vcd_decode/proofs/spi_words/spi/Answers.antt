@@ -44,7 +44,7 @@ loop-edge-preserved c =
     (spi_annotations u (line_of c.args.clk.now) mosi miso cs c.args.end)
     c.loop-edge.found.items c.take_clock_edge.new.found.items c.loop-edge.group c.in_ok-group.group
     c.loop-edge.edge-iterator c.next.new.self c.in-Some.edge
-    c.loop-edge.invariant c.in-Some.ensures.steps c.in_ok-group.ensures.told c.in_ok-group.ensures.group
+    c.loop-edge.invariant c.in-Some.ensures.steps c.in_ok-group.ensures.appended c.in_ok-group.ensures.group
 
 pub returns : goal.returns
 returns c =

@@ -7,6 +7,6 @@ use Rattle.vcd_journal.proofs.running.run.Given as goal
 -- the steps so far are made and answered, and there is room for the other answers
 abbrev pub invariant-loop-step : goal.invariant-loop-step
 invariant-loop-step l =
-    ((told : List Answer) × (l.answers.items ≡ l.fn.answers.items ++ told)
-    × StepsLead l.fn.session (take l.step-index l.steps) told l.session)
+    ((given : List Answer) × (l.answers.items ≡ l.fn.answers.items ++ given)
+    × StepsLead l.fn.session (take l.step-index l.steps) given l.session)
     × (vec_len l.answers + length l.steps ≤ vec_capacity l.answers + l.step-index)

@@ -10,8 +10,8 @@ use Rattle.vcd_decode.proofs.i2c_bus.bus_walk.i2c.Goals as goal
 pub returns : goal.returns
 returns c =
     let edges = c.new.ensures.edges c.args.end (c.requires.scl_ends, (c.requires.sda_ends, (tt, (tt, tt)))) in
-    let told = ap (λ es. walk_annotations None (edge_events es)) edges
+    let seen = ap (λ es. walk_annotations None (edge_events es)) edges
     ∙ ap (walk_annotations None) (events_are c.args.scl.now c.args.sda.now c.args.end)
     ∙ walk_is (bus_events (line_of c.args.scl.now) (line_of c.args.sda.now) c.args.end) in
-    subst (λ (annotations : List Annotation). IfOk c.annotations_of.result (λ found. found.items ≡ annotations)) told
+    subst (λ (annotations : List Annotation). IfOk c.annotations_of.result (λ found. found.items ≡ annotations)) seen
     c.annotations_of.ensures

@@ -4,7 +4,7 @@ use Rattle.std.proofs.lemmas.Result.{err_from_is_err_and}
 use Rattle.vcd_core.specs.Contents.{contents}
 use Rattle.vcd_journal.specs.Machine.{is_depth}
 use Rattle.vcd_journal.specs.ReachedCaptures.{reached_captures}
-use Rattle.vcd_journal.proofs.Steps.{depth_within, depth_too_small, depth_starved, depth_accepted}
+use Rattle.vcd_journal.proofs.Steps.{depth_within, depth_too_small, depth_no_memory, depth_accepted}
 use Rattle.vcd_journal.proofs.Histories.{length_reached_captures, AllRecordsFit_take, same_machine, machine_of_depth}
 use Rattle.vcd_journal.proofs.session.Session.set_depth.Goals as goal
 
@@ -26,9 +26,9 @@ returns-in_err-enlarge-clause-step c =
     let most : length (reached_captures (contents old.capture) old.future.items) ≤ c.args.depth =
     omega (arith, count, c.len-kept.ensures.len) in
     let greater : old.depth < c.args.depth =
-    omega (arith, c.self.invariant.past_room, c.in_err-enlarge.ensures.wants) in
+    omega (arith, c.self.invariant.past_room, c.in_err-enlarge.ensures.needs) in
     rw (refused.1, refused.2, ← c.self.view_is)
-    (depth_starved c.args.depth _ _ valid most greater
+    (depth_no_memory c.args.depth _ _ valid most greater
     (same_machine (contents old.capture) _ old.past.items _ old.future.items _ old.depth refl
     c.in_err-enlarge.ensures.items refl))
 
@@ -42,9 +42,9 @@ returns-in_err-enlarge-2-clause-step c =
     let most : length (reached_captures (contents old.capture) old.future.items) ≤ c.args.depth =
     omega (arith, count, c.len-kept.ensures.len) in
     let greater : old.depth < c.args.depth =
-    omega (arith, c.self.invariant.future_room, c.in_err-enlarge-2.ensures.wants) in
+    omega (arith, c.self.invariant.future_room, c.in_err-enlarge-2.ensures.needs) in
     rw (refused.1, refused.2, ← c.self.view_is)
-    (depth_starved c.args.depth _ _ valid most greater
+    (depth_no_memory c.args.depth _ _ valid most greater
     (same_machine (contents old.capture) _ old.past.items _ old.future.items _ old.depth refl
     c.in_ok-enlarge.ensures.items c.in_err-enlarge-2.ensures.items))
 
