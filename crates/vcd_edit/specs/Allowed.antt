@@ -1,4 +1,4 @@
--- Which fault an edit has on a capture. The rules are the project's own.
+-- The fault of an edit on a capture as an `EditError`, which the contracts of this crate cite: the project's own.
 use Rattle.std.specs.Prelude.{◌≡◌, ◌⊎◌, ℕ, ◌+◌, ◌==◌, ◌||◌, nat_lt, nat_le, Bool, false, not, if◌then◌else◌, List, []}
 use Rattle.std.specs.Prelude.{◌∷◌, length, Option, Some, None, Result, MatchResult}
 use Rattle.std.specs.List.{list_any, remove}

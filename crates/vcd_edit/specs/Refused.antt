@@ -1,4 +1,4 @@
--- Which edits are refused, and by which name: the project's own.
+-- The tests of an edit on a capture, with the names of their refusals, which the headline cites: the project's own.
 use Rattle.std.specs.Prelude.{ℕ, ◌+◌, ◌==◌, ◌||◌, nat_lt, nat_le, Bool, not, if◌then◌else◌, List, [], ◌∷◌, ◌++◌, length}
 use Rattle.std.specs.Prelude.{Result, Ok, Err, codes}
 use Rattle.std.specs.List.{list_any, remove}

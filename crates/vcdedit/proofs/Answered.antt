@@ -117,22 +117,23 @@ other_not_refused (steps.Depth depth) refusal other same =
     let no : true ≡ false = sym (ap is_no_memory is) ∙ other in absurd (cc)
 
 -- the reply is the one to the step
-told : (number : ℕ) (said : LineReply) (s : Step) (old new : Machine) (reply : Reply) →
+replied : (number : ℕ) (said : LineReply) (s : Step) (old new : Machine) (reply : Reply) →
     ((step_outcome old s).after ≡ new) × (step_reply s old.now (length old.past) (length old.future) ≡ said)
     → IsReplyTo number said reply → AnswersStep number s old new reply
-told number said s old new reply is tells = (is.0, subst (λ (r : LineReply). IsReplyTo number r reply) (sym is.1) tells)
+replied number said s old new reply is tells =
+    (is.0, subst (λ (r : LineReply). IsReplyTo number r reply) (sym is.1) tells)
 
 pub step_accepted : (number : ℕ) (s : Step) (old new : Machine) (reply : Reply) → IsStep old s Done new
     → IsReplyTo number ok_reply reply → AnswersStep number s old new reply
 step_accepted number s old new reply made tells =
-    told number ok_reply s old new reply
+    replied number ok_reply s old new reply
     (answered s Done old new (outcome_of_step old s Done new made (done_not_refused s))) tells
 
 pub step_refused : (number : ℕ) (s : Step) (refusal : StepError) (old new : Machine) (reply : Reply)
     → IsStep old s (Refused refusal) new → is_no_memory refusal ≡ false →
     IsReplyTo number (Err (step_error_name refusal)) reply → AnswersStep number s old new reply
 step_refused number s refusal old new reply made other tells =
-    told number (Err (step_error_name refusal)) s old new reply
+    replied number (Err (step_error_name refusal)) s old new reply
     (answered s (Refused refusal) old new
     (outcome_of_step old s (Refused refusal) new made (other_not_refused s refusal other))) tells
 

@@ -66,11 +66,11 @@ unfolding digits
 changed = (refl, refl, refl)
 
 -- they show the capture at their line, and `skipped` is that of the file
-told : line_replies 2 1 (first_machine three 100)
+shown : line_replies 2 1 (first_machine three 100)
     (script_lines (codes "changes n\nremove top.a\nvalue top.a 0\nlist\nundo\nchanges top.a\n"))
     ≡ [] ∷ codes "ok\n" ∷ codes "line 3: refused: NoSuchName\n"
     ∷ codes "timescale none\nend 9\nsignals 2\nskipped 2\n@0 4 wire top.v\n@1 2 wire n\n" ∷ codes "ok\n"
     ∷ codes "0 z\n4 1\n" ∷ []
 unfolding script_lines words_from command_of_line lookup name_in edit_fault effect line_reply machine_after_line
     line_replies signal_lines value_from digits
-told = refl
+shown = refl

@@ -15,25 +15,25 @@ use Rattle.vcdedit.specs.inside.RunLines.{LineStep, RunsLines}
 
 -- after so many lines these are left on this machine; the replies so far are written, and so many lines refused
 pub record AreLeft (skipped : ℕ) (lines : List (List ℕ)) (old : Machine) (number : ℕ) (left : List (List ℕ))
-    (now : Machine) (told : List (List ℕ)) (count : ℕ) : Type 0 where
+    (now : Machine) (sent : List (List ℕ)) (count : ℕ) : Type 0 where
   pub after : machine_after_lines old lines ≡ machine_after_lines now left
-  pub replies : line_replies skipped 1 old lines ≡ told ++ line_replies skipped (number + 1) now left
+  pub replies : line_replies skipped 1 old lines ≡ sent ++ line_replies skipped (number + 1) now left
   pub refused : refusal_count skipped old lines ≡ count + refusal_count skipped now left
 
 -- the loop's invariant: the replies written so far, of so many lines and bytes
 pub record RepliesSoFar (skipped : ℕ) (lines : List (List ℕ)) (old : Machine) (number : ℕ) (left : List (List ℕ))
     (now : Machine) (refused bytes : ℕ) (before after : Option (List ℕ)) : Type 0 where
-  pub told : List (List ℕ)
-  pub one_each : length told ≡ number
-  pub counted : length (concat told) ≡ bytes
-  pub took : Appends before after (concat told)
-  pub are_left : AreLeft skipped lines old number left now told refused
+  pub sent : List (List ℕ)
+  pub one_each : length sent ≡ number
+  pub counted : length (concat sent) ≡ bytes
+  pub took : Appends before after (concat sent)
+  pub are_left : AreLeft skipped lines old number left now sent refused
 
 -- at the beginning all are left
 pub all_left : (skipped : ℕ) (lines : List (List ℕ)) (old : Machine) (before : Option (List ℕ))
     → RepliesSoFar skipped lines old 0 lines old 0 0 before before
 all_left skipped lines old before = record {
-  told = [];
+  sent = [];
   one_each = refl;
   counted = refl;
   took = Appends-nil before;
@@ -49,47 +49,47 @@ refused_at skipped line m = cond (is_line_refused line m.now skipped (length m.p
 
 -- one more line
 line_more : (skipped : ℕ) (lines : List (List ℕ)) (old : Machine) (number : ℕ) (line : List ℕ) (left : List (List ℕ))
-    (now new : Machine) (told : List (List ℕ)) (refused : ℕ) →
-    AreLeft skipped lines old number (line ∷ left) now told refused → machine_after_line now line ≡ new →
-    AreLeft skipped lines old (number + 1) left new (told ++ replied_to skipped (number + 1) line now ∷ [])
+    (now new : Machine) (sent : List (List ℕ)) (refused : ℕ) →
+    AreLeft skipped lines old number (line ∷ left) now sent refused → machine_after_line now line ≡ new →
+    AreLeft skipped lines old (number + 1) left new (sent ++ replied_to skipped (number + 1) line now ∷ [])
     (refused + refused_at skipped line now)
 unfolding machine_after_lines line_replies refusal_count
-line_more skipped lines old number line left now new told refused so after = record {
+line_more skipped lines old number line left now new sent refused so after = record {
   after = so.after ∙ ap (λ (m : Machine). machine_after_lines m left) after;
   replies = so.replies
-      ∙ ap (λ (m : Machine). told ++ replied_to skipped (number + 1) line now ∷ line_replies skipped (number + 1 + 1) m
+      ∙ ap (λ (m : Machine). sent ++ replied_to skipped (number + 1) line now ∷ line_replies skipped (number + 1 + 1) m
       left) after
-      ∙ sym (append_assoc told (replied_to skipped (number + 1) line now ∷ [])
+      ∙ sym (append_assoc sent (replied_to skipped (number + 1) line now ∷ [])
       (line_replies skipped (number + 1 + 1) new left));
   refused = so.refused
       ∙ ap (λ (m : Machine). refused + (refused_at skipped line now + refusal_count skipped m left)) after
       ∙ sym (add_assoc refused (refused_at skipped line now) (refusal_count skipped new left));
 }
 
-concat_more : (told : List (List ℕ)) (text : List ℕ) → concat (told ++ text ∷ []) ≡ concat told ++ text
-concat_more told text = concat-append told (text ∷ []) ∙ ap (λ l. concat told ++ l) (append-nil text)
+concat_more : (sent : List (List ℕ)) (text : List ℕ) → concat (sent ++ text ∷ []) ≡ concat sent ++ text
+concat_more sent text = concat-append sent (text ∷ []) ∙ ap (λ l. concat sent ++ l) (append-nil text)
 
-pub told_more : (skipped : ℕ) (lines : List (List ℕ)) (old : Machine) (number : ℕ) (line : List ℕ)
+pub sent_more : (skipped : ℕ) (lines : List (List ℕ)) (old : Machine) (number : ℕ) (line : List ℕ)
     (all left : List (List ℕ)) (now new : Machine) (refused more bytes written : ℕ)
     (before between after : Option (List ℕ)) →
     all ≡ line ∷ left → RepliesSoFar skipped lines old number all now refused bytes before between
     → LineStep skipped (number + 1) line now new more written between after →
     RepliesSoFar skipped lines old (number + 1) left new (refused + more) (bytes + written) before after
-told_more skipped lines old number line all left now new refused more bytes written before between after parts so
+sent_more skipped lines old number line all left now new refused more bytes written before between after parts so
     tells =
     let text : List ℕ = replied_to skipped (number + 1) line now in
-    let joined : concat (so.told ++ text ∷ []) ≡ concat so.told ++ text = concat_more so.told text in
-    let len : length (concat (so.told ++ text ∷ [])) ≡ length (concat so.told) + length text = ap length joined
-    ∙ length-append (concat so.told) text in
-    let one_more : length (so.told ++ text ∷ []) ≡ length so.told + 1 = length-append so.told (text ∷ []) in
+    let joined : concat (so.sent ++ text ∷ []) ≡ concat so.sent ++ text = concat_more so.sent text in
+    let len : length (concat (so.sent ++ text ∷ [])) ≡ length (concat so.sent) + length text = ap length joined
+    ∙ length-append (concat so.sent) text in
+    let one_more : length (so.sent ++ text ∷ []) ≡ length so.sent + 1 = length-append so.sent (text ∷ []) in
     record {
-      told = so.told ++ text ∷ [];
+      sent = so.sent ++ text ∷ [];
       one_each = one_more ∙ ap (λ n. n + 1) so.one_each;
       counted = omega (arith, len, so.counted, tells.3);
       took = subst (Appends before after) (sym joined)
-          (Appends-trans before between after (concat so.told) text so.took tells.2);
+          (Appends-trans before between after (concat so.sent) text so.took tells.2);
       are_left = rw (tells.1)
-          (line_more skipped lines old number line left now new so.told refused (rw parts at so.are_left) tells.0);
+          (line_more skipped lines old number line left now new so.sent refused (rw parts at so.are_left) tells.0);
     }
 
 -- no line is left
@@ -101,11 +101,11 @@ unfolding machine_after_lines line_replies refusal_count
 none_left skipped lines old number left now refused bytes before after none so =
     let last = rw none at so.are_left in
     let sum : refused + 0 ≡ refused = omega arith in (
-      so.told,
+      so.sent,
       so.took,
       record {
         after = last.after;
-        replies = last.replies ∙ append-nil so.told;
+        replies = last.replies ∙ append-nil so.sent;
         refused = last.refused
             ∙ sum;
       },

@@ -19,64 +19,64 @@ use Rattle.vcdedit.proofs.LinesLeft.{RepliesSoFar}
 -- ---- texts, written one after another
 
 -- memory runs out at a text: those before it are written
-none_of_text : (replies told rest : List (List ℕ)) (text : List ℕ) (number line : ℕ)
+none_of_text : (replies sent rest : List (List ℕ)) (text : List ℕ) (number line : ℕ)
     (before between after : Option (List ℕ)) →
-    replies ≡ told ++ text ∷ rest → length told ≡ number → Appends before between (concat told) → line ≡ number + 1
+    replies ≡ sent ++ text ∷ rest → length sent ≡ number → Appends before between (concat sent) → line ≡ number + 1
     → Keeps between after →
     StopsInReplies replies (Appends before after) (run_errors.NoMemory line)
-none_of_text replies told rest text number line before between after parts count took at kept =
-    let whole : length replies ≡ length told + suc (length rest) = ap length parts ∙ length-append told (text ∷ rest) in
-    let before_it : line - 1 ≡ length told = omega (arith, at, count) in
-    let front : take (line - 1) replies ≡ told = ap (λ i. take i replies) before_it ∙ ap (take (length told)) parts
-    ∙ take-append_seam told (text ∷ rest) in (
+none_of_text replies sent rest text number line before between after parts count took at kept =
+    let whole : length replies ≡ length sent + suc (length rest) = ap length parts ∙ length-append sent (text ∷ rest) in
+    let before_it : line - 1 ≡ length sent = omega (arith, at, count) in
+    let front : take (line - 1) replies ≡ sent = ap (λ i. take i replies) before_it ∙ ap (take (length sent)) parts
+    ∙ take-append_seam sent (text ∷ rest) in (
       omega (arith, at),
       omega (arith, at, count, whole),
       subst (Appends before after) (ap concat (sym front))
-          (Appends-kept before between after (concat told) took kept),
+          (Appends-kept before between after (concat sent) took kept),
     )
 
 -- the writer takes the first bytes of a text: with the texts before, these are the first bytes of all
-front_of_text : (replies told rest : List (List ℕ)) (text : List ℕ) (bytes count written : ℕ)
+front_of_text : (replies sent rest : List (List ℕ)) (text : List ℕ) (bytes count written : ℕ)
     (before between after : Option (List ℕ)) →
-    replies ≡ told ++ text ∷ rest → length (concat told) ≡ bytes → Appends before between (concat told)
+    replies ≡ sent ++ text ∷ rest → length (concat sent) ≡ bytes → Appends before between (concat sent)
     → written ≡ bytes + count → count ≤ length text → Appends between after (take count text) →
     StopsInReplies replies (Appends before after) (run_errors.ReplyFault written)
-front_of_text replies told rest text bytes count written before between after parts told_bytes took at within takes =
-    let whole : concat replies ≡ concat told ++ (text ++ concat rest) = ap concat parts
-    ∙ concat-append told (text ∷ rest) in
-    let sum : length (concat replies) ≡ length (concat told) + (length text + length (concat rest)) =
-    ap length whole ∙ length-append (concat told) (text ++ concat rest)
-    ∙ ap (λ n. length (concat told) + n) (length-append text (concat rest)) in
-    let so_many : written ≡ length (concat told) + count = at ∙ ap (λ n. n + count) (sym told_bytes) in
-    let front : take written (concat replies) ≡ concat told ++ take count text =
-    ap (λ n. take n (concat replies)) so_many ∙ ap (take (length (concat told) + count)) whole
-    ∙ take-append-add (concat told) (text ++ concat rest) count
-    ∙ ap (λ l. concat told ++ l) (take-append-le count text (concat rest) within) in (
+front_of_text replies sent rest text bytes count written before between after parts sent_bytes took at within takes =
+    let whole : concat replies ≡ concat sent ++ (text ++ concat rest) = ap concat parts
+    ∙ concat-append sent (text ∷ rest) in
+    let sum : length (concat replies) ≡ length (concat sent) + (length text + length (concat rest)) =
+    ap length whole ∙ length-append (concat sent) (text ++ concat rest)
+    ∙ ap (λ n. length (concat sent) + n) (length-append text (concat rest)) in
+    let so_many : written ≡ length (concat sent) + count = at ∙ ap (λ n. n + count) (sym sent_bytes) in
+    let front : take written (concat replies) ≡ concat sent ++ take count text =
+    ap (λ n. take n (concat replies)) so_many ∙ ap (take (length (concat sent) + count)) whole
+    ∙ take-append-add (concat sent) (text ++ concat rest) count
+    ∙ ap (λ l. concat sent ++ l) (take-append-le count text (concat rest) within) in (
       omega (arith, so_many, sum, within),
       subst (Appends before after) (sym front)
-          (Appends-trans before between after (concat told) (take count text) took takes),
+          (Appends-trans before between after (concat sent) (take count text) took takes),
     )
 
 -- the writing of one text stops, and so that of all
-text_stops : (replies told rest : List (List ℕ)) (text : List ℕ) (number bytes : ℕ)
+text_stops : (replies sent rest : List (List ℕ)) (text : List ℕ) (number bytes : ℕ)
     (before between after : Option (List ℕ)) (e : RunError) →
-    replies ≡ told ++ text ∷ rest → length told ≡ number → length (concat told) ≡ bytes
-    → Appends before between (concat told) → StopsAtReply (number + 1) text bytes between after e →
+    replies ≡ sent ++ text ∷ rest → length sent ≡ number → length (concat sent) ≡ bytes
+    → Appends before between (concat sent) → StopsAtReply (number + 1) text bytes between after e →
     StopsInReplies replies (Appends before after) e
-text_stops replies told rest text number bytes before between after (run_errors.NoMemory line) parts count told_bytes
+text_stops replies sent rest text number bytes before between after (run_errors.NoMemory line) parts count sent_bytes
     took stops =
-    none_of_text replies told rest text number line before between after parts count took stops.0 stops.1
-text_stops replies told rest text number bytes before between after (run_errors.ReplyFault written) parts count
-    told_bytes took stops =
-    front_of_text replies told rest text bytes stops.0 written before between after parts told_bytes took stops.1
+    none_of_text replies sent rest text number line before between after parts count took stops.0 stops.1
+text_stops replies sent rest text number bytes before between after (run_errors.ReplyFault written) parts count
+    sent_bytes took stops =
+    front_of_text replies sent rest text bytes stops.0 written before between after parts sent_bytes took stops.1
     stops.2 stops.3
-text_stops replies told rest text number bytes before between after (run_errors.Capture fault) parts count told_bytes
+text_stops replies sent rest text number bytes before between after (run_errors.Capture fault) parts count sent_bytes
     took stops = absurd stops
-text_stops replies told rest text number bytes before between after run_errors.ScriptTooLarge parts count told_bytes
+text_stops replies sent rest text number bytes before between after run_errors.ScriptTooLarge parts count sent_bytes
     took stops = absurd stops
-text_stops replies told rest text number bytes before between after run_errors.ScriptReadFault parts count told_bytes
+text_stops replies sent rest text number bytes before between after run_errors.ScriptReadFault parts count sent_bytes
     took stops = absurd stops
-text_stops replies told rest text number bytes before between after (run_errors.Write fault) parts count told_bytes took
+text_stops replies sent rest text number bytes before between after (run_errors.Write fault) parts count sent_bytes took
     stops = absurd stops
 
 -- ---- lines
@@ -90,7 +90,7 @@ pub line_stops : (skipped : ℕ) (lines : List (List ℕ)) (old : Machine) (numb
 unfolding line_replies
 line_stops skipped lines old number line all left now refused bytes before between after e parts so stops =
     let here = rw parts at so.are_left in
-    text_stops (line_replies skipped 1 old lines) so.told
+    text_stops (line_replies skipped 1 old lines) so.sent
     (line_replies skipped (number + 1 + 1) (machine_after_line now line) left)
     (line_reply_text (number + 1) line now.now skipped (length now.past) (length now.future)) number bytes before
     between after e
@@ -104,13 +104,13 @@ pub flush_stops : (skipped : ℕ) (lines : List (List ℕ)) (old : Machine) (num
 unfolding line_replies
 flush_stops skipped lines old number left now refused bytes before between after none so kept =
     let last = rw none at so.are_left in
-    let all : concat (line_replies skipped 1 old lines) ≡ concat so.told =
-    ap concat (last.replies ∙ append-nil so.told) in
+    let all : concat (line_replies skipped 1 old lines) ≡ concat so.sent =
+    ap concat (last.replies ∙ append-nil so.sent) in
     let len : length (concat (line_replies skipped 1 old lines)) ≡ bytes = ap length all ∙ so.counted in
-    let front : take bytes (concat (line_replies skipped 1 old lines)) ≡ concat so.told =
+    let front : take bytes (concat (line_replies skipped 1 old lines)) ≡ concat so.sent =
     ap (λ n. take n (concat (line_replies skipped 1 old lines))) (sym len)
     ∙ take-length (concat (line_replies skipped 1 old lines)) ∙ all in (
       omega (arith, len),
       subst (Appends before after) (sym front)
-          (Appends-kept before between after (concat so.told) so.took kept),
+          (Appends-kept before between after (concat so.sent) so.took kept),
     )

@@ -67,14 +67,14 @@ script_gives file script depth skipped c new count before after means ran =
     }
 
 -- the same for a device that may not show its bytes
-pub script_gives_where_told : (coming script_coming : Option (List ℕ)) (script : List ℕ) (depth skipped : ℕ)
+pub script_gives_where_known : (coming script_coming : Option (List ℕ)) (script : List ℕ) (depth skipped : ℕ)
     (c : Contents) (new : Machine) (count : ℕ) (before after : Option (List ℕ)) →
     IfSome coming (λ f. FileMeans f c skipped) → IfSome script_coming (λ s. script ≡ s)
     → RunsLines skipped (script_lines script) (first_machine c depth) new count before after →
     IfSome coming (λ f. IfSome script_coming (λ s. ScriptGives f s depth count (Appends before after) new.now))
-script_gives_where_told None script_coming script depth skipped c new count before after means is ran = tt
-script_gives_where_told (Some f) None script depth skipped c new count before after means is ran = tt
-script_gives_where_told (Some f) (Some s) script depth skipped c new count before after means is ran =
+script_gives_where_known None script_coming script depth skipped c new count before after means is ran = tt
+script_gives_where_known (Some f) None script depth skipped c new count before after means is ran = tt
+script_gives_where_known (Some f) (Some s) script depth skipped c new count before after means is ran =
     script_gives f s depth skipped c new count before after means (rw is at ran)
 
 -- what holds of the outcome of the script on the capture file holds of what the run writes
@@ -173,7 +173,7 @@ run_reaches_end capture script replies None depth summary now accepted whole rea
   ready,
   tt,
   if_run_writes capture.before script.before depth summary.refused _ now _ ran
-      (λ written told output refused. (told, tt, refused)),
+      (λ written sent output refused. (sent, tt, refused)),
 )
 run_reaches_end capture script replies (Some out) depth summary now accepted whole ready ran wrote = (
   accepted,
@@ -181,7 +181,7 @@ run_reaches_end capture script replies (Some out) depth summary now accepted who
   ready,
   wrote.0,
   if_run_writes capture.before script.before depth summary.refused _ now _ ran
-      (λ written told output refused. (told, rw output wrote.1, refused)),
+      (λ written sent output refused. (sent, rw output wrote.1, refused)),
 )
 
 pub run_reaches_end_with : (capture script replies out : DeviceEnd) (depth : ℕ) (summary : Summary)
@@ -207,7 +207,7 @@ run_stops_at_output capture script replies out depth count now write_errors.NoMe
   whole,
   ready,
   took,
-  if_run_writes capture.before script.before depth count _ now _ ran (λ written told output refused. told),
+  if_run_writes capture.before script.before depth count _ now _ ran (λ written sent output refused. sent),
 )
 run_stops_at_output capture script replies out depth count now (write_errors.WriteFault written) accepted whole ready
     ran took = (
@@ -217,7 +217,7 @@ run_stops_at_output capture script replies out depth count now (write_errors.Wri
       (
         took.2,
         if_run_writes capture.before script.before depth count _ now _ ran
-            (λ outcome told output refused. (told, rw output (took.1, took.0))),
+            (λ outcome sent output refused. (sent, rw output (took.1, took.0))),
       ),
     )
 

@@ -1,4 +1,4 @@
--- What the words of a line ask for: the project's own.
+-- What the words of a line ask for, by a table of all commands, as the headline cites it: the project's own.
 use Rattle.std.specs.Prelude.{ℕ, zero, suc, Bool, false, ◌==◌, if◌then◌else◌, List, [], ◌∷◌, Ok, Err, map, codes}
 use Rattle.vcd_core.specs.Contents.{Contents, signal_at}
 use Rattle.vcd_decode.specs.UartSetup.{uart_setup}

@@ -1,4 +1,4 @@
--- What the words of a line that decodes signals mean. The rules are the project's own.
+-- The value or fault that `parse_line` finds in a word of a line that decodes signals: the project's own.
 use Rattle.std.specs.Prelude.{ℕ, ◌+◌, ◌==◌, if◌then◌else◌, List, take, drop, Option, Some, None, Result, Ok, Err, codes}
 use Rattle.std.specs.List.{position}
 use Rattle.std.specs.Str.{bytes_eq}

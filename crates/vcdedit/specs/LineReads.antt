@@ -1,4 +1,4 @@
--- What a word of a line is read as, or the name of the refusal: the project's own.
+-- What a word of a line is read as, or the name of the refusal, as the headline cites it: the project's own.
 use Rattle.std.specs.Prelude.{ℕ, ◌+◌, ◌*◌, ◌^◌, ◌==◌, ◌&&◌, nat_lt, nat_le, not, Bool, if◌then◌else◌, ℤ, pos, neg_ℤ}
 use Rattle.std.specs.Prelude.{List, [], ◌∷◌, take, drop, Option, Some, None, Result, Ok, Err, codes}
 use Rattle.std.specs.List.{position}

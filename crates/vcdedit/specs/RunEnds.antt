@@ -11,7 +11,7 @@ use Rattle.vcd_text.specs.Refusals.{IsRefusal}
 use Rattle.vcd_text.specs.declared.fault.Fault.TheVariants as faults
 use Rattle.vcd_text.specs.declared.fault.WriteError.TheVariants as write_errors
 use Rattle.vcd_text.specs.declared.reading.TheConstants.{FILE_LIMIT}
-use Rattle.vcdedit.specs.declared.running.inputs.TheConstants.{SCRIPT_LIMIT}
+use Rattle.vcdedit.specs.declared.running.script_input.TheConstants.{SCRIPT_LIMIT}
 use Rattle.vcdedit.specs.declared.running.run_error.RunError.{RunError}
 use Rattle.vcdedit.specs.declared.running.run_error.RunError.TheVariants.{Capture, ScriptTooLarge, ScriptReadFault}
 use Rattle.vcdedit.specs.declared.running.run_error.RunError.TheVariants.{NoMemory, ReplyFault, Write}

@@ -1,4 +1,4 @@
--- What the words of a line ask for. The rules are the project's own.
+-- The command or fault that `parse_line` finds in the words of a line, keyword by keyword: the project's own.
 use Rattle.std.specs.Prelude.{ℕ, Bool, false, ◌==◌, if◌then◌else◌, List, [], ◌∷◌, Option, find, option_map, Result, Ok}
 use Rattle.std.specs.Prelude.{Err, codes}
 use Rattle.std.specs.Option.{ok_or}

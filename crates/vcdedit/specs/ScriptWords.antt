@@ -1,4 +1,4 @@
--- What a word of a line means. The rules are the project's own.
+-- The value or fault that `parse_line` finds in a word of a line: the project's own.
 use Rattle.std.specs.Prelude.{ℕ, ◌^◌, ◌==◌, ◌&&◌, nat_lt, nat_le, if◌then◌else◌, ℤ, pos, neg_ℤ, List, [], ◌∷◌, Result}
 use Rattle.std.specs.Prelude.{Ok, Err}
 use Rattle.std.specs.Option.{ok_or}

@@ -1,10 +1,10 @@
 //! The run of a script on a capture, from its devices to its end.
 
-mod inputs;
 mod run;
 mod run_error;
 mod run_lines;
+mod script_input;
 
-pub use inputs::SCRIPT_LIMIT;
 pub use run::run;
 pub use run_error::{RunError, Summary};
+pub use script_input::SCRIPT_LIMIT;

@@ -20,17 +20,17 @@ LineStep skipped number line old new refused written before after =
     × (written ≡ length (line_reply_text number line old.now skipped (length old.past) (length old.future)))
 
 -- the lines change one machine into the other; these are their replies, and so many are refused
-pub record LinesGive (skipped : ℕ) (lines : List (List ℕ)) (old new : Machine) (told : List (List ℕ)) (count : ℕ) : Type
+pub record LinesGive (skipped : ℕ) (lines : List (List ℕ)) (old new : Machine) (sent : List (List ℕ)) (count : ℕ) : Type
     0 where
   pub after : machine_after_lines old lines ≡ new
-  pub replies : line_replies skipped 1 old lines ≡ told
+  pub replies : line_replies skipped 1 old lines ≡ sent
   pub refused : refusal_count skipped old lines ≡ count
 
 -- all lines are run, and their replies written
 abbrev pub RunsLines : (skipped : ℕ) → List (List ℕ) → Machine → Machine → (refused : ℕ)
     → (before after : Option (List ℕ)) → Type 0
-RunsLines skipped lines old new refused before after = (told : List (List ℕ)) × Appends before after (concat told)
-    × LinesGive skipped lines old new told refused
+RunsLines skipped lines old new refused before after = (sent : List (List ℕ)) × Appends before after (concat sent)
+    × LinesGive skipped lines old new sent refused
 
 -- ---- faults
 
@@ -50,18 +50,18 @@ IsLineFault (run_errors.Write e) = ⊥
 
 -- the fault ended the writing of this text, the reply to the line of this number, after so many bytes; if memory ran
 -- out, none of the text was taken, else its first bytes
-abbrev pub StopsAtReply : (number : ℕ) → (text : List ℕ) → (told : ℕ) → (before after : Option (List ℕ)) → RunError
+abbrev pub StopsAtReply : (number : ℕ) → (text : List ℕ) → (sent : ℕ) → (before after : Option (List ℕ)) → RunError
     → Type 0
-StopsAtReply number text told before after (run_errors.NoMemory line) = (line ≡ number) × Keeps before after
-StopsAtReply number text told before after (run_errors.ReplyFault written) = (count : ℕ) × (written ≡ told + count)
+StopsAtReply number text sent before after (run_errors.NoMemory line) = (line ≡ number) × Keeps before after
+StopsAtReply number text sent before after (run_errors.ReplyFault written) = (count : ℕ) × (written ≡ sent + count)
     × (count ≤ length text) × Appends before after (take count text)
-StopsAtReply number text told before after _ = ⊥
+StopsAtReply number text sent before after _ = ⊥
 
 -- the same for the reply to a line, on the machine before it
-abbrev pub StopsAtLine : (skipped number : ℕ) → (line : List ℕ) → Machine → (told : ℕ)
+abbrev pub StopsAtLine : (skipped number : ℕ) → (line : List ℕ) → Machine → (sent : ℕ)
     → (before after : Option (List ℕ)) → RunError → Type 0
-StopsAtLine skipped number line old told before after e =
-    StopsAtReply number (line_reply_text number line old.now skipped (length old.past) (length old.future)) told before
+StopsAtLine skipped number line old sent before after e =
+    StopsAtReply number (line_reply_text number line old.now skipped (length old.past) (length old.future)) sent before
     after e
 
 -- the fault ended the writing of these replies: it gives the line at which memory ran out, or how many bytes of them

@@ -8,11 +8,11 @@ ghost use Rattle.vcd_decode.specs.declared.annotation.Kind.TheVariants as kinds;
 ghost use Rattle.vcdedit.specs.inside.Annotations.{annotations_text};
 
 use crate::replies::MemoryResult;
-use crate::replies::appending::{append_decimal, append_number, append_word};
+use crate::replies::appending::{append_bytes, append_decimal, append_number};
 use std::alloc::Global;
 use vcd_decode::{Annotation, Direction, Kind, LineData};
 
-/// A line for each annotation of a decoder: its first and last tick, the decoder's word and the kind. Data of UART and
+/// A line for each annotation of a decoder: its first and last tick, the decoder's name and the kind. Data of UART and
 /// SPI have `digits` hexadecimal digits.
 pub fn annotations_to_bytes(
     alloc: Global,
@@ -43,8 +43,7 @@ fn append_annotation(
     text.extend_from_slice(decoder)?;
     text.extend_from_slice(b" ")?;
     append_kind(text, digits, annotation.kind)?;
-    text.extend_from_slice(b"\n")?;
-    Ok(())
+    append_bytes(text, b"\n")
 }
 
 /// Appends the first and the last tick of an annotation, with a blank.
@@ -55,8 +54,7 @@ fn append_ticks(text: &mut Vec<u8>, annotation: &Annotation) -> MemoryResult<()>
     append_decimal(text, annotation.start)?;
     text.extend_from_slice(b"-")?;
     append_decimal(text, annotation.end)?;
-    text.extend_from_slice(b" ")?;
-    Ok(())
+    append_bytes(text, b" ")
 }
 
 /// Appends the kind of an annotation.
@@ -66,14 +64,14 @@ fn append_kind(text: &mut Vec<u8>, digits: u64, kind: Kind) -> MemoryResult<()>
     match kind {
         Kind::Byte(data) => append_data(text, b"byte ", digits, u32::from(data)),
         Kind::ParityError(data) => append_data(text, b"parity-error ", digits, u32::from(data)),
-        Kind::FrameError => append_word(text, b"frame-error"),
-        Kind::Unknown => append_word(text, b"unknown"),
-        Kind::Partial => append_word(text, b"partial"),
+        Kind::FrameError => append_bytes(text, b"frame-error"),
+        Kind::Unknown => append_bytes(text, b"unknown"),
+        Kind::Partial => append_bytes(text, b"partial"),
         Kind::Word { mosi, miso } => append_line_data(text, digits, mosi, miso),
         Kind::PartialOf(count) => append_number(text, b"partial", count),
-        Kind::Start => append_word(text, b"start"),
-        Kind::RepeatedStart => append_word(text, b"repeated-start"),
-        Kind::Stop => append_word(text, b"stop"),
+        Kind::Start => append_bytes(text, b"start"),
+        Kind::RepeatedStart => append_bytes(text, b"repeated-start"),
+        Kind::Stop => append_bytes(text, b"stop"),
         Kind::Address { address, direction } => {
             append_address(text, b"address ", 2, u32::from(address), direction)
         }
@@ -84,8 +82,8 @@ fn append_kind(text: &mut Vec<u8>, digits: u64, kind: Kind) -> MemoryResult<()>
             append_address(text, b"address ", 3, u32::from(address), direction)
         }
         Kind::Data(byte) => append_data(text, b"data ", 2, u32::from(byte)),
-        Kind::Ack => append_word(text, b"ack"),
-        Kind::Nack => append_word(text, b"nack"),
+        Kind::Ack => append_bytes(text, b"ack"),
+        Kind::Nack => append_bytes(text, b"nack"),
     }
 }
 
@@ -112,8 +110,8 @@ fn append_address(
 {
     append_data(text, name, digits, address)?;
     match direction {
-        Direction::Write => append_word(text, b" write"),
-        Direction::Read => append_word(text, b" read"),
+        Direction::Write => append_bytes(text, b" write"),
+        Direction::Read => append_bytes(text, b" read"),
     }
 }
 
@@ -139,18 +137,12 @@ fn append_line(text: &mut Vec<u8>, name: &[u8], digits: u64, shown: LineData) ->
 {
     match shown {
         LineData::Absent => Ok(()),
-        LineData::Unknown => append_unknown(text, name),
+        LineData::Unknown => {
+            text.extend_from_slice(name)?;
+            append_bytes(text, b"?")
+        }
         LineData::Number(number) => append_data(text, name, digits, number),
     }
-}
-
-/// Appends a name and `?`.
-fn append_unknown(text: &mut Vec<u8>, name: &[u8]) -> MemoryResult<()>
-    ensures { OnOk result (text.new.items ≡ text.old.items ++ (name.now ++ codes "?")) }
-{
-    text.extend_from_slice(name)?;
-    text.extend_from_slice(b"?")?;
-    Ok(())
 }
 
 /// Appends the last `digits` hexadecimal digits of a number.
@@ -165,14 +157,10 @@ fn append_hex(text: &mut Vec<u8>, digits: u64, number: u32) -> MemoryResult<()>
     Ok(())
 }
 
-/// A hexadecimal digit, in lower case.
-fn hex_digit(number: u8) -> u8
-    requires { number < 16 }
-    ensures { result ≡ digit_glyph false number }
+/// The hexadecimal digit of a number, in lower case.
+fn hex_digit(n: u8) -> u8
+    requires { n < 16 }
+    ensures { result ≡ digit_glyph false n }
 {
-    if number < 10 {
-        b'0' + number
-    } else {
-        b'a' + (number - 10)
-    }
+    if n < 10 { b'0' + n } else { b'a' + (n - 10) }
 }

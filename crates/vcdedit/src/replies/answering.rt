@@ -3,7 +3,7 @@
 ghost use Rattle.std.specs.Prelude.{◌≡◌, false, Err, IfOk, OnErr};
 ghost use Rattle.vcd_journal.specs.StepErrorNames.{step_error_name};
 ghost use Rattle.vcdedit.specs.CommandSignals.{HasItsSignals};
-ghost use Rattle.vcdedit.specs.inside.Answering.{AnswersStep, AnswersCommand, AnswersLine, is_no_memory as wants_memory};
+ghost use Rattle.vcdedit.specs.inside.Answering.{AnswersStep, AnswersCommand, AnswersLine, is_no_memory as no_memory_test};
 ghost use Rattle.vcdedit.specs.inside.Replies.{IsReplyTo};
 
 use crate::replies::decoding::{i2c_text, spi_text, uart_text};
@@ -96,7 +96,7 @@ fn answer_step(
 fn refuse_step(alloc: Global, number: u64, refusal: StepError) -> MemoryResult<Reply>
     ensures named { IfOk result (λ reply.
         IsReplyTo number (Err (step_error_name refusal)) reply) }
-    ensures memory { IfOk result (λ _. wants_memory refusal ≡ false) }
+    ensures memory { IfOk result (λ _. no_memory_test refusal ≡ false) }
 {
     if is_no_memory(refusal) {
         return Err(NoMemory);
@@ -106,15 +106,7 @@ fn refuse_step(alloc: Global, number: u64, refusal: StepError) -> MemoryResult<R
 
 /// Whether a step is refused because memory ran out.
 fn is_no_memory(refusal: StepError) -> bool
-    ensures { result ≡ wants_memory refusal }
+    ensures { result ≡ no_memory_test refusal }
 {
-    match refusal {
-        StepError::NoMemory => true,
-        // nested, since only so the prover has in the last arm that the fault is not `NoMemory`
-        StepError::Edit(fault) => match fault {
-            EditError::NoMemory => true,
-            _ => false,
-        },
-        _ => false,
-    }
+    refusal == StepError::NoMemory || refusal == StepError::Edit(EditError::NoMemory)
 }

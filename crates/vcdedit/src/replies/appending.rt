@@ -24,15 +24,14 @@ pub fn append_letters(text: &mut Vec<u8>, value: &Value) -> MemoryResult<()>
 pub fn append_decimal(text: &mut Vec<u8>, number: u64) -> MemoryResult<()>
     ensures { OnOk result (text.new.items ≡ text.old.items ++ decimal number) }
 {
-    text.extend_from_slice(Buffer::new().format(number).as_bytes())?;
-    Ok(())
+    append_bytes(text, Buffer::new().format(number).as_bytes())
 }
 
-/// Appends a word.
-pub fn append_word(text: &mut Vec<u8>, word: &[u8]) -> MemoryResult<()>
-    ensures { OnOk result (text.new.items ≡ text.old.items ++ word.now) }
+/// Appends bytes.
+pub fn append_bytes(text: &mut Vec<u8>, bytes: &[u8]) -> MemoryResult<()>
+    ensures { OnOk result (text.new.items ≡ text.old.items ++ bytes.now) }
 {
-    text.extend_from_slice(word)?;
+    text.extend_from_slice(bytes)?;
     Ok(())
 }
 

@@ -9,7 +9,7 @@ ghost use Rattle.vcdedit.specs.Queries.{timescale_line, number_line, signal_line
 ghost use Rattle.vcdedit.specs.Reply.{with_line_feed};
 
 use crate::replies::MemoryResult;
-use crate::replies::appending::{append_decimal, append_number, append_word};
+use crate::replies::appending::{append_bytes, append_decimal, append_number};
 use std::alloc::Global;
 use vcd_core::{Capture, Signal, Timescale, Word};
 
@@ -19,13 +19,12 @@ pub fn listing_text(alloc: Global, capture: &Capture, skipped: u64) -> MemoryRes
     ensures { IfOk result (λ text. text.items ≡
         flat_map with_line_feed (listing (contents capture.now) skipped)) }
 {
-    let signals = capture.signals();
     let mut text = Vec::new(alloc);
     append_timescale_line(&mut text, capture.timescale())?;
-    append_number_line(&mut text, b"end".as_slice(), capture.end())?;
-    append_number_line(&mut text, b"signals".as_slice(), signals.len() as u64)?;
-    append_number_line(&mut text, b"skipped".as_slice(), skipped)?;
-    append_signal_lines(&mut text, signals)?;
+    append_number_line(&mut text, b"end", capture.end())?;
+    append_number_line(&mut text, b"signals", capture.signals().len() as u64)?;
+    append_number_line(&mut text, b"skipped", skipped)?;
+    append_signal_lines(&mut text, capture.signals())?;
     Ok(text)
 }
 
@@ -34,22 +33,13 @@ fn append_timescale_line(text: &mut Vec<u8>, timescale: Option<Timescale>) -> Me
     ensures { OnOk result (text.new.items ≡
         text.old.items ++ with_line_feed (timescale_line timescale)) }
 {
-    match timescale {
-        Some(timescale) => append_unit(text, timescale),
-        None => append_word(text, b"timescale none\n"),
-    }
-}
-
-/// Appends the line of a given timescale.
-fn append_unit(text: &mut Vec<u8>, timescale: Timescale) -> MemoryResult<()>
-    ensures { OnOk result (text.new.items ≡
-        text.old.items ++ with_line_feed (timescale_line (Some timescale))) }
-{
+    let Some(timescale) = timescale else {
+        return append_bytes(text, b"timescale none\n");
+    };
     append_number(text, b"timescale", timescale.count)?;
     text.extend_from_slice(b" ")?;
     text.extend_from_slice(timescale.unit.symbol().as_bytes())?;
-    text.extend_from_slice(b"\n")?;
-    Ok(())
+    append_bytes(text, b"\n")
 }
 
 /// Appends the line of a word and a number.
@@ -58,8 +48,7 @@ fn append_number_line(text: &mut Vec<u8>, word: &[u8], number: u64) -> MemoryRes
         text.old.items ++ with_line_feed (number_line word.now number)) }
 {
     append_number(text, word, number)?;
-    text.extend_from_slice(b"\n")?;
-    Ok(())
+    append_bytes(text, b"\n")
 }
 
 /// Appends a line for each signal.
@@ -78,15 +67,14 @@ fn append_signal_line(text: &mut Vec<u8>, position: usize, signal: &Signal) -> M
     ensures { OnOk result (text.new.items ≡
         text.old.items ++ with_line_feed (signal_line position (signal_contents signal.now))) }
 {
-    append_place_and_width(text, position, signal.wave.width())?;
+    append_position_and_width(text, position, signal.wave.width())?;
     append_signal_kind(text, signal.kind.as_slice())?;
     append_full_name(text, signal)?;
-    text.extend_from_slice(b"\n")?;
-    Ok(())
+    append_bytes(text, b"\n")
 }
 
 /// Appends the front of a signal's line: its position and its width.
-fn append_place_and_width(text: &mut Vec<u8>, position: usize, width: u64) -> MemoryResult<()>
+fn append_position_and_width(text: &mut Vec<u8>, position: usize, width: u64) -> MemoryResult<()>
     ensures { OnOk result (text.new.items ≡
         text.old.items ++ number_line (codes "@" ++ decimal position) width) }
 {
@@ -102,8 +90,7 @@ fn append_signal_kind(text: &mut Vec<u8>, kind: &[u8]) -> MemoryResult<()>
 {
     text.extend_from_slice(b" ")?;
     text.extend_from_slice(kind)?;
-    text.extend_from_slice(b" ")?;
-    Ok(())
+    append_bytes(text, b" ")
 }
 
 /// Appends the full name of a signal.

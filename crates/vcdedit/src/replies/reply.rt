@@ -6,7 +6,7 @@ ghost use Rattle.vcdedit.specs.MachineReplies.{ok_reply};
 ghost use Rattle.vcdedit.specs.inside.Replies.{IsReplyTo};
 
 use crate::replies::MemoryResult;
-use crate::replies::appending::append_number;
+use crate::replies::appending::{append_bytes, append_number};
 use std::alloc::Global;
 
 /// The whole reply to a line.
@@ -59,6 +59,5 @@ fn append_refusal(text: &mut Vec<u8>, number: u64, name: &str) -> MemoryResult<(
     append_number(text, b"line", number)?;
     text.extend_from_slice(b": refused: ")?;
     text.extend_from_slice(name.as_bytes())?;
-    text.extend_from_slice(b"\n")?;
-    Ok(())
+    append_bytes(text, b"\n")
 }

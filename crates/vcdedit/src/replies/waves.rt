@@ -8,7 +8,7 @@ ghost use Rattle.vcdedit.specs.WaveReplies.{value_line, change_lines as lines_of
 ghost use Rattle.vcdedit.specs.Reply.{with_line_feed};
 
 use crate::replies::MemoryResult;
-use crate::replies::appending::{append_decimal, append_letters};
+use crate::replies::appending::{append_bytes, append_decimal, append_letters};
 use std::alloc::Global;
 use vcd_core::{Capture, Change};
 
@@ -52,6 +52,5 @@ fn append_change_line(text: &mut Vec<u8>, change: &Change) -> MemoryResult<()>
     append_decimal(text, change.tick)?;
     text.extend_from_slice(b" ")?;
     append_letters(text, &change.value)?;
-    text.extend_from_slice(b"\n")?;
-    Ok(())
+    append_bytes(text, b"\n")
 }

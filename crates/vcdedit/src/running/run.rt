@@ -10,8 +10,8 @@ ghost use Rattle.vcd_journal.specs.Machine.{first_machine};
 ghost use Rattle.vcdedit.specs.inside.RunStages.{EndsBeforeOutput};
 ghost use Rattle.vcdedit.specs.inside.ScriptRuns.{ScriptGives};
 
-use crate::running::inputs::read_script;
 use crate::running::run_lines::run_lines;
+use crate::running::script_input::read_script;
 use crate::running::{RunError, Summary};
 use std::alloc::Global;
 use vcd_core::{Capture, Sink, Source};
@@ -102,8 +102,5 @@ fn begin_session(alloc: Global, capture: Capture, depth: u64) -> Result<Session,
     ensures new { IfOk result (λ session. session ≡ first_machine (contents capture) depth) }
     ensures fault { IfErr result (λ e. e ≡ RunError.NoMemory 0) }
 {
-    match Session::new(alloc, capture, depth) {
-        Ok(session) => Ok(session),
-        Err(_) => Err(RunError::NoMemory { line: 0 }),
-    }
+    Session::new(alloc, capture, depth).map_err(|_| RunError::NoMemory { line: 0 })
 }

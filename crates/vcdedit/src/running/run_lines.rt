@@ -27,7 +27,7 @@ pub fn run_lines<P: Sink>(
 ) -> Result<u64, RunError>
     requires ready { P.has_failed replies.old ≡ false }
     requires short { length script.now < 2 ^ 60 }
-    ensures told { IfOk result (λ refused.
+    ensures sent { IfOk result (λ refused.
         RunsLines skipped (script_lines script.now) session.old session.new refused
         (P.taken replies.old) (P.taken replies.new)) }
     ensures not_failed { OnOk result (P.has_failed replies.new ≡ false) }
@@ -66,7 +66,7 @@ fn run_line<P: Sink>(
     requires ready { P.has_failed replies.old ≡ false }
     requires counted { 1 ≤ number }
     requires room { written < 2 ^ 127 }
-    ensures told { IfOk result (λ outcome.
+    ensures sent { IfOk result (λ outcome.
         LineStep skipped number line.now session.old session.new outcome.0 outcome.1
         (P.taken replies.old) (P.taken replies.new)) }
     ensures few { IfOk result (λ outcome. outcome.0 ≤ 1) }
@@ -90,7 +90,7 @@ fn run_line<P: Sink>(
 fn write_reply<P: Sink>(text: &[u8], replies: &mut P, written: u128) -> Result<(), RunError>
     requires ready { P.has_failed replies.old ≡ false }
     requires room { written < 2 ^ 127 }
-    ensures told { OnOk result
+    ensures sent { OnOk result
         (Appends (P.taken replies.old) (P.taken replies.new) text.now) }
     ensures not_failed { OnOk result (P.has_failed replies.new ≡ false) }
     ensures fault { IfErr result IsLineFault }

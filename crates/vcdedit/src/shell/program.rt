@@ -39,7 +39,7 @@ pub fn status_of_program<R: Runtime + AllocGlobal, E: Sink>(rt: &R, errors: &mut
     ensures most { result ≤ 5 }
     // The status and the text are those of one ending. If that is of a completed run, some words asked for that run,
     // and it had that ending.
-    ensures told { (ending : ProgramEnding) ×
+    ensures reported { (ending : ProgramEnding) ×
         (is_done ending ≡ true → (words : List (List ℕ)) ×
         (fault_of option_app words ≡ []) × IsEndingOf words ending) ×
         (result ≡ program_status ending) ×

@@ -67,14 +67,19 @@ fn check_done(rt: &impl Abort, run: &EndedRun, refused: u64, replies: &[u8], out
     assert!(rt; run.output.as_slice() == output);
 }
 
-/// Stops unless a run failed, wrote nothing, and has the report `told`: its exit status and its line.
+/// Stops unless a run failed, wrote nothing, and has the report `expected`: its exit status and its line.
 ///
-/// An example of `told` is `3 vcdedit: script: too large`.
-fn check_failed(rt: &impl Abort, alloc: Global, run: &EndedRun, told: &str) -> Result<(), Fail> {
+/// An example of `expected` is `3 vcdedit: script: too large`.
+fn check_failed(
+    rt: &impl Abort,
+    alloc: Global,
+    run: &EndedRun,
+    expected: &str,
+) -> Result<(), Fail> {
     let Err(error) = &run.ending else {
         return Err(Fail::from("the run reached its end"));
     };
-    let (status, line) = told.split_once(' ').ok_or("no status")?;
+    let (status, line) = expected.split_once(' ').ok_or("no status")?;
     let mut sink = ToWrite::new(Vec::new(alloc));
     assert!(rt; report(error, &mut sink) == status.parse::<u8>()?);
     assert!(rt; sink.into_inner().as_slice() == lines_of(alloc, line)?.as_slice());
@@ -138,8 +143,8 @@ fn check_case(rt: &impl Abort, alloc: Global, case: &str) -> Result<(), Fail> {
     let script = lines_of(alloc, part(case, "script").unwrap_or(""))?;
     let depth = number_of(case, "depth", DEPTH)?;
     let run = run_in_memory(alloc, capture.as_slice(), script.as_slice(), depth)?;
-    if let Some(told) = part(case, "report") {
-        return check_failed(rt, alloc, &run, told);
+    if let Some(expected) = part(case, "report") {
+        return check_failed(rt, alloc, &run, expected);
     }
     let refused = number_of(case, "refused", 0)?;
     let replies = lines_of(alloc, part(case, "replies").unwrap_or(""))?;

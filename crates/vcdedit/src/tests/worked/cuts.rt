@@ -59,8 +59,8 @@ fn check_cut(rt: &impl Abort, alloc: Global, len: usize) -> Result<(), Fail> {
         assert!(rt; run.replies.is_empty() && !run.output.is_empty());
         return Ok(());
     };
-    let told = format!(in alloc; "3 vcdedit: capture {fault}")?;
-    check_failed(rt, alloc, &run, told.as_str())
+    let expected = format!(in alloc; "3 vcdedit: capture {fault}")?;
+    check_failed(rt, alloc, &run, expected.as_str())
 }
 
 #[test]

@@ -41,8 +41,8 @@ fn a_line_past_the_end_of_a_block(rt: HostRuntime) -> Result<(), Fail> {
     let file = copies_then(rt.alloc(), b"\n", NEARLY_A_BLOCK, b"$enddefinitions #0")?;
     let run = run_in_memory(rt.alloc(), file.as_slice(), b"", DEPTH)?;
     let line = NEARLY_A_BLOCK + 1;
-    let told = format!(in rt.alloc(); "3 vcdedit: capture line {line}: UnexpectedWord")?;
-    check_failed(&rt, rt.alloc(), &run, told.as_str())
+    let expected = format!(in rt.alloc(); "3 vcdedit: capture line {line}: UnexpectedWord")?;
+    check_failed(&rt, rt.alloc(), &run, expected.as_str())
 }
 
 #[test]
@@ -66,8 +66,8 @@ fn one_signal_too_many(rt: HostRuntime) -> Result<(), Fail> {
     )?;
     let run = run_in_memory(rt.alloc(), file.as_slice(), b"", DEPTH)?;
     let line = SIGNAL_LIMIT + 1;
-    let told = format!(in rt.alloc(); "3 vcdedit: capture line {line}: TooManySignals")?;
-    check_failed(&rt, rt.alloc(), &run, told.as_str())
+    let expected = format!(in rt.alloc(); "3 vcdedit: capture line {line}: TooManySignals")?;
+    check_failed(&rt, rt.alloc(), &run, expected.as_str())
 }
 
 /// A capture without signals, as it is written.

@@ -1,7 +1,8 @@
 use Rattle.std.proofs.Common.{refl}
 use Rattle.vcd_core.specs.Contents.{contents}
 use Rattle.vcdedit.specs.declared.running.run_error.RunError.TheVariants as run_errors
-use Rattle.vcdedit.proofs.RunParts.{script_gives_where_told, capture_ends, lines_end, at_error, file_means, is_accepted}
+use Rattle.vcdedit.proofs.RunParts.{script_gives_where_known, capture_ends, lines_end, at_error, file_means}
+use Rattle.vcdedit.proofs.RunParts.{is_accepted}
 use Rattle.vcdedit.proofs.running.run.run_script.Goals as goal
 
 pub returns-in_err-loaded-clause-ended : goal.returns-in_err-loaded-clause-ended
@@ -27,8 +28,8 @@ returns-in_err-refused-clause-ended g c =
 
 pub returns-clause-gives : goal.returns-clause-gives
 returns-clause-gives g c =
-    let told = rw (c.in_ok-session.ensures.new, c.as_slice.ensures.value) at c.in_ok-refused.ensures.told in
-    script_gives_where_told _ _ c.in_ok-script.script.items c.args.depth c.in_ok-loaded.loaded.skipped
+    let sent = rw (c.in_ok-session.ensures.new, c.as_slice.ensures.value) at c.in_ok-refused.ensures.sent in
+    script_gives_where_known _ _ c.in_ok-script.script.items c.args.depth c.in_ok-loaded.loaded.skipped
     (contents c.in_ok-loaded.loaded.capture) c.run_lines.new.session c.in_ok-refused.refused _ _
     (file_means _ (contents c.in_ok-loaded.loaded.capture) c.in_ok-loaded.loaded.skipped c.in_ok-loaded.ensures.means)
-    c.in_ok-script.ensures.all told
+    c.in_ok-script.ensures.all sent

@@ -4,8 +4,8 @@ use Rattle.std.specs.String.{string_bytes}
 use Rattle.vcdedit.proofs.ProgramRuns.{words_asked, not_both}
 use Rattle.vcdedit.proofs.shell.program.status_of_program.Goals as goal
 
-pub returns-in-Ok-clause-told : goal.returns-in-Ok-clause-told
-returns-in-Ok-clause-told g c = (
+pub returns-in-Ok-clause-reported : goal.returns-in-Ok-clause-reported
+returns-in-Ok-clause-reported g c = (
   c.ending_of_words.result,
   words_asked _ (map string_bytes c.as_slice.result.now) c.ending_of_words.ensures.done
       c.ending_of_words.ensures.of_run,
@@ -13,8 +13,8 @@ returns-in-Ok-clause-told g c = (
   c.report_ending.ensures.text,
 )
 
-pub returns-in-Err-clause-told : goal.returns-in-Err-clause-told
-returns-in-Err-clause-told g c = (
+pub returns-in-Err-clause-reported : goal.returns-in-Err-clause-reported
+returns-in-Err-clause-reported g c = (
   c.in-Err.ending,
   λ done. absurd (not_both _ c.in-Err.ensures done),
   c.report_ending-in-Err.ensures.status,
