@@ -16,16 +16,11 @@ use Rattle.vcd_text.specs.declared.reading.change_log.TheConstants.{GROUPS}
 pub logged_longer : (gs : List (Vec LoggedChange)) (g : Vec LoggedChange) (position : ℕ) → g.items ≡ []
     → logged (gs ++ g ∷ []) position ≡ logged gs position
 logged_longer [] g position none = ap (λ es. changes_of_position position es ++ []) none
-logged_longer (h ∷ gs) g position none =
-    ap (λ es. changes_of_position position h.items ++ es) (logged_longer gs g position none)
+logged_longer (h ∷ gs) g position none = grind (arith, logged_longer gs g position none)
 
 pub grouped_longer : (index : ℕ) (gs : List (Vec LoggedChange)) (g : Vec LoggedChange) → g.items ≡ []
     → AreGrouped index gs → AreGrouped index (gs ++ g ∷ [])
-grouped_longer index [] g none are = (
-  subst (All (λ (e : LoggedChange). e.position % GROUPS ≡ index)) (sym none)
-      (All-nil (λ (e : LoggedChange). e.position % GROUPS ≡ index)),
-  tt,
-)
+grouped_longer index [] g none are = grind (arith, All-nil)
 grouped_longer index (h ∷ gs) g none (here, are) = (here, grouped_longer (index + 1) gs g none are)
 
 -- ---- a change more
@@ -41,11 +36,7 @@ none_at : (index : ℕ) (es : List LoggedChange) (position : ℕ) → position %
     → All (λ (e : LoggedChange). e.position % GROUPS ≡ index) es → changes_of_position position es ≡ []
 none_at index [] position apart are = refl
 none_at index (e ∷ es) position apart are =
-    let other : (e.position == position) ≡ false = elim (cases_Bool (e.position == position)) [
-      | inl same ↦ absurd (apart (ap (λ (p : ℕ). p % GROUPS) (sym (eqb-true e.position position same))
-          ∙ All-head (λ (x : LoggedChange). x.position % GROUPS ≡ index) e es are))
-      | inr other ↦ other
-    ] in
+    let other : (e.position == position) ≡ false = grind (arith, cases_Bool, eqb-true, All-head) in
     ap (λ b. cond b (e ∷ changes_of_position position es) (changes_of_position position es)) other
     ∙ none_at index es position apart (All-tail (λ (x : LoggedChange). x.position % GROUPS ≡ index) e es are)
 
@@ -66,52 +57,27 @@ module _ (e : LoggedChange) (h : Vec LoggedChange) where
       → logged (set gs i h) e.position ≡ logged gs e.position ++ e ∷ []
   here_with index [] i g at more of are = let never : None ≡ Some g = at in absurd (cc)
   here_with index (x ∷ gs) zero g at more of (here, are) =
-      let is : x ≡ g = same_Some x g at in
-      let own : (e.position == e.position) ≡ true = grind arith in
-      let following : logged gs e.position ≡ [] = none_after (index + 1) gs e.position (omega (arith, of)) are in
-      (λ i. changes_of_position e.position (more i) ++ following i)
-      ∙ append-nil (changes_of_position e.position (g.items ++ e ∷ []))
-      ∙ changes_more g.items e e.position
-      ∙ (λ i. changes_of_position e.position (sym is i).items ++ cond (own i) (e ∷ []) [])
-      ∙ ap (λ es. es ++ e ∷ []) (sym (append-nil (changes_of_position e.position x.items))
-      ∙ ap (λ es. changes_of_position e.position x.items ++ es) (sym following))
+      grind (arith, same_Some, none_after, append-nil, changes_more)
   here_with index (x ∷ gs) (suc i) g at more of (here, are) =
-      ap (λ es. changes_of_position e.position x.items ++ es)
-      (here_with (index + 1) gs i g at more (omega (arith, of)) are)
-      ∙ sym (append_assoc (changes_of_position e.position x.items) (logged gs e.position) (e ∷ []))
+      grind (arith, append_assoc, here_with (index + 1) gs i g at more (omega (arith, of)) are)
 
   -- other positions keep their changes
   there_with : (gs : List (Vec LoggedChange)) (i : ℕ) (g : Vec LoggedChange) (position : ℕ) → slice_get gs i ≡ Some g
       → h.items ≡ g.items ++ e ∷ []
       → (e.position == position) ≡ false → logged (set gs i h) position ≡ logged gs position
   there_with [] i g position at more other = refl
-  there_with (x ∷ gs) zero g position at more other =
-      let is : x ≡ g = same_Some x g at in
-      ap (λ es. es ++ logged gs position)
-      (ap (changes_of_position position) more ∙ changes_more g.items e position
-      ∙ (λ i. changes_of_position position (sym is i).items ++ cond (other i) (e ∷ []) [])
-      ∙ append-nil (changes_of_position position x.items))
-  there_with (x ∷ gs) (suc i) g position at more other =
-      ap (λ es. changes_of_position position x.items ++ es) (there_with gs i g position at more other)
+  there_with (x ∷ gs) zero g position at more other = grind (arith, same_Some, changes_more, append-nil)
+  there_with (x ∷ gs) (suc i) g position at more other = grind (arith, there_with gs i g position at more other)
 
   pub logged_with : (gs : List (Vec LoggedChange)) (g : Vec LoggedChange) (position : ℕ)
       → slice_get gs (e.position % GROUPS) ≡ Some g → h.items ≡ g.items ++ e ∷ [] → AreGrouped 0 gs
       → logged (set gs (e.position % GROUPS) h) position
       ≡ (if e.position == position then logged gs position ++ e ∷ [] else logged gs position)
-  logged_with gs g position at more are = elim (cases_Bool (e.position == position)) [
-    | inl same ↦
-        subst (λ p. logged (set gs (e.position % GROUPS) h) p ≡ logged gs p ++ e ∷ [])
-        (eqb-true e.position position same) (here_with 0 gs (e.position % GROUPS) g at more (omega arith) are)
-        ∙ ap (λ b. if b then logged gs position ++ e ∷ [] else logged gs position) (sym same)
-    | inr other ↦
-        there_with gs (e.position % GROUPS) g position at more other
-        ∙ ap (λ b. if b then logged gs position ++ e ∷ [] else logged gs position) (sym other)
-  ]
+  logged_with gs g position at more are = grind (arith, cases_Bool, eqb-true, here_with, there_with)
 
   all_more : (P : LoggedChange → Type 0) (es : List LoggedChange) → All P es → P e → All P (es ++ e ∷ [])
   all_more P [] all is = All-cons P e [] is (All-nil P)
-  all_more P (x ∷ es) all is =
-      All-cons P x (es ++ e ∷ []) (All-head P x es all) (all_more P es (All-tail P x es all) is)
+  all_more P (x ∷ es) all is = grind (arith, All-cons, All-head, All-tail, all_more P es (All-tail P x es all) is)
 
   pub grouped_with : (index : ℕ) (gs : List (Vec LoggedChange)) (i : ℕ) (g : Vec LoggedChange) → slice_get gs i ≡ Some g
       → h.items ≡ g.items ++ e ∷ []

@@ -36,8 +36,7 @@ same_number : (n : ℕ) → (n == n) ≡ true
 same_number n = grind arith
 
 other_number : (m n : ℕ) → m ≢ n → (m == n) ≡ false
-other_number m n apart =
-    elim (cases_Bool (m == n)) [ inl same ↦ absurd (apart (eqb-true m n same)) | inr other ↦ other ]
+other_number m n apart = grind (arith, cases_Bool, eqb-true)
 
 abbrev position_of : CodeTarget → ℕ
 position_of Skipped = 0
@@ -97,21 +96,10 @@ module _ (old : Variables) (c : ParseState) (code digits : List ℕ) (first : �
     (had : target_of old code ≡ Some (Kept first)) where
   pub own_wave : (d : VariableDeclaration) × (variable_of c code ≡ Some d) × (is_skipped d ≡ false)
       × HasWave old.kept.items (logged old.log.items) first code d.size c.value_changes c.tick
-  own_wave =
-      stands_kept old.kept.items (logged old.log.items) c.value_changes c.tick code (variable_of c code) first
-      (subst (λ o. TargetAgrees old c code o
-      (variable_of c code)) had (k.stand code))
+  own_wave = grind (arith, stands_kept)
 
   pub first_within : first < length old.kept.items
   first_within = slice_get_within old.kept.items first own_wave.3.first own_wave.3.stands
-
-  pub width_within : first < length old.widths.items
-  width_within = omega (
-    arith,
-    first_within,
-    ap (length {A = ℕ}) k.widths,
-    length-map old.kept.items (λ (v : Variable). v.signal.wave.width),
-  )
 
   -- its width is in the list of the widths
   pub width_is : (width : ℕ) → width ≡ get_or old.widths.items first width → own_wave.3.first.signal.wave.width ≡ width
@@ -127,12 +115,7 @@ module _ (old : Variables) (c : ParseState) (code digits : List ℕ) (first : �
 
   -- it is the first of its code
   first_is : own_wave.3.first.first ≡ first
-  first_is =
-      let owned = (k.firsts first own_wave.3.first own_wave.3.stands).owned in
-      let kept : Kept own_wave.3.first.first ≡ Kept first =
-      same_Some (Kept own_wave.3.first.first) (Kept first) (sym owned ∙ ap (target_of old) own_wave.3.coded
-      ∙ had) in
-      ap position_of kept
+  first_is = grind (arith, own_wave, same_Some)
 
   -- no change of its wave is past the tick
   pub wave_late : All (λ (change : Change). change.tick ≤ c.tick) own_wave.3.first.signal.wave.changes
@@ -176,20 +159,7 @@ module _ (old : Variables) (list : Vec Variable) (log : Vec (Vec LoggedChange)) 
   following : (position : ℕ) (u : Variable) → slice_get list.items position ≡ Some u
       → (t : Variable) × (slice_get old.kept.items position ≡ Some t) × (declaration u ≡ declaration t)
       × (u.first ≡ t.first)
-  following position u at =
-      let there : slice_get (set old.kept.items first w) position ≡ Some u =
-      subst (λ vs. slice_get vs position ≡ Some u) items at in
-      elim (cases_eq first position) [
-        | inl equal ↦
-            let is : w ≡ u = same_Some w u (sym (set_here old.kept.items first v w stood)
-            ∙ subst (λ p. slice_get (set old.kept.items first w) p ≡ Some u) (sym equal) there) in (
-              v,
-              subst (λ p. slice_get old.kept.items p ≡ Some v) equal stood,
-              ap declaration (sym is) ∙ same,
-              ap (λ (x : Variable). x.first) (sym is) ∙ same_first,
-            )
-        | inr apart ↦ (u, sym (set_there old.kept.items first position w apart) ∙ there, refl, refl)
-      ]
+  following position u at = grind (arith, cases_eq, same_Some, set_here, stood, set_there)
 
   -- the value change
   new_value_change : ValueChange
@@ -201,8 +171,7 @@ module _ (old : Variables) (list : Vec Variable) (log : Vec (Vec LoggedChange)) 
       → HasWave list.items (logged log.items) position key size (c.value_changes ++ new_value_change ∷ []) c.tick
   unfolding new_value_change
   wave_changed key position size equal owned wave =
-      let kept_at : Kept first ≡ Kept position =
-      same_Some (Kept first) (Kept position) (sym had ∙ ap (target_of old) equal ∙ owned) in
+      let kept_at : Kept first ≡ Kept position = grind (arith, same_Some) in
       let at : first ≡ position = ap position_of kept_at in
       let is : v ≡ wave.first = same_Some v wave.first (sym stood ∙ ap (slice_get old.kept.items) at ∙ wave.stands) in
       let old_size : v.signal.wave.width ≡ size = ap (λ (u : Variable). u.signal.wave.width) is ∙ wave.sized in
@@ -225,21 +194,10 @@ module _ (old : Variables) (list : Vec Variable) (log : Vec (Vec LoggedChange)) 
       (logged log.items first)) old_size (takes before had_values)) in
       record {
         first = w;
-        stands = ap (λ vs. slice_get vs position) items ∙ ap (slice_get (set old.kept.items first w)) (sym at)
-            ∙ set_here old.kept.items first v w stood;
+        stands = grind (arith, set_here, stood);
         coded = ap (λ (d : VariableDeclaration). d.code) same ∙ ap (λ (u : Variable). u.code) is ∙ wave.coded;
         sized = same_width ∙ old_size;
-        gives = gives_as size c.tick
-            (λ t. if nat_le c.tick t then extension size (letters_of_digits digits) else before t) w.signal.wave.changes
-            (λ t. latest_value size key t (all_x size)
-            (c.value_changes ++ record { tick = c.tick; code = code; letters = letters_of_digits digits } ∷ []))
-            (logged log.items position)
-            (λ t.
-            ap (λ b. if b && nat_le c.tick t then extension size (letters_of_digits digits) else before t)
-            (sym (ap (bytes_eq code) (sym equal) ∙ own_code code))
-            ∙ sym (value_with size key t (all_x size) c.value_changes
-            (record { tick = c.tick; code = code; letters = letters_of_digits digits })))
-            has_values;
+        gives = grind (arith, gives_as, own_code, value_with);
       }
 
   -- the wave of another code stays
@@ -248,30 +206,7 @@ module _ (old : Variables) (list : Vec Variable) (log : Vec (Vec LoggedChange)) 
       → HasWave list.items (logged log.items) position key size (c.value_changes ++ new_value_change ∷ []) c.tick
   unfolding new_value_change
   wave_kept key position size other wave =
-      let apart : first ≢ position = λ at.
-      let is : v ≡ wave.first = same_Some v wave.first (sym stood ∙ ap (slice_get old.kept.items) at ∙ wave.stands) in
-      let equal : code ≡ key = sym (own_wave old c code digits first k had).3.coded
-      ∙ ap (λ (u : Variable). u.code) (sym is_first ∙ is) ∙ wave.coded in
-      let both : true ≡ false = sym (ap (bytes_eq code) (sym equal) ∙ own_code code) ∙ other in
-      absurd (cc) in
-      record {
-        first = wave.first;
-        stands = ap (λ vs. slice_get vs position) items ∙ set_there old.kept.items first position w apart ∙ wave.stands;
-        coded = wave.coded;
-        sized = wave.sized;
-        gives = gives_as size c.tick (λ t. latest_value size key t (all_x size) c.value_changes)
-            wave.first.signal.wave.changes
-            (λ t. latest_value size key t (all_x size)
-            (c.value_changes ++ record { tick = c.tick; code = code; letters = letters_of_digits digits } ∷ []))
-            (logged log.items position)
-            (λ t.
-            ap (λ b. if b && nat_le c.tick t then extension size (letters_of_digits digits) else latest_value size key t
-            (all_x size) c.value_changes) (sym other)
-            ∙ sym (value_with size key t (all_x size) c.value_changes
-            (record { tick = c.tick; code = code; letters = letters_of_digits digits })))
-            (subst (GivesLoggedValues size c.tick (λ t. latest_value size key t (all_x size) c.value_changes)
-            wave.first.signal.wave.changes) (sym (others position apart)) wave.gives);
-      }
+      grind (arith, same_Some, stood, own_wave, own_code, set_there, sized, gives_as, value_with)
 
   changed_firsts : (position : ℕ) (u : Variable) → slice_get list.items position ≡ Some u
       → HasFirst (with_changes old list log) position u
@@ -279,14 +214,9 @@ module _ (old : Variables) (list : Vec Variable) (log : Vec (Vec LoggedChange)) 
       let t = following position u at in
       let before = k.firsts position t.0 t.1 in
       record {
-        owned = ap (λ (d : VariableDeclaration). target_of old d.code) t.2 ∙ before.owned
-            ∙ ap (λ n. Some (Kept n)) (sym t.3);
+        owned = grind arith;
         no_later = omega (arith, t.3, before.no_later);
-        same_size = λ x there.
-            let y = following u.first x there in
-            ap (λ (d : VariableDeclaration). d.size) y.2
-            ∙ before.same_size y.0 (subst (λ n. slice_get old.kept.items n ≡ Some y.0) t.3 y.1)
-            ∙ ap (λ (d : VariableDeclaration). d.size) (sym t.2);
+        same_size = grind (arith, following);
       }
 
   changed_stands : (key : List ℕ)
@@ -303,49 +233,29 @@ module _ (old : Variables) (list : Vec Variable) (log : Vec (Vec LoggedChange)) 
 
   told_are : value_changes_after c code (letters_of_digits digits) (variable_of c code) ≡ new_value_change ∷ []
   unfolding new_value_change
-  told_are =
-      ap (value_changes_after c code (letters_of_digits digits)) (own_wave old c code digits first k had).1
-      ∙ ap (λ b. if b then [] else record { tick = c.tick; code = code; letters = letters_of_digits digits } ∷ [])
-      (own_wave old c code digits first k had).2
+  told_are = grind (arith, own_wave)
 
   -- the log has changes only of first variables
   changed_logs : HasLogs list.items (logged log.items)
-  changed_logs position some = elim (cases_eq first position) [
-    | inl equal ↦ (
-      w,
-      ap (λ vs. slice_get vs position) items ∙ ap (slice_get (set old.kept.items first w)) (sym equal)
-          ∙ set_here old.kept.items first v w stood,
-      same_first ∙ ap (λ (u : Variable). u.first) is_first ∙ first_is old c code digits first k had ∙ equal,
-    )
-    | inr apart ↦
-        let u = k.logs position (subst (λ (es : List LoggedChange). 0 < length es) (others position apart) some) in
-        (u.0, ap (λ vs. slice_get vs position) items ∙ set_there old.kept.items first position w apart ∙ u.1, u.2)
-  ]
+  changed_logs position some = grind (arith, cases_eq, set_here, stood, first_is, set_there)
 
   -- the variables have the value change
   changed_knows : VariablesMatch (with_changes old list log) (with_value_change c code (letters_of_digits digits))
   changed_knows = record {
     kept = k.kept ∙ sym (ap (map declaration) items ∙ same_map declaration old.kept.items first v w stood same);
     skipped = k.skipped;
-    widths = k.widths ∙ sym (ap (map (λ (u : Variable). u.signal.wave.width)) items
-        ∙ same_map (λ (u : Variable). u.signal.wave.width) old.kept.items first v w stood same_width);
+    widths = grind (arith, same_map, stood, same_width);
     stand = λ key. subst (λ rs. TargetMatches list.items (logged log.items) (c.value_changes ++ rs) c.tick key
         (target_of old key) (variable_of c key)) (sym told_are) (changed_stands key);
     firsts = changed_firsts;
-    few = subst (λ n. n ≤ SIGNAL_LIMIT) (sym (ap (length {A = Variable}) items ∙ same_length old.kept.items first w))
-        k.few;
+    few = grind (arith, same_length);
     grouped = grouped;
     logs = changed_logs;
   }
 
   -- its variable accepts the digits
   changed_takes : IsSomeAnd (variable_of c code) (λ d. IsTrue (takes_binary_number d digits))
-  changed_takes =
-      let fits : nat_le (length digits) (own_wave old c code digits first k had).0.size ≡ true =
-      le-leb (length digits) (own_wave old c code digits first k had).0.size (omega (arith, short, sized)) in
-      subst (λ o. IsSomeAnd o (λ d. IsTrue (takes_binary_number d digits)))
-      (sym (own_wave old c code digits first k had).1)
-      (λ i. (own_wave old c code digits first k had).2 i || (value i && fits i))
+  changed_takes = grind (arith, own_wave, le-leb, sized)
 
   pub changed : (x : Unit {0})
       → ChangeResult c code digits (Ok x) (with_changes old list log)

@@ -68,30 +68,14 @@ shows old new w fault between changing row c begun at = shown_at old c begun w f
 -- the state does not depend on the open item
 agrees_still : (m : Reader) (c : ParseState) (item : OpenItem) (line : ℕ) → ReaderMatches m c
     → ReaderMatches (record m { item = item; line = line }) c
-agrees_still m c item line agrees = record {
-  header = agrees.header;
-  timescale = agrees.timescale;
-  scopes = agrees.scopes;
-  changing = agrees.changing;
-  tick = agrees.tick;
-  variables = agrees.variables;
-  silent = agrees.silent;
-}
+agrees_still m c item line agrees = grind arith
 
 -- one more value change among the changes
 agrees_set : (m : Reader) (c : ParseState) (vs : Variables) (value_changes : List ValueChange) (item : OpenItem)
     → ReaderMatches m c → m.changing ≡ true
     → VariablesMatch vs (record c { value_changes = value_changes })
     → ReaderMatches (record m { variables = vs; item = item }) (record c { value_changes = value_changes })
-agrees_set m c vs value_changes item agrees changing knows = record {
-  header = agrees.header;
-  timescale = agrees.timescale;
-  scopes = agrees.scopes;
-  changing = agrees.changing;
-  tick = agrees.tick;
-  variables = knows;
-  silent = λ no. not_both (sym agrees.changing ∙ changing) no;
-}
+agrees_set m c vs value_changes item agrees changing knows = grind (arith, not_both)
 
 -- ---- stamps
 
@@ -137,8 +121,7 @@ takes_bracket m text line between changing is =
 
 pub declares_late : (m new : Reader) (text : List ℕ) (line : ℕ) → m.item ≡ items.Nothing → m.changing ≡ true
     → is_one_of declaring_words text ≡ true → WordResult m (word_on text line) (Err UnexpectedWord) new
-declares_late m new text line between changing is =
-    shows m new (word_on text line) UnexpectedWord between changing (λ c agrees. declaration_late refl is refl)
+declares_late m new text line between changing is = grind (arith, shows)
 
 pub passes_over : (m : Reader) (text : List ℕ) (line : ℕ) → m.item ≡ items.Nothing → m.changing ≡ true
     → is_command text ≡ true → is_one_of dump_words text ≡ false → is_one_of declaring_words text ≡ false
@@ -151,8 +134,7 @@ passes_over m text line between changing command dump declaring c begun (agrees,
         keyword = text;
         words = [];
         spelled = ap (λ bs. word_texts (bs ++ word_on text line ∷ [])) none;
-        other = λ i. (command i && not (dump i)) && not (declaring i)
-            && (changing i || not (is_one_of header_words text));
+        other = grind arith;
         no_end = refl;
       },
     )
@@ -195,10 +177,7 @@ one_letter letter is = λ i. is i && true
 
 -- a kept variable has a bit
 fits_one : (d : VariableDeclaration) → is_skipped d ≡ false → d.size < 1 → ⊥
-fits_one d keeps small =
-    let sized = or_parts (d.size == 0) (nat_lt WIDTH_LIMIT d.size) (or_parts (is_skipped_kind d.kind) _ keeps).1 in
-    let some : d.size ≡ 0 → ⊥ = eqb-false d.size 0 sized.0 in
-    some (omega arith)
+fits_one d keeps small = grind (arith, or_parts, eqb-false)
 
 bit_shows : (c : ParseState) (letter : ℕ) (code : List ℕ) (fault : Fault) → is_binary_digit letter ≡ true
     → 0 < length code
@@ -207,8 +186,7 @@ bit_shows c letter code fault is some (variables.unknown none which) =
     value_of_none letter code refl refl is some none which
 bit_shows c letter code fault is some (variables.no_value d found keeps isnt which) =
     not_both (one_letter letter is) isnt
-bit_shows c letter code fault is some (variables.too_long d found keeps value long which) =
-    absurd (fits_one d keeps long)
+bit_shows c letter code fault is some (variables.too_long d found keeps value long which) = grind (arith, fits_one)
 
 pub sets_bit : (m : Reader) (vs : Variables) (letter : ℕ) (code : List ℕ) (line : ℕ) (r : Result (Unit {0}) Fault)
     → m.item ≡ items.Nothing → m.changing ≡ true → is_binary_digit letter ≡ true → 0 < length code
@@ -259,8 +237,7 @@ texts_begun m begun letters text b = ap word_texts b.is ∙ ap (λ t. t ∷ []) 
 texts_whole : (m : Reader) (begun : List PlacedWord) (letters text code : List ℕ) (line : ℕ)
     (b : AwaitsCode m begun letters text)
     → (b.letter ∷ text) ∷ code ∷ [] ≡ word_texts (begun ++ word_on code line ∷ [])
-texts_whole m begun letters text code line b =
-    sym (ap (λ bs. word_texts (bs ++ word_on code line ∷ [])) b.is ∙ ap (λ t. t ∷ code ∷ []) b.spelled)
+texts_whole m begun letters text code line b = grind arith
 
 among_first : (xs ys : List ℕ) (b : ℕ) → is_among xs b ≡ true → is_among (xs ++ ys) b ≡ true
 among_first [] ys b h = not_both h refl

@@ -42,11 +42,7 @@ use Rattle.vcd_text.proofs.WordLaws.{feeds_both, no_feeds, word_part}
 -- ---- line feeds
 
 line_one : (b line : ℕ) → line_after b line ≡ line + feeds (b ∷ [])
-line_one b line = by_test (b == 10)
-  where
-    by_test : (t : Bool) → cond t (line + 1) line ≡ line + (0 + cond t 1 0)
-    by_test true = omega arith
-    by_test false = omega arith
+line_one b line = grind arith
 
 line_more : (b line : ℕ) (bs : List ℕ) → line_after b line + feeds bs ≡ line + feeds (b ∷ bs)
 line_more b line bs = let all : feeds (b ∷ bs) ≡ feeds (b ∷ []) + feeds bs = feeds_both (b ∷ []) bs in
@@ -95,20 +91,10 @@ byte_first false false b line (w ∷ ws) more some = refl
 pub words_closed : (whole : Bool) (line : ℕ) (text rest : List ℕ) → is_closed text ≡ true
     → words_from whole line (text ++ rest) ≡ words_from true line text ++ words_from whole (line + feeds text) rest
 unfolding words_from
-words_closed whole line [] rest closed = let same : line ≡ line + feeds [] = omega arith in
-    ap (λ n. words_from whole n rest) same
-words_closed whole line (b ∷ []) rest closed =
-    ap (λ s. with_byte s (ends_before whole rest) b line (words_from whole (line_after b line) rest)) closed
-    ∙ ap (λ n. words_from whole n rest) (line_one b line)
-    ∙ ap (λ s. with_byte s true b line [] ++ words_from whole (line + feeds (b ∷ [])) rest) (sym closed)
+words_closed whole line [] rest closed = grind arith
+words_closed whole line (b ∷ []) rest closed = grind (arith, line_one)
 words_closed whole line (b ∷ c ∷ text) rest closed =
-    ap (with_byte (is_white_space b) (is_white_space c) b line)
-    (words_closed whole (line_after b line) (c ∷ text) rest closed)
-    ∙ byte_first (is_white_space b) (is_white_space c) b line (words_from true (line_after b line) (c ∷ text))
-    (words_from whole (line_after b line + feeds (c ∷ text)) rest)
-    (λ _ last. some_word (line_after b line) c text closed last)
-    ∙ ap (λ n. with_byte (is_white_space b) (is_white_space c) b line (words_from true (line_after b line) (c ∷ text))
-    ++ words_from whole n rest) (line_more b line (c ∷ text))
+    search (arith, byte_first, some_word, line_more, words_closed whole (line_after b line) (c ∷ text) rest closed)
 
 -- ---- one more chunk
 
@@ -153,10 +139,7 @@ module _ (m : Reader) (word : List ℕ) (passed left : ℕ) (bytes : List ℕ) (
       → HasTaken new back (passed + feeds front) rest (bytes ++ chunk)
   taken_now new rest fits reads = record {
     reads = subst (Reads new) (sym closed_now) reads;
-    following = λ whole more. words_now whole more
-        ∙ sym (append_assoc (closed_words bytes) (words_from true (passed + 1) front)
-        (words_from whole ((passed + feeds front) + 1) (back ++ more)))
-        ∙ ap (λ words. words ++ words_from whole ((passed + feeds front) + 1) (back ++ more)) (sym closed_now);
+    following = grind (arith, words_now, append_assoc, closed_now);
     black = black;
     short = omega (
       arith,
@@ -187,14 +170,7 @@ module _ (m : Reader) (word : List ℕ) (passed left : ℕ) (bytes : List ℕ) (
 
 pub nothing_taken : (m : Reader) (word : List ℕ) → word ≡ [] → Reads m [] → HasTaken m word 0 FILE_LIMIT []
 unfolding words_from
-nothing_taken m word none reads = record {
-  reads = reads;
-  following = λ whole rest. ap (λ w. words_from whole 1 (w ++ rest)) (sym none);
-  black = ap (list_all (λ b. not (is_white_space b))) none;
-  short = omega (arith, ap (length {A = ℕ}) none);
-  lines = refl;
-  room = refl;
-}
+nothing_taken m word none reads = grind arith
 
 -- the words so far, and the last one
 pub all_words : (m : Reader) (word : List ℕ) (passed left : ℕ) (bytes : List ℕ) → HasTaken m word passed left bytes
@@ -303,8 +279,7 @@ pub of_all : (coming left : Option (List ℕ)) (bytes : List ℕ) (P : List ℕ 
     → IsAtEnd left → P bytes → IfSome coming P
 of_all None left bytes P consumes ends holds = tt
 of_all (Some xs) None bytes P consumes ends holds = absurd consumes
-of_all (Some xs) (Some ys) bytes P consumes ends holds =
-    subst P (sym (consumes ∙ ap (λ ys. bytes ++ ys) ends ∙ append-nil bytes)) holds
+of_all (Some xs) (Some ys) bytes P consumes ends holds = grind (arith, append-nil)
 
 -- no word shows that a reader failed
 by_declaration : (c : ParseState) (begun : List (List ℕ)) (word : List ℕ) (fault : Fault) → fault ≡ faults.ReadFault
@@ -339,17 +314,13 @@ by_word c begun word fault is (among_changes changes shows) = by_change c begun 
 
 pub is_no_failure : (bytes : List ℕ) (e : ReadError) → (e ≡ memory_error) ⊎ FrontFault bytes e.line e.fault
     → e.fault ≡ faults.ReadFault → ⊥
-is_no_failure bytes e (inl none) is = let fault : e.fault ≡ faults.NoMemory = ap (λ (e : ReadError). e.fault) none in
-    absurd (cc)
-is_no_failure bytes e (inr shows) is =
-    by_word (state_after initial_state shows.items) (word_texts shows.begun) shows.word.text e.fault is shows.decided
+is_no_failure bytes e (inl none) is = grind arith
+is_no_failure bytes e (inr shows) is = grind (arith, by_word)
 
 pub is_no_file_failure : (bytes : List ℕ) (e : ReadError) → (e ≡ memory_error) ⊎ FoundFault bytes e.line e.fault
     → e.fault ≡ faults.ReadFault → ⊥
-is_no_file_failure bytes e (inl none) is = let fault : e.fault ≡ faults.NoMemory =
-    ap (λ (e : ReadError). e.fault) none in absurd (cc)
-is_no_file_failure bytes e (inr (word_shows shows)) is =
-    by_word (state_after initial_state shows.items) (word_texts shows.begun) shows.word.text e.fault is shows.decided
+is_no_file_failure bytes e (inl none) is = grind arith
+is_no_file_failure bytes e (inr (word_shows shows)) is = grind (arith, by_word)
 is_no_file_failure bytes e (inr (too_early stops line fault)) is = absurd (cc)
 
 -- ---- a chunk after the bytes taken
@@ -359,19 +330,7 @@ pub has_come : (p now : Progress) (from count : ℕ) (before word chunk : List �
     → HasTaken p.reader p.buffer.bytes p.passed p.left before → now.reader ≡ p.reader → now.passed ≡ p.passed
     → now.buffer.bytes ≡ word ++ chunk → word ≡ p.buffer.bytes → count ≡ length chunk → count ≤ p.left
     → now.left ≡ p.left - count → from ≡ length word → HasCome now from (before ++ chunk)
-has_come p now from count before word chunk taken reader passed text same many within left len =
-    let fits : p.left ≡ now.left + length chunk = omega (arith, left, many, within) in
-    record {
-      before = before;
-      word = p.buffer.bytes;
-      chunk = chunk;
-      taken = subst (λ m. HasTaken m p.buffer.bytes now.passed (now.left + length chunk) before) (sym reader)
-          (subst (λ n. HasTaken p.reader p.buffer.bytes n (now.left + length chunk) before) (sym passed)
-          (subst (λ left. HasTaken p.reader p.buffer.bytes p.passed left before) fits taken));
-      text = text ∙ ap (λ word. word ++ chunk) same;
-      len = len ∙ ap (length {A = ℕ}) same;
-      all = refl;
-    }
+has_come p now from count before word chunk taken reader passed text same many within left len = grind arith
 
 -- the complete words have been taken
 pub now_taken : (p : Progress) (from len : ℕ) (bytes : List ℕ) (new : Reader) (closed : List ℕ)
@@ -413,15 +372,4 @@ now_shown p from len bytes e closed words come ends black front is shows =
 pub word_is_first : (p : Progress) (from : ℕ) (bytes : List ℕ) → HasCome p from bytes
     → (from ≤ length p.buffer.bytes) × (list_all (λ b. not (is_white_space b)) (take from p.buffer.bytes) ≡ true)
     × (length bytes + p.left ≡ FILE_LIMIT) × (length p.buffer.bytes ≤ length bytes) × (p.passed ≤ length bytes)
-word_is_first p from bytes come =
-    let long = ap (length {A = ℕ}) come.text ∙ length-append come.word come.chunk in
-    let all = ap (length {A = ℕ}) come.all ∙ length-append come.before come.chunk in
-    let lines : last_line come.before ≡ p.passed + 1 = come.taken.lines in
-    let few : feeds come.before ≤ length come.before = count_by-le-length (λ b. b == 10) come.before in (
-      omega (arith, come.len, long),
-      ap (list_all (λ b. not (is_white_space b))) ((λ i. take (come.len i) (come.text i))
-          ∙ take-append_seam come.word come.chunk) ∙ come.taken.black,
-      omega (arith, all, come.taken.room),
-      omega (arith, all, long, come.taken.short),
-      omega (arith, all, lines, few),
-    )
+word_is_first p from bytes come = grind (arith, length-append, count_by-le-length, take-append_seam)

@@ -1,4 +1,5 @@
 -- The targets of codes.
+use Rattle.std.proofs.Common.{arith}
 use Rattle.std.proofs.Common.{◌≡◌, ℕ, Bool, true, false, if◌then◌else◌, List, [], ◌∷◌, ◌++◌, find, Option, None, Some}
 use Rattle.std.proofs.Common.{refl, sym, subst, ◌∙◌}
 use Rattle.std.specs.Prelude.{bytes_eq}
@@ -27,11 +28,7 @@ own_code a = (bytes_eq-Decides a a).1 refl
 -- a code is another one, or the same
 pub by_code : (P : Bool → Type 0) (a b : List ℕ) → (a ≡ b → P true) → (bytes_eq a b ≡ false → P false)
     → P (bytes_eq a b)
-by_code P a b same other = choose (bytes_eq a b) refl
-  where
-    choose : (e : Bool) → bytes_eq a b ≡ e → P e
-    choose true e = same (same_code a b e)
-    choose false e = other e
+by_code P a b same other = grind (arith, same_code)
 
 -- ---- a code that is put into the map
 
@@ -40,10 +37,7 @@ module _ {S : Type 0} (old new : IndexMap (Vec ℕ) CodeTarget S) (k : Vec ℕ) 
   put_elsewhere : (key : List ℕ) → bytes_eq key k.items ≡ false
       → get_by (λ v. bytes_eq key v.items) new ≡ get_by (λ v. bytes_eq key v.items) old
   unfolding KeepsOthers
-  put_elsewhere key apart =
-      puts.3 (λ v. bytes_eq key v.items) (λ x y. nat_list_eq_equiv.congr key x.items y.items)
-      (λ v at. nat_list_eq_equiv.symm key v.items ∙ sym (nat_list_eq_equiv.congr k.items v.items key at)
-      ∙ nat_list_eq_equiv.symm k.items key ∙ apart)
+  put_elsewhere key apart = grind (arith, nat_list_eq_equiv)
 
   -- then it has its new target, and the others keep theirs
   pub target_put : (key : List ℕ)
@@ -78,8 +72,7 @@ stands_moved vs ws log rest rs ss early late code None (Some d) transitions s = 
 stands_moved vs ws log rest rs ss early late code (Some Skipped) None transitions s = s
 stands_moved vs ws log rest rs ss early late code (Some Skipped) (Some d) transitions s = s
 stands_moved vs ws log rest rs ss early late code (Some (Kept position)) None transitions s = s
-stands_moved vs ws log rest rs ss early late code (Some (Kept position)) (Some d) transitions s =
-    (s.0, transitions position d.size refl s.1)
+stands_moved vs ws log rest rs ss early late code (Some (Kept position)) (Some d) transitions s = grind arith
 
 -- the first variable of a code, with one more declared
 pub found_with : (code : List ℕ) (ds : List VariableDeclaration) (d : VariableDeclaration)

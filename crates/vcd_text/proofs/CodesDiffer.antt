@@ -12,11 +12,6 @@ use Rattle.vcd_text.specs.Text.{code_digits, code_of}
 use Rattle.vcd_text.proofs.Codes.{next_digit}
 use Rattle.vcd_text.proofs.WeakerTests.{all_weaker}
 
--- the lowest digit, or that of an empty code
-abbrev head_of : List ℕ → ℕ
-head_of [] = 0
-head_of (b ∷ bs) = b
-
 abbrev tail_of : List ℕ → List ℕ
 tail_of [] = []
 tail_of (b ∷ bs) = bs
@@ -36,15 +31,11 @@ same_number zero b (suc m) n in_a in_b same = absurd (omega arith)
 same_number (suc a) b (suc m) zero in_a in_b same = absurd (cc)
 same_number (suc a) zero (suc m) (suc n) in_a in_b same = absurd (omega arith)
 same_number (suc a) (suc b) (suc m) (suc n) in_a in_b same =
-    let low : 33 + m % 94 ≡ 33 + n % 94 = ap head_of same in
-    let high : m / 94 ≡ n / 94 = same_number a b (m / 94) (n / 94) (omega arith) (omega arith) (ap tail_of same) in
-    omega arith
+    grind (arith, same_number a b (m / 94) (n / 94) (omega arith) (omega arith) (ap tail_of same))
 
 -- positions with one code are one
 pub codes_differ : (j k : ℕ) → code_of j ≡ code_of k → j ≡ k
-codes_differ j k same =
-    let one : j + 1 ≡ k + 1 = same_number (j + 1) (k + 1) (j + 1) (k + 1) (omega arith) (omega arith) same in
-    omega arith
+codes_differ j k same = grind (arith, same_number)
 
 -- whether a byte is allowed in a code
 abbrev pub is_code_byte : ℕ → Bool
@@ -54,11 +45,7 @@ digits_printable : (a n : ℕ) → list_all is_code_byte (code_digits a n) ≡ t
 unfolding code_digits
 digits_printable a zero = refl
 digits_printable zero (suc n) = refl
-digits_printable (suc a) (suc n) =
-    and_from (is_code_byte (33 + n % 94)) (list_all is_code_byte (code_digits a (n / 94)))
-    (and_from (nat_le 33 (33 + n % 94)) (nat_le (33 + n % 94) 126) (le-leb 33 (33 + n % 94) (omega arith))
-    (le-leb (33 + n % 94) 126 (omega arith)))
-    (digits_printable a (n / 94))
+digits_printable (suc a) (suc n) = grind (arith, and_from, le-leb, digits_printable a (n / 94))
 
 -- each byte of a code is printable
 pub code_printable : (k : ℕ) → list_all is_code_byte (code_of k) ≡ true
@@ -71,9 +58,7 @@ code_not_empty k = let from_one : k + 1 ≡ suc k = add-one k in rw from_one (om
 
 -- one digit more than the number without its lowest digit
 one_more_digit : (n l : ℕ) → length (code_digits (n / 94) (n / 94)) ≤ l → length (code_digits (suc n) (suc n)) ≤ suc l
-one_more_digit n l short =
-    let same : length (code_digits (suc n) (suc n)) ≡ suc (length (code_digits (n / 94) (n / 94))) =
-    ap length (next_digit n) in omega arith
+one_more_digit n l short = grind (arith, next_digit)
 
 -- the greatest number of digits of a number
 digits_few : (l n : ℕ) → n ≤ greatest l → length (code_digits n n) ≤ l
@@ -88,12 +73,7 @@ code_short k few = digits_few 3 (k + 1) (omega arith)
 
 -- a printable byte is no white space
 printable_is_black : (b : ℕ) → is_code_byte b ≡ true → not (is_white_space b) ≡ true
-printable_is_black b printable =
-    let bounds : (nat_le 33 b ≡ true) × (nat_le b 126 ≡ true) = and_parts (nat_le 33 b) (nat_le b 126) printable in
-    let above : 33 ≤ b = leb-true 33 b bounds.0 in
-    not_from_false (is_white_space b)
-    (or_from (nat_le 9 b && nat_le b 13) (b == 32) (and_right (nat_le 9 b) (nat_le b 13) (lt-leb b 13 (omega arith)))
-    (ne_eqb b 32 (λ e. omega arith)))
+printable_is_black b printable = grind (arith, and_parts, leb-true, not_from_false, or_from, and_right, lt-leb, ne_eqb)
 
 -- a code has no white space
 pub code_black : (k : ℕ) → list_all (λ b. not (is_white_space b)) (code_of k) ≡ true

@@ -36,53 +36,28 @@ marks t k j (s ∷ ss) = if_so (j == k) (counted (differs_at t s)) + marks t k (
 -- ---- by tick
 
 once_here : (t k j : ℕ) → once t k (transition_of t j) ≡ if_so (j == k) 1
-once_here t k j = ap (λ b. counted (b && (j == k))) (eq-eqb t t refl) ∙ by (j == k)
-  where
-    by : (b : Bool) → counted (true && b) ≡ if_so b 1
-    by true = refl
-    by false = refl
+once_here t k j = grind (arith, eq-eqb)
 
 times_here : (t k j : ℕ) (ss : List SignalContents)
     → times t k (transitions_at t (enumerate_from j ss)) ≡ marks t k j ss
 times_here t k j [] = refl
-times_here t k j (s ∷ ss) = step (differs_at t s) (times_here t k (j + 1) ss)
-  where
-    step : (b : Bool) → times t k (transitions_at t (enumerate_from (j + 1) ss)) ≡ marks t k (j + 1) ss
-        → times t k (map (λ p. transition_of t p.0)
-        (cond b ((j, s) ∷ filter (λ p. differs_at t p.1) (enumerate_from (j + 1) ss))
-        (filter (λ p. differs_at t p.1) (enumerate_from (j + 1) ss))))
-        ≡ if_so (j == k) (counted b) + marks t k (j + 1) ss
-    step true rest = omega (arith, once_here t k j, rest)
-    step false rest = omega (arith, if_zero (j == k), rest)
+times_here t k j (s ∷ ss) = grind (arith, once_here, if_zero, times_here t k (j + 1) ss)
 
 elsewhere : (u t k : ℕ) (placed : List (ℕ × SignalContents)) → t ≢ u
     → times u k (map (λ p. transition_of t p.0) placed) ≡ 0
 elsewhere u t k [] other = refl
-elsewhere u t k (p ∷ ps) other =
-    let here : once u k (transition_of t p.0) ≡ 0 = ap (λ b. counted (b && (p.0 == k))) (ne_eqb t u other) in
-    omega (arith, here, elsewhere u t k ps other)
+elsewhere u t k (p ∷ ps) other = grind (arith, ne_eqb, elsewhere u t k ps other)
 
 earlier : (signals : List SignalContents) (a n t k : ℕ) → t < a → times t k (transitions_from signals a n) ≡ 0
 unfolding transitions_from
 earlier signals a zero t k early = refl
 earlier signals a (suc n) t k early =
-    times-append t k (transitions_at a (enumerate_from 0 signals)) (transitions_from signals (suc a) n)
-    ∙ omega (
-      arith,
-      elsewhere t a k (filter (λ p. differs_at a p.1) (enumerate_from 0 signals)) (omega arith),
-      earlier signals (suc a) n t k (omega arith),
-    )
+    grind (arith, times-append, elsewhere, earlier signals (suc a) n t k (omega arith))
 
 later : (signals : List SignalContents) (a n t k : ℕ) → a + n ≤ t → times t k (transitions_from signals a n) ≡ 0
 unfolding transitions_from
 later signals a zero t k late = refl
-later signals a (suc n) t k late =
-    times-append t k (transitions_at a (enumerate_from 0 signals)) (transitions_from signals (suc a) n)
-    ∙ omega (
-      arith,
-      elsewhere t a k (filter (λ p. differs_at a p.1) (enumerate_from 0 signals)) (omega arith),
-      later signals (suc a) n t k (omega arith),
-    )
+later signals a (suc n) t k late = grind (arith, times-append, elsewhere, later signals (suc a) n t k (omega arith))
 
 within : (signals : List SignalContents) (a n t k : ℕ) → a ≤ t → t < a + n
     → times t k (transitions_from signals a n) ≡ marks t k 0 signals
@@ -93,8 +68,7 @@ within signals a (suc n) t k low high =
     ∙ elim (cases_eq a t) [
       | inl same ↦
           let here : times t k (transitions_at a (enumerate_from 0 signals)) ≡ marks t k 0 signals =
-          subst (λ u. times u k (transitions_at a (enumerate_from 0 signals)) ≡ marks u k 0 signals) same
-          (times_here a k 0 signals) in
+          grind (arith, times_here) in
           omega (arith, here, earlier signals (suc a) n t k (omega arith))
       | inr apart ↦
           omega (
@@ -157,14 +131,7 @@ pub after_window : (from to t : ℕ) → to ≤ t → is_in_window from to t ≡
 after_window from to t late = ap (λ b. nat_le from t && b) (le-ltb t to late) ∙ both_false (nat_le from t)
 
 pub window_bounds : (from to t : ℕ) → is_in_window from to t ≡ true → (from ≤ t) × (t < to)
-window_bounds from to t is =
-    elim (cases_lt t from) [
-      | inl early ↦ let wrong : true ≡ false = sym is ∙ before_window from to t early in absurd (cc)
-      | inr low ↦ elim (cases_lt t to) [
-        | inl high ↦ (low, high)
-        | inr late ↦ let wrong : true ≡ false = sym is ∙ after_window from to t late in absurd (cc)
-      ]
-    ]
+window_bounds from to t is = grind (arith, cases_lt, before_window, after_window)
 
 -- ---- signal by signal
 
@@ -184,38 +151,13 @@ times_inside : (from to t k j : ℕ) (cs : List Change) → from ≤ t → t < t
     → times t k (window_of_signal from to j cs) ≡ if_so (j == k) (count_at t cs)
 times_inside from to t k j [] low high = sym (if_zero (j == k))
 times_inside from to t k j (c ∷ cs) low high =
-    step (is_in_window from to c.tick) refl (times_inside from to t k j cs low high)
-  where
-    step : (b : Bool) → is_in_window from to c.tick ≡ b
-        → times t k (window_of_signal from to j cs) ≡ if_so (j == k) (count_at t cs)
-        → times t k (map (λ c. transition_of c.tick j)
-        (cond b (c ∷ filter (λ c. is_in_window from to c.tick) cs) (filter (λ c. is_in_window from to c.tick) cs)))
-        ≡ if_so (j == k) (counted (c.tick == t) + count_at t cs)
-    step true is rest = ap (λ n. counted ((c.tick == t) && (j == k)) + n) rest
-        ∙ joint (c.tick == t) (j == k) (count_at t cs)
-    step false is rest =
-        let apart : c.tick ≢ t = λ same. let wrong : true ≡ false = sym (in_window from to t low high)
-        ∙ ap (is_in_window from to) (sym same) ∙ is in absurd (cc) in
-        let same : counted (c.tick == t) + count_at t cs ≡ count_at t cs =
-        omega (arith, ap counted (ne_eqb c.tick t apart)) in
-        rest ∙ ap (if_so (j == k)) (sym same)
+    grind (arith, joint, in_window, ne_eqb, times_inside from to t k j cs low high)
 
 -- a tick outside of it
 times_outside : (from to t k j : ℕ) (cs : List Change) → is_in_window from to t ≡ false
     → times t k (window_of_signal from to j cs) ≡ 0
 times_outside from to t k j [] out = refl
-times_outside from to t k j (c ∷ cs) out = step (is_in_window from to c.tick) refl (times_outside from to t k j cs out)
-  where
-    step : (b : Bool) → is_in_window from to c.tick ≡ b → times t k (window_of_signal from to j cs) ≡ 0
-        → times t k (map (λ c. transition_of c.tick j)
-        (cond b (c ∷ filter (λ c. is_in_window from to c.tick) cs) (filter (λ c. is_in_window from to c.tick) cs)))
-        ≡ 0
-    step true is rest =
-        let apart : c.tick ≢ t = λ same. let wrong : true ≡ false = sym is ∙ ap (is_in_window from to) same ∙ out in
-        absurd (cc) in
-        let here : once t k (transition_of c.tick j) ≡ 0 = ap (λ b. counted (b && (j == k))) (ne_eqb c.tick t apart) in
-        omega (arith, here, rest)
-    step false is rest = rest
+times_outside from to t k j (c ∷ cs) out = grind (arith, ne_eqb, times_outside from to t k j cs out)
 
 none_at : (floor t : ℕ) (before : List Bit) (cs : List Change) → AreChangesFrom floor before cs → t < floor
     → count_at t cs ≡ 0
@@ -230,11 +172,7 @@ same_is : (v w : List Bit) → v ≡ w → differ v w ≡ 0
 same_is v w e = ap (λ b. counted (not b)) ((same_letters-Decides v w).1 e)
 
 other_is : (v w : List Bit) → v ≢ w → differ v w ≡ 1
-other_is v w ne = by (same_letters v w) refl
-  where
-    by : (b : Bool) → same_letters v w ≡ b → counted (not b) ≡ 1
-    by true e = absurd (ne ((same_letters-Decides v w).0 e))
-    by false e = refl
+other_is v w ne = grind (arith, same_letters-Decides)
 
 -- a wave has a change at a tick where its value differs from the tick before, and only there
 differs_where : (floor t : ℕ) (before : List Bit) (cs : List Change) → AreChangesFrom floor before cs
@@ -255,16 +193,12 @@ differs_where floor t before (c ∷ cs) (from, other, wide, rest) =
             values,
           )
       | inr not_passed ↦
-          let still : value_from before (c ∷ cs) t ≡ before =
-          value_skip before c cs t (omega arith) ∙ value_early before c.value cs (c.tick + 1) t rest (omega arith) in
+          let still : value_from before (c ∷ cs) t ≡ before = grind (arith, value_skip, value_early) in
           elim (cases_eq c.tick (suc t)) [
             | inl at ↦
-                let now : value_from before (c ∷ cs) (suc t) ≡ c.value =
-                value_past before c cs (suc t) (omega arith)
-                ∙ value_early c.value c.value cs (c.tick + 1) (suc t) rest (omega arith) in
+                let now : value_from before (c ∷ cs) (suc t) ≡ c.value = grind (arith, value_past, value_early) in
                 let values : differ (value_from before (c ∷ cs) (suc t)) (value_from before (c ∷ cs) t) ≡ 1 =
-                ap (λ v. differ v (value_from before (c ∷ cs) t)) now ∙ ap (λ v. differ c.value v) still
-                ∙ other_is c.value before other in
+                grind (arith, other_is) in
                 omega (
                   arith,
                   ap counted (eq-eqb c.tick (suc t) at),
@@ -272,9 +206,7 @@ differs_where floor t before (c ∷ cs) (from, other, wide, rest) =
                   values,
                 )
             | inr apart ↦
-                let now : value_from before (c ∷ cs) (suc t) ≡ before =
-                value_skip before c cs (suc t) (omega arith)
-                ∙ value_early before c.value cs (c.tick + 1) (suc t) rest (omega arith) in
+                let now : value_from before (c ∷ cs) (suc t) ≡ before = grind (arith, value_skip, value_early) in
                 let values : differ (value_from before (c ∷ cs) (suc t)) (value_from before (c ∷ cs) t) ≡ 0 =
                 same_is _ _ (now ∙ sym still) in
                 omega (
@@ -310,14 +242,11 @@ listed_outside : (from to t k j : ℕ) (ss : List SignalContents) → is_in_wind
 unfolding unsorted_window
 listed_outside from to t k j [] out = refl
 listed_outside from to t k j (s ∷ ss) out =
-    times-append t k (window_of_signal from to j s.changes) (unsorted_window from to (j + 1) ss)
-    ∙ omega (arith, times_outside from to t k j s.changes out, listed_outside from to t k (j + 1) ss out)
+    grind (arith, times-append, times_outside, listed_outside from to t k (j + 1) ss out)
 
 pub same_times : (end from n : ℕ) (ss : List SignalContents) → 1 ≤ from → All (IsSoundSignal end) ss → (t k : ℕ)
     → times t k (unsorted_window from (from + n) 0 ss) ≡ times t k (transitions_from ss from n)
-same_times end from n ss some sound zero k =
-    listed_outside from (from + n) 0 k 0 ss (before_window from (from + n) 0 (omega arith))
-    ∙ sym (earlier ss from n 0 k (omega arith))
+same_times end from n ss some sound zero k = grind (arith, listed_outside, before_window, earlier)
 same_times end from n ss some sound (suc t) k =
     elim (cases_lt (suc t) from) [
       | inl early ↦ listed_outside from (from + n) (suc t) k 0 ss (before_window from (from + n) (suc t) early)
@@ -341,17 +270,7 @@ count_within end t s sound = by (differs_at (suc t) s) (signal_differs end t s s
 
 one_of_signal : (t j : ℕ) (cs : List Change) → length (window_of_signal t (t + 1) j cs) ≤ count_at t cs
 one_of_signal t j [] = omega arith
-one_of_signal t j (c ∷ cs) = step (is_in_window t (t + 1) c.tick) refl (one_of_signal t j cs)
-  where
-    step : (b : Bool) → is_in_window t (t + 1) c.tick ≡ b → length (window_of_signal t (t + 1) j cs) ≤ count_at t cs
-        → length (map (λ c. transition_of c.tick j)
-        (cond b (c ∷ filter (λ c. is_in_window t (t + 1) c.tick) cs)
-        (filter (λ c. is_in_window t (t + 1) c.tick) cs))) ≤ counted (c.tick == t) + count_at t cs
-    step true is rest =
-        let bounds = window_bounds t (t + 1) c.tick is in
-        let here : counted (c.tick == t) ≡ 1 = ap counted (eq-eqb c.tick t (omega (arith, bounds.0, bounds.1))) in
-        omega (arith, here, rest)
-    step false is rest = omega (arith, rest)
+one_of_signal t j (c ∷ cs) = grind (arith, window_bounds, eq-eqb, one_of_signal t j cs)
 
 -- at one tick each signal changes once at most
 pub one_tick_within : (end t j : ℕ) (ss : List SignalContents) → 1 ≤ t → All (IsSoundSignal end) ss
@@ -373,9 +292,7 @@ one_tick_within end (suc t) j (s ∷ ss) some sound =
 pub transitions_split : (signals : List SignalContents) (t n m : ℕ)
     → transitions_from signals t (n + m) ≡ transitions_from signals t n ++ transitions_from signals (t + n) m
 unfolding transitions_from
-transitions_split signals t zero m =
-    let here : t ≡ t + 0 = omega arith in
-    ap (transitions_from signals t) (let e : 0 + m ≡ m = omega arith in e) ∙ ap (λ u. transitions_from signals u m) here
+transitions_split signals t zero m = grind arith
 transitions_split signals t (suc n) m =
     let there : suc t + n ≡ t + suc n = omega arith in
     ap (transitions_from signals t) (let e : suc n + m ≡ suc (n + m) = omega arith in e)

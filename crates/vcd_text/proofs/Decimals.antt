@@ -12,12 +12,7 @@ abbrev AreDigits : List ℕ → Type 0
 AreDigits text = list_all is_ascii_digit text ≡ true
 
 tells_digits : IsDigitsTest AreDigits
-tells_digits = record {
-  empty = refl;
-  parts = λ c cs e. let k = both (is_ascii_digit c) (list_all is_ascii_digit cs) e in let m =
-      both (nat_le 48 c) (nat_le c 57) k.0 in ((leb-true 48 c m.0, leb-true c 57 m.1), k.1);
-  more = λ c cs k e i. (le-leb 48 c k.0 i && le-leb c 57 k.1 i) && e i;
-}
+tells_digits = grind (arith, both, leb-true, le-leb)
 
 reads_decimals : IsNumeralModel AreDigits number_of
 reads_decimals = numerals_by_value AreDigits tells_digits
@@ -29,9 +24,7 @@ pub decimal_digits : (n : ℕ) → n < 2 ^ 64 → list_all is_ascii_digit (decim
 decimal_digits n small = digits_decimal reads_decimals n small
 
 pub decimal_is_number : (n : ℕ) → n < 2 ^ 64 → is_number (decimal n) ≡ true
-decimal_is_number n small =
-    λ i. not (ne_eqb (length (decimal n)) 0 (let some = decimal_nonempty n small in omega (arith, some)) i)
-    && decimal_digits n small i
+decimal_is_number n small = grind (arith, ne_eqb, decimal_nonempty, decimal_digits)
 
 -- the number read from it is the number
 pub number_of-decimal : (n : ℕ) → n < 2 ^ 64 → number_of (decimal n) ≡ n

@@ -16,9 +16,7 @@ declared_more c (entry kind words) = omega arith
 declared_more c (timescale words) = omega arith
 declared_more c (scope kind words) = omega arith
 declared_more c upscope = omega arith
-declared_more c (variable words) =
-    elim (declaration_of c words) as (λ d. length (c.declared ++ option_to_list d) ≤ length c.declared + 1)
-    [ None ↦ omega (arith, length-append c.declared []) | Some d ↦ omega (arith, length-append c.declared (d ∷ [])) ]
+declared_more c (variable words) = grind (arith, length-append)
 declared_more c end_definitions = omega arith
 declared_more c (stamp digits) = omega arith
 declared_more c (scalar letter code) = omega arith
@@ -54,12 +52,4 @@ fewer_items (i ∷ is) = omega (arith, length-append (spelling i) (spellings is)
 
 -- one more skipped variable can be counted
 pub few_declared : (m : Reader) → IsUnderway m → m.variables.skipped + 1 < 2 ^ 64
-few_declared m r =
-    let s = r.reads in
-    let skipped : m.variables.skipped ≤ length s.told.declared =
-    omega (arith, s.at.0.variables.skipped, count_by-le-length is_skipped s.told.declared) in
-    let declared : length s.told.declared ≤ 0 + length s.items =
-    subst (λ (c : ParseState). length c.declared ≤ 0 + length s.items) s.tells (declared_by initial_state s.items) in
-    let spelled : length s.items ≤ length s.whole =
-    omega (arith, fewer_items s.items, ap length s.spelled, length-map s.whole (λ (w : PlacedWord). w.text)) in
-    omega (arith, ap length s.parts, length-append s.whole s.begun, r.few)
+few_declared m r = grind (arith, count_by-le-length, declared_by, fewer_items, length-map, length-append)

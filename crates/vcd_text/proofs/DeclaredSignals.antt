@@ -36,11 +36,7 @@ declared_state c = record {
 }
 
 pub sound_is_kept : (end k : ℕ) (s : SignalContents) → IsSoundSignal end s → is_skipped (declared_as k s) ≡ false
-sound_is_kept end k s sound =
-    let kind : is_skipped_kind s.kind ≡ false = not-true (is_skipped_kind s.kind) sound.kept in
-    let some : (s.width == 0) ≡ false = ne_eqb s.width 0 (omega (arith, sound.least)) in
-    let few : nat_lt WIDTH_LIMIT s.width ≡ false = le-ltb WIDTH_LIMIT s.width sound.most in
-    λ i. kind i || (some i || few i)
+sound_is_kept end k s sound = grind (arith, not-true, ne_eqb, le-ltb)
 
 -- all are kept, and none is skipped
 pub all_sound_kept : (end k : ℕ) (ss : List SignalContents) → All (IsSoundSignal end) ss
@@ -67,22 +63,13 @@ pub same_code : (k : ℕ) → bytes_eq (code_of k) (code_of k) ≡ true
 same_code k = (bytes_eq-Decides (code_of k) (code_of k)).1 refl
 
 pub other_code : (j k : ℕ) → j ≢ k → bytes_eq (code_of j) (code_of k) ≡ false
-other_code j k other =
-    false_from_ne_true (bytes_eq (code_of j) (code_of k))
-    (λ same. other (codes_differ j k ((bytes_eq-Decides (code_of j) (code_of k)).0 same)))
+other_code j k other = grind (arith, false_from_ne_true, codes_differ, bytes_eq-Decides)
 
 -- the variable of the code of a position is the signal there
 pub found_by_code : (ss : List SignalContents) (i j k : ℕ) (d : SignalContents) → j + i ≡ k → i < length ss
     → find (λ v. bytes_eq (code_of k) v.code) (declared_of j ss) ≡ Some (declared_as k (get_or ss i d))
 unfolding declared_of
 found_by_code [] i j k d at within = absurd (omega arith)
-found_by_code (s ∷ ss) zero j k d at within =
-    let here : j ≡ k = omega arith in
-    ap (λ n. cond (bytes_eq (code_of k) (code_of n)) (Some (declared_as n s))
-    (find (λ v. bytes_eq (code_of k) v.code) (declared_of (suc j) ss))) here
-    ∙ ap (λ b. cond b (Some (declared_as k s)) (find (λ v. bytes_eq (code_of k) v.code) (declared_of (suc j) ss)))
-    (same_code k)
+found_by_code (s ∷ ss) zero j k d at within = grind (arith, same_code)
 found_by_code (s ∷ ss) (suc i) j k d at within =
-    ap (λ b. cond b (Some (declared_as j s)) (find (λ v. bytes_eq (code_of k) v.code) (declared_of (suc j) ss)))
-    (other_code k j (λ e. omega arith))
-    ∙ found_by_code ss i (suc j) k d (omega arith) (omega arith)
+    grind (arith, other_code, found_by_code ss i (suc j) k d (omega arith) (omega arith))

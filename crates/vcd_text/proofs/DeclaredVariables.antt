@@ -42,25 +42,15 @@ use Rattle.vcd_text.proofs.CodeTargets.{own_code, by_code, stands_kept, stands_m
 
 kept_skipped : (ds : List VariableDeclaration) (d : VariableDeclaration) → is_skipped d ≡ true
     → kept_variables (ds ++ d ∷ []) ≡ kept_variables ds
-kept_skipped ds d skipped =
-    filter-append (λ (e : VariableDeclaration). not (is_skipped e)) ds (d ∷ [])
-    ∙ ap (λ b. kept_variables ds ++ cond (not b) (d ∷ []) []) skipped
-    ∙ append-nil (kept_variables ds)
+kept_skipped ds d skipped = grind (arith, filter-append, append-nil)
 
 kept_kept : (ds : List VariableDeclaration) (d : VariableDeclaration) → is_skipped d ≡ false
     → kept_variables (ds ++ d ∷ []) ≡ kept_variables ds ++ d ∷ []
-kept_kept ds d keeps =
-    filter-append (λ (e : VariableDeclaration). not (is_skipped e)) ds (d ∷ [])
-    ∙ ap (λ b. kept_variables ds ++ cond (not b) (d ∷ []) []) keeps
+kept_kept ds d keeps = grind (arith, filter-append)
 
 count_with : (ds : List VariableDeclaration) (d : VariableDeclaration) (b : Bool) → is_skipped d ≡ b
     → count_by is_skipped (ds ++ d ∷ []) ≡ count_by is_skipped ds + cond b 1 0
-count_with ds d b is =
-    sum_by-append (λ (e : VariableDeclaration). cond (is_skipped e) 1 0) ds (d ∷ [])
-    ∙ ap (λ (n : ℕ). count_by is_skipped ds + n)
-    (sum_by-cons (λ (e : VariableDeclaration). cond (is_skipped e) 1 0) d [])
-    ∙ ap (λ x. count_by is_skipped ds + (cond x 1 0 + 0)) is
-    ∙ omega arith
+count_with ds d b is = grind (arith, sum_by-append, sum_by-cons)
 
 pub stays : (vs more : List Variable) (position : ℕ) (v : Variable) → slice_get vs position ≡ Some v
     → slice_get (vs ++ more) position ≡ Some v
@@ -75,10 +65,7 @@ either_of : (vs : List Variable) (w : Variable) (position : ℕ) (v : Variable)
 either_of [] w zero v at = inr (refl, same_Some w v at)
 either_of [] w (suc n) v at = let no : None ≡ Some v = at in absurd (cc)
 either_of (u ∷ vs) w zero v at = inl at
-either_of (u ∷ vs) w (suc n) v at = elim (either_of vs w n v at) [
-  | inl there ↦ inl there
-  | inr (end, is) ↦ inr (ap suc end, is)
-]
+either_of (u ∷ vs) w (suc n) v at = grind (arith, either_of vs w n v at)
 
 pub last_of : (vs : List Variable) (w : Variable) → slice_get (vs ++ w ∷ []) (length vs) ≡ Some w
 last_of [] w = refl
@@ -90,8 +77,7 @@ same_number n = grind arith
 -- as many variables are kept as were declared as kept
 pub kept_long : (vs : Variables) (c : ParseState) → VariablesMatch vs c
     → length (kept_variables c.declared) ≡ length vs.kept.items
-kept_long vs c k = sym (length-map (kept_variables c.declared) without_scopes)
-    ∙ ap (length {A = VariableDeclaration}) k.kept ∙ length-map vs.kept.items declaration
+kept_long vs c k = grind (arith, length-map)
 
 -- ---- the targets of codes, with one more variable
 
@@ -101,15 +87,7 @@ module _ (log : ℕ → List LoggedChange) (value_changes : List ValueChange) (t
       (declared : Option VariableDeclaration)
       → TargetMatches vs log value_changes tick code target declared
       → TargetMatches (vs ++ more) log value_changes tick code target declared
-  stands_longer vs more code target declared s =
-      stands_moved vs (vs ++ more) log log value_changes value_changes tick tick code target declared
-      (λ position size _ w. record {
-        first = w.first;
-        stands = stays vs more position w.first w.stands;
-        coded = w.coded;
-        sized = w.sized;
-        gives = w.gives;
-      }) s
+  stands_longer vs more code target declared s = grind (arith, stands_moved, stays)
 
   -- a later declaration of another code does not change the target of a code
   stands_still : (vs : List Variable) (code : List ℕ) (target : Option CodeTarget)
@@ -128,8 +106,7 @@ Puts old new code target = (key : List ℕ)
 pub puts_same : (old new : Variables) (code : List ℕ) (target : CodeTarget) → new.code_targets ≡ old.code_targets
     → target_of old code ≡ Some target → Puts old new code target
 puts_same old new code target same had = λ key.
-    let here : target_of new key ≡ target_of old key =
-    ap (λ (m : CodeTargets). get_by (λ v. bytes_eq key v.items) m.codes) same in
+    let here : target_of new key ≡ target_of old key = grind arith in
     by_code (λ b. target_of new key ≡ (if b then Some target else target_of old key)) key code
     (λ is. here ∙ ap (target_of old) is ∙ had) (λ _. here)
 
@@ -147,10 +124,7 @@ module _ (old : Variables) (targets : CodeTargets) (c : ParseState) (d : Variabl
     skip_here : (v : Option VariableDeclaration) → TargetAgrees old c d.code (target_of old d.code) v
         → TargetAgrees old c d.code (Some Skipped) (option_or v (Some d))
     skip_here None s = skipped
-    skip_here (Some e) s = elim free [
-      | inl none ↦ absurd (subst (λ o. TargetAgrees old c d.code o (Some e)) none s)
-      | inr had ↦ subst (λ o. TargetAgrees old c d.code o (Some e)) had s
-    ]
+    skip_here (Some e) s = grind arith
 
     skip_stands : (key : List ℕ)
         → TargetAgrees old c key (target_of (with_skipped old targets) key) (variable_of (with_declaration c d) key)
@@ -166,10 +140,7 @@ module _ (old : Variables) (targets : CodeTargets) (c : ParseState) (d : Variabl
         (variable_of c key) (k.stand key))))
 
     not_kept : (first : ℕ) → target_of old d.code ≡ Some (Kept first) → ⊥
-    not_kept first had = elim free [
-      | inl none ↦ let no : None ≡ Some (Kept first) = sym none ∙ had in absurd (cc)
-      | inr other ↦ let no : Some Skipped ≡ Some (Kept first) = sym other ∙ had in absurd (cc)
-    ]
+    not_kept first had = grind arith
 
     skip_firsts : (position : ℕ) (v : Variable) → slice_get old.kept.items position ≡ Some v
         → HasFirst (with_skipped old targets) position v
@@ -186,9 +157,7 @@ module _ (old : Variables) (targets : CodeTargets) (c : ParseState) (d : Variabl
     skip_may : (v : Option VariableDeclaration) → TargetAgrees old c d.code (target_of old d.code) v
         → may_have_code v d ≡ true
     skip_may None s = refl
-    skip_may (Some e) s =
-        let also : is_skipped e ≡ true = skip_here (Some e) s in
-        λ i. (also i && skipped i) || (not (also i) && not (skipped i) && (e.size == d.size))
+    skip_may (Some e) s = grind arith
 
     -- it is declared
     pub skip_declares : (x : Unit {0}) → DeclaresAs c d (Ok x) (with_skipped old targets)
@@ -227,30 +196,16 @@ module _ (old : Variables) (c : ParseState) (scopes : List ScopeName) (code : Li
       → TargetAgrees old c code (target_of old code) v
       → may_have_code v (declaration_in scopes code s) ≡ true
   keep_may None stands = refl
-  keep_may (Some e) stands = elim free [
-    | inl (none, end) ↦ absurd
-        (subst (λ o. TargetAgrees old c code o (Some e))
-        none stands)
-    | inr (had, width) ↦
-        let there = subst (λ o. TargetAgrees old c code o
-        (Some e)) had stands in
-        let size : e.size ≡ s.wave.width = sym there.1.sized ∙ width there.1.first there.1.stands in
-        let also : is_skipped e ≡ false = there.0 in
-        (λ i. (also i && keeps i) || (not (also i) && not (keeps i) && (size i == s.wave.width)))
-        ∙ same_number s.wave.width
-  ]
+  keep_may (Some e) stands = grind (arith, same_number)
 
   has_room_is : (b : Bool) → nat_lt (length old.kept.items) SIGNAL_LIMIT ≡ b
       → has_room c.declared (declaration_in scopes code s) ≡ b
-  has_room_is b test = (λ i. keeps i || nat_lt (length (kept_variables c.declared)) SIGNAL_LIMIT)
-      ∙ ap (λ n. nat_lt n SIGNAL_LIMIT) (kept_long old c k) ∙ test
+  has_room_is b test = grind (arith, kept_long)
 
   -- it is not allowed where there are too many
   keep_full : (new : Variables) → SIGNAL_LIMIT ≤ length old.kept.items
       → DeclaresAs c (declaration_in scopes code s) (Err faults.TooManySignals) new
-  keep_full new full = inr
-      (many (keep_may (variable_of c code) (k.stand code))
-      (has_room_is false (le-ltb (length old.kept.items) SIGNAL_LIMIT full)) refl)
+  keep_full new full = grind (arith, keep_may, has_room_is, le-ltb)
 
 module _ (old new : Variables) (c : ParseState) (scopes : List ScopeName) (code : List ℕ) (s : Signal) (first : ℕ)
     (k : VariablesMatch old c) (value_changes : c.value_changes ≡ []) (silent : s.wave.changes ≡ [])
@@ -262,12 +217,7 @@ module _ (old new : Variables) (c : ParseState) (scopes : List ScopeName) (code 
     (puts : Puts old new code (Kept first)) where
   -- the log has no change of a variable that is not there yet
   log_silent : logged old.log.items (length old.kept.items) ≡ []
-  log_silent = elim (cases_lt 0 (length (logged old.log.items (length old.kept.items)))) [
-    | inl some ↦
-        let v = k.logs (length old.kept.items) some in
-        absurd (omega (arith, slice_get_within old.kept.items (length old.kept.items) v.0 v.1))
-    | inr none ↦ nil_from_length (logged old.log.items (length old.kept.items)) (omega (arith, none))
-  ]
+  log_silent = grind (arith, cases_lt, slice_get_within, nil_from_length)
 
   silent_wave : HasWave (old.kept.items ++ variable_at code s first ∷ []) (logged old.log.items)
       (length old.kept.items) code s.wave.width c.value_changes c.tick
@@ -277,14 +227,7 @@ module _ (old new : Variables) (c : ParseState) (scopes : List ScopeName) (code 
     stands = last_of old.kept.items (variable_at code s first);
     coded = refl;
     sized = refl;
-    gives = subst (GivesLoggedValues s.wave.width c.tick
-        (λ t. latest_value s.wave.width code t (all_x s.wave.width) c.value_changes) s.wave.changes) (sym log_silent)
-        (subst (λ cs. GivesLoggedValues s.wave.width c.tick
-        (λ t. latest_value s.wave.width code t (all_x s.wave.width) c.value_changes) cs []) (sym silent)
-        (gives_as s.wave.width c.tick (λ t. all_x s.wave.width) []
-        (λ t. latest_value s.wave.width code t (all_x s.wave.width) c.value_changes) []
-        (λ t. sym (ap (latest_value s.wave.width code t (all_x s.wave.width)) value_changes))
-        (gives_nothing s.wave.width c.tick)));
+    gives = grind (arith, log_silent, gives_as, gives_nothing);
   }
 
   keep_here : (v : Option VariableDeclaration)
@@ -354,34 +297,15 @@ module _ (old new : Variables) (c : ParseState) (scopes : List ScopeName) (code 
             ])
             (λ _. before.owned);
         no_later = before.no_later;
-        same_size = λ w there. elim
-            (either_of old.kept.items (variable_at code s first) v.first w
-            (subst (λ vs. slice_get vs v.first ≡ Some w) items there)) [
-              | inl stood ↦ before.same_size w stood
-              | inr (end, is) ↦ absurd (omega (arith, end, within, before.no_later))
-            ];
+        same_size = grind (arith, either_of);
       }
 
   first_within : first ≤ length old.kept.items
-  first_within = elim free [
-    | inl (none, end) ↦ omega (arith, end)
-    | inr (had, width) ↦
-        let e = stands_kept old.kept.items (logged old.log.items) c.value_changes c.tick code
-        (variable_of c code) first
-        (subst (λ o. TargetAgrees old c code o
-        (variable_of c code)) had (k.stand code)) in
-        omega (arith, slice_get_within old.kept.items first e.3.first e.3.stands)
-  ]
+  first_within = grind (arith, stands_kept, slice_get_within)
 
   first_width : (w : Variable) → slice_get (old.kept.items ++ variable_at code s first ∷ []) first ≡ Some w
       → w.signal.wave.width ≡ s.wave.width
-  first_width w there = elim (either_of old.kept.items (variable_at code s first) first w there) [
-    | inl stood ↦ elim free [
-      | inl (none, end) ↦ absurd (omega (arith, end, slice_get_within old.kept.items first w stood))
-      | inr (had, width) ↦ width w stood
-    ]
-    | inr (end, is) ↦ ap (λ (u : Variable). u.signal.wave.width) (sym is)
-  ]
+  first_width w there = grind (arith, either_of, slice_get_within)
 
   keep_firsts : (position : ℕ) (v : Variable) → slice_get new.kept.items position ≡ Some v → HasFirst new position v
   keep_firsts position v at =
@@ -464,8 +388,7 @@ pub same_width : (o : Option Variable) (width : ℕ)
     → option_map_or (λ (v : Variable). v.signal.wave.width == width) o false ≡ true
     → (w : Variable) → o ≡ Some w → w.signal.wave.width ≡ width
 same_width None width test w is = let never : None ≡ Some w = is in absurd (cc)
-same_width (Some v) width test w is = ap (λ (u : Variable). u.signal.wave.width) (sym (same_Some v w is))
-    ∙ eqb-true v.signal.wave.width width test
+same_width (Some v) width test w is = grind (arith, same_Some, eqb-true)
 
 -- ---- the words of a declaration
 
@@ -491,8 +414,7 @@ pub declares_words : (c : ParseState) (words : List (List ℕ)) (kind size code 
     (result : Result (Unit {0}) Fault) (new : Variables)
     → words ≡ kind ∷ size ∷ code ∷ names → 0 < length names
     → DeclaresAs c (worded_declaration c kind size code names) result new → Declares c words result new
-declares_words c words kind size code names result new are some as_one =
-    subst (λ ws. Declares c ws result new) (sym are) (declares_names c kind size code names result new some as_one)
+declares_words c words kind size code names result new are some as_one = grind (arith, declares_names)
 
 -- three words, and those after them
 pub words_in_front : (words : List (List ℕ)) (kind size code : List ℕ) → 3 ≤ length words → kind ≡ get_or words 0 kind
@@ -515,28 +437,16 @@ or_true false b is = is
 
 same_bounds : (n size : ℕ) → size ≡ min n (WIDTH_LIMIT + 1)
     → (size == 0 || nat_lt WIDTH_LIMIT size) ≡ (n == 0 || nat_lt WIDTH_LIMIT n)
-same_bounds n size is = elim (cases_lt WIDTH_LIMIT n) [
-  | inr fits ↦ let same : size ≡ n = omega (arith, is, fits) in ap (λ m. m == 0 || nat_lt WIDTH_LIMIT m) same
-  | inl past ↦
-      let here : nat_lt WIDTH_LIMIT size ≡ true = lt-ltb WIDTH_LIMIT size (omega (arith, is, past)) in
-      let there : nat_lt WIDTH_LIMIT n ≡ true = lt-ltb WIDTH_LIMIT n past in
-      or_true (size == 0) (nat_lt WIDTH_LIMIT size) here ∙ sym (or_true (n == 0) (nat_lt WIDTH_LIMIT n) there)
-]
+same_bounds n size is = grind (arith, cases_lt, lt-ltb, or_true)
 
 -- a variable is skipped for its kind, or for the size that is read
 pub left_out : (c : ParseState) (kind word code : List ℕ) (names : List (List ℕ)) (size : ℕ)
     → size ≡ min (number_of word) (WIDTH_LIMIT + 1)
     → is_skipped (worded_declaration c kind word code names)
     ≡ (is_skipped_kind kind || (size == 0 || nat_lt WIDTH_LIMIT size))
-left_out c kind word code names size is =
-    ap (λ b. is_skipped_kind kind || b) (sym (same_bounds (number_of word) size is))
+left_out c kind word code names size is = grind (arith, same_bounds)
 
 -- the size that is read is that of a kept variable
 pub kept_size : (by_kind : Bool) (n size : ℕ) → size ≡ min n (WIDTH_LIMIT + 1)
     → (by_kind || (size == 0 || nat_lt WIDTH_LIMIT size)) ≡ false → size ≡ n
-kept_size by_kind n size is keeps =
-    let fits : size ≤ WIDTH_LIMIT =
-    ltb-false WIDTH_LIMIT size
-    (or_false (size == 0) (nat_lt WIDTH_LIMIT size)
-    (or_false by_kind (size == 0 || nat_lt WIDTH_LIMIT size) keeps)) in
-    omega (arith, is, fits)
+kept_size by_kind n size is keeps = grind (arith, ltb-false, or_false)

@@ -39,22 +39,19 @@ texts_more begun w = map-append (λ (v : PlacedWord). v.text) begun (w ∷ [])
 -- the words of an item with its `$end`
 spelled_whole : (begun : List PlacedWord) (line : ℕ) (words : List (List ℕ)) → word_texts begun ≡ words
     → words ++ end_word ∷ [] ≡ word_texts (begun ++ word_on end_word line ∷ [])
-spelled_whole begun line words spelled =
-    sym (texts_more begun (word_on end_word line) ∙ ap (λ ts. ts ++ end_word ∷ []) spelled)
+spelled_whole begun line words spelled = grind (arith, texts_more)
 
 -- one more word, which is not `$end`
 no_end_more : (words : List (List ℕ)) (text : List ℕ) → IsTrue (has_no_end_word words) → IsFalse (is_end_word text)
     → IsTrue (has_no_end_word (words ++ text ∷ []))
-no_end_more words text none isnt =
-    list_all-append (λ w. not (is_end_word w)) words (text ∷ []) ∙ (λ i. none i && (not (isnt i) && true))
+no_end_more words text none isnt = grind (arith, list_all-append)
 
 -- ---- the state stays the same
 
 -- the variables match a state that differs only in other fields
 same_known : (vs : Variables) (c d : ParseState) → c.declared ≡ d.declared → c.value_changes ≡ d.value_changes
     → c.tick ≡ d.tick → VariablesMatch vs c → VariablesMatch vs d
-same_known vs c d declared value_changes tick known =
-    knows_further vs c d declared value_changes (omega (arith, tick)) known
+same_known vs c d declared value_changes tick known = grind (arith, knows_further)
 
 -- ---- the end of an item
 
@@ -165,8 +162,7 @@ pub closes_upscope : (m new : Reader) → m.item ≡ items.Upscope
     → WordStep c (begun ++ word_on end_word line ∷ []) new
 closes_upscope m new is popped others line c begun at =
     let a = at.0 in
-    let b : IsFalse m.changing × (word_texts begun ≡ codes "$upscope" ∷ []) × (0 < m.scopes.depth) =
-    subst (IsBegun m begun) is at.1 in
+    let b : IsFalse m.changing × (word_texts begun ≡ codes "$upscope" ∷ []) × (0 < m.scopes.depth) = grind arith in
     subst (WordStep c (begun ++ word_on end_word line ∷ [])) (sym others)
     (ends_here (record m { scopes = new.scopes; item = items.Nothing }) c begun line upscope (codes "$upscope" ∷ [])
     b.1 refl (sym a.changing ∙ b.0, omega (arith, so_deep m.scopes c a.scopes, b.2))
@@ -197,8 +193,7 @@ closes_definitions m code_targets same is line c begun at =
     ends_here (record m {
       variables = record m.variables { code_targets = code_targets };
       changing = true;
-      item =
-          items.Nothing;
+      item = grind arith;
     }) c begun line end_definitions (codes "$enddefinitions" ∷ [])
     b.1 refl (sym a.changing ∙ b.0)
     (record {
@@ -248,8 +243,7 @@ closes_variable m variables scopes words spelled note declare is line c begun at
     let a = at.0 in
     let b : Collects m begun (codes "$var") × IsTrue (has_good_size m.words.items) = subst (IsBegun m begun) is at.1 in
     let declares : IsFalse c.changing = sym a.changing ∙ b.0.declares in
-    let d : Declares c m.words.items (Ok tt) variables =
-    subst (λ ws. Declares c ws (Ok tt) variables) spelled (declare c (a.silent declares) a.variables) in
+    let d : Declares c m.words.items (Ok tt) variables = grind arith in
     ends_here (record m { scopes = scopes; variables = variables; item = items.Nothing }) c begun line
     (variable m.words.items) (codes "$var" ∷ m.words.items)
     b.0.spelled refl (declares, b.0.no_end, b.1, d.0)
@@ -305,11 +299,7 @@ shows_no_variable m new (Err e) fault variables words spelled declare is failed 
 one_word : (words : List (List ℕ)) → length words ≡ 1 → IsTrue (has_no_end_word words)
     → (kind : List ℕ) × (words ≡ kind ∷ []) × IsFalse (is_end_word kind)
 one_word [] one none = absurd (omega arith)
-one_word (kind ∷ []) one none = (kind, refl, not_true (is_end_word kind) (and_parts _ _ none).0)
-  where
-    not_true : (b : Bool) → not b ≡ true → b ≡ false
-    not_true false h = refl
-    not_true true h = sym h
+one_word (kind ∷ []) one none = grind (arith, and_parts)
 one_word (kind ∷ size ∷ words) one none = absurd (omega arith)
 
 -- each decimal number is a size

@@ -64,14 +64,12 @@ awaiting m c begun letters text agrees is more =
 -- a word must follow words that are no whole file
 unfinished : (m : Reader) (c : ParseState) (begun : List PlacedWord) (item : OpenItem) → ReaderMatches m c
     → IsBegun m begun item → IsFalse (m.changing && is_nothing item) → IsUnfinished c (word_texts begun)
-unfinished m c begun items.Nothing agrees none no_end =
-    declaration_due (sym agrees.changing ∙ not_nothing m.changing no_end) (ap word_texts none)
+unfinished m c begun items.Nothing agrees none no_end = grind (arith, not_nothing)
 unfinished m c begun (items.Entry kind) agrees is no_end =
     collecting m c begun (header_word kind) agrees is (is_header kind)
 unfinished m c begun items.Timescale agrees is no_end = collecting m c begun (codes "$timescale") agrees is refl
 unfinished m c begun items.Scope agrees is no_end = collecting m c begun (codes "$scope") agrees is refl
-unfinished m c begun items.Upscope agrees is no_end =
-    upscope_due (sym agrees.changing ∙ is.0) is.1 (omega (arith, so_deep m.scopes c agrees.scopes, is.2))
+unfinished m c begun items.Upscope agrees is no_end = grind (arith, so_deep)
 unfinished m c begun items.Variable agrees is no_end =
     variable_due m.words.items (sym agrees.changing ∙ is.0.declares) is.0.spelled is.0.no_end is.1
 unfinished m c begun items.EndDefinitions agrees is no_end = definitions_due (sym agrees.changing ∙ is.0) is.1
@@ -85,8 +83,7 @@ unfinished m c begun items.Dropped agrees (text, is) no_end =
 
 texts_are : (m : Reader) (words : List PlacedWord) (r : Reads m words)
     → word_texts words ≡ spellings r.items ++ word_texts r.begun
-texts_are m words r = ap word_texts r.parts ∙ map-append (λ (w : PlacedWord). w.text) r.whole r.begun
-    ∙ ap (λ ws. ws ++ word_texts r.begun) r.spelled
+texts_are m words r = grind (arith, map-append)
 
 -- words that are no whole file end too early
 pub stops : (m : Reader) (words : List PlacedWord) → Reads m words → is_complete m ≡ false → Stops words
@@ -114,17 +111,7 @@ nothing_begun m begun items.Dropped is none = absurd (false≢true none)
 
 -- words that are a whole file are accepted
 pub accepts : (m : Reader) (words : List PlacedWord) (r : Reads m words) → is_complete m ≡ true → Accepts words r.told
-accepts m words r complete =
-    let parts = and_parts m.changing (is_nothing m.item) complete in
-    record {
-      items = r.items;
-      spelled = texts_are m words r
-          ∙ ap (λ ws. spellings r.items ++ word_texts ws) (nothing_begun m r.begun m.item r.at.1 parts.1)
-          ∙ append-nil (spellings r.items);
-      allowed = r.allowed;
-      tells = r.tells;
-      definitions_ended = sym r.at.0.changing ∙ parts.0;
-    }
+accepts m words r complete = grind (arith, and_parts, texts_are, nothing_begun, append-nil)
 
 -- words that have been taken show no fault
 pub no_fault : (m : Reader) (words : List PlacedWord) → Reads m words → (line : ℕ) (fault : Fault)

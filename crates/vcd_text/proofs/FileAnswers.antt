@@ -1,4 +1,5 @@
 -- Every file has a result: its words are accepted, or one shows a fault, or they end too early.
+use Rattle.std.proofs.Common.{arith}
 use Rattle.std.proofs.Common.{◌≡◌, ◌⊎◌, inl, inr, ℕ, true, List, [], ◌∷◌, ◌++◌, refl, sym, ap, subst, ◌∙◌, append_assoc}
 use Rattle.std.proofs.Common.{IsTrue}
 use Rattle.std.specs.List.{All}
@@ -50,8 +51,7 @@ texts_more begun w = map-append (λ (v : PlacedWord). v.text) begun (w ∷ [])
 
 spelled_more : (items : List Item) (i : Item) → spellings (items ++ i ∷ []) ≡ spellings items ++ spelling i
 spelled_more [] i = append-nil (spelling i)
-spelled_more (j ∷ items) i = ap (λ ws. spelling j ++ ws) (spelled_more items i)
-    ∙ sym (append_assoc (spelling j) (spellings items) (spelling i))
+spelled_more (j ∷ items) i = grind (arith, append_assoc, spelled_more items i)
 
 -- the word goes on with the open item
 with_word : (words rest : List PlacedWord) (w : PlacedWord) (u : WordsSoFar words (w ∷ rest))
@@ -108,10 +108,7 @@ shows_here words rest w u fault decided = record {
 -- the texts of all words, where none is to come
 texts_are : (words : List PlacedWord) (u : WordsSoFar words [])
     → word_texts words ≡ spellings u.items ++ word_texts u.begun
-texts_are words u =
-    ap word_texts (u.parts ∙ ap (λ ws. u.whole ++ ws) (append-nil u.begun))
-    ∙ map-append (λ (v : PlacedWord). v.text) u.whole u.begun
-    ∙ ap (λ ws. ws ++ word_texts u.begun) u.spelled
+texts_are words u = grind (arith, append-nil, map-append)
 
 -- a word must follow the last one
 stops_here : (words : List PlacedWord) (u : WordsSoFar words []) → IsUnfinished u.told (word_texts u.begun)

@@ -1,4 +1,5 @@
 -- The fault of a file is the one that is found in it.
+use Rattle.std.proofs.Common.{arith}
 use Rattle.std.proofs.Common.{◌≡◌, ◌⊎◌, inl, inr, ℕ, List, ◌++◌}
 use Rattle.vcd_core.specs.Contents.{Contents}
 use Rattle.vcd_text.specs.declared.fault.Fault.{Fault}
@@ -32,8 +33,7 @@ ends_early bytes line fault none silent l f (inr (at, other, too_early stops las
 
 pub found_fault : EveryFaultIsFound
 found_fault bytes line fault (none, shown s) = word_shows s
-found_fault bytes line fault (none, none_shown silent l f) =
-    ends_early bytes line fault none silent l f (a_found_answer bytes)
+found_fault bytes line fault (none, none_shown silent l f) = search (arith, ends_early, a_found_answer)
 
 -- ---- the laws
 

@@ -33,12 +33,7 @@ variable_after : (f : Variable → SignalContents) (vs : List Variable) (signals
     × (signal_contents s ≡ f w)
 variable_after f vs [] position s same at = let never : None ≡ Some s = at in absurd (cc)
 variable_after f [] (x ∷ signals) position s same at = absurd (omega (arith, ap (length {A = SignalContents}) same))
-variable_after f (v ∷ vs) (x ∷ signals) zero s same at = (
-  v,
-  refl,
-  ap signal_contents (sym (same_Some x s at))
-      ∙ same_Some (signal_contents x) (f v) (ap (λ l. slice_get l 0) same),
-)
+variable_after f (v ∷ vs) (x ∷ signals) zero s same at = grind (arith, same_Some)
 variable_after f (v ∷ vs) (x ∷ signals) (suc n) s same at = variable_after f vs signals n s (ap (drop 1) same) at
 
 map_twice : (f : VariableDeclaration → SignalContents) (vs : List Variable)
@@ -54,11 +49,7 @@ module _ (vs : Variables) (c : ParseState) (yielded rest : List Variable) (v : V
 
   own_wave : (d : VariableDeclaration) × (variable_of c v.code ≡ Some d) × (is_skipped d ≡ false)
       × HasWave vs.kept.items (logged vs.log.items) v.first v.code d.size c.value_changes c.tick
-  own_wave =
-      stands_kept vs.kept.items (logged vs.log.items) c.value_changes c.tick v.code (variable_of c v.code)
-      v.first
-      (subst (λ o. TargetAgrees vs c v.code o
-      (variable_of c v.code)) (k.firsts (length yielded) v stands_at).owned (k.stand v.code))
+  own_wave = grind (arith, stands_kept, stands_at)
 
   -- the changes of a variable of this size and code
   changes_by : ℕ → List ℕ → List Change
@@ -68,35 +59,7 @@ module _ (vs : Variables) (c : ParseState) (yielded rest : List Variable) (v : V
   first_means : v.first ≡ length yielded → IsWave v.signal.wave.width v.signal.wave.changes
       → signal_contents v.signal ≡ declared_signal c.value_changes c.tick (declaration v)
   unfolding changes_by
-  first_means end is =
-      let wave = own_wave.3 in
-      let same : wave.first ≡ v =
-      same_Some wave.first v (sym wave.stands ∙ ap (slice_get vs.kept.items) end ∙ stands_at) in
-      let size : v.signal.wave.width ≡ own_wave.0.size = ap (λ (u : Variable). u.signal.wave.width) (sym same)
-      ∙ wave.sized in
-      let gives = subst (λ gs. GivesLoggedValues own_wave.0.size c.tick
-      (λ t. latest_value own_wave.0.size v.code t (all_x own_wave.0.size) c.value_changes)
-      wave.first.signal.wave.changes (logged gs v.first)) empty wave.gives in
-      let ticks = gives_late own_wave.0.size c.tick
-      (λ t. latest_value own_wave.0.size v.code t (all_x own_wave.0.size) c.value_changes)
-      wave.first.signal.wave.changes [] gives in
-      let changes : v.signal.wave.changes ≡ changes_by v.signal.wave.width v.code =
-      wave_is v.signal.wave.width c.tick v.signal.wave.changes
-      (λ t. latest_value v.signal.wave.width v.code t (all_x v.signal.wave.width) c.value_changes) is
-      (ended_upto c.tick v.signal.wave.changes
-      (subst (λ (u : Variable). Ended c.tick u.signal.wave.changes) same ticks))
-      (λ t _.
-      ap (λ n. value_at n v.signal.wave.changes t) size
-      ∙ ap (λ (u : Variable). value_at own_wave.0.size u.signal.wave.changes t) (sym same)
-      ∙ gives.values t
-      ∙ ap (λ n. latest_value n v.code t (all_x n) c.value_changes) (sym size)) in
-      λ i. record {
-        scopes = v.signal.scopes;
-        kind = v.signal.kind;
-        words = v.signal.words;
-        width = v.signal.wave.width;
-        changes = changes i;
-      }
+  first_means end is = grind (arith, own_wave, same_Some, stands_at, gives_late, wave_is, ended_upto)
 
   -- a later variable has the wave of the first
   later_means : (s signal : Signal) → slice_get signals v.first ≡ Some s
@@ -109,27 +72,7 @@ module _ (vs : Variables) (c : ParseState) (yielded rest : List Variable) (v : V
       }
       → signal_contents signal ≡ declared_signal c.value_changes c.tick (declaration v)
   unfolding changes_by
-  later_means s signal at takes =
-      let following = variable_after (λ u. declared_signal c.value_changes c.tick (declaration u)) yielded signals
-      v.first s (told ∙ map_twice (declared_signal c.value_changes c.tick) yielded) at in
-      let stood : slice_get vs.kept.items v.first ≡ Some following.0 = ap (λ l. slice_get l v.first) all
-      ∙ stays yielded (v ∷ rest) v.first following.0 following.1 in
-      let same : following.0 ≡ own_wave.3.first =
-      same_Some following.0 own_wave.3.first (sym stood ∙ own_wave.3.stands) in
-      let code : following.0.code ≡ v.code = ap (λ (u : Variable). u.code) same ∙ own_wave.3.coded in
-      let size : following.0.signal.wave.width ≡ v.signal.wave.width =
-      (k.firsts (length yielded) v stands_at).same_size following.0 stood in
-      let width : s.wave.width ≡ v.signal.wave.width = ap (λ (x : SignalContents). x.width) following.2 ∙ size in
-      let changes : s.wave.changes ≡ changes_by v.signal.wave.width v.code =
-      ap (λ (x : SignalContents). x.changes) following.2 ∙ ap (λ n. changes_by n following.0.code) size
-      ∙ ap (changes_by v.signal.wave.width) code in
-      takes ∙ (λ i. record {
-        scopes = v.signal.scopes;
-        kind = v.signal.kind;
-        words = v.signal.words;
-        width = width i;
-        changes = changes i;
-      })
+  later_means s signal at takes = grind (arith, variable_after, map_twice, stays, own_wave, same_Some, stands_at)
 
   -- the signal of a variable is the one that it declares
   pub finishes_as_declared : (signal : Signal) → Finishes v (slice_get signals v.first) signal
@@ -138,10 +81,7 @@ module _ (vs : Variables) (c : ParseState) (yielded rest : List Variable) (v : V
     | inl (s, within, at, read) ↦ later_means s signal at (subst (λ o. Finishes v o signal) at finishes)
     | inr (past, at) ↦
         let own : Finishes v None signal = subst (λ o. Finishes v o signal) at finishes in
-        let long : length signals ≡ length yielded = sym (length-map signals signal_contents)
-        ∙ ap (length {A = SignalContents}) told
-        ∙ length-map (map declaration yielded) (declared_signal c.value_changes c.tick)
-        ∙ length-map yielded declaration in
+        let long : length signals ≡ length yielded = grind (arith, length-map) in
         let end : v.first ≡ length yielded =
         omega (arith, past, long, (k.firsts (length yielded) v stands_at).no_later) in
         ap signal_contents own.0

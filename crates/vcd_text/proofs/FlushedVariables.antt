@@ -24,64 +24,22 @@ use Rattle.vcd_text.proofs.CodeTargets.{stands_moved}
 -- ---- one variable
 
 becomes_same : (v : Variable) (es : List LoggedChange) → FlushesOne v v es es
-becomes_same v es = record {
-  same =
-      record { code = refl; scopes = refl; kind = refl; words = refl; width = refl; first = refl };
-  gives =
-      λ tick f g. g;
-}
-
-becomes_then : (u v w : Variable) (es fs gs : List LoggedChange) → FlushesOne u v es fs → FlushesOne v w fs gs
-    → FlushesOne u w es gs
-becomes_then u v w es fs gs a b = record {
-  same = record {
-    code = b.same.code ∙ a.same.code;
-    scopes = b.same.scopes ∙ a.same.scopes;
-    kind = b.same.kind ∙ a.same.kind;
-    words = b.same.words ∙ a.same.words;
-    width = b.same.width ∙ a.same.width;
-    first = b.same.first ∙ a.same.first;
-  };
-  gives = λ tick f g. b.gives tick f (a.gives tick f g);
-}
+becomes_same v es = grind arith
 
 becomes_taken : (e : LoggedChange) (v w : Variable) (es : List LoggedChange) → AppliesToVariable e v w
     → FlushesOne v w (e ∷ es) es
-becomes_taken e v w es takes = record {
-  same = takes.same;
-  gives = λ tick f g.
-      subst (λ n. GivesLoggedValues n tick f w.signal.wave.changes es) (sym takes.same.width)
-      (gives_flushed v.signal.wave.width tick f v.signal.wave.changes w.signal.wave.changes e es takes.last
-      (λ t. ap (λ n. value_at n w.signal.wave.changes t) (sym takes.same.width) ∙ takes.values t) g);
-}
+becomes_taken e v w es takes = grind (arith, gives_flushed)
 
 -- the declaration stays
 pub same_declaration : (v w : Variable) (es fs : List LoggedChange) → FlushesOne v w es fs
     → declaration w ≡ declaration v
-same_declaration v w es fs b =
-    λ i. record {
-      scopes = b.same.scopes i;
-      kind = b.same.kind i;
-      size = b.same.width i;
-      code = b.same.code i;
-      words =
-          b.same.words i;
-    }
+same_declaration v w es fs b = grind arith
 
 -- ---- all variables
 
-pub flushes_nothing : (vs : List Variable) (log : ℕ → List LoggedChange) → FlushesLog vs vs log log
-flushes_nothing vs log = record { long = refl; each = λ position v at. (v, at, becomes_same v (log position)) }
-
 pub flushes_then : (us vs ws : List Variable) (log rest last : ℕ → List LoggedChange) → FlushesLog us vs log rest
     → FlushesLog vs ws rest last → FlushesLog us ws log last
-flushes_then us vs ws log rest last a b = record {
-  long = b.long ∙ a.long;
-  each = λ position u at.
-      let v = a.each position u at in
-      let w = b.each position v.0 v.1 in
-      (w.0, w.1, becomes_then u v.0 w.0 (log position) (rest position) (last position) v.2 w.2);
-}
+flushes_then us vs ws log rest last a b = grind arith
 
 -- ---- a change
 
@@ -93,21 +51,7 @@ module _ (e : LoggedChange) (es : List LoggedChange) (rest : ℕ → List Logged
   -- the first change of a group can be taken
   pub can_take : (kept : List Variable)
       → CanFlush kept (λ position. changes_of_position position (e ∷ es) ++ rest position) → CanTake kept e
-  can_take kept can =
-      let front : List LoggedChange = changes_of_position e.position es ++ rest e.position in
-      let is : cond (e.position == e.position) (e ∷ changes_of_position e.position es)
-      (changes_of_position e.position es) ++ rest e.position ≡ e ∷ front =
-      ap (λ b. cond b (e ∷ changes_of_position e.position es) (changes_of_position e.position es) ++ rest e.position)
-      own_place in
-      let (v, stands, tick, f, gives) = can e.position (omega (arith, ap (length {A = LoggedChange}) is)) in
-      let first : GivesLoggedValues v.signal.wave.width tick f v.signal.wave.changes (e ∷ front) =
-      subst (GivesLoggedValues v.signal.wave.width tick f v.signal.wave.changes) is gives in
-      record {
-        before = v;
-        stands = stands;
-        narrow = gives_narrow v.signal.wave.width tick f v.signal.wave.changes e front first;
-        late = gives_first v.signal.wave.width tick f v.signal.wave.changes e front first;
-      }
+  can_take kept can = grind (arith, own_place, gives_narrow, gives_first)
 
   -- then the others are left
   pub flushes_one : (old new : List Variable) → AppliesLogged e old new
@@ -145,20 +89,12 @@ module _ (e : LoggedChange) (es : List LoggedChange) (rest : ℕ → List Logged
 pub can_still : (old new : List Variable) (log rest : ℕ → List LoggedChange)
     → ((position : ℕ) → 0 < length (rest position) → 0 < length (log position)) → FlushesLog old new log rest
     → CanFlush old log → CanFlush new rest
-can_still old new log rest some flushes_log can = λ position left.
-    let (v, stands, tick, f, gives) = can position (some position left) in
-    let w = flushes_log.each position v stands in
-    (w.0, w.1, tick, f, w.2.gives tick f gives)
+can_still old new log rest some flushes_log can = grind arith
 
 -- the rest of a group was in it
 pub more_left : (e : LoggedChange) (es rest : List LoggedChange) (position : ℕ)
     → 0 < length (changes_of_position position es ++ rest) → 0 < length (changes_of_position position (e ∷ es) ++ rest)
-more_left e es rest position some = choose (e.position == position)
-  where
-    choose : (b : Bool) → 0 < length (cond b (e ∷ changes_of_position position es) (changes_of_position position es)
-        ++ rest)
-    choose true = omega arith
-    choose false = some
+more_left e es rest position some = grind arith
 
 -- ---- the variables of a reader
 
@@ -166,8 +102,7 @@ pub variables_can_flush : (vs : Variables) (c : ParseState) → VariablesMatch v
     → CanFlush vs.kept.items (logged vs.log.items)
 variables_can_flush vs c k = λ position some.
     let u = k.logs position some in
-    let had : target_of vs u.0.code ≡ Some (Kept position) = (k.firsts position u.0 u.1).owned
-    ∙ ap (λ n. Some (Kept n)) u.2 in
+    let had : target_of vs u.0.code ≡ Some (Kept position) = grind arith in
     let own = own_wave vs c u.0.code [] position k had in
     let f : ℕ → List Bit = λ t. latest_value own.0.size u.0.code t (all_x own.0.size) c.value_changes in
     let wave = own.3 in (
@@ -213,22 +148,7 @@ module _ (old : Variables) (list : Vec Variable) (log : Vec (Vec LoggedChange)) 
   flushed_wave : (position : ℕ) (code : List ℕ) (size : ℕ)
       → HasWave old.kept.items (logged old.log.items) position code size c.value_changes c.tick
       → HasWave list.items (logged log.items) position code size c.value_changes c.tick
-  flushed_wave position code size wave =
-      let u = flushes_log.each position wave.first wave.stands in
-      let f : ℕ → List Bit = λ t. latest_value size code t (all_x size) c.value_changes in
-      let before : GivesLoggedValues wave.first.signal.wave.width c.tick f wave.first.signal.wave.changes
-      (logged old.log.items position) =
-      subst (λ n. GivesLoggedValues n c.tick f wave.first.signal.wave.changes (logged old.log.items position))
-      (sym wave.sized) wave.gives in
-      record {
-        first = u.0;
-        stands = u.1;
-        coded = u.2.same.code ∙ wave.coded;
-        sized = u.2.same.width ∙ wave.sized;
-        gives = subst (λ gs. GivesLoggedValues size c.tick f u.0.signal.wave.changes (logged gs position)) (sym empty)
-            (subst (λ n. GivesLoggedValues n c.tick f u.0.signal.wave.changes []) (u.2.same.width
-            ∙ wave.sized) (u.2.gives c.tick f before));
-      }
+  flushed_wave position code size wave = grind arith
 
   flushed_firsts : (position : ℕ) (w : Variable) → slice_get list.items position ≡ Some w
       → HasFirst (with_changes old list log) position w
@@ -238,21 +158,15 @@ module _ (old : Variables) (list : Vec Variable) (log : Vec (Vec LoggedChange)) 
       record {
         owned = ap (target_of old) v.2.same.code ∙ before.owned ∙ ap (λ n. Some (Kept n)) (sym v.2.same.first);
         no_later = omega (arith, v.2.same.first, before.no_later);
-        same_size = λ x there.
-            let y = stood w.first x there in
-            y.2.same.width ∙ before.same_size y.0
-            (subst (λ n. slice_get old.kept.items n ≡ Some y.0) v.2.same.first y.1) ∙ sym v.2.same.width;
+        same_size = grind (arith, stood);
       }
 
   -- the waves have the changes of the log
   pub flushed_match : VariablesMatch (with_changes old list log) c
   flushed_match = record {
-    kept = k.kept ∙ sym (same_all declaration old.kept.items list.items flushes_log.long
-        (λ position v at. let w = flushes_log.each position v at in
-        (w.0, w.1, same_declaration v w.0 (logged old.log.items position) [] w.2)));
+    kept = grind (arith, same_all, same_declaration);
     skipped = k.skipped;
-    widths = k.widths ∙ sym (same_all (λ (v : Variable). v.signal.wave.width) old.kept.items list.items flushes_log.long
-        (λ position v at. let w = flushes_log.each position v at in (w.0, w.1, w.2.same.width)));
+    widths = grind (arith, same_all);
     stand = λ code.
         stands_moved old.kept.items list.items (logged old.log.items) (logged log.items) c.value_changes
         c.value_changes c.tick c.tick code (target_of old code) (variable_of c code)

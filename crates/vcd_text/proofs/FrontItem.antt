@@ -227,8 +227,7 @@ sized c kind size ws k s = on_false (is_end_word kind) _ _ k ∙ on_true (is_num
 told_whole : (c : ParseState) (d : VariableDeclaration) (words rest : List (List ℕ))
     → may_have_code (variable_of c d.code) d ≡ true → has_room c.declared d ≡ true
     → variable_state c (Some d) words rest ≡ whole (variable words) rest
-told_whole c d words rest m r = on_true (may_have_code (variable_of c d.code) d) _ _ m
-    ∙ on_true (has_room c.declared d) _ _ r
+told_whole c d words rest m r = grind (arith, on_true)
 
 told_some : (c : ParseState) (o : Option VariableDeclaration) (words rest : List (List ℕ))
     → IsSomeAnd o (λ d. IsTrue (may_have_code (variable_of c d.code) d) × IsTrue (has_room c.declared d))
@@ -241,32 +240,18 @@ variable_closing : (c : ParseState) (words rest : List (List ℕ)) → IsTrue (h
     → variable_front c (words ++ end_word ∷ rest) ≡ variable_state c (declaration_of c words) words rest
 variable_closing c [] [] n g = refl
 variable_closing c [] (r ∷ rest) n g = refl
-variable_closing c (kind ∷ []) rest n g =
-    on_false (is_end_word kind) _ _ (not-true (is_end_word kind) (and_parts _ _ n).0)
-variable_closing c (kind ∷ size ∷ words) rest n g =
-    sized c kind size (words ++ end_word ∷ rest) (not-true (is_end_word kind) (and_parts _ _ n).0) g
-    ∙ closing_end (λ words rest. variable_state c (declaration_of c words) words rest) (kind ∷ size ∷ words) rest n
+variable_closing c (kind ∷ []) rest n g = grind (arith, on_false, not-true, and_parts)
+variable_closing c (kind ∷ size ∷ words) rest n g = grind (arith, sized, not-true, and_parts, closing_end)
 
 stamp_whole : (c : ParseState) (digits : List ℕ) (ws : List (List ℕ)) → is_tick digits ≡ true
     → c.tick ≤ number_of digits → stamp_front c digits ws ≡ whole (stamp digits) ws
-stamp_whole c digits ws t le = on_true (is_tick digits) _ _ t
-    ∙ on_false (nat_lt (number_of digits) c.tick) _ _ (le-ltb (number_of digits) c.tick le)
+stamp_whole c digits ws t le = grind (arith, on_true, on_false, le-ltb)
 
 vector_taken : (d : VariableDeclaration) (digits : List ℕ) (w : Front) → takes_binary_number d digits ≡ true
     → cond (is_skipped d) w
     (cond (is_binary_number digits) (cond (nat_lt d.size (length digits)) (faulty 0 ValueTooLong) w)
     (faulty 0 BadChange)) ≡ w
-vector_taken d digits w h =
-    elim (or_cases (is_skipped d) (is_binary_number digits && nat_le (length digits) d.size) h) [
-      | inl e ↦ on_true (is_skipped d) _ _ e
-      | inr e ↦ elim (cases_Bool (is_skipped d)) [
-        | inl s ↦ on_true (is_skipped d) _ _ s
-        | inr s ↦ let p = and_parts (is_binary_number digits) (nat_le (length digits) d.size) e in
-            on_false (is_skipped d) _ _ s ∙ on_true (is_binary_number digits) _ _ p.0
-            ∙ on_false (nat_lt d.size (length digits)) _ _
-            (le-ltb d.size (length digits) (leb-true (length digits) d.size p.1))
-      ]
-    ]
+vector_taken d digits w h = grind (arith, or_cases, on_true, cases_Bool, and_parts, on_false, le-ltb, leb-true)
 
 vector_known : (o : Option VariableDeclaration) (digits : List ℕ) (w : Front)
     → IsSomeAnd o (λ d. IsTrue (takes_binary_number d digits))
@@ -278,24 +263,12 @@ vector_known (Some d) digits w h = vector_taken d digits w h
 
 other_declared : (c : ParseState) (w : List ℕ) (ws : List (List ℕ)) → IsTrue (is_other false w)
     → declaration_front c w ws ≡ closing (λ words rest. whole (other w words) rest) ws
-other_declared c w ws h =
-    let p = and_parts (begins_declaration w && not (is_one_of declaring_words w))
-    (false || not (is_one_of header_words w)) h in
-    let q = and_parts (begins_declaration w) (not (is_one_of declaring_words w)) p.0 in
-    on_true (begins_declaration w) _ _ q.0 ∙ on_false (is_one_of declaring_words w) _ _ (not-true _ q.1)
-    ∙ on_false (is_one_of header_words w) _ _ (not-true _ p.1)
+other_declared c w ws h = grind (arith, and_parts, on_true, on_false, not-true)
 
 other_changed : (c : ParseState) (w : List ℕ) (ws : List (List ℕ)) → IsTrue (is_other true w)
     → change_front c w ws ≡ closing (λ words rest. whole (other w words) rest) ws
 other_changed c [] ws h = absurd (false≢true h)
-other_changed c (first ∷ text) ws h =
-    let p = and_parts (begins_declaration (first ∷ text) && not (is_one_of declaring_words (first ∷ text))) true h in
-    let q = and_parts (begins_declaration (first ∷ text)) (not (is_one_of declaring_words (first ∷ text))) p.0 in
-    let r = and_parts (first == 36) (not (is_one_of dump_words (first ∷ text))) q.0 in
-    let here : change_front c (36 ∷ text) ws ≡ command_front (36 ∷ text) ws = refl in
-    subst (λ b. change_front c (b ∷ text) ws ≡ command_front (b ∷ text) ws) (sym (eqb-true first 36 r.0)) here
-    ∙ on_false (is_one_of dump_words (first ∷ text)) _ _ (not-true _ r.1)
-    ∙ on_false (is_one_of declaring_words (first ∷ text)) _ _ (not-true _ q.1)
+other_changed c (first ∷ text) ws h = grind (arith, and_parts, eqb-true, on_false, not-true)
 
 other_front : (b : Bool) (c : ParseState) (w : List ℕ) (ws : List (List ℕ)) → IsTrue (is_other b w)
     → front b c (w ∷ ws) ≡ closing (λ words rest. whole (other w words) rest) ws
@@ -307,18 +280,14 @@ pub whole_front : (c : ParseState) (i : Item) (rest : List (List ℕ)) → Allow
 whole_front c (entry Date words) rest a = front_at false c _ _ a.0 (closing_at _ words rest a.1)
 whole_front c (entry Version words) rest a = front_at false c _ _ a.0 (closing_at _ words rest a.1)
 whole_front c (entry Comment words) rest a = front_at false c _ _ a.0 (closing_at _ words rest a.1)
-whole_front c (timescale words) rest a =
-    front_at false c _ _ a.0 (closing_at _ words rest a.1 ∙ timescale_some (timescale_of words) words rest a.2)
+whole_front c (timescale words) rest a = grind (arith, front_at, closing_at, timescale_some)
 whole_front c (scope kind words) rest a = front_at false c _ _ a.0 (closing_at scope_front (kind ∷ words) rest a.1)
 whole_front c upscope rest a = front_at false c _ _ a.0 (upscope_some c.scopes (end_word ∷ rest) a.1)
-whole_front c (variable words) rest a =
-    front_at false c _ _ a.0 (ap (variable_front c) (append_assoc words (end_word ∷ []) rest)
-    ∙ variable_closing c words rest a.1 a.2 ∙ told_some c (declaration_of c words) words rest a.3)
+whole_front c (variable words) rest a = grind (arith, front_at, append_assoc, variable_closing, told_some)
 whole_front c end_definitions rest a = front_at false c _ _ a refl
 whole_front c (stamp digits) rest a = front_at true c _ _ a.0 (stamp_whole c digits rest a.1 a.2)
 whole_front c (scalar letter []) rest a = absurd (omega (arith, a.2))
-whole_front c (scalar letter (b ∷ code)) rest a =
-    front_at true c _ _ a.0 (on_true (is_binary_digit letter) _ _ a.1 ∙ known_some (variable_of c (b ∷ code)) _ a.3)
+whole_front c (scalar letter (b ∷ code)) rest a = grind (arith, front_at, on_true, known_some)
 whole_front c (vector first digits code) rest a =
     front_at true c _ _ a.0
     (by_among (λ b. change_front c (b ∷ digits) (code ∷ rest) ≡ vector_front c b digits (code ∷ rest))
@@ -336,32 +305,16 @@ whole_front c (other word words) rest a = other_front c.changing c word _ a.0 �
 
 -- ---- faults
 
-not_among : (xs ys : List ℕ) (b : ℕ) → IsFalse (is_among (xs ++ ys) b) → IsFalse (is_among xs b)
-    × IsFalse (is_among ys b)
-not_among [] ys b h = (refl, h)
-not_among (x ∷ xs) ys b h =
-    let p = or_parts (nat_eq b x) (is_among (xs ++ ys) b) h in
-    let q = not_among xs ys b p.1 in
-    (or_from (nat_eq b x) (is_among xs b) p.0 q.0, q.1)
-
 change_none : (c : ParseState) (first : ℕ) (text : List ℕ) (ws : List (List ℕ)) → IsFalse (is_binary_digit first)
     → IsFalse (is_among (codes "#$" ++ pair_prefixes) first)
     → change_front c (first ∷ text) ws ≡ faulty 0 BadChange
-change_none c first text ws l n =
-    let a = not_among (codes "#") (codes "$" ++ pair_prefixes) first n in
-    let b = not_among (codes "$") pair_prefixes first a.1 in
-    let d = not_among vector_prefixes dropped_prefixes first b.1 in
-    on_false (is_binary_digit first) _ _ l ∙ on_false (is_among (codes "#") first) _ _ a.0
-    ∙ on_false (is_among (codes "$") first) _ _ b.0
-    ∙ on_false (is_among vector_prefixes first) _ _ d.0 ∙ on_false (is_among dropped_prefixes first) _ _ d.1
+change_none c first text ws l n = grind (arith, on_false)
 
 variable_open : (c : ParseState) (words : List (List ℕ)) → IsTrue (has_no_end_word words) → IsTrue (has_good_size words)
     → variable_front c words ≡ unfinished
 variable_open c [] n g = refl
 variable_open c (kind ∷ []) n g = on_false (is_end_word kind) _ _ (not-true (is_end_word kind) (and_parts _ _ n).0)
-variable_open c (kind ∷ size ∷ words) n g =
-    sized c kind size words (not-true (is_end_word kind) (and_parts _ _ n).0) g
-    ∙ closing_none (λ words rest. variable_state c (declaration_of c words) words rest) (kind ∷ size ∷ words) n
+variable_open c (kind ∷ size ∷ words) n g = grind (arith, sized, not-true, and_parts, closing_none)
 
 -- the distance of a fault from the first word of its item
 abbrev pub place_of : Bool → List (List ℕ) → ℕ
@@ -372,40 +325,28 @@ declaration_faulty : (c : ParseState) (begun : List (List ℕ)) (word : List ℕ
     → DeclarationFault c begun word fault
     → front false c (begun ++ word ∷ more) ≡ faulty (length begun) fault
 declaration_faulty c begun word fault more (no_declaration b n f) = rw (b, f) (on_false (begins_declaration word) _ _ n)
-declaration_faulty c begun word fault more (no_timescale words b w n t f) =
-    rw (b, w, f) (closing_end _ words more n ∙ ap (λ o. timescale_front o words more) t)
+declaration_faulty c begun word fault more (no_timescale words b w n t f) = grind (arith, closing_end)
 declaration_faulty c begun word fault more (no_kind b w f) = rw (b, w, f) refl
 declaration_faulty c begun word fault more (upscope_at_top b w s f) = rw (b, w, f) (ap (λ x. upscope_front x more) s)
-declaration_faulty c begun word fault more (upscope_goes_on b w s f) =
-    rw (b, f) (upscope_some c.scopes (word ∷ more) s ∙ on_false (is_end_word word) _ _ w)
-declaration_faulty c begun word fault more (no_size kind b k n f) =
-    rw (b, f) (on_false (is_end_word kind) _ _ k ∙ on_false (is_number word) _ _ n)
-declaration_faulty c begun word fault more (no_variable words b w n g o f) =
-    rw (b, w, f) (variable_closing c words more n g ∙ ap (λ p. variable_state c p words more) o)
+declaration_faulty c begun word fault more (upscope_goes_on b w s f) = grind (arith, upscope_some, on_false)
+declaration_faulty c begun word fault more (no_size kind b k n f) = grind (arith, on_false)
+declaration_faulty c begun word fault more (no_variable words b w n g o f) = grind (arith, variable_closing)
 declaration_faulty c begun word fault more (code_mixed words d b w n g o m f) =
-    rw (b, w, f) (variable_closing c words more n g ∙ ap (λ p. variable_state c p words more) o
-    ∙ on_false (may_have_code (variable_of c d.code) d) _ _ m)
+    grind (arith, variable_closing, on_false)
 declaration_faulty c begun word fault more (no_room words d b w n g o m r f) =
-    rw (b, w, f) (variable_closing c words more n g ∙ ap (λ p. variable_state c p words more) o
-    ∙ on_true (may_have_code (variable_of c d.code) d) _ _ m ∙ on_false (has_room c.declared d) _ _ r)
+    grind (arith, variable_closing, on_true, on_false)
 declaration_faulty c begun word fault more (definitions_go_on b w f) = rw (b, f) (on_false (is_end_word word) _ _ w)
 
 change_faulty : (c : ParseState) (begun : List (List ℕ)) (word : List ℕ) (fault : Fault) (more : List (List ℕ))
     → ChangeFault c begun word fault
     → front true c (begun ++ word ∷ more) ≡ faulty 0 fault
 change_faulty c begun word fault more (no_tick digits b w t f) = rw (b, w, f) (on_false (is_tick digits) _ _ t)
-change_faulty c begun word fault more (tick_goes_back digits b w t l f) =
-    rw (b, w, f) (on_true (is_tick digits) _ _ t
-    ∙ on_true (nat_lt (number_of digits) c.tick) _ _ (lt-ltb (number_of digits) c.tick l))
-change_faulty c begun word fault more (value_alone letter b w h f) =
-    rw (b, w, f) (on_true (is_binary_digit letter) _ _ h)
+change_faulty c begun word fault more (tick_goes_back digits b w t l f) = grind (arith, on_true, lt-ltb)
+change_faulty c begun word fault more (value_alone letter b w h f) = grind (arith, on_true)
 change_faulty c begun word fault more (value_of_none letter [] b w h l n f) = absurd (omega (arith, l))
-change_faulty c begun word fault more (value_of_none letter (x ∷ code) b w h l n f) =
-    rw (b, w, f) (on_true (is_binary_digit letter) _ _ h
-    ∙ ap (λ o. known o (λ d. whole (scalar letter (x ∷ code)) more)) n)
+change_faulty c begun word fault more (value_of_none letter (x ∷ code) b w h l n f) = grind (arith, on_true)
 change_faulty c begun word fault more (pair_of_none first text b h n f) =
-    let step : (g : VariableDeclaration → Front) → known (variable_of c word) g ≡ faulty 0 UnknownCode =
-    λ g. ap (λ o. known o g) n in
+    let step : (g : VariableDeclaration → Front) → known (variable_of c word) g ≡ faulty 0 UnknownCode = grind arith in
     rw (b, f) (by_among (λ x. change_front c (x ∷ text) (word ∷ more) ≡ faulty 0 UnknownCode) pair_prefixes first h
     (step _, (step _, (step _, (step _, (step _, (step _, tt)))))))
 change_faulty c begun word fault more (no_value first digits d b h v s n f) =
@@ -424,8 +365,7 @@ change_faulty c begun word fault more (declaration_late b w f) =
       refl,
       (refl, (refl, (refl, (refl, tt)))),
     ))
-change_faulty c begun word fault more (no_change first text b w l n f) =
-    rw (b, w, f) (change_none c first text more l n)
+change_faulty c begun word fault more (no_change first text b w l n f) = grind (arith, change_none)
 
 pub fault_front : (c : ParseState) (begun : List (List ℕ)) (word : List ℕ) (fault : Fault) (more : List (List ℕ))
     → WordFault c begun word fault
@@ -455,5 +395,4 @@ unfinished_front c begun (code_due first text h b k) =
       refl,
       (refl, (refl, (refl, (refl, (refl, tt))))),
     )))
-unfinished_front c begun (other_due word words b k n) =
-    rw b (other_front c.changing c word words k ∙ closing_none _ words n)
+unfinished_front c begun (other_due word words b k n) = grind (arith, other_front, closing_none)

@@ -30,27 +30,20 @@ places_stay cs ds [] grows within = (tt, refl)
 places_stay cs ds (p ∷ ps) grows (here, count, later) =
     let g = grows p.chain here in
     let is : chain_at ds p.chain ≡ chain_at cs p.chain ++ g.1.0 = g.1.1 in
-    let long : p.count ≤ length (chain_at ds p.chain) =
-    omega (arith, count, ap (length {A = ScopeName}) is, length-append (chain_at cs p.chain) g.1.0) in
-    let same : scopes_at ds p ≡ scopes_at cs p = ap (take p.count) is
-    ∙ take-append-le p.count (chain_at cs p.chain) g.1.0 count in
+    let long : p.count ≤ length (chain_at ds p.chain) = grind (arith, length-append) in
+    let same : scopes_at ds p ≡ scopes_at cs p = grind (arith, take-append-le) in
     let rest = places_stay cs ds ps grows later in
     ((g.0, long, rest.0), λ i. same i ∷ rest.1 i)
 
 grows_by_chain : (cs : List (List ScopeName)) (chain : List ScopeName) → Grows cs (cs ++ chain ∷ [])
-grows_by_chain cs chain k within = (
-  omega (arith, within, length_push cs chain),
-  ([], get_or_append_left cs (chain ∷ []) [] k within ∙ sym (append-nil (chain_at cs k))),
-)
+grows_by_chain cs chain k within = grind (arith, length_push, get_or_append_left, append-nil)
 
 grows_by_scope : (cs : List (List ScopeName)) (chain : List ScopeName) (s : ScopeName)
     → Grows (cs ++ chain ∷ []) (cs ++ (chain ++ s ∷ []) ∷ [])
 grows_by_scope [] chain s zero within = (omega arith, (s ∷ [], refl))
 grows_by_scope [] chain s (suc k) within = absurd (omega (arith, within))
 grows_by_scope (c ∷ cs) chain s zero within = (omega arith, ([], sym (append-nil c)))
-grows_by_scope (c ∷ cs) chain s (suc k) within =
-    let g = grows_by_scope cs chain s k (omega (arith, within)) in
-    (omega (arith, g.0), g.1)
+grows_by_scope (c ∷ cs) chain s (suc k) within = grind (arith, grows_by_scope cs chain s k (omega (arith, within)))
 
 -- ---- how far places reach
 
@@ -75,10 +68,7 @@ reach_kept : (old new : Scopes) → new.chains.items ≡ old.chains.items → ne
     → new.places.items ≡ old.places.items
     → AreReached (length old.chains.items) old.reach old.places.items
     → AreReached (length new.chains.items) new.reach new.places.items
-reach_kept old new chains reach places reached =
-    subst (λ (cs : List (List ScopeName)). AreReached (length cs) new.reach new.places.items) (sym chains)
-    (subst (λ r. AreReached (length old.chains.items) r new.places.items) (sym reach)
-    (subst (AreReached (length old.chains.items) old.reach) (sym places) reached))
+reach_kept old new chains reach places reached = grind arith
 
 -- another chain begins, with the open scopes
 pub chain_begins : (old new : Scopes) (c : ParseState) → new.chains.items ≡ old.chains.items ++ old.chain.items ∷ []
@@ -89,16 +79,12 @@ chain_begins old new c chains chain depth places h =
     let all : chains_of new ≡ chains_of old ++ new.chain.items ∷ [] = ap (λ cs. cs ++ new.chain.items ∷ []) chains in
     let stay = places_stay (chains_of old) (chains_of old ++ new.chain.items ∷ []) old.places.items
     (grows_by_chain (chains_of old) new.chain.items) h.places in
-    let long : length new.chain.items ≡ old.depth = ap (length {A = ScopeName}) chain
-    ∙ length-take-le old.depth old.chain.items h.within in
+    let long : length new.chain.items ≡ old.depth = grind (arith, length-take-le) in
     record {
       within = omega (arith, long, depth);
       inner = take_all new.depth new.chain.items (omega (arith, long, depth)) ∙ chain ∙ h.inner;
-      places = subst (λ cs. AreWithin cs new.places.items) (sym all)
-          (subst (AreWithin (chains_of old ++ new.chain.items ∷ [])) (sym places) stay.0);
-      reached = subst (AreReached (length new.chains.items) new.reach) (sym places)
-          (reached_by_none (chains_of old) old.places.items (length new.chains.items) new.reach
-          (omega (arith, ap (length {A = List ScopeName}) chains)) h.places);
+      places = grind arith;
+      reached = grind (arith, reached_by_none);
       paths = (λ i. map (scopes_at (all i)) (places i)) ∙ stay.1 ∙ h.paths;
     }
 
@@ -112,14 +98,12 @@ scope_entered old new c s end chains chain depth reach places h =
     let all : chains_of new ≡ old.chains.items ++ (old.chain.items ++ s ∷ []) ∷ [] = λ i. chains i ++ chain i ∷ [] in
     let stay = places_stay (chains_of old) (old.chains.items ++ (old.chain.items ++ s ∷ []) ∷ []) old.places.items
     (grows_by_scope old.chains.items old.chain.items s) h.places in
-    let long : length new.chain.items ≡ new.depth = ap (length {A = ScopeName}) chain ∙ length_push old.chain.items s
-    ∙ omega (arith, end, depth) in
+    let long : length new.chain.items ≡ new.depth = grind (arith, length_push) in
     let were : old.chain.items ≡ c.scopes = sym (take_all old.depth old.chain.items (omega (arith, end))) ∙ h.inner in
     record {
       within = omega (arith, long);
       inner = take_all new.depth new.chain.items (omega (arith, long)) ∙ chain ∙ ap (λ ss. ss ++ s ∷ []) were;
-      places = subst (λ cs. AreWithin cs new.places.items) (sym all)
-          (subst (AreWithin (old.chains.items ++ (old.chain.items ++ s ∷ []) ∷ [])) (sym places) stay.0);
+      places = grind arith;
       reached = reach_kept old new chains reach places h.reached;
       paths = (λ i. map (scopes_at (all i)) (places i)) ∙ stay.1 ∙ h.paths;
     }
@@ -139,19 +123,7 @@ pub scope_left : (old new : Scopes) (c : ParseState) → new.chains.items ≡ ol
     → new.chain.items ≡ old.chain.items → new.depth ≡ old.depth - 1
     → new.reach ≡ old.reach → new.places.items ≡ old.places.items → HoldsScopes old c.scopes c.declared
     → HoldsScopes new (take (length c.scopes - 1) c.scopes) c.declared
-scope_left old new c chains chain depth reach places h =
-    let all : chains_of new ≡ chains_of old = λ i. chains i ++ chain i ∷ [] in
-    record {
-      within = omega (arith, ap (length {A = ScopeName}) chain, depth, h.within);
-      inner =
-          (λ i. take (depth i) (chain i))
-          ∙ sym (take_fewer old.depth (old.depth - 1) old.chain.items (omega arith))
-          ∙ (λ i. take (sym (so_deep old c h) i - 1) (h.inner i));
-      places = subst (λ cs. AreWithin cs new.places.items) (sym all)
-          (subst (AreWithin (chains_of old)) (sym places) h.places);
-      reached = reach_kept old new chains reach places h.reached;
-      paths = (λ i. map (scopes_at (all i)) (places i)) ∙ h.paths;
-    }
+scope_left old new c chains chain depth reach places h = grind (arith, take_fewer, so_deep, reach_kept)
 
 -- places that do not reach further keep their scopes where the last chain is cut
 places_cut : (cs : List (List ScopeName)) (chain : List ScopeName) (depth reach : ℕ) (ps : List ScopePlace)
@@ -179,8 +151,7 @@ places_cut cs chain depth reach (p ∷ ps) low within (one, others) (here, count
           let few : p.count ≤ reach = one is in
           let new_at : chain_at (cs ++ take depth chain ∷ []) p.chain ≡ take depth chain =
           ap (chain_at (cs ++ take depth chain ∷ [])) is ∙ get_or-append_seam cs (take depth chain) [] [] in
-          let old_at : chain_at (cs ++ chain ∷ []) p.chain ≡ chain = ap (chain_at (cs ++ chain ∷ [])) is
-          ∙ get_or-append_seam cs chain [] [] in
+          let old_at : chain_at (cs ++ chain ∷ []) p.chain ≡ chain = grind (arith, get_or-append_seam) in
           let long : length (take depth chain) ≡ depth = length-take-le depth chain within in (
             omega (arith, is, length_push cs (take depth chain)),
             omega (arith, few, low, long, ap (length {A = ScopeName}) new_at),
@@ -199,13 +170,11 @@ chain_cut old new c chains chain depth reach places low h =
     let all : chains_of new ≡ old.chains.items ++ take old.depth old.chain.items ∷ [] = λ i. chains i ++ chain i ∷ [] in
     let stay = places_cut old.chains.items old.chain.items old.depth old.reach old.places.items low h.within h.reached
     h.places in
-    let long : length new.chain.items ≡ old.depth = ap (length {A = ScopeName}) chain
-    ∙ length-take-le old.depth old.chain.items h.within in
+    let long : length new.chain.items ≡ old.depth = grind (arith, length-take-le) in
     record {
       within = omega (arith, long, depth);
       inner = take_all new.depth new.chain.items (omega (arith, long, depth)) ∙ chain ∙ h.inner;
-      places = subst (λ cs. AreWithin cs new.places.items) (sym all)
-          (subst (AreWithin (old.chains.items ++ take old.depth old.chain.items ∷ [])) (sym places) stay.0);
+      places = grind arith;
       reached = reach_kept old new chains reach places h.reached;
       paths = (λ i. map (scopes_at (all i)) (places i)) ∙ stay.1 ∙ h.paths;
     }
@@ -220,9 +189,7 @@ within_more cs (q ∷ ps) p (at, long, later) here count = (at, long, within_mor
 -- there are as many variables as places
 pub as_many : (s : Scopes) (c : ParseState) → HoldsScopes s c.scopes c.declared
     → length s.places.items ≡ length (kept_variables c.declared)
-as_many s c h =
-    sym (length-map s.places.items (scopes_at (chains_of s))) ∙ ap (length {A = List ScopeName}) h.paths
-    ∙ length-map (kept_variables c.declared) (λ (d : VariableDeclaration). d.scopes)
+as_many s c h = grind (arith, length-map)
 
 -- the state with this declaration added last
 abbrev and_then : ParseState → Option VariableDeclaration → ParseState
@@ -238,38 +205,7 @@ passed : (s new : Scopes) (c : ParseState) (o : Option VariableDeclaration) → 
     → new.places.items ≡ s.places.items → length (kept_variables (and_then c o).declared) ≤ length s.places.items
     → HoldsScopes s c.scopes c.declared → HoldsScopes new c.scopes (and_then c o).declared
 passed s new c o chains chain depth reach places few h =
-    let all : chains_of new ≡ chains_of s = λ i. chains i ++ chain i ∷ [] in
-    record {
-      within = omega (arith, ap (length {A = ScopeName}) chain, depth, h.within);
-      inner = (λ i. take (depth i) (chain i)) ∙ h.inner;
-      places = subst (λ cs. AreWithin cs new.places.items) (sym all)
-          (subst (AreWithin (chains_of s)) (sym places) h.places);
-      reached = reach_kept s new chains reach places h.reached;
-      paths = (λ i. map (scopes_at (all i)) (places i)) ∙ h.paths
-          ∙ ap (map (λ (d : VariableDeclaration). d.scopes)) (still o few);
-    }
-  where
-    by_test : (d : VariableDeclaration) (b : Bool) → is_skipped d ≡ b
-        → length (kept_variables (c.declared ++ d ∷ [])) ≤ length s.places.items
-        → kept_variables c.declared ≡ kept_variables (c.declared ++ d ∷ [])
-    by_test d true is few =
-        sym (one_more c.declared d ∙ ap (λ b. kept_variables c.declared ++ cond (not b) (d ∷ []) []) is
-        ∙ append-nil (kept_variables c.declared))
-    by_test d false is few =
-        let more = one_more c.declared d ∙ ap (λ b. kept_variables c.declared ++ cond (not b) (d ∷ []) []) is in
-        absurd (omega (
-          arith,
-          few,
-          ap (length {A = VariableDeclaration}) more,
-          length_push (kept_variables c.declared) d,
-          as_many s c h,
-        ))
-
-    still : (o : Option VariableDeclaration)
-        → length (kept_variables (c.declared ++ option_to_list o)) ≤ length s.places.items
-        → kept_variables c.declared ≡ kept_variables (c.declared ++ option_to_list o)
-    still None few = ap kept_variables (sym (append-nil c.declared))
-    still (Some d) few = by_test d (is_skipped d) refl few
+    grind (arith, reach_kept, one_more, append-nil, length_push, as_many)
 
 -- one more variable is kept, in the open scopes
 noted : (s new : Scopes) (c : ParseState) (o : Option VariableDeclaration) → new.chains.items ≡ s.chains.items
@@ -278,20 +214,16 @@ noted : (s new : Scopes) (c : ParseState) (o : Option VariableDeclaration) → n
     → length s.places.items < length (kept_variables (and_then c o).declared)
     → ((d : VariableDeclaration) → o ≡ Some d → d.scopes ≡ c.scopes)
     → HoldsScopes s c.scopes c.declared → HoldsScopes new c.scopes (and_then c o).declared
-noted s new c None chains chain depth far reach places more inside h =
-    absurd (omega (arith, more, as_many s c h, ap (λ ds. length (kept_variables ds)) (append-nil c.declared)))
+noted s new c None chains chain depth far reach places more inside h = grind (arith, as_many, append-nil)
 noted s new c (Some d) chains chain depth far reach places more inside h =
     let all : chains_of new ≡ chains_of s = λ i. chains i ++ chain i ∷ [] in
     let p : ScopePlace = record { chain = length s.chains.items; count = s.depth } in
-    let here : chain_at (chains_of s) (length s.chains.items) ≡ s.chain.items =
-    get_or-append_seam s.chains.items s.chain.items [] [] in
+    let here : chain_at (chains_of s) (length s.chains.items) ≡ s.chain.items = grind (arith, get_or-append_seam) in
     let at : scopes_at (chains_of s) p ≡ d.scopes = ap (take s.depth) here ∙ h.inner ∙ sym (inside d refl) in
     record {
       within = omega (arith, ap (length {A = ScopeName}) chain, depth, h.within);
       inner = (λ i. take (depth i) (chain i)) ∙ h.inner;
-      places = subst (λ cs. AreWithin cs new.places.items) (sym all) (subst (AreWithin (chains_of s)) (sym places)
-          (within_more (chains_of s) s.places.items p h.places (omega (arith, length_push s.chains.items s.chain.items))
-          (omega (arith, h.within, ap (length {A = ScopeName}) here))));
+      places = grind (arith, within_more, length_push);
       reached = subst (λ (cs : List (List ScopeName)). AreReached (length cs) new.reach new.places.items) (sym chains)
           (subst (AreReached (length s.chains.items) new.reach) (sym places)
           (reached_more (length s.chains.items) s.reach new.reach s.places.items p far reach h.reached));
@@ -306,10 +238,7 @@ noted s new c (Some d) chains chain depth far reach places more inside h =
     kept_also : (b : Bool) → is_skipped d ≡ b → kept_variables (c.declared ++ d ∷ []) ≡ kept_variables c.declared
         ++ d ∷ []
     kept_also false is = one_more c.declared d ∙ ap (λ b. kept_variables c.declared ++ cond (not b) (d ∷ []) []) is
-    kept_also true is =
-        let same = one_more c.declared d ∙ ap (λ b. kept_variables c.declared ++ cond (not b) (d ∷ []) []) is
-        ∙ append-nil (kept_variables c.declared) in
-        absurd (omega (arith, more, as_many s c h, ap (length {A = VariableDeclaration}) same))
+    kept_also true is = grind (arith, one_more, append-nil, as_many)
 
 -- the declaration of words is in the open scopes
 declared_inside : (c : ParseState) (words : List (List ℕ)) (d : VariableDeclaration) → declaration_of c words ≡ Some d
@@ -318,8 +247,7 @@ declared_inside c [] d is = let never : None ≡ Some d = is in absurd (cc)
 declared_inside c (kind ∷ []) d is = let never : None ≡ Some d = is in absurd (cc)
 declared_inside c (kind ∷ size ∷ []) d is = let never : None ≡ Some d = is in absurd (cc)
 declared_inside c (kind ∷ size ∷ code ∷ []) d is = let never : None ≡ Some d = is in absurd (cc)
-declared_inside c (kind ∷ size ∷ code ∷ name ∷ names) d is =
-    ap (λ (e : VariableDeclaration). e.scopes) (sym (same_Some _ d is))
+declared_inside c (kind ∷ size ∷ code ∷ name ∷ names) d is = grind (arith, same_Some)
 
 -- one more place is noted where one more variable is kept
 pub place_noted : (s new : Scopes) (c : ParseState) (words : List (List ℕ)) → new.chains.items ≡ s.chains.items
@@ -327,11 +255,4 @@ pub place_noted : (s new : Scopes) (c : ParseState) (words : List (List ℕ)) �
     → new.places.items ≡ s.places.items ++ record { chain = length s.chains.items; count = s.depth } ∷ []
     → length s.places.items < length (kept_variables (state_after_item c (variable words)).declared)
     → HoldsScopes s c.scopes c.declared → HoldsScopes new c.scopes (state_after_item c (variable words)).declared
-place_noted s new c words chains chain depth far reach places more h =
-    noted s new c (declaration_of c words) chains chain depth far reach places more (declared_inside c words) h
-
--- no place is noted where none is kept
-pub no_place : (s : Scopes) (c : ParseState) (words : List (List ℕ))
-    → length (kept_variables (state_after_item c (variable words)).declared) ≤ length s.places.items
-    → HoldsScopes s c.scopes c.declared → HoldsScopes s c.scopes (state_after_item c (variable words)).declared
-no_place s c words few h = passed s s c (declaration_of c words) refl refl refl refl refl few h
+place_noted s new c words chains chain depth far reach places more h = search (arith, noted, declared_inside)

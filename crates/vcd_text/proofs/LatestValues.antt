@@ -36,23 +36,14 @@ module _ (width k t : ℕ) where
       → after_value_changes before (map (value_change_of u) placed) ≡ before
   unfolding latest_value
   past_value_changes u before [] past = refl
-  past_value_changes u before (p ∷ ps) past =
-      let not_yet : (bytes_eq (code_of p.0) (code_of k) && nat_le u t) ≡ false =
-      and_right (bytes_eq (code_of p.0) (code_of k)) (nat_le u t) (lt-leb u t past) in
-      ap (λ b. after_value_changes (if b then extension width (short_form (signal_value p.1 u)) else before)
-      (map (value_change_of u) ps)) not_yet
-      ∙ past_value_changes u before ps past
+  past_value_changes u before (p ∷ ps) past = grind (arith, and_right, lt-leb, past_value_changes u before ps past)
 
   past_ticks : (signals : List SignalContents) (u n : ℕ) (before : List Bit) → t < u
       → after_value_changes before (tick_value_changes signals u n) ≡ before
   unfolding latest_value tick_value_changes
   past_ticks signals u zero before past = refl
   past_ticks signals u (suc n) before past =
-      latest_value-append width (code_of k) t before (map (value_change_of u) (differing signals u))
-      (tick_value_changes signals (suc u) n)
-      ∙ ap (λ v. after_value_changes v (tick_value_changes signals (suc u) n))
-      (past_value_changes u before (differing signals u) past)
-      ∙ past_ticks signals (suc u) n before (omega arith)
+      grind (arith, latest_value-append, past_value_changes, past_ticks signals (suc u) n before (omega arith))
 
   -- at a tick up to t, for signals that pass a test
   module _ (u : ℕ) (test : ℕ × SignalContents → Bool) where
@@ -65,23 +56,13 @@ module _ (width k t : ℕ) where
         → after_value_changes before (value_changes_from j (s ∷ ss))
         ≡ after_value_changes before (value_changes_from (j + 1) ss)
     unfolding latest_value
-    other_signal j s ss before other = choose (test (j, s))
-      where
-        choose : (b : Bool) → after_value_changes before
-            (map (value_change_of u)
-            (cond b ((j, s) ∷ filter test (enumerate_from (j + 1) ss)) (filter test (enumerate_from (j + 1) ss))))
-            ≡ after_value_changes before (value_changes_from (j + 1) ss)
-        choose true = ap (λ b. after_value_changes
-            (if b && nat_le u t then extension width (short_form (signal_value s u)) else before)
-            (value_changes_from (j + 1) ss)) (other_code j k other)
-        choose false = refl
+    other_signal j s ss before other = grind (arith, other_code)
 
     later_signals : (j : ℕ) (ss : List SignalContents) (before : List Bit) → k < j
         → after_value_changes before (value_changes_from j ss) ≡ before
     unfolding latest_value
     later_signals j [] before later = refl
-    later_signals j (s ∷ ss) before later = other_signal j s ss before (λ e. omega arith)
-        ∙ later_signals (j + 1) ss before (omega arith)
+    later_signals j (s ∷ ss) before later = grind (arith, other_signal, later_signals (j + 1) ss before (omega arith))
 
     -- the signal itself, where it passes
     own_value_change : (ss : List SignalContents) (i j : ℕ) (d : SignalContents) (before : List Bit) → j + i ≡ k
@@ -91,25 +72,9 @@ module _ (width k t : ℕ) where
         before)
     unfolding latest_value
     own_value_change [] i j d before at within come = absurd (omega arith)
-    own_value_change (s ∷ ss) zero j d before at within come =
-        let here : j ≡ k = omega arith in
-        subst (λ n. after_value_changes before (value_changes_from n (s ∷ ss))
-        ≡ (if test (k, s) then extension width (short_form (signal_value s u)) else before)) (sym here)
-        (choose (test (k, s)))
-      where
-        choose : (b : Bool) → after_value_changes before
-            (map (value_change_of u)
-            (cond b ((k, s) ∷ filter test (enumerate_from (k + 1) ss)) (filter test (enumerate_from (k + 1) ss))))
-            ≡ (if b then extension width (short_form (signal_value s u)) else before)
-        choose true =
-            (λ i. after_value_changes
-            (if same_code k i && le-leb u t come i then extension width (short_form (signal_value s u)) else before)
-            (value_changes_from (k + 1) ss))
-            ∙ later_signals (k + 1) ss (extension width (short_form (signal_value s u))) (omega arith)
-        choose false = later_signals (k + 1) ss before (omega arith)
+    own_value_change (s ∷ ss) zero j d before at within come = grind (arith, same_code, le-leb, later_signals)
     own_value_change (s ∷ ss) (suc i) j d before at within come =
-        other_signal j s ss before (λ e. omega arith)
-        ∙ own_value_change ss i (j + 1) d before (omega arith) (omega arith) come
+        grind (arith, other_signal, own_value_change ss i (j + 1) d before (omega arith) (omega arith) come)
 
 -- ---- one signal
 
@@ -123,8 +88,7 @@ module _ (signals : List SignalContents) (k t : ℕ) (d : SignalContents) (insid
   signal = get_or signals k d
 
   whole : (u : ℕ) → extension signal.width (short_form (signal_value signal u)) ≡ signal_value signal u
-  whole u = ap (λ w. extension w (short_form (signal_value signal u))) (sym (wide u))
-      ∙ ext-short (signal_value signal u)
+  whole u = grind (arith, ext-short)
 
   -- a value that differs is listed, and one that does not stays
   at_tick : (u : ℕ) → u ≤ t
@@ -177,8 +141,4 @@ module _ (signals : List SignalContents) (k t : ℕ) (d : SignalContents) (insid
   pub latest_is : (end : ℕ) → t ≤ end
       → latest_value signal.width (code_of k) t (all_x signal.width) (map (value_change_of 0) (enumerate_from 0 signals)
       ++ tick_value_changes signals 1 end) ≡ signal_value signal t
-  latest_is end within =
-      latest_value-append signal.width (code_of k) t (all_x signal.width)
-      (map (value_change_of 0) (enumerate_from 0 signals)) (tick_value_changes signals 1 end)
-      ∙ ap (λ v. latest_value signal.width (code_of k) t v (tick_value_changes signals 1 end)) at_start
-      ∙ from_tick 1 end (omega arith) (omega arith)
+  latest_is end within = grind (arith, latest_value-append, at_start, from_tick)

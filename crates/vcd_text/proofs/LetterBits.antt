@@ -29,25 +29,17 @@ use Rattle.vcd_text.specs.inside.ValueFronts.{IsKept, is_spare_above}
 pub held_letter : (v : List Bit) (from : ℕ) (word : LetterWord) (i : ℕ) → HoldsLetters Zero v from word → i < 64
     → from + i < length v
     → letter_in word i ≡ letter_at v (from + i)
-held_letter v from word i holds inside within = holds.each i inside
-    ∙ ap (λ b. if b then letter_at v (from + i) else Zero) (lt-ltb (from + i) (length v) within)
+held_letter v from word i holds inside within = grind (arith, lt-ltb)
 
 -- a letter of the value of a word
 pub given_letter : (width : ℕ) (word : LetterWord) (k : ℕ) → width ≤ 64 → k < width
     → letter_at (letters_of width (word ∷ [])) k ≡ letter_in word k
-given_letter width word k narrow within =
-    letter_at-letters_of width (word ∷ []) k within ∙ one_word word k (omega arith)
+given_letter width word k narrow within = grind (arith, letter_at-letters_of, one_word)
 
 -- a word that holds a whole value gives it
 pub given_whole : (v : List Bit) (word : LetterWord) → length v ≤ 64 → HoldsLetters Zero v 0 word
     → letters_of (length v) (word ∷ []) ≡ v
-given_whole v word narrow holds =
-    let long = length-letters_of (length v) (word ∷ []) in
-    same_letter_at _ v long (λ k below.
-    let within : k < length v = omega (arith, below, long) in
-    let place : 0 + k ≡ k = omega arith in
-    given_letter (length v) word k narrow within ∙ held_letter v 0 word k holds (omega arith) (omega arith)
-    ∙ ap (letter_at v) place)
+given_whole v word narrow holds = grind (arith, length-letters_of, same_letter_at, given_letter, held_letter)
 
 -- ---- the lowest letters
 
@@ -59,23 +51,13 @@ pub length-lowest : (n : ℕ) (v : List Bit) → n ≤ length v → length (lowe
 length-lowest n v within = length-drop (length v - n) v ∙ omega arith
 
 pub letter_at-lowest : (n : ℕ) (v : List Bit) (k : ℕ) → n ≤ length v → k < n → letter_at (lowest n v) k ≡ letter_at v k
-letter_at-lowest n v k within below =
-    let place : length v - n + (length (lowest n v) - 1 - k) ≡ length v - 1 - k =
-    omega (arith, length-lowest n v within) in
-    get_or-drop (length v - n) v (length (lowest n v) - 1 - k) X ∙ ap (λ i. get_or v i X) place
+letter_at-lowest n v k within below = grind (arith, length-lowest, get_or-drop)
 
 -- the lowest letters of a word
 pub lowest_given : (width count : ℕ) (word : LetterWord) → width ≤ 64 → count ≤ width
     → lowest count (letters_of width (word ∷ [])) ≡ letters_of count (word ∷ [])
 lowest_given width count word narrow within =
-    let v = letters_of width (word ∷ []) in
-    let long = length-letters_of width (word ∷ []) in
-    let few = length-letters_of count (word ∷ []) in
-    let fits : count ≤ length v = omega (arith, long) in
-    same_letter_at _ _ (length-lowest count v fits ∙ sym few) (λ k below.
-    let inside : k < count = omega (arith, below, length-lowest count v fits) in
-    letter_at-lowest count v k fits inside ∙ given_letter width word k narrow (omega (arith, inside))
-    ∙ sym (given_letter count word k (omega arith) inside))
+    grind (arith, length-letters_of, same_letter_at, length-lowest, letter_at-lowest, given_letter)
 
 -- ---- letters in a row
 
@@ -85,26 +67,7 @@ pub pair_written : (f : ℕ → ℕ) (row : List ℕ) (k a b : ℕ) → length r
     → a ≡ f (2 * k + 1) → b ≡ f (2 * k + 0) → (i : ℕ) → i < 2 * (k + 1)
     → get_or (set (set row (62 - 2 * k) a) (63 - 2 * k) b) (63 - i) 0 ≡ f i
 pair_written f row k a b long inside written upper lower i within =
-    let second = set row (62 - 2 * k) a in
-    let long' : length second ≡ 64 = length-set row (62 - 2 * k) a ∙ long in
-    elim (cases_lt i (2 * k)) [
-      | inl before ↦
-          get_or-set_other second (63 - 2 * k) (63 - i) b 0 (omega arith)
-          ∙ get_or-set_other row (62 - 2 * k) (63 - i) a 0 (omega arith)
-          ∙ written i before
-      | inr from ↦ elim (cases_eq i (2 * k)) [
-        | inl last ↦
-            let place : 63 - i ≡ 63 - 2 * k = omega arith in
-            let at : 2 * k + 0 ≡ i = omega arith in
-            ap (λ n. get_or (set second (63 - 2 * k) b) n 0) place
-            ∙ get_or-set_same second (63 - 2 * k) b 0 (omega (arith, long')) ∙ lower ∙ ap f at
-        | inr other ↦
-            let place : 63 - i ≡ 62 - 2 * k = omega arith in
-            let at : 2 * k + 1 ≡ i = omega arith in
-            get_or-set_other second (63 - 2 * k) (63 - i) b 0 (omega arith) ∙ ap (λ n. get_or second n 0) place
-            ∙ get_or-set_same row (62 - 2 * k) a 0 (omega (arith, long)) ∙ upper ∙ ap f at
-      ]
-    ]
+    grind (arith, length-set, cases_lt, get_or-set_other, cases_eq, get_or-set_same)
 
 -- the end of a row of letters
 pub row_end : (row : List ℕ) (count : ℕ) (word : LetterWord) → length row ≡ 64 → count ≤ 64
@@ -135,10 +98,8 @@ word_and_rest v left from word most fits within holds =
     let start : ℕ = length v - left in
     let end : ℕ = length v - from in
     let part = slice_range v start end in
-    let few : length (letters_of count (word ∷ [])) ≡ count =
-    length-letters_of count (word ∷ []) in
-    let long : length part ≡ count = length-take-le (end - start) (drop start v) (omega (arith, length-drop start v))
-    ∙ omega (arith, most, within) in
+    let few : length (letters_of count (word ∷ [])) ≡ count = grind (arith, length-letters_of) in
+    let long : length part ≡ count = grind (arith, length-take-le, length-drop) in
     let same : part ≡ letters_of count (word ∷ []) = same_letter_at part _ (long ∙ sym few) (λ k below.
     let inside : k < count = omega (arith, below, long) in
     let place : start + (length part - 1 - k) ≡ length v - 1 - (from + k) = omega (arith, inside, long, within) in
@@ -159,19 +120,11 @@ is_spare_in v i = same_letter (pad_letter (letter_at v i ∷ [])) (letter_at v (
 pub spare_held : (v : List Bit) (from : ℕ) (word : LetterWord) (i : ℕ) → HoldsLetters Zero v from word → i + 1 < 64
     → from + i + 1 < length v
     → is_spare_above word i ≡ is_spare_in v (from + i)
-spare_held v from word i holds inside within =
-    let next : from + (i + 1) ≡ from + i + 1 = omega arith in
-    let one = held_letter v from word i holds (omega arith) (omega arith) in
-    let two : letter_in word (i + 1) ≡ letter_at v (from + i + 1) =
-    held_letter v from word (i + 1) holds inside (omega arith) ∙ ap (letter_at v) next in
-    (λ p. same_letter (pad_letter (one p ∷ [])) (two p))
+spare_held v from word i holds inside within = grind (arith, held_letter)
 
 pub spare_given : (width : ℕ) (word : LetterWord) (i : ℕ) → width ≤ 64 → i + 1 < width
     → is_spare_above word i ≡ is_spare_in (letters_of width (word ∷ [])) i
-spare_given width word i narrow within =
-    let one = sym (given_letter width word i narrow (omega arith)) in
-    let two = sym (given_letter width word (i + 1) narrow within) in
-    (λ p. same_letter (pad_letter (one p ∷ [])) (two p))
+spare_given width word i narrow within = grind (arith, given_letter)
 
 abbrev bit : Bool → ℕ
 bit true = 1
@@ -208,13 +161,7 @@ mark_tells true true true true = refl
 
 mark_is : (h' h l' l : ℕ) → h' < 2 → h < 2 → l' < 2 → l < 2
     → mark h' h l' l ≡ (if same_letter (pad_letter (letter_of l h ∷ [])) (letter_of l' h') then 0 else 1)
-mark_is h' h l' l small_h' small_h small_l' small_l =
-    let a = bit_again h' small_h' in
-    let b = bit_again h small_h in
-    let c = bit_again l' small_l' in
-    let d = bit_again l small_l in
-    (λ p. mark (a.1 p) (b.1 p) (c.1 p) (d.1 p)) ∙ mark_tells a.0 b.0 c.0 d.0
-    ∙ sym (λ p. if same_letter (pad_letter (letter_of (d.1 p) (b.1 p) ∷ [])) (letter_of (c.1 p) (a.1 p)) then 0 else 1)
+mark_is h' h l' l small_h' small_h small_l' small_l = grind (arith, bit_again, mark_tells)
 
 -- a word halved has the bits of the next letters
 halved : (w i : ℕ) → bit_at (w / 2) i ≡ bit_at w (i + 1)
@@ -268,8 +215,7 @@ has_length m small =
       record {
         counted = length.1;
         top = by length.0 length.2 length.3;
-        above =
-            λ i past. bit_at_above m length.0 i length.2 past;
+        above = grind (arith, bit_at_above);
       },
     )
   where
@@ -305,22 +251,8 @@ kept_is count word marks mask least most fits is_mask tells =
     let kept : 65 - count_leading_zeros 64 m ≡ n + 1 = omega (arith, length.1.counted) in
     let masked : (i : ℕ) → bit_at m i ≡ min (bit_at marks i) (bit_at (2 ^ (count - 1) - 1) i) = λ i.
     bit_at_and marks mask i ∙ ap (λ w. min (bit_at marks i) (bit_at w i)) is_mask in
-    let both : 1 ≤ n → (bit_at marks (n - 1) ≡ 1) × (bit_at (2 ^ (count - 1) - 1) (n - 1) ≡ 1) = λ some. (
-      omega (
-        arith,
-        masked (n - 1),
-        length.1.top some,
-        bit_at-lt marks (n - 1),
-        bit_at-lt (2 ^ (count - 1) - 1) (n - 1),
-      ),
-      omega (
-        arith,
-        masked (n - 1),
-        length.1.top some,
-        bit_at-lt marks (n - 1),
-        bit_at-lt (2 ^ (count - 1) - 1) (n - 1),
-      ),
-    ) in
+    let both : 1 ≤ n → (bit_at marks (n - 1) ≡ 1) × (bit_at (2 ^ (count - 1) - 1) (n - 1) ≡ 1) =
+    grind (arith, bit_at-lt) in
     record {
       least = omega (arith, kept);
       most = elim (cases_lt (n - 1) (count - 1)) [
@@ -330,10 +262,7 @@ kept_is count word marks mask least most fits is_mask tells =
           | inr none ↦ omega (arith, kept, none)
         ]
       ];
-      spare = λ i past below.
-          let set : bit_at (2 ^ (count - 1) - 1) i ≡ 1 = bit_at_ones (count - 1) i (omega arith) in
-          let none : bit_at marks i ≡ 0 = omega (arith, masked i, length.1.above i (omega (arith, kept)), set) in
-          spare_where_none _ _ (tells i (omega arith)) none;
+      spare = grind (arith, bit_at_ones, spare_where_none);
       needed = λ some.
           let place : 65 - count_leading_zeros 64 m - 2 ≡ n - 1 = omega (arith, kept) in
           let one = (both (omega (arith, kept))).0 in

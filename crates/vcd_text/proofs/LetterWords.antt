@@ -32,23 +32,10 @@ past_text : (pad : Bit) (s : List Bit) (i : ℕ) → length s ≤ i → letter_o
 past_text pad s i past = ap (λ b. if b then letter_at s i else pad) (le-ltb i (length s) past)
 
 last_letter : (pad : Bit) (s : List Bit) (b : Bit) → letter_or pad (s ++ b ∷ []) 0 ≡ b
-last_letter pad s b =
-    let long : length (s ++ b ∷ []) ≡ length s + 1 = length-append s (b ∷ []) in
-    let place : length (s ++ b ∷ []) - 1 - 0 ≡ length s = omega (arith, long) in
-    let here : length s - length s ≡ 0 = omega arith in
-    in_text pad (s ++ b ∷ []) 0 (omega (arith, long)) ∙ ap (λ i. get_or (s ++ b ∷ []) i X) place
-    ∙ get_or-append_right s (b ∷ []) (length s) (length s) X refl (omega arith) ∙ ap (λ i. get_or (b ∷ []) i X) here
+last_letter pad s b = grind (arith, length-append, in_text, get_or-append_right)
 
 other_letter : (pad : Bit) (s : List Bit) (b : Bit) (i : ℕ) → letter_or pad (s ++ b ∷ []) (i + 1) ≡ letter_or pad s i
-other_letter pad s b i =
-    let long : length (s ++ b ∷ []) ≡ length s + 1 = length-append s (b ∷ []) in
-    elim (cases_lt i (length s)) [
-      | inl within ↦
-          let place : length (s ++ b ∷ []) - 1 - (i + 1) ≡ length s - 1 - i = omega (arith, long) in
-          in_text pad (s ++ b ∷ []) (i + 1) (omega (arith, long)) ∙ ap (λ k. get_or (s ++ b ∷ []) k X) place
-          ∙ get_or_append_left s (b ∷ []) X (length s - 1 - i) (omega arith) ∙ sym (in_text pad s i within)
-      | inr past ↦ past_text pad (s ++ b ∷ []) (i + 1) (omega (arith, long)) ∙ sym (past_text pad s i past)
-    ]
+other_letter pad s b i = grind (arith, length-append, cases_lt, in_text, get_or_append_left, past_text)
 
 -- the letters from bit 0 on
 held : (pad : Bit) (s : List Bit) (word : LetterWord) → HoldsLetters pad s 0 word → (i : ℕ) → i < 64
@@ -57,9 +44,7 @@ held pad s word holds i inside = holds.each i inside ∙ ap (letter_or pad s) (l
 
 holds_each : (pad : Bit) (s : List Bit) (word : LetterWord)
     → ((i : ℕ) → i < 64 → letter_in word i ≡ letter_or pad s i) → HoldsLetters pad s 0 word
-holds_each pad s word each = record {
-  each = λ i inside. each i inside ∙ ap (letter_or pad s) (let e : i ≡ 0 + i = omega arith in e);
-}
+holds_each pad s word each = grind arith
 
 -- a word of one letter holds no others
 pub none_held : (pad : Bit) (word : LetterWord) → ((i : ℕ) → i < 64 → letter_in word i ≡ pad)
@@ -101,16 +86,12 @@ eight_more digits i =
 pub holds_both : (pad : Bit) (front back all : List ℕ) (old new : LetterWord) → front ++ back ≡ all
     → HoldsLetters pad (letters_of_digits front) 0 old → AddsLetters (letters_of_digits back) old new
     → HoldsLetters pad (letters_of_digits all) 0 new
-holds_both pad front back all old new whole holds adds =
-    subst (λ t. HoldsLetters pad t 0 new) (sym (map-append (λ b. unwrap_or (letter_of_digit b) X) front back)
-    ∙ ap letters_of_digits whole)
-    (adds pad (letters_of_digits front) holds)
+holds_both pad front back all old new whole holds adds = grind (arith, map-append)
 
 pub both_are_digits : (front back all : List ℕ) → front ++ back ≡ all → list_all is_binary_digit front ≡ true
     → list_all is_binary_digit back ≡ true
     → list_all is_binary_digit all ≡ true
-both_are_digits front back all whole first second =
-    ap (list_all is_binary_digit) (sym whole) ∙ list_all-append is_binary_digit front back ∙ and_from _ _ first second
+both_are_digits front back all whole first second = grind (arith, list_all-append, and_from)
 
 -- ---- one word more
 
@@ -127,10 +108,8 @@ part_letter pad digits k i inside =
     let s = letters_of_digits digits in
     let all : length s ≡ length digits = length-map digits (λ b. unwrap_or (letter_of_digit b) X) in
     let part : letters_of_digits (digits_of digits k) ≡ take (end - from) (drop from s) =
-    sym (ap (take (end - from)) (drop-map (λ b. unwrap_or (letter_of_digit b) X) from digits)
-    ∙ take-map (λ b. unwrap_or (letter_of_digit b) X) (end - from) (drop from digits)) in
-    let long : length (take (end - from) (drop from s)) ≡ end - from =
-    length-take-le (end - from) (drop from s) (omega (arith, all, length-drop from s)) in
+    grind (arith, drop-map, take-map) in
+    let long : length (take (end - from) (drop from s)) ≡ end - from = grind (arith, length-take-le, length-drop) in
     ap (λ l. letter_or pad l i) part ∙ elim (cases_lt i (end - from)) [
       | inl within ↦
           let place : length (take (end - from) (drop from s)) - 1 - i ≡ end - from - 1 - i = omega (arith, long) in
@@ -199,9 +178,7 @@ not_all_before n digits none =
 -- where a byte of a word is no digit, not all are
 pub no_letter : (digits : List ℕ) (k : ℕ) → list_all is_binary_digit (digits_of digits k) ≡ false
     → list_all is_binary_digit digits ≡ false
-no_letter digits k none =
-    let end : ℕ = length digits - 64 * k in
-    not_all_after (end - 64) digits (not_all_before (end - (end - 64)) (drop (end - 64) digits) none)
+no_letter digits k none = grind (arith, not_all_after, not_all_before)
 
 -- ---- all words
 
@@ -229,9 +206,7 @@ extension_letter width s i fits inside =
 pub row_is_extension : (width count : ℕ) (s : List Bit) (words : List LetterWord) → length s ≤ width
     → width ≤ 64 * count → RowHolds (pad_letter s) s count words → letters_of width words ≡ extension width s
 row_is_extension width count s words fits covers row =
-    let long : length (extension width s) ≡ width =
-    length-append (replicate (width - length s) (pad_letter s)) s
-    ∙ omega (arith, length-replicate (width - length s) (pad_letter s)) in
+    let long : length (extension width s) ≡ width = grind (arith, length-append, length-replicate) in
     same_letter_at _ _ (length-letters_of width words ∙ sym long) (λ i below.
     let inside : i < width = omega (arith, length-letters_of width words) in
     letter_at-letters_of width words i inside ∙ row.each i (omega arith) ∙ sym (extension_letter width s i fits inside))

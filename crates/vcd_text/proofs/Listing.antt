@@ -17,20 +17,12 @@ pub one_listed : (from to k : ℕ) (signals : List Signal) (s : Signal) (out new
     → out ++ unsorted_window from to k (map signal_contents (drop k signals)) ≡ whole
     → new ++ unsorted_window from to (k + 1) (map signal_contents (drop (k + 1) signals)) ≡ whole
 unfolding unsorted_window
-one_listed from to k signals s out new whole within at grown all =
-    ap (λ l. l ++ unsorted_window from to (k + 1) (map signal_contents (drop (k + 1) signals))) grown
-    ∙ append_assoc out (window_of_signal from to k s.wave.changes)
-    (unsorted_window from to (k + 1) (map signal_contents (drop (k + 1) signals)))
-    ∙ ap (λ l. out ++ unsorted_window from to k (map signal_contents l))
-    (sym (drop_more signals k s within ∙ ap (λ x. x ∷ drop (k + 1) signals) (sym at)))
-    ∙ all
+one_listed from to k signals s out new whole within at grown all = grind (arith, append_assoc, drop_more)
 
 pub all_listed : (from to k : ℕ) (signals : List Signal) (out whole : List Transition) → length signals ≤ k
     → out ++ unsorted_window from to k (map signal_contents (drop k signals)) ≡ whole → out ≡ whole
 unfolding unsorted_window
-all_listed from to k signals out whole past all =
-    sym (append-nil out) ∙ ap (λ l. out ++ unsorted_window from to k (map signal_contents l))
-    (sym (drop_all k signals past)) ∙ all
+all_listed from to k signals out whole past all = grind (arith, append-nil, drop_all)
 
 -- the items listed and those of one more signal are not more than all
 pub longer_than : (from to k : ℕ) (signals : List Signal) (s : Signal) (out whole : List Transition)
@@ -53,5 +45,4 @@ longer_than from to k signals s out whole within at all =
 -- the value of a transition is that in the wave of its signal
 pub value_there : (signals : List Signal) (s : Signal) (k t : ℕ) → k < length signals → s ≡ get_or signals k s
     → transition_value (map signal_contents signals) (transition_of t k) ≡ value_at s.wave.width s.wave.changes t
-value_there signals s k t within is =
-    ap (λ x. signal_value x t) (get_or-map signal_contents signals k s no_signal within ∙ ap signal_contents (sym is))
+value_there signals s k t within is = grind (arith, get_or-map)

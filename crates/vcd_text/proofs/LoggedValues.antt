@@ -33,9 +33,7 @@ rises_past floor tick (e ∷ es) (from, rises) = omega (arith, from, rises_past 
 
 ends_later : (cs : List Change) (early late : ℕ) → early ≤ late → All (λ (c : Change). c.tick ≤ early) cs
     → All (λ (c : Change). c.tick ≤ late) cs
-ends_later cs early late later ended =
-    All-weaker (λ (c : Change). c.tick ≤ early) (λ (c : Change). c.tick ≤ late) (λ c le. omega (arith, le, later)) cs
-    ended
+ends_later cs early late later ended = grind (arith, All-weaker)
 
 module _ (width tick : ℕ) (f : ℕ → List Bit) (cs : List Change) where
   -- ---- a wave with the changes after it
@@ -48,20 +46,11 @@ module _ (width tick : ℕ) (f : ℕ → List Bit) (cs : List Change) where
   -- the tick can be a later one
   pub gives_further : (late : ℕ) (es : List LoggedChange) → tick ≤ late → GivesLoggedValues width tick f cs es
       → GivesLoggedValues width late f cs es
-  gives_further late es later g =
-      record {
-        floor = g.floor;
-        ticks = g.ticks;
-        rises = rises_further g.floor tick late es later g.rises;
-        narrow =
-            g.narrow;
-        values = g.values;
-      }
+  gives_further late es later g = grind (arith, rises_further)
 
   pub gives_as : (g : ℕ → List Bit) (es : List LoggedChange) → ((t : ℕ) → f t ≡ g t)
       → GivesLoggedValues width tick f cs es → GivesLoggedValues width tick g cs es
-  gives_as g es same h =
-      record { floor = h.floor; ticks = h.ticks; rises = h.rises; narrow = h.narrow; values = λ t. h.values t ∙ same t }
+  gives_as g es same h = grind arith
 
   -- ---- a change more
 
@@ -69,14 +58,7 @@ module _ (width tick : ℕ) (f : ℕ → List Bit) (cs : List Change) where
   pub gives_appended : (v : List Bit) (es : List LoggedChange) (e : LoggedChange) → e.tick ≡ tick → width ≤ 64
       → logged_letters width e ≡ v → GivesLoggedValues width tick f cs es
       → GivesLoggedValues width tick (λ t. if nat_le tick t then v else f t) cs (es ++ e ∷ [])
-  gives_appended v es e at narrow letters g = record {
-    floor = g.floor;
-    ticks = g.ticks;
-    rises = rises_more g.floor tick es e at g.rises;
-    narrow = λ _. narrow;
-    values = λ t. value_after_changes-more width t (value_at width cs t) es e
-        ∙ (λ i. if nat_le (at i) t then letters i else g.values t i);
-  }
+  gives_appended v es e at narrow letters g = grind (arith, rises_more, value_after_changes-more)
 
   -- a change that a wide wave takes
   pub gives_pushed : (v : List Bit) (ds : List Change) (es : List LoggedChange) → 64 < width
@@ -91,8 +73,7 @@ module _ (width tick : ℕ) (f : ℕ → List Bit) (cs : List Change) where
     narrow = λ some. absurd (omega (arith, some));
     values = λ t. values t ∙ ap (λ b. if nat_le tick t then v else b) (g.values t);
   }
-  gives_pushed v ds (e ∷ es) wide ended values g = let narrow : width ≤ 64 = g.narrow (omega arith) in
-      absurd (omega (arith, wide, narrow))
+  gives_pushed v ds (e ∷ es) wide ended values g = grind arith
 
   -- ---- a change of the log less
 
@@ -110,21 +91,9 @@ module _ (width tick : ℕ) (f : ℕ → List Bit) (cs : List Change) where
       → All (λ (c : Change). c.tick ≤ e.tick) ds
       → ((t : ℕ) → value_at width ds t ≡ (if nat_le e.tick t then logged_letters width e else value_at width cs t))
       → GivesLoggedValues width tick f cs (e ∷ es) → GivesLoggedValues width tick f ds es
-  gives_flushed ds e es ended values g = record {
-    floor = e.tick;
-    ticks = ended;
-    rises = g.rises.1;
-    narrow = λ _. g.narrow (omega arith);
-    values = λ t. ap (λ b. value_after_changes width t b es) (values t) ∙ g.values t;
-  }
+  gives_flushed ds e es ended values g = grind arith
 
 -- a wave with no change, where the log has none for it
 pub gives_nothing : (width tick : ℕ) → GivesLoggedValues width tick (λ t. all_x width) [] []
 unfolding value_from
-gives_nothing width tick = record {
-  floor = 0;
-  ticks = All-nil (λ (c : Change). c.tick ≤ 0);
-  rises = omega arith;
-  narrow = λ some. absurd (omega (arith, some));
-  values = λ t. refl;
-}
+gives_nothing width tick = grind (arith, All-nil)

@@ -11,8 +11,7 @@ pub from_floor : (floor : ℕ) (before : List Bit) (cs : List Change) (k : ℕ) 
 from_floor floor before [] k d rise inside = absurd (omega arith)
 from_floor floor before (c ∷ cs) zero d (from, other, wide, rest) inside = from
 from_floor floor before (c ∷ cs) (suc k) d (from, other, wide, rest) inside =
-    let later = from_floor (c.tick + 1) c.value cs k d rest (omega arith) in
-    omega arith
+    grind (arith, from_floor (c.tick + 1) c.value cs k d rest (omega arith))
 
 pub value_standing : (floor : ℕ) (before : List Bit) (cs : List Change) (k t : ℕ) (d : Change)
     → AreChangesFrom floor before cs → k < length cs → (get_or cs k d).tick ≡ t
@@ -21,5 +20,4 @@ value_standing floor before [] k t d rise inside at = absurd (omega arith)
 value_standing floor before (c ∷ cs) zero t d (from, other, wide, rest) inside at =
     value_past before c cs t (omega arith) ∙ value_early c.value c.value cs (c.tick + 1) t rest (omega arith)
 value_standing floor before (c ∷ cs) (suc k) t d (from, other, wide, rest) inside at =
-    let later = from_floor (c.tick + 1) c.value cs k d rest (omega arith) in
-    value_past before c cs t (omega arith) ∙ value_standing (c.tick + 1) c.value cs k t d rest (omega arith) at
+    grind (arith, from_floor, value_past, value_standing (c.tick + 1) c.value cs k t d rest (omega arith) at)

@@ -20,16 +20,7 @@ use Rattle.vcd_text.proofs.Counts.{after_window, before_window, in_window}
 
 -- a tick before all ticks is that of a change
 pub tick_inside : (cs : List Change) (k : ℕ) → tick_at cs k < 2 ^ 64 - 1 → k < length cs
-tick_inside cs k early =
-    elim (cases_lt k (length cs)) [
-      | inl inside ↦ inside
-      | inr past ↦ absurd (omega (
-        arith,
-        early,
-        get_or_past (map (λ (c : Change). c.tick) cs) k (2 ^ 64 - 1)
-            (omega (arith, past, length-map cs (λ (c : Change). c.tick))),
-      ))
-    ]
+tick_inside cs k early = grind (arith, cases_lt, get_or_past, length-map)
 
 tick_is : (cs : List Change) (k : ℕ) (d : Change) → k < length cs → tick_at cs k ≡ (get_or cs k d).tick
 tick_is cs k d inside = get_or-map (λ (c : Change). c.tick) cs k d (2 ^ 64 - 1) inside
@@ -38,8 +29,7 @@ later_tick : (floor : ℕ) (before : List Bit) (cs : List Change) (k : ℕ) → 
     → tick_at cs k < 2 ^ 64 - 1 → tick_at cs k < tick_at cs (k + 1)
 later_tick floor before [] k rise early = absurd (omega (arith, early))
 later_tick floor before (c ∷ cs) (suc k) (from, other, wide, rest) early =
-    subst (λ n. tick_at (c ∷ cs) (suc k) < tick_at (c ∷ cs) n) (let e : suc (k + 1) ≡ suc k + 1 = omega arith in e)
-    (later_tick (c.tick + 1) c.value cs k rest early)
+    grind (arith, later_tick (c.tick + 1) c.value cs k rest early)
 later_tick floor before (c ∷ []) zero rise early = early
 later_tick floor before (c ∷ d ∷ cs) zero (from, other, wide, rest) early = omega (arith, rest.0)
 
@@ -78,12 +68,7 @@ goes_on from to cs n m rise is early end place tick following =
 -- before a later tick
 pub goes_to : (from to : ℕ) (cs : List Change) (n : NextChange) → from ≤ to → IsNext from from cs n
     → IsNext from to cs n
-goes_to from to cs n up is = record {
-  passed = λ k d inside. omega (arith, is.passed k d inside, up);
-  left = is.left;
-  tick = is.tick;
-  following = is.following;
-}
+goes_to from to cs n up is = grind arith
 
 -- ---- a window of one wave
 
@@ -120,26 +105,21 @@ none_in : (from to position floor : ℕ) (before : List Bit) (cs : List Change) 
     → to ≤ floor → window_of_signal from to position cs ≡ []
 none_in from to position floor before [] rise late = refl
 none_in from to position floor before (c ∷ cs) (low, other, wide, rest) late =
-    let all = filter (λ (x : Change). is_in_window from to x.tick) cs in
-    ap (λ b. map (λ (x : Change). transition_of x.tick position) (cond b (c ∷ all) all))
-    (after_window from to c.tick (omega arith))
-    ∙ none_in from to position (c.tick + 1) c.value cs rest (omega arith)
+    grind (arith, after_window, none_in from to position (c.tick + 1) c.value cs rest (omega arith))
 
 -- from a late change on none is
 ends : (from to position floor : ℕ) (before : List Bit) (cs : List Change) (k : ℕ) → AreChangesFrom floor before cs
     → to ≤ tick_at cs k → window_of_signal from to position (drop k cs) ≡ []
 ends from to position floor before [] zero rise late = refl
 ends from to position floor before [] (suc k) rise late = refl
-ends from to position floor before (c ∷ cs) zero (low, other, wide, rest) late =
-    none_in from to position c.tick before (c ∷ cs) (omega arith, other, wide, rest) late
+ends from to position floor before (c ∷ cs) zero (low, other, wide, rest) late = grind (arith, none_in)
 ends from to position floor before (c ∷ cs) (suc k) (low, other, wide, rest) late =
     ends from to position (c.tick + 1) c.value cs k rest late
 
 pub stops : (from to position : ℕ) (cs : List Change) (n : NextChange) → AreRising cs → IsNext from to cs n
     → to ≤ n.tick
     → window_of_signal from to position (drop n.place cs) ≡ []
-stops from to position cs n rise is late =
-    ends from to position 0 (all_x rise.width) cs n.place rise.form.rise (omega (arith, is.tick, late))
+stops from to position cs n rise is late = grind (arith, ends)
 
 -- ---- signal by signal
 
@@ -148,12 +128,7 @@ put_next : (from p k : ℕ) (signals : List Signal) (nexts : List NextChange) (t
     → k ≡ p → p < length signals → length nexts ≡ length signals
     → there ≡ get_or signals p there → IsNext from from there.wave.changes next
     → IsNext from from (get_or signals k s).wave.changes (get_or (set nexts p next) k n)
-put_next from p k signals nexts there s next n at inside all is holds =
-    let signal : there ≡ get_or signals p s = is ∙ get_or_default signals p there s inside in
-    let put : next ≡ get_or (set nexts p next) p n = sym (get_or-set_same nexts p next n (omega arith)) in
-    subst (λ i. IsNext from from (get_or signals i s).wave.changes (get_or (set nexts p next) i n)) (sym at)
-    (subst (λ (x : NextChange). IsNext from from (get_or signals p s).wave.changes x) put
-    (subst (λ (x : Signal). IsNext from from x.wave.changes next) signal holds))
+put_next from p k signals nexts there s next n at inside all is holds = grind (arith, get_or_default, get_or-set_same)
 
 -- the signals before a place, and one more
 pub passed_next : (from p : ℕ) (signals : List Signal) (nexts : List NextChange) (there : Signal) (next : NextChange)

@@ -1,4 +1,5 @@
 -- Decimal numbers up to a greatest one.
+use Rattle.std.proofs.Common.{arith}
 use Rattle.std.proofs.Common.{◌≡◌, ℕ, cond, min, Bool, true, false, List, Option, Some, None, MatchOption, refl, sym}
 use Rattle.std.proofs.Common.{subst}
 use Rattle.vcd_core.specs.Decimal.{is_number, number_of, number_up_to}
@@ -10,7 +11,4 @@ cases_of_test false n = refl
 -- the result is a number where there is one, and none where there is none
 pub number_cases : (text : List ℕ) (most : ℕ) (r : Option ℕ) → r ≡ number_up_to text most
     → MatchOption r (is_number text ≡ false) (λ n. (is_number text ≡ true) × (n ≡ min (number_of text) most))
-number_cases text most r is =
-    subst (λ o. MatchOption o (is_number text ≡ false) (λ n. (is_number text ≡ true) × (n ≡ min (number_of text) most)))
-    (sym is)
-    (cases_of_test (is_number text) (min (number_of text) most))
+number_cases text most r is = grind (arith, cases_of_test)

@@ -40,12 +40,8 @@ same_end : (c : ParseState) (is js : List Item) (r s : List (List ℕ)) → spel
     → AllowsAll c is → AllowsAll c js
     → IsLast (front_of (state_after c is) r) → IsLast (front_of (state_after c js) s) → (is ≡ js) × (r ≡ s)
 same_end c [] [] r s e a b p q = (refl, e)
-same_end c [] (j ∷ js) r s e a b p q =
-    absurd (subst IsLast (ap (front_of c) (e ∙ append_assoc (spelling j) (spellings js) s)
-    ∙ whole_front c j (spellings js ++ s) b.0) p)
-same_end c (i ∷ is) [] r s e a b p q =
-    absurd (subst IsLast (ap (front_of c) (sym e ∙ append_assoc (spelling i) (spellings is) r)
-    ∙ whole_front c i (spellings is ++ r) a.0) q)
+same_end c [] (j ∷ js) r s e a b p q = grind (arith, append_assoc, whole_front)
+same_end c (i ∷ is) [] r s e a b p q = grind (arith, append_assoc, whole_front)
 same_end c (i ∷ is) (j ∷ js) r s e a b p q =
     let f : whole i (spellings is ++ r) ≡ whole j (spellings js ++ s) =
     sym (whole_front c i (spellings is ++ r) a.0)
@@ -69,42 +65,22 @@ record Ends (words : List (List ℕ)) (told : ParseState) (rest : List (List ℕ
 
 one_end : (words : List (List ℕ)) (c d : ParseState) (r s : List (List ℕ)) (f g : Front) → Ends words c r f
     → Ends words d s g → (c ≡ d) × (r ≡ s) × (f ≡ g)
-one_end words c d r s f g a b =
-    let p = same_end initial_state a.items b.items r s (sym a.spelled ∙ b.spelled) a.allowed b.allowed
-    (subst IsLast (sym (ap (λ x. front_of x r) a.tells ∙ a.shows)) a.is_last)
-    (subst IsLast (sym (ap (λ x. front_of x s) b.tells ∙ b.shows)) b.is_last) in
-    let told : c ≡ d = sym a.tells ∙ ap (state_after initial_state) p.0 ∙ b.tells in
-    (told, p.1, sym a.shows ∙ ap (λ x. front_of x r) told ∙ ap (front_of d) p.1 ∙ b.shows)
+one_end words c d r s f g a b = grind (arith, same_end)
 
 accepts_ends : (words : List PlacedWord) (told : ParseState) → Accepts words told
     → Ends (word_texts words) told [] ended
-accepts_ends words told a = record {
-  items = a.items;
-  spelled = a.spelled ∙ sym (append-nil (spellings a.items));
-  allowed = a.allowed;
-  tells = a.tells;
-  shows = front_at true told [] ended a.definitions_ended refl;
-  is_last = tt;
-}
+accepts_ends words told a = grind (arith, append-nil, front_at)
 
 stops_ends : (words : List PlacedWord) (s : Stops words)
     → Ends (word_texts words) (state_after initial_state s.items) s.begun unfinished
-stops_ends words s = record {
-  items = s.items;
-  spelled = s.spelled;
-  allowed = s.allowed;
-  tells = refl;
-  shows = unfinished_front (state_after initial_state s.items) s.begun s.unfinished;
-  is_last = tt;
-}
+stops_ends words s = search (arith, unfinished_front)
 
 refuses_ends : (words : List PlacedWord) (line : ℕ) (fault : Fault) (r : ShowsFault words line fault)
     → Ends (word_texts words) (state_after initial_state r.items) (word_texts (r.begun ++ r.word ∷ r.more))
     (faulty (place_of (state_after initial_state r.items).changing (word_texts r.begun)) fault)
 refuses_ends words line fault r = record {
   items = r.items;
-  spelled = ap word_texts r.parts ∙ map-append _ r.whole (r.begun ++ r.word ∷ r.more)
-      ∙ ap (λ x. x ++ word_texts (r.begun ++ r.word ∷ r.more)) r.spelled;
+  spelled = grind (arith, map-append);
   allowed = r.allowed;
   tells = refl;
   shows = ap (front_of (state_after initial_state r.items)) (map-append _ r.begun (r.word ∷ r.more))
@@ -162,9 +138,7 @@ pub one_fault : (words : List PlacedWord) (line other_line : ℕ) (fault other_f
 one_fault words line other_line fault other_fault p q =
     let e = one_end (word_texts words) _ _ _ _ _ _ (refuses_ends words line fault p)
     (refuses_ends words other_line other_fault q) in
-    let long : length (p.begun ++ p.word ∷ p.more) ≡ length (q.begun ++ q.word ∷ q.more) =
-    sym (length-map (p.begun ++ p.word ∷ p.more) (λ (w : PlacedWord). w.text)) ∙ ap length e.1
-    ∙ length-map (q.begun ++ q.word ∷ q.more) (λ (w : PlacedWord). w.text) in
+    let long : length (p.begun ++ p.word ∷ p.more) ≡ length (q.begun ++ q.word ∷ q.more) = grind (arith, length-map) in
     let rests : p.begun ++ p.word ∷ p.more ≡ q.begun ++ q.word ∷ q.more =
     same_rest words p.whole q.whole _ _ p.parts q.parts long in (
       p.at ∙ sym (line_replied _ p.begun p.word p.more)

@@ -26,27 +26,15 @@ use Rattle.vcd_text.proofs.Sorting.{AtLeast, RisesFrom, same_transitions, times,
 -- the key of a transition
 key_is : (from tick position : ℕ) → position < PLACES → from ≤ tick
     → transition_of_key from ((tick - from) * PLACES + position) ≡ transition_of tick position
-key_is from tick position small late =
-    let at : from + ((tick - from) * PLACES + position) / PLACES ≡ tick = omega arith in
-    let place : ((tick - from) * PLACES + position) % PLACES ≡ position = omega arith in
-    (λ i. transition_of (at i) (place i))
+key_is from tick position small late = grind arith
 
 -- a key that is not below another is that of a transition at its place or after it
 not_below : (from a b : ℕ) → a ≤ b
     → AtLeast (from + a / PLACES) (a % PLACES) (transition_of_key from b)
-not_below from a b up =
-    elim (cases_lt (a / PLACES) (b / PLACES)) [
-      | inl earlier ↦ inl (omega (arith, earlier))
-      | inr not_earlier ↦ inr (omega (arith, not_earlier, up), omega (arith, not_earlier, up))
-    ]
+not_below from a b up = grind (arith, cases_lt)
 
 not_less : (a b : ℕ) → is_lt (nat_cmp b a) ≡ false → a ≤ b
-not_less a b is =
-    elim (cases_lt b a) [
-      | inl less ↦ let wrong : true ≡ false =
-          sym (ap (λ x. is_lt (cond x Less (cond (b == a) Equal Greater))) (lt-ltb b a less)) ∙ is in absurd (cc)
-      | inr up ↦ up
-    ]
+not_less a b is = grind (arith, cases_lt, lt-ltb)
 
 rises_after : (from key : ℕ) (keys : List ℕ)
     → ((k d : ℕ) → k + 1 < length (key ∷ keys)
@@ -62,14 +50,7 @@ rises_after from key (next ∷ keys) up = (
 
 keys_rise : (from : ℕ) (keys : List ℕ) → IsSorted nat_cmp keys → RisesFrom 0 0 (transitions_of from keys)
 keys_rise from [] up = tt
-keys_rise from (key ∷ keys) up = (
-  from_zero (transition_of_key from key) (cases_lt 0 (from + key / PLACES)),
-  rises_after from key keys (λ k d within. up k d (omega arith) within),
-)
-  where
-    from_zero : (m : Transition) → (0 < m.tick) ⊎ (m.tick ≤ 0) → AtLeast 0 0 m
-    from_zero m (inl later) = inl later
-    from_zero m (inr none) = inr (omega arith, omega arith)
+keys_rise from (key ∷ keys) up = grind (arith, cases_lt, rises_after)
 
 -- sorted keys list the transitions of the window by tick
 pub ordered_are : (end from n : ℕ) (ss : List SignalContents) (keys sorted : List ℕ) → 1 ≤ from
@@ -91,12 +72,7 @@ pub one_key : (from tick position key : ℕ) (keys new : List ℕ) (rest whole :
     → transitions_of from keys ++ transition_of tick position ∷ rest ≡ whole
     → transitions_of from new ++ rest ≡ whole
 one_key from tick position key keys new rest whole small late is grown all =
-    let named : transition_of_key from key ≡ transition_of tick position = ap (transition_of_key from) is
-    ∙ key_is from tick position small late in
-    ap (λ l. transitions_of from l ++ rest) grown
-    ∙ ap (λ l. l ++ rest) (map-append (transition_of_key from) keys (key ∷ [])
-    ∙ ap (λ t. transitions_of from keys ++ t ∷ []) named)
-    ∙ append_assoc (transitions_of from keys) (transition_of tick position ∷ []) rest ∙ all
+    grind (arith, key_is, map-append, append_assoc)
 
 pub key_holds : (from tick position count key : ℕ) (keys new : List ℕ) → position < PLACES → position < count
     → from ≤ tick → tick ≤ END_LIMIT → key ≡ (tick - from) * PLACES + position → new ≡ keys ++ key ∷ []
@@ -116,29 +92,21 @@ pub one_written : (signals : List SignalContents) (from last k : ℕ) (keys : Li
     ++ item_line (value_item (code_of m.position) (transition_value signals m)))
     ++ flat_map item_line (transition_items signals m.tick (transitions_of from (drop (k + 1) keys)))
 unfolding transition_items
-one_written signals from last k keys within =
-    let m : Transition = transition_of_key from (get_or keys k 0) in
-    ap (λ l. flat_map item_line (transition_items signals last (transitions_of from l))) (drop_more keys k 0 within)
-    ∙ flat_map-append item_line (if m.tick == last then [] else stamp_of m.tick ∷ []) _
-    ∙ sym (append_assoc (flat_map item_line (if m.tick == last then [] else stamp_of m.tick ∷ []))
-    (item_line (value_item (code_of m.position) (transition_value signals m))) _)
+one_written signals from last k keys within = grind (arith, drop_more, flat_map-append, append_assoc)
 
 pub one_later : (from last k whole : ℕ) (keys : List ℕ) → k < length keys
     → last_tick last (transitions_of from (drop k keys)) ≡ whole
     → last_tick (from + get_or keys k 0 / PLACES) (transitions_of from (drop (k + 1) keys)) ≡ whole
 unfolding last_tick
-one_later from last k whole keys within all =
-    sym (ap (λ l. last_tick last (transitions_of from l)) (drop_more keys k 0 within)) ∙ all
+one_later from last k whole keys within all = grind (arith, drop_more)
 
 -- no key is left
 pub none_written : (signals : List SignalContents) (from last k : ℕ) (keys : List ℕ) → length keys ≤ k
     → flat_map item_line (transition_items signals last (transitions_of from (drop k keys))) ≡ []
 unfolding transition_items
-none_written signals from last k keys past =
-    ap (λ l. flat_map item_line (transition_items signals last (transitions_of from l))) (drop_all k keys past)
+none_written signals from last k keys past = grind (arith, drop_all)
 
 pub last_written : (from last k whole : ℕ) (keys : List ℕ) → length keys ≤ k
     → last_tick last (transitions_of from (drop k keys)) ≡ whole → last ≡ whole
 unfolding last_tick
-last_written from last k whole keys past all =
-    sym (ap (λ l. last_tick last (transitions_of from l)) (drop_all k keys past)) ∙ all
+last_written from last k whole keys past all = grind (arith, drop_all)

@@ -29,10 +29,8 @@ module _ (chains : List (List ScopeName)) where
   one_placed [] ps k d within = absurd (omega (arith, within))
   one_placed (s ∷ ss) [] zero d within = refl
   one_placed (s ∷ ss) (p ∷ ps) zero d within = refl
-  one_placed (s ∷ ss) [] (suc k) d within =
-      ap (λ l. record s { scopes = [] } ∷ l) (one_placed ss [] k d (omega (arith, within)))
-  one_placed (s ∷ ss) (p ∷ ps) (suc k) d within =
-      ap (λ l. record s { scopes = scopes_at chains p } ∷ l) (one_placed ss ps k d (omega (arith, within)))
+  one_placed (s ∷ ss) [] (suc k) d within = grind (arith, one_placed ss [] k d (omega (arith, within)))
+  one_placed (s ∷ ss) (p ∷ ps) (suc k) d within = grind (arith, one_placed ss ps k d (omega (arith, within)))
 
   pub next_placed : (ps : List ScopePlace) (old now : List Signal) (k : ℕ) (item : Signal) (path : List ScopeName)
       → k < length old → k < length now
@@ -45,8 +43,7 @@ module _ (chains : List (List ScopeName)) where
       let ss : List SignalContents = map signal_contents old in
       let d : SignalContents = signal_contents item in
       let here : k < length ss = omega (arith, within, length-map old signal_contents) in
-      let stood : signal_contents (get_or now k item) ≡ get_or ss k d =
-      sym (get_or-map signal_contents now k item d inside) ∙ ap (λ l. get_or l k d) told ∙ still_there ss ps k d here in
+      let stood : signal_contents (get_or now k item) ≡ get_or ss k d = grind (arith, get_or-map, still_there) in
       let more : suc k ≡ k + 1 = omega arith in
       map-set signal_contents now k (record (get_or now k item) { scopes = path })
       ∙ (λ i. set (told i) k (record (stood i) { scopes = given i }))
@@ -61,11 +58,8 @@ module _ (chains : List (List ScopeName)) where
   as_declared value_changes tick ps [] same = refl
   as_declared value_changes tick [] (d ∷ ds) same = absurd (omega (arith, ap (length {A = List ScopeName}) same))
   as_declared value_changes tick (p ∷ ps) (d ∷ ds) same =
-      let head : scopes_at chains p ≡ d.scopes = ap (λ l. get_or l 0 []) same in
-      let rest = as_declared value_changes tick ps ds (ap (drop 1) same) in
-      λ i. record (declared_signal value_changes tick d) { scopes = head i } ∷ rest i
+      grind (arith, as_declared value_changes tick ps ds (ap (drop 1) same))
 
 -- the list after a slice that is the whole list was replaced
 pub all_signals : (n : ℕ) (new old : List Signal) → n ≡ length new → take n (new ++ drop (length new) old) ≡ new
-all_signals n new old all = take-append-le n new (drop (length new) old) (omega (arith, all))
-    ∙ take_all n new (omega (arith, all))
+all_signals n new old all = grind (arith, take-append-le, take_all)

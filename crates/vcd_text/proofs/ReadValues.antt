@@ -33,30 +33,20 @@ all_letters [] = refl
 all_letters (b ∷ s) = λ i. is_some (letter_back b i) && all_letters s i
 
 pub printed_is_value : (s : List Bit) → 0 < length s → is_binary_number (printed_letters s) ≡ true
-printed_is_value s some =
-    λ i. not (ne_eqb (length (printed_letters s)) 0 (omega (arith, length-map s printed_letter)) i) && all_letters s i
+printed_is_value s some = grind (arith, ne_eqb, length-map, all_letters)
 
 -- ---- the short form
 
 -- the result of a search passes the test, or the other does
 found_passes : {A : Type 0} (p : A → Bool) (ys : List A) (x : A) → p x ≡ true → p (unwrap_or (find p ys) x) ≡ true
 found_passes p [] x passes = passes
-found_passes p (y ∷ ys) x passes = choose (p y) refl (found_passes p ys x passes)
-  where
-    choose : (b : Bool) → p y ≡ b → p (unwrap_or (find p ys) x) ≡ true
-        → p (unwrap_or (cond b (Some y) (find p ys)) x) ≡ true
-    choose true here following = here
-    choose false here following = following
+found_passes p (y ∷ ys) x passes = grind (arith, found_passes p ys x passes)
 
 -- the result of a search has what all have, or the other has it
 found_has : {A : Type 0} (P : A → Type 0) (p : A → Bool) (ys : List A) (x : A) → All P ys → P x
     → P (unwrap_or (find p ys) x)
 found_has P p [] x all has = has
-found_has P p (y ∷ ys) x all has = choose (p y) (found_has P p ys x (All-tail P y ys all) has)
-  where
-    choose : (b : Bool) → P (unwrap_or (find p ys) x) → P (unwrap_or (cond b (Some y) (find p ys)) x)
-    choose true following = All-head P y ys all
-    choose false following = following
+found_has P p (y ∷ ys) x all has = grind (arith, All-tail, All-head, found_has P p ys x (All-tail P y ys all) has)
 
 -- a text that is no shorter than one letter, nor longer than a width
 abbrev IsWithin : ℕ → List Bit → Type 0
@@ -74,10 +64,7 @@ ext_itself v = let none : length v - length v ≡ 0 = omega arith in ap (λ k. r
 -- the extension of the short form is the value
 pub ext-short : (v : List Bit) → extension (length v) (short_form v) ≡ v
 unfolding short_form
-ext-short v =
-    (same_letters-Decides (extension (length v) (short_form v)) v).0
-    (found_passes (λ s. same_letters (extension (length v) s) v) (suffixes v) v
-    ((same_letters-Decides (extension (length v) v) v).1 (ext_itself v)))
+ext-short v = grind (arith, same_letters-Decides, found_passes, ext_itself)
 
 -- the short form of a value has a letter, and no more than the value
 pub short_within : (v : List Bit) → 0 < length v → (0 < length (short_form v)) × (length (short_form v) ≤ length v)
@@ -89,11 +76,7 @@ short_within v some =
 -- the short form of one letter is itself
 pub short_one : (b : Bit) → short_form (b ∷ []) ≡ b ∷ []
 unfolding short_form
-short_one b = one (same_letters (extension 1 (b ∷ [])) (b ∷ []))
-  where
-    one : (r : Bool) → unwrap_or (cond r (Some (b ∷ [])) None) (b ∷ []) ≡ b ∷ []
-    one true = refl
-    one false = refl
+short_one b = grind arith
 
 -- ---- the width
 
@@ -112,5 +95,4 @@ wide_from width floor t kept before (c ∷ cs) (from, other, same, rest) long wi
     choose false = wide
 
 pub length-value_at : (width t : ℕ) (cs : List Change) → IsWave width cs → length (value_at width cs t) ≡ width
-length-value_at width t cs is =
-    wide_from width 0 t (all_x width) (all_x width) cs is.rise (length-replicate width X) (length-replicate width X)
+length-value_at width t cs is = grind (arith, wide_from, length-replicate)

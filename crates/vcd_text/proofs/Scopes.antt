@@ -12,14 +12,6 @@ use Rattle.vcd_core.specs.declared.capture.Signal.{Signal}
 use Rattle.vcd_core.specs.Contents.{signal_contents}
 use Rattle.vcd_text.specs.Text.{item_line, same_scope, scope_items, signal_items, variable_item}
 
-pub both_at : (a b : List (List ℕ)) (k : ℕ) (x y : List ℕ) → k < length a → k < length b → x ≡ get_or a k x
-    → y ≡ get_or b k y
-    → pointwise bytes_eq (drop k a) (drop k b) ≡ (bytes_eq x y && pointwise bytes_eq (drop (k + 1) a) (drop (k + 1) b))
-both_at a b k x y in_a in_b at_a at_b =
-    ap (λ l. pointwise bytes_eq l (drop k b)) (drop_more a k x in_a ∙ ap (λ w. w ∷ drop (k + 1) a) (sym at_a))
-    ∙ ap (λ l. pointwise bytes_eq (x ∷ drop (k + 1) a) l) (drop_more b k y in_b
-    ∙ ap (λ w. w ∷ drop (k + 1) b) (sym at_b))
-
 -- past the end of either no more is shared
 pub none_shared : (xs ys : List ScopeName) (k : ℕ) → min (length xs) (length ys) ≤ k
     → common_prefix_len same_scope (drop k xs) (drop k ys) ≡ 0
@@ -42,8 +34,7 @@ all_closed (s ∷ opened) = ap (λ l. upscope ∷ l) (all_closed opened)
 -- one more scope is closed
 pub one_closed : (n k : ℕ) → k < n → flat_map item_line (replicate (n - k) upscope) ≡ codes "$upscope $end\n"
     ++ flat_map item_line (replicate (n - (k + 1)) upscope)
-one_closed n k within = let left : n - k ≡ suc (n - (k + 1)) = omega arith in
-    ap (λ m. flat_map item_line (replicate m upscope)) left
+one_closed n k within = grind arith
 
 -- one more signal is declared
 pub one_declared : (opened path : List ScopeName) (k : ℕ) (signals : List Signal) (s : Signal) → k < length signals
@@ -52,25 +43,11 @@ pub one_declared : (opened path : List ScopeName) (k : ℕ) (signals : List Sign
     ≡ (flat_map item_line (scope_items opened path) ++ item_line (variable_item k (signal_contents s)))
     ++ flat_map item_line (signal_items path (k + 1) (map signal_contents (drop (k + 1) signals)))
 unfolding signal_items
-one_declared opened path k signals s within at is =
-    ap (λ l. flat_map item_line (signal_items opened k (map signal_contents l))) (drop_more signals k s within
-    ∙ ap (λ x. x ∷ drop (k + 1) signals) (sym at))
-    ∙ flat_map-append item_line (scope_items opened s.scopes)
-    (variable_item k (signal_contents s) ∷ signal_items s.scopes (suc k)
-    (map signal_contents (drop (k + 1) signals)))
-    ∙ sym (append_assoc (flat_map item_line (scope_items opened s.scopes))
-    (item_line (variable_item k (signal_contents s))) _)
-    ∙ ap (λ n. (flat_map item_line (scope_items opened s.scopes) ++ item_line (variable_item k (signal_contents s)))
-    ++ flat_map item_line (signal_items s.scopes n (map signal_contents (drop (k + 1) signals)))) (sym (add-one k))
-    ∙ ap (λ p. (flat_map item_line (scope_items opened p) ++ item_line (variable_item k (signal_contents s)))
-    ++ flat_map item_line (signal_items p (k + 1) (map signal_contents (drop (k + 1) signals)))) (sym is)
+one_declared opened path k signals s within at is = grind (arith, drop_more, flat_map-append, append_assoc, add-one)
 
 -- all signals are declared: the open scopes are closed
 pub all_declared : (opened : List ScopeName) (k : ℕ) (signals : List Signal) → length signals ≤ k
     → flat_map item_line (signal_items opened k (map signal_contents (drop k signals)))
     ≡ flat_map item_line (replicate (length opened) upscope) ++ []
 unfolding signal_items
-all_declared opened k signals past =
-    ap (λ l. flat_map item_line (signal_items opened k (map signal_contents l))) (drop_all k signals past)
-    ∙ ap (flat_map item_line) (all_closed opened)
-    ∙ sym (append-nil (flat_map item_line (replicate (length opened) upscope)))
+all_declared opened k signals past = grind (arith, drop_all, all_closed, append-nil)

@@ -73,11 +73,7 @@ words_have_no_end ws words =
 scopes_closed : (h : List Header) (t : Option Timescale) (opened : List ScopeName) (ds : List VariableDeclaration)
     (n : ℕ) → n ≤ length opened
     → Leads (declaring h t opened ds) (replicate n upscope) (declaring h t (take (length opened - n) opened) ds)
-scopes_closed h t opened ds zero within =
-    let all : length opened - 0 ≡ length opened = omega arith in
-    leads_same _ _ _ [] (leads_none (declaring h t opened ds))
-    (ap (λ s. declaring h t s ds)
-    (sym (ap (λ m. take m opened) all ∙ take_all (length opened) opened (omega arith))))
+scopes_closed h t opened ds zero within = grind (arith, leads_same, leads_none, take_all)
 scopes_closed h t opened ds (suc n) within =
     let outer : List ScopeName = take (length opened - 1) opened in
     let one_less : length outer ≡ length opened - 1 = length-take-le (length opened - 1) opened (omega arith) in
@@ -92,11 +88,9 @@ scopes_closed h t opened ds (suc n) within =
 scopes_opened : (h : List Header) (t : Option Timescale) (front path : List ScopeName) (ds : List VariableDeclaration)
     → list_all is_sound_scope path ≡ true
     → Leads (declaring h t front ds) (map (λ s. scope s.kind s.words) path) (declaring h t (front ++ path) ds)
-scopes_opened h t front [] ds sound =
-    leads_same _ _ _ [] (leads_none (declaring h t front ds)) (ap (λ s. declaring h t s ds) (sym (append-nil front)))
+scopes_opened h t front [] ds sound = grind (arith, leads_same, leads_none, append-nil)
 scopes_opened h t front (s ∷ path) ds sound =
-    let parts : (is_sound_scope s ≡ true) × (list_all is_sound_scope path ≡ true) =
-    and_parts (is_sound_scope s) (list_all is_sound_scope path) sound in
+    let parts : (is_sound_scope s ≡ true) × (list_all is_sound_scope path ≡ true) = grind (arith, and_parts) in
     leads_first (declaring h t front ds) (declaring h t (front ++ (s ∷ path)) ds) (scope s.kind s.words)
     (map (λ s. scope s.kind s.words) path) (refl, words_have_no_end (s.kind ∷ s.words) parts.0)
     (leads_same (declaring h t (front ++ s ∷ []) ds) _ _ (map (λ s. scope s.kind s.words) path)
@@ -112,8 +106,7 @@ scopes_lead h t opened path ds sound =
     let within : shared ≤ length opened = (common_prefix_len-le same_scope opened path).0 in
     let kept : length opened - (length opened - shared) ≡ shared = omega arith in
     let front : List ScopeName = take shared path in
-    let reached : take (length opened - (length opened - shared)) opened ≡ front = ap (λ m. take m opened) kept
-    ∙ shared_front opened path in
+    let reached : take (length opened - (length opened - shared)) opened ≡ front = grind (arith, shared_front) in
     leads_both (declaring h t opened ds) (declaring h t front ds) (declaring h t path ds)
     (replicate (length opened - shared) upscope) (map (λ s. scope s.kind s.words) (drop shared path))
     (leads_same _ _ _ _ (scopes_closed h t opened ds (length opened - shared) (omega arith))

@@ -24,8 +24,7 @@ pub place_of_three : (code : List ℕ) → 3 ≤ length code → length code < 4
 place_of_three [] long short x y z p q r a b c d e f = absurd (omega arith)
 place_of_three (k ∷ []) long short x y z p q r a b c d e f = absurd (omega arith)
 place_of_three (k ∷ l ∷ []) long short x y z p q r a b c d e f = absurd (omega arith)
-place_of_three (k ∷ l ∷ m ∷ []) long short x y z p q r a b c d e f =
-    (a, b, (y + 128 * z, (c, d, (z, (e, f, (0, refl, omega (arith, r))), omega (arith, q))), omega (arith, p)))
+place_of_three (k ∷ l ∷ m ∷ []) long short x y z p q r a b c d e f = grind arith
 place_of_three (k ∷ l ∷ m ∷ n ∷ ns) long short x y z p q r a b c d e f = absurd (omega arith)
 
 -- a table that matches still does with one more number

@@ -44,30 +44,12 @@ pad_of_pad (Z ∷ s) = refl
 
 -- a text whose extension is a value has the extending letter of the value
 same_pad : (b : Bit) (s t : List Bit) → fits (b ∷ s) t ≡ true → pad_letter t ≡ pad_letter (b ∷ [])
-same_pad b s t is = by (length (b ∷ s) - length t) ((same_letters-Decides (extension (length (b ∷ s)) t) (b ∷ s)).0 is)
-  where
-    by : (k : ℕ) → replicate k (pad_letter t) ++ t ≡ b ∷ s → pad_letter t ≡ pad_letter (b ∷ [])
-    by zero e = ap pad_letter e ∙ pad_of_front b s
-    by (suc k) e =
-        let first : pad_letter t ≡ b = cc in
-        sym (pad_of_pad t) ∙ ap (λ a. pad_letter (a ∷ [])) first
+same_pad b s t is = grind (arith, same_letters-Decides, pad_of_front, pad_of_pad)
 
 -- one more letter in front
 fits_more : (a b : Bit) (s t : List Bit) → length t ≤ length (b ∷ s)
     → fits (a ∷ b ∷ s) t ≡ (same_letter (pad_letter (b ∷ [])) a && fits (b ∷ s) t)
-fits_more a b s t within =
-    let longer : suc (length (b ∷ s)) - length t ≡ suc (length (b ∷ s) - length t) = omega arith in
-    ap (λ k. same_letters (replicate k (pad_letter t) ++ t) (a ∷ b ∷ s)) longer ∙ by (fits (b ∷ s) t) refl
-  where
-    never : (x : Bool) → (x && false) ≡ false
-    never true = refl
-    never false = refl
-
-    by : (r : Bool) → fits (b ∷ s) t ≡ r
-        → (same_letter (pad_letter t) a && fits (b ∷ s) t) ≡ (same_letter (pad_letter (b ∷ [])) a && fits (b ∷ s) t)
-    by true e = ap (λ p. same_letter p a && fits (b ∷ s) t) (same_pad b s t e)
-    by false e = ap (λ r. same_letter (pad_letter t) a && r) e ∙ never _
-        ∙ sym (ap (λ r. same_letter (pad_letter (b ∷ [])) a && r) e ∙ never _)
+fits_more a b s t within = grind (arith, same_pad)
 
 -- no text is longer than this
 abbrev NoLonger : ℕ → List (List Bit) → Type 0
@@ -81,33 +63,17 @@ one_more n m (u ∷ ts) t le (first, rest) last = (omega arith, one_more n m ts 
 
 no_suffix_longer : (w : List Bit) → NoLonger (length w) (suffixes w)
 no_suffix_longer [] = tt
-no_suffix_longer (b ∷ s) =
-    one_more (length s) (suc (length s)) (suffixes s) (b ∷ s) (omega arith) (no_suffix_longer s) (omega arith)
+no_suffix_longer (b ∷ s) = grind (arith, one_more, no_suffix_longer s)
 
 -- the first text that fits after one more letter: the same one where the letter is spare, else none
 find_more : (a b : Bit) (s : List Bit) (ts : List (List Bit)) → NoLonger (length (b ∷ s)) ts
     → find (fits (a ∷ b ∷ s)) ts ≡ cond (same_letter (pad_letter (b ∷ [])) a) (find (fits (b ∷ s)) ts) None
-find_more a b s [] all = none (same_letter (pad_letter (b ∷ [])) a) None
-  where
-    none : (r : Bool) (o : Option (List Bit)) → o ≡ cond r o o
-    none true o = refl
-    none false o = refl
-find_more a b s (t ∷ ts) (first, rest) =
-    ap (λ r. cond r (Some t) (find (fits (a ∷ b ∷ s)) ts)) (fits_more a b s t first)
-    ∙ ap (λ r. cond (same_letter (pad_letter (b ∷ [])) a && fits (b ∷ s) t) (Some t) r) (find_more a b s ts rest)
-    ∙ by (same_letter (pad_letter (b ∷ [])) a)
-  where
-    by : (r : Bool) → cond (r && fits (b ∷ s) t) (Some t) (cond r (find (fits (b ∷ s)) ts) None)
-        ≡ cond r (cond (fits (b ∷ s) t) (Some t) (find (fits (b ∷ s)) ts)) None
-    by true = refl
-    by false = refl
+find_more a b s [] all = grind arith
+find_more a b s (t ∷ ts) (first, rest) = grind (arith, fits_more, find_more a b s ts rest)
 
 -- a value is its own extension
 fits_itself : (b : Bit) (s : List Bit) → fits (b ∷ s) (b ∷ s) ≡ true
-fits_itself b s =
-    let none : length (b ∷ s) - length (b ∷ s) ≡ 0 = omega arith in
-    ap (λ k. same_letters (replicate k (pad_letter (b ∷ s)) ++ (b ∷ s)) (b ∷ s)) none
-    ∙ (same_letters-Decides (b ∷ s) (b ∷ s)).1 refl
+fits_itself b s = grind (arith, same_letters-Decides)
 
 found : (b : Bit) (s : List Bit) → find (fits (b ∷ s)) (suffixes (b ∷ s)) ≡ Some (shortened (b ∷ s))
 unfolding shortened
@@ -134,33 +100,21 @@ short_is (b ∷ s) = ap (λ o. unwrap_or o (b ∷ s)) (found b s)
 
 -- the two letters from k on, and what follows
 two_letters : (v : List Bit) (k : ℕ) → k + 1 < length v → drop k v ≡ get_or v k X ∷ get_or v (k + 1) X ∷ drop (k + 2) v
-two_letters v k within =
-    drop_more v k X (omega arith)
-    ∙ ap (λ l. get_or v k X ∷ l) (drop_more v (k + 1) X within
-    ∙ ap (λ n. get_or v (k + 1) X ∷ drop n v) (let e : k + 1 + 1 ≡ k + 2 = omega arith in e))
+two_letters v k within = grind (arith, drop_more)
 
 -- the letter at k is spare
 spare_at : (v : List Bit) (k : ℕ) → k + 1 < length v → same_letter (pad_letter (get_or v (k + 1) X ∷ [])) (get_or v k X)
     ≡ true
     → shortened (drop k v) ≡ shortened (drop (k + 1) v)
 unfolding shortened
-spare_at v k within spare =
-    ap shortened (two_letters v k within)
-    ∙ ap (λ r. cond r (shortened (get_or v (k + 1) X ∷ drop (k + 2) v))
-    (get_or v k X ∷ get_or v (k + 1) X ∷ drop (k + 2) v)) spare
-    ∙ sym (ap shortened (drop_more v (k + 1) X within
-    ∙ ap (λ n. get_or v (k + 1) X ∷ drop n v) (let e : k + 1 + 1 ≡ k + 2 = omega arith in e)))
+spare_at v k within spare = grind (arith, two_letters, drop_more)
 
 -- the letter at k is not spare
 kept_at : (v : List Bit) (k : ℕ) → k + 1 < length v → same_letter (pad_letter (get_or v (k + 1) X ∷ [])) (get_or v k X)
     ≡ false
     → shortened (drop k v) ≡ drop k v
 unfolding shortened
-kept_at v k within kept =
-    ap shortened (two_letters v k within)
-    ∙ ap (λ r. cond r (shortened (get_or v (k + 1) X ∷ drop (k + 2) v))
-    (get_or v k X ∷ get_or v (k + 1) X ∷ drop (k + 2) v)) kept
-    ∙ sym (two_letters v k within)
+kept_at v k within kept = grind (arith, two_letters)
 
 -- the last letter is never left out
 last_kept : (v : List Bit) (k : ℕ) → k + 1 ≡ length v → shortened (drop k v) ≡ drop k v
@@ -193,24 +147,14 @@ left_out v left kept least most within spare = by (left - kept) left (omega arit
         let here : length v - 1 - (left - 2 + 1) ≡ k = omega arith in
         let there : length v - 1 - (left - 2) ≡ k + 1 = omega arith in
         let further : k + 1 ≡ length v - (left - 1) = omega arith in
-        let told : same_letter (pad_letter (get_or v (k + 1) X ∷ [])) (get_or v k X) ≡ true =
-        (λ p. same_letter (pad_letter (get_or v (sym there p) X ∷ [])) (get_or v (sym here p) X))
-        ∙ spare (left - 2) (omega arith) (omega arith) in
+        let told : same_letter (pad_letter (get_or v (k + 1) X ∷ [])) (get_or v k X) ≡ true = grind arith in
         spare_at v k (omega arith) told ∙ ap (λ n. shortened (drop n v)) further
         ∙ by more (left - 1) (omega arith) (omega arith) (λ i past below. spare i past (omega arith))
 
 -- the letter below bit `kept` stays: it is the last, or not spare
 pub stays : (v : List Bit) (kept : ℕ) → 1 ≤ kept → kept ≤ length v → (1 < kept → is_spare_in v (kept - 2) ≡ false)
     → shortened (lowest kept v) ≡ lowest kept v
-stays v kept least within needed = elim (cases_lt 1 kept) [
-  | inl more ↦
-      let k : ℕ = length v - kept in
-      let here : length v - 1 - (kept - 2 + 1) ≡ k = omega arith in
-      let there : length v - 1 - (kept - 2) ≡ k + 1 = omega arith in
-      kept_at v k (omega arith)
-      ((λ p. same_letter (pad_letter (get_or v (sym there p) X ∷ [])) (get_or v (sym here p) X)) ∙ needed more)
-  | inr one ↦ last_kept v (length v - kept) (omega arith)
-]
+stays v kept least within needed = grind (arith, cases_lt, kept_at, last_kept)
 
 -- the short form of a value of one word
 pub short_given : (width : ℕ) (word : LetterWord) (kept : ℕ) → width ≤ 64 → IsKept width word kept
@@ -244,20 +188,10 @@ pub word_stays : (v : List Bit) (from : ℕ) (word : LetterWord) (left kept : �
     → left ≤ from + 64 → left ≤ length v
     → IsKept (left - from) word kept → (from ≡ 0) ⊎ (1 < kept)
     → shortened (lowest (from + kept) v) ≡ lowest (from + kept) v
-word_stays v from word left kept holds some fits within is last =
-    stays v (from + kept) (omega (arith, is.least)) (omega (arith, is.most)) (λ more.
-    let enough : 1 < kept = elim last [ inl first ↦ omega (arith, first, more) | inr enough ↦ enough ] in
-    let place : from + (kept - 2) ≡ from + kept - 2 = omega (arith, enough) in
-    ap (is_spare_in v) (sym place)
-    ∙ sym (spare_held v from word (kept - 2) holds (omega (arith, is.most, enough))
-    (omega (arith, is.most, enough)))
-    ∙ is.needed enough)
+word_stays v from word left kept holds some fits within is last = grind (arith, stays, spare_held)
 
 -- the state after a test of two letters
 pub state_at : (v : List Bit) (k : ℕ) (letter next : Bit) (r b : Bool) → 1 ≤ k → letter ≡ letter_at v k
     → next ≡ letter_at v (k - 1)
     → r ≡ same_letter (pad_letter (next ∷ [])) letter → r ≡ b → is_spare_in v (k - 1) ≡ b
-state_at v k letter next r b some at_k at_next told is =
-    let here : k - 1 + 1 ≡ k = omega arith in
-    let upper : letter_at v (k - 1 + 1) ≡ letter = ap (letter_at v) here ∙ sym at_k in
-    (λ p. same_letter (pad_letter (sym at_next p ∷ [])) (upper p)) ∙ sym told ∙ is
+state_at v k letter next r b some at_k at_next told is = grind arith

@@ -31,12 +31,10 @@ times_is_sum t k (m ∷ ms) = ap (λ n. once t k m + n) (times_is_sum t k ms) �
 
 -- a permutation keeps this count
 pub times_permuted : (t k : ℕ) (xs ys : List Transition) → IsPermutation xs ys → times t k ys ≡ times t k xs
-times_permuted t k xs ys moved = times_is_sum t k ys ∙ sum_by-IsPermutation (once t k) xs ys moved
-    ∙ sym (times_is_sum t k xs)
+times_permuted t k xs ys moved = grind (arith, times_is_sum, sum_by-IsPermutation)
 
 once_itself : (m : Transition) → once m.tick m.position m ≡ 1
-once_itself m = ap (λ b. counted (b && (m.position == m.position))) (eq-eqb m.tick m.tick refl)
-    ∙ ap (λ b. counted (true && b)) (eq-eqb m.position m.position refl)
+once_itself m = grind (arith, eq-eqb)
 
 -- a transition is at a place or after it, where places are ordered by tick and position
 abbrev pub AtLeast : ℕ → ℕ → Transition → Type 0
@@ -62,8 +60,7 @@ not_both false = refl
 
 not_before : (u j : ℕ) (m : Transition) → Before u j m.tick m.position → once u j m ≡ 0
 not_before u j m (inl a) = ap (λ b. counted (b && (m.position == j))) (ne_eqb m.tick u (omega arith))
-not_before u j m (inr (a, d)) = ap (λ b. counted ((m.tick == u) && b)) (ne_eqb m.position j (omega arith))
-    ∙ not_both (m.tick == u)
+not_before u j m (inr (a, d)) = grind (arith, ne_eqb, not_both)
 
 -- a transition before the first is not in the list
 none_before : (u j t k : ℕ) (ms : List Transition) → RisesFrom t k ms → Before u j t k → times u j ms ≡ 0
@@ -75,31 +72,11 @@ none_before u j t k (m ∷ ms) (first, rest) before =
 first_differs : (x y : Transition) (xs ys : List Transition) → RisesFrom y.tick y.position ys
     → Before x.tick x.position y.tick y.position
     → times x.tick x.position (x ∷ xs) ≢ times x.tick x.position (y ∷ ys)
-first_differs x y xs ys rise before same =
-    omega (
-      arith,
-      once_itself x,
-      same,
-      not_before x.tick x.position y before,
-      none_before x.tick x.position y.tick y.position ys rise before,
-    )
+first_differs x y xs ys rise before same = grind (arith, once_itself, not_before, none_before)
 
 compared : (x y : Transition)
     → (Before x.tick x.position y.tick y.position ⊎ Before y.tick y.position x.tick x.position) ⊎ (x ≡ y)
-compared x y = ticks (cases_lt x.tick y.tick) (cases_lt y.tick x.tick) (cases_lt x.position y.position)
-    (cases_lt y.position x.position)
-  where
-    ticks : (x.tick < y.tick) ⊎ (y.tick ≤ x.tick) → (y.tick < x.tick) ⊎ (x.tick ≤ y.tick) → (x.position < y.position)
-        ⊎ (y.position ≤ x.position) → (y.position < x.position) ⊎ (x.position ≤ y.position)
-        → (Before x.tick x.position y.tick y.position ⊎ Before y.tick y.position x.tick x.position) ⊎ (x ≡ y)
-    ticks (inl a) b c d = inl (inl (inl a))
-    ticks (inr a) (inl b) c d = inl (inr (inl b))
-    ticks (inr a) (inr b) (inl c) d = inl (inl (inr (omega arith, c)))
-    ticks (inr a) (inr b) (inr c) (inl d) = inl (inr (inr (omega arith, d)))
-    ticks (inr a) (inr b) (inr c) (inr d) =
-        let same_tick : x.tick ≡ y.tick = omega arith in
-        let same_position : x.position ≡ y.position = omega arith in
-        inr (λ i. record { tick = same_tick i; position = same_position i })
+compared x y = grind (arith, cases_lt)
 
 pub same_transitions : (xs ys : List Transition) (a b t k : ℕ) → RisesFrom a b xs → RisesFrom t k ys
     → ((u j : ℕ) → times u j xs ≡ times u j ys) → xs ≡ ys

@@ -120,15 +120,7 @@ record IsClean (c : ParseState) : Type 0 where
 -- a kept variable has a kind with four-state letters and a width within the limit
 kept_is : (d : VariableDeclaration) → is_skipped d ≡ false → (is_skipped_kind d.kind ≡ false) × (1 ≤ d.size)
     × (d.size ≤ WIDTH_LIMIT)
-kept_is d keeps =
-    let p = or_parts (is_skipped_kind d.kind) (d.size == 0 || nat_lt WIDTH_LIMIT d.size) keeps in
-    let q = or_parts (d.size == 0) (nat_lt WIDTH_LIMIT d.size) p.1 in
-    let some : d.size ≡ 0 → ⊥ = eqb-false d.size 0 q.0 in
-    (p.0, positive d.size some, ltb-false WIDTH_LIMIT d.size q.1)
-  where
-    positive : (n : ℕ) → (n ≡ 0 → ⊥) → 1 ≤ n
-    positive zero none = absurd (none refl)
-    positive (suc n) none = omega arith
+kept_is d keeps = grind (arith, or_parts, eqb-false, ltb-false)
 
 -- a variable accepts a letter
 some_kept : (o : Option VariableDeclaration) → IsSome o → IsSomeAnd o (λ e. is_skipped e ≡ false → 1 ≤ e.size)
@@ -140,11 +132,7 @@ some_taken : (digits : List ℕ) (o : Option VariableDeclaration)
     → IsSomeAnd o (λ e. IsTrue (takes_binary_number e digits))
     → IsSomeAnd o (λ e. is_skipped e ≡ false → length (letters_of_digits digits) ≤ e.size)
 some_taken digits None some = absurd some
-some_taken digits (Some e) takes = λ keeps.
-    let here : (is_binary_number digits && nat_le (length digits) e.size) ≡ true =
-    ap (λ b. b || (is_binary_number digits && nat_le (length digits) e.size)) (sym keeps) ∙ takes in
-    subst (λ n. n ≤ e.size) (sym (length-map digits _))
-    (leb-true (length digits) e.size (and_parts (is_binary_number digits) _ here).1)
+some_taken digits (Some e) takes = grind (arith, length-map, leb-true, and_parts)
 
 -- ---- one item
 
@@ -206,26 +194,17 @@ clean_declared c d clean declaring is shares room =
         → is_skipped d ≡ false
         → IsSomeAnd (find (λ y. bytes_eq d.code y.code) (c.declared ++ d ∷ [])) (λ e. (e.size ≡ d.size)
         × (is_skipped e ≡ false))
-    first_or_same None none shares keeps =
-        subst (λ o. IsSomeAnd o (λ e. (e.size ≡ d.size) × (is_skipped e ≡ false)))
-        (sym (found_last (λ y. bytes_eq d.code y.code) c.declared d none (same_bytes d.code))) (refl, keeps)
+    first_or_same None none shares keeps = grind (arith, found_last, same_bytes)
     first_or_same (Some x) some shares keeps =
         let here : ((is_skipped x && false) || (not (is_skipped x) && true && (x.size == d.size))) ≡ true =
-        (λ i. (is_skipped x && sym keeps i) || (not (is_skipped x) && not (sym keeps i) && (x.size == d.size)))
-        ∙ shares in
+        grind arith in
         let same = both_kept (is_skipped x) (x.size == d.size) here in
         found_further _ (λ y. bytes_eq d.code y.code) c.declared d
         (subst (λ o. IsSomeAnd o (λ e. (e.size ≡ d.size) × (is_skipped e ≡ false))) (sym some)
         (eqb-true x.size d.size same.0, same.1))
 
     counted : length (kept_variables (c.declared ++ d ∷ [])) ≤ SIGNAL_LIMIT
-    counted = subst (λ n. n ≤ SIGNAL_LIMIT)
-        (sym (ap length (filter-append (λ x. not (is_skipped x)) c.declared (d ∷ []))
-        ∙ length-append (kept_variables c.declared) _))
-        (by_test (λ b. (b || nat_lt (length (kept_variables c.declared)) SIGNAL_LIMIT) ≡ true
-        → length (kept_variables c.declared) + length (cond (not b) (d ∷ []) []) ≤ SIGNAL_LIMIT) (is_skipped d)
-        (λ _ _. omega (arith, clean.few)) (λ _ room. let less =
-        ltb-true (length (kept_variables c.declared)) SIGNAL_LIMIT room in omega arith) room)
+    counted = grind (arith, filter-append, length-append, by_test, ltb-true)
 
 clean_variable : (c : ParseState) (words : List (List ℕ)) → IsClean c
     → list_all is_run_text (spelling (variable words)) ≡ true → Allows c (variable words)
@@ -265,48 +244,19 @@ clean_beside : (c : ParseState) (header : List Header) (time : Option Timescale)
       tick = tick;
     })
 clean_beside c header time scopes changing tick clean sound_header sound_timescale sound_scopes silent within =
-    record {
-      header = sound_header;
-      timescale = sound_timescale;
-      scopes = sound_scopes;
-      declared = clean.declared;
-      agree = clean.agree;
-      few = clean.few;
-      fit = clean.fit;
-      silent = silent;
-      tick = within;
-    }
+    grind arith
 
 clean_item : (c : ParseState) (i : Item) → IsClean c → list_all is_run_text (spelling i) ≡ true → Allows c i
     → IsClean (state_after_item c i)
-clean_item c (entry kind words) clean all allows = clean_beside c _ _ _ _ _ clean
-    (list_all-append is_sound_header c.header _
-    ∙ and_from (list_all is_sound_header c.header) (list_all is_word words && true) clean.header
-    (and_from (list_all is_word words) true
-    (clean_words words (end_word ∷ [])
-    (and_parts (is_run_text (header_word kind)) (list_all is_run_text (words ++ end_word ∷ [])) all).1 allows.1)
-    refl))
-    clean.timescale clean.scopes clean.silent clean.tick
-clean_item c (timescale words) clean all allows = clean_beside c _ _ _ _ _ clean
-    clean.header (found_passes (λ t. bytes_eq (concat words) (decimal t.count ++ unit_text t.unit)) is_sound_timescale
-    timescales refl) clean.scopes clean.silent clean.tick
-clean_item c (scope kind words) clean all allows = clean_beside c _ _ _ _ _ clean clean.header clean.timescale
-    (list_all-append is_sound_scope c.scopes _
-    ∙ and_from (list_all is_sound_scope c.scopes) (list_all is_word (kind ∷ words) && true) clean.scopes
-    (and_from (list_all is_word (kind ∷ words)) true (clean_words (kind ∷ words) (end_word ∷ []) all allows.1) refl))
-    clean.silent clean.tick
-clean_item c upscope clean all allows = clean_beside c _ _ _ _ _ clean
-    clean.header clean.timescale (all_taken is_sound_scope (length c.scopes - 1) c.scopes clean.scopes) clean.silent
-    clean.tick
+clean_item c (entry kind words) clean all allows =
+    grind (arith, clean_beside, list_all-append, and_from, clean_words, and_parts)
+clean_item c (timescale words) clean all allows = grind (arith, clean_beside, found_passes)
+clean_item c (scope kind words) clean all allows = grind (arith, clean_beside, list_all-append, and_from, clean_words)
+clean_item c upscope clean all allows = grind (arith, clean_beside, all_taken)
 clean_item c (variable words) clean all allows = clean_variable c words clean all allows
-clean_item c end_definitions clean all allows = clean_beside c _ _ _ _ _ clean
-    clean.header clean.timescale clean.scopes (λ no_more. absurd (false≢true (sym no_more))) clean.tick
-clean_item c (stamp digits) clean all allows = clean_beside c _ _ _ _ _ clean
-    clean.header clean.timescale clean.scopes clean.silent
-    (leb-true (number_of digits) END_LIMIT
-    (and_parts (is_number digits) (nat_le (number_of digits) END_LIMIT) allows.1).1)
-clean_item c (scalar letter code) clean all allows =
-    clean_value_change c code (letters_of_digits (letter ∷ [])) clean allows.0 (some_kept (variable_of c code) allows.3)
+clean_item c end_definitions clean all allows = grind (arith, clean_beside)
+clean_item c (stamp digits) clean all allows = grind (arith, clean_beside, leb-true, and_parts)
+clean_item c (scalar letter code) clean all allows = search (arith, clean_value_change, some_kept)
 clean_item c (vector first digits code) clean all allows =
     clean_value_change c code (letters_of_digits digits) clean allows.0
     (some_taken digits (variable_of c code) allows.2)
@@ -325,9 +275,7 @@ clean_items c (i ∷ is) clean all allows =
 -- ---- waves
 
 length-ext : (width : ℕ) (s : List Bit) → length s ≤ width → length (extension width s) ≡ width
-length-ext width s fits =
-    length-append (replicate (width - length s) (pad_letter s)) s
-    ∙ ap (λ n. n + length s) (length-replicate (width - length s) (pad_letter s)) ∙ omega arith
+length-ext width s fits = grind (arith, length-append, length-replicate)
 
 -- a value change of this code has letters for this number of bits
 abbrev FitsWidth : ℕ → List ℕ → ValueChange → Type 0
@@ -347,24 +295,14 @@ latest_length width code t before (r ∷ rs) long all =
 -- the value changes of a kept code fit its width
 value_changes_fit : (c : ParseState) (d : VariableDeclaration) → IsAgreed c d → is_skipped d ≡ false
     → All (Fits c) c.value_changes → All (FitsWidth d.size d.code) c.value_changes
-value_changes_fit c d agrees keeps fit = All-weaker (Fits c) (FitsWidth d.size d.code)
-    (λ r fits same. let code : r.code ≡ d.code = (bytes_eq-Decides r.code d.code).0 same in
-    joined r (variable_of c d.code)
-    (subst (λ k. IsSomeAnd (variable_of c k) (λ e. length r.letters ≤ e.size)) code fits) (agrees keeps))
-    c.value_changes fit
-  where
-    joined : (r : ValueChange) (o : Option VariableDeclaration) → IsSomeAnd o (λ e. length r.letters ≤ e.size)
-        → IsSomeAnd o (λ e. (e.size ≡ d.size) × (is_skipped e ≡ false)) → length r.letters ≤ d.size
-    joined r None some same = absurd some
-    joined r (Some e) fits same = subst (λ n. length r.letters ≤ n) same.0 fits
+value_changes_fit c d agrees keeps fit = grind (arith, All-weaker, bytes_eq-Decides)
 
 sound_signal : (c : ParseState) (d : VariableDeclaration) → IsClean c → IsCleanDeclaration d → IsAgreed c d
     → is_skipped d ≡ false → IsSoundSignal c.tick (declared_signal c.value_changes c.tick d)
 sound_signal c d clean is agrees keeps =
     let width = kept_is d keeps in
-    let values : (t : ℕ) → length (latest_value d.size d.code t (all_x d.size) c.value_changes) ≡ d.size = λ t.
-    latest_length d.size d.code t (all_x d.size) c.value_changes (length-replicate d.size X)
-    (value_changes_fit c d agrees keeps clean.fit) in
+    let values : (t : ℕ) → length (latest_value d.size d.code t (all_x d.size) c.value_changes) ≡ d.size =
+    grind (arith, latest_length, length-replicate, value_changes_fit) in
     record {
       scopes = is.scopes;
       kind = is.kind;
@@ -377,25 +315,9 @@ sound_signal c d clean is agrees keeps =
       ticks = changes_end d.size c.tick _;
     }
 
-clean_start : IsClean initial_state
-clean_start = record {
-  header = refl;
-  timescale = tt;
-  scopes = refl;
-  declared = All-nil IsCleanDeclaration;
-  agree = All-nil (IsAgreed initial_state);
-  few = omega arith;
-  fit = All-nil (Fits initial_state);
-  silent = λ _. refl;
-  tick = omega arith;
-}
-
 pub meaning_is_sound : (bytes : List ℕ) (told : ParseState) → Accepts (words_of bytes) told → IsSound (meaning told)
 meaning_is_sound bytes told accepted =
-    let clean : IsClean told =
-    subst IsClean accepted.tells
-    (clean_items initial_state accepted.items clean_start (ap (list_all is_run_text) (sym accepted.spelled)
-    ∙ texts_are_runs true 1 bytes) accepted.allowed) in
+    let clean : IsClean told = grind (arith, clean_items, texts_are_runs) in
     let declared = All-filter (λ d. not (is_skipped d)) IsCleanDeclaration told.declared clean.declared in
     let agree = All-filter (λ d. not (is_skipped d)) (IsAgreed told) told.declared clean.agree in
     let keeps = filter_passes (λ d. not (is_skipped d)) told.declared in
@@ -403,8 +325,7 @@ meaning_is_sound bytes told accepted =
       header = clean.header;
       timescale = clean.timescale;
       end = clean.tick;
-      few = subst (λ n. n ≤ SIGNAL_LIMIT)
-          (sym (length-map (kept_variables told.declared) (declared_signal told.value_changes told.tick))) clean.few;
+      few = grind (arith, length-map);
       signals = All-map (IsSoundSignal told.tick) (declared_signal told.value_changes told.tick)
           (kept_variables told.declared)
           (λ k d within. sound_signal told _ clean (declared k d within) (agree k d within)

@@ -17,14 +17,7 @@ abbrev pub IsCount : ℕ → Type 0
 IsCount n = (n ≡ 1) ⊎ ((n ≡ 10) ⊎ (n ≡ 100))
 
 pub sound_count : (t : Timescale) → is_sound_timescale t ≡ true → IsCount t.count
-sound_count t sound = elim (or_cases (t.count == 1 || t.count == 10) (t.count == 100) sound) [
-  | inl few ↦ elim (or_cases (t.count == 1) (t.count == 10) few) [
-    | inl one ↦ inl (eqb-true t.count 1 one)
-    | inr ten ↦
-        inr (inl (eqb-true t.count 10 ten))
-  ]
-  | inr hundred ↦ inr (inr (eqb-true t.count 100 hundred))
-]
+sound_count t sound = grind (arith, or_cases, eqb-true)
 
 pub count_small : (n : ℕ) → IsCount n → n < 2 ^ 64
 count_small n (inl e) = omega arith
@@ -35,41 +28,25 @@ count_small n (inr (inr e)) = omega arith
 abbrev found_in : List ℕ → Timescale → Type 0
 found_in text t = find (λ s. bytes_eq text (decimal s.count ++ unit_text s.unit)) timescales ≡ Some t
 
-one : (unit : TimeUnit) → found_in (decimal 1 ++ unit_text unit) (record { count = 1; unit = unit })
+found : (unit : TimeUnit) → found_in (decimal 1 ++ unit_text unit) (record { count = 1; unit = unit })
+    × found_in (decimal 10 ++ unit_text unit) (record { count = 10; unit = unit })
+    × found_in (decimal 100 ++ unit_text unit) (record { count = 100; unit = unit })
 unfolding digits
-one Second = refl
-one Millisecond = refl
-one Microsecond = refl
-one Nanosecond = refl
-one Picosecond = refl
-one Femtosecond = refl
-
-ten : (unit : TimeUnit) → found_in (decimal 10 ++ unit_text unit) (record { count = 10; unit = unit })
-unfolding digits
-ten Second = refl
-ten Millisecond = refl
-ten Microsecond = refl
-ten Nanosecond = refl
-ten Picosecond = refl
-ten Femtosecond = refl
-
-hundred : (unit : TimeUnit) → found_in (decimal 100 ++ unit_text unit) (record { count = 100; unit = unit })
-unfolding digits
-hundred Second = refl
-hundred Millisecond = refl
-hundred Microsecond = refl
-hundred Nanosecond = refl
-hundred Picosecond = refl
-hundred Femtosecond = refl
+found Second = (refl, refl, refl)
+found Millisecond = (refl, refl, refl)
+found Microsecond = (refl, refl, refl)
+found Nanosecond = (refl, refl, refl)
+found Picosecond = (refl, refl, refl)
+found Femtosecond = (refl, refl, refl)
 
 counted : (n : ℕ) (unit : TimeUnit) → IsCount n
     → found_in (decimal n ++ unit_text unit) (record { count = n; unit = unit })
 counted n unit (inl e) =
-    subst (λ m. found_in (decimal m ++ unit_text unit) (record { count = m; unit = unit })) (sym e) (one unit)
+    subst (λ m. found_in (decimal m ++ unit_text unit) (record { count = m; unit = unit })) (sym e) (found unit).0
 counted n unit (inr (inl e)) =
-    subst (λ m. found_in (decimal m ++ unit_text unit) (record { count = m; unit = unit })) (sym e) (ten unit)
+    subst (λ m. found_in (decimal m ++ unit_text unit) (record { count = m; unit = unit })) (sym e) (found unit).1
 counted n unit (inr (inr e)) =
-    subst (λ m. found_in (decimal m ++ unit_text unit) (record { count = m; unit = unit })) (sym e) (hundred unit)
+    subst (λ m. found_in (decimal m ++ unit_text unit) (record { count = m; unit = unit })) (sym e) (found unit).2
 
 -- its number and its unit, as two words, are read back
 pub timescale_read : (t : Timescale) → is_sound_timescale t ≡ true

@@ -57,11 +57,7 @@ no_space_is_unbroken [] some black = absurd (omega arith)
 no_space_is_unbroken (b ∷ bs) some black = black
 
 digit_is_black : (b : ℕ) → is_ascii_digit b ≡ true → has_no_space b ≡ true
-digit_is_black b digit =
-    let above : 48 ≤ b = leb-true 48 b (and_parts (nat_le 48 b) (nat_le b 57) digit).0 in
-    not_from_false (is_white_space b)
-    (or_from (nat_le 9 b && nat_le b 13) (b == 32) (and_right (nat_le 9 b) (nat_le b 13) (lt-leb b 13 (omega arith)))
-    (ne_eqb b 32 (λ e. omega arith)))
+digit_is_black b digit = grind (arith, leb-true, and_parts, not_from_false, or_from, and_right, lt-leb, ne_eqb)
 
 decimal_black : (n : ℕ) → n < 2 ^ 64 → list_all has_no_space (decimal n) ≡ true
 decimal_black n small = all_weaker is_ascii_digit has_no_space digit_is_black (decimal n) (decimal_digits n small)
@@ -80,9 +76,7 @@ printed_letter_black Z = refl
 
 printed_black : (v : List Bit) → list_all has_no_space (printed_letters v) ≡ true
 printed_black [] = refl
-printed_black (b ∷ v) =
-    and_from (has_no_space (printed_letter b)) (list_all has_no_space (printed_letters v)) (printed_letter_black b)
-    (printed_black v)
+printed_black (b ∷ v) = grind (arith, and_from, printed_letter_black, printed_black v)
 
 -- a word with another byte in front
 longer_unbroken : (b : ℕ) (w : List ℕ) → has_no_space b ≡ true → list_all has_no_space w ≡ true
@@ -107,36 +101,27 @@ header_word_unbroken Comment = refl
 -- words up to `$end`
 with_end_unbroken : (ws : List (List ℕ)) → list_all is_unbroken ws ≡ true
     → list_all is_unbroken (ws ++ end_word ∷ []) ≡ true
-with_end_unbroken ws words = list_all-append is_unbroken ws (end_word ∷ [])
-    ∙ and_from (list_all is_unbroken ws) true words refl
+with_end_unbroken ws words = grind (arith, list_all-append, and_from)
 
 -- items in front and items after them
 both_spelled : (xs ys : List Item) → list_all is_spelled xs ≡ true → list_all is_spelled ys ≡ true
     → list_all is_spelled (xs ++ ys) ≡ true
-both_spelled xs ys front back = list_all-append is_spelled xs ys
-    ∙ and_from (list_all is_spelled xs) (list_all is_spelled ys) front back
+both_spelled xs ys front back = grind (arith, list_all-append, and_from)
 
 one_word : (w : List ℕ) → is_unbroken w ≡ true → list_all is_unbroken (w ∷ []) ≡ true
 one_word w unbroken = and_from (is_unbroken w) true unbroken refl
 
 vector_spelled : (k : ℕ) (v : List Bit) → is_spelled (vector 98 (printed_letters (short_form v)) (code_of k)) ≡ true
-vector_spelled k v =
-    and_from (is_unbroken (98 ∷ printed_letters (short_form v))) (list_all is_unbroken (code_of k ∷ []))
-    (longer_unbroken 98 (printed_letters (short_form v)) refl (printed_black (short_form v)))
-    (one_word (code_of k) (code_unbroken k))
+vector_spelled k v = grind (arith, and_from, longer_unbroken, printed_black, one_word, code_unbroken)
 
 value_spelled : (k : ℕ) (v : List Bit) → is_spelled (value_item (code_of k) v) ≡ true
 value_spelled k [] = vector_spelled k []
-value_spelled k (b ∷ []) =
-    one_word (printed_letter b ∷ code_of k)
-    (longer_unbroken (printed_letter b) (code_of k) (printed_letter_black b) (code_black k))
+value_spelled k (b ∷ []) = grind (arith, one_word, longer_unbroken, printed_letter_black, code_black)
 value_spelled k (b ∷ c ∷ v) = vector_spelled k (b ∷ c ∷ v)
 
 values_spelled : (t : ℕ) (placed : List (ℕ × SignalContents)) → list_all is_spelled (value_items t placed) ≡ true
 values_spelled t [] = refl
-values_spelled t (p ∷ ps) =
-    and_from (is_spelled (value_item (code_of p.0) (signal_value p.1 t))) (list_all is_spelled (value_items t ps))
-    (value_spelled p.0 (signal_value p.1 t)) (values_spelled t ps)
+values_spelled t (p ∷ ps) = grind (arith, and_from, value_spelled, values_spelled t ps)
 
 stamp_spelled : (t : ℕ) → t < 2 ^ 64 → is_spelled (stamp_of t) ≡ true
 stamp_spelled t small = one_word (35 ∷ decimal t) (longer_unbroken 35 (decimal t) refl (decimal_black t small))
@@ -144,38 +129,27 @@ stamp_spelled t small = one_word (35 ∷ decimal t) (longer_unbroken 35 (decimal
 stamped_spelled : (t : ℕ) (items : List Item) → t < 2 ^ 64 → list_all is_spelled items ≡ true
     → list_all is_spelled (with_stamp t items) ≡ true
 stamped_spelled t [] small spelled = refl
-stamped_spelled t (v ∷ vs) small spelled =
-    and_from (is_spelled (stamp_of t)) (list_all is_spelled (v ∷ vs)) (stamp_spelled t small) spelled
+stamped_spelled t (v ∷ vs) small spelled = grind (arith, and_from, stamp_spelled)
 
 first_spelled : (signals : List SignalContents) → list_all is_spelled (first_items signals) ≡ true
-first_spelled signals =
-    both_spelled (stamp_of 0 ∷ bracket (codes "$dumpvars") ∷ []) (all_values signals 0 ++ bracket end_word ∷ [])
-    (and_from (is_spelled (stamp_of 0)) true (stamp_spelled 0 (omega arith)) refl)
-    (both_spelled (all_values signals 0) (bracket end_word ∷ []) (values_spelled 0 (enumerate_from 0 signals)) refl)
+first_spelled signals = grind (arith, both_spelled, and_from, stamp_spelled, values_spelled)
 
 ticks_spelled : (signals : List SignalContents) (t n : ℕ) → t + n ≤ 2 ^ 64
     → list_all is_spelled (tick_items signals t n) ≡ true
 unfolding tick_items
 ticks_spelled signals t zero small = refl
 ticks_spelled signals t (suc n) small =
-    both_spelled (with_stamp t (new_values signals t)) (tick_items signals (suc t) n)
-    (stamped_spelled t (new_values signals t) (omega arith)
-    (values_spelled t (filter (λ p. differs_at t p.1) (enumerate_from 0 signals))))
-    (ticks_spelled signals (suc t) n (omega arith))
+    grind (arith, both_spelled, stamped_spelled, values_spelled, ticks_spelled signals (suc t) n (omega arith))
 
 end_spelled : (signals : List SignalContents) (end : ℕ) → end < 2 ^ 64
     → list_all is_spelled (end_items signals end) ≡ true
-end_spelled signals end small =
-    cond_both (nat_lt 0 end && (length (new_values signals end) == 0)) (stamp_of end ∷ []) []
-    (λ items. list_all is_spelled items ≡ true)
-    (λ e. and_from (is_spelled (stamp_of end)) true (stamp_spelled end small) refl) (λ e. refl)
+end_spelled signals end small = grind (arith, cond_both, and_from, stamp_spelled)
 
 header_spelled : (header : List Header) → list_all is_sound_header header ≡ true
     → list_all is_spelled (header_items header) ≡ true
 header_spelled [] sound = refl
 header_spelled (h ∷ hs) sound =
-    let parts : (is_sound_header h ≡ true) × (list_all is_sound_header hs ≡ true) =
-    and_parts (is_sound_header h) (list_all is_sound_header hs) sound in
+    let parts : (is_sound_header h ≡ true) × (list_all is_sound_header hs ≡ true) = grind (arith, and_parts) in
     and_from (is_spelled (entry h.kind h.words)) (list_all is_spelled (header_items hs))
     (and_from (is_unbroken (header_word h.kind)) (list_all is_unbroken (h.words ++ end_word ∷ []))
     (header_word_unbroken h.kind) (with_end_unbroken h.words (words_are_unbroken h.words parts.0)))
@@ -185,11 +159,7 @@ timescale_is_spelled : (t : Option Timescale) → IfSome t (λ t. IsTrue (is_sou
     → list_all is_spelled (timescale_items t) ≡ true
 timescale_is_spelled None sound = refl
 timescale_is_spelled (Some t) sound =
-    and_from (is_spelled (timescale (decimal t.count ∷ unit_text t.unit ∷ []))) true
-    (and_from (is_unbroken (decimal t.count)) (is_unbroken (unit_text t.unit) && true)
-    (decimal_unbroken t.count (count_small t.count (sound_count t sound)))
-    (one_word (unit_text t.unit) (unit_unbroken t.unit)))
-    refl
+    grind (arith, and_from, decimal_unbroken, count_small, sound_count, one_word, unit_unbroken)
 
 upscopes_spelled : (n : ℕ) → list_all is_spelled (replicate n upscope) ≡ true
 upscopes_spelled zero = refl
@@ -204,10 +174,8 @@ scopes_spelled : (n : ℕ) (path : List ScopeName) → list_all is_sound_scope p
 scopes_spelled zero [] sound = refl
 scopes_spelled (suc n) [] sound = refl
 scopes_spelled zero (s ∷ path) sound =
-    let parts : (is_sound_scope s ≡ true) × (list_all is_sound_scope path ≡ true) =
-    and_parts (is_sound_scope s) (list_all is_sound_scope path) sound in
-    let words : (is_word s.kind ≡ true) × (list_all is_word s.words ≡ true) =
-    and_parts (is_word s.kind) (list_all is_word s.words) parts.0 in
+    let parts : (is_sound_scope s ≡ true) × (list_all is_sound_scope path ≡ true) = grind (arith, and_parts) in
+    let words : (is_word s.kind ≡ true) × (list_all is_word s.words ≡ true) = grind (arith, and_parts) in
     and_from (is_spelled (scope s.kind s.words)) (list_all is_spelled (map (λ s. scope s.kind s.words) path))
     (and_from (is_unbroken s.kind) (list_all is_unbroken (s.words ++ end_word ∷ [])) (word_is_unbroken s.kind words.0)
     (with_end_unbroken s.words (words_are_unbroken s.words words.1)))
@@ -217,14 +185,7 @@ scopes_spelled (suc n) (s ∷ path) sound =
 
 variable_spelled : (end k : ℕ) (s : SignalContents) → IsSoundSignal end s → is_spelled (variable_item k s) ≡ true
 variable_spelled end k s sound =
-    let most : s.width ≤ WIDTH_LIMIT = sound.most in
-    with_end_unbroken (s.kind ∷ decimal s.width ∷ code_of k ∷ s.words)
-    (and_from (is_unbroken s.kind) (list_all is_unbroken (decimal s.width ∷ code_of k ∷ s.words))
-    (word_is_unbroken s.kind sound.kind)
-    (and_from (is_unbroken (decimal s.width)) (list_all is_unbroken (code_of k ∷ s.words))
-    (decimal_unbroken s.width (omega arith))
-    (and_from (is_unbroken (code_of k)) (list_all is_unbroken s.words) (code_unbroken k)
-    (words_are_unbroken s.words sound.words))))
+    grind (arith, with_end_unbroken, and_from, word_is_unbroken, decimal_unbroken, code_unbroken, words_are_unbroken)
 
 signals_spelled : (end : ℕ) (opened : List ScopeName) (k : ℕ) (signals : List SignalContents)
     → AllByRecursion (IsSoundSignal end) signals → list_all is_spelled (signal_items opened k signals) ≡ true

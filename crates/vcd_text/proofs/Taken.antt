@@ -1,4 +1,5 @@
 -- One more word, or both of a change of several bits, from the first word of the file on.
+use Rattle.std.proofs.Common.{arith}
 use Rattle.std.specs.Prelude.{Bool, true, false, IsTrue, IsFalse, ◌==◌, ◌&&◌, not}
 use Rattle.std.proofs.Common.{◌≡◌, ◌⊎◌, inl, inr, cond, Ok, Err, List, [], ◌∷◌, ◌++◌, refl, sym, ap, subst, ◌∙◌}
 use Rattle.std.proofs.Common.{append_assoc}
@@ -41,23 +42,12 @@ after_more c (j ∷ is) i = after_more (state_after_item c j) is i
 
 spelled_more : (is : List Item) (i : Item) → spellings (is ++ i ∷ []) ≡ spellings is ++ spelling i
 spelled_more [] i = append-nil (spelling i)
-spelled_more (j ∷ is) i = ap (λ ws. spelling j ++ ws) (spelled_more is i)
-    ∙ sym (append_assoc (spelling j) (spellings is) (spelling i))
+spelled_more (j ∷ is) i = grind (arith, append_assoc, spelled_more is i)
 
 -- words that go on with the open item, or end it
 pub words_taken : (old new : Reader) (taken words : List PlacedWord) (r : Reads old taken)
     → WordStep r.told (r.begun ++ words) new → Reads new (taken ++ words)
-words_taken old new taken words r (goes_on at) = record {
-  items = r.items;
-  whole = r.whole;
-  begun = r.begun ++ words;
-  told = r.told;
-  parts = ap (λ ws. ws ++ words) r.parts ∙ append_assoc r.whole r.begun words;
-  spelled = r.spelled;
-  allowed = r.allowed;
-  tells = r.tells;
-  at = at;
-}
+words_taken old new taken words r (goes_on at) = grind (arith, append_assoc)
 words_taken old new taken words r (ends_item i spelled allows at) = record {
   items = r.items ++ i ∷ [];
   whole = taken ++ words;
@@ -97,14 +87,7 @@ shown_after old taken words begun more w r line fault parts decided at = record 
 error_shown : (words : List PlacedWord) (line : ℕ) (fault : Fault) → (fault ≡ NoMemory) ⊎ ShowsFault words line fault
     → (error_at line fault ≡ memory_error) ⊎ ShowsFault words (error_at line fault).line (error_at line fault).fault
 error_shown words line fault (inl none) = inl (ap (error_at line) none)
-error_shown words line fault (inr shows) =
-    by_test (λ b. let e : ReadError = cond b memory_error (record { line = line; fault = fault }) in
-    (e ≡ memory_error) ⊎ ShowsFault words e.line e.fault)
-    (is_want_of_memory fault) (inl refl) (inr shows)
-  where
-    by_test : (P : Bool → Type 0) (b : Bool) → P true → P false → P b
-    by_test P true t f = t
-    by_test P false t f = f
+error_shown words line fault (inr shows) = grind arith
 
 -- ---- lines
 
@@ -113,12 +96,7 @@ no_pair : (letters : List ℕ) (changing : Bool) (keyword : List ℕ) (words : L
     → is_among letters 36 ≡ false
     → IsTrue (is_other changing keyword) → keyword ∷ words ≡ (first ∷ text) ∷ [] → IsTrue (is_among letters first) → ⊥
 no_pair letters changing [] words first text none is same among = absurd (cc)
-no_pair letters changing (b ∷ bs) words first text none is same among =
-    let p = and_parts (begins_declaration (b ∷ bs) && not (is_one_of declaring_words (b ∷ bs))) _ is in
-    let q = and_parts (begins_declaration (b ∷ bs)) (not (is_one_of declaring_words (b ∷ bs))) p.0 in
-    let r = and_parts (b == 36) (not (is_one_of dump_words (b ∷ bs))) q.0 in
-    let first_is : b ≡ first = cc in
-    false≢true (sym none ∙ ap (is_among letters) (sym (eqb-true b 36 r.0) ∙ first_is) ∙ among)
+no_pair letters changing (b ∷ bs) words first text none is same among = grind (arith, and_parts, eqb-true)
 
 -- after another command no word shows a fault
 passed_over : (c : ParseState) (keyword : List ℕ) (words : List (List ℕ)) (word : List ℕ) (fault : Fault)
@@ -127,12 +105,9 @@ passed_over c keyword words word fault is (no_tick digits begun p q r) = absurd 
 passed_over c keyword words word fault is (tick_goes_back digits begun p q r s) = absurd (cc)
 passed_over c keyword words word fault is (value_alone letter begun p q r) = absurd (cc)
 passed_over c keyword words word fault is (value_of_none letter code begun p q r s t) = absurd (cc)
-passed_over c keyword words word fault is (pair_of_none first text begun among p q) =
-    no_pair pair_prefixes c.changing keyword words first text refl is begun among
-passed_over c keyword words word fault is (no_value first digits d begun among p q r s) =
-    no_pair vector_prefixes c.changing keyword words first digits refl is begun among
-passed_over c keyword words word fault is (value_too_long first digits d begun among p q r s t) =
-    no_pair vector_prefixes c.changing keyword words first digits refl is begun among
+passed_over c keyword words word fault is (pair_of_none first text begun among p q) = grind (arith, no_pair)
+passed_over c keyword words word fault is (no_value first digits d begun among p q r s) = grind (arith, no_pair)
+passed_over c keyword words word fault is (value_too_long first digits d begun among p q r s t) = grind (arith, no_pair)
 passed_over c keyword words word fault is (declaration_late begun p q) = absurd (cc)
 passed_over c keyword words word fault is (no_change first text begun p q r s) = absurd (cc)
 
@@ -148,24 +123,20 @@ declaring m c begun w agrees none = sym (ap (λ b. fault_line b begun w) (sym ag
 pub line_shown : (m : Reader) (c : ParseState) (begun : List PlacedWord) (w : PlacedWord) (fault : Fault)
     (item : OpenItem) → ReaderMatches m c → IsBegun m begun item → WordFault c (word_texts begun) w.text fault
     → shown_line item m.line w.line ≡ fault_line c.changing begun w
-line_shown m c begun w fault items.Nothing agrees none decided = line_of_first c.changing w
-    ∙ ap (λ ws. fault_line c.changing ws w) (sym none)
+line_shown m c begun w fault items.Nothing agrees none decided = grind (arith, line_of_first)
 line_shown m c begun w fault (items.Entry kind) agrees is decided = declaring m c begun w agrees is.declares
 line_shown m c begun w fault items.Timescale agrees is decided = declaring m c begun w agrees is.declares
 line_shown m c begun w fault items.Scope agrees is decided = declaring m c begun w agrees is.declares
 line_shown m c begun w fault items.Upscope agrees is decided = declaring m c begun w agrees is.0
 line_shown m c begun w fault items.Variable agrees is decided = declaring m c begun w agrees is.0.declares
 line_shown m c begun w fault items.EndDefinitions agrees is decided = declaring m c begun w agrees is.0
-line_shown m c begun w fault items.Other agrees is (among_declarations none shows) =
-    sym (ap (λ b. fault_line b begun w) none)
+line_shown m c begun w fault items.Other agrees is (among_declarations none shows) = grind arith
 line_shown m c begun w fault items.Other agrees is (among_changes all shows) =
     absurd (passed_over c is.keyword is.words w.text fault
     (subst (λ b. IsTrue (is_other b is.keyword)) agrees.changing is.other)
     (subst (λ ws. ChangeFault c ws w.text fault) is.spelled shows))
-line_shown m c begun w fault items.Vector agrees is decided = is.line
-    ∙ sym ((λ i. fault_line (sym agrees.changing i) (is.is i) w) ∙ ap (λ b. fault_line b (is.word ∷ []) w) is.changes)
-line_shown m c begun w fault items.Dropped agrees (text, is) decided = is.line
-    ∙ sym ((λ i. fault_line (sym agrees.changing i) (is.is i) w) ∙ ap (λ b. fault_line b (is.word ∷ []) w) is.changes)
+line_shown m c begun w fault items.Vector agrees is decided = grind arith
+line_shown m c begun w fault items.Dropped agrees (text, is) decided = grind arith
 
 -- the fault of a word is that of the definition, with its line, whatever follows
 pub one_shown : (old : Reader) (taken more : List PlacedWord) (w : PlacedWord) (r : Reads old taken) (fault : Fault)

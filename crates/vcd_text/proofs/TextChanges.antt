@@ -55,49 +55,23 @@ module _ (c : Contents) (p : ℕ × SignalContents) (placed : IsPlaced c p) (val
           letters =
               short_form v;
         } ∷ []
-    told_one letters v same =
-        (λ i. value_changes_after (state_at c value_changes t) (code_of p.0) (same i) (placed.found i))
-        ∙ (λ i. cond (placed.kept i) [] (record { tick = t; code = code_of p.0; letters = short_form v } ∷ []))
+    told_one letters v same = grind arith
 
     -- its variable accepts the short form
     takes_short : (v : List Bit) → 0 < length v → length v ≡ p.1.width
         → takes_binary_number (declared_as p.0 p.1) (printed_letters (short_form v)) ≡ true
-    takes_short v some wide =
-        let within = short_within v some in
-        let fits : length (printed_letters (short_form v)) ≤ p.1.width =
-        omega (arith, within.1, length-map (short_form v) printed_letter) in
-        λ i. placed.kept i || (printed_is_value (short_form v) within.0 i
-        && le-leb (length (printed_letters (short_form v))) p.1.width fits i)
+    takes_short v some wide = grind (arith, short_within, length-map, printed_is_value, le-leb)
 
     vector_leads : (v : List Bit) → 0 < length v → length v ≡ p.1.width
         → Leads (state_at c value_changes t) (vector 98 (printed_letters (short_form v)) (code_of p.0) ∷ [])
         (state_at c (value_changes ++ record { tick = t; code = code_of p.0; letters = short_form v } ∷ []) t)
-    vector_leads v some wide = record {
-      allowed = (
-        (
-          refl,
-          refl,
-          subst (λ o. IsSomeAnd o (λ d. IsTrue (takes_binary_number d (printed_letters (short_form v)))))
-              (sym placed.found) (takes_short v some wide),
-        ),
-        tt,
-      );
-      tells = λ i. state_at c
-          (value_changes ++ told_one (letters_of_digits (printed_letters (short_form v))) v
-          (letters_back (short_form v))
-          i) t;
-    }
+    vector_leads v some wide = grind (arith, takes_short, told_one, letters_back)
 
     value_leads_of : (v : List Bit) → length v ≡ p.1.width
         → Leads (state_at c value_changes t) (value_item (code_of p.0) v ∷ [])
         (state_at c (value_changes ++ record { tick = t; code = code_of p.0; letters = short_form v } ∷ []) t)
     value_leads_of [] wide = absurd (omega (arith, wide, placed.some))
-    value_leads_of (b ∷ []) wide = record {
-      allowed = ((refl, ap is_some (letter_back b), code_not_empty p.0, ap is_some placed.found), tt);
-      tells = λ i. state_at c
-          (value_changes ++ told_one (letters_of_digits (printed_letter b ∷ [])) (b ∷ []) (letters_back (b ∷ [])
-          ∙ sym (short_one b)) i) t;
-    }
+    value_leads_of (b ∷ []) wide = grind (arith, letter_back, code_not_empty, told_one, letters_back, short_one)
     value_leads_of (b ∷ d ∷ v) wide = vector_leads (b ∷ d ∷ v) (omega arith) wide
 
     value_leads : Leads (state_at c value_changes t) (value_item (code_of p.0) (signal_value p.1 t) ∷ [])
@@ -110,9 +84,7 @@ pub values_lead : (c : Contents) (placed : List (ℕ × SignalContents)) (value_
     → All (IsPlaced c) placed
     → Leads (state_at c value_changes t) (value_items t placed)
     (state_at c (value_changes ++ map (value_change_of t) placed) t)
-values_lead c [] value_changes t all =
-    leads_same (state_at c value_changes t) (state_at c value_changes t) _ [] (leads_none (state_at c value_changes t))
-    (λ i. state_at c (sym (append-nil value_changes) i) t)
+values_lead c [] value_changes t all = grind (arith, leads_same, leads_none, append-nil)
 values_lead c (p ∷ ps) value_changes t all =
     subst (λ rs. Leads (state_at c value_changes t) (value_items t (p ∷ ps)) (state_at c rs t))
     (append_assoc value_changes (value_change_of t p ∷ []) (map (value_change_of t) ps))
@@ -126,28 +98,13 @@ values_lead c (p ∷ ps) value_changes t all =
 -- a stamp that does not go back
 stamp_leads : (c : Contents) (value_changes : List ValueChange) (u t : ℕ) → u ≤ t → t ≤ END_LIMIT
     → Leads (state_at c value_changes u) (stamp_of t ∷ []) (state_at c value_changes t)
-stamp_leads c value_changes u t later within =
-    let small : t < 2 ^ 64 = omega arith in
-    let same = number_of-decimal t small in
-    record {
-      allowed = (
-        (
-          refl,
-          (λ i. decimal_is_number t small i && (ap (λ n. nat_le n END_LIMIT) same
-              ∙ le-leb t END_LIMIT within) i),
-          subst (λ n. u ≤ n) (sym same) later,
-        ),
-        tt,
-      );
-      tells = λ i. state_at c value_changes (same i);
-    }
+stamp_leads c value_changes u t later within = grind (arith, number_of-decimal, decimal_is_number, le-leb)
 
 -- a bracket changes nothing
 bracket_leads : (c : Contents) (value_changes : List ValueChange) (t : ℕ) (word : List ℕ)
     → is_one_of dump_words word ≡ true
     → Leads (state_at c value_changes t) (bracket word ∷ []) (state_at c value_changes t)
-bracket_leads c value_changes t word is =
-    leads_one (state_at c value_changes t) (state_at c value_changes t) (bracket word) (refl, is) refl
+bracket_leads c value_changes t word is = grind (arith, leads_one)
 
 -- the values at tick 0
 first_leads : (c : Contents) → All (IsPlaced c) (enumerate_from 0 c.signals)
@@ -260,9 +217,7 @@ ticks_from_one : (c : Contents) (end : ℕ) (value_changes : List ValueChange) �
     → Leads (state_at c value_changes 0) (tick_items c.signals 1 end ++ end_items c.signals end)
     (state_at c (value_changes ++ tick_value_changes c.signals 1 end) end)
 unfolding tick_items tick_value_changes
-ticks_from_one c zero value_changes at within all =
-    leads_same (state_at c value_changes 0) (state_at c value_changes 0) _ [] (leads_none (state_at c value_changes 0))
-    (λ i. state_at c (sym (append-nil value_changes) i) 0)
+ticks_from_one c zero value_changes at within all = grind (arith, leads_same, leads_none, append-nil)
 ticks_from_one c (suc n) value_changes at within all =
     subst (λ e. Leads (state_at c value_changes 0) (tick_items c.signals 1 (suc n) ++ end_items c.signals e)
     (state_at c (value_changes ++ tick_value_changes c.signals 1 (suc n)) e)) (sym at)

@@ -43,12 +43,9 @@ use Rattle.vcd_text.proofs.SoundTimescales.{sound_count, count_small, timescale_
 
 header_leads : (front hs : List Header) → list_all is_sound_header hs ≡ true
     → Leads (declaring front None [] []) (header_items hs) (declaring (front ++ hs) None [] [])
-header_leads front [] sound =
-    leads_same _ _ _ [] (leads_none (declaring front None [] []))
-    (ap (λ h. declaring h None [] []) (sym (append-nil front)))
+header_leads front [] sound = grind (arith, leads_same, leads_none, append-nil)
 header_leads front (h ∷ hs) sound =
-    let parts : (is_sound_header h ≡ true) × (list_all is_sound_header hs ≡ true) =
-    and_parts (is_sound_header h) (list_all is_sound_header hs) sound in
+    let parts : (is_sound_header h ≡ true) × (list_all is_sound_header hs ≡ true) = grind (arith, and_parts) in
     leads_first (declaring front None [] []) (declaring (front ++ (h ∷ hs)) None [] []) (entry h.kind h.words)
     (header_items hs) (refl, words_have_no_end h.words parts.0)
     (leads_same (declaring (front ++ h ∷ []) None [] []) _ _ (header_items hs)
@@ -57,10 +54,7 @@ header_leads front (h ∷ hs) sound =
 
 -- digits are not `$end`
 digits_no_end : (w : List ℕ) → list_all is_ascii_digit w ≡ true → is_end_word w ≡ false
-digits_no_end w digits = false_from_ne_true (is_end_word w) (λ same.
-    let spelled : w ≡ end_word = (bytes_eq-Decides w end_word).0 same in
-    let no : true ≡ false = sym digits ∙ ap (list_all is_ascii_digit) spelled in
-    absurd (cc))
+digits_no_end w digits = grind (arith, false_from_ne_true, bytes_eq-Decides)
 
 decimal_no_end : (n : ℕ) → n < 2 ^ 64 → not (is_end_word (decimal n)) ≡ true
 decimal_no_end n small = not_from_false (is_end_word (decimal n)) (digits_no_end (decimal n) (decimal_digits n small))
@@ -77,17 +71,7 @@ timescale_leads : (h : List Header) (t : Option Timescale) → IfSome t (λ t. I
     → Leads (declaring h None [] []) (timescale_items t) (declaring h t [] [])
 timescale_leads h None sound = leads_none (declaring h None [] [])
 timescale_leads h (Some t) sound =
-    let words : List (List ℕ) = decimal t.count ∷ unit_text t.unit ∷ [] in
-    let read : timescale_of words ≡ Some t = timescale_read t sound in
-    let no_end : has_no_end_word words ≡ true =
-    and_from (not (is_end_word (decimal t.count))) (not (is_end_word (unit_text t.unit)) && true)
-    (decimal_no_end t.count (count_small t.count (sound_count t sound)))
-    (and_from (not (is_end_word (unit_text t.unit))) true (unit_no_end t.unit) refl) in
-    leads_one (declaring h None [] []) (declaring h (Some t) [] []) (timescale words) (
-      refl,
-      no_end,
-      subst IsSome (sym read) refl,
-    ) (ap (λ o. declaring h o [] []) read)
+    grind (arith, timescale_read, and_from, decimal_no_end, count_small, sound_count, unit_no_end, leads_one)
 
 -- ---- variables
 
@@ -97,14 +81,7 @@ HasCodesBelow k ds = (j : ℕ) → k ≤ j → find (λ d. bytes_eq (code_of j) 
 
 codes_below_more : (k : ℕ) (ds : List VariableDeclaration) (d : VariableDeclaration) → HasCodesBelow k ds
     → d.code ≡ code_of k → HasCodesBelow (suc k) (ds ++ d ∷ [])
-codes_below_more k ds d below is = λ j from.
-    let other : bytes_eq (code_of j) d.code ≡ false =
-    false_from_ne_true (bytes_eq (code_of j) d.code) (λ same.
-    let one : j ≡ k = codes_differ j k ((bytes_eq-Decides (code_of j) d.code).0 same ∙ is) in
-    omega arith) in
-    find-append (λ d. bytes_eq (code_of j) d.code) ds (d ∷ [])
-    ∙ ap (λ o. option_or o (find (λ d. bytes_eq (code_of j) d.code) (d ∷ []))) (below j (le_of_lt from))
-    ∙ ap (λ b. cond b (Some d) None) other
+codes_below_more k ds d below is = grind (arith, false_from_ne_true, codes_differ, bytes_eq-Decides, find-append)
 
 -- the declaration of the words of a variable
 words_declare : (c : ParseState) (kind size code : List ℕ) (n : ℕ) (words : List (List ℕ)) → 0 < length words
@@ -112,31 +89,17 @@ words_declare : (c : ParseState) (kind size code : List ℕ) (n : ℕ) (words : 
     → declaration_of c (kind ∷ size ∷ code ∷ words)
     ≡ Some (record { scopes = c.scopes; kind = kind; size = n; code = code; words = words })
 words_declare c kind size code n [] named number = absurd (omega arith)
-words_declare c kind size code n (w ∷ ws) named number =
-    ap (λ m. Some (record { scopes = c.scopes; kind = kind; size = m; code = code; words = w ∷ ws })) number
+words_declare c kind size code n (w ∷ ws) named number = grind arith
 
 -- no word of a variable is `$end`
 variable_no_end : (end k : ℕ) (s : SignalContents) → IsSoundSignal end s → k < SIGNAL_LIMIT
     → has_no_end_word (s.kind ∷ decimal s.width ∷ code_of k ∷ s.words) ≡ true
 variable_no_end end k s sound few =
-    let most : s.width ≤ WIDTH_LIMIT = sound.most in
-    let kind : not (is_end_word s.kind) ≡ true =
-    (and_parts (not (is_end_word s.kind)) true
-    (words_have_no_end (s.kind ∷ []) (and_from (is_word s.kind) true sound.kind refl))).0 in
-    and_from (not (is_end_word s.kind)) (has_no_end_word (decimal s.width ∷ code_of k ∷ s.words)) kind
-    (and_from (not (is_end_word (decimal s.width))) (has_no_end_word (code_of k ∷ s.words))
-    (decimal_no_end s.width (omega arith))
-    (and_from (not (is_end_word (code_of k))) (has_no_end_word s.words)
-    (not_from_false (is_end_word (code_of k)) (code_no_end k few)) (words_have_no_end s.words sound.words)))
+    grind (arith, and_parts, words_have_no_end, and_from, decimal_no_end, not_from_false, code_no_end)
 
 -- there is room after fewer variables than the limit of signals
 room_left : (ds : List VariableDeclaration) (d : VariableDeclaration) → length ds < SIGNAL_LIMIT → has_room ds d ≡ true
-room_left ds d few =
-    let kept_few : length (kept_variables ds) ≤ length ds =
-    subst (λ n. n ≤ length ds) (sym (length-filter (λ d. not (is_skipped d)) ds))
-    (count_by-le-length (λ d. not (is_skipped d)) ds) in
-    or_right (is_skipped d) (nat_lt (length (kept_variables ds)) SIGNAL_LIMIT)
-    (lt-ltb (length (kept_variables ds)) SIGNAL_LIMIT (lt_of_le_of_lt kept_few few))
+room_left ds d few = grind (arith, length-filter, count_by-le-length, or_right, lt-ltb)
 
 -- the variable of the signal at a position
 variable_leads : (h : List Header) (t : Option Timescale) (ds : List VariableDeclaration) (end k : ℕ)
@@ -147,10 +110,8 @@ variable_leads h t ds end k s sound few at below =
     let before : ParseState = declaring h t s.scopes ds in
     let words : List (List ℕ) = s.kind ∷ decimal s.width ∷ code_of k ∷ s.words in
     let declares : declaration_of before words ≡ Some (declared_as k s) =
-    words_declare before s.kind (decimal s.width) (code_of k) s.width s.words sound.named
-    (number_of-decimal s.width (omega arith)) in
-    let fresh : may_have_code (variable_of before (code_of k)) (declared_as k s) ≡ true =
-    ap (λ o. may_have_code o (declared_as k s)) (below k (le_refl k)) in
+    grind (arith, words_declare, number_of-decimal) in
+    let fresh : may_have_code (variable_of before (code_of k)) (declared_as k s) ≡ true = grind arith in
     leads_one before (declaring h t s.scopes (ds ++ declared_as k s ∷ [])) (variable words) (
       refl,
       variable_no_end end k s sound few,
@@ -167,8 +128,7 @@ signals_lead : (h : List Header) (t : Option Timescale) (opened : List ScopeName
     → k + length signals ≤ SIGNAL_LIMIT → length ds ≡ k → HasCodesBelow k ds
     → Leads (declaring h t opened ds) (signal_items opened k signals) (declaring h t [] (ds ++ declared_of k signals))
 unfolding signal_items declared_of
-signals_lead h t opened ds end k [] sound few at below =
-    leads_same _ _ _ _ (scopes_end h t opened ds) (ap (λ l. declaring h t [] l) (sym (append-nil ds)))
+signals_lead h t opened ds end k [] sound few at below = search (arith, leads_same, scopes_end, append-nil)
 signals_lead h t opened ds end k (s ∷ ss) sound few at below =
     let more : List VariableDeclaration = ds ++ declared_as k s ∷ [] in
     let one_more : length more ≡ length ds + 1 = length-append ds (declared_as k s ∷ []) in
@@ -209,15 +169,11 @@ declarations_lead c sound =
 
 in_two : (front first ticks end : List Item) (i : Item)
     → front ++ (i ∷ first) ++ ticks ++ end ≡ (front ++ i ∷ []) ++ (first ++ ticks ++ end)
-in_two front first ticks end i =
-    ap (λ l. l ++ end) (append_assoc front (i ∷ first) ticks) ∙ append_assoc front (i ∷ (first ++ ticks)) end
-    ∙ sym (append_assoc front (i ∷ []) (first ++ ticks ++ end))
+in_two front first ticks end i = grind (arith, append_assoc)
 
 -- the declarations, and the items after them
 pub items_in_two : (c : Contents)
     → items_of c ≡ declaration_items c
     ++ (first_items c.signals ++ tick_items c.signals 1 c.end ++ end_items c.signals c.end)
 unfolding items_of
-items_in_two c =
-    in_two (header_items c.header ++ timescale_items c.timescale ++ signal_items [] 0 c.signals) (first_items c.signals)
-    (tick_items c.signals 1 c.end) (end_items c.signals c.end) end_definitions
+items_in_two c = grind (arith, in_two)

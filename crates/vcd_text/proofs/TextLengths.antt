@@ -28,8 +28,7 @@ abbrev bytes_of : List Item → ℕ
 bytes_of items = length (flat_map item_line items)
 
 bytes_both : (a b : List Item) → bytes_of (a ++ b) ≡ bytes_of a + bytes_of b
-bytes_both a b = ap (length {A = ℕ}) (flat_map-append item_line a b)
-    ∙ length-append (flat_map item_line a) (flat_map item_line b)
+bytes_both a b = grind (arith, flat_map-append, length-append)
 
 -- ---- one line
 
@@ -47,13 +46,7 @@ digits_within (suc most) (suc n) = let rest = digits_within most (n / 94) in ome
 front_within : (v : List Bit) → 0 < length v → length (value_front v) ≤ length v + 2
 front_within [] some = absurd (omega arith)
 front_within (b ∷ []) some = omega arith
-front_within (b ∷ d ∷ v) some =
-    omega (
-      arith,
-      (short_within (b ∷ d ∷ v) some).1,
-      length-map (short_form (b ∷ d ∷ v)) printed_letter,
-      length-append (printed_letters (short_form (b ∷ d ∷ v))) (32 ∷ []),
-    )
+front_within (b ∷ d ∷ v) some = grind (arith, short_within, length-map, length-append)
 
 -- a signal at a position, with its width at each tick
 record IsPlacedShort (p : ℕ × SignalContents) : Type 0 where
@@ -92,34 +85,17 @@ AllShort (p ∷ ps) = IsPlacedShort p × AllShort ps
 values_within : (t : ℕ) (ps : List (ℕ × SignalContents)) → AllShort ps
     → bytes_of (value_items t ps) ≤ length ps * line_most
 values_within t [] all = omega arith
-values_within t (p ∷ ps) (here, rest) =
-    let line = line_within t p here in
-    let lines = values_within t ps rest in
-    let apart = length-append (item_line (value_item (code_of p.0) (signal_value p.1 t)))
-    (flat_map item_line (value_items t ps)) in
-    omega arith
+values_within t (p ∷ ps) (here, rest) = grind (arith, line_within, length-append, values_within t ps rest)
 
 -- the signals that pass a test are no more than all
 passing_within : (t : ℕ) (test : ℕ × SignalContents → Bool) (ps : List (ℕ × SignalContents)) → AllShort ps
     → bytes_of (value_items t (filter test ps)) ≤ length ps * line_most
 passing_within t test [] all = omega arith
-passing_within t test (p ∷ ps) (here, rest) = choose (test p) (passing_within t test ps rest)
-  where
-    choose : (b : Bool) → bytes_of (value_items t (filter test ps)) ≤ length ps * line_most
-        → bytes_of (value_items t (cond b (p ∷ filter test ps) (filter test ps))) ≤ length (p ∷ ps) * line_most
-    choose true lines =
-        let line = line_within t p here in
-        let apart = length-append (item_line (value_item (code_of p.0) (signal_value p.1 t)))
-        (flat_map item_line (value_items t (filter test ps))) in
-        omega arith
-    choose false lines = omega arith
+passing_within t test (p ∷ ps) (here, rest) = grind (arith, line_within, length-append, passing_within t test ps rest)
 
 stamped_within : (t : ℕ) (items : List Item) → t < 2 ^ 64 → bytes_of (with_stamp t items) ≤ 22 + bytes_of items
 stamped_within t [] small = omega arith
-stamped_within t (v ∷ vs) small =
-    let stamp = stamp_within t small in
-    let apart = length-append (item_line (stamp_of t)) (flat_map item_line (v ∷ vs)) in
-    omega arith
+stamped_within t (v ∷ vs) small = grind (arith, stamp_within, length-append)
 
 -- ---- all ticks
 
@@ -128,30 +104,14 @@ ticks_within : (signals : List SignalContents) (t n : ℕ) → AllShort (enumera
 unfolding tick_items
 ticks_within signals t zero all small = omega arith
 ticks_within signals t (suc n) all small =
-    let values = passing_within t (λ p. differs_at t p.1) (enumerate_from 0 signals) all in
-    let stamped = stamped_within t (new_values signals t) (omega arith) in
-    let later = ticks_within signals (suc t) n all (omega arith) in
-    let apart = bytes_both (with_stamp t (new_values signals t)) (tick_items signals (suc t) n) in
-    omega arith
+    grind (arith, passing_within, stamped_within, bytes_both, ticks_within signals (suc t) n all (omega arith))
 
 end_within : (signals : List SignalContents) (end : ℕ) → end < 2 ^ 64 → bytes_of (end_items signals end) ≤ 22
-end_within signals end small = choose (nat_lt 0 end && (length (new_values signals end) == 0))
-  where
-    choose : (b : Bool) → bytes_of (cond b (stamp_of end ∷ []) []) ≤ 22
-    choose true = let stamp = stamp_within end small in let apart = length-append (item_line (stamp_of end)) [] in
-        omega arith
-    choose false = omega arith
+end_within signals end small = grind (arith, stamp_within, length-append)
 
 first_within : (signals : List SignalContents) → AllShort (enumerate_from 0 signals)
     → bytes_of (first_items signals) ≤ 100 + length (enumerate_from 0 signals) * line_most
-first_within signals all =
-    let values = values_within 0 (enumerate_from 0 signals) all in
-    let stamp = stamp_within 0 (omega arith) in
-    let apart = bytes_both (stamp_of 0 ∷ bracket (codes "$dumpvars") ∷ [])
-    (all_values signals 0 ++ bracket end_word ∷ []) in
-    let further = bytes_both (all_values signals 0) (bracket end_word ∷ []) in
-    let stamped = length-append (item_line (stamp_of 0)) (flat_map item_line (bracket (codes "$dumpvars") ∷ [])) in
-    omega arith
+first_within signals all = grind (arith, values_within, stamp_within, bytes_both, length-append)
 
 -- ---- a capture
 
@@ -164,8 +124,7 @@ short_enumerated end k (s ∷ ss) few all =
         few = omega arith;
         some = sound.least;
         most = sound.most;
-        wide =
-            λ t. length-value_at s.width t s.changes sound.wave;
+        wide = grind (arith, length-value_at);
       },
       short_enumerated end (k + 1) ss (omega arith) (All-tail (IsSoundSignal end) s ss all),
     )

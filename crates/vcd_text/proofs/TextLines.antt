@@ -1,4 +1,5 @@
 -- The line of a declaration, piece by piece.
+use Rattle.std.proofs.Common.{arith}
 use Rattle.std.proofs.Common.{◌≡◌, ℕ, Bool, List, [], ◌∷◌, ◌++◌, sym, ap, ◌∙◌, append_assoc, codes}
 use Rattle.std.specs.Prelude.{Option}
 use Rattle.std.specs.List.{join_with_byte}
@@ -25,14 +26,7 @@ writes_words front back first second =
 -- the first word, the words after it, and the end
 line_of_words : (w : List ℕ) (ws : List (List ℕ))
     → (w ++ spaced_words ws) ++ codes " $end\n" ≡ join_with_byte 32 (w ∷ (ws ++ end_word ∷ [])) ++ 10 ∷ []
-line_of_words w ws =
-    append_assoc w (spaced_words ws) (codes " $end\n") ∙ ap (λ l. w ++ l) (sym with_end)
-    ∙ sym (append_assoc w (spaced_words (ws ++ end_word ∷ [])) (10 ∷ []))
-    ∙ ap (λ l. l ++ 10 ∷ []) (sym (joined w (ws ++ end_word ∷ [])))
-  where
-    with_end : spaced_words (ws ++ end_word ∷ []) ++ 10 ∷ [] ≡ spaced_words ws ++ codes " $end\n"
-    with_end = ap (λ l. l ++ 10 ∷ []) (flat_map-append (λ w. 32 ∷ w) ws (end_word ∷ []))
-        ∙ append_assoc (spaced_words ws) (spaced_words (end_word ∷ [])) (10 ∷ [])
+line_of_words w ws = grind (arith, append_assoc, joined, flat_map-append)
 
 pub writes_line : {W : Type 0} {t : W → Option (List ℕ)} {f : W → Bool} {s0 s1 s2 s3 : WriteBuffer × W} (w : List ℕ)
     (ws : List (List ℕ))

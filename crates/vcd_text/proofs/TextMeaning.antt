@@ -16,13 +16,7 @@ use Rattle.vcd_text.proofs.TextChanges.{value_changes_of, state_at}
 -- a signal of a capture is that of its declaration and the value changes
 signal_means : (c : Contents) → IsSound c → (k : ℕ) (d : SignalContents) → k < length c.signals
     → declared_signal (value_changes_of c) c.end (declared_as k (get_or c.signals k d)) ≡ get_or c.signals k d
-signal_means c sound k d inside =
-    let s : SignalContents = get_or c.signals k d in
-    let is : IsSoundSignal c.end s = sound.signals k d inside in
-    let wave = wave_is s.width c.end s.changes
-    (λ t. latest_value s.width (code_of k) t (all_x s.width) (value_changes_of c)) is.wave is.ticks
-    (λ t to. sym (latest_is c.signals k t d inside (λ u. length-value_at s.width u s.changes is.wave) c.end to)) in
-    λ i. record { scopes = s.scopes; kind = s.kind; words = s.words; width = s.width; changes = sym wave i }
+signal_means c sound k d inside = grind (arith, wave_is, latest_is, length-value_at)
 
 -- a function that restores each signal restores all
 signals_back : (f : VariableDeclaration → SignalContents) (j : ℕ) (ss : List SignalContents)
@@ -46,13 +40,7 @@ signals_mean c sound =
 
 -- the text of a sound capture means the capture
 pub text_means : (c : Contents) → IsSound c → c ≡ meaning (state_at c (value_changes_of c) c.end)
-text_means c sound = λ i. record {
-  header = c.header;
-  timescale = c.timescale;
-  end = c.end;
-  signals =
-      sym (signals_mean c sound) i;
-}
+text_means c sound = grind (arith, signals_mean)
 
 -- the text skips no variable
 pub text_skips_nothing : (c : Contents) → IsSound c → 0 ≡ skipped_count (state_at c (value_changes_of c) c.end)

@@ -1,4 +1,5 @@
 -- The text of a sound capture is read back as the capture.
+use Rattle.std.proofs.Common.{arith}
 use Rattle.std.proofs.Common.{◌++◌, refl, sym, subst}
 use Rattle.vcd_core.specs.Contents.{Contents}
 use Rattle.vcd_core.specs.Sound.{IsSound}
@@ -14,11 +15,7 @@ use Rattle.vcd_text.proofs.TextMeaning.{text_means, text_skips_nothing}
 
 -- the items of a sound capture's text are allowed in turn, and give the value changes of its signals
 items_lead : (c : Contents) → IsSound c → Leads initial_state (items_of c) (state_at c (value_changes_of c) c.end)
-items_lead c sound =
-    subst (λ items. Leads initial_state items (state_at c (value_changes_of c) c.end)) (sym (items_in_two c))
-    (leads_both initial_state (declared_state c) (state_at c (value_changes_of c) c.end) (declaration_items c)
-    (first_items c.signals ++ tick_items c.signals 1 c.end ++ end_items c.signals c.end)
-    (declarations_lead c sound) (changes_lead c sound))
+items_lead c sound = search (arith, items_in_two, leads_both, declarations_lead, changes_lead)
 
 -- the text means the capture
 pub read_back : (c : Contents) → IsSound c → FileMeans (text c) c 0

@@ -30,12 +30,9 @@ words_of_line : (line : ℕ) (ws : List (List ℕ)) (rest : List ℕ) → list_a
     → word_texts (words_from true line (join_with_byte 32 ws ++ (10 ∷ rest))) ≡ ws
     ++ word_texts (words_from true (line + 1) rest)
 words_of_line line [] rest unbroken = ap word_texts (space_passed true line 10 rest refl)
-words_of_line line (w ∷ []) rest unbroken =
-    ap word_texts (word_first line 10 w rest (and_parts (is_unbroken w) true unbroken).0 refl)
-    ∙ ap (λ words. w ∷ word_texts words) (space_passed true line 10 rest refl)
+words_of_line line (w ∷ []) rest unbroken = grind (arith, word_first, and_parts, space_passed)
 words_of_line line (w ∷ v ∷ ws) rest unbroken =
-    let parts : (is_unbroken w ≡ true) × (list_all is_unbroken (v ∷ ws) ≡ true) =
-    and_parts (is_unbroken w) (list_all is_unbroken (v ∷ ws)) unbroken in
+    let parts : (is_unbroken w ≡ true) × (list_all is_unbroken (v ∷ ws) ≡ true) = grind (arith, and_parts) in
     ap (λ l. word_texts (words_from true line l)) (append_assoc w (32 ∷ join_with_byte 32 (v ∷ ws)) (10 ∷ rest))
     ∙ ap word_texts (word_first line 32 w (join_with_byte 32 (v ∷ ws) ++ (10 ∷ rest)) parts.0 refl)
     ∙ ap (λ words. w ∷ word_texts words) (space_passed true line 32 (join_with_byte 32 (v ∷ ws) ++ (10 ∷ rest)) refl)
@@ -47,8 +44,7 @@ pub words_of_lines : (line : ℕ) (items : List Item) → list_all is_spelled it
 unfolding words_from
 words_of_lines line [] spelled = refl
 words_of_lines line (i ∷ is) spelled =
-    let parts : (is_spelled i ≡ true) × (list_all is_spelled is ≡ true) =
-    and_parts (is_spelled i) (list_all is_spelled is) spelled in
+    let parts : (is_spelled i ≡ true) × (list_all is_spelled is ≡ true) = grind (arith, and_parts) in
     ap (λ l. word_texts (words_from true line l))
     (append_assoc (join_with_byte 32 (spelling i)) (10 ∷ []) (flat_map item_line is))
     ∙ words_of_line line (spelling i) (flat_map item_line is) parts.0

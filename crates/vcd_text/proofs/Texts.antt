@@ -1,4 +1,5 @@
 -- The parts of a text, one after another.
+use Rattle.std.proofs.Common.{arith}
 use Rattle.std.proofs.Common.{◌≡◌, ℕ, List, [], ◌∷◌, ◌++◌, sym, ap, ◌∙◌, append_assoc, codes}
 use Rattle.std.specs.List.{flat_map}
 use Rattle.std.proofs.lemmas.Grind.{flat_map-append}
@@ -18,17 +19,7 @@ definitions_end = codes "$enddefinitions $end\n"
 in_a_row : (H T S F K N : List Item)
     → (((lines H ++ lines T) ++ lines S) ++ definitions_end) ++ (lines F ++ lines (K ++ N))
     ≡ lines (((((H ++ T) ++ S) ++ (end_definitions ∷ F)) ++ K) ++ N)
-in_a_row H T S F K N =
-    let front : List ℕ = (lines H ++ lines T) ++ lines S in
-    ap (λ l. (front ++ definitions_end) ++ (lines F ++ l)) (flat_map-append item_line K N)
-    ∙ sym (append_assoc (front ++ definitions_end) (lines F) (lines K ++ lines N))
-    ∙ sym (append_assoc ((front ++ definitions_end) ++ lines F) (lines K) (lines N))
-    ∙ ap (λ l. (l ++ lines K) ++ lines N) (append_assoc front definitions_end (lines F))
-    ∙ sym (flat_map-append item_line ((((H ++ T) ++ S) ++ (end_definitions ∷ F)) ++ K) N
-    ∙ ap (λ l. l ++ lines N) (flat_map-append item_line (((H ++ T) ++ S) ++ (end_definitions ∷ F)) K
-    ∙ ap (λ l. l ++ lines K) (flat_map-append item_line ((H ++ T) ++ S) (end_definitions ∷ F)
-    ∙ ap (λ l. l ++ (definitions_end ++ lines F)) (flat_map-append item_line (H ++ T) S
-    ∙ ap (λ l. l ++ lines S) (flat_map-append item_line H T)))))
+in_a_row H T S F K N = grind (arith, flat_map-append, append_assoc)
 
 -- the declarations, the values at tick 0, and the rest
 pub whole_text : (c : Contents)
@@ -36,5 +27,4 @@ pub whole_text : (c : Contents)
     ++ (flat_map item_line (first_items c.signals)
     ++ flat_map item_line (tick_items c.signals 1 c.end ++ end_items c.signals c.end)) ≡ text c
 unfolding text items_of
-whole_text c = in_a_row (header_items c.header) (timescale_items c.timescale) (signal_items [] 0 c.signals)
-    (first_items c.signals) (tick_items c.signals 1 c.end) (end_items c.signals c.end)
+whole_text c = grind (arith, in_a_row)

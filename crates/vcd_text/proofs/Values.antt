@@ -10,8 +10,7 @@ use Rattle.vcd_text.specs.inside.ValueFronts.{value_front}
 -- digits, a space and a code, after `b`
 many : (digits code : List ℕ) → ((98 ∷ []) ++ (digits ++ 32 ∷ [])) ++ (code ++ 10 ∷ []) ≡ ((98 ∷ digits) ++ (32 ∷ code))
     ++ 10 ∷ []
-many digits code = ap (λ l. 98 ∷ l) (append_assoc digits (32 ∷ []) (code ++ 10 ∷ [])
-    ∙ sym (append_assoc digits (32 ∷ code) (10 ∷ [])))
+many digits code = grind (arith, append_assoc)
 
 pub front_of_bit : (v : List Bit) → length v ≡ 1 → value_front v ≡ printed_letter (get_or v 0 X) ∷ []
 front_of_bit [] one = absurd (omega arith)

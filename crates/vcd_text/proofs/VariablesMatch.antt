@@ -1,4 +1,5 @@
 -- The reader's variables, compared with the state of a file.
+use Rattle.std.proofs.Common.{arith}
 use Rattle.std.proofs.Common.{◌≡◌, ℕ, ◌≤◌, List, sym, ap, ◌∙◌, subst, find, map}
 use Rattle.std.specs.Prelude.{count_by, bytes_eq}
 use Rattle.vcd_text.specs.Grammar.{ValueChange, ParseState, variable_of, is_skipped, kept_variables}
@@ -20,14 +21,7 @@ wave_further : (vs : List Variable) (log : ℕ → List LoggedChange) (value_cha
     (early late position : ℕ) (code : List ℕ) (size : ℕ)
     → early ≤ late → HasWave vs log position code size value_changes early
     → HasWave vs log position code size value_changes late
-wave_further vs log value_changes early late position code size later w = record {
-  first = w.first;
-  stands = w.stands;
-  coded = w.coded;
-  sized = w.sized;
-  gives = gives_further size early (λ t. latest_value size code t (all_x size) value_changes)
-      w.first.signal.wave.changes late (log position) later w.gives;
-}
+wave_further vs log value_changes early late position code size later w = grind (arith, gives_further)
 
 -- variables that match a state match it at a later tick too
 pub knows_further : (vs : Variables) (c d : ParseState) → c.declared ≡ d.declared → c.value_changes ≡ d.value_changes

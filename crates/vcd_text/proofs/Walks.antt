@@ -37,24 +37,14 @@ same_tick : (signals : List SignalContents) (end t : ℕ) (placed : List (ℕ ×
     → walk signals end t (at_tick t placed ++ ms) ≡ value_items t placed ++ walk signals end t ms
 unfolding walk
 same_tick signals end t [] ms all = refl
-same_tick signals end t (p ∷ ps) ms (at, rest) =
-    ap (λ b. (if b then [] else stamp_of t ∷ [])
-    ++ value_item (code_of p.0) (signal_value (get_or signals p.0 no_signal) t)
-    ∷ walk signals end t (at_tick t ps ++ ms)) (eq-eqb t t refl)
-    ∙ ap (λ s. value_item (code_of p.0) (signal_value s t) ∷ walk signals end t (at_tick t ps ++ ms)) at
-    ∙ ap (λ l. value_item (code_of p.0) (signal_value p.1 t) ∷ l) (same_tick signals end t ps ms rest)
+same_tick signals end t (p ∷ ps) ms (at, rest) = grind (arith, eq-eqb, same_tick signals end t ps ms rest)
 
 -- transitions at a later tick, where there is at least one
 later_tick : (signals : List SignalContents) (end last t : ℕ) (p : ℕ × SignalContents) (ps : List (ℕ × SignalContents))
     (ms : List Transition) → last < t → AllPlaced signals (p ∷ ps)
     → walk signals end last (at_tick t (p ∷ ps) ++ ms) ≡ with_stamp t (value_items t (p ∷ ps)) ++ walk signals end t ms
 unfolding walk
-later_tick signals end last t p ps ms later (at, rest) =
-    ap (λ b. (if b then [] else stamp_of t ∷ [])
-    ++ value_item (code_of p.0) (signal_value (get_or signals p.0 no_signal) t)
-    ∷ walk signals end t (at_tick t ps ++ ms)) (ne_eqb t last (omega arith))
-    ∙ ap (λ s. stamp_of t ∷ value_item (code_of p.0) (signal_value s t) ∷ walk signals end t (at_tick t ps ++ ms)) at
-    ∙ ap (λ l. stamp_of t ∷ value_item (code_of p.0) (signal_value p.1 t) ∷ l) (same_tick signals end t ps ms rest)
+later_tick signals end last t p ps ms later (at, rest) = grind (arith, ne_eqb, same_tick)
 
 -- a tick before the end
 one_tick : (signals : List SignalContents) (end last t : ℕ) (placed : List (ℕ × SignalContents)) (ms : List Transition)
@@ -62,8 +52,7 @@ one_tick : (signals : List SignalContents) (end last t : ℕ) (placed : List (�
     → walk signals end last ms ≡ rest → walk signals end t ms ≡ rest
     → walk signals end last (at_tick t placed ++ ms) ≡ with_stamp t (value_items t placed) ++ rest
 one_tick signals end last t [] ms rest later all still now = still
-one_tick signals end last t (p ∷ ps) ms rest later all still now = later_tick signals end last t p ps ms later all
-    ∙ ap (λ l. with_stamp t (value_items t (p ∷ ps)) ++ l) now
+one_tick signals end last t (p ∷ ps) ms rest later all still now = grind (arith, later_tick)
 
 -- the last tick, and the stamp of the end where nothing changes at it
 tick_at_end : (signals : List SignalContents) (last t : ℕ) (placed : List (ℕ × SignalContents)) → last < t
@@ -71,30 +60,13 @@ tick_at_end : (signals : List SignalContents) (last t : ℕ) (placed : List (ℕ
     → walk signals t last (at_tick t placed ++ []) ≡ (with_stamp t (value_items t placed) ++ [])
     ++ (if nat_lt 0 t && (length (value_items t placed) == 0) then stamp_of t ∷ [] else [])
 unfolding walk
-tick_at_end signals last t [] later all =
-    ap (λ b. if b then stamp_of t ∷ [] else []) (lt-ltb last t later)
-    ∙ sym (ap (λ b. if b && true then stamp_of t ∷ [] else []) (lt-ltb 0 t (omega arith)))
-tick_at_end signals last t (p ∷ ps) later all =
-    let more : (suc (length (value_items t ps)) == 0) ≡ false =
-    ne_eqb (suc (length (value_items t ps))) 0 (omega arith) in
-    later_tick signals t last t p ps [] later all
-    ∙ ap (λ b. with_stamp t (value_items t (p ∷ ps)) ++ (if b then stamp_of t ∷ [] else [])) (le-ltb t t (omega arith))
-    ∙ append-nil (with_stamp t (value_items t (p ∷ ps)))
-    ∙ sym (ap (λ b. (with_stamp t (value_items t (p ∷ ps)) ++ []) ++ (if nat_lt 0 t && b then stamp_of t ∷ [] else []))
-    more
-    ∙ ap (λ b. (with_stamp t (value_items t (p ∷ ps)) ++ []) ++ (if b && false then stamp_of t ∷ [] else []))
-    (lt-ltb 0 t (omega arith))
-    ∙ append-nil _ ∙ append-nil (with_stamp t (value_items t (p ∷ ps))))
+tick_at_end signals last t [] later all = grind (arith, lt-ltb)
+tick_at_end signals last t (p ∷ ps) later all = grind (arith, ne_eqb, later_tick, le-ltb, append-nil, lt-ltb)
 
 placed_filter : (signals : List SignalContents) (t : ℕ) (placed : List (ℕ × SignalContents)) → AllPlaced signals placed
     → AllPlaced signals (filter (λ p. differs_at t p.1) placed)
 placed_filter signals t [] all = tt
-placed_filter signals t (p ∷ ps) (at, rest) = keep (differs_at t p.1) (placed_filter signals t ps rest)
-  where
-    keep : (b : Bool) → AllPlaced signals (filter (λ p. differs_at t p.1) ps)
-        → AllPlaced signals (cond b (p ∷ filter (λ p. differs_at t p.1) ps) (filter (λ p. differs_at t p.1) ps))
-    keep true kept = (at, kept)
-    keep false kept = kept
+placed_filter signals t (p ∷ ps) (at, rest) = grind (arith, placed_filter signals t ps rest)
 
 placed_enumerated : (signals : List SignalContents) (k : ℕ) (ss : List SignalContents) → drop k signals ≡ ss
     → AllPlaced signals (enumerate_from k ss)
@@ -138,21 +110,13 @@ pub walk_parts : (signals : List SignalContents) (end last : ℕ) (ms later : Li
     ++ walk signals end (last_tick last ms) later
 unfolding walk transition_items last_tick
 walk_parts signals end last [] later = refl
-walk_parts signals end last (m ∷ ms) later =
-    ap (λ l. (if m.tick == last then [] else stamp_of m.tick ∷ [])
-    ++ value_item (code_of m.position) (transition_value signals m) ∷ l) (walk_parts signals end m.tick ms later)
-    ∙ sym (append_assoc (if m.tick == last then [] else stamp_of m.tick ∷ [])
-    (value_item (code_of m.position) (transition_value signals m) ∷ transition_items signals m.tick ms)
-    (walk signals end (last_tick m.tick ms) later))
+walk_parts signals end last (m ∷ ms) later = grind (arith, append_assoc, walk_parts signals end m.tick ms later)
 
 -- the lines of all ticks past 0
 pub whole_walk : (signals : List SignalContents) (end : ℕ)
     → flat_map item_line (walk signals end 0 (transitions_from signals 1 (end + 1 - 1)))
     ≡ flat_map item_line (tick_items signals 1 end ++ end_items signals end)
-whole_walk signals end =
-    let count : end + 1 - 1 ≡ end = omega arith in
-    ap (λ n. flat_map item_line (walk signals end 0 (transitions_from signals 1 n))) count
-    ∙ ap (flat_map item_line) (walk_is signals end)
+whole_walk signals end = grind (arith, walk_is)
 
 -- the lines of a window, and those of the ticks after it
 pub window_walked : (signals : List SignalContents) (end last next from count : ℕ) (ms : List Transition)
@@ -178,7 +142,4 @@ pub end_walked : (signals : List SignalContents) (end last from : ℕ) → end <
     → flat_map item_line (walk signals end last (transitions_from signals from (end + 1 - from)))
     ≡ flat_map item_line (if nat_lt last end then stamp_of end ∷ [] else []) ++ []
 unfolding walk transitions_from
-end_walked signals end last from past =
-    let none : end + 1 - from ≡ 0 = omega arith in
-    ap (λ n. flat_map item_line (walk signals end last (transitions_from signals from n))) none
-    ∙ sym (append-nil (flat_map item_line (if nat_lt last end then stamp_of end ∷ [] else [])))
+end_walked signals end last from past = grind (arith, append-nil)

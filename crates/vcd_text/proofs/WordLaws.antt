@@ -24,14 +24,7 @@ not_true false e = refl
 
 -- a byte that is no white space is no line feed
 pub no_space_is_no_feed : (b : ℕ) → is_white_space b ≡ false → (b == 10) ≡ false
-no_space_is_no_feed b black = choose (b == 10) refl
-  where
-    choose : (t : Bool) → (b == 10) ≡ t → t ≡ false
-    choose false e = refl
-    choose true e =
-        let ten : b ≡ 10 = (Decides-eqb b 10).0 e in
-        let no : true ≡ false = sym (ap is_white_space ten) ∙ black in
-        absurd (cc)
+no_space_is_no_feed b black = grind (arith, Decides-eqb)
 
 -- ---- line feeds
 
@@ -45,9 +38,7 @@ feed_first b bs text is feed =
     omega (arith, ap feeds is, feeds_both (b ∷ []) bs, one)
 
 pub other_first : (b : ℕ) (bs text : List ℕ) → text ≡ b ∷ bs → (b == 10) ≡ false → feeds text ≡ feeds bs
-other_first b bs text is other =
-    let none : feeds (b ∷ []) ≡ 0 = ap (λ t. 0 + cond t 1 0) other in
-    omega (arith, ap feeds is, feeds_both (b ∷ []) bs, none)
+other_first b bs text is other = grind (arith, feeds_both)
 
 -- a word has no line feed
 pub no_feeds : (word : List ℕ) → list_all (λ b. not (is_white_space b)) word ≡ true → feeds word ≡ 0
@@ -77,17 +68,10 @@ pub word_whole : (whole : Bool) (line : ℕ) (w rest : List ℕ) → 0 < length 
     → words_from whole line (w ++ rest) ≡ word_on w line ∷ words_from whole line rest
 unfolding words_from
 word_whole whole line [] rest some black ends = absurd (omega arith)
-word_whole whole line (b ∷ []) rest some black ends =
-    let here : is_white_space b ≡ false = not_true _ (both _ _ black).0 in
-    ap (λ s. with_byte s (ends_before whole rest) b line (words_from whole (line_after b line) rest)) here
-    ∙ ap (λ e. with_byte false e b line (words_from whole (line_after b line) rest)) ends
-    ∙ ap (λ n. word_on (b ∷ []) line ∷ words_from whole n rest) (same_line b line here)
+word_whole whole line (b ∷ []) rest some black ends = grind (arith, not_true, both, same_line)
 word_whole whole line (b ∷ c ∷ w) rest some black ends =
     let here : is_white_space b ≡ false = not_true _ (both _ _ black).0 in
-    let following : is_white_space c ≡ false =
-    not_true (is_white_space c)
-    (both (not (is_white_space c)) (list_all (λ b. not (is_white_space b)) w)
-    (both (not (is_white_space b)) (list_all (λ b. not (is_white_space b)) (c ∷ w)) black).1).0 in
+    let following : is_white_space c ≡ false = grind (arith, not_true, both) in
     ap (λ s. with_byte s (is_white_space c) b line (words_from whole (line_after b line) (c ∷ w ++ rest))) here
     ∙ ap (λ e. with_byte false e b line (words_from whole (line_after b line) (c ∷ w ++ rest))) following
     ∙ ap (λ n. with_longer_first b line (words_from whole n (c ∷ w ++ rest))) (same_line b line here)
@@ -106,8 +90,7 @@ word_split whole line n text some black ends =
 pub space_passed : (whole : Bool) (line b : ℕ) (bs : List ℕ) → is_white_space b ≡ true
     → words_from whole line (b ∷ bs) ≡ words_from whole (line_after b line) bs
 unfolding words_from
-space_passed whole line b bs space =
-    ap (λ s. with_byte s (ends_before whole bs) b line (words_from whole (line_after b line) bs)) space
+space_passed whole line b bs space = grind arith
 
 -- where a text has no word at its front, and no white space, it is at its end
 pub no_word : (whole : Bool) (line n : ℕ) (text : List ℕ) → length (take n text) ≡ 0 → begins_with_space text ≡ false
@@ -123,15 +106,10 @@ no_word whole line (suc n) (b ∷ bs) none black ends = absurd (omega arith)
 pub word_part : (line : ℕ) (w : List ℕ) → list_all (λ b. not (is_white_space b)) w ≡ true → words_from false line w ≡ []
 unfolding words_from
 word_part line [] black = refl
-word_part line (b ∷ []) black =
-    let here : is_white_space b ≡ false = not_true _ (both _ _ black).0 in
-    ap (λ s. with_byte s false b line []) here
+word_part line (b ∷ []) black = grind (arith, not_true, both)
 word_part line (b ∷ c ∷ w) black =
     let here : is_white_space b ≡ false = not_true _ (both _ _ black).0 in
-    let following : is_white_space c ≡ false =
-    not_true (is_white_space c)
-    (both (not (is_white_space c)) (list_all (λ b. not (is_white_space b)) w)
-    (both (not (is_white_space b)) (list_all (λ b. not (is_white_space b)) (c ∷ w)) black).1).0 in
+    let following : is_white_space c ≡ false = grind (arith, not_true, both) in
     ap (λ s. with_byte s (is_white_space c) b line (words_from false (line_after b line) (c ∷ w))) here
     ∙ ap (λ e. with_byte false e b line (words_from false (line_after b line) (c ∷ w))) following
     ∙ ap (with_longer_first b line) (word_part (line_after b line) (c ∷ w) (both _ _ black).1)
@@ -146,8 +124,7 @@ runs_with_byte : (space last : Bool) (b line : ℕ) (ws : List PlacedWord) → i
     → All (λ (w : PlacedWord). is_run w.text) ws
     → All (λ (w : PlacedWord). is_run w.text) (with_byte space last b line ws)
 runs_with_byte true last b line ws is runs = runs
-runs_with_byte false true b line ws is runs =
-    All-cons (λ (w : PlacedWord). is_run w.text) (word_on (b ∷ []) line) ws (omega arith, rw is refl) runs
+runs_with_byte false true b line ws is runs = grind (arith, All-cons)
 runs_with_byte false false b line [] is runs = runs
 runs_with_byte false false b line (w ∷ ws) is runs =
     let head = All-head (λ (w : PlacedWord). is_run w.text) w ws runs in
@@ -161,9 +138,7 @@ pub words_are_words : (whole : Bool) (line : ℕ) (bytes : List ℕ)
     → All (λ (w : PlacedWord). is_run w.text) (words_from whole line bytes)
 unfolding words_from
 words_are_words whole line [] = All-nil (λ (w : PlacedWord). is_run w.text)
-words_are_words whole line (b ∷ bs) =
-    runs_with_byte (is_white_space b) (ends_before whole bs) b line (words_from whole (line_after b line) bs) refl
-    (words_are_words whole (line_after b line) bs)
+words_are_words whole line (b ∷ bs) = search (arith, runs_with_byte, words_are_words whole (line_after b line) bs)
 
 -- as tests: a run of bytes other than white space
 abbrev pub is_run_text : List ℕ → Bool
@@ -199,16 +174,4 @@ more_with_byte false false b line (w ∷ ws) = omega arith
 pub words_are_few : (whole : Bool) (line : ℕ) (bytes : List ℕ) → length (words_from whole line bytes) ≤ length bytes
 unfolding words_from
 words_are_few whole line [] = omega arith
-words_are_few whole line (b ∷ bs) =
-    omega (
-      arith,
-      words_are_few whole (line_after b line) bs,
-      more_with_byte (is_white_space b) (ends_before whole bs) b line (words_from whole (line_after b line) bs),
-    )
-
--- the first word to come is a run
-pub first_is_run : (whole : Bool) (line : ℕ) (bytes : List ℕ) (w : PlacedWord) (ws : List PlacedWord)
-    → words_from whole line bytes ≡ w ∷ ws → is_run w.text
-first_is_run whole line bytes w ws is =
-    All-head (λ (w : PlacedWord). is_run w.text) w ws
-    (subst (λ ws. All (λ (w : PlacedWord). is_run w.text) ws) is (words_are_words whole line bytes))
+words_are_few whole line (b ∷ bs) = grind (arith, more_with_byte, words_are_few whole (line_after b line) bs)

@@ -56,18 +56,12 @@ cases_length (x ∷ xs) = inr (omega arith)
 
 -- a word is `$end` or not
 by_end : (P : List ℕ → Type 0) (word : List ℕ) → P end_word → (IsFalse (is_end_word word) → P word) → P word
-by_end P word closes further =
-    elim (cases_Bool (is_end_word word)) [
-      | inl is ↦
-          subst P (sym ((bytes_eq-Decides word end_word).0 is)) closes
-      | inr isnt ↦ further isnt
-    ]
+by_end P word closes further = grind (arith, cases_Bool, bytes_eq-Decides)
 
 -- one more word, which is not `$end`
 no_end_more : (words : List (List ℕ)) (word : List ℕ) → IsTrue (has_no_end_word words) → IsFalse (is_end_word word)
     → IsTrue (has_no_end_word (words ++ word ∷ []))
-no_end_more words word none isnt = list_all-append (λ w. not (is_end_word w)) words (word ∷ [])
-    ∙ (λ i. none i && (not (isnt i) && true))
+no_end_more words word none isnt = grind (arith, list_all-append)
 
 -- a fact about a value that may be absent
 some_has : {A : Type 0} (o : Option A) (P : A → Type 0) (x : A) → o ≡ Some x → P x → IsSomeAnd o P

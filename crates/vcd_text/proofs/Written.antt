@@ -23,22 +23,16 @@ finished out left whole none is = sym (append-nil out) ∙ ap (λ l. out ++ l) (
 -- two pieces
 pub writes_both : {W : Type 0} {t : W → Option (List ℕ)} {f : W → Bool} {s0 s1 s2 : WriteBuffer × W} {a b : List ℕ}
     → Emits t f s0 s1 a → Emits t f s1 s2 b → Emits t f s0 s2 (a ++ b)
-writes_both {t = t} {f = f} {s2 = s2} {a = a} {b = b} first second = record {
-  following = λ before text stands. subst (HasEmitted before (t s2.1) (f s2.1) s2.0) (append_assoc text a b)
-      (second.following before (text ++ a) (first.following before text stands));
-}
+writes_both {t = t} {f = f} {s2 = s2} {a = a} {b = b} first second = grind (arith, append_assoc)
 
 -- nothing
 pub writes_none : {W : Type 0} {t : W → Option (List ℕ)} {f : W → Bool} {s : WriteBuffer × W} → Emits t f s s []
-writes_none {t = t} {f = f} {s = s} = record {
-  following = λ before text stands. subst (HasEmitted before (t s.1) (f s.1) s.0) (sym (append-nil text)) stands;
-}
+writes_none {t = t} {f = f} {s = s} = grind (arith, append-nil)
 
 -- the same piece by another name
 pub writes_as : {W : Type 0} {t : W → Option (List ℕ)} {f : W → Bool} {s0 s1 : WriteBuffer × W} {a b : List ℕ} → a ≡ b
     → Emits t f s0 s1 a → Emits t f s0 s1 b
-writes_as {t = t} {f = f} {s0 = s0} {s1 = s1} same writes =
-    subst (Emits t f s0 s1) same writes
+writes_as {t = t} {f = f} {s0 = s0} {s1 = s1} same writes = grind arith
 
 -- ---- loops
 
@@ -66,28 +60,7 @@ front_grows {piece = piece} {left = left} {whole = whole} rest front more is = r
 
 pub front_whole : {W : Type 0} {t : W → Option (List ℕ)} {f : W → Bool} {s0 s1 : WriteBuffer × W} {left whole : List ℕ}
     → WritesFront t f s0 s1 left whole → left ≡ [] → Emits t f s0 s1 whole
-front_whole {left = left} {whole = whole} front none =
-    writes_as (finished front.done left whole none front.split) front.writes
-
--- where the writer has failed, the rest changes nothing
-failed_more : (before t : Option (List ℕ)) (f : Bool) (o : WriteBuffer) (text more : List ℕ) → f ≡ true
-    → HasEmitted before t f o text → HasEmitted before t f o (text ++ more)
-failed_more before t f o text more failed stands = record {
-  within = omega (arith, stands.within, length-append text more);
-  front = λ few. subst (Appends before t) (sym (take-append-le o.sent text more stands.within)) (stands.front few);
-  rest = λ few ready. absurd (cc (failed, ready));
-}
-
-pub front_failed : {W : Type 0} {t : W → Option (List ℕ)} {f : W → Bool} {s0 s1 : WriteBuffer × W} {left whole : List ℕ}
-    → WritesFront t f s0 s1 left whole → f s1.1 ≡ true → Emits t f s0 s1 whole
-front_failed {t = t} {f = f} {s1 = s1} {left = left} {whole = whole} front failed = record {
-  following = λ before text stands.
-      let same : (text ++ front.done) ++ left ≡ text ++ whole = append_assoc text front.done left
-      ∙ ap (λ l. text ++ l) front.split in
-      subst (HasEmitted before (t s1.1) (f s1.1) s1.0) same
-      (failed_more before (t s1.1) (f s1.1) s1.0 (text ++ front.done) left failed
-      (front.writes.following before text stands));
-}
+front_whole {left = left} {whole = whole} front none = search (arith, writes_as, finished)
 
 -- the items before one of a list are written, and then that item
 pub front_item : {W : Type 0} {t : W → Option (List ℕ)} {f : W → Bool} {s0 s1 s2 : WriteBuffer × W} {X : Type 0}
@@ -95,66 +68,44 @@ pub front_item : {W : Type 0} {t : W → Option (List ℕ)} {f : W → Bool} {s0
     → WritesFront t f s0 s1 (F (drop k xs)) whole → Emits t f s1 s2 piece → k < length xs
     → x ≡ get_or xs k x → F (x ∷ drop (k + 1) xs) ≡ piece ++ F (drop (k + 1) xs)
     → WritesFront t f s0 s2 (F (drop (k + 1) xs)) whole
-front_item F xs k x front more within is split =
-    front_grows (F (drop (k + 1) xs)) front more
-    (ap F (drop_more xs k x within ∙ ap (λ a. a ∷ drop (k + 1) xs) (sym is)) ∙ split)
-
--- all items of a list are written
-pub front_items : {W : Type 0} {t : W → Option (List ℕ)} {f : W → Bool} {s0 s1 : WriteBuffer × W} {X : Type 0}
-    (F : List X → List ℕ) (xs : List X) (k : ℕ) {whole : List ℕ}
-    → WritesFront t f s0 s1 (F (drop k xs)) whole → length xs ≤ k → F [] ≡ [] → Emits t f s0 s1 whole
-front_items F xs k front past none = front_whole front (ap F (drop_all k xs past) ∙ none)
+front_item F xs k x front more within is split = grind (arith, front_grows, drop_more)
 
 -- ---- the buffer
 
 -- bytes go to the writer: the front of the rest of the text
 sent_more : (before t0 t1 : Option (List ℕ)) (n k : ℕ) (text bytes : List ℕ) → drop n text ≡ bytes
     → Appends before t0 (take n text) → Appends t0 t1 (take k bytes) → Appends before t1 (take (n + k) text)
-sent_more before t0 t1 n k text bytes is front more =
-    subst (Appends before t1) (ap (λ l. take n text ++ take k l) (sym is)
-    ∙ sym (take-add n k text)) (Appends-trans before t0 t1 (take n text) (take k bytes) front more)
+sent_more before t0 t1 n k text bytes is front more = grind (arith, take-add, Appends-trans)
 
 -- a writer that has failed takes nothing
 sent_none : (before t0 t1 : Option (List ℕ)) (k : ℕ) (front bytes : List ℕ) → k ≡ 0 → Appends before t0 front
     → Appends t0 t1 (take k bytes) → Appends before t1 front
-sent_none before t0 t1 k front bytes none held more =
-    subst (Appends before t1) (append-nil front)
-    (Appends-trans before t0 t1 front [] held (subst (λ n. Appends t0 t1 (take n bytes)) none more))
+sent_none before t0 t1 k front bytes none held more = grind (arith, append-nil, Appends-trans)
 
 -- bytes after those that were sent are sent
 sent_bytes : (before t0 t1 : Option (List ℕ)) (f0 : Bool) (n k : ℕ) (text bytes : List ℕ)
     → (f0 ≡ false → drop n text ≡ bytes) → (f0 ≡ true → k ≡ 0)
     → Appends before t0 (take n text) → Appends t0 t1 (take k bytes) → Appends before t1 (take (n + k) text)
-sent_bytes before t0 t1 false n k text bytes is none front more =
-    sent_more before t0 t1 n k text bytes (is refl) front more
-sent_bytes before t0 t1 true n k text bytes is none front more =
-    let same : n + k ≡ n = omega (arith, none refl) in
-    subst (λ m. Appends before t1 (take m text)) (sym same)
-    (sent_none before t0 t1 k (take n text) bytes (none refl) front more)
+sent_bytes before t0 t1 false n k text bytes is none front more = grind (arith, sent_more)
+sent_bytes before t0 t1 true n k text bytes is none front more = grind (arith, sent_none)
 
 -- the bytes sent before and now are within the text
 within_whole : (f0 : Bool) (n k : ℕ) (text piece bytes : List ℕ) → n ≤ length text
     → (f0 ≡ false → drop n (text ++ piece) ≡ bytes) → (f0 ≡ true → k ≡ 0) → k ≤ length bytes
     → n + k ≤ length (text ++ piece)
 within_whole true n k text piece bytes within is none few = omega (arith, none refl, within, length-append text piece)
-within_whole false n k text piece bytes within is none few =
-    omega (arith, few, ap (length {A = ℕ}) (is refl), length-drop n (text ++ piece), length-append text piece, within)
+within_whole false n k text piece bytes within is none few = grind (arith, length-drop, length-append)
 
 -- nothing is left after the bytes sent
 none_left : (f0 f1 : Bool) (n k : ℕ) (whole bytes : List ℕ) → (f0 ≡ false → drop n whole ≡ bytes)
     → (f0 ≡ true → f1 ≡ true) → (f1 ≡ false → k ≡ length bytes) → f1 ≡ false → drop (n + k) whole ≡ []
 none_left true f1 n k whole bytes is stays all ready = absurd (cc (stays refl, ready))
-none_left false f1 n k whole bytes is stays all ready =
-    drop_all (n + k) whole (omega (arith, all ready, ap (length {A = ℕ}) (is refl), length-drop n whole))
+none_left false f1 n k whole bytes is stays all ready = grind (arith, drop_all, length-drop)
 
 -- the count of bytes sent stays within the text
 count_within : (n k few whole : ℕ) → n ≤ whole → (n < 2 ^ 128 - 1 → n + k ≤ whole) → few ≡ min (n + k) (2 ^ 128 - 1)
     → few ≤ whole
-count_within n k few whole within fits counted = by (nat_lt n (2 ^ 128 - 1)) refl
-  where
-    by : (b : Bool) → nat_lt n (2 ^ 128 - 1) ≡ b → few ≤ whole
-    by true is = omega (arith, counted, fits (ltb-true n (2 ^ 128 - 1) is))
-    by false is = omega (arith, counted, ltb-false n (2 ^ 128 - 1) is, within)
+count_within n k few whole within fits counted = grind (arith, ltb-true, ltb-false)
 
 -- bytes are sent that are the rest of the text with the piece
 pub bytes_sent : {W : Type 0} (t : W → Option (List ℕ)) (f : W → Bool) (s0 s1 : WriteBuffer × W) (k : ℕ)
@@ -168,10 +119,8 @@ bytes_sent t f s0 s1 k piece bytes left more few all none stays counted empty = 
   following = λ before text stands.
       let n = s0.0.sent in
       let now = s1.0.sent in
-      let is : n < 2 ^ 128 - 1 → f s0.1 ≡ false → drop n (text ++ piece) ≡ bytes =
-      λ early ready. left text stands.within (stands.rest early ready) in
-      let held : n < 2 ^ 128 - 1 → Appends before (t s0.1) (take n (text ++ piece)) =
-      λ early. subst (Appends before (t s0.1)) (sym (take-append-le n text piece stands.within)) (stands.front early) in
+      let is : n < 2 ^ 128 - 1 → f s0.1 ≡ false → drop n (text ++ piece) ≡ bytes = grind arith in
+      let held : n < 2 ^ 128 - 1 → Appends before (t s0.1) (take n (text ++ piece)) = grind (arith, take-append-le) in
       let early : now < 2 ^ 128 - 1 → n < 2 ^ 128 - 1 = λ small. omega (arith, counted, small) in
       let count : now < 2 ^ 128 - 1 → now ≡ n + k = λ small. omega (arith, counted, small) in
       record {
@@ -182,9 +131,7 @@ bytes_sent t f s0 s1 k piece bytes left more few all none stays counted empty = 
             subst (λ m. Appends before (t s1.1) (take m (text ++ piece))) (sym (count small))
             (sent_bytes before (t s0.1) (t s1.1) (f s0.1) n k (text ++ piece) bytes (is (early small)) none
             (held (early small)) more);
-        rest = λ small ready.
-            ap (λ m. drop m (text ++ piece)) (count small)
-            ∙ none_left (f s0.1) (f s1.1) n k (text ++ piece) bytes (is (early small)) stays all ready ∙ sym empty;
+        rest = grind (arith, none_left);
       };
 }
 
@@ -224,5 +171,4 @@ whole_written {t = t} {f = f} {s0 = s0} empty none writes =
 pub length_written : (before after : Option (List ℕ)) (failed : Bool) (o : WriteBuffer) (text : List ℕ) → failed ≡ false
     → o.sent < 2 ^ 128 - 1 → HasEmitted before after failed o text
     → length text ≡ o.sent + length o.waiting.items
-length_written before after failed o text ready few stands =
-    omega (arith, ap (length {A = ℕ}) (stands.rest few ready), length-drop o.sent text, stands.within)
+length_written before after failed o text ready few stands = grind (arith, length-drop)

@@ -11,14 +11,7 @@ use Rattle.vcd_text.proofs.Chunks.{at_end, of_all, is_no_file_failure}
 use Rattle.vcd_text.proofs.reading.read.Goals as goal
 
 pub returns-in_err-take_chunk-clause-refused : goal.returns-in_err-take_chunk-clause-refused
-returns-in_err-take_chunk-clause-refused g c =
-    let coming = g.R.Source.coming c.args.reader.now in
-    let left = g.R.Source.coming c.take_chunk.new.source in
-    let failed = g.R.Source.has_failed c.take_chunk.new.source in
-    let refused = err_from_is_err_and c.from_residual.result c.from_residual.ensures.1 in
-    subst (λ r. IfErr r (λ (e : ReadError). IfSome coming (λ file. IsRefusal file failed left e)))
-    (sym (refused.1 ∙ ap Err refused.2))
-    (c.in_err-take_chunk.ensures.refused coming c.loop-progress.invariant.0)
+returns-in_err-take_chunk-clause-refused g c = grind (arith, err_from_is_err_and)
 
 pub finish-requires : goal.finish-requires
 finish-requires g c =

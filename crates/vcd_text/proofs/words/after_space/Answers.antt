@@ -9,16 +9,11 @@ use Rattle.vcd_text.proofs.words.after_space.Goals as goal
 -- a line feed, or other white space, is passed
 passed_feed : (whole : Bool) (line b : ℕ) (bs text : List ℕ) → text ≡ b ∷ bs → is_white_space b ≡ true → b ≡ 10
     → words_from whole (line + 1) bs ≡ words_from whole line text
-passed_feed whole line b bs text is space feed =
-    let test : (b == 10) ≡ true = (Decides-eqb b 10).1 feed in
-    sym (ap (words_from whole line) is ∙ space_passed whole line b bs space
-    ∙ ap (λ t. words_from whole (cond t (line + 1) line) bs) test)
+passed_feed whole line b bs text is space feed = grind (arith, Decides-eqb, space_passed)
 
 passed_other : (whole : Bool) (line b : ℕ) (bs text : List ℕ) → text ≡ b ∷ bs → is_white_space b ≡ true
     → (b == 10) ≡ false → words_from whole line bs ≡ words_from whole line text
-passed_other whole line b bs text is space other =
-    sym (ap (words_from whole line) is ∙ space_passed whole line b bs space
-    ∙ ap (λ t. words_from whole (cond t (line + 1) line) bs) other)
+passed_other whole line b bs text is space other = grind (arith, space_passed)
 
 pub loop-byte-preserved-then-byte-eq10 : goal.loop-byte-preserved-then-byte-eq10
 loop-byte-preserved-then-byte-eq10 c =
@@ -33,13 +28,4 @@ loop-byte-preserved-then-byte-eq10 c =
     )
 
 pub loop-byte-preserved : goal.loop-byte-preserved
-loop-byte-preserved c =
-    let front : c.loop-byte.rest.now ≡ c.in-Some.byte.now ∷ c.in-Some.following.now = search rules in
-    let space : is_white_space c.in-Some.byte.now ≡ true = sym c.is_white_space.ensures
-    ∙ c.if-not-is_white_space.false in
-    let long = ap (length {A = ℕ}) front in (
-      λ whole. passed_other whole (c.loop-byte.lines + 1) _ _ _ front space (ne_eqb _ _ c.if-byte-eq10.false)
-          ∙ c.loop-byte.invariant.0 whole,
-      omega (arith, c.loop-byte.invariant.1, long),
-      omega (arith, c.loop-byte.invariant.2, other_first _ _ _ front (ne_eqb _ _ c.if-byte-eq10.false)),
-    )
+loop-byte-preserved c = grind (arith, passed_other, ne_eqb, other_first)

@@ -16,14 +16,7 @@ of_the_word : (width : ℕ) (s : List Bit) (pad : Bit) (P A : Type 0) (o : Optio
     → MatchOption o P (λ w. A × HoldsLetters pad s 0 w)
     → MatchOption o P (λ w. A × (letters_of width (w ∷ []) ≡ extension width s))
 of_the_word width s pad P A None fits narrow is p = p
-of_the_word width s pad P A (Some w) fits narrow is (a, holds) =
-    (a, word_is_extension width s w fits narrow (subst (λ b. HoldsLetters b s 0 w) is holds))
+of_the_word width s pad P A (Some w) fits narrow is (a, holds) = grind (arith, word_is_extension)
 
 pub returns : goal.returns
-returns c =
-    let digits = c.args.digits.now in
-    let long : length (letters_of_digits digits) ≤ c.args.width =
-    omega (arith, c.requires.fits, length-map digits (λ b. unwrap_or (letter_of_digit b) X)) in
-    of_the_word c.args.width (letters_of_digits digits) c.pad_of.result (list_all is_binary_digit digits ≡ false)
-    (list_all is_binary_digit digits ≡ true) c.word_of_digits.result long c.requires.narrow c.pad_of.ensures
-    c.word_of_digits.ensures
+returns c = grind (arith, length-map, of_the_word)

@@ -8,13 +8,7 @@ use Rattle.vcd_text.proofs.Chunks.{closed_at}
 use Rattle.vcd_text.proofs.reading.chunks.closed_len.Goals as goal
 
 pub returns-then-is_white_space-clause-closed : goal.returns-then-is_white_space-clause-closed
-returns-then-is_white_space-clause-closed c =
-    let bytes = c.args.bytes.now in
-    let n : ℕ = c.loop-len.len - 1 in
-    let space : is_white_space (get_or bytes n 0) ≡ true = search rules in
-    let last : suc n ≡ c.loop-len.len = omega (arith, c.loop-len-test.true) in
-    ap (λ k. is_closed (take k bytes)) (sym last)
-    ∙ closed_at n bytes (omega (arith, c.loop-len-test.true, c.loop-len.invariant.1)) space
+returns-then-is_white_space-clause-closed c = grind (arith, closed_at)
 
 pub returns-clause-black : goal.returns-clause-black
 returns-clause-black c =

@@ -14,8 +14,7 @@ use Rattle.vcd_text.proofs.reading.chunks.read_words.Goals as goal
 in_turn : (all came words following left : List PlacedWord) (first : PlacedWord) (rest : List PlacedWord)
     → all ≡ came ++ words → words ≡ first ∷ rest → rest ≡ following ++ left
     → all ≡ came ++ (first ∷ following) ++ left
-in_turn all came words following left first rest parts next taken = parts
-    ∙ ap (λ ws. came ++ ws) (next ∙ ap (λ ws. first ∷ ws) taken) ∙ sym (append_assoc came (first ∷ following) left)
+in_turn all came words following left first rest parts next taken = grind (arith, append_assoc)
 
 pub loop-first-init : goal.loop-first-init
 loop-first-init c = (
@@ -41,14 +40,7 @@ take_from-requires-clause-reading c =
     }
 
 pub loop-first-smaller : goal.loop-first-smaller
-loop-first-smaller c =
-    let (following, left, steps) = c.in_ok-take_from.ensures.words in
-    omega (
-      arith,
-      length-append following (words_left c.take_from.new.words),
-      ap (length {A = PlacedWord}) left,
-      ap (length {A = PlacedWord}) c.in-Some.ensures.words,
-    )
+loop-first-smaller c = grind (arith, length-append)
 
 pub loop-first-preserved : goal.loop-first-preserved
 loop-first-preserved c =

@@ -1,3 +1,4 @@
+use Rattle.std.proofs.Common.{arith}
 use Rattle.std.proofs.Common.{◌≡◌, ◌⊎◌, inl, inr, ℕ, ◌<◌, List, length, get_or, set, Some, refl, sym, subst, ◌∙◌}
 use Rattle.std.specs.Prelude.{slice_get}
 use Rattle.std.proofs.lemmas.Bool.{cases_eq}
@@ -9,8 +10,7 @@ use Rattle.vcd_text.proofs.reading.code_targets.put.Goals as goal
 after_set : (xs : List ℕ) (place number i n : ℕ) → slice_get (set xs place number) i ≡ Some n
     → ((i ≡ place) × (n ≡ number)) ⊎ (slice_get xs i ≡ Some n)
 after_set xs place number i n at =
-    let within : i < length xs =
-    subst (λ m. i < m) (length-set xs place number) (slice_get_within (set xs place number) i n at) in
+    let within : i < length xs = grind (arith, length-set, slice_get_within) in
     let read : get_or (set xs place number) i n ≡ n = get_or_from_slice_get (set xs place number) i n n at in
     elim (cases_eq i place) [
       | inl same ↦ inl (

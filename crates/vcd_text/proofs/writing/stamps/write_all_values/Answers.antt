@@ -16,8 +16,7 @@ values_from k signals = flat_map item_line (value_items 0 (enumerate_from k (map
 constant_piece : (k : ℕ) (signals : List Signal) (s : Signal) → k < length signals → s ≡ get_or signals k s
     → values_from k (drop k signals) ≡ item_line (value_item (code_of k) (value_at s.wave.width s.wave.changes 0))
     ++ values_from (k + 1) (drop (k + 1) signals)
-constant_piece k signals s within at =
-    ap (values_from k) (drop_more signals k s within ∙ ap (λ x. x ∷ drop (k + 1) signals) (sym at))
+constant_piece k signals s within at = grind (arith, drop_more)
 
 pub loop-position-preserved : goal.loop-position-preserved
 loop-position-preserved g c =

@@ -16,15 +16,13 @@ pub overflow_add-tick : goal.overflow_add-tick
 overflow_add-tick g c = omega (arith, (c.requires.keys c.loop-k.k 0 (omega arith)).tick)
 
 pub bounds-begun-position : goal.bounds-begun-position
-bounds-begun-position g c =
-    omega (arith, (c.requires.keys c.loop-k.k 0 (omega arith)).position, c.look_ahead.ensures, c.loop-k.invariant.begun)
+bounds-begun-position g c = grind arith
 
 pub bounds-signals-position : goal.bounds-signals-position
 bounds-signals-position g c = omega (arith, (c.requires.keys c.loop-k.k 0 (omega arith)).position)
 
 pub write_value_near-requires : goal.write_value_near-requires
-write_value_near-requires g c =
-    omega (arith, (c.requires.keys c.loop-k.k 0 (omega arith)).position, c.requires.few)
+write_value_near-requires g c = grind arith
 
 pub loop-k-preserved : goal.loop-k-preserved
 loop-k-preserved g c =
@@ -54,6 +52,4 @@ returns-clause-text g c =
     c.args.keys.now (omega arith))
 
 pub returns-clause-last : goal.returns-clause-last
-returns-clause-last g c =
-    last_written c.args.from c.loop-k.last c.loop-k.k _ c.args.keys.now (omega arith)
-    c.loop-k.invariant.last
+returns-clause-last g c = grind (arith, last_written)

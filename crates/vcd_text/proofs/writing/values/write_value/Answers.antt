@@ -9,13 +9,7 @@ use Rattle.vcd_text.proofs.Written.{writes_as, writes_both}
 use Rattle.vcd_text.proofs.writing.values.write_value.Goals as goal
 
 pub returns-then-width-le64 : goal.returns-then-width-le64
-returns-then-width-le64 g c =
-    let v = c.args.value.now in
-    let word = c.word.result in
-    let whole : letters_of c.width-width.result (word ∷ []) ≡ v =
-    ap (λ n. letters_of n (word ∷ [])) c.width-width.ensures.width
-    ∙ given_whole v word (omega (arith, c.if-width-le64.true, c.width-width.ensures.width)) c.word.ensures in
-    writes_as (ap (λ w. item_line (value_item (code_of c.args.position) w)) whole) c.write_word_value.ensures
+returns-then-width-le64 g c = grind (arith, given_whole)
 
 pub returns : goal.returns
 returns g c =

@@ -8,24 +8,13 @@ use Rattle.vcd_text.proofs.Orders.{key_holds, one_key}
 use Rattle.vcd_text.proofs.writing.window.list_signal.Goals as goal
 
 pub loop-next-init : goal.loop-next-init
-loop-next-init c = record {
-  next = goes_to c.args.from c.args.to c.args.changes.now c.args.next c.requires.order c.requires.next;
-  all = ap (λ w. transitions_of c.args.from c.args.keys.now.items ++ w)
-      (sym (begins c.args.from c.args.to c.args.position c.args.changes.now c.args.next.place c.requires.next.passed));
-  keys = λ count inside all. all;
-  room = omega arith;
-}
+loop-next-init c = grind (arith, goes_to, begins)
 
 pub following_change-next-requires : goal.following_change-next-requires
-following_change-next-requires c =
-    tick_inside c.args.changes.now c.loop-next.next.place
-    (omega (arith, c.loop-next.invariant.next.tick, c.requires.end))
+following_change-next-requires c = grind (arith, tick_inside)
 
 pub loop-next-smaller : goal.loop-next-smaller
-loop-next-smaller c =
-    let inside = tick_inside c.args.changes.now c.loop-next.next.place
-    (omega (arith, c.loop-next.invariant.next.tick, c.requires.end)) in
-    omega (arith, inside, c.following_change-next.ensures.place)
+loop-next-smaller c = grind (arith, tick_inside)
 
 pub loop-next-preserved : goal.loop-next-preserved
 loop-next-preserved c =
@@ -73,18 +62,7 @@ returns-then-len-capacity-clause-full c = inr (
     ))
 
 pub returns-clause-all : goal.returns-clause-all
-returns-clause-all c =
-    let kept = c.loop-next.invariant in
-    sym (append-nil _)
-    ∙ ap (λ w. transitions_of c.args.from c.loop-next.keys.items ++ w)
-    (sym (stops c.args.from c.args.to c.args.position c.args.changes.now c.loop-next.next c.requires.rise kept.next
-    (omega arith)))
-    ∙ kept.all
+returns-clause-all c = grind (arith, append-nil, stops)
 
 pub returns-clause-next : goal.returns-clause-next
-returns-clause-next c = record {
-  passed = c.loop-next.invariant.next.passed;
-  left = omega arith;
-  tick = c.loop-next.invariant.next.tick;
-  following = c.loop-next.invariant.next.following;
-}
+returns-clause-next c = grind arith

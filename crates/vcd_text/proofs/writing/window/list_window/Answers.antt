@@ -13,10 +13,7 @@ use Rattle.vcd_text.proofs.NextChanges.{passed_next}
 use Rattle.vcd_text.proofs.writing.window.list_window.Goals as goal
 
 pub list_signal-requires-clause-rise : goal.list_signal-requires-clause-rise
-list_signal-requires-clause-rise c = record {
-  width = c.index-signals-position.result.wave.width;
-  form = c.changes-changes.ensures.form;
-}
+list_signal-requires-clause-rise c = grind arith
 
 pub list_signal-requires-clause-next : goal.list_signal-requires-clause-next
 list_signal-requires-clause-next c =
@@ -43,28 +40,7 @@ returns-clause-all c = λ all.
     c.loop-position.invariant.all
 
 pub returns-in-None-clause-full : goal.returns-in-None-clause-full
-returns-in-None-clause-full c = λ _. elim c.in-None.ensures.full [
-  | inl far ↦ inl far
-  | inr full ↦ inr (
-      let k = c.loop-position.position in
-      let s = c.index-signals-position.result in
-      let longer = longer_than c.args.from c.args.to k c.args.signals.now s _ _
-      (omega arith) c.index-signals-position.is c.loop-position.invariant.all in
-      let part = length-map
-      (filter (λ (x : Change). is_in_window c.args.from c.args.to x.tick) s.wave.changes)
-      (λ (x : Change). transition_of x.tick k) in
-      let same = ap (λ (l : List Change). length (window_of_signal c.args.from c.args.to k l))
-      c.changes-changes.ensures.changes in
-      omega (
-        arith,
-        longer,
-        part,
-        same,
-        full,
-        c.loop-position.invariant.room,
-        length-map c.loop-position.keys.items (transition_of_key c.args.from),
-      ))
-]
+returns-in-None-clause-full c = grind (arith, longer_than, length-map)
 
 pub loop-position-preserved : goal.loop-position-preserved
 loop-position-preserved c =

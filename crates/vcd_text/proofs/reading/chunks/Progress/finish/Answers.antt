@@ -11,20 +11,7 @@ use Rattle.vcd_text.proofs.WordLaws.{words_are_few}
 use Rattle.vcd_text.proofs.reading.chunks.Progress.finish.Goals as goal
 
 pub read_words-requires-clause-room : goal.read_words-requires-clause-room
-read_words-requires-clause-room c =
-    let p = c.args.self in
-    let (bytes, taken) = c.requires in (
-      closed_words bytes,
-      taken.reads,
-      omega (
-        arith,
-        words_are_few false 1 bytes,
-        words_are_few true (p.passed + 1) c.as_slice.result.now,
-        ap (length {A = ℕ}) c.as_slice.ensures,
-        taken.short,
-        taken.room,
-      ),
-    )
+read_words-requires-clause-room c = grind (arith, words_are_few)
 
 pub returns-in_err-read_words-clause-fault : goal.returns-in_err-read_words-clause-fault
 returns-in_err-read_words-clause-fault c =

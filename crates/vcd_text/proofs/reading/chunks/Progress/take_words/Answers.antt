@@ -11,18 +11,7 @@ use Rattle.vcd_text.proofs.WordLaws.{words_are_few}
 use Rattle.vcd_text.proofs.reading.chunks.Progress.take_words.Goals as goal
 
 pub read_words-requires-clause-room : goal.read_words-requires-clause-room
-read_words-requires-clause-room c =
-    let p = c.args.self.now in
-    let (bytes, come) = c.requires in
-    let bounds = word_is_first p c.args.from bytes come in
-    let all = ap (length {A = ℕ}) come.all ∙ length-append come.before come.chunk in
-    let text = ap (length {A = ℕ}) c.as_slice-2.ensures in
-    let front = length-take {A = ℕ} c.closed_len-len.result c.as_slice-2.result.now in
-    let few = words_are_few true (p.passed + 1) (take c.closed_len-len.result c.as_slice-2.result.now) in (
-      closed_words come.before,
-      come.taken.reads,
-      omega (arith, words_are_few false 1 come.before, few, all, text, front, bounds.2, bounds.3),
-    )
+read_words-requires-clause-room c = grind (arith, word_is_first, length-append, length-take, words_are_few)
 
 pub returns-in_err-self-clause-taken : goal.returns-in_err-self-clause-taken
 returns-in_err-self-clause-taken c = λ bytes come.

@@ -1,3 +1,4 @@
+use Rattle.std.proofs.Common.{arith}
 use Rattle.std.proofs.Common.{sym, ◌∙◌}
 use Rattle.vcd_text.proofs.Changing.{takes_bracket, declares_late, passes_over}
 use Rattle.vcd_text.proofs.reading.reader.Reader.begin_command.Goals as goal
@@ -8,11 +9,7 @@ returns-then-is_dump_word c line =
     (sym c.is_dump_word.ensures ∙ c.if-is_dump_word.true)
 
 pub returns-then-is_declaring : goal.returns-then-is_declaring
-returns-then-is_declaring c line =
-    declares_late c.args.self.now c.args.self.now c.args.text.now line c.requires.between c.requires.changing
-    (sym c.is_declaring.ensures ∙ c.if-is_declaring.true)
+returns-then-is_declaring c line = grind (arith, declares_late)
 
 pub returns : goal.returns
-returns c line =
-    passes_over c.args.self.now c.args.text.now line c.requires.between c.requires.changing c.requires.command
-    (sym c.is_dump_word.ensures ∙ c.if-is_dump_word.false) (sym c.is_declaring.ensures ∙ c.if-is_declaring.false)
+returns c line = grind (arith, passes_over)

@@ -1,3 +1,4 @@
+use Rattle.std.proofs.Common.{arith}
 use Rattle.std.proofs.Common.{[], sym, ap, subst, ◌∙◌}
 use Rattle.std.specs.Global.{Vec}
 use Rattle.std.proofs.lemmas.Result.{on_ok_weaker}
@@ -7,10 +8,7 @@ use Rattle.vcd_text.proofs.FlushedVariables.{variables_can_flush, flushed_match}
 use Rattle.vcd_text.proofs.reading.variables.Variables.flush_log.Goals as goal
 
 pub flush_log-requires : goal.flush_log-requires
-flush_log-requires c =
-    let (told, k) = c.requires in
-    subst (λ (gs : Vec (Vec LoggedChange)). CanFlush c.args.self.now.kept.items (logged gs.items))
-    (sym c.replace-groups.ensures.value) (variables_can_flush c.args.self.now told k)
+flush_log-requires c = grind (arith, variables_can_flush)
 
 pub returns-clause-same : goal.returns-clause-same
 returns-clause-same c =

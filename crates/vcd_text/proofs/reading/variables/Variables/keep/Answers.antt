@@ -1,3 +1,4 @@
+use Rattle.std.proofs.Common.{arith}
 use Rattle.std.proofs.Common.{◌∙◌, ap, sym, refl, inl, inr, length, Some, ◌==◌, false}
 use Rattle.std.specs.Option.{option_map_or}
 use Rattle.std.specs.Prelude.{slice_get}
@@ -7,12 +8,7 @@ use Rattle.vcd_text.proofs.DeclaredVariables.{Puts, puts_same, push_declares, sa
 use Rattle.vcd_text.proofs.reading.variables.Variables.keep.Goals as goal
 
 pub returns-in-None : goal.returns-in-None
-returns-in-None c = λ told scopes k value_changes keeps.
-    let old = c.args.self.now in
-    let e = c.keep_first.ensures in
-    push_declares old c.keep_first.new.self told scopes c.args.code.now c.args.signal (length old.kept.items)
-    c.keep_first.result k value_changes c.requires.silent c.requires.bare keeps
-    (inl (sym c.get.ensures ∙ c.in-None.is, refl)) e.few e.kept e.widths e.log e.code_targets e.skipped e.refuses
+returns-in-None c = grind (arith, push_declares)
 
 pub returns-else-not-has_width : goal.returns-else-not-has_width
 returns-else-not-has_width c = λ told scopes k value_changes keeps.

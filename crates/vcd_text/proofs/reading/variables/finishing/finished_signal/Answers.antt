@@ -16,13 +16,4 @@ returns-then-first-before-clause-kept c =
     ∙ set-get_or (map signal_contents before) first (signal_contents old)
 
 pub returns-clause-finished : goal.returns-clause-finished
-returns-clause-finished c =
-    let first = c.args.variable.first in
-    let before = c.args.before.now in
-    elim (slice_get_cases before first).1 [
-      | inl (s, within, at, read) ↦ absurd (omega (arith, within, c.if-first-before.false))
-      | inr (past, at) ↦ subst (λ o. Finishes c.args.variable o c.with_form.result) (sym at) (
-        c.with_form.ensures.same,
-        c.with_form.ensures.form,
-      )
-    ]
+returns-clause-finished c = grind (arith, slice_get_cases)

@@ -5,16 +5,4 @@ use Rattle.vcd_text.specs.inside.Variables.{Finishes}
 use Rattle.vcd_text.proofs.reading.variables.finishing.push_signal.Goals as goal
 
 pub returns : goal.returns
-returns c =
-    let signal = c.in_ok-signal.signal in
-    let lent = c.finished_signal.new.before in
-    let is = with_items_is c.args.signals.now lent
-    (omega (arith, c.as_mut_slice.ensures.len, c.finished_signal.auto.before)) in (
-      signal,
-      subst (λ l. Finishes c.args.variable (slice_get l c.args.variable.first) signal) c.as_mut_slice.ensures.value
-          c.in_ok-signal.ensures.finished,
-      ap (map signal_contents) (c.in_ok-push.ensures.items ∙ ap (λ l. l ++ signal ∷ []) is)
-          ∙ map-append signal_contents lent (signal ∷ [])
-          ∙ ap (λ l. l ++ signal_contents signal ∷ []) (c.in_ok-signal.ensures.kept
-          ∙ ap (map signal_contents) c.as_mut_slice.ensures.value),
-    )
+returns c = grind (arith, with_items_is, map-append)
