@@ -6,9 +6,7 @@ use Rattle.std.specs.Prelude.{bytes_eq, slice_get, IsSomeAnd, IsTrue}
 use Rattle.std.specs.Global.{Vec}
 use Rattle.std.proofs.lemmas.Bool.{cases_Bool, cases_eq, le-leb, eqb-true}
 use Rattle.std.proofs.lemmas.Option.{same_Some, get_or_from_slice_get, slice_get_within, slice_get-map}
-use Rattle.std.proofs.lemmas.List.{length-map}
 use Rattle.vcd_core.specs.declared.wave.Change.{Change}
-use Rattle.vcd_core.specs.declared.capture.TheConstants.{SIGNAL_LIMIT}
 use Rattle.vcd_core.specs.declared.bit.Bit.{Bit}
 use Rattle.vcd_core.specs.Value.{all_x}
 use Rattle.vcd_core.specs.Wave.{value_at}
@@ -20,7 +18,6 @@ use Rattle.vcd_text.specs.Grammar.{is_binary_number, takes_binary_number, value_
 use Rattle.vcd_text.specs.Meaning.{latest_value}
 use Rattle.vcd_text.specs.inside.ChangeLog.{logged_letters, GivesLoggedValues, logged, AreGrouped}
 use Rattle.vcd_text.specs.inside.ValueDigits.{WritesValue, RefusesBinaryNumber}
-use Rattle.vcd_text.specs.inside.Variables.{TargetAgrees}
 use Rattle.vcd_text.specs.inside.Variables.{declaration, target_of, HasWave, TargetMatches, HasFirst, HasLogs}
 use Rattle.vcd_text.specs.inside.Variables.{VariablesMatch, Sets, BinaryNumberFault, no_value}
 use Rattle.vcd_text.specs.inside.Variables.{too_long, ChangeResult}

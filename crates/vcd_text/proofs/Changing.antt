@@ -1,8 +1,8 @@
 -- The words of changes follow the grammar.
-use Rattle.std.proofs.Common.{◌≡◌, ◌⊎◌, inl, inr, ℕ, ◌<◌, ◌≤◌, Bool, true, false, List, [], ◌∷◌, ◌++◌, ◌&&◌, ◌||◌, not}
+use Rattle.std.proofs.Common.{◌≡◌, ◌⊎◌, inl, inr, ℕ, ◌<◌, ◌≤◌, Bool, true, false, List, [], ◌∷◌, ◌++◌, ◌&&◌, ◌||◌}
 use Rattle.std.proofs.Common.{length, Some, None, IsSome, IsSomeAnd, Option, Result, Ok, Err, is_some, refl, sym, ap}
 use Rattle.std.proofs.Common.{subst, ◌∙◌, arith}
-use Rattle.std.specs.Prelude.{codes, nat_eq, nat_lt, ◌==◌, IsTrue}
+use Rattle.std.specs.Prelude.{codes, nat_eq, ◌==◌, IsTrue}
 use Rattle.std.proofs.lemmas.List.{nil_from_length}
 use Rattle.std.proofs.lemmas.Bool.{or_parts, or_cases, or_from, or_left, or_right, eqb-false}
 use Rattle.vcd_text.specs.declared.fault.Fault.{Fault}
@@ -10,15 +10,14 @@ use Rattle.vcd_text.specs.declared.fault.Fault.TheVariants.{NoMemory, BadTime, T
 use Rattle.vcd_text.specs.declared.fault.Fault.TheVariants.{UnexpectedWord}
 use Rattle.vcd_text.specs.Words.{PlacedWord, word_on}
 use Rattle.vcd_core.specs.Decimal.{number_of}
-use Rattle.vcd_core.specs.Word.{is_one_of, is_skipped_kind}
+use Rattle.vcd_core.specs.Word.{is_one_of}
 use Rattle.vcd_text.specs.Letters.{is_among, is_binary_digit}
 use Rattle.vcd_text.specs.Items.{Item, stamp, scalar, vector, real_or_string, bracket, spelling, is_command, dump_words}
-use Rattle.vcd_text.specs.Items.{declaring_words, header_words, vector_prefixes, dropped_prefixes}
+use Rattle.vcd_text.specs.Items.{declaring_words, vector_prefixes, dropped_prefixes}
 use Rattle.vcd_text.specs.Grammar.{ParseState, VariableDeclaration, ValueChange, Allows, state_after_item, word_texts}
 use Rattle.vcd_text.specs.Grammar.{is_skipped, is_tick, is_binary_number, takes_binary_number, variable_of}
-use Rattle.vcd_core.specs.declared.value.TheConstants.{WIDTH_LIMIT}
 use Rattle.vcd_text.specs.Faults.{ChangeFault, no_tick, tick_goes_back, value_alone, value_of_none, pair_of_none}
-use Rattle.vcd_text.specs.Faults.{no_value, value_too_long, declaration_late, no_change, among_changes, WordFault}
+use Rattle.vcd_text.specs.Faults.{no_value, value_too_long, no_change, among_changes, WordFault}
 use Rattle.vcd_text.specs.Faults.{pair_prefixes}
 use Rattle.vcd_text.specs.inside.Variables.{VariablesMatch, BinaryNumberFault, ChangeResult}
 use Rattle.vcd_text.specs.inside.Variables as variables

@@ -1,5 +1,5 @@
 -- A file in chunks: the progress after one more chunk, and the result where no more comes.
-use Rattle.std.proofs.Common.{◌≡◌, ◌⊎◌, inl, inr, ℕ, zero, suc, ◌+◌, ◌-◌, ◌<◌, ◌≤◌, Bool, true, false, not, cond, ◌==◌}
+use Rattle.std.proofs.Common.{◌≡◌, ◌⊎◌, inl, inr, ℕ, zero, suc, ◌+◌, ◌-◌, ◌<◌, ◌≤◌, Bool, true, false, not, ◌==◌}
 use Rattle.std.proofs.Common.{List, [], ◌∷◌, ◌++◌, length, take, drop, get_or, Option, Some, None, IfSome, refl, sym}
 use Rattle.std.proofs.Common.{ap, subst, ◌∙◌, arith, append_assoc, length-append}
 use Rattle.std.specs.Prelude.{IsTrue, IsFalse}
@@ -17,9 +17,9 @@ use Rattle.vcd_text.specs.declared.fault.Fault.TheVariants as faults
 use Rattle.vcd_text.specs.declared.fault.ReadError.{ReadError}
 use Rattle.vcd_text.specs.declared.reading.chunks.Progress.{Progress}
 use Rattle.vcd_text.specs.declared.reading.reader.Reader.{Reader}
-use Rattle.vcd_text.specs.Words.{PlacedWord, line_after, ends_before, with_longer_first, with_byte, words_from}
-use Rattle.vcd_text.specs.Words.{words_of, closed_words, last_line}
-use Rattle.vcd_text.specs.Grammar.{ParseState, initial_state, state_after, word_texts}
+use Rattle.vcd_text.specs.Words.{PlacedWord, line_after, with_longer_first, with_byte, words_from}
+use Rattle.vcd_text.specs.Words.{words_of, closed_words}
+use Rattle.vcd_text.specs.Grammar.{ParseState}
 use Rattle.vcd_text.specs.Faults.{FileFault, ShowsFault, WordFault, shown, none_shown}
 use Rattle.vcd_text.specs.FoundFaults.{FoundFault, word_shows}
 use Rattle.vcd_text.specs.FoundFaults.{too_early, FrontFault}

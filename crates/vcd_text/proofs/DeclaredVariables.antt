@@ -1,5 +1,5 @@
 -- A variable that is declared, skipped or kept.
-use Rattle.std.proofs.Common.{◌≡◌, ◌⊎◌, ℕ, zero, suc, ◌+◌, ◌<◌, ◌≤◌, min, Bool, true, false, not, ◌&&◌, ◌||◌, ◌==◌}
+use Rattle.std.proofs.Common.{◌≡◌, ◌⊎◌, ℕ, zero, suc, ◌+◌, ◌<◌, ◌≤◌, min, Bool, true, false, ◌&&◌, ◌||◌, ◌==◌}
 use Rattle.std.proofs.Common.{cond, if◌then◌else◌, nat_lt, List, [], ◌∷◌, ◌++◌, length, map, get_or, drop, Option, None}
 use Rattle.std.proofs.Common.{Some, Result, Ok, Err, OnOk, IfErr, inl, inr, refl, sym, ap, subst, ◌∙◌, arith}
 use Rattle.std.specs.Prelude.{bytes_eq, slice_get, count_by}
@@ -8,11 +8,9 @@ use Rattle.std.specs.Option.{option_or, option_map_or}
 use Rattle.std.proofs.lemmas.List.{append-nil, nil_from_length, map-append, length-map, length_push}
 use Rattle.std.proofs.lemmas.List.Elements.{filter-append}
 use Rattle.std.proofs.lemmas.Bool.{lt-ltb, le-ltb, ltb-false, eqb-true, cases_lt}
-use Rattle.indexmap.specs.IndexMap.{get_by}
 use Rattle.vcd_core.specs.declared.capture.TheConstants.{SIGNAL_LIMIT}
 use Rattle.std.proofs.lemmas.List.Sums.{sum_by-append, sum_by-cons}
 use Rattle.std.proofs.lemmas.Option.{slice_get_within, same_Some}
-use Rattle.vcd_core.specs.Value.{all_x}
 use Rattle.vcd_core.specs.Wave.{value_from}
 use Rattle.vcd_core.specs.declared.capture.ScopeName.{ScopeName}
 use Rattle.vcd_core.specs.declared.capture.Signal.{Signal}
@@ -24,7 +22,7 @@ use Rattle.vcd_core.specs.Word.{is_skipped_kind}
 use Rattle.vcd_text.specs.Grammar.{VariableDeclaration, ValueChange, ParseState, is_skipped, kept_variables}
 use Rattle.vcd_text.specs.Grammar.{variable_of, may_have_code, has_room}
 use Rattle.vcd_text.specs.Meaning.{latest_value}
-use Rattle.vcd_text.specs.inside.ChangeLog.{GivesLoggedValues, logged, AreGrouped}
+use Rattle.vcd_text.specs.inside.ChangeLog.{logged, AreGrouped}
 use Rattle.vcd_text.specs.declared.reading.change_log.LoggedChange.{LoggedChange}
 use Rattle.vcd_text.proofs.LoggedValues.{gives_as, gives_nothing}
 use Rattle.vcd_text.specs.inside.Variables.{TargetAgrees}

@@ -13,7 +13,7 @@ use Rattle.vcd_core.specs.Word.{is_one_of}
 use Rattle.vcd_text.specs.Items.{spellings, header_word, header_words, is_other, vector_prefixes, dropped_prefixes}
 use Rattle.vcd_text.specs.Grammar.{ParseState, Accepts, word_texts}
 use Rattle.vcd_text.specs.Faults.{ShowsFault}
-use Rattle.vcd_text.specs.FoundFaults.{Stops, IsUnfinished, declaration_due, words_due, upscope_due}
+use Rattle.vcd_text.specs.FoundFaults.{Stops, IsUnfinished, words_due}
 use Rattle.vcd_text.specs.Faults.{pair_prefixes}
 use Rattle.vcd_text.specs.FoundFaults.{variable_due, definitions_due, code_due, other_due}
 use Rattle.vcd_text.specs.inside.OpenItems.{is_nothing}

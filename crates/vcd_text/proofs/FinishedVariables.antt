@@ -1,23 +1,23 @@
 -- The signals of the variables.
 use Rattle.std.proofs.Common.{◌≡◌, ℕ, zero, suc, List, [], ◌∷◌, ◌++◌, length, map, drop, false, None, Some, inl, inr}
-use Rattle.std.proofs.Common.{refl, sym, ap, subst, ◌∙◌, arith}
+use Rattle.std.proofs.Common.{refl, ap, subst, ◌∙◌, arith}
 use Rattle.std.specs.Prelude.{slice_get}
 use Rattle.std.proofs.lemmas.List.{length-map}
 use Rattle.std.proofs.lemmas.Option.{same_Some, slice_get_cases}
 use Rattle.vcd_core.specs.declared.wave.Change.{Change}
 use Rattle.vcd_core.specs.declared.capture.Signal.{Signal}
 use Rattle.vcd_core.specs.Value.{all_x}
-use Rattle.vcd_core.specs.Wave.{value_at, changes_of, IsWave}
+use Rattle.vcd_core.specs.Wave.{changes_of, IsWave}
 use Rattle.vcd_core.specs.Contents.{SignalContents, signal_contents}
 use Rattle.vcd_core.proofs.Waves.{wave_is}
 use Rattle.vcd_text.specs.Grammar.{VariableDeclaration, ParseState, is_skipped, variable_of}
 use Rattle.vcd_text.specs.Meaning.{latest_value, declared_signal}
-use Rattle.vcd_text.specs.inside.Variables.{TargetAgrees, declaration, HasWave, VariablesMatch, Finishes}
+use Rattle.vcd_text.specs.inside.Variables.{declaration, HasWave, VariablesMatch, Finishes}
 use Rattle.vcd_text.specs.declared.reading.variables.Variable.{Variable}
 use Rattle.vcd_text.specs.declared.reading.variables.Variables.{Variables}
-use Rattle.vcd_text.specs.inside.ChangeLog.{GivesLoggedValues, logged}
+use Rattle.vcd_text.specs.inside.ChangeLog.{logged}
 use Rattle.vcd_text.proofs.LoggedValues.{gives_late}
-use Rattle.vcd_text.proofs.WaveChanges.{Ended, ended_upto}
+use Rattle.vcd_text.proofs.WaveChanges.{ended_upto}
 use Rattle.vcd_text.proofs.CodeTargets.{stands_kept}
 use Rattle.vcd_text.proofs.DeclaredVariables.{stays}
 

@@ -1,12 +1,12 @@
 -- The front of some words: a whole item, a fault, the beginning of an item, or nothing. It is a function of the words,
 -- so the grammar gives one result.
-use Rattle.std.proofs.Common.{◌≡◌, ℕ, suc, ◌<◌, ◌≤◌, Bool, true, false, cond, not, ◌&&◌, ◌||◌, List, [], ◌∷◌, ◌++◌}
+use Rattle.std.proofs.Common.{◌≡◌, ℕ, suc, ◌<◌, ◌≤◌, Bool, true, false, cond, ◌&&◌, ◌||◌, List, [], ◌∷◌, ◌++◌}
 use Rattle.std.proofs.Common.{length, Option, Some, None, IsSome, IsSomeAnd, IsTrue, IsFalse, nat_lt, codes, bytes_eq}
 use Rattle.std.proofs.Common.{refl, sym, ap, subst, ◌∙◌, append_assoc, arith, inl, inr}
-use Rattle.std.specs.Prelude.{nat_eq, nat_le, ◌==◌}
+use Rattle.std.specs.Prelude.{nat_eq, ◌==◌}
 use Rattle.std.specs.List.{AllByRecursion}
 use Rattle.std.proofs.lemmas.Slice.Eq.{bytes_eq-Decides}
-use Rattle.std.proofs.lemmas.Bool.{and_parts, or_parts, or_cases, or_from, not-true, cases_Bool, false≢true, eqb-true}
+use Rattle.std.proofs.lemmas.Bool.{and_parts, or_cases, not-true, cases_Bool, false≢true, eqb-true}
 use Rattle.std.proofs.lemmas.Bool.{leb-true, le-ltb, lt-ltb}
 use Rattle.vcd_core.specs.declared.capture.HeaderKind.TheVariants.{Date, Version, Comment}
 use Rattle.vcd_core.specs.declared.capture.Timescale.{Timescale}

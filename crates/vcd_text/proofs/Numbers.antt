@@ -1,7 +1,6 @@
 -- Decimal numbers up to a greatest one.
 use Rattle.std.proofs.Common.{arith}
-use Rattle.std.proofs.Common.{◌≡◌, ℕ, cond, min, Bool, true, false, List, Option, Some, None, MatchOption, refl, sym}
-use Rattle.std.proofs.Common.{subst}
+use Rattle.std.proofs.Common.{◌≡◌, ℕ, cond, min, Bool, true, false, List, Option, Some, None, MatchOption, refl}
 use Rattle.vcd_core.specs.Decimal.{is_number, number_of, number_up_to}
 
 cases_of_test : (b : Bool) (n : ℕ) → MatchOption (cond b (Some n) None) (b ≡ false) (λ m. (b ≡ true) × (m ≡ n))

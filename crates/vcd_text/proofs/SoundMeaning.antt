@@ -1,10 +1,9 @@
 -- The meaning of an accepted file is sound.
-use Rattle.std.proofs.Common.{◌≡◌, ℕ, zero, suc, ◌+◌, ◌-◌, ◌<◌, ◌≤◌, Bool, true, false, cond, not, ◌&&◌, ◌||◌, List, []}
-use Rattle.std.proofs.Common.{◌∷◌, ◌++◌, length, take, drop, replicate, Option, Some, None, IsTrue, IsFalse, IsSome}
+use Rattle.std.proofs.Common.{◌≡◌, ℕ, ◌+◌, ◌-◌, ◌<◌, ◌≤◌, Bool, true, false, cond, not, ◌&&◌, ◌||◌, List, []}
+use Rattle.std.proofs.Common.{◌∷◌, ◌++◌, length, take, drop, Option, Some, None, IsTrue, IsFalse, IsSome}
 use Rattle.std.proofs.Common.{IsSomeAnd, IfSome, All, refl, sym, ap, subst, ◌∙◌, arith, eq-eqb}
-use Rattle.std.specs.Prelude.{find, bytes_eq, nat_eq, ◌==◌, nat_le, nat_lt}
-use Rattle.std.specs.List.{list_all, concat}
-use Rattle.std.specs.Fmt.{decimal}
+use Rattle.std.specs.Prelude.{find, bytes_eq, nat_eq, ◌==◌, nat_le}
+use Rattle.std.specs.List.{list_all}
 use Rattle.std.proofs.lemmas.Bool.{and_parts, and_from, or_parts, false≢true, not-true, eqb-true, eqb-false, leb-true}
 use Rattle.std.proofs.lemmas.Bool.{ltb-true, ltb-false}
 use Rattle.std.proofs.lemmas.Slice.Eq.{bytes_eq-Decides}
@@ -13,7 +12,6 @@ use Rattle.std.proofs.lemmas.List.Elements.{All-nil, All-head, All-tail, All-pus
 use Rattle.std.proofs.lemmas.List.Elements.{filter_passes, filter-append}
 use Rattle.std.proofs.lemmas.List.Folds.{list_all-append}
 use Rattle.vcd_core.specs.declared.bit.Bit.{Bit}
-use Rattle.vcd_core.specs.declared.bit.Bit.TheVariants.{X}
 use Rattle.vcd_core.specs.declared.capture.Header.{Header}
 use Rattle.vcd_core.specs.declared.capture.ScopeName.{ScopeName}
 use Rattle.vcd_core.specs.declared.capture.Timescale.{Timescale}
@@ -24,16 +22,15 @@ use Rattle.vcd_core.specs.Value.{all_x}
 use Rattle.vcd_core.specs.Sound.{IsSound, IsSoundSignal, is_sound_header, is_sound_scope, is_sound_timescale}
 use Rattle.vcd_core.proofs.Waves.{changes_rise, changes_end}
 use Rattle.vcd_text.specs.Words.{words_of, word_on}
-use Rattle.vcd_core.specs.Decimal.{is_number, number_of}
-use Rattle.vcd_text.specs.Letters.{extension, pad_letter, letters_of_digits}
+use Rattle.vcd_core.specs.Decimal.{number_of}
+use Rattle.vcd_text.specs.Letters.{extension, letters_of_digits}
 use Rattle.vcd_text.specs.Items.{Item, entry, timescale, scope, upscope, variable, end_definitions, stamp, scalar}
-use Rattle.vcd_text.specs.Items.{vector, real_or_string, bracket, other, spelling, spellings, header_word, end_word}
-use Rattle.vcd_text.specs.Items.{is_end_word, has_no_end_word, timescales}
-use Rattle.vcd_core.specs.TimeUnits.{unit_text}
+use Rattle.vcd_text.specs.Items.{vector, real_or_string, bracket, other, spelling, spellings, end_word}
+use Rattle.vcd_text.specs.Items.{is_end_word, has_no_end_word}
 use Rattle.vcd_text.specs.Grammar.{ParseState, VariableDeclaration, ValueChange, Accepts, Allows, AllowsAll}
-use Rattle.vcd_text.specs.Grammar.{state_after, state_after_item, initial_state, is_skipped, kept_variables}
+use Rattle.vcd_text.specs.Grammar.{state_after, state_after_item, is_skipped, kept_variables}
 use Rattle.vcd_text.specs.Grammar.{variable_of, may_have_code, has_room, value_changes_after, with_value_change}
-use Rattle.vcd_text.specs.Grammar.{takes_binary_number, is_binary_number}
+use Rattle.vcd_text.specs.Grammar.{takes_binary_number}
 use Rattle.vcd_text.proofs.WordLaws.{is_run_text, texts_are_runs, run_is_word}
 use Rattle.vcd_text.specs.Meaning.{meaning, declared_signal, latest_value}
 

@@ -1,10 +1,9 @@
 -- The declarations of a capture's text are allowed, and declare the signals of the capture.
-use Rattle.std.proofs.Common.{◌≡◌, ◌<◌, ◌≤◌, ◌+◌, ◌^◌, ◌∙◌, ◌&&◌, cond, ℕ, suc, true, false, not, List, [], ◌∷◌, ◌++◌}
-use Rattle.std.proofs.Common.{find, length, Option, Some, None, IsSome, IsSomeAnd, IfSome, IsTrue, refl, sym, ap, subst}
-use Rattle.std.proofs.Common.{arith, le_of_lt, le_refl, lt_of_le_of_lt, append_assoc, append-nil, decimal, nat_lt}
+use Rattle.std.proofs.Common.{◌≡◌, ◌<◌, ◌≤◌, ◌+◌, ◌^◌, ◌∙◌, ◌&&◌, ℕ, suc, true, false, not, List, [], ◌∷◌, ◌++◌}
+use Rattle.std.proofs.Common.{find, length, Option, Some, None, IsSomeAnd, IfSome, IsTrue, refl, sym, ap, subst}
+use Rattle.std.proofs.Common.{arith, append_assoc, append-nil, decimal}
 use Rattle.std.proofs.Common.{option_to_list}
 use Rattle.std.specs.List.{list_all, AllByRecursion}
-use Rattle.std.specs.Option.{option_or}
 use Rattle.std.specs.Str.{bytes_eq}
 use Rattle.std.proofs.lemmas.Bool.{and_from, and_parts, false_from_ne_true, not_from_false, or_right, lt-ltb}
 use Rattle.std.proofs.lemmas.List.{length-append}
@@ -21,15 +20,14 @@ use Rattle.vcd_core.specs.declared.capture.TimeUnit.TheVariants.{Picosecond, Fem
 use Rattle.vcd_core.specs.declared.value.TheConstants.{WIDTH_LIMIT}
 use Rattle.vcd_core.specs.declared.capture.TheConstants.{SIGNAL_LIMIT}
 use Rattle.vcd_core.specs.Contents.{Contents, SignalContents}
-use Rattle.vcd_core.specs.Word.{is_word}
 use Rattle.vcd_core.specs.Sound.{is_sound_header, is_sound_timescale, IsSoundSignal, IsSound}
 use Rattle.std.specs.Char.{is_ascii_digit}
 use Rattle.vcd_core.specs.Decimal.{number_of}
-use Rattle.vcd_text.specs.Items.{Item, entry, timescale, variable, end_definitions, end_word, is_end_word}
-use Rattle.vcd_text.specs.Items.{has_no_end_word, timescale_of}
+use Rattle.vcd_text.specs.Items.{Item, entry, timescale, variable, end_definitions, is_end_word}
+use Rattle.vcd_text.specs.Items.{has_no_end_word}
 use Rattle.vcd_core.specs.TimeUnits.{unit_text}
 use Rattle.vcd_text.specs.Grammar.{ParseState, VariableDeclaration, initial_state, declaration_of, variable_of}
-use Rattle.vcd_text.specs.Grammar.{may_have_code, has_room, is_skipped, kept_variables}
+use Rattle.vcd_text.specs.Grammar.{may_have_code, has_room}
 use Rattle.vcd_text.specs.Text.{header_items, timescale_items, scope_items, code_of, variable_item, signal_items}
 use Rattle.vcd_text.specs.Text.{first_items, tick_items, end_items, items_of}
 use Rattle.vcd_text.proofs.CodesDiffer.{codes_differ, code_no_end}

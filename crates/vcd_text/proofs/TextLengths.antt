@@ -1,6 +1,6 @@
 -- The bytes of a text can be counted: each line is short, and the ticks are bounded.
-use Rattle.std.proofs.Common.{◌≡◌, ◌<◌, ◌≤◌, ◌+◌, ◌-◌, ◌*◌, ◌^◌, ◌/◌, ◌==◌, ◌&&◌, ℕ, zero, suc, Bool, true, false, cond}
-use Rattle.std.proofs.Common.{nat_lt, List, [], ◌∷◌, ◌++◌, length, All, ap, ◌∙◌, arith, codes}
+use Rattle.std.proofs.Common.{◌≡◌, ◌<◌, ◌≤◌, ◌+◌, ◌-◌, ◌*◌, ◌^◌, ◌/◌, ◌==◌, ◌&&◌, ℕ, zero, suc, Bool}
+use Rattle.std.proofs.Common.{List, [], ◌∷◌, ◌++◌, length, All, ap, ◌∙◌, arith}
 use Rattle.std.specs.List.{filter, flat_map, enumerate_from}
 use Rattle.std.specs.Fmt.{decimal}
 use Rattle.std.proofs.Math.Nat.{mul-le-mul, mul-le-mul_right}
@@ -13,11 +13,9 @@ use Rattle.vcd_core.specs.declared.value.TheConstants.{WIDTH_LIMIT}
 use Rattle.vcd_core.specs.declared.capture.TheConstants.{END_LIMIT, SIGNAL_LIMIT}
 use Rattle.vcd_core.specs.Contents.{Contents, SignalContents, signal_value}
 use Rattle.vcd_core.specs.Sound.{IsSound, IsSoundSignal}
-use Rattle.vcd_core.specs.Value.{printed_letter}
-use Rattle.vcd_text.specs.Items.{Item, bracket, end_word}
-use Rattle.vcd_text.specs.Letters.{printed_letters, short_form}
-use Rattle.vcd_text.specs.Text.{all_values, code_of, code_digits, differs_at, end_items, first_items, item_line}
-use Rattle.vcd_text.specs.Text.{new_values, stamp_of, text, tick_items, value_item, value_items, with_stamp}
+use Rattle.vcd_text.specs.Items.{Item}
+use Rattle.vcd_text.specs.Text.{code_of, code_digits, end_items, first_items, item_line}
+use Rattle.vcd_text.specs.Text.{stamp_of, text, tick_items, value_item, value_items, with_stamp}
 use Rattle.vcd_text.specs.inside.TextParts.{declarations_text}
 use Rattle.vcd_text.specs.inside.ValueFronts.{value_front}
 use Rattle.vcd_text.proofs.ReadValues.{length-value_at, short_within}

@@ -1,13 +1,11 @@
 -- The state after a capture's text means the capture.
 use Rattle.std.proofs.Common.{◌≡◌, ℕ, suc, ◌+◌, ◌<◌, List, [], ◌∷◌, length, map, get_or, refl, sym, ap, ◌∙◌, arith}
-use Rattle.vcd_core.specs.Value.{all_x}
 use Rattle.vcd_core.specs.Contents.{Contents, SignalContents}
-use Rattle.vcd_core.specs.Sound.{IsSound, IsSoundSignal}
+use Rattle.vcd_core.specs.Sound.{IsSound}
 use Rattle.vcd_core.proofs.Waves.{wave_is}
 use Rattle.vcd_text.specs.Grammar.{VariableDeclaration, kept_variables}
-use Rattle.vcd_text.specs.Meaning.{declared_signal, meaning, latest_value}
+use Rattle.vcd_text.specs.Meaning.{declared_signal, meaning}
 use Rattle.vcd_text.specs.inside.SkippedVariables.{skipped_count}
-use Rattle.vcd_text.specs.Text.{code_of}
 use Rattle.vcd_text.proofs.DeclaredSignals.{all_sound_kept, declared_as, declared_of, none_skipped}
 use Rattle.vcd_text.proofs.ReadValues.{length-value_at}
 use Rattle.vcd_text.proofs.LatestValues.{latest_is}

@@ -1,16 +1,15 @@
 -- The text of a sound capture is read back as the capture.
 use Rattle.std.proofs.Common.{arith}
-use Rattle.std.proofs.Common.{◌++◌, refl, sym, subst}
+use Rattle.std.proofs.Common.{◌++◌, refl}
 use Rattle.vcd_core.specs.Contents.{Contents}
 use Rattle.vcd_core.specs.Sound.{IsSound}
 use Rattle.vcd_text.specs.Grammar.{initial_state}
 use Rattle.vcd_text.specs.Meaning.{FileMeans}
-use Rattle.vcd_text.specs.Text.{end_items, first_items, items_of, text, tick_items}
-use Rattle.vcd_text.proofs.DeclaredSignals.{declared_state}
+use Rattle.vcd_text.specs.Text.{items_of, text}
 use Rattle.vcd_text.proofs.SpelledItems.{words_of_text}
 use Rattle.vcd_text.proofs.ItemsInTurn.{Leads, leads_both}
 use Rattle.vcd_text.proofs.TextChanges.{changes_lead, value_changes_of, state_at}
-use Rattle.vcd_text.proofs.TextDeclarations.{declaration_items, declarations_lead, items_in_two}
+use Rattle.vcd_text.proofs.TextDeclarations.{declarations_lead, items_in_two}
 use Rattle.vcd_text.proofs.TextMeaning.{text_means, text_skips_nothing}
 
 -- the items of a sound capture's text are allowed in turn, and give the value changes of its signals

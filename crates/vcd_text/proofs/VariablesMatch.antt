@@ -5,8 +5,6 @@ use Rattle.std.specs.Prelude.{count_by, bytes_eq}
 use Rattle.vcd_text.specs.Grammar.{ValueChange, ParseState, variable_of, is_skipped, kept_variables}
 use Rattle.vcd_text.specs.inside.ShortCodes.{code_target}
 use Rattle.vcd_text.specs.declared.reading.code_targets.CodeTargets.{CodeTargets}
-use Rattle.vcd_core.specs.Value.{all_x}
-use Rattle.vcd_text.specs.Meaning.{latest_value}
 use Rattle.vcd_text.specs.inside.ChangeLog.{logged}
 use Rattle.vcd_text.specs.declared.reading.change_log.LoggedChange.{LoggedChange}
 use Rattle.vcd_text.proofs.LoggedValues.{gives_further}

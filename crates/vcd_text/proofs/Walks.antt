@@ -1,5 +1,5 @@
 -- A walk over the changes in order of ticks writes the text of all ticks.
-use Rattle.std.proofs.Common.{◌≡◌, ◌<◌, ◌≤◌, ◌+◌, ◌-◌, ℕ, zero, suc, Bool, true, false, cond, ◌&&◌, ◌==◌, if◌then◌else◌}
+use Rattle.std.proofs.Common.{◌≡◌, ◌<◌, ◌≤◌, ◌+◌, ◌-◌, ℕ, zero, suc, ◌&&◌, ◌==◌, if◌then◌else◌}
 use Rattle.std.proofs.Common.{nat_lt, List, [], ◌∷◌, ◌++◌, length, map, drop, get_or, refl, sym, ap, subst, ◌∙◌, arith}
 use Rattle.std.proofs.Common.{append_assoc, eq-eqb}
 use Rattle.std.specs.List.{filter, flat_map, enumerate_from}
@@ -9,7 +9,7 @@ use Rattle.std.proofs.lemmas.List.{append-nil, get_or-drop, drop-drop}
 use Rattle.vcd_core.specs.Contents.{SignalContents, no_signal, signal_value}
 use Rattle.vcd_text.proofs.Counts.{transitions_split}
 use Rattle.vcd_text.specs.Items.{Item}
-use Rattle.vcd_text.specs.inside.Transitions.{Transition, transition_of, transition_value, transitions_from, last_tick}
+use Rattle.vcd_text.specs.inside.Transitions.{Transition, transition_of, transitions_from, last_tick}
 use Rattle.vcd_text.specs.inside.Transitions.{transition_items}
 use Rattle.vcd_text.specs.Text.{code_of, differs_at, end_items, item_line, new_values, stamp_of, with_stamp, tick_items}
 use Rattle.vcd_text.specs.Text.{value_item, value_items}

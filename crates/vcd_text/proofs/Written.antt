@@ -1,6 +1,6 @@
 -- Pieces that are written one after another, through a buffer.
 use Rattle.std.proofs.Common.{◌≡◌, ◌<◌, ◌≤◌, ◌+◌, ◌-◌, ◌^◌, ℕ, Bool, true, false, List, [], ◌++◌, length, take, drop}
-use Rattle.std.proofs.Common.{min, refl, sym, ap, subst, ◌∙◌, arith, append_assoc, nat_lt, ◌∷◌, get_or}
+use Rattle.std.proofs.Common.{min, refl, sym, ap, subst, ◌∙◌, arith, append_assoc, ◌∷◌, get_or}
 use Rattle.std.specs.Prelude.{Option, Some, None}
 use Rattle.std.specs.Io.KnownBytes.{Appends}
 use Rattle.std.proofs.KnownBytes.{Appends-trans}

@@ -1,11 +1,8 @@
-use Rattle.std.proofs.Common.{◌≡◌, ◌≤◌, ◌-◌, ◌*◌, [], ℕ, List, length, drop, rules, refl, sym, ap, subst, ◌∙◌, arith}
-use Rattle.std.specs.Prelude.{unwrap_or}
+use Rattle.std.proofs.Common.{◌≡◌, ◌≤◌, ◌-◌, ◌*◌, [], ℕ, List, length, drop, ap, ◌∙◌, arith}
 use Rattle.std.specs.List.{list_all}
 use Rattle.std.proofs.lemmas.List.{length-set, length-map, drop_all}
-use Rattle.vcd_core.specs.declared.bit.Bit.TheVariants.{X}
-use Rattle.vcd_text.specs.Letters.{is_binary_digit, letter_of_digit, letters_of_digits}
-use Rattle.vcd_core.specs.WordRows.{HoldsLetters}
-use Rattle.vcd_text.proofs.LetterWords.{RowHolds, row_more, letters_more, no_letter, row_is_extension}
+use Rattle.vcd_text.specs.Letters.{is_binary_digit}
+use Rattle.vcd_text.proofs.LetterWords.{row_more, letters_more, no_letter, row_is_extension}
 use Rattle.vcd_text.proofs.reading.binary_number.extended_value.Goals as goal
 
 -- after the last digit there is none

@@ -1,12 +1,10 @@
-use Rattle.std.proofs.Common.{◌≡◌, ◌≤◌, true, false, ℕ, List, [], ◌∷◌, Option, Some, None, length, subst, arith}
-use Rattle.std.specs.Prelude.{MatchOption, unwrap_or}
-use Rattle.std.specs.List.{list_all}
+use Rattle.std.proofs.Common.{◌≡◌, ◌≤◌, ℕ, List, [], ◌∷◌, Option, Some, None, length, arith}
+use Rattle.std.specs.Prelude.{MatchOption}
 use Rattle.std.proofs.lemmas.List.{length-map}
 use Rattle.vcd_core.specs.declared.bit.Bit.{Bit}
-use Rattle.vcd_core.specs.declared.bit.Bit.TheVariants.{X}
 use Rattle.vcd_core.specs.WordRows.{letters_of, HoldsLetters}
 use Rattle.vcd_core.specs.declared.letter_word.LetterWord.{LetterWord}
-use Rattle.vcd_text.specs.Letters.{is_binary_digit, letter_of_digit, letters_of_digits, pad_letter, extension}
+use Rattle.vcd_text.specs.Letters.{pad_letter, extension}
 use Rattle.vcd_text.proofs.LetterWords.{word_is_extension}
 use Rattle.vcd_text.proofs.reading.binary_number.extended_word.Goals as goal
 

@@ -1,8 +1,5 @@
 use Rattle.std.proofs.Common.{arith}
-use Rattle.std.proofs.Common.{List, sym, ap, subst, ◌∙◌}
-use Rattle.std.specs.Global.{Vec}
-use Rattle.vcd_text.specs.inside.ChangeLog.{logged, AreGrouped}
-use Rattle.vcd_text.specs.declared.reading.change_log.LoggedChange.{LoggedChange}
+use Rattle.std.proofs.Common.{◌∙◌}
 use Rattle.vcd_text.proofs.ChangeLogs.{logged_longer, grouped_longer}
 use Rattle.vcd_text.proofs.reading.change_log.add_groups.Goals as goal
 

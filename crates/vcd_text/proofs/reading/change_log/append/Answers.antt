@@ -1,6 +1,5 @@
-use Rattle.std.proofs.Common.{◌<◌, ◌%◌, ◌==◌, ◌++◌, [], ◌∷◌, length, if◌then◌else◌, Some, sym, ap, ◌∙◌, arith}
+use Rattle.std.proofs.Common.{◌<◌, ◌%◌, ◌==◌, ◌++◌, [], ◌∷◌, if◌then◌else◌, ◌∙◌, arith}
 use Rattle.std.proofs.lemmas.Option.{slice_get-get_or}
-use Rattle.vcd_text.specs.declared.reading.change_log.TheConstants.{GROUPS}
 use Rattle.vcd_text.proofs.ChangeLogs.{logged_with, grouped_with}
 use Rattle.vcd_text.proofs.reading.change_log.append.Goals as goal
 

@@ -1,9 +1,5 @@
 use Rattle.std.proofs.Common.{arith}
-use Rattle.std.proofs.Common.{◌≡◌, [], ◌∷◌, Some, is_some, sym, ap, subst, ◌∙◌}
-use Rattle.std.specs.Prelude.{unwrap_or}
-use Rattle.vcd_core.specs.declared.bit.Bit.TheVariants.{X}
-use Rattle.vcd_text.specs.Letters.{letter_of_digit}
-use Rattle.vcd_text.specs.inside.LetterWords.{AddsLetters}
+use Rattle.std.proofs.Common.{◌≡◌, [], ◌∷◌, ◌∙◌}
 use Rattle.vcd_text.proofs.LetterWords.{adds_one}
 use Rattle.vcd_text.proofs.reading.digit_words.with_digit.Goals as goal
 

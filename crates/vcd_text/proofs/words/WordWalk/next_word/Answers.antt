@@ -1,7 +1,6 @@
-use Rattle.std.proofs.Common.{◌≡◌, ℕ, ◌+◌, ◌<◌, true, ◌∷◌, length, take, sym, ap, ◌∙◌, arith}
+use Rattle.std.proofs.Common.{◌≡◌, ℕ, ◌+◌, ◌<◌, ◌∷◌, ◌∙◌, arith}
 use Rattle.std.proofs.lemmas.Bool.{eqb-true, eqb-false}
-use Rattle.vcd_text.specs.Words.{words_from, word_on}
-use Rattle.vcd_text.specs.inside.WordWalk.{feeds}
+use Rattle.vcd_text.specs.Words.{words_from}
 use Rattle.vcd_text.proofs.WordLaws.{word_split, no_word, feeds_after}
 use Rattle.vcd_text.proofs.words.WordWalk.next_word.Goals as goal
 

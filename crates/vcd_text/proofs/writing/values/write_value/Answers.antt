@@ -1,8 +1,7 @@
 -- The words of a short value are its letters; a longer one has the short form between `b` and a space.
 use Rattle.std.proofs.Common.{◌≡◌, ◌≢◌, ◌++◌, ◌∷◌, [], length, sym, ap, ◌∙◌, arith}
-use Rattle.vcd_core.specs.WordRows.{letters_of}
 use Rattle.vcd_text.specs.Letters.{printed_letters}
-use Rattle.vcd_text.specs.Text.{code_of, item_line, value_item}
+use Rattle.vcd_text.specs.Text.{code_of}
 use Rattle.vcd_text.proofs.LetterBits.{given_whole}
 use Rattle.vcd_text.proofs.Values.{front_of_bits, line_of_front}
 use Rattle.vcd_text.proofs.Written.{writes_as, writes_both}

@@ -1,13 +1,12 @@
 -- Each turn lists the keys of one signal.
-use Rattle.std.proofs.Common.{◌<◌, ◌++◌, List, inl, inr, length, get_or, sym, ap, ◌∙◌, subst, arith}
-use Rattle.std.specs.List.{filter}
+use Rattle.std.proofs.Common.{◌<◌, ◌++◌, List, length, get_or, sym, ap, ◌∙◌, subst, arith}
 use Rattle.std.proofs.lemmas.List.{length-map, length-set}
 use Rattle.vcd_core.specs.declared.capture.Signal.{Signal}
 use Rattle.vcd_core.specs.declared.wave.Change.{Change}
 use Rattle.vcd_text.specs.declared.writing.next_changes.NextChange.{NextChange}
 use Rattle.vcd_text.specs.inside.NextChanges.{IsNext}
-use Rattle.vcd_text.specs.inside.Transitions.{is_in_window, transition_of, window_of_signal}
-use Rattle.vcd_text.specs.inside.Windows.{transition_of_key, transitions_of}
+use Rattle.vcd_text.specs.inside.Transitions.{window_of_signal}
+use Rattle.vcd_text.specs.inside.Windows.{transitions_of}
 use Rattle.vcd_text.proofs.Listing.{one_listed, all_listed, longer_than}
 use Rattle.vcd_text.proofs.NextChanges.{passed_next}
 use Rattle.vcd_text.proofs.writing.window.list_window.Goals as goal

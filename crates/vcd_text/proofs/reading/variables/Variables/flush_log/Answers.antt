@@ -1,8 +1,8 @@
 use Rattle.std.proofs.Common.{arith}
-use Rattle.std.proofs.Common.{[], sym, ap, subst, ◌∙◌}
+use Rattle.std.proofs.Common.{[], ap, subst, ◌∙◌}
 use Rattle.std.specs.Global.{Vec}
 use Rattle.std.proofs.lemmas.Result.{on_ok_weaker}
-use Rattle.vcd_text.specs.inside.ChangeLog.{logged, CanFlush, FlushesLog}
+use Rattle.vcd_text.specs.inside.ChangeLog.{logged, FlushesLog}
 use Rattle.vcd_text.specs.declared.reading.change_log.LoggedChange.{LoggedChange}
 use Rattle.vcd_text.proofs.FlushedVariables.{variables_can_flush, flushed_match}
 use Rattle.vcd_text.proofs.reading.variables.Variables.flush_log.Goals as goal

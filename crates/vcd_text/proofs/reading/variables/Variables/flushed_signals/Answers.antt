@@ -1,8 +1,6 @@
 use Rattle.std.proofs.Common.{arith}
-use Rattle.std.proofs.Common.{◌∙◌, ◌++◌, ◌∷◌, [], map, sym, ap}
+use Rattle.std.proofs.Common.{◌∙◌, ◌++◌, ◌∷◌, []}
 use Rattle.std.proofs.lemmas.List.{map-append, append_assoc}
-use Rattle.vcd_text.specs.Meaning.{declared_signal}
-use Rattle.vcd_text.specs.inside.Variables.{declaration}
 use Rattle.vcd_text.proofs.FinishedVariables.{finishes_as_declared}
 use Rattle.vcd_text.proofs.reading.variables.Variables.flushed_signals.Goals as goal
 

@@ -1,5 +1,5 @@
 use Rattle.std.proofs.Common.{arith}
-use Rattle.std.proofs.Common.{◌∙◌, ap, sym, refl, inl, inr, length, Some, ◌==◌, false}
+use Rattle.std.proofs.Common.{◌∙◌, ap, sym, inr, Some, ◌==◌, false}
 use Rattle.std.specs.Option.{option_map_or}
 use Rattle.std.specs.Prelude.{slice_get}
 use Rattle.vcd_text.specs.declared.reading.code_targets.CodeTarget.TheVariants.{Kept}

@@ -1,7 +1,5 @@
-use Rattle.std.proofs.Common.{◌∙◌, ◌++◌, ◌∷◌, [], map, slice_get, ap, subst, arith}
+use Rattle.std.proofs.Common.{◌∙◌, ◌++◌, ◌∷◌, [], arith}
 use Rattle.std.proofs.lemmas.List.{map-append, with_items_is}
-use Rattle.vcd_core.specs.Contents.{signal_contents}
-use Rattle.vcd_text.specs.inside.Variables.{Finishes}
 use Rattle.vcd_text.proofs.reading.variables.finishing.push_signal.Goals as goal
 
 pub returns : goal.returns
