@@ -25,12 +25,6 @@ grouped_longer index (h ∷ gs) g none (here, are) = (here, grouped_longer (inde
 
 -- ---- a change more
 
--- the changes of a position after a change of this position, or another
-changes_more : (es : List LoggedChange) (e : LoggedChange) (position : ℕ)
-    → changes_of_position position (es ++ e ∷ []) ≡ changes_of_position position es
-    ++ cond (e.position == position) (e ∷ []) []
-changes_more es e position = filter-append (λ (x : LoggedChange). x.position == position) es (e ∷ [])
-
 -- a group with another remainder has no change of the position
 none_at : (index : ℕ) (es : List LoggedChange) (position : ℕ) → position % GROUPS ≢ index
     → All (λ (e : LoggedChange). e.position % GROUPS ≡ index) es → changes_of_position position es ≡ []
@@ -57,7 +51,7 @@ module _ (e : LoggedChange) (h : Vec LoggedChange) where
       → logged (set gs i h) e.position ≡ logged gs e.position ++ e ∷ []
   here_with index [] i g at more of are = let never : None ≡ Some g = at in absurd (cc)
   here_with index (x ∷ gs) zero g at more of (here, are) =
-      grind (arith, same_Some, none_after, append-nil, changes_more)
+      grind (arith, same_Some, none_after, append-nil, filter-append)
   here_with index (x ∷ gs) (suc i) g at more of (here, are) =
       grind (arith, append_assoc, here_with (index + 1) gs i g at more (omega (arith, of)) are)
 
@@ -66,7 +60,7 @@ module _ (e : LoggedChange) (h : Vec LoggedChange) where
       → h.items ≡ g.items ++ e ∷ []
       → (e.position == position) ≡ false → logged (set gs i h) position ≡ logged gs position
   there_with [] i g position at more other = refl
-  there_with (x ∷ gs) zero g position at more other = grind (arith, same_Some, changes_more, append-nil)
+  there_with (x ∷ gs) zero g position at more other = grind (arith, same_Some, filter-append, append-nil)
   there_with (x ∷ gs) (suc i) g position at more other = grind (arith, there_with gs i g position at more other)
 
   pub logged_with : (gs : List (Vec LoggedChange)) (g : Vec LoggedChange) (position : ℕ)

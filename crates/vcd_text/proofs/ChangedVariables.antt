@@ -110,10 +110,6 @@ module _ (old : Variables) (c : ParseState) (code digits : List ℕ) (first : �
   pub read_is : (v : Variable) → v ≡ get_or old.kept.items first v → v ≡ own_wave.3.first
   read_is v read = read ∙ get_or_from_slice_get old.kept.items first own_wave.3.first v own_wave.3.stands
 
-  -- it is the first of its code
-  first_is : own_wave.3.first.first ≡ first
-  first_is = grind (arith, own_wave, same_Some)
-
   -- no change of its wave is past the tick
   pub wave_late : All (λ (change : Change). change.tick ≤ c.tick) own_wave.3.first.signal.wave.changes
   wave_late = gives_late own_wave.0.size c.tick
@@ -234,7 +230,7 @@ module _ (old : Variables) (list : Vec Variable) (log : Vec (Vec LoggedChange)) 
 
   -- the log has changes only of first variables
   changed_logs : HasLogs list.items (logged log.items)
-  changed_logs position some = grind (arith, cases_eq, set_here, stood, first_is, set_there)
+  changed_logs position some = grind (arith, cases_eq, set_here, stood, own_wave, same_Some, set_there)
 
   -- the variables have the value change
   changed_knows : VariablesMatch (with_changes old list log) (with_value_change c code (letters_of_digits digits))

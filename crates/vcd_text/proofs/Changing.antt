@@ -15,7 +15,7 @@ use Rattle.vcd_text.specs.Letters.{is_among, is_binary_digit}
 use Rattle.vcd_text.specs.Items.{Item, stamp, scalar, vector, real_or_string, bracket, spelling, is_command, dump_words}
 use Rattle.vcd_text.specs.Items.{declaring_words, vector_prefixes, dropped_prefixes}
 use Rattle.vcd_text.specs.Grammar.{ParseState, VariableDeclaration, ValueChange, Allows, state_after_item, word_texts}
-use Rattle.vcd_text.specs.Grammar.{is_skipped, is_tick, is_binary_number, takes_binary_number, variable_of}
+use Rattle.vcd_text.specs.Grammar.{is_tick, is_binary_number, takes_binary_number, variable_of}
 use Rattle.vcd_text.specs.Faults.{ChangeFault, no_tick, tick_goes_back, value_alone, value_of_none, pair_of_none}
 use Rattle.vcd_text.specs.Faults.{no_value, value_too_long, no_change, among_changes, WordFault}
 use Rattle.vcd_text.specs.Faults.{pair_prefixes}
@@ -174,10 +174,6 @@ taken_by_some (Some d) digits takes = refl
 one_letter : (letter : ℕ) → is_binary_digit letter ≡ true → is_binary_number (letter ∷ []) ≡ true
 one_letter letter is = λ i. is i && true
 
--- a kept variable has a bit
-fits_one : (d : VariableDeclaration) → is_skipped d ≡ false → d.size < 1 → ⊥
-fits_one d keeps small = grind (arith, or_parts, eqb-false)
-
 bit_shows : (c : ParseState) (letter : ℕ) (code : List ℕ) (fault : Fault) → is_binary_digit letter ≡ true
     → 0 < length code
     → BinaryNumberFault c code (letter ∷ []) fault → ChangeFault c [] (letter ∷ code) fault
@@ -185,7 +181,8 @@ bit_shows c letter code fault is some (variables.unknown none which) =
     value_of_none letter code refl refl is some none which
 bit_shows c letter code fault is some (variables.no_value d found keeps isnt which) =
     not_both (one_letter letter is) isnt
-bit_shows c letter code fault is some (variables.too_long d found keeps value long which) = grind (arith, fits_one)
+bit_shows c letter code fault is some (variables.too_long d found keeps value long which) =
+    grind (arith, or_parts, eqb-false)
 
 pub sets_bit : (m : Reader) (vs : Variables) (letter : ℕ) (code : List ℕ) (line : ℕ) (r : Result (Unit {0}) Fault)
     → m.item ≡ items.Nothing → m.changing ≡ true → is_binary_digit letter ≡ true → 0 < length code

@@ -20,12 +20,11 @@ use Rattle.vcd_text.specs.declared.reading.reader.Reader.{Reader}
 use Rattle.vcd_text.specs.Words.{PlacedWord, line_after, with_longer_first, with_byte, words_from}
 use Rattle.vcd_text.specs.Words.{words_of, closed_words}
 use Rattle.vcd_text.specs.Grammar.{ParseState}
-use Rattle.vcd_text.specs.Faults.{FileFault, ShowsFault, WordFault, shown, none_shown}
+use Rattle.vcd_text.specs.Faults.{FileFault, ShowsFault, shown, none_shown}
 use Rattle.vcd_text.specs.FoundFaults.{FoundFault, word_shows}
 use Rattle.vcd_text.specs.FoundFaults.{too_early, FrontFault}
-use Rattle.vcd_text.specs.Faults.{among_declarations, among_changes, DeclarationFault, ChangeFault, no_declaration}
-use Rattle.vcd_text.specs.Faults.{no_timescale, no_kind, upscope_at_top, upscope_goes_on, no_size, no_variable}
-use Rattle.vcd_text.specs.Faults.{code_mixed, no_room, definitions_go_on, no_tick, tick_goes_back, value_alone}
+use Rattle.vcd_text.specs.Faults.{ChangeFault}
+use Rattle.vcd_text.specs.Faults.{no_tick, tick_goes_back, value_alone}
 use Rattle.vcd_text.specs.Faults.{value_of_none, pair_of_none, no_value, value_too_long, declaration_late, no_change}
 use Rattle.vcd_text.specs.Refusals.{IsRefusal, has_fault, too_large, no_memory, IsFrontAnswer}
 use Rattle.vcd_text.specs.MemoryErrors.{memory_error}
@@ -281,20 +280,6 @@ of_all None left bytes P consumes ends holds = tt
 of_all (Some xs) None bytes P consumes ends holds = absurd consumes
 of_all (Some xs) (Some ys) bytes P consumes ends holds = grind (arith, append-nil)
 
--- no word shows that a reader failed
-by_declaration : (c : ParseState) (begun : List (List ℕ)) (word : List ℕ) (fault : Fault) → fault ≡ faults.ReadFault
-    → DeclarationFault c begun word fault → ⊥
-by_declaration c begun word fault is (no_declaration p q r) = absurd (cc)
-by_declaration c begun word fault is (no_timescale words p q s t r) = absurd (cc)
-by_declaration c begun word fault is (no_kind p q r) = absurd (cc)
-by_declaration c begun word fault is (upscope_at_top p q s r) = absurd (cc)
-by_declaration c begun word fault is (upscope_goes_on p q s r) = absurd (cc)
-by_declaration c begun word fault is (no_size kind p q s r) = absurd (cc)
-by_declaration c begun word fault is (no_variable words p q s t u r) = absurd (cc)
-by_declaration c begun word fault is (code_mixed words d p q s t u v r) = absurd (cc)
-by_declaration c begun word fault is (no_room words d p q s t u v w r) = absurd (cc)
-by_declaration c begun word fault is (definitions_go_on p q r) = absurd (cc)
-
 by_change : (c : ParseState) (begun : List (List ℕ)) (word : List ℕ) (fault : Fault) → fault ≡ faults.ReadFault
     → ChangeFault c begun word fault → ⊥
 by_change c begun word fault is (no_tick digits p q s r) = absurd (cc)
@@ -307,20 +292,15 @@ by_change c begun word fault is (value_too_long first digits d p q s t u v r) = 
 by_change c begun word fault is (declaration_late p q r) = absurd (cc)
 by_change c begun word fault is (no_change first text p q s t r) = absurd (cc)
 
-by_word : (c : ParseState) (begun : List (List ℕ)) (word : List ℕ) (fault : Fault) → fault ≡ faults.ReadFault
-    → WordFault c begun word fault → ⊥
-by_word c begun word fault is (among_declarations declares shows) = by_declaration c begun word fault is shows
-by_word c begun word fault is (among_changes changes shows) = by_change c begun word fault is shows
-
 pub is_no_failure : (bytes : List ℕ) (e : ReadError) → (e ≡ memory_error) ⊎ FrontFault bytes e.line e.fault
     → e.fault ≡ faults.ReadFault → ⊥
 is_no_failure bytes e (inl none) is = grind arith
-is_no_failure bytes e (inr shows) is = grind (arith, by_word)
+is_no_failure bytes e (inr shows) is = grind (arith, by_change)
 
 pub is_no_file_failure : (bytes : List ℕ) (e : ReadError) → (e ≡ memory_error) ⊎ FoundFault bytes e.line e.fault
     → e.fault ≡ faults.ReadFault → ⊥
 is_no_file_failure bytes e (inl none) is = grind arith
-is_no_file_failure bytes e (inr (word_shows shows)) is = grind (arith, by_word)
+is_no_file_failure bytes e (inr (word_shows shows)) is = grind (arith, by_change)
 is_no_file_failure bytes e (inr (too_early stops line fault)) is = absurd (cc)
 
 -- ---- a chunk after the bytes taken

@@ -17,7 +17,7 @@ use Rattle.vcd_core.proofs.Waves.{value_past, value_skip, value_early}
 use Rattle.vcd_text.specs.inside.Transitions.{Transition, transition_of, transitions_at, transitions_from, is_in_window}
 use Rattle.vcd_text.specs.inside.Transitions.{window_of_signal, unsorted_window}
 use Rattle.vcd_text.specs.Text.{differs_at}
-use Rattle.vcd_text.proofs.Sorting.{counted, once, times, times-append, RisesFrom}
+use Rattle.vcd_text.proofs.Sorting.{counted, times, times-append, RisesFrom}
 
 -- a number where the test passes, else 0
 abbrev if_so : Bool → ℕ → ℕ
@@ -35,13 +35,10 @@ marks t k j (s ∷ ss) = if_so (j == k) (counted (differs_at t s)) + marks t k (
 
 -- ---- by tick
 
-once_here : (t k j : ℕ) → once t k (transition_of t j) ≡ if_so (j == k) 1
-once_here t k j = grind (arith, eq-eqb)
-
 times_here : (t k j : ℕ) (ss : List SignalContents)
     → times t k (transitions_at t (enumerate_from j ss)) ≡ marks t k j ss
 times_here t k j [] = refl
-times_here t k j (s ∷ ss) = grind (arith, once_here, if_zero, times_here t k (j + 1) ss)
+times_here t k j (s ∷ ss) = grind (arith, eq-eqb, if_zero, times_here t k (j + 1) ss)
 
 elsewhere : (u t k : ℕ) (placed : List (ℕ × SignalContents)) → t ≢ u
     → times u k (map (λ p. transition_of t p.0) placed) ≡ 0
@@ -140,18 +137,11 @@ abbrev count_at : ℕ → List Change → ℕ
 count_at t [] = 0
 count_at t (c ∷ cs) = counted (c.tick == t) + count_at t cs
 
-joint : (x y : Bool) (n : ℕ) → counted (x && y) + if_so y n ≡ if_so y (counted x + n)
-joint true true n = refl
-joint false true n = refl
-joint true false n = refl
-joint false false n = refl
-
 -- a tick in the window
 times_inside : (from to t k j : ℕ) (cs : List Change) → from ≤ t → t < to
     → times t k (window_of_signal from to j cs) ≡ if_so (j == k) (count_at t cs)
 times_inside from to t k j [] low high = sym (if_zero (j == k))
-times_inside from to t k j (c ∷ cs) low high =
-    grind (arith, joint, in_window, ne_eqb, times_inside from to t k j cs low high)
+times_inside from to t k j (c ∷ cs) low high = grind (arith, in_window, ne_eqb, times_inside from to t k j cs low high)
 
 -- a tick outside of it
 times_outside : (from to t k j : ℕ) (cs : List Change) → is_in_window from to t ≡ false

@@ -69,9 +69,6 @@ pub last_of : (vs : List Variable) (w : Variable) → slice_get (vs ++ w ∷ [])
 last_of [] w = refl
 last_of (u ∷ vs) w = last_of vs w
 
-same_number : (n : ℕ) → (n == n) ≡ true
-same_number n = grind arith
-
 -- as many variables are kept as were declared as kept
 pub kept_long : (vs : Variables) (c : ParseState) → VariablesMatch vs c
     → length (kept_variables c.declared) ≡ length vs.kept.items
@@ -194,7 +191,7 @@ module _ (old : Variables) (c : ParseState) (scopes : List ScopeName) (code : Li
       → TargetAgrees old c code (target_of old code) v
       → may_have_code v (declaration_in scopes code s) ≡ true
   keep_may None stands = refl
-  keep_may (Some e) stands = grind (arith, same_number)
+  keep_may (Some e) stands = grind arith
 
   has_room_is : (b : Bool) → nat_lt (length old.kept.items) SIGNAL_LIMIT ≡ b
       → has_room c.declared (declaration_in scopes code s) ≡ b
@@ -425,26 +422,14 @@ words_in_front (x ∷ y ∷ z ∷ rest) kind size code enough a b c = λ i. sym 
 
 -- ---- sizes that are read up to a bound
 
-or_false : (a b : Bool) → (a || b) ≡ false → b ≡ false
-or_false true b is = let never : true ≡ false = is in absurd (cc)
-or_false false b is = is
-
-or_true : (a b : Bool) → b ≡ true → (a || b) ≡ true
-or_true true b is = refl
-or_true false b is = is
-
-same_bounds : (n size : ℕ) → size ≡ min n (WIDTH_LIMIT + 1)
-    → (size == 0 || nat_lt WIDTH_LIMIT size) ≡ (n == 0 || nat_lt WIDTH_LIMIT n)
-same_bounds n size is = grind (arith, cases_lt, lt-ltb, or_true)
-
 -- a variable is skipped for its kind, or for the size that is read
 pub left_out : (c : ParseState) (kind word code : List ℕ) (names : List (List ℕ)) (size : ℕ)
     → size ≡ min (number_of word) (WIDTH_LIMIT + 1)
     → is_skipped (worded_declaration c kind word code names)
     ≡ (is_skipped_kind kind || (size == 0 || nat_lt WIDTH_LIMIT size))
-left_out c kind word code names size is = grind (arith, same_bounds)
+left_out c kind word code names size is = grind (arith, cases_lt, lt-ltb)
 
 -- the size that is read is that of a kept variable
 pub kept_size : (by_kind : Bool) (n size : ℕ) → size ≡ min n (WIDTH_LIMIT + 1)
     → (by_kind || (size == 0 || nat_lt WIDTH_LIMIT size)) ≡ false → size ≡ n
-kept_size by_kind n size is keeps = grind (arith, ltb-false, or_false)
+kept_size by_kind n size is keeps = grind (arith, ltb-false)

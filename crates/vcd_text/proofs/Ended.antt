@@ -50,10 +50,6 @@ among_after : (letters front : List ℕ) (b : ℕ) → is_among letters b ≡ tr
 among_after letters [] b h = h
 among_after letters (x ∷ xs) b h = or_right (nat_eq b x) (is_among (xs ++ letters) b) (among_after letters xs b h)
 
-not_nothing : (b : Bool) → (b && true) ≡ false → b ≡ false
-not_nothing false h = refl
-not_nothing true h = absurd (false≢true (sym h))
-
 awaiting : (m : Reader) (c : ParseState) (begun : List PlacedWord) (letters text : List ℕ) → ReaderMatches m c
     → AwaitsCode m begun letters text
     → ((b : ℕ) → IsTrue (is_among letters b) → IsTrue (is_among pair_prefixes b)) → IsUnfinished c (word_texts begun)
@@ -64,7 +60,7 @@ awaiting m c begun letters text agrees is more =
 -- a word must follow words that are no whole file
 unfinished : (m : Reader) (c : ParseState) (begun : List PlacedWord) (item : OpenItem) → ReaderMatches m c
     → IsBegun m begun item → IsFalse (m.changing && is_nothing item) → IsUnfinished c (word_texts begun)
-unfinished m c begun items.Nothing agrees none no_end = grind (arith, not_nothing)
+unfinished m c begun items.Nothing agrees none no_end = grind arith
 unfinished m c begun (items.Entry kind) agrees is no_end =
     collecting m c begun (header_word kind) agrees is (is_header kind)
 unfinished m c begun items.Timescale agrees is no_end = collecting m c begun (codes "$timescale") agrees is refl
@@ -96,22 +92,9 @@ stops m words r incomplete = record {
       (unfinished m r.told r.begun m.item r.at.0 r.at.1 incomplete);
 }
 
-nothing_begun : (m : Reader) (begun : List PlacedWord) (item : OpenItem) → IsBegun m begun item → is_nothing item ≡ true
-    → begun ≡ []
-nothing_begun m begun items.Nothing is none = is
-nothing_begun m begun (items.Entry kind) is none = absurd (false≢true none)
-nothing_begun m begun items.Timescale is none = absurd (false≢true none)
-nothing_begun m begun items.Scope is none = absurd (false≢true none)
-nothing_begun m begun items.Upscope is none = absurd (false≢true none)
-nothing_begun m begun items.Variable is none = absurd (false≢true none)
-nothing_begun m begun items.EndDefinitions is none = absurd (false≢true none)
-nothing_begun m begun items.Other is none = absurd (false≢true none)
-nothing_begun m begun items.Vector is none = absurd (false≢true none)
-nothing_begun m begun items.Dropped is none = absurd (false≢true none)
-
 -- words that are a whole file are accepted
 pub accepts : (m : Reader) (words : List PlacedWord) (r : Reads m words) → is_complete m ≡ true → Accepts words r.told
-accepts m words r complete = grind (arith, and_parts, texts_are, nothing_begun, append-nil)
+accepts m words r complete = grind (arith, and_parts, texts_are, append-nil)
 
 -- words that have been taken show no fault
 pub no_fault : (m : Reader) (words : List PlacedWord) → Reads m words → (line : ℕ) (fault : Fault)

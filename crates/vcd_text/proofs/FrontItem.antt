@@ -1,7 +1,7 @@
 -- The front of some words: a whole item, a fault, the beginning of an item, or nothing. It is a function of the words,
 -- so the grammar gives one result.
 use Rattle.std.proofs.Common.{◌≡◌, ℕ, suc, ◌<◌, ◌≤◌, Bool, true, false, cond, ◌&&◌, ◌||◌, List, [], ◌∷◌, ◌++◌}
-use Rattle.std.proofs.Common.{length, Option, Some, None, IsSome, IsSomeAnd, IsTrue, IsFalse, nat_lt, codes, bytes_eq}
+use Rattle.std.proofs.Common.{length, Option, Some, None, IsSome, IsSomeAnd, IsTrue, nat_lt, codes, bytes_eq}
 use Rattle.std.proofs.Common.{refl, sym, ap, subst, ◌∙◌, append_assoc, arith, inl, inr}
 use Rattle.std.specs.Prelude.{nat_eq, ◌==◌}
 use Rattle.std.specs.List.{AllByRecursion}
@@ -205,11 +205,6 @@ front_at b c words f h e = ap (λ t. front t c words) h ∙ e
 
 -- ---- whole items
 
-timescale_some : (o : Option Timescale) (words rest : List (List ℕ)) → IsSome o
-    → timescale_front o words rest ≡ whole (timescale words) rest
-timescale_some None words rest h = absurd (false≢true h)
-timescale_some (Some t) words rest h = refl
-
 upscope_some : (scopes : List ScopeName) (ws : List (List ℕ)) → 0 < length scopes
     → upscope_front scopes ws ≡ closing_next upscope ws
 upscope_some [] ws h = absurd (omega (arith, h))
@@ -219,21 +214,10 @@ known_some : (o : Option VariableDeclaration) (f : Front) → IsSome o → known
 known_some None f h = absurd (false≢true h)
 known_some (Some d) f h = refl
 
-sized : (c : ParseState) (kind size : List ℕ) (ws : List (List ℕ)) → is_end_word kind ≡ false → is_number size ≡ true
-    → variable_front c (kind ∷ size ∷ ws) ≡ closing (λ words rest. variable_state c (declaration_of c words) words rest)
-    (kind ∷ size ∷ ws)
-sized c kind size ws k s = on_false (is_end_word kind) _ _ k ∙ on_true (is_number size) _ _ s
-
 told_whole : (c : ParseState) (d : VariableDeclaration) (words rest : List (List ℕ))
     → may_have_code (variable_of c d.code) d ≡ true → has_room c.declared d ≡ true
     → variable_state c (Some d) words rest ≡ whole (variable words) rest
 told_whole c d words rest m r = grind (arith, on_true)
-
-told_some : (c : ParseState) (o : Option VariableDeclaration) (words rest : List (List ℕ))
-    → IsSomeAnd o (λ d. IsTrue (may_have_code (variable_of c d.code) d) × IsTrue (has_room c.declared d))
-    → variable_state c o words rest ≡ whole (variable words) rest
-told_some c None words rest h = absurd h
-told_some c (Some d) words rest h = told_whole c d words rest h.0 h.1
 
 variable_closing : (c : ParseState) (words rest : List (List ℕ)) → IsTrue (has_no_end_word words)
     → IsTrue (has_good_size words)
@@ -241,7 +225,7 @@ variable_closing : (c : ParseState) (words rest : List (List ℕ)) → IsTrue (h
 variable_closing c [] [] n g = refl
 variable_closing c [] (r ∷ rest) n g = refl
 variable_closing c (kind ∷ []) rest n g = grind (arith, on_false, not-true, and_parts)
-variable_closing c (kind ∷ size ∷ words) rest n g = grind (arith, sized, not-true, and_parts, closing_end)
+variable_closing c (kind ∷ size ∷ words) rest n g = grind (arith, on_false, on_true, not-true, and_parts, closing_end)
 
 stamp_whole : (c : ParseState) (digits : List ℕ) (ws : List (List ℕ)) → is_tick digits ≡ true
     → c.tick ≤ number_of digits → stamp_front c digits ws ≡ whole (stamp digits) ws
@@ -280,10 +264,10 @@ pub whole_front : (c : ParseState) (i : Item) (rest : List (List ℕ)) → Allow
 whole_front c (entry Date words) rest a = front_at false c _ _ a.0 (closing_at _ words rest a.1)
 whole_front c (entry Version words) rest a = front_at false c _ _ a.0 (closing_at _ words rest a.1)
 whole_front c (entry Comment words) rest a = front_at false c _ _ a.0 (closing_at _ words rest a.1)
-whole_front c (timescale words) rest a = grind (arith, front_at, closing_at, timescale_some)
+whole_front c (timescale words) rest a = grind (arith, front_at, closing_at)
 whole_front c (scope kind words) rest a = front_at false c _ _ a.0 (closing_at scope_front (kind ∷ words) rest a.1)
 whole_front c upscope rest a = front_at false c _ _ a.0 (upscope_some c.scopes (end_word ∷ rest) a.1)
-whole_front c (variable words) rest a = grind (arith, front_at, append_assoc, variable_closing, told_some)
+whole_front c (variable words) rest a = grind (arith, front_at, append_assoc, variable_closing, told_whole)
 whole_front c end_definitions rest a = front_at false c _ _ a refl
 whole_front c (stamp digits) rest a = front_at true c _ _ a.0 (stamp_whole c digits rest a.1 a.2)
 whole_front c (scalar letter []) rest a = absurd (omega (arith, a.2))
@@ -305,16 +289,11 @@ whole_front c (other word words) rest a = other_front c.changing c word _ a.0 �
 
 -- ---- faults
 
-change_none : (c : ParseState) (first : ℕ) (text : List ℕ) (ws : List (List ℕ)) → IsFalse (is_binary_digit first)
-    → IsFalse (is_among (codes "#$" ++ pair_prefixes) first)
-    → change_front c (first ∷ text) ws ≡ faulty 0 BadChange
-change_none c first text ws l n = grind (arith, on_false)
-
 variable_open : (c : ParseState) (words : List (List ℕ)) → IsTrue (has_no_end_word words) → IsTrue (has_good_size words)
     → variable_front c words ≡ unfinished
 variable_open c [] n g = refl
 variable_open c (kind ∷ []) n g = on_false (is_end_word kind) _ _ (not-true (is_end_word kind) (and_parts _ _ n).0)
-variable_open c (kind ∷ size ∷ words) n g = grind (arith, sized, not-true, and_parts, closing_none)
+variable_open c (kind ∷ size ∷ words) n g = grind (arith, on_false, on_true, not-true, and_parts, closing_none)
 
 -- the distance of a fault from the first word of its item
 abbrev pub place_of : Bool → List (List ℕ) → ℕ
@@ -365,7 +344,7 @@ change_faulty c begun word fault more (declaration_late b w f) =
       refl,
       (refl, (refl, (refl, (refl, tt)))),
     ))
-change_faulty c begun word fault more (no_change first text b w l n f) = grind (arith, change_none)
+change_faulty c begun word fault more (no_change first text b w l n f) = grind (arith, on_false)
 
 pub fault_front : (c : ParseState) (begun : List (List ℕ)) (word : List ℕ) (fault : Fault) (more : List (List ℕ))
     → WordFault c begun word fault

@@ -51,18 +51,11 @@ module _ (width k t : ℕ) where
     abbrev value_changes_from : ℕ → List SignalContents → List ValueChange
     value_changes_from j ss = map (value_change_of u) (filter test (enumerate_from j ss))
 
-    -- a signal at another position changes nothing
-    other_signal : (j : ℕ) (s : SignalContents) (ss : List SignalContents) (before : List Bit) → j ≢ k
-        → after_value_changes before (value_changes_from j (s ∷ ss))
-        ≡ after_value_changes before (value_changes_from (j + 1) ss)
-    unfolding latest_value
-    other_signal j s ss before other = grind (arith, other_code)
-
     later_signals : (j : ℕ) (ss : List SignalContents) (before : List Bit) → k < j
         → after_value_changes before (value_changes_from j ss) ≡ before
     unfolding latest_value
     later_signals j [] before later = refl
-    later_signals j (s ∷ ss) before later = grind (arith, other_signal, later_signals (j + 1) ss before (omega arith))
+    later_signals j (s ∷ ss) before later = grind (arith, other_code, later_signals (j + 1) ss before (omega arith))
 
     -- the signal itself, where it passes
     own_value_change : (ss : List SignalContents) (i j : ℕ) (d : SignalContents) (before : List Bit) → j + i ≡ k
@@ -74,7 +67,7 @@ module _ (width k t : ℕ) where
     own_value_change [] i j d before at within come = absurd (omega arith)
     own_value_change (s ∷ ss) zero j d before at within come = grind (arith, same_code, le-leb, later_signals)
     own_value_change (s ∷ ss) (suc i) j d before at within come =
-        grind (arith, other_signal, own_value_change ss i (j + 1) d before (omega arith) (omega arith) come)
+        grind (arith, other_code, own_value_change ss i (j + 1) d before (omega arith) (omega arith) come)
 
 -- ---- one signal
 

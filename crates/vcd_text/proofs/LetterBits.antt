@@ -130,38 +130,13 @@ abbrev bit : Bool → ℕ
 bit true = 1
 bit false = 0
 
-bit_again : (b : ℕ) → b < 2 → (s : Bool) × (b ≡ bit s)
-bit_again zero small = (false, refl)
-bit_again (suc zero) small = (true, refl)
-bit_again (suc (suc _)) small = absurd (omega arith)
-
 -- the bits that are set, by those of a letter and of the next
 abbrev mark : ℕ → ℕ → ℕ → ℕ → ℕ
 mark h' h l' l = max (max ((h' + h) % 2) (min l' (1 - h'))) (min h' ((l' + l) % 2))
 
-mark_tells : (h' h l' l : Bool)
-    → mark (bit h') (bit h) (bit l') (bit l)
-    ≡ (if same_letter (pad_letter (letter_of (bit l) (bit h) ∷ [])) (letter_of (bit l') (bit h')) then 0 else 1)
-mark_tells false false false false = refl
-mark_tells false false false true = refl
-mark_tells false false true false = refl
-mark_tells false false true true = refl
-mark_tells false true false false = refl
-mark_tells false true false true = refl
-mark_tells false true true false = refl
-mark_tells false true true true = refl
-mark_tells true false false false = refl
-mark_tells true false false true = refl
-mark_tells true false true false = refl
-mark_tells true false true true = refl
-mark_tells true true false false = refl
-mark_tells true true false true = refl
-mark_tells true true true false = refl
-mark_tells true true true true = refl
-
 mark_is : (h' h l' l : ℕ) → h' < 2 → h < 2 → l' < 2 → l < 2
     → mark h' h l' l ≡ (if same_letter (pad_letter (letter_of l h ∷ [])) (letter_of l' h') then 0 else 1)
-mark_is h' h l' l small_h' small_h small_l' small_l = grind (arith, bit_again, mark_tells)
+mark_is h' h l' l small_h' small_h small_l' small_l = grind arith
 
 -- a word halved has the bits of the next letters
 halved : (w i : ℕ) → bit_at (w / 2) i ≡ bit_at w (i + 1)

@@ -22,11 +22,6 @@ use Rattle.vcd_text.specs.Text.{code_of, item_line, stamp_of, value_item}
 use Rattle.vcd_text.proofs.Counts.{rises_from, same_times}
 use Rattle.vcd_text.proofs.Sorting.{AtLeast, RisesFrom, same_transitions, times, times_permuted}
 
--- the key of a transition
-key_is : (from tick position : ℕ) → position < PLACES → from ≤ tick
-    → transition_of_key from ((tick - from) * PLACES + position) ≡ transition_of tick position
-key_is from tick position small late = grind arith
-
 -- a key that is not below another is that of a transition at its place or after it
 not_below : (from a b : ℕ) → a ≤ b
     → AtLeast (from + a / PLACES) (a % PLACES) (transition_of_key from b)
@@ -70,8 +65,7 @@ pub one_key : (from tick position key : ℕ) (keys new : List ℕ) (rest whole :
     → from ≤ tick → key ≡ (tick - from) * PLACES + position → new ≡ keys ++ key ∷ []
     → transitions_of from keys ++ transition_of tick position ∷ rest ≡ whole
     → transitions_of from new ++ rest ≡ whole
-one_key from tick position key keys new rest whole small late is grown all =
-    grind (arith, key_is, map-append, append_assoc)
+one_key from tick position key keys new rest whole small late is grown all = grind (arith, map-append, append_assoc)
 
 pub key_holds : (from tick position count key : ℕ) (keys new : List ℕ) → position < PLACES → position < count
     → from ≤ tick → tick ≤ END_LIMIT → key ≡ (tick - from) * PLACES + position → new ≡ keys ++ key ∷ []

@@ -1,6 +1,6 @@
 -- A printed value is read back as the value that was written.
 use Rattle.std.proofs.Common.{◌≡◌, ℕ, ◌+◌, ◌-◌, ◌<◌, ◌≤◌, Bool, true, false, if◌then◌else◌, ◌&&◌, nat_le}
-use Rattle.std.proofs.Common.{List, [], ◌∷◌, ◌++◌, length, replicate, All, refl, ap, ◌∙◌, arith, Some}
+use Rattle.std.proofs.Common.{List, [], ◌∷◌, ◌++◌, length, All, refl, ◌∙◌, arith, Some}
 use Rattle.std.specs.Prelude.{find, unwrap_or, is_some}
 use Rattle.std.specs.List.{list_all}
 use Rattle.std.proofs.lemmas.Bool.{ne_eqb}
@@ -12,7 +12,7 @@ use Rattle.vcd_core.specs.declared.wave.Change.{Change}
 use Rattle.vcd_core.specs.Value.{same_letters, printed_letter}
 use Rattle.vcd_core.specs.Wave.{value_from, value_at, AreChangesFrom, IsWave}
 use Rattle.vcd_core.specs.inside.ValueLaws.{same_letters-Decides}
-use Rattle.vcd_text.specs.Letters.{is_binary_digit, letter_of_digit, letters_of_digits, printed_letters, pad_letter}
+use Rattle.vcd_text.specs.Letters.{is_binary_digit, letter_of_digit, letters_of_digits, printed_letters}
 use Rattle.vcd_text.specs.Letters.{extension, suffixes, short_form}
 use Rattle.vcd_text.specs.Grammar.{is_binary_number}
 
@@ -57,14 +57,10 @@ suffixes_within width [] le = All-nil (IsWithin width)
 suffixes_within width (b ∷ s) le =
     All-push (IsWithin width) (suffixes s) (b ∷ s) (suffixes_within width s (omega arith)) (omega arith, le)
 
--- a value is its own extension
-ext_itself : (v : List Bit) → extension (length v) v ≡ v
-ext_itself v = let none : length v - length v ≡ 0 = omega arith in ap (λ k. replicate k (pad_letter v) ++ v) none
-
 -- the extension of the short form is the value
 pub ext-short : (v : List Bit) → extension (length v) (short_form v) ≡ v
 unfolding short_form
-ext-short v = grind (arith, same_letters-Decides, found_passes, ext_itself)
+ext-short v = grind (arith, same_letters-Decides, found_passes)
 
 -- the short form of a value has a letter, and no more than the value
 pub short_within : (v : List Bit) → 0 < length v → (0 < length (short_form v)) × (length (short_form v) ≤ length v)

@@ -7,7 +7,7 @@ use Rattle.std.proofs.lemmas.Bool.{cases_lt}
 use Rattle.std.proofs.lemmas.List.{drop_more}
 use Rattle.std.proofs.lemmas.List.Folds.{find-append}
 use Rattle.vcd_core.specs.declared.bit.Bit.{Bit}
-use Rattle.vcd_core.specs.declared.bit.Bit.TheVariants.{Zero, One, X, Z}
+use Rattle.vcd_core.specs.declared.bit.Bit.TheVariants.{Zero, X}
 use Rattle.vcd_core.specs.Value.{letter_at, same_letter, same_letters}
 use Rattle.vcd_core.specs.declared.letter_word.LetterWord.{LetterWord}
 use Rattle.vcd_core.specs.WordRows.{letters_of, HoldsLetters}
@@ -27,23 +27,9 @@ shortened (a ∷ b ∷ s) = cond (same_letter (pad_letter (b ∷ [])) a) (shorte
 abbrev fits : List Bit → List Bit → Bool
 fits w t = same_letters (extension (length w) t) w
 
-pad_of_front : (b : Bit) (s : List Bit) → pad_letter (b ∷ s) ≡ pad_letter (b ∷ [])
-pad_of_front Zero s = refl
-pad_of_front One s = refl
-pad_of_front X s = refl
-pad_of_front Z s = refl
-
--- the letter that extends a text extends the longer text too
-pad_of_pad : (t : List Bit) → pad_letter (pad_letter t ∷ []) ≡ pad_letter t
-pad_of_pad [] = refl
-pad_of_pad (Zero ∷ s) = refl
-pad_of_pad (One ∷ s) = refl
-pad_of_pad (X ∷ s) = refl
-pad_of_pad (Z ∷ s) = refl
-
 -- a text whose extension is a value has the extending letter of the value
 same_pad : (b : Bit) (s t : List Bit) → fits (b ∷ s) t ≡ true → pad_letter t ≡ pad_letter (b ∷ [])
-same_pad b s t is = grind (arith, same_letters-Decides, pad_of_front, pad_of_pad)
+same_pad b s t is = grind (arith, same_letters-Decides)
 
 -- one more letter in front
 fits_more : (a b : Bit) (s t : List Bit) → length t ≤ length (b ∷ s)
@@ -97,23 +83,19 @@ unfolding short_form shortened
 short_is [] = refl
 short_is (b ∷ s) = ap (λ o. unwrap_or o (b ∷ s)) (found b s)
 
--- the two letters from k on, and what follows
-two_letters : (v : List Bit) (k : ℕ) → k + 1 < length v → drop k v ≡ get_or v k X ∷ get_or v (k + 1) X ∷ drop (k + 2) v
-two_letters v k within = grind (arith, drop_more)
-
 -- the letter at k is spare
 spare_at : (v : List Bit) (k : ℕ) → k + 1 < length v → same_letter (pad_letter (get_or v (k + 1) X ∷ [])) (get_or v k X)
     ≡ true
     → shortened (drop k v) ≡ shortened (drop (k + 1) v)
 unfolding shortened
-spare_at v k within spare = grind (arith, two_letters, drop_more)
+spare_at v k within spare = grind (arith, drop_more)
 
 -- the letter at k is not spare
 kept_at : (v : List Bit) (k : ℕ) → k + 1 < length v → same_letter (pad_letter (get_or v (k + 1) X ∷ [])) (get_or v k X)
     ≡ false
     → shortened (drop k v) ≡ drop k v
 unfolding shortened
-kept_at v k within kept = grind (arith, two_letters)
+kept_at v k within kept = grind (arith, drop_more)
 
 -- the last letter is never left out
 last_kept : (v : List Bit) (k : ℕ) → k + 1 ≡ length v → shortened (drop k v) ≡ drop k v

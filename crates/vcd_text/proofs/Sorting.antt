@@ -54,13 +54,9 @@ before_move u j t k m (inl a) (inr (b, c)) = inl (omega arith)
 before_move u j t k m (inr (a, d)) (inl b) = inl (omega arith)
 before_move u j t k m (inr (a, d)) (inr (b, c)) = inr (omega arith, omega arith)
 
-not_both : (x : Bool) → counted (x && false) ≡ 0
-not_both true = refl
-not_both false = refl
-
 not_before : (u j : ℕ) (m : Transition) → Before u j m.tick m.position → once u j m ≡ 0
 not_before u j m (inl a) = ap (λ b. counted (b && (m.position == j))) (ne_eqb m.tick u (omega arith))
-not_before u j m (inr (a, d)) = grind (arith, ne_eqb, not_both)
+not_before u j m (inr (a, d)) = grind (arith, ne_eqb)
 
 -- a transition before the first is not in the list
 none_before : (u j t k : ℕ) (ms : List Transition) → RisesFrom t k ms → Before u j t k → times u j ms ≡ 0

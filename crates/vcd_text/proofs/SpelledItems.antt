@@ -8,12 +8,8 @@ use Rattle.std.proofs.lemmas.Bool.{ne_eqb}
 use Rattle.std.proofs.lemmas.List.Elements.{recursion_from_All}
 use Rattle.std.proofs.lemmas.List.Folds.{list_all-append}
 use Rattle.vcd_core.specs.declared.bit.Bit.{Bit}
-use Rattle.vcd_core.specs.declared.bit.Bit.TheVariants.{Zero, One, X, Z}
 use Rattle.vcd_core.specs.declared.capture.HeaderKind.{HeaderKind}
 use Rattle.vcd_core.specs.declared.capture.HeaderKind.TheVariants.{Date, Version, Comment}
-use Rattle.vcd_core.specs.declared.capture.TimeUnit.{TimeUnit}
-use Rattle.vcd_core.specs.declared.capture.TimeUnit.TheVariants.{Second, Millisecond, Microsecond, Nanosecond}
-use Rattle.vcd_core.specs.declared.capture.TimeUnit.TheVariants.{Picosecond, Femtosecond}
 use Rattle.vcd_core.specs.declared.capture.Header.{Header}
 use Rattle.vcd_core.specs.declared.capture.Timescale.{Timescale}
 use Rattle.vcd_core.specs.declared.capture.ScopeName.{ScopeName}
@@ -23,14 +19,12 @@ use Rattle.vcd_core.specs.Contents.{Contents, SignalContents}
 use Rattle.vcd_core.specs.Sound.{is_sound_header, is_sound_scope, is_sound_timescale, IsSoundSignal, IsSound}
 use Rattle.vcd_text.specs.Words.{words_of}
 use Rattle.std.specs.Char.{is_ascii_digit}
-use Rattle.vcd_core.specs.Value.{printed_letter}
 use Rattle.vcd_text.specs.Letters.{printed_letters, short_form}
 use Rattle.vcd_text.specs.Items.{Item, entry, timescale, scope, upscope, vector, end_definitions, header_word}
 use Rattle.vcd_text.specs.Items.{end_word, spellings}
-use Rattle.vcd_core.specs.TimeUnits.{unit_text}
 use Rattle.vcd_text.specs.Grammar.{word_texts}
 use Rattle.vcd_text.specs.Text.{header_items, timescale_items, same_scope, scope_items, code_of, variable_item}
-use Rattle.vcd_text.specs.Text.{signal_items, value_item, value_items, stamp_of}
+use Rattle.vcd_text.specs.Text.{signal_items, value_items}
 use Rattle.vcd_text.specs.Text.{with_stamp, first_items, tick_items, end_items, items_of, text}
 use Rattle.vcd_text.proofs.CodesDiffer.{code_black, code_not_empty}
 use Rattle.vcd_text.proofs.Decimals.{decimal_digits, decimal_not_empty}
@@ -67,28 +61,14 @@ decimal_unbroken n small = no_space_is_unbroken (decimal n) (decimal_not_empty n
 pub code_unbroken : (k : ℕ) → is_unbroken (code_of k) ≡ true
 code_unbroken k = no_space_is_unbroken (code_of k) (code_not_empty k) (code_black k)
 
-printed_letter_black : (b : Bit) → has_no_space (printed_letter b) ≡ true
-printed_letter_black Zero = refl
-printed_letter_black One = refl
-printed_letter_black X = refl
-printed_letter_black Z = refl
-
 printed_black : (v : List Bit) → list_all has_no_space (printed_letters v) ≡ true
 printed_black [] = refl
-printed_black (b ∷ v) = grind (arith, and_from, printed_letter_black, printed_black v)
+printed_black (b ∷ v) = grind (arith, and_from, printed_black v)
 
 -- a word with another byte in front
 longer_unbroken : (b : ℕ) (w : List ℕ) → has_no_space b ≡ true → list_all has_no_space w ≡ true
     → is_unbroken (b ∷ w) ≡ true
 longer_unbroken b w first rest = and_from (has_no_space b) (list_all has_no_space w) first rest
-
-unit_unbroken : (unit : TimeUnit) → is_unbroken (unit_text unit) ≡ true
-unit_unbroken Second = refl
-unit_unbroken Millisecond = refl
-unit_unbroken Microsecond = refl
-unit_unbroken Nanosecond = refl
-unit_unbroken Picosecond = refl
-unit_unbroken Femtosecond = refl
 
 header_word_unbroken : (kind : HeaderKind) → is_unbroken (header_word kind) ≡ true
 header_word_unbroken Date = refl
@@ -113,25 +93,18 @@ one_word w unbroken = and_from (is_unbroken w) true unbroken refl
 vector_spelled : (k : ℕ) (v : List Bit) → is_spelled (vector 98 (printed_letters (short_form v)) (code_of k)) ≡ true
 vector_spelled k v = grind (arith, and_from, longer_unbroken, printed_black, one_word, code_unbroken)
 
-value_spelled : (k : ℕ) (v : List Bit) → is_spelled (value_item (code_of k) v) ≡ true
-value_spelled k [] = vector_spelled k []
-value_spelled k (b ∷ []) = grind (arith, one_word, longer_unbroken, printed_letter_black, code_black)
-value_spelled k (b ∷ c ∷ v) = vector_spelled k (b ∷ c ∷ v)
-
 values_spelled : (t : ℕ) (placed : List (ℕ × SignalContents)) → list_all is_spelled (value_items t placed) ≡ true
 values_spelled t [] = refl
-values_spelled t (p ∷ ps) = grind (arith, and_from, value_spelled, values_spelled t ps)
-
-stamp_spelled : (t : ℕ) → t < 2 ^ 64 → is_spelled (stamp_of t) ≡ true
-stamp_spelled t small = one_word (35 ∷ decimal t) (longer_unbroken 35 (decimal t) refl (decimal_black t small))
+values_spelled t (p ∷ ps) =
+    grind (arith, and_from, vector_spelled, one_word, longer_unbroken, code_black, values_spelled t ps)
 
 stamped_spelled : (t : ℕ) (items : List Item) → t < 2 ^ 64 → list_all is_spelled items ≡ true
     → list_all is_spelled (with_stamp t items) ≡ true
 stamped_spelled t [] small spelled = refl
-stamped_spelled t (v ∷ vs) small spelled = grind (arith, and_from, stamp_spelled)
+stamped_spelled t (v ∷ vs) small spelled = grind (arith, and_from, one_word, longer_unbroken, decimal_black)
 
 first_spelled : (signals : List SignalContents) → list_all is_spelled (first_items signals) ≡ true
-first_spelled signals = grind (arith, both_spelled, and_from, stamp_spelled, values_spelled)
+first_spelled signals = grind (arith, both_spelled, and_from, one_word, longer_unbroken, decimal_black, values_spelled)
 
 ticks_spelled : (signals : List SignalContents) (t n : ℕ) → t + n ≤ 2 ^ 64
     → list_all is_spelled (tick_items signals t n) ≡ true
@@ -142,7 +115,7 @@ ticks_spelled signals t (suc n) small =
 
 end_spelled : (signals : List SignalContents) (end : ℕ) → end < 2 ^ 64
     → list_all is_spelled (end_items signals end) ≡ true
-end_spelled signals end small = grind (arith, cond_both, and_from, stamp_spelled)
+end_spelled signals end small = grind (arith, cond_both, and_from, one_word, longer_unbroken, decimal_black)
 
 header_spelled : (header : List Header) → list_all is_sound_header header ≡ true
     → list_all is_spelled (header_items header) ≡ true
@@ -157,8 +130,7 @@ header_spelled (h ∷ hs) sound =
 timescale_is_spelled : (t : Option Timescale) → IfSome t (λ t. IsTrue (is_sound_timescale t))
     → list_all is_spelled (timescale_items t) ≡ true
 timescale_is_spelled None sound = refl
-timescale_is_spelled (Some t) sound =
-    grind (arith, and_from, decimal_unbroken, count_small, sound_count, one_word, unit_unbroken)
+timescale_is_spelled (Some t) sound = grind (arith, and_from, decimal_unbroken, count_small, sound_count, one_word)
 
 upscopes_spelled : (n : ℕ) → list_all is_spelled (replicate n upscope) ≡ true
 upscopes_spelled zero = refl

@@ -1,6 +1,6 @@
 -- One more word, or both of a change of several bits, from the first word of the file on.
 use Rattle.std.proofs.Common.{arith}
-use Rattle.std.specs.Prelude.{Bool, true, false, IsTrue, IsFalse, ◌==◌, ◌&&◌}
+use Rattle.std.specs.Prelude.{IsTrue, IsFalse, ◌==◌, ◌&&◌}
 use Rattle.std.proofs.Common.{◌≡◌, ◌⊎◌, inl, inr, Ok, Err, List, [], ◌∷◌, ◌++◌, refl, sym, ap, subst, ◌∙◌}
 use Rattle.std.proofs.Common.{append_assoc}
 use Rattle.std.proofs.lemmas.List.{append-nil, map-append}
@@ -9,7 +9,6 @@ use Rattle.std.specs.Prelude.{ℕ}
 use Rattle.vcd_text.specs.declared.fault.Fault.{Fault}
 use Rattle.vcd_text.specs.declared.fault.ReadError.{ReadError}
 use Rattle.vcd_text.specs.Words.{PlacedWord, word_on}
-use Rattle.vcd_text.specs.Letters.{is_among}
 use Rattle.vcd_text.specs.Items.{Item, spelling, spellings, is_other}
 use Rattle.vcd_text.specs.Grammar.{ParseState, Allows, AllowsAll, state_after, state_after_item, initial_state}
 use Rattle.vcd_text.specs.Grammar.{word_texts}
@@ -89,13 +88,6 @@ error_shown words line fault (inr shows) = grind arith
 
 -- ---- lines
 
--- a word that begins another command begins no change of two words
-no_pair : (letters : List ℕ) (changing : Bool) (keyword : List ℕ) (words : List (List ℕ)) (first : ℕ) (text : List ℕ)
-    → is_among letters 36 ≡ false
-    → IsTrue (is_other changing keyword) → keyword ∷ words ≡ (first ∷ text) ∷ [] → IsTrue (is_among letters first) → ⊥
-no_pair letters changing [] words first text none is same among = absurd (cc)
-no_pair letters changing (b ∷ bs) words first text none is same among = grind (arith, and_parts, eqb-true)
-
 -- after another command no word shows a fault
 passed_over : (c : ParseState) (keyword : List ℕ) (words : List (List ℕ)) (word : List ℕ) (fault : Fault)
     → IsTrue (is_other c.changing keyword) → ChangeFault c (keyword ∷ words) word fault → ⊥
@@ -103,15 +95,13 @@ passed_over c keyword words word fault is (no_tick digits begun p q r) = absurd 
 passed_over c keyword words word fault is (tick_goes_back digits begun p q r s) = absurd (cc)
 passed_over c keyword words word fault is (value_alone letter begun p q r) = absurd (cc)
 passed_over c keyword words word fault is (value_of_none letter code begun p q r s t) = absurd (cc)
-passed_over c keyword words word fault is (pair_of_none first text begun among p q) = grind (arith, no_pair)
-passed_over c keyword words word fault is (no_value first digits d begun among p q r s) = grind (arith, no_pair)
-passed_over c keyword words word fault is (value_too_long first digits d begun among p q r s t) = grind (arith, no_pair)
+passed_over c keyword words word fault is (pair_of_none first text begun among p q) = grind (arith, and_parts, eqb-true)
+passed_over c keyword words word fault is (no_value first digits d begun among p q r s) =
+    grind (arith, and_parts, eqb-true)
+passed_over c keyword words word fault is (value_too_long first digits d begun among p q r s t) =
+    grind (arith, and_parts, eqb-true)
 passed_over c keyword words word fault is (declaration_late begun p q) = absurd (cc)
 passed_over c keyword words word fault is (no_change first text begun p q r s) = absurd (cc)
-
-line_of_first : (changing : Bool) (w : PlacedWord) → w.line ≡ fault_line changing [] w
-line_of_first false w = refl
-line_of_first true w = refl
 
 declaring : (m : Reader) (c : ParseState) (begun : List PlacedWord) (w : PlacedWord) → ReaderMatches m c
     → IsFalse m.changing → w.line ≡ fault_line c.changing begun w
@@ -121,7 +111,7 @@ declaring m c begun w agrees none = sym (ap (λ b. fault_line b begun w) (sym ag
 pub line_shown : (m : Reader) (c : ParseState) (begun : List PlacedWord) (w : PlacedWord) (fault : Fault)
     (item : OpenItem) → ReaderMatches m c → IsBegun m begun item → WordFault c (word_texts begun) w.text fault
     → shown_line item m.line w.line ≡ fault_line c.changing begun w
-line_shown m c begun w fault items.Nothing agrees none decided = grind (arith, line_of_first)
+line_shown m c begun w fault items.Nothing agrees none decided = grind arith
 line_shown m c begun w fault (items.Entry kind) agrees is decided = declaring m c begun w agrees is.declares
 line_shown m c begun w fault items.Timescale agrees is decided = declaring m c begun w agrees is.declares
 line_shown m c begun w fault items.Scope agrees is decided = declaring m c begun w agrees is.declares

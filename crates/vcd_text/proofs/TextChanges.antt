@@ -15,8 +15,7 @@ use Rattle.vcd_core.specs.Sound.{IsSound, IsSoundSignal}
 use Rattle.vcd_core.specs.Word.{is_one_of}
 use Rattle.vcd_text.specs.Letters.{printed_letters, short_form}
 use Rattle.vcd_text.specs.Items.{Item, vector, bracket, dump_words, end_word}
-use Rattle.vcd_text.specs.Grammar.{ValueChange, ParseState, is_skipped, takes_binary_number, value_changes_after}
-use Rattle.vcd_text.specs.Grammar.{variable_of}
+use Rattle.vcd_text.specs.Grammar.{ValueChange, ParseState, is_skipped}
 use Rattle.vcd_text.specs.Text.{all_values, code_of, differs_at, end_items, first_items, new_values, stamp_of}
 use Rattle.vcd_text.specs.Text.{with_stamp, tick_items, value_item, value_items}
 use Rattle.vcd_text.proofs.CodesDiffer.{code_not_empty}
@@ -45,32 +44,16 @@ pub record IsPlaced (c : Contents) (p : ℕ × SignalContents) : Type 0 where
 
 module _ (c : Contents) (p : ℕ × SignalContents) (placed : IsPlaced c p) (value_changes : List ValueChange) (t : ℕ)
   where
-    -- the value change of letters that are read as this short form
-    told_one : (letters v : List Bit) → letters ≡ short_form v
-        → value_changes_after (state_at c value_changes t) (code_of p.0) letters
-        (variable_of (state_at c value_changes t) (code_of p.0)) ≡ record {
-          tick = t;
-          code = code_of p.0;
-          letters =
-              short_form v;
-        } ∷ []
-    told_one letters v same = grind arith
-
-    -- its variable accepts the short form
-    takes_short : (v : List Bit) → 0 < length v → length v ≡ p.1.width
-        → takes_binary_number (declared_as p.0 p.1) (printed_letters (short_form v)) ≡ true
-    takes_short v some wide = grind (arith, short_within, length-map, printed_is_value, le-leb)
-
     vector_leads : (v : List Bit) → 0 < length v → length v ≡ p.1.width
         → Leads (state_at c value_changes t) (vector 98 (printed_letters (short_form v)) (code_of p.0) ∷ [])
         (state_at c (value_changes ++ record { tick = t; code = code_of p.0; letters = short_form v } ∷ []) t)
-    vector_leads v some wide = grind (arith, takes_short, told_one, letters_back)
+    vector_leads v some wide = grind (arith, short_within, length-map, printed_is_value, le-leb, letters_back)
 
     value_leads_of : (v : List Bit) → length v ≡ p.1.width
         → Leads (state_at c value_changes t) (value_item (code_of p.0) v ∷ [])
         (state_at c (value_changes ++ record { tick = t; code = code_of p.0; letters = short_form v } ∷ []) t)
     value_leads_of [] wide = absurd (omega (arith, wide, placed.some))
-    value_leads_of (b ∷ []) wide = grind (arith, letter_back, code_not_empty, told_one, letters_back, short_one)
+    value_leads_of (b ∷ []) wide = grind (arith, letter_back, code_not_empty, letters_back, short_one)
     value_leads_of (b ∷ d ∷ v) wide = vector_leads (b ∷ d ∷ v) (omega arith) wide
 
     value_leads : Leads (state_at c value_changes t) (value_item (code_of p.0) (signal_value p.1 t) ∷ [])

@@ -14,9 +14,6 @@ use Rattle.std.proofs.lemmas.Slice.Eq.{bytes_eq-Decides}
 use Rattle.vcd_core.specs.declared.capture.Header.{Header}
 use Rattle.vcd_core.specs.declared.capture.Timescale.{Timescale}
 use Rattle.vcd_core.specs.declared.capture.ScopeName.{ScopeName}
-use Rattle.vcd_core.specs.declared.capture.TimeUnit.{TimeUnit}
-use Rattle.vcd_core.specs.declared.capture.TimeUnit.TheVariants.{Second, Millisecond, Microsecond, Nanosecond}
-use Rattle.vcd_core.specs.declared.capture.TimeUnit.TheVariants.{Picosecond, Femtosecond}
 use Rattle.vcd_core.specs.declared.value.TheConstants.{WIDTH_LIMIT}
 use Rattle.vcd_core.specs.declared.capture.TheConstants.{SIGNAL_LIMIT}
 use Rattle.vcd_core.specs.Contents.{Contents, SignalContents}
@@ -25,7 +22,6 @@ use Rattle.std.specs.Char.{is_ascii_digit}
 use Rattle.vcd_core.specs.Decimal.{number_of}
 use Rattle.vcd_text.specs.Items.{Item, entry, timescale, variable, end_definitions, is_end_word}
 use Rattle.vcd_text.specs.Items.{has_no_end_word}
-use Rattle.vcd_core.specs.TimeUnits.{unit_text}
 use Rattle.vcd_text.specs.Grammar.{ParseState, VariableDeclaration, initial_state, declaration_of, variable_of}
 use Rattle.vcd_text.specs.Grammar.{may_have_code, has_room}
 use Rattle.vcd_text.specs.Text.{header_items, timescale_items, scope_items, code_of, variable_item, signal_items}
@@ -57,19 +53,11 @@ digits_no_end w digits = grind (arith, false_from_ne_true, bytes_eq-Decides)
 decimal_no_end : (n : ℕ) → n < 2 ^ 64 → not (is_end_word (decimal n)) ≡ true
 decimal_no_end n small = not_from_false (is_end_word (decimal n)) (digits_no_end (decimal n) (decimal_digits n small))
 
-unit_no_end : (unit : TimeUnit) → not (is_end_word (unit_text unit)) ≡ true
-unit_no_end Second = refl
-unit_no_end Millisecond = refl
-unit_no_end Microsecond = refl
-unit_no_end Nanosecond = refl
-unit_no_end Picosecond = refl
-unit_no_end Femtosecond = refl
-
 timescale_leads : (h : List Header) (t : Option Timescale) → IfSome t (λ t. IsTrue (is_sound_timescale t))
     → Leads (declaring h None [] []) (timescale_items t) (declaring h t [] [])
 timescale_leads h None sound = leads_none (declaring h None [] [])
 timescale_leads h (Some t) sound =
-    grind (arith, timescale_read, and_from, decimal_no_end, count_small, sound_count, unit_no_end, leads_one)
+    grind (arith, timescale_read, and_from, decimal_no_end, count_small, sound_count, leads_one)
 
 -- ---- variables
 
@@ -165,13 +153,9 @@ declarations_lead c sound =
     (recursion_from_All (IsSoundSignal c.end) c.signals sound.signals) (omega arith) refl (λ j from. refl)))
     (leads_one declared (declared_state c) end_definitions refl refl)
 
-in_two : (front first ticks end : List Item) (i : Item)
-    → front ++ (i ∷ first) ++ ticks ++ end ≡ (front ++ i ∷ []) ++ (first ++ ticks ++ end)
-in_two front first ticks end i = grind (arith, append_assoc)
-
 -- the declarations, and the items after them
 pub items_in_two : (c : Contents)
     → items_of c ≡ declaration_items c
     ++ (first_items c.signals ++ tick_items c.signals 1 c.end ++ end_items c.signals c.end)
 unfolding items_of
-items_in_two c = grind (arith, in_two)
+items_in_two c = grind (arith, append_assoc)

@@ -1,10 +1,10 @@
 -- The parts of a text, one after another.
 use Rattle.std.proofs.Common.{arith}
-use Rattle.std.proofs.Common.{◌≡◌, ℕ, List, [], ◌∷◌, ◌++◌, ◌∙◌, append_assoc, codes}
+use Rattle.std.proofs.Common.{◌≡◌, ℕ, List, [], ◌∷◌, ◌++◌, ◌∙◌, append_assoc}
 use Rattle.std.specs.List.{flat_map}
 use Rattle.std.proofs.lemmas.Grind.{flat_map-append}
 use Rattle.vcd_core.specs.Contents.{Contents}
-use Rattle.vcd_text.specs.Items.{Item, end_definitions}
+use Rattle.vcd_text.specs.Items.{Item}
 use Rattle.vcd_text.specs.Text.{end_items, first_items, items_of, item_line, text}
 use Rattle.vcd_text.specs.Text.{tick_items}
 use Rattle.vcd_text.specs.inside.TextParts.{declarations_text}
@@ -12,19 +12,10 @@ use Rattle.vcd_text.specs.inside.TextParts.{declarations_text}
 abbrev lines : List Item → List ℕ
 lines items = flat_map item_line items
 
-abbrev definitions_end : List ℕ
-definitions_end = codes "$enddefinitions $end\n"
-
--- six lists of items, with the end of the declarations between the third and the fourth
-in_a_row : (H T S F K N : List Item)
-    → (((lines H ++ lines T) ++ lines S) ++ definitions_end) ++ (lines F ++ lines (K ++ N))
-    ≡ lines (((((H ++ T) ++ S) ++ (end_definitions ∷ F)) ++ K) ++ N)
-in_a_row H T S F K N = grind (arith, flat_map-append, append_assoc)
-
 -- the declarations, the values at tick 0, and the rest
 pub whole_text : (c : Contents)
     → declarations_text c
     ++ (flat_map item_line (first_items c.signals)
     ++ flat_map item_line (tick_items c.signals 1 c.end ++ end_items c.signals c.end)) ≡ text c
 unfolding text items_of
-whole_text c = grind (arith, in_a_row)
+whole_text c = grind (arith, flat_map-append, append_assoc)

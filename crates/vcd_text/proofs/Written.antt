@@ -16,10 +16,6 @@ carried : (out piece rest left whole : List ℕ) → left ≡ piece ++ rest → 
     → (out ++ piece) ++ rest ≡ whole
 carried out piece rest left whole split is = append_assoc out piece rest ∙ ap (λ l. out ++ l) (sym split) ∙ is
 
--- nothing is left
-finished : (out left whole : List ℕ) → left ≡ [] → out ++ left ≡ whole → out ≡ whole
-finished out left whole none is = sym (append-nil out) ∙ ap (λ l. out ++ l) (sym none) ∙ is
-
 -- two pieces
 pub writes_both : {W : Type 0} {t : W → Option (List ℕ)} {f : W → Bool} {s0 s1 s2 : WriteBuffer × W} {a b : List ℕ}
     → Emits t f s0 s1 a → Emits t f s1 s2 b → Emits t f s0 s2 (a ++ b)
@@ -60,7 +56,7 @@ front_grows {piece = piece} {left = left} {whole = whole} rest front more is = r
 
 pub front_whole : {W : Type 0} {t : W → Option (List ℕ)} {f : W → Bool} {s0 s1 : WriteBuffer × W} {left whole : List ℕ}
     → WritesFront t f s0 s1 left whole → left ≡ [] → Emits t f s0 s1 whole
-front_whole {left = left} {whole = whole} front none = search (arith, writes_as, finished)
+front_whole {left = left} {whole = whole} front none = search (arith, writes_as, append-nil)
 
 -- the items before one of a list are written, and then that item
 pub front_item : {W : Type 0} {t : W → Option (List ℕ)} {f : W → Bool} {s0 s1 s2 : WriteBuffer × W} {X : Type 0}
@@ -72,22 +68,12 @@ front_item F xs k x front more within is split = grind (arith, front_grows, drop
 
 -- ---- the buffer
 
--- bytes go to the writer: the front of the rest of the text
-sent_more : (before t0 t1 : Option (List ℕ)) (n k : ℕ) (text bytes : List ℕ) → drop n text ≡ bytes
-    → Appends before t0 (take n text) → Appends t0 t1 (take k bytes) → Appends before t1 (take (n + k) text)
-sent_more before t0 t1 n k text bytes is front more = grind (arith, take-add, Appends-trans)
-
--- a writer that has failed takes nothing
-sent_none : (before t0 t1 : Option (List ℕ)) (k : ℕ) (front bytes : List ℕ) → k ≡ 0 → Appends before t0 front
-    → Appends t0 t1 (take k bytes) → Appends before t1 front
-sent_none before t0 t1 k front bytes none held more = grind (arith, append-nil, Appends-trans)
-
 -- bytes after those that were sent are sent
 sent_bytes : (before t0 t1 : Option (List ℕ)) (f0 : Bool) (n k : ℕ) (text bytes : List ℕ)
     → (f0 ≡ false → drop n text ≡ bytes) → (f0 ≡ true → k ≡ 0)
     → Appends before t0 (take n text) → Appends t0 t1 (take k bytes) → Appends before t1 (take (n + k) text)
-sent_bytes before t0 t1 false n k text bytes is none front more = grind (arith, sent_more)
-sent_bytes before t0 t1 true n k text bytes is none front more = grind (arith, sent_none)
+sent_bytes before t0 t1 false n k text bytes is none front more = grind (arith, take-add, Appends-trans)
+sent_bytes before t0 t1 true n k text bytes is none front more = grind (arith, append-nil, Appends-trans)
 
 -- the bytes sent before and now are within the text
 within_whole : (f0 : Bool) (n k : ℕ) (text piece bytes : List ℕ) → n ≤ length text
