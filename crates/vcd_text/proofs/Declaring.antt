@@ -193,7 +193,7 @@ closes_definitions m code_targets same is line c begun at =
     ends_here (record m {
       variables = record m.variables { code_targets = code_targets };
       changing = true;
-      item = grind arith;
+      item = items.Nothing;
     }) c begun line end_definitions (codes "$enddefinitions" ∷ [])
     b.1 refl (sym a.changing ∙ b.0)
     (record {
