@@ -1,9 +1,10 @@
 //! The program: words in, files opened, a status out.
 
-ghost use Rattle.std.specs.Prelude.{◌≡◌, ◌≤◌, ◌⊎◌, ℕ, true, false, List, [], Option, None, is_some, Err, IsSome, map, IfOk, IfErr};
+ghost use Rattle.std.specs.Prelude.{◌≡◌, ◌≤◌, ◌⊎◌, ℕ, true, false, List, [], Option, None, is_some, Err, IsSome, map, drop, IfOk, IfErr};
 ghost use Rattle.std.specs.Io.Buffered.{writer_inner, writer_buffer, writer_capacity, writer_contents};
 ghost use Rattle.std.specs.Io.KnownBytes.{Appends, Keeps};
 ghost use Rattle.std.specs.String.{string_bytes};
+ghost use Rattle.std.specs.Vec.Iter.{into_iter_items};
 ghost use Rattle.clap.specs.Words.{fault_of};
 ghost use Rattle.vcdedit.specs.CommandLine.{option_app, options_in};
 ghost use Rattle.vcdedit.specs.ProgramEnds.{is_done, ending_of, IsRunOn, IsOutcome, IsEndingOf, program_status, program_text};
@@ -16,6 +17,8 @@ use crate::shell::command_line::{Options, no_text, parse_words};
 use crate::shell::ending::{Ending, NO_MEMORY, ending_without_run, report_ending};
 use crate::shell::late_file::LateFile;
 use crate::shell::opening::{open_capture, open_script};
+use std::alloc::{AllocError, Global};
+use std::env::Args;
 use std::io::{BufWriter, ErrorKind, Write};
 use std::rt::Runtime;
 use std::{env, io};
@@ -46,49 +49,48 @@ pub fn status_of_program<R: Runtime + AllocGlobal, E: Sink>(rt: &R, errors: &mut
         (E.has_failed errors.new ≡ false →
         Appends (E.taken errors.old) (E.taken errors.new) (program_text ending)) }
 {
-    match command_line_words(rt) {
-        Ok(words) => report_ending(ending_of_words(rt, words.as_slice()), errors),
-        Err(ending) => report_ending(ending, errors),
-    }
-}
-
-/// The words after the program's name. A word that is no text is refused.
-fn command_line_words<R: Runtime + AllocGlobal>(rt: &R) -> Result<Vec<String>, Ending>
-    ensures { IfErr result (λ ending. is_done ending ≡ false) }
-{
     match env::args(rt) {
-        Ok(words) => words
-            .skip(1)
-            .collect(rt.alloc())
-            .map_err(|_| Ending::Failed(NO_MEMORY)),
-        Err(error) if error.kind() == ErrorKind::OutOfMemory => Err(Ending::Failed(NO_MEMORY)),
-        Err(_) => Err(ending_of_no_text(rt)),
+        Ok(words) => report_ending(ending_of_words(rt, words), errors),
+        Err(error) => report_ending(ending_without_words(rt, &error), errors),
     }
 }
 
-/// The ending for a word that is no text.
-fn ending_of_no_text<R: Runtime + AllocGlobal>(rt: &R) -> Ending
+/// The ending where the words are not had: memory ran out, or one of them is no text.
+fn ending_without_words<R: Runtime + AllocGlobal>(rt: &R, error: &io::Error) -> Ending
     ensures { is_done result ≡ false }
 {
+    if error.kind() == ErrorKind::OutOfMemory {
+        return Ending::Failed(NO_MEMORY);
+    }
     match no_text(rt.alloc()) {
         Ok(error) => ending_without_run(rt, &error),
         Err(_) => Ending::Failed(NO_MEMORY),
     }
 }
 
-/// Does what the words ask for. If they ask for no run, nothing is opened.
-fn ending_of_words<R: Runtime + AllocGlobal>(rt: &R, words: &[String]) -> Ending
+/// Does what the words after the program's name ask for. If they ask for no run, nothing is opened.
+fn ending_of_words<R: Runtime + AllocGlobal>(rt: &R, words: Args) -> Ending
     // words without a fault are run
-    ensures of_run { fault_of option_app (map string_bytes words.now) ≡ [] →
-        IsEndingOf (map string_bytes words.now) result }
+    ensures of_run { fault_of option_app (map string_bytes (drop 1 (into_iter_items words))) ≡ [] →
+        IsEndingOf (map string_bytes (drop 1 (into_iter_items words))) result }
     // and only such words are run
     ensures done { is_done result ≡ true →
-        fault_of option_app (map string_bytes words.now) ≡ [] }
+        fault_of option_app (map string_bytes (drop 1 (into_iter_items words))) ≡ [] }
 {
-    match parse_words(rt.alloc(), words) {
+    let Ok(words) = after_name(rt.alloc(), words) else {
+        return Ending::Failed(NO_MEMORY);
+    };
+    match parse_words(rt.alloc(), words.as_slice()) {
         Ok(options) => ending_of_run(run_options(rt, &options)),
         Err(error) => ending_without_run(rt, &error),
     }
+}
+
+/// All words but the first.
+fn after_name(alloc: Global, words: Args) -> Result<Vec<String>, AllocError>
+    ensures { IfOk result (λ after. after.items ≡ drop 1 (into_iter_items words)) }
+{
+    words.skip(1).collect(alloc)
 }
 
 fn ending_of_run(outcome: Result<Summary, RunError>) -> Ending

@@ -1,12 +1,36 @@
 -- Words without a fault that are not accepted ran out of memory, and so the run was not begun.
-use Rattle.std.proofs.Common.{Err, inl, inr, refl}
+use Rattle.std.proofs.Common.{Err, inl, inr, refl, ap, subst, map, ◌∙◌}
+use Rattle.std.specs.String.{string_bytes}
+use Rattle.clap.specs.Words.{fault_of}
+use Rattle.vcdedit.specs.CommandLine.{asked_options, option_app}
+use Rattle.vcdedit.specs.ProgramEnds.{IsOutcome}
 use Rattle.vcdedit.specs.declared.running.run_error.RunError.TheVariants as run_errors
 use Rattle.vcdedit.proofs.ProgramRuns.{failed_for_memory}
 use Rattle.vcdedit.proofs.shell.program.ending_of_words.Goals as goal
 
-pub returns-in-Err-clause-of_run : goal.returns-in-Err-clause-of_run
-returns-in-Err-clause-of_run g c none = (
+pub returns-in_default-clause-of_run : goal.returns-in_default-clause-of_run
+returns-in_default-clause-of_run g c none = (
   Err (run_errors.NoMemory 0),
   inl (run_errors.NoMemory 0, inr (inr refl), refl),
-  c.ending_without_run.ensures.no_memory (failed_for_memory _ c.in-Err.error none c.in-Err.ensures.faults),
+  refl,
 )
+
+pub returns-in-Ok-parse_words-clause-of_run : goal.returns-in-Ok-parse_words-clause-of_run
+returns-in-Ok-parse_words-clause-of_run g c none = (
+  c.run_options.result,
+  subst (λ options. IsOutcome options c.run_options.result)
+      (c.in-Ok-parse_words.ensures.asked
+      ∙ ap (λ words. asked_options (map string_bytes words)) (c.as_slice.ensures.value ∙ c.in-Ok.ensures))
+      c.run_options.ensures,
+  c.ending_of_run.ensures,
+)
+
+pub returns-clause-of_run : goal.returns-clause-of_run
+returns-clause-of_run g c none =
+    let all =
+    ap (λ words. fault_of option_app (map string_bytes words)) (c.as_slice.ensures.value ∙ c.in-Ok.ensures) in (
+      Err (run_errors.NoMemory 0),
+      inl (run_errors.NoMemory 0, inr (inr refl), refl),
+      c.ending_without_run.ensures.no_memory
+          (failed_for_memory _ c.in-Err.error (all ∙ none) c.in-Err.ensures.faults),
+    )
