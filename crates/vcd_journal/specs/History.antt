@@ -9,11 +9,15 @@ use Rattle.vcd_journal.specs.declared.step.TheConstants.{DEPTH_LIMIT}
 use Rattle.vcd_journal.specs.declared.step.Step.{Step}
 use Rattle.vcd_journal.specs.declared.step.Step.TheVariants as steps
 
--- the edits in force and those undone, the last first; how many can be undone, and how many be held
+-- the edits in force and those undone; how many can be undone, and how many be held
 pub record History : Type 0 where
+  -- in force, the last one made first
   pub edits : List Edit
+  -- undone and not made again, the one undone last first
   pub undone : List Edit
+  -- how many of those in force can be undone
   pub undoable : ℕ
+  -- how many can be undone or made again, at most
   pub depth : ℕ
 
 -- no edit was made

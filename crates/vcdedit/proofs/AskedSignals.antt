@@ -30,8 +30,7 @@ use Rattle.vcdedit.specs.inside.ParsedCommands.{pair_command, rule_command, deri
 use Rattle.vcdedit.specs.inside.ParsedCommands.{words_command, keyword_in_tables}
 use Rattle.vcdedit.specs.CommandSignals.{IsScalarAt, HasItsSignals}
 use Rattle.vcdedit.specs.Addressless.{command_without_address}
-use Rattle.vcdedit.specs.ParsedLines.{command_of_line}
-use Rattle.vcdedit.specs.Script.{line_words}
+use Rattle.vcdedit.specs.ParsedLines.{line_words, command_of_line}
 use Rattle.vcdedit.proofs.NamedSignals.{named_within}
 
 -- a command that is read has its signals

@@ -13,7 +13,7 @@ use Rattle.vcdedit.specs.declared.script.command.Command.TheVariants as commands
 use Rattle.vcdedit.specs.declared.script.line_error.LineError.TheVariants.{WrongCount, BadNumber, NoSuchName}
 use Rattle.vcdedit.specs.Script.{script_lines}
 use Rattle.vcdedit.specs.ParsedLines.{command_of_line}
-use Rattle.vcdedit.specs.Queries.{timescale_line, signal_lines, listing}
+use Rattle.vcdedit.specs.Queries.{timescale_line, listing}
 use Rattle.vcdedit.specs.WaveReplies.{value_line, change_lines}
 use Rattle.vcdedit.specs.MachineReplies.{line_reply}
 use Rattle.vcdedit.specs.RunMachines.{machine_after_line}
@@ -47,7 +47,7 @@ listed : (listing three 2
     ∷ codes "@1 4 wire top.v"
     ∷ codes "@2 2 wire n"
     ∷ []) × (timescale_line (Some (record { count = 100; unit = Nanosecond })) ≡ codes "timescale 100 ns")
-unfolding signal_lines name_in digits
+unfolding name_in digits
 listed = (refl, refl)
 
 -- before the first change, at a change, and past the end
@@ -72,5 +72,5 @@ shown : line_replies 2 1 (first_machine three 100)
     ∷ codes "timescale none\nend 9\nsignals 2\nskipped 2\n@0 4 wire top.v\n@1 2 wire n\n" ∷ codes "ok\n"
     ∷ codes "0 z\n4 1\n" ∷ []
 unfolding script_lines words_from command_of_line lookup name_in edit_fault effect line_reply machine_after_line
-    line_replies signal_lines value_from digits
+    line_replies value_from digits
 shown = refl

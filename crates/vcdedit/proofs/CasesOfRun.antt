@@ -84,13 +84,12 @@ abbrev read_whole : List ℕ → DeviceEnd
 read_whole bytes = record { before = Some bytes; after = Some []; has_failed = false }
 
 -- if memory runs out at the second line, the reply to the first was written
-stops_at_second_line : RunEnds (Err (run_errors.NoMemory 2)) 100 (read_whole one_scalar_file)
-    (read_whole (codes "rename top.a b\nundo\n"))
-    (record { before = Some []; after = Some (codes "ok\n"); has_failed = false }) None
-unfolding undone
+stops_at_second_line : RunEnds 100 (read_whole one_scalar_file) (read_whole (codes "rename top.a b\nundo\n"))
+    (record { before = Some []; after = Some (codes "ok\n"); has_failed = false }) None (Err (run_errors.NoMemory 2))
+unfolding undone RunEnds
 stops_at_second_line = (
-  ((refl, refl), (search arith, one_scalar_contents, 0, one_scalar_means)),
-  ((refl, refl), search arith),
+  ((refl, refl, search arith), (one_scalar_contents, 0, one_scalar_means)),
+  (refl, refl, search arith),
   tt,
   (
     undone,
@@ -100,13 +99,12 @@ stops_at_second_line = (
 )
 
 -- if five bytes are taken, they are that reply and two letters of the second
-stops_in_second_reply : RunEnds (Err (run_errors.ReplyFault 5)) 100 (read_whole one_scalar_file)
-    (read_whole (codes "rename top.a b\nundo\n"))
-    (record { before = Some []; after = Some (codes "ok\nok"); has_failed = true }) None
-unfolding undone
+stops_in_second_reply : RunEnds 100 (read_whole one_scalar_file) (read_whole (codes "rename top.a b\nundo\n"))
+    (record { before = Some []; after = Some (codes "ok\nok"); has_failed = true }) None (Err (run_errors.ReplyFault 5))
+unfolding undone RunEnds
 stops_in_second_reply = (
-  ((refl, refl), (search arith, one_scalar_contents, 0, one_scalar_means)),
-  ((refl, refl), search arith),
+  ((refl, refl, search arith), (one_scalar_contents, 0, one_scalar_means)),
+  (refl, refl, search arith),
   refl,
   tt,
   (

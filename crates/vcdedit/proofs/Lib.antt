@@ -18,6 +18,7 @@ pub mod RunParts
 pub mod ProgramRuns
 pub mod SoundCaptures
 pub mod RunReplays
+pub mod UndoneEdits
 pub mod RunHistories
 pub mod HexDigits
 pub mod AskedDepths

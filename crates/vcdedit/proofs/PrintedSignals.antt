@@ -8,8 +8,9 @@ use Rattle.vcd_core.specs.declared.capture.Signal.{Signal}
 use Rattle.vcd_core.specs.Contents.{signal_contents}
 use Rattle.vcd_core.specs.Names.{name_in, scope_text}
 use Rattle.vcd_core.proofs.FullNames.{name_in-none, name_in-scope}
-use Rattle.vcdedit.specs.Queries.{signal_line, signal_lines}
-use Rattle.vcdedit.specs.Reply.{with_line_feed}
+use Rattle.vcdedit.specs.Queries.{signal_line}
+use Rattle.vcdedit.specs.inside.Listing.{signal_lines}
+use Rattle.vcdedit.specs.inside.Replies.{with_line_feed}
 
 -- ---- full names
 
@@ -45,7 +46,6 @@ text_of_signals k signals = flat_map with_line_feed (signal_lines k (map signal_
 pub signal_printed : (k : ℕ) (signals : List Signal) (s : Signal) (out new whole : List ℕ) → k < length signals
     → s ≡ get_or signals k s → new ≡ out ++ with_line_feed (signal_line k (signal_contents s)) →
     out ++ text_of_signals k (drop k signals) ≡ whole → new ++ text_of_signals (k + 1) (drop (k + 1) signals) ≡ whole
-unfolding signal_lines
 signal_printed k signals s out new whole within is grown all =
     let rest = text_of_signals (k + 1) (drop (k + 1) signals) in
     ap (λ (l : List ℕ). l ++ rest) grown
@@ -57,6 +57,5 @@ signal_printed k signals s out new whole within is grown all =
 -- no signal is left
 pub signals_printed : (k : ℕ) (signals : List Signal) (out whole : List ℕ) → length signals ≤ k
     → out ++ text_of_signals k (drop k signals) ≡ whole → out ≡ whole
-unfolding signal_lines
 signals_printed k signals out whole past all = sym (append-nil out)
     ∙ ap (λ (l : List Signal). out ++ text_of_signals k l) (sym (drop_all k signals past)) ∙ all

@@ -17,7 +17,6 @@ use Rattle.vcd_text.proofs.TextReadBack.{read_back}
 use Rattle.vcd_text.proofs.SoundMeaning.{meaning_is_sound}
 use Rattle.vcd_edit.specs.declared.edit.Edit.{Edit}
 use Rattle.vcd_edit.specs.declared.fault.EditError.{EditError}
-use Rattle.vcd_edit.specs.EditErrorNames.{edit_error_name}
 use Rattle.vcd_edit.specs.Allowed.{edit_fault}
 use Rattle.vcd_edit.specs.Refused.{unless_refused}
 use Rattle.vcd_edit.proofs.RefusedEdits.{unless_fault, edit_refused_is}
@@ -34,20 +33,20 @@ use Rattle.vcd_journal.proofs.Replay.{depth_choice, depth_follows}
 use Rattle.vcdedit.specs.declared.script.command.Command.{Command}
 use Rattle.vcdedit.specs.declared.script.command.Command.TheVariants as commands
 use Rattle.vcdedit.specs.declared.script.line_error.LineError.{LineError}
-use Rattle.vcdedit.specs.LineErrorNames.{line_error_name}
-use Rattle.vcdedit.specs.Script.{script_lines, line_words}
-use Rattle.vcdedit.specs.ParsedLines.{command_of_line}
+use Rattle.vcdedit.specs.Script.{script_lines}
+use Rattle.vcdedit.specs.ParsedLines.{line_words, command_of_line}
 use Rattle.vcdedit.specs.LineReads.{Read, ◌▷◌}
 use Rattle.vcdedit.specs.CommandTable.{Request, asked_by_words}
 use Rattle.vcdedit.proofs.TableCommands.{requested, asked_is}
+use Rattle.vcdedit.proofs.UndoneEdits.{undo_gives_back_earlier}
 use Rattle.vcdedit.specs.Reply.{reply_text}
 use Rattle.vcdedit.specs.Run.{RunOutcome, answer, history_after_asked, line_answer, history_after_line, history_at}
-use Rattle.vcdedit.specs.Run.{answers, capture_at, IsRunOfLines, IsRun}
+use Rattle.vcdedit.specs.Run.{answers, capture_at, IsRunOfLines}
 use Rattle.vcdedit.specs.inside.LineAnswers.{line_answers}
-use Rattle.vcdedit.specs.MachineReplies.{LineReply, ok_reply, edit_reply, history_reply, depth_reply, step_reply}
-use Rattle.vcdedit.specs.MachineReplies.{command_reply, line_reply, is_line_refused}
+use Rattle.vcdedit.specs.MachineReplies.{LineReply, ok_reply, edit_reply, history_reply, step_reply}
+use Rattle.vcdedit.specs.MachineReplies.{command_reply, line_reply}
 use Rattle.vcdedit.specs.RunMachines.{machine_after_command, machine_after_line, machine_after_lines, refusal_count}
-use Rattle.vcdedit.specs.RunOutcomes.{line_replies, run_outcome, RunWrites}
+use Rattle.vcdedit.specs.RunOutcomes.{line_replies, run_outcome}
 use Rattle.vcdedit.specs.Laws.{EveryRunIs, RunsAreOfReplays}
 use Rattle.vcdedit.proofs.RunReplays.{refused_line_changes_nothing, run_is_of_replays}
 use Rattle.vcdedit.proofs.SoundCaptures.{lines_sound}
@@ -352,13 +351,17 @@ lines_are_run c depth skipped lines sound =
     (capture_at c skipped depth lines (length lines)) 0 =
     subst (λ (d : Contents). FileMeans (text d) (capture_at c skipped depth lines (length lines)) 0) (sym last)
     (read_back (capture_at c skipped depth lines (length lines)) sound_last) in
+    let few : (count : ℕ) → (history_at c skipped depth lines count).undoable
+    ≤ length (history_at c skipped depth lines count).edits =
+    λ count.
+    let held = (here count).undoable in
+    let past = past_count c (history_at c skipped depth lines count).edits
+    (machine_after_lines (first_machine c depth) (take count lines)).past (here count).follows.past in
+    omega (arith, held, past) in
     record {
       sound = λ count. subst IsSound (here count).follows.now (lines_sound c depth (take count lines) sound);
-      undoable = λ count.
-          let held = (here count).undoable in
-          let few = past_count c (history_at c skipped depth lines count).edits
-          (machine_after_lines (first_machine c depth) (take count lines)).past (here count).follows.past in
-          omega (arith, held, few);
+      undoable = few;
+      undone = undo_gives_back_earlier c skipped depth lines few;
       replies = replies_are c (first_history depth) (first_machine c depth) skipped 1 lines first
           ∙ ap (numbered 1) (answers_are c skipped depth lines);
       refused = refusals_are c (first_history depth) (first_machine c depth) skipped lines first
@@ -378,6 +381,8 @@ run_is file script depth written writes = record {
   contents = writes.contents;
   skipped = writes.skipped;
   means = writes.means;
+  only = λ d count means.
+      one_meaning file d writes.contents count writes.skipped means writes.means;
   run = subst (IsRunOfLines writes.contents writes.skipped depth (script_lines script)) (sym writes.run)
       (lines_are_run writes.contents depth writes.skipped (script_lines script)
       (file_sound file writes.contents writes.skipped writes.means));

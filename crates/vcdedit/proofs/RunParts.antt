@@ -1,15 +1,16 @@
 -- The parts of a run, put together.
 use Rattle.std.proofs.Common.{◌≡◌, ◌⊎◌, inl, inr, Result, Ok, Err, ℕ, zero, suc, ◌-◌, List, Option, Some, None, refl}
-use Rattle.std.proofs.Common.{◌≤◌, sym, subst, ap, true, false, arith, length, take}
+use Rattle.std.proofs.Common.{◌≤◌, sym, subst, ap, ◌∙◌, true, false, arith, length, take}
 use Rattle.std.specs.Prelude.{IfSome, IfErr, IsErrAnd}
 use Rattle.std.specs.List.{concat}
-use Rattle.std.specs.Io.KnownBytes.{Appends, IsAtEnd}
+use Rattle.std.specs.Io.KnownBytes.{Appends, Keeps, IsAtEnd}
 use Rattle.vcd_core.specs.Contents.{Contents}
 use Rattle.vcd_text.specs.Meaning.{FileMeans}
 use Rattle.vcd_text.specs.Refusals.{IsRefusal}
 use Rattle.vcd_text.specs.Text.{text}
 use Rattle.vcd_text.specs.WriteEnds.{TookBefore}
 use Rattle.vcd_text.specs.declared.reading.TheConstants.{FILE_LIMIT}
+use Rattle.vcdedit.specs.declared.running.script_input.TheConstants.{SCRIPT_LIMIT}
 use Rattle.vcd_text.specs.declared.fault.Fault.TheVariants as faults
 use Rattle.vcd_text.specs.declared.fault.ReadError.{ReadError}
 use Rattle.vcd_text.specs.declared.fault.WriteError.{WriteError}
@@ -21,10 +22,11 @@ use Rattle.vcdedit.specs.declared.running.run_error.Summary.{Summary}
 use Rattle.vcdedit.specs.Script.{script_lines}
 use Rattle.vcdedit.specs.Run.{RunOutcome, IsRun}
 use Rattle.vcdedit.specs.RunOutcomes.{run_outcome}
-use Rattle.vcdedit.specs.RunEnds.{DeviceEnd, IsAccepted, IsWholeScript, IsUntouched, HasText, RunEnds}
+use Rattle.vcdedit.specs.RunEnds.{DeviceEnd, IsRead, IsAccepted, IsUntouched, HasText, RunEnds}
 use Rattle.vcdedit.specs.inside.RunLines.{IfReplyFault, RunsLines, StopsInLines}
-use Rattle.vcdedit.specs.inside.RunStages.{EndsBeforeOutput, EndsBeforeReplies}
+use Rattle.vcdedit.specs.inside.RunStages.{EndsBeforeOutput, EndsBeforeReplies, EndsAfterCapture}
 use Rattle.vcdedit.specs.inside.ScriptRuns.{ScriptGives}
+use Rattle.vcdedit.specs.inside.SentReplies.{HasSentReplies}
 use Rattle.vcdedit.proofs.RunHistories.{run_is}
 
 -- ---- the capture
@@ -35,18 +37,23 @@ pub file_means : (coming : Option (List ℕ)) (c : Contents) (skipped : ℕ)
 file_means None c skipped read = tt
 file_means (Some f) c skipped read = read.1
 
-file_has_meaning : (coming : Option (List ℕ)) (c : Contents) (skipped : ℕ) →
-    IfSome coming (λ f. (length f ≤ FILE_LIMIT) × FileMeans f c skipped) →
-    IfSome coming (λ f. (length f ≤ FILE_LIMIT) × (d : Contents) × (count : ℕ) × FileMeans f d count)
+file_is_short : (coming : Option (List ℕ)) (c : Contents) (skipped : ℕ)
+    → IfSome coming (λ f. (length f ≤ FILE_LIMIT) × FileMeans f c skipped) → IfSome coming (λ f. length f ≤ FILE_LIMIT)
+file_is_short None c skipped read = tt
+file_is_short (Some f) c skipped read = read.0
+
+file_has_meaning : (coming : Option (List ℕ)) (c : Contents) (skipped : ℕ)
+    → IfSome coming (λ f. (length f ≤ FILE_LIMIT) × FileMeans f c skipped) →
+    IfSome coming (λ f. (d : Contents) × (count : ℕ) × FileMeans f d count)
 file_has_meaning None c skipped read = tt
-file_has_meaning (Some f) c skipped read = (read.0, c, skipped, read.1)
+file_has_meaning (Some f) c skipped read = (c, skipped, read.1)
 
 -- a capture that was read to its end, within the limit, and means something
 pub is_accepted : (capture : DeviceEnd) (c : Contents) (skipped : ℕ) → capture.has_failed ≡ false
     → IsAtEnd capture.after → IfSome capture.before (λ f. (length f ≤ FILE_LIMIT) × FileMeans f c skipped)
     → IsAccepted capture
 is_accepted capture c skipped ready ended read =
-    ((ready, ended), file_has_meaning capture.before c skipped read)
+    ((ready, ended, file_is_short capture.before c skipped read), file_has_meaning capture.before c skipped read)
 
 -- ---- the result of the script
 
@@ -121,17 +128,31 @@ pub capture_ends : (capture script : DeviceEnd) (e : ReadError)
     → IfSome capture.before (λ file. IsRefusal file capture.has_failed capture.after e) →
     (e.fault ≡ faults.ReadFault → capture.has_failed ≡ true) → IsUntouched script
     → EndsBeforeReplies capture script (run_errors.Capture e)
+unfolding RunEnds
 capture_ends capture script e refused failed unread depth replies untouched output kept =
-    (refused, failed, unread, untouched, kept)
+    (refused, failed, unread, (untouched, kept))
+
+-- at the script
+pub script_ends : (capture script replies : DeviceEnd) (depth : ℕ) (e : RunError) → EndsAfterCapture script e
+    → IsAccepted capture → IsUntouched replies → EndsBeforeOutput depth capture script replies e
+script_ends capture script replies depth e ends accepted untouched = ends capture accepted depth replies untouched
+
+-- at the first session
+pub session_ends : (capture script replies : DeviceEnd) (depth : ℕ) (e : RunError) → e ≡ run_errors.NoMemory 0
+    → IsAccepted capture → IsUntouched replies → EndsBeforeOutput depth capture script replies e
+unfolding RunEnds
+session_ends capture script replies depth e none accepted untouched output kept =
+    rw none (accepted, (untouched, kept))
 
 -- in the lines
 pub lines_end : (capture script replies : DeviceEnd) (bytes : List ℕ) (depth skipped : ℕ) (c : Contents)
     (e : RunError) →
-    IsAccepted capture → IsWholeScript script → IfSome capture.before (λ f. FileMeans f c skipped)
+    IsAccepted capture → IsRead SCRIPT_LIMIT script → IfSome capture.before (λ f. FileMeans f c skipped)
     → IfSome script.before (λ s. bytes ≡ s) →
     IfReplyFault e (λ _. replies.has_failed ≡ true)
     → StopsInLines skipped (script_lines bytes) (first_machine c depth) replies.before replies.after e →
     EndsBeforeOutput depth capture script replies e
+unfolding RunEnds
 lines_end capture script replies bytes depth skipped c (run_errors.NoMemory zero) accepted whole means is failed stops
     output kept = absurd (omega (arith, stops.0))
 lines_end capture script replies bytes depth skipped c (run_errors.NoMemory (suc before)) accepted whole means is failed
@@ -161,12 +182,13 @@ lines_end capture script replies bytes depth skipped c (run_errors.Write fault) 
 -- the run is completed, with an output or without
 pub run_reaches_end : (capture script replies : DeviceEnd) (output : Option DeviceEnd) (depth : ℕ)
     (summary : Summary) (now : Contents) →
-    IsAccepted capture → IsWholeScript script → replies.has_failed ≡ false →
+    IsAccepted capture → IsRead SCRIPT_LIMIT script → replies.has_failed ≡ false →
     IfSome capture.before
     (λ f. IfSome script.before
     (λ s. ScriptGives f s depth summary.refused (Appends replies.before replies.after) now)) →
     IfSome output (λ out. (out.has_failed ≡ false) × HasText out (text now))
-    → RunEnds (Ok summary) depth capture script replies output
+    → RunEnds depth capture script replies output (Ok summary)
+unfolding RunEnds
 run_reaches_end capture script replies None depth summary now accepted whole ready ran wrote = (
   accepted,
   whole,
@@ -186,22 +208,23 @@ run_reaches_end capture script replies (Some out) depth summary now accepted who
 
 pub run_reaches_end_with : (capture script replies out : DeviceEnd) (depth : ℕ) (summary : Summary)
     (now : Contents) →
-    IsAccepted capture → IsWholeScript script → replies.has_failed ≡ false →
+    IsAccepted capture → IsRead SCRIPT_LIMIT script → replies.has_failed ≡ false →
     IfSome capture.before
     (λ f. IfSome script.before
     (λ s. ScriptGives f s depth summary.refused (Appends replies.before replies.after) now)) →
-    out.has_failed ≡ false → HasText out (text now) → RunEnds (Ok summary) depth capture script replies (Some out)
+    out.has_failed ≡ false → HasText out (text now) → RunEnds depth capture script replies (Some out) (Ok summary)
 run_reaches_end_with capture script replies out depth summary now accepted whole ready ran out_ready wrote =
     run_reaches_end capture script replies (Some out) depth summary now accepted whole ready ran (out_ready, wrote)
 
 -- or stops at its output
 pub run_stops_at_output : (capture script replies out : DeviceEnd) (depth count : ℕ) (now : Contents)
     (fault : WriteError) →
-    IsAccepted capture → IsWholeScript script → replies.has_failed ≡ false →
+    IsAccepted capture → IsRead SCRIPT_LIMIT script → replies.has_failed ≡ false →
     IfSome capture.before
     (λ f. IfSome script.before (λ s. ScriptGives f s depth count (Appends replies.before replies.after) now)) →
     TookBefore (text now) out.before out.after out.has_failed fault
-    → RunEnds (Err (run_errors.Write fault)) depth capture script replies (Some out)
+    → RunEnds depth capture script replies (Some out) (Err (run_errors.Write fault))
+unfolding RunEnds
 run_stops_at_output capture script replies out depth count now write_errors.NoMemory accepted whole ready ran took = (
   accepted,
   whole,
@@ -221,6 +244,45 @@ run_stops_at_output capture script replies out depth count now (write_errors.Wri
       ),
     )
 
+-- ---- what is sent
+
+-- bytes that a writer has taken, and another keeps
+appends_kept : (before after later : Option (List ℕ)) (text : List ℕ) → Appends before after text → Keeps after later
+    → Appends before later text
+appends_kept None after later text took kept = tt
+appends_kept (Some xs) None later text took kept = absurd took
+appends_kept (Some xs) (Some ys) None text took kept = absurd kept
+appends_kept (Some xs) (Some ys) (Some zs) text took kept = kept ∙ took
+
+-- what holds of the replies of a run holds of what follows from it
+of_replies : (file script : Option (List ℕ)) (depth : ℕ) (said also : RunOutcome → Type 0)
+    → ((written : RunOutcome) → said written → also written) →
+    IfSome file (λ f. IfSome script (λ s. (written : RunOutcome) × IsRun f s depth written × said written))
+    → IfSome file (λ f. IfSome script (λ s. (written : RunOutcome) × IsRun f s depth written × also written))
+of_replies None script depth said also follows ran = tt
+of_replies (Some f) None depth said also follows ran = tt
+of_replies (Some f) (Some s) depth said also follows ran = (ran.0, ran.1, follows ran.0 ran.2)
+
+-- the writer after a buffer has what the buffer took
+pub replies_sent : (r : Result Summary RunError) (depth : ℕ) (capture script replies : DeviceEnd)
+    (output : Option DeviceEnd) (later : Option (List ℕ)) →
+    RunEnds depth capture script replies output r → Keeps replies.after later
+    → HasSentReplies r depth capture script replies.before later
+unfolding RunEnds
+replies_sent (Ok summary) depth capture script replies output later ends kept =
+    of_replies capture.before script.before depth _ _
+    (λ written told. appends_kept replies.before replies.after later (concat written.replies) told.0 kept) ends.4
+replies_sent (Err (run_errors.NoMemory zero)) depth capture script replies output later ends kept = tt
+replies_sent (Err (run_errors.NoMemory (suc count))) depth capture script replies output later ends kept =
+    of_replies capture.before script.before depth _ _
+    (λ written told. appends_kept replies.before replies.after later (concat (take count written.replies)) told.1 kept)
+    ends.3
+replies_sent (Err (run_errors.Capture e)) depth capture script replies output later ends kept = tt
+replies_sent (Err run_errors.ScriptTooLarge) depth capture script replies output later ends kept = tt
+replies_sent (Err run_errors.ScriptReadFault) depth capture script replies output later ends kept = tt
+replies_sent (Err (run_errors.ReplyFault count)) depth capture script replies output later ends kept = tt
+replies_sent (Err (run_errors.Write fault)) depth capture script replies output later ends kept = tt
+
 -- ---- errors passed on
 
 -- there is a writer, or none
@@ -237,7 +299,15 @@ at_error (Err e) error P gives holds = rw gives holds
 -- a run that an error ended
 pub ends_with : (r : Result Summary RunError) (error : RunError) (depth : ℕ) (capture script : DeviceEnd)
     (replies : DeviceEnd) (output : Option DeviceEnd) →
-    IsErrAnd r (λ e. e ≡ error) → RunEnds (Err error) depth capture script replies output
-    → RunEnds r depth capture script replies output
+    IsErrAnd r (λ e. e ≡ error) → RunEnds depth capture script replies output (Err error)
+    → RunEnds depth capture script replies output r
 ends_with (Ok summary) error depth capture script replies output gives ends = absurd gives
 ends_with (Err e) error depth capture script replies output gives ends = rw gives ends
+
+-- a run that an error ended before its output, with a writer for it that stays as it was
+pub ends_with_writer : (r : Result Summary RunError) (error : RunError) (depth : ℕ)
+    (capture script replies out : DeviceEnd) →
+    IsErrAnd r (λ e. e ≡ error) → EndsBeforeOutput depth capture script replies error → IsUntouched out
+    → RunEnds depth capture script replies (Some out) r
+ends_with_writer r error depth capture script replies out gives ends kept =
+    ends_with r error depth capture script replies (Some out) gives (ends (Some out) kept)

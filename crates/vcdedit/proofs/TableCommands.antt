@@ -1,9 +1,10 @@
 -- What the table of commands says of a line is what the parsers read of it.
 use Rattle.std.proofs.Common.{◌≡◌, ℕ, Bool, true, false, cond, List, [], ◌∷◌, Option, Some, None, Result, Ok, Err, refl}
 use Rattle.std.proofs.Common.{sym, ◌∙◌, ap, map}
-use Rattle.std.specs.Prelude.{codes, find, option_map, position, take, drop, ◌+◌, ◌==◌, ◌&&◌, nat_lt, nat_le, neg_ℤ}
-use Rattle.std.specs.Prelude.{pos, not, ◌^◌, ◌*◌}
+use Rattle.std.specs.Prelude.{codes, find, option_map, take, drop, ◌+◌, ◌==◌, ◌&&◌, nat_lt, nat_le, neg_ℤ}
+use Rattle.std.specs.Prelude.{pos, not, ◌^◌, ◌||◌, ℤ, filter_map}
 use Rattle.std.specs.Option.{ok_or}
+use Rattle.std.specs.List.{list_any}
 use Rattle.std.specs.Str.{bytes_eq}
 use Rattle.vcd_core.specs.Contents.{Contents, signal_at}
 use Rattle.vcd_core.specs.Decimal.{is_number, number_of}
@@ -12,14 +13,12 @@ use Rattle.vcd_text.specs.Letters.{value_of_digits}
 use Rattle.vcd_decode.specs.declared.setup_error.SetupError.{SetupError}
 use Rattle.vcd_decode.specs.declared.setup_error.SetupError.TheVariants.{BadRatio, BitTooShort, BadData, BadStop}
 use Rattle.vcd_decode.specs.declared.setup_error.SetupError.TheVariants.{BadMode, BadBits}
-use Rattle.vcd_decode.specs.declared.uart_setup.TheConstants.{RATIO_LIMIT}
-use Rattle.vcd_decode.specs.declared.spi_setup.TheConstants.{GREATEST_MODE, WORD_BITS_LIMIT}
 use Rattle.vcd_decode.specs.SetupErrorNames.{setup_error_name}
-use Rattle.vcd_decode.specs.UartSetup.{UartSetup, uart_setup, is_between}
+use Rattle.vcd_decode.specs.UartSetup.{UartSetup, uart_setup}
 use Rattle.vcd_decode.specs.SpiSetup.{SpiSetup, spi_setup}
 use Rattle.vcd_decode.specs.SetupFaults.{uart_fault, spi_fault}
-use Rattle.vcd_edit.specs.Refused.{Tests, unless_refused}
-use Rattle.vcd_edit.specs.declared.edit.Edit.TheVariants.{Rename, Remove, Invert, Shift, Cut, Deglitch, Force, Derive}
+use Rattle.vcd_edit.specs.Refused.{Tests, unless_refused, is_vector}
+use Rattle.vcd_edit.specs.declared.edit.Edit.TheVariants.{Derive}
 use Rattle.vcd_edit.specs.declared.edit.Rule.{Rule}
 use Rattle.vcd_edit.specs.declared.edit.Rule.TheVariants.{Not, And, Or, Xor, BitOf}
 use Rattle.vcd_journal.specs.declared.step.Step.TheVariants as steps
@@ -37,18 +36,17 @@ use Rattle.vcdedit.specs.ScriptWords.{value_of_word}
 use Rattle.vcdedit.specs.DecoderWords.{ratio_at, ratio_of_word, slash_place, parity_of_word, order_of_word}
 use Rattle.vcdedit.specs.DecoderWords.{signal_or_absent, one_bit_signal, one_bit_signal_or_absent, faultless_setup}
 use Rattle.vcdedit.specs.DecoderWords.{faultless_uart, faultless_spi}
-use Rattle.vcdedit.specs.ScriptCommands.{is_comment, edit_command, keyword_words, keyword_of, command_of_words}
-use Rattle.vcdedit.specs.Script.{line_words}
-use Rattle.vcdedit.specs.ParsedLines.{command_of_line}
+use Rattle.vcdedit.specs.ScriptCommands.{is_comment, keyword_words}
+use Rattle.vcdedit.specs.ParsedLines.{line_words, command_of_line}
 use Rattle.vcdedit.specs.Queries.{listing}
 use Rattle.vcdedit.specs.WaveReplies.{value_line, change_lines}
 use Rattle.vcdedit.specs.DecoderReply.{uart_lines, spi_lines, i2c_lines}
-use Rattle.vcdedit.specs.LineReads.{Read, ◌▷◌, read_listed, read_signal, read_fitting, read_number, read_forth}
+use Rattle.vcdedit.specs.LineReads.{Read, ◌▷◌, read_listed, read_signal, read_fitting, read_number}
 use Rattle.vcdedit.specs.LineReads.{read_distance, read_value, read_ratio_at, read_ratio, read_parity, read_order}
-use Rattle.vcdedit.specs.LineReads.{read_line, scalar, scalar_line, uart_tests, spi_tests}
+use Rattle.vcdedit.specs.LineReads.{read_line, scalar_test, uart_tests, spi_tests}
 use Rattle.vcdedit.specs.CommandTable.{Request, step, reply, OfWords, of_words, ask_pair, rule_rows, ask_derive}
 use Rattle.vcdedit.specs.CommandTable.{command_rows, asked_by_words}
-use Rattle.vcdedit.specs.inside.ParsedCommands.{not_command, pair_command, bit_command, rule_command, derive_by}
+use Rattle.vcdedit.specs.inside.ParsedCommands.{not_command, pair_command, bit_command, rule_command}
 use Rattle.vcdedit.specs.inside.ParsedCommands.{keyword_command, words_command, keyword_in_tables, derive_command}
 use Rattle.vcdedit.specs.inside.WordCounts.{no_word, one_word, two_words, four_words, five_words, seven_words}
 use Rattle.vcdedit.proofs.KeywordCommands.{words_are, keyword_is}
@@ -83,6 +81,9 @@ number_is : (word : List ℕ) → named (number_of_word word) ≡ read_number wo
 number_is word = by_test (is_number word && nat_lt (number_of word) (2 ^ 64)) (Ok (number_of word))
     (Err line_errors.BadNumber) (Ok (number_of word)) (Err (codes "BadNumber")) refl refl
 
+abbrev read_forth : List ℕ → Read ℤ
+read_forth = read_fitting (λ n. nat_lt n (2 ^ 63)) pos
+
 forth_is : (word : List ℕ) → named (distance_forth word) ≡ read_forth word
 forth_is word = by_test (is_number word && nat_lt (number_of word) (2 ^ 63)) (Ok (pos (number_of word)))
     (Err line_errors.BadNumber) (Ok (pos (number_of word))) (Err (codes "BadNumber")) refl refl
@@ -92,14 +93,18 @@ back_is : (word : List ℕ) → named (distance_back word)
 back_is word = by_test (is_number word && nat_le (number_of word) (2 ^ 63)) (Ok (neg_ℤ (pos (number_of word))))
     (Err line_errors.BadNumber) (Ok (neg_ℤ (pos (number_of word)))) (Err (codes "BadNumber")) refl refl
 
+signed_forth_is : (plus : Bool) (word digits : List ℕ)
+    → named (cond plus (distance_forth digits) (distance_forth word)) ≡ read_forth (cond plus digits word)
+signed_forth_is true word digits = forth_is digits
+signed_forth_is false word digits = forth_is word
+
 distance_is : (word : List ℕ) → named (distance_of_word word) ≡ read_distance word
 distance_is [] = refl
 distance_is (c ∷ digits) =
     by_test (c == 45) (distance_back digits) (cond (c == 43) (distance_forth digits) (distance_forth (c ∷ digits)))
     (read_fitting (λ n. nat_le n (2 ^ 63)) (λ n. neg_ℤ (pos n)) digits)
-    (cond (c == 43) (read_forth digits) (read_forth (c ∷ digits))) (back_is digits)
-    (by_test (c == 43) (distance_forth digits) (distance_forth (c ∷ digits)) (read_forth digits)
-    (read_forth (c ∷ digits)) (forth_is digits) (forth_is (c ∷ digits)))
+    (read_forth (cond (c == 43) digits (c ∷ digits))) (back_is digits)
+    (signed_forth_is (c == 43) (c ∷ digits) digits)
 
 value_is : (width : ℕ) (word : List ℕ) → named (value_of_word width word) ≡ read_value width word
 value_is width word = one_of (value_of_digits width word) line_errors.BadValueText
@@ -125,13 +130,13 @@ line_is c word =
     by_test (bytes_eq word (codes "-")) _ _ _ _ refl
     (then (signal_of_name c word) (read_signal c word) _ _ (signal_is c word) (λ k. refl))
 
-scalar_is : (c : Contents) (k : ℕ) → named (one_bit_signal c k) ≡ scalar c k
-scalar_is c k = by_test ((signal_at c k).width == 1) (Ok k) (Err line_errors.NotScalar) (Ok k) (Err (codes "NotScalar"))
-    refl refl
+and_true : (b : Bool) → b ≡ (b && true)
+and_true true = refl
+and_true false = refl
 
-scalar_line_is : (c : Contents) (line : Option ℕ) → named (one_bit_signal_or_absent c line) ≡ scalar_line c line
-scalar_line_is c None = refl
-scalar_line_is c (Some k) = then (one_bit_signal c k) (scalar c k) _ _ (scalar_is c k) (λ k. refl)
+comment_is : (first : List ℕ) → is_comment first ≡ bytes_eq (take 1 first) (codes "#")
+comment_is [] = refl
+comment_is (b ∷ bs) = and_true (b == 35)
 
 -- ---- requests
 
@@ -336,15 +341,39 @@ module _ (c : Contents) (skipped : ℕ) where
       → ((l : Option ℕ) → told (f l) ≡ g l) → told (signal_or_absent c word >>= f) ≡ (read_line c word ▷ g)
   of_line word f g same = then_asks (signal_or_absent c word) (read_line c word) f g (line_is c word) same
 
-  of_scalar : (k : ℕ) (f : ℕ → Result Command LineError) (g : ℕ → Read Request)
-      → ((n : ℕ) → told (f n) ≡ g n) → told (one_bit_signal c k >>= f) ≡ (scalar c k ▷ g)
-  of_scalar k f g same = then_asks (one_bit_signal c k) (scalar c k) f g (scalar_is c k) same
+  -- these signals have one bit, and the other tests hold of none
+  abbrev unless_vector : List ℕ → Tests → Request → Read Request
+  unless_vector ks tests request = unless_refused (scalar_test c ks ∷ tests) request
 
-  of_scalar_line : (line : Option ℕ) (f : Option ℕ → Result Command LineError) (g : Option ℕ
-      → Read Request) → ((l : Option ℕ) → told (f l) ≡ g l)
-      → told (one_bit_signal_or_absent c line >>= f) ≡ (scalar_line c line ▷ g)
-  of_scalar_line line f g same =
-      then_asks (one_bit_signal_or_absent c line) (scalar_line c line) f g (scalar_line_is c line) same
+  by_width : (one wide : Bool) (k : ℕ) (f : ℕ → Result Command LineError) (tests : Tests) (request : Request)
+      → told (f k) ≡ unless_refused ((wide, codes "NotScalar") ∷ tests) request →
+      told (cond one (Ok k) (Err line_errors.NotScalar) >>= f)
+      ≡ unless_refused ((not one || wide, codes "NotScalar") ∷ tests) request
+  by_width true wide k f tests request same = same
+  by_width false wide k f tests request same = refl
+
+  of_scalar : (k : ℕ) (ks : List ℕ) (f : ℕ → Result Command LineError) (tests : Tests) (request : Request)
+      → told (f k) ≡ unless_vector ks tests request
+      → told (one_bit_signal c k >>= f) ≡ unless_vector (k ∷ ks) tests request
+  of_scalar k ks f tests request same =
+      by_width ((signal_at c k).width == 1) (list_any (is_vector c) ks) k f tests request same
+
+  abbrev there : List (Option ℕ) → List ℕ
+  there lines = filter_map (λ line. line) lines
+
+  width_of_line : (one wide : Bool) (k : ℕ) (f : Option ℕ → Result Command LineError) (tests : Tests)
+      (request : Request) → told (f (Some k)) ≡ unless_refused ((wide, codes "NotScalar") ∷ tests) request →
+      told ((cond one (Ok k) (Err line_errors.NotScalar) >>= λ n. Ok (Some n)) >>= f)
+      ≡ unless_refused ((not one || wide, codes "NotScalar") ∷ tests) request
+  width_of_line true wide k f tests request same = same
+  width_of_line false wide k f tests request same = refl
+
+  of_scalar_line : (line : Option ℕ) (others : List (Option ℕ)) (f : Option ℕ → Result Command LineError)
+      (tests : Tests) (request : Request) → told (f line) ≡ unless_vector (there others) tests request
+      → told (one_bit_signal_or_absent c line >>= f) ≡ unless_vector (there (line ∷ others)) tests request
+  of_scalar_line None others f tests request same = same
+  of_scalar_line (Some k) others f tests request same =
+      width_of_line ((signal_at c k).width == 1) (list_any (is_vector c) (there others)) k f tests request same
 
   command_is : (keyword : Keyword) (words : List (List ℕ))
       → told (keyword_command c keyword words) ≡ row_of keyword words
@@ -372,17 +401,20 @@ module _ (c : Contents) (skipped : ℕ) where
       then_asks (ratio_of_word bit) (read_ratio bit) _ _ (ratio_at_is bit (slash_place bit)) (λ ratio.
       of_number count _ _ (λ data_bits.
       then_asks (parity_of_word parity) (read_parity parity) _ _ (parity_is parity) (λ parity_bit.
-      of_number stop _ _ (λ stop_bits. of_scalar k _ _ (λ line.
-      uart_asks line (uart_setup ratio.0 ratio.1 data_bits parity_bit stop_bits))))))))
+      of_number stop _ _ (λ stop_bits. let u = uart_setup ratio.0 ratio.1 data_bits parity_bit stop_bits in
+      of_scalar k [] _ (uart_tests u) (reply (uart_lines c k u)) (uart_asks k u)))))))
   command_is keywords.Spi words = of_seven words _ _ (λ clk mosi miso cs mode bits order. of_name clk _ _ (λ k.
       of_line mosi _ _ (λ m. of_line miso _ _ (λ n. of_line cs _ _ (λ s.
       of_number mode _ _ (λ number. of_number bits _ _ (λ word_bits.
       then_asks (order_of_word order) (read_order order) _ _ (order_is order) (λ bit_order.
-      of_scalar k _ _ (λ clock. of_scalar_line m _ _ (λ out. of_scalar_line n _ _ (λ input.
-      of_scalar_line s _ _ (λ select.
-      spi_asks clock out input select (spi_setup number word_bits bit_order)))))))))))))
+      let u = spi_setup number word_bits bit_order in
+      let tests = spi_tests u in
+      let request = reply (spi_lines c k m n s u) in
+      of_scalar k (there (m ∷ n ∷ s ∷ [])) _ tests request (of_scalar_line m (n ∷ s ∷ []) _ tests request
+      (of_scalar_line n (s ∷ []) _ tests request (of_scalar_line s [] _ tests request (spi_asks k m n s u))))))))))))
   command_is keywords.I2c words = of_two words _ _ (λ scl sda. of_name scl _ _ (λ j. of_name sda _ _ (λ k.
-      of_scalar j _ _ (λ clock. of_scalar k _ _ (λ line. refl)))))
+      let request = reply (i2c_lines c j k) in
+      of_scalar j (k ∷ []) _ [] request (of_scalar k [] _ [] request refl))))
 
   -- ---- lines
 
@@ -419,6 +451,8 @@ module _ (c : Contents) (skipped : ℕ) where
   words_table : (words : List (List ℕ)) → told (words_command c words) ≡ asked_by_words c skipped words
   words_table [] = refl
   words_table (first ∷ words) = either_asks (is_comment first) _ _ _ _ refl (first_is first words)
+      ∙ ap (λ (comment : Bool). cond comment (Ok (reply []))
+      (read_listed (codes "UnknownCommand") (command_rows c skipped) first ▷ λ ask. ask words)) (comment_is first)
 
 -- a line asks for what its parser reads
 pub asked_is : (c : Contents) (skipped : ℕ) (line : List ℕ)

@@ -1,5 +1,6 @@
 -- What the words of a line ask for, by a table of all commands, as the headline cites it: the project's own.
-use Rattle.std.specs.Prelude.{ℕ, zero, suc, Bool, false, ◌==◌, if◌then◌else◌, List, [], ◌∷◌, Ok, Err, map, codes}
+use Rattle.std.specs.Prelude.{ℕ, zero, suc, if◌then◌else◌, List, [], ◌∷◌, Ok, Err, map, take, filter_map, codes}
+use Rattle.std.specs.Str.{bytes_eq}
 use Rattle.vcd_core.specs.Contents.{Contents, signal_at}
 use Rattle.vcd_decode.specs.UartSetup.{uart_setup}
 use Rattle.vcd_decode.specs.SpiSetup.{spi_setup}
@@ -16,7 +17,7 @@ use Rattle.vcdedit.specs.Queries.{listing, change_line}
 use Rattle.vcdedit.specs.DecoderReply.{uart_lines, spi_lines, i2c_lines}
 use Rattle.vcdedit.specs.Lent.{lent_bytes}
 use Rattle.vcdedit.specs.LineReads.{Read, ◌▷◌, read_listed, read_signal, read_number, read_distance, read_value}
-use Rattle.vcdedit.specs.LineReads.{read_ratio, read_parity, read_order, read_line, scalar, scalar_line, uart_tests}
+use Rattle.vcdedit.specs.LineReads.{read_ratio, read_parity, read_order, read_line, scalar_test, uart_tests}
 use Rattle.vcdedit.specs.LineReads.{spi_tests}
 
 -- what a line asks for: a step of the history, or these lines as its reply
@@ -24,12 +25,12 @@ pub data Request : Type 0 where
   step : Step → Request
   reply : List (List ℕ) → Request
 
--- what so many words ask for
+-- a function of n words, which says what they ask for
 abbrev pub OfWords : ℕ → Type 0
 OfWords zero = Read Request
 OfWords (suc n) = List ℕ → OfWords n
 
--- the request of these words, if they are as many
+-- the request of these words, refused unless they are n
 abbrev pub of_words : (n : ℕ) → OfWords n → List (List ℕ) → Read Request
 of_words zero asked [] = asked
 of_words (suc n) asked (word ∷ words) = of_words n (asked word) words
@@ -84,24 +85,18 @@ command_rows c skipped =
     ∷ row (codes "changes") 1 (λ name. read_signal c name ▷ λ k. Ok (reply (map change_line (signal_at c k).changes)))
     ∷ row (codes "uart") 5 (λ name bit count parity stop. read_signal c name ▷ λ k. read_ratio bit ▷ λ ratio.
     read_number count ▷ λ data_bits. read_parity parity ▷ λ parity_bit. read_number stop ▷ λ stop_bits.
-    scalar c k ▷ λ line. let setup = uart_setup ratio.0 ratio.1 data_bits parity_bit stop_bits in
-    unless_refused (uart_tests setup) (reply (uart_lines c line setup)))
+    let setup = uart_setup ratio.0 ratio.1 data_bits parity_bit stop_bits in
+    unless_refused (scalar_test c (k ∷ []) ∷ uart_tests setup) (reply (uart_lines c k setup)))
     ∷ row (codes "spi") 7 (λ clk mosi miso cs mode bits order. read_signal c clk ▷ λ k. read_line c mosi ▷ λ m.
     read_line c miso ▷ λ n. read_line c cs ▷ λ s. read_number mode ▷ λ number. read_number bits ▷ λ word_bits.
-    read_order order ▷ λ bit_order. scalar c k ▷ λ clock. scalar_line c m ▷ λ out. scalar_line c n ▷ λ input.
-    scalar_line c s ▷ λ select. let setup = spi_setup number word_bits bit_order in
-    unless_refused (spi_tests setup) (reply (spi_lines c clock out input select setup)))
+    read_order order ▷ λ bit_order. let setup = spi_setup number word_bits bit_order in unless_refused (scalar_test c
+    (k ∷ filter_map (λ line. line) (m ∷ n ∷ s ∷ [])) ∷ spi_tests setup) (reply (spi_lines c k m n s setup)))
     ∷ row (codes "i2c") 2 (λ scl sda. read_signal c scl ▷ λ j. read_signal c sda ▷ λ k.
-    scalar c j ▷ λ clock. scalar c k ▷ λ line. Ok (reply (i2c_lines c clock line))) ∷ []
-
--- whether a word begins with `#` (35)
-abbrev pub begins_comment : List ℕ → Bool
-begins_comment [] = false
-begins_comment (b ∷ bs) = b == 35
+    unless_refused (scalar_test c (j ∷ k ∷ []) ∷ []) (reply (i2c_lines c j k))) ∷ []
 
 -- what the words of a line ask for on a capture, or the name of the refusal; `skipped`: the variables that were left
 -- out
 abbrev pub asked_by_words : Contents → (skipped : ℕ) → List (List ℕ) → Read Request
 asked_by_words c skipped [] = Ok (reply [])
-asked_by_words c skipped (first ∷ words) = if begins_comment first then Ok (reply [])
+asked_by_words c skipped (first ∷ words) = if bytes_eq (take 1 first) (codes "#") then Ok (reply [])
     else (read_listed (codes "UnknownCommand") (command_rows c skipped) first ▷ λ asked. asked words)

@@ -1,15 +1,15 @@
 -- What a word of a line is read as, or the name of the refusal, as the headline cites it: the project's own.
 use Rattle.std.specs.Prelude.{ℕ, ◌+◌, ◌*◌, ◌^◌, ◌==◌, ◌&&◌, nat_lt, nat_le, not, Bool, if◌then◌else◌, ℤ, pos, neg_ℤ}
 use Rattle.std.specs.Prelude.{List, [], ◌∷◌, take, drop, Option, Some, None, Result, Ok, Err, codes}
-use Rattle.std.specs.List.{position}
+use Rattle.std.specs.List.{position, list_any}
 use Rattle.std.specs.Option.{ok_or}
 use Rattle.std.specs.Str.{bytes_eq}
 use Rattle.vcd_core.specs.declared.bit.Bit.{Bit}
-use Rattle.vcd_core.specs.Contents.{Contents, signal_at}
+use Rattle.vcd_core.specs.Contents.{Contents}
 use Rattle.vcd_core.specs.Decimal.{is_number, number_of}
 use Rattle.vcd_core.specs.Names.{lookup}
 use Rattle.vcd_text.specs.Letters.{value_of_digits}
-use Rattle.vcd_edit.specs.Refused.{Tests}
+use Rattle.vcd_edit.specs.Refused.{Tests, is_vector}
 use Rattle.vcd_decode.specs.declared.spi_setup.BitOrder.{BitOrder}
 use Rattle.vcd_decode.specs.declared.spi_setup.BitOrder.TheVariants.{Msb, Lsb}
 use Rattle.vcd_decode.specs.declared.spi_setup.TheConstants.{GREATEST_MODE, WORD_BITS_LIMIT}
@@ -47,16 +47,12 @@ read_fitting fits made word =
 abbrev pub read_number : List ℕ → Read ℕ
 read_number = read_fitting (λ n. nat_lt n (2 ^ 64)) (λ n. n)
 
--- a distance to a later tick: below 2^63
-abbrev pub read_forth : List ℕ → Read ℤ
-read_forth = read_fitting (λ n. nat_lt n (2 ^ 63)) pos
-
 -- the distance that a word writes: after `-` (45) to an earlier tick, at most 2^63; after `+` (43) or neither to a
--- later one
+-- later one, below 2^63
 abbrev pub read_distance : List ℕ → Read ℤ
 read_distance [] = Err (codes "BadNumber")
 read_distance (c ∷ digits) = if c == 45 then read_fitting (λ n. nat_le n (2 ^ 63)) (λ n. neg_ℤ (pos n)) digits
-    else (if c == 43 then read_forth digits else read_forth (c ∷ digits))
+    else read_fitting (λ n. nat_lt n (2 ^ 63)) pos (if c == 43 then digits else c ∷ digits)
 
 -- the value of this width that a word writes: 1 to so many binary digits, extended on the left
 abbrev pub read_value : ℕ → List ℕ → Read (List Bit)
@@ -67,8 +63,7 @@ read_value width word = ok_or (value_of_digits width word) (codes "BadValueText"
 -- the ratio that a word writes, given the place of its first `/`; without one the second number is 1
 abbrev pub read_ratio_at : List ℕ → Option ℕ → Read (ℕ × ℕ)
 read_ratio_at word None = read_number word ▷ λ n. Ok (n, 1)
-read_ratio_at word (Some place) =
-    read_number (take place word) ▷ λ n. read_number (drop (place + 1) word) ▷ λ d. Ok (n, d)
+read_ratio_at word (Some at) = read_number (take at word) ▷ λ n. read_number (drop (at + 1) word) ▷ λ d. Ok (n, d)
 
 -- the ratio that a word writes: `N/D` (the `/` is 47), or `N`
 abbrev pub read_ratio : List ℕ → Read (ℕ × ℕ)
@@ -87,14 +82,9 @@ read_order = read_listed (codes "BadOption") ((codes "msb", Msb) ∷ (codes "lsb
 abbrev pub read_line : Contents → List ℕ → Read (Option ℕ)
 read_line c word = if bytes_eq word (codes "-") then Ok None else (read_signal c word ▷ λ k. Ok (Some k))
 
--- a decoder's signal, which must have one bit
-abbrev pub scalar : Contents → ℕ → Read ℕ
-scalar c k = if (signal_at c k).width == 1 then Ok k else Err (codes "NotScalar")
-
--- the same for a line that may be absent
-abbrev pub scalar_line : Contents → Option ℕ → Read (Option ℕ)
-scalar_line c None = Ok None
-scalar_line c (Some k) = scalar c k ▷ λ k. Ok (Some k)
+-- the signals of a decoder have one bit
+abbrev pub scalar_test : Contents → List ℕ → Bool × List ℕ
+scalar_test c ks = (list_any (is_vector c) ks, codes "NotScalar")
 
 -- the tests of a UART setup, each with the name of its refusal
 abbrev pub uart_tests : UartSetup → Tests

@@ -44,7 +44,7 @@ IsNotBegun e = (e ≡ run_errors.Capture (record { line = 1; fault = faults.Read
 abbrev pub IsRunOn : {P : Type 0} → (path : Option P) → Result Summary RunError → (depth : ℕ)
     → (capture script : DeviceEnd) → Type 0
 IsRunOn path outcome depth capture script = (replies : DeviceEnd) × (output : Option DeviceEnd)
-    × (is_some output ≡ is_some path) × RunEnds outcome depth capture script replies output
+    × (is_some output ≡ is_some path) × RunEnds depth capture script replies output outcome
 
 -- the outcome is that of a run with these options, or the run does not begin
 abbrev pub IsOutcome : AskedOptions → Result Summary RunError → Type 0

@@ -1,5 +1,6 @@
 -- The replies to `list` and `changes`. Their form is the project's own.
-use Rattle.std.specs.Prelude.{ℕ, ◌+◌, List, [], ◌∷◌, ◌++◌, length, map, Option, Some, None, codes}
+use Rattle.std.specs.Prelude.{ℕ, List, ◌∷◌, ◌++◌, length, map, Option, Some, None, codes}
+use Rattle.std.specs.List.{enumerate_from}
 use Rattle.std.specs.Fmt.{decimal}
 use Rattle.vcd_core.specs.declared.capture.Timescale.{Timescale}
 use Rattle.vcd_core.specs.declared.wave.Change.{Change}
@@ -15,25 +16,16 @@ abbrev pub timescale_line : Option Timescale → List ℕ
 timescale_line None = codes "timescale none"
 timescale_line (Some t) = codes "timescale " ++ decimal t.count ++ codes " " ++ unit_text t.unit
 
--- a word and a number
-abbrev pub number_line : List ℕ → ℕ → List ℕ
-number_line word n = word ++ codes " " ++ decimal n
-
 -- the signal at a position: `@K WIDTH KIND FULLNAME`
 abbrev pub signal_line : ℕ → SignalContents → List ℕ
 signal_line position s =
-    number_line (codes "@" ++ decimal position) s.width ++ codes " " ++ s.kind ++ codes " " ++ full_name s
-
--- signals, the first at this position
-unfoldable pub signal_lines : ℕ → List SignalContents → List (List ℕ)
-signal_lines position [] = []
-signal_lines position (s ∷ ss) = signal_line position s ∷ signal_lines (position + 1) ss
+    codes "@" ++ decimal position ++ codes " " ++ decimal s.width ++ codes " " ++ s.kind ++ codes " " ++ full_name s
 
 -- the lines of `list`; edits do not change how many declarations of the file were skipped
 abbrev pub listing : Contents → (skipped : ℕ) → List (List ℕ)
-listing c skipped = timescale_line c.timescale ∷ number_line (codes "end") c.end
-    ∷ number_line (codes "signals") (length c.signals) ∷ number_line (codes "skipped") skipped
-    ∷ signal_lines 0 c.signals
+listing c skipped = timescale_line c.timescale ∷ (codes "end " ++ decimal c.end)
+    ∷ (codes "signals " ++ decimal (length c.signals)) ∷ (codes "skipped " ++ decimal skipped)
+    ∷ map (λ p. signal_line p.0 p.1) (enumerate_from 0 c.signals)
 
 -- ---- `changes`
 

@@ -4,11 +4,7 @@ use Rattle.std.specs.List.{flat_map}
 use Rattle.std.specs.Fmt.{decimal}
 use Rattle.vcdedit.specs.LineReads.{Read}
 
--- a line of a reply, which ends with a line feed (10)
-abbrev pub with_line_feed : List ℕ → List ℕ
-with_line_feed bytes = bytes ++ 10 ∷ []
-
--- the reply to the line of this number: these lines, or the name of the refusal
+-- the reply to the line of this number: these lines, or the name of the refusal; each line ends with a line feed (10)
 abbrev pub reply_text : ℕ → Read (List (List ℕ)) → List ℕ
-reply_text number (Ok lines) = flat_map with_line_feed lines
-reply_text number (Err name) = with_line_feed (codes "line " ++ decimal number ++ codes ": refused: " ++ name)
+reply_text number (Ok lines) = flat_map (λ line. line ++ 10 ∷ []) lines
+reply_text number (Err name) = codes "line " ++ decimal number ++ codes ": refused: " ++ name ++ 10 ∷ []

@@ -1,14 +1,19 @@
 -- What a run writes: the headline. The project's own.
-use Rattle.std.specs.Prelude.{◌≡◌, ◌≤◌, ℕ, if◌then◌else◌, List, [], ◌∷◌, length, take, map, fold, count_by, is_err}
-use Rattle.std.specs.Prelude.{Ok, codes}
+use Rattle.std.specs.Prelude.{◌≡◌, ◌≤◌, ◌<◌, ◌+◌, ℕ, false, if◌then◌else◌, List, [], ◌∷◌, length, take, get_or, map}
+use Rattle.std.specs.Prelude.{fold, count_by, is_err, Ok, codes}
 use Rattle.std.specs.List.{enumerate_from}
 use Rattle.vcd_core.specs.Contents.{Contents}
 use Rattle.vcd_core.specs.Sound.{IsSound}
+use Rattle.vcd_text.specs.Words.{words_of}
+use Rattle.vcd_text.specs.Grammar.{word_texts}
 use Rattle.vcd_text.specs.Meaning.{FileMeans}
 use Rattle.vcd_text.specs.Text.{text}
+use Rattle.vcd_edit.specs.declared.edit.Edit.{Edit}
 use Rattle.vcd_edit.specs.Refused.{unless_refused}
+use Rattle.vcd_journal.specs.declared.step.Step.{Step}
+use Rattle.vcd_journal.specs.declared.step.Step.TheVariants as steps
 use Rattle.vcd_journal.specs.History.{History, first_history, history_after, replay, step_tests}
-use Rattle.vcdedit.specs.Script.{script_lines, line_words}
+use Rattle.vcdedit.specs.Script.{script_lines}
 use Rattle.vcdedit.specs.LineReads.{Read, ◌▷◌}
 use Rattle.vcdedit.specs.CommandTable.{Request, step, reply, asked_by_words}
 use Rattle.vcdedit.specs.Reply.{reply_text}
@@ -33,9 +38,9 @@ history_after_asked h asked = h
 module _ (c : Contents) (skipped : ℕ) where
   -- what a line asks for on the replay of the edits in force
   abbrev pub asked_by : History → List ℕ → Read Request
-  asked_by h line = asked_by_words (replay c h.edits) skipped (line_words line)
+  asked_by h line = asked_by_words (replay c h.edits) skipped (word_texts (words_of line))
 
-  -- what is said to it there
+  -- the answer to it there: the reply's lines, or the word with which its words or its step are refused
   abbrev pub line_answer : History → List ℕ → Read (List (List ℕ))
   line_answer h line = asked_by h line ▷ answer (replay c h.edits) h
 
@@ -57,11 +62,19 @@ module _ (c : Contents) (skipped depth : ℕ) (lines : List (List ℕ)) where
   abbrev pub answers : List (Read (List (List ℕ)))
   answers = map (λ p. line_answer c skipped (history_at p.0) p.1) (enumerate_from 0 lines)
 
+  -- line `at`, counted from 0, asks for this step and is not refused
+  abbrev pub IsStepAt : (at : ℕ) → Step → Type 0
+  IsStepAt at s = let line = get_or lines at [] in (asked_by c skipped (history_at at) line ≡ Ok (step s))
+      × (is_err (line_answer c skipped (history_at at) line) ≡ false)
+
   -- what is written where these lines are run
   pub record IsRunOfLines (written : RunOutcome) : Type 0 where
     -- after each line the capture is one that a file can describe, and only edits in force can be undone
     pub sound : (count : ℕ) → IsSound (capture_at count)
     pub undoable : (count : ℕ) → (history_at count).undoable ≤ length (history_at count).edits
+    -- the capture after an undo at line j is that before the line i that made the undone edit, the last one in force
+    pub undone : (j : ℕ) → IsStepAt j steps.Undo → (i : ℕ) × (e : Edit) × (i < j) × IsStepAt i (steps.Edit e)
+        × ((history_at j).edits ≡ e ∷ (history_at i).edits) × (capture_at (j + 1) ≡ capture_at i)
     -- the replies, with the number of their lines, and how many are refusals
     pub replies : written.replies ≡ map (λ p. reply_text p.0 p.1) (enumerate_from 1 answers)
     pub refused : written.refused ≡ count_by is_err answers
@@ -77,4 +90,6 @@ pub record IsRun (file script : List ℕ) (depth : ℕ) (written : RunOutcome) :
   pub contents : Contents
   pub skipped : ℕ
   pub means : FileMeans file contents skipped
+  -- and nothing else
+  pub only : (d : Contents) (count : ℕ) → FileMeans file d count → (d ≡ contents) × (count ≡ skipped)
   pub run : IsRunOfLines contents skipped depth (script_lines script) written

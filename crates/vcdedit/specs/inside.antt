@@ -4,6 +4,7 @@ pub mod Replies
 pub mod ScriptParts
 pub mod Commands
 pub mod Annotations
+pub mod Listing
 pub mod Answering
 pub mod RunLines
 pub mod ScriptRuns

@@ -2,7 +2,7 @@
 use Rattle.std.specs.Prelude.{ℕ, List, map}
 use Rattle.std.specs.List.{flat_map}
 use Rattle.vcd_decode.specs.declared.annotation.Annotation.{Annotation}
-use Rattle.vcdedit.specs.Reply.{with_line_feed}
+use Rattle.vcdedit.specs.inside.Replies.{with_line_feed}
 use Rattle.vcdedit.specs.DecoderReply.{annotation_line}
 
 -- a line for each annotation

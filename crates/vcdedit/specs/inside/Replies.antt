@@ -1,8 +1,12 @@
 -- The reply to a line, as the code holds it.
-use Rattle.std.specs.Prelude.{◌≡◌, ℕ, is_err}
+use Rattle.std.specs.Prelude.{◌≡◌, ℕ, List, [], ◌∷◌, ◌++◌, is_err}
 use Rattle.vcdedit.specs.declared.replies.reply.Reply.{Reply}
 use Rattle.vcdedit.specs.Reply.{reply_text}
 use Rattle.vcdedit.specs.MachineReplies.{LineReply}
+
+-- a line of a reply, which ends with a line feed (10)
+abbrev pub with_line_feed : List ℕ → List ℕ
+with_line_feed bytes = bytes ++ 10 ∷ []
 
 -- this is the reply to the line of this number
 abbrev pub IsReplyTo : ℕ → LineReply → Reply → Type 0

@@ -6,7 +6,7 @@ use Rattle.vcdedit.specs.RunEnds.{DeviceEnd, IsAccepted, IsUntouched, RunEnds}
 -- it ends before its output
 abbrev pub EndsBeforeOutput : (depth : ℕ) → (capture script : DeviceEnd) → (replies : DeviceEnd) → RunError → Type 0
 EndsBeforeOutput depth capture script replies e =
-    (output : Option DeviceEnd) → IfSome output IsUntouched → RunEnds (Err e) depth capture script replies output
+    (output : Option DeviceEnd) → IfSome output IsUntouched → RunEnds depth capture script replies output (Err e)
 
 -- it ends before its replies
 abbrev pub EndsBeforeReplies : (capture script : DeviceEnd) → RunError → Type 0

@@ -11,7 +11,7 @@ use Rattle.vcdedit.specs.RunEnds.{DeviceEnd, OfRun}
 abbrev pub HasSentReplies : Result Summary RunError → (depth : ℕ) → (capture script : DeviceEnd)
     → (before after : Option (List ℕ)) → Type 0
 HasSentReplies (Ok summary) depth capture script before after =
-    OfRun capture script depth (λ written. Appends before after (concat written.replies))
+    OfRun depth capture script (λ written. Appends before after (concat written.replies))
 HasSentReplies (Err (run_errors.NoMemory (suc count))) depth capture script before after =
-    OfRun capture script depth (λ written. Appends before after (concat (take count written.replies)))
+    OfRun depth capture script (λ written. Appends before after (concat (take count written.replies)))
 HasSentReplies _ depth capture script before after = Unit {0}

@@ -2,8 +2,8 @@
 
 ghost use Rattle.std.specs.Prelude.{◌≡◌, ◌<◌, ◌++◌, codes, OnOk, IfOk, false};
 ghost use Rattle.std.specs.Fmt.{decimal, digit_glyph};
-ghost use Rattle.vcdedit.specs.DecoderReply.{hex_digits, hex_text, line_data_text, direction_text, kind_text, annotation_line};
-ghost use Rattle.vcdedit.specs.Reply.{with_line_feed};
+ghost use Rattle.vcdedit.specs.DecoderReply.{hex_digits, hex_text, data_text, direction_text, kind_text, annotation_line};
+ghost use Rattle.vcdedit.specs.inside.Replies.{with_line_feed};
 ghost use Rattle.vcd_decode.specs.declared.annotation.Kind.TheVariants as kinds;
 ghost use Rattle.vcdedit.specs.inside.Annotations.{annotations_text};
 
@@ -133,7 +133,7 @@ fn append_line_data(
 /// Appends a name and what its data line shows; nothing if the line is absent.
 fn append_line(text: &mut Vec<u8>, name: &[u8], digits: u64, shown: LineData) -> MemoryResult<()>
     ensures { OnOk result (text.new.items
-        ≡ text.old.items ++ line_data_text name.now digits shown) }
+        ≡ text.old.items ++ data_text digits name.now shown) }
 {
     match shown {
         LineData::Absent => Ok(()),

@@ -1,6 +1,6 @@
 //! The annotations of decoders on signals of a capture, as text.
 
-ghost use Rattle.std.specs.Prelude.{◌≡◌, IfOk, IfSome};
+ghost use Rattle.std.specs.Prelude.{◌≡◌, ◌≤◌, IfOk, IfSome};
 ghost use Rattle.std.specs.List.{flat_map};
 ghost use Rattle.std.specs.Option.{option_copied, option_map};
 ghost use Rattle.vcd_core.specs.BitEdges.{IsOneBit};
@@ -10,7 +10,7 @@ ghost use Rattle.vcd_core.specs.Wave.{AllUpTo};
 ghost use Rattle.vcd_decode.specs.WaveLines.{line_of};
 ghost use Rattle.vcdedit.specs.DecoderReply as spec;
 ghost use Rattle.vcdedit.specs.CommandSignals.{IsScalarAt};
-ghost use Rattle.vcdedit.specs.Reply.{with_line_feed};
+ghost use Rattle.vcdedit.specs.inside.Replies.{with_line_feed};
 
 use crate::replies::MemoryResult;
 use crate::replies::annotations::annotations_to_bytes;
@@ -31,14 +31,12 @@ pub fn uart_text(
         flat_map with_line_feed (spec.uart_lines (contents capture.now) signal setup.now)) }
 {
     let annotations = uart(alloc, scalar_wave(capture, signal), capture.end(), setup)?;
-    annotations_to_bytes(alloc, b"uart", uart_digits(setup), annotations.as_slice())
-}
-
-/// How many hexadecimal digits the data of a UART line have.
-fn uart_digits(setup: &Uart) -> u64
-    ensures { result ≡ spec.uart_digits setup.now }
-{
-    if setup.data_bits() > 8 { 3 } else { 2 }
+    annotations_to_bytes(
+        alloc,
+        b"uart",
+        nibbles(setup.data_bits() as u64),
+        annotations.as_slice(),
+    )
 }
 
 /// The lines for a serial peripheral interface. The cost is that of [`spi`], and of the text.
@@ -64,14 +62,7 @@ pub fn spi_text(
     let miso = wave_or_absent(capture, miso);
     let cs = wave_or_absent(capture, cs);
     let annotations = spi(alloc, clk, mosi, miso, cs, capture.end(), setup)?;
-    annotations_to_bytes(alloc, b"spi", spi_digits(setup), annotations.as_slice())
-}
-
-/// How many hexadecimal digits the words of a serial peripheral interface have.
-fn spi_digits(setup: &Spi) -> u64
-    ensures { result ≡ spec.spi_digits setup.now }
-{
-    (setup.bits() + 3) / 4
+    annotations_to_bytes(alloc, b"spi", nibbles(setup.bits()), annotations.as_slice())
 }
 
 /// The lines for an I2C bus. The cost is that of [`i2c`], and of the text.
@@ -86,6 +77,14 @@ pub fn i2c_text(alloc: Global, capture: &Capture, scl: usize, sda: usize) -> Mem
     let sda = scalar_wave(capture, sda);
     let annotations = i2c(alloc, scl, sda, capture.end())?;
     annotations_to_bytes(alloc, b"i2c", 2, annotations.as_slice())
+}
+
+/// How many hexadecimal digits so many bits have.
+fn nibbles(bits: u64) -> u64
+    requires { bits ≤ 64 }
+    ensures { result ≡ spec.nibbles bits }
+{
+    (bits + 3) / 4
 }
 
 /// The wave of a signal of one bit.

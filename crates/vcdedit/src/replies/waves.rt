@@ -5,7 +5,7 @@ ghost use Rattle.std.specs.List.{flat_map};
 ghost use Rattle.vcd_core.specs.Contents.{contents, signal_at};
 ghost use Rattle.vcdedit.specs.Queries.{change_line};
 ghost use Rattle.vcdedit.specs.WaveReplies.{value_line, change_lines as lines_of};
-ghost use Rattle.vcdedit.specs.Reply.{with_line_feed};
+ghost use Rattle.vcdedit.specs.inside.Replies.{with_line_feed};
 
 use crate::replies::MemoryResult;
 use crate::replies::appending::{append_bytes, append_decimal, append_letters};

@@ -1,7 +1,7 @@
 //! The script, which a run reads whole before it runs the first line.
 
 ghost use Rattle.std.specs.Prelude.{◌≡◌, ◌≤◌, false, length, OnOk, IfOk, IfErr, IfSome};
-ghost use Rattle.vcdedit.specs.RunEnds.{device_end, IsWholeScript};
+ghost use Rattle.vcdedit.specs.RunEnds.{device_end, IsRead};
 ghost use Rattle.vcdedit.specs.inside.RunStages.{EndsAfterCapture};
 
 use crate::running::RunError;
@@ -12,12 +12,13 @@ use vcd_core::{Incomplete, Source, read_whole};
 pub const SCRIPT_LIMIT: usize = 1_048_576;
 
 /// Reads the whole script.
+#[tactic(auto, unfolding(crate::specs::RunEnds::RunEnds))]
 pub fn read_script<S: Source>(alloc: Global, reader: &mut S) -> Result<Vec<u8>, RunError>
     requires { S.has_failed reader.old ≡ false }
     ensures all { IfOk result (λ script. IfSome (S.coming reader.old)
         (λ bytes. script.items ≡ bytes)) }
     ensures short { IfOk result (λ script. length script.items ≤ SCRIPT_LIMIT) }
-    ensures whole { OnOk result (IsWholeScript
+    ensures whole { OnOk result (IsRead SCRIPT_LIMIT
         (device_end S.coming S.has_failed reader.old reader.new)) }
     ensures ended { IfErr result (EndsAfterCapture
         (device_end S.coming S.has_failed reader.old reader.new)) }

@@ -142,6 +142,7 @@ fn run_inputs<R: Runtime + AllocGlobal, C: Source, S: Source>(
 
 /// Runs with a buffer for the replies. What it holds at the end is sent to the writer after it, also if memory ran
 /// out. Gives how the run ended, and that writer: if it failed, it is gone, and only an error after the run is kept.
+#[tactic(auto, using(crate::proofs::RunParts::replies_sent))]
 fn run_with_reply_buffer<R: Runtime + AllocGlobal, C: Source, S: Source, W: Write + Drop>(
     rt: &R,
     capture: &mut C,
@@ -157,9 +158,9 @@ fn run_with_reply_buffer<R: Runtime + AllocGlobal, C: Source, S: Source, W: Writ
     ensures ends { (replies : DeviceEnd) × (out : Option DeviceEnd) ×
         (is_some out ≡ is_some output.entry) ×
         (result.1 ≡ Err None → replies.has_failed ≡ true) ×
-        RunEnds result.0 depth
+        RunEnds depth
         (device_end C.coming C.has_failed capture.old capture.new)
-        (device_end S.coming S.has_failed script.old script.new) replies out }
+        (device_end S.coming S.has_failed script.old script.new) replies out result.0 }
     ensures sent { IfOk result.1 (λ writer. HasSentReplies result.0 depth
         (device_end C.coming C.has_failed capture.old capture.new)
         (device_end S.coming S.has_failed script.old script.new)
@@ -184,10 +185,10 @@ fn run_devices<R: Runtime + AllocGlobal, C: Source, S: Source, P: Sink>(
     requires capture_ready { C.has_failed capture.old ≡ false }
     requires script_ready { S.has_failed script.old ≡ false }
     requires replies_ready { P.has_failed replies.old ≡ false }
-    ensures { (out : Option DeviceEnd) × (is_some out ≡ is_some output.entry) × RunEnds result depth
+    ensures { (out : Option DeviceEnd) × (is_some out ≡ is_some output.entry) × RunEnds depth
         (device_end C.coming C.has_failed capture.old capture.new)
         (device_end S.coming S.has_failed script.old script.new)
-        (device_end P.taken P.has_failed replies.old replies.new) out }
+        (device_end P.taken P.has_failed replies.old replies.new) out result }
 {
     // no buffer, since `write` of `vcd_text` has its own
     let mut out = match output {

@@ -1,6 +1,6 @@
 use Rattle.std.proofs.Common.{None, inl, inr, refl}
 use Rattle.vcdedit.proofs.RunParts.{run_reaches_end, run_reaches_end_with, run_stops_at_output, given_or_none}
-use Rattle.vcdedit.proofs.RunParts.{ends_with}
+use Rattle.vcdedit.proofs.RunParts.{ends_with, ends_with_writer}
 use Rattle.vcdedit.proofs.running.run.run.Goals as goal
 
 pub returns-in_err-session : goal.returns-in_err-session
@@ -12,9 +12,8 @@ returns-in_err-session g c =
             (c.in_err-session.ensures.ended _ tt);
       })
       | inr some ↦ rw (some.1) (record {
-        headline = ends_with c.from_residual.result c.in_err-session.field-0.0 c.args.depth _ _ _ _
-            c.from_residual.ensures.1
-            (c.in_err-session.ensures.ended _ (refl, c.requires.out_ready some.0 some.1));
+        headline = ends_with_writer c.from_residual.result c.in_err-session.field-0.0 c.args.depth _ _ _ _
+            c.from_residual.ensures.1 c.in_err-session.ensures.ended (refl, c.requires.out_ready some.0 some.1);
       })
     ]
 

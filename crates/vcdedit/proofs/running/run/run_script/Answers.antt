@@ -1,8 +1,8 @@
 use Rattle.std.proofs.Common.{refl}
 use Rattle.vcd_core.specs.Contents.{contents}
 use Rattle.vcdedit.specs.declared.running.run_error.RunError.TheVariants as run_errors
-use Rattle.vcdedit.proofs.RunParts.{script_gives_where_known, capture_ends, lines_end, at_error, file_means}
-use Rattle.vcdedit.proofs.RunParts.{is_accepted}
+use Rattle.vcdedit.proofs.RunParts.{script_gives_where_known, capture_ends, script_ends, lines_end, at_error}
+use Rattle.vcdedit.proofs.RunParts.{file_means, is_accepted, session_ends}
 use Rattle.vcdedit.proofs.running.run.run_script.Goals as goal
 
 pub returns-in_err-loaded-clause-ended : goal.returns-in_err-loaded-clause-ended
@@ -12,6 +12,22 @@ returns-in_err-loaded-clause-ended g c =
       refl,
       c.requires.script_ready,
     ) c.args.depth _ (refl, c.requires.replies_ready))
+
+pub returns-in_err-script-clause-ended : goal.returns-in_err-script-clause-ended
+returns-in_err-script-clause-ended g c =
+    at_error c.from_residual-in_err-script.result c.in_err-script.field-0.0 _ c.from_residual-in_err-script.ensures.1
+    (script_ends _ _ _ c.args.depth c.in_err-script.field-0.0 c.in_err-script.ensures.ended
+    (is_accepted _ (contents c.in_ok-loaded.loaded.capture) c.in_ok-loaded.loaded.skipped
+    c.in_ok-loaded.ensures.not_failed c.in_ok-loaded.ensures.ended c.in_ok-loaded.ensures.means)
+    (refl, c.requires.replies_ready))
+
+pub returns-in_err-session-clause-ended : goal.returns-in_err-session-clause-ended
+returns-in_err-session-clause-ended g c =
+    at_error c.from_residual-in_err-session.result c.in_err-session.field-0.0 _ c.from_residual-in_err-session.ensures.1
+    (session_ends _ _ _ c.args.depth c.in_err-session.field-0.0 c.in_err-session.ensures.fault
+    (is_accepted _ (contents c.in_ok-loaded.loaded.capture) c.in_ok-loaded.loaded.skipped
+    c.in_ok-loaded.ensures.not_failed c.in_ok-loaded.ensures.ended c.in_ok-loaded.ensures.means)
+    (refl, c.requires.replies_ready))
 
 pub returns-in_err-refused-clause-ended : goal.returns-in_err-refused-clause-ended
 returns-in_err-refused-clause-ended g c =
