@@ -38,7 +38,7 @@ use Rattle.vcdedit.specs.ParsedLines.{line_words, command_of_line}
 use Rattle.vcdedit.specs.LineReads.{Read, ◌▷◌}
 use Rattle.vcdedit.specs.CommandTable.{Request, asked_by_words}
 use Rattle.vcdedit.proofs.TableCommands.{requested, asked_is}
-use Rattle.vcdedit.proofs.UndoneEdits.{undo_gives_back_earlier}
+use Rattle.vcdedit.proofs.UndoneEdits.{refused_line_keeps, undo_gives_back_earlier}
 use Rattle.vcdedit.specs.Reply.{reply_text}
 use Rattle.vcdedit.specs.Run.{RunOutcome, answer, history_after_asked, line_answer, history_after_line, history_at}
 use Rattle.vcdedit.specs.Run.{answers, capture_at, IsRunOfLines}
@@ -361,7 +361,8 @@ lines_are_run c depth skipped lines sound =
     record {
       sound = λ count. subst IsSound (here count).follows.now (lines_sound c depth (take count lines) sound);
       undoable = few;
-      undone = undo_gives_back_earlier c skipped depth lines few;
+      unchanged = refused_line_keeps c skipped depth lines;
+      undo_restores = undo_gives_back_earlier c skipped depth lines few;
       replies = replies_are c (first_history depth) (first_machine c depth) skipped 1 lines first
           ∙ ap (numbered 1) (answers_are c skipped depth lines);
       refused = refusals_are c (first_history depth) (first_machine c depth) skipped lines first

@@ -1,4 +1,4 @@
--- An accepted undo gives back the capture before the line that made the undone edit.
+-- A refused line keeps the history; an accepted undo gives back the capture before the line that made the undone edit.
 use Rattle.std.proofs.Common.{◌≡◌, ◌≤◌, ◌<◌, ◌+◌, ℕ, zero, suc, Bool, true, false, cond, List, [], ◌∷◌, ◌++◌, take}
 use Rattle.std.proofs.Common.{length, Ok, Err, is_err, refl, sym, ◌∙◌, ap, subst, arith, get_or}
 use Rattle.std.specs.Prelude.{fold, drop}
@@ -92,6 +92,15 @@ module _ (c : Contents) (skipped depth : ℕ) (lines : List (List ℕ)) where
   history_next : (count : ℕ)
       → at_line (suc count) ≡ history_after_line c skipped (at_line count) (get_or lines count [])
   history_next count = next_from (first_history depth) lines count
+
+  pub refused_line_keeps : (j : ℕ) → is_err (line_answer c skipped (at_line j) (get_or lines j [])) ≡ true
+      → at_line (j + 1) ≡ at_line j
+  refused_line_keeps j refused =
+      let h = at_line j in
+      let one_more : j + 1 ≡ suc j = omega arith in
+      ap at_line one_more ∙ history_next j
+      ∙ ap (λ (is_refused : Bool). cond is_refused h
+      (history_after_asked h (asked_by c skipped h (get_or lines j [])))) refused
 
   all_made : (count : ℕ) → AllMade count (at_line count)
   unfolding AreMade restored

@@ -1,6 +1,6 @@
 -- What a run writes: the headline. The project's own.
-use Rattle.std.specs.Prelude.{◌≡◌, ◌≤◌, ◌<◌, ◌+◌, ℕ, false, if◌then◌else◌, List, [], ◌∷◌, length, take, get_or, map}
-use Rattle.std.specs.Prelude.{fold, count_by, is_err, Ok, codes}
+use Rattle.std.specs.Prelude.{◌≡◌, ◌≤◌, ◌<◌, ◌+◌, ℕ, true, false, if◌then◌else◌, List, [], ◌∷◌, length, take, map}
+use Rattle.std.specs.Prelude.{get_or, fold, count_by, is_err, Ok, codes}
 use Rattle.std.specs.List.{enumerate_from}
 use Rattle.vcd_core.specs.Contents.{Contents}
 use Rattle.vcd_core.specs.Sound.{IsSound}
@@ -18,7 +18,7 @@ use Rattle.vcdedit.specs.LineReads.{Read, ◌▷◌}
 use Rattle.vcdedit.specs.CommandTable.{Request, step, reply, asked_by_words}
 use Rattle.vcdedit.specs.Reply.{reply_text}
 
--- what a run writes: a reply to each line, and the output; and how many lines it refuses
+-- what a whole run writes: a reply to each line, and the output; and how many lines it refuses
 pub record RunOutcome : Type 0 where
   pub replies : List (List ℕ)
   pub output : List ℕ
@@ -29,7 +29,7 @@ abbrev pub answer : Contents → History → Request → Read (List (List ℕ))
 answer c h (step s) = unless_refused (step_tests c h s) (codes "ok" ∷ [])
 answer c h (reply lines) = Ok lines
 
--- the history after it: steps alone change it
+-- the history after a request that is not refused: steps alone change it
 abbrev pub history_after_asked : History → Read Request → History
 history_after_asked h (Ok (step s)) = history_after h s
 history_after_asked h asked = h
@@ -69,11 +69,14 @@ module _ (c : Contents) (skipped depth : ℕ) (lines : List (List ℕ)) where
 
   -- what is written where these lines are run
   pub record IsRunOfLines (written : RunOutcome) : Type 0 where
-    -- after each line the capture is one that a file can describe, and only edits in force can be undone
+    -- after each line the capture is one that a file can describe, and no more edits can be undone than are in force
     pub sound : (count : ℕ) → IsSound (capture_at count)
     pub undoable : (count : ℕ) → (history_at count).undoable ≤ length (history_at count).edits
+    -- a refused line j changes nothing: neither edits in force, and so the capture, nor what can be undone or redone
+    pub unchanged : (j : ℕ) → is_err (line_answer c skipped (history_at j) (get_or lines j [])) ≡ true
+        → history_at (j + 1) ≡ history_at j
     -- the capture after an undo at line j is that before the line i that made the undone edit, the last one in force
-    pub undone : (j : ℕ) → IsStepAt j steps.Undo → (i : ℕ) × (e : Edit) × (i < j) × IsStepAt i (steps.Edit e)
+    pub undo_restores : (j : ℕ) → IsStepAt j steps.Undo → (i : ℕ) × (e : Edit) × (i < j) × IsStepAt i (steps.Edit e)
         × ((history_at j).edits ≡ e ∷ (history_at i).edits) × (capture_at (j + 1) ≡ capture_at i)
     -- the replies, with the number of their lines, and how many are refusals
     pub replies : written.replies ≡ map (λ p. reply_text p.0 p.1) (enumerate_from 1 answers)

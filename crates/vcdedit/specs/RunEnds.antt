@@ -26,11 +26,11 @@ pub record DeviceEnd : Type 0 where
   pub after : Option (List ℕ)
   pub has_failed : Bool
 
--- it is unchanged: no byte was read or taken, and it has not failed
+-- it is unchanged: the bytes that it shows are as before, and it has not failed
 abbrev pub IsUntouched : DeviceEnd → Type 0
 IsUntouched d = (d.after ≡ d.before) × (d.has_failed ≡ false)
 
--- a reader was read to its end, and had at most so many bytes
+-- a reader did not fail: it was read to its end, and had at most so many bytes
 abbrev pub IsRead : (limit : ℕ) → DeviceEnd → Type 0
 IsRead limit r = (r.has_failed ≡ false) × IsAtEnd r.after × IfSome r.before (λ bytes. length bytes ≤ limit)
 
@@ -52,8 +52,8 @@ module _ {D : Type 0} (shown : D → Option (List ℕ)) (has_failed : D → Bool
   abbrev pub device_end : (old new : D) → DeviceEnd
   device_end old new = record { before = shown old; after = shown new; has_failed = has_failed new }
 
-  -- holds of the end of the writer of the output, or of none: `out` is an `Option<&mut D>`, `left` is the same variant
-  -- with its later state, and no other pair occurs
+  -- holds of the end of the writer of the output, or of none: `out` is the `Option<&mut D>` as it was passed, `left` as
+  -- it was returned; they are the same variant
   abbrev pub OfOutput : Option (MutBor D) → Unit {0} ⊎ (MutBor D × Unit {0}) ⊎ ⊥ → (Option DeviceEnd → Type 0) → Type 0
   OfOutput None left said = said None
   OfOutput (Some out) (inr (inl left)) said = said (Some (device_end out.now left.0.now))
@@ -61,14 +61,14 @@ module _ {D : Type 0} (shown : D → Option (List ℕ)) (has_failed : D → Bool
 
 -- ---- runs
 
--- a run of this depth: the ends of its two readers ..
+-- a run of this depth, and the ends of its two readers
 module _ (depth : ℕ) (capture script : DeviceEnd) where
   -- if the readers show their bytes: holds of what the run of the script on the capture file writes
   abbrev pub OfRun : (RunOutcome → Type 0) → Type 0
   OfRun said = IfSome capture.before (λ file. IfSome script.before (λ lines.
       (written : RunOutcome) × IsRun file lines depth written × said written))
 
-  -- .. and of its two writers, the second if there is one
+  -- the same, with the ends of its two writers, the second if there is one
   module _ (replies : DeviceEnd) (output : Option DeviceEnd) where
     -- nothing is written
     abbrev pub IsUnwritten : Type 0
@@ -80,7 +80,7 @@ module _ (depth : ℕ) (capture script : DeviceEnd) where
     RunEnds (Ok summary) = IsAccepted capture × IsRead SCRIPT_LIMIT script × (replies.has_failed ≡ false)
         × IfSome output (λ out. out.has_failed ≡ false) × OfRun (λ written. HasText replies (concat written.replies)
         × IfSome output (λ out. HasText out written.output) × (summary.refused ≡ written.refused))
-    -- the capture has this fault: the script is unread
+    -- the capture is refused for a fault, its length, its reader or memory: the script is unread
     RunEnds (Err (Capture e)) = IfSome capture.before (λ file. IsRefusal file capture.has_failed capture.after e)
         × (e.fault ≡ faults.ReadFault → capture.has_failed ≡ true) × IsUntouched script × IsUnwritten
     -- the script is above its limit
