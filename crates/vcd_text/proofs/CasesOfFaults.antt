@@ -19,6 +19,7 @@ use Rattle.vcd_text.specs.FoundFaults.{declaration_due, code_due}
 use Rattle.vcd_text.specs.Faults.{no_timescale, no_kind, no_variable, no_size, code_mixed, no_declaration}
 use Rattle.vcd_text.specs.Faults.{definitions_go_on, declaration_late, value_alone, no_value, no_change, no_tick}
 use Rattle.vcd_text.specs.Faults.{tick_goes_back, value_of_none, pair_of_none, value_too_long}
+use Rattle.vcd_text.proofs.ItemsInTurn.{shown_by}
 
 -- one variable, and the end of the declarations
 abbrev one_variable : List Item
@@ -32,19 +33,8 @@ shows : (bytes : List ℕ) (line : ℕ) (fault : Fault) (items : List Item) (who
     → WordFault (state_after initial_state items) (word_texts begun) word.text fault
     → line ≡ fault_line (state_after initial_state items).changing begun word → FoundFault bytes line fault
 shows bytes line fault items whole begun word more parts spelled allowed decided at =
-    word_shows (record {
-      items = items;
-      whole = whole;
-      begun = begun;
-      word = word;
-      more = more;
-      parts = parts;
-      spelled =
-          spelled;
-      allowed = allowed;
-      decided = decided;
-      at = at;
-    })
+    word_shows (shown_by (words_of bytes) whole begun more word items (state_after initial_state items) line fault
+    (record { allowed = allowed; tells = refl }) parts spelled decided at)
 
 -- a stamp below the one before it, also where only the closed words are known
 abbrev time_back : List ℕ
@@ -91,8 +81,7 @@ nothing = too_early (record {
   begun = [];
   spelled = refl;
   allowed = tt;
-  unfinished =
-      declaration_due refl refl;
+  unfinished = declaration_due refl refl;
 }) refl refl
 
 -- a tick one past the greatest

@@ -28,16 +28,8 @@ use Rattle.vcd_text.specs.declared.reading.variables.Variable.{Variable}
 use Rattle.vcd_text.specs.declared.reading.variables.Variables.{Variables}
 use Rattle.vcd_text.proofs.LoggedValues.{gives_late, gives_as, gives_appended, gives_pushed}
 use Rattle.vcd_text.proofs.CodeTargets.{own_code, same_code, stands_kept, stands_moved}
-
-same_number : (n : ℕ) → (n == n) ≡ true
-same_number n = grind arith
-
-other_number : (m n : ℕ) → m ≢ n → (m == n) ≡ false
-other_number m n apart = grind (arith, cases_Bool, eqb-true)
-
-abbrev position_of : CodeTarget → ℕ
-position_of Skipped = 0
-position_of (Kept position) = position
+use Rattle.std.proofs.lemmas.List.{length-set}
+use Rattle.std.proofs.lemmas.Bool.{eq-eqb, ne_eqb}
 
 -- ---- a list with another item at one position
 
@@ -66,11 +58,6 @@ same_set [] i v at = refl
 same_set (u ∷ vs) zero v at = ap (λ x. x ∷ vs) (same_Some u v at)
 same_set (u ∷ vs) (suc i) v at = ap (λ xs. u ∷ xs) (same_set vs i v at)
 
-pub same_length : (vs : List Variable) (i : ℕ) (w : Variable) → length (set vs i w) ≡ length vs
-same_length [] i w = refl
-same_length (u ∷ vs) zero w = refl
-same_length (u ∷ vs) (suc i) w = ap suc (same_length vs i w)
-
 -- ---- a value change more
 
 value_with : (width : ℕ) (code : List ℕ) (t : ℕ) (before : List Bit) (rs : List ValueChange) (r : ValueChange)
@@ -94,9 +81,6 @@ module _ (old : Variables) (c : ParseState) (code digits : List ℕ) (first : �
   pub own_wave : (d : VariableDeclaration) × (variable_of c code ≡ Some d) × (is_skipped d ≡ false)
       × HasWave old.kept.items (logged old.log.items) first code d.size c.value_changes c.tick
   own_wave = grind (arith, stands_kept)
-
-  pub first_within : first < length old.kept.items
-  first_within = slice_get_within old.kept.items first own_wave.3.first own_wave.3.stands
 
   -- its width is in the list of the widths
   pub width_is : (width : ℕ) → width ≡ get_or old.widths.items first width → own_wave.3.first.signal.wave.width ≡ width
@@ -164,27 +148,15 @@ module _ (old : Variables) (list : Vec Variable) (log : Vec (Vec LoggedChange)) 
       → HasWave list.items (logged log.items) position key size (c.value_changes ++ new_value_change ∷ []) c.tick
   unfolding new_value_change
   wave_changed key position size equal owned wave =
-      let kept_at : Kept first ≡ Kept position = grind (arith, same_Some) in
-      let at : first ≡ position = ap position_of kept_at in
+      let at : first ≡ position = grind (arith, same_Some) in
       let is : v ≡ wave.first = same_Some v wave.first (sym stood ∙ ap (slice_get old.kept.items) at ∙ wave.stands) in
       let old_size : v.signal.wave.width ≡ size = ap (λ (u : Variable). u.signal.wave.width) is ∙ wave.sized in
       let before : ℕ → List Bit = λ t. latest_value size key t (all_x size) c.value_changes in
       let had_values : GivesLoggedValues v.signal.wave.width c.tick before v.signal.wave.changes
-      (logged old.log.items first) =
-      subst (λ n. GivesLoggedValues n c.tick before v.signal.wave.changes (logged old.log.items first))
-      (sym old_size)
-      (subst (λ p. GivesLoggedValues size c.tick before v.signal.wave.changes (logged old.log.items p)) (sym at)
-      (subst (λ (u : Variable). GivesLoggedValues size c.tick before u.signal.wave.changes
-      (logged old.log.items position)) (sym is) wave.gives)) in
+      (logged old.log.items first) = grind arith in
       let has_values : GivesLoggedValues size c.tick
       (λ t. if nat_le c.tick t then extension size (letters_of_digits digits) else before t) w.signal.wave.changes
-      (logged log.items position) =
-      subst (λ p. GivesLoggedValues size c.tick
-      (λ t. if nat_le c.tick t then extension size (letters_of_digits digits) else before t) w.signal.wave.changes
-      (logged log.items p)) at
-      (subst (λ n. GivesLoggedValues n c.tick
-      (λ t. if nat_le c.tick t then extension n (letters_of_digits digits) else before t) w.signal.wave.changes
-      (logged log.items first)) old_size (takes before had_values)) in
+      (logged log.items position) = grind arith in
       record {
         first = w;
         stands = grind (arith, set_here, stood);
@@ -241,7 +213,7 @@ module _ (old : Variables) (list : Vec Variable) (log : Vec (Vec LoggedChange)) 
     stand = λ key. subst (λ rs. TargetMatches list.items (logged log.items) (c.value_changes ++ rs) c.tick key
         (target_of old key) (variable_of c key)) (sym told_are) (changed_stands key);
     firsts = changed_firsts;
-    few = grind (arith, same_length);
+    few = grind (arith, length-set);
     grouped = grouped;
     logs = changed_logs;
   }
@@ -293,7 +265,7 @@ pub narrow_changes : (old : Variables) (log : Vec (Vec LoggedChange)) (c : Parse
 narrow_changes old log c code digits first width e k had row narrow at_tick at writes grouped more x =
     let v : Variable = (own_wave old c code digits first k had).3.first in
     let size : v.signal.wave.width ≡ width = width_is old c code digits first k had width row in
-    let here : (e.position == first) ≡ true = subst (λ p. (p == first) ≡ true) (sym at) (same_number first) in
+    let here : (e.position == first) ≡ true = eq-eqb e.position first at in
     changed old old.kept log c code digits first v v k had refl
     (same_set old.kept.items first v (own_wave old c code digits first k had).3.stands) refl refl
     writes.0 (omega (arith, writes.1, size)) grouped
@@ -310,5 +282,5 @@ narrow_changes old log c code digits first width e k had row narrow at_tick at w
     (λ position apart.
     more position ∙ ap (λ b. if b then logged old.log.items position
     ++ e ∷ [] else logged old.log.items position)
-    (other_number e.position position (λ equal. apart (sym at ∙ equal))))
+    (ne_eqb e.position position (λ equal. apart (sym at ∙ equal))))
     x

@@ -28,6 +28,8 @@ use Rattle.vcd_text.specs.declared.reading.reader.OpenItem.{OpenItem}
 use Rattle.vcd_text.specs.declared.reading.reader.OpenItem.TheVariants as items
 use Rattle.vcd_text.specs.declared.reading.variables.Variables.{Variables}
 use Rattle.vcd_text.proofs.VariablesMatch.{knows_further}
+use Rattle.vcd_text.proofs.Declaring.{agrees_by}
+use Rattle.std.proofs.lemmas.List.Folds.{list_any-append}
 
 -- ---- between two changes
 
@@ -99,15 +101,9 @@ takes_stamp m digits line tick between changing is number later =
     (λ c agrees.
     let after : c.tick ≤ number_of digits = omega (arith, agrees.tick) in (
       (sym agrees.changing ∙ changing, is, after),
-      record {
-        header = agrees.header;
-        timescale = agrees.timescale;
-        scopes = agrees.scopes;
-        changing = agrees.changing;
-        tick = number;
-        variables = knows_further m.variables c (record c { tick = number_of digits }) refl refl after agrees.variables;
-        silent = agrees.silent;
-      },
+      agrees_by _ _ agrees.header agrees.timescale agrees.scopes agrees.changing number
+          (knows_further m.variables c (record c { tick = number_of digits }) refl refl after agrees.variables)
+          agrees.silent,
     ))
 
 -- ---- commands
@@ -147,20 +143,13 @@ no_code m new letter code line between changing is none =
     shows m new (word_on (letter ∷ code) line) BadChange between changing
     (λ c agrees. value_alone letter refl (ap (λ cs. letter ∷ cs) (nil_from_length code none)) is refl)
 
-among_neither : (xs ys : List ℕ) (b : ℕ) → is_among xs b ≡ false → is_among ys b ≡ false → is_among (xs ++ ys) b ≡ false
-among_neither [] ys b h k = k
-among_neither (x ∷ xs) ys b h k =
-    let p = or_parts (nat_eq b x) (is_among xs b) h in
-    or_from (nat_eq b x) (is_among (xs ++ ys) b) p.0 (among_neither xs ys b p.1 k)
-
 pub begins_nothing : (m new : Reader) (first : ℕ) (text : List ℕ) (line : ℕ) → m.item ≡ items.Nothing
     → m.changing ≡ true
     → is_among (codes "#$") first ≡ false → is_binary_digit first ≡ false → is_among vector_prefixes first ≡ false
     → is_among dropped_prefixes first ≡ false
     → WordResult m (word_on (first ∷ text) line) (Err BadChange) new
 begins_nothing m new first text line between changing no_command no_letter no_vector no_dropped =
-    let other = among_neither (codes "#$") pair_prefixes first no_command
-    (among_neither vector_prefixes dropped_prefixes first no_vector no_dropped) in
+    let other : is_among (codes "#$" ++ pair_prefixes) first ≡ false = grind (arith, list_any-append, or_from) in
     shows m new (word_on (first ∷ text) line) BadChange between changing
     (λ c agrees. no_change first text refl refl no_letter other refl)
 
@@ -235,18 +224,11 @@ texts_whole : (m : Reader) (begun : List PlacedWord) (letters text code : List �
     → (b.letter ∷ text) ∷ code ∷ [] ≡ word_texts (begun ++ word_on code line ∷ [])
 texts_whole m begun letters text code line b = grind arith
 
-among_first : (xs ys : List ℕ) (b : ℕ) → is_among xs b ≡ true → is_among (xs ++ ys) b ≡ true
-among_first [] ys b h = not_both h refl
-among_first (x ∷ xs) ys b h =
-    elim (or_cases (nat_eq b x) (is_among xs b) h) [
-      | inl e ↦ or_left _ _ e
-      | inr e ↦
-          or_right _ _ (among_first xs ys b e)
-    ]
+pub among_first : (xs ys : List ℕ) (b : ℕ) → is_among xs b ≡ true → is_among (xs ++ ys) b ≡ true
+among_first xs ys b h = list_any-append (nat_eq b) xs ys ∙ or_left _ _ h
 
-among_last : (xs ys : List ℕ) (b : ℕ) → is_among ys b ≡ true → is_among (xs ++ ys) b ≡ true
-among_last [] ys b h = h
-among_last (x ∷ xs) ys b h = or_right _ _ (among_last xs ys b h)
+pub among_last : (xs ys : List ℕ) (b : ℕ) → is_among ys b ≡ true → is_among (xs ++ ys) b ≡ true
+among_last xs ys b h = list_any-append (nat_eq b) xs ys ∙ or_right _ _ h
 
 vector_shows : (c : ParseState) (first : ℕ) (digits code : List ℕ) (fault : Fault)
     → is_among vector_prefixes first ≡ true
@@ -280,20 +262,21 @@ vector_shown m c letter digits code fault agrees changing is row =
 
 pub ends_vector : (m : Reader) (vs : Variables) (code : List ℕ) (line : ℕ) (r : Result (Unit {0}) Fault)
     → m.item ≡ items.Vector
-    → ((c : ParseState) → c.tick ≡ m.tick → VariablesMatch m.variables c → ChangeResult c code m.text.items r vs)
+    → ((c : ParseState) → c.tick ≡ m.tick → VariablesMatch m.variables c → ChangeResult c code m.digits.items r vs)
     → WordResult m (word_on code line) r (record m { variables = vs; item = items.Nothing })
 ends_vector m vs code line (Ok x) item takes = λ c begun (agrees, taken).
-    let b : AwaitsCode m begun vector_prefixes m.text.items = subst (IsBegun m begun) item taken in
-    whole_vector m c vs items.Nothing (begun ++ word_on code line ∷ []) b.letter m.text.items code agrees b.changes refl
+    let b : AwaitsCode m begun vector_prefixes m.digits.items = subst (IsBegun m begun) item taken in
+    whole_vector m c vs items.Nothing (begun ++ word_on code line ∷ []) b.letter m.digits.items code agrees b.changes
+    refl
     b.among
-    (texts_whole m begun vector_prefixes m.text.items code line b) (takes c (sym agrees.tick) agrees.variables)
+    (texts_whole m begun vector_prefixes m.digits.items code line b) (takes c (sym agrees.tick) agrees.variables)
 ends_vector m vs code line (Err fault) item takes = λ c begun (agrees, taken).
-    let b : AwaitsCode m begun vector_prefixes m.text.items = subst (IsBegun m begun) item taken in
+    let b : AwaitsCode m begun vector_prefixes m.digits.items = subst (IsBegun m begun) item taken in
     elim (takes c (sym agrees.tick) agrees.variables) [
       | inl memory ↦ inl memory
       | inr row ↦ inr (subst (λ ts. WordFault c ts code fault)
-          (sym (texts_begun m begun vector_prefixes m.text.items b))
-          (vector_shown m c b.letter m.text.items code fault agrees b.changes b.among row))
+          (sym (texts_begun m begun vector_prefixes m.digits.items b))
+          (vector_shown m c b.letter m.digits.items code fault agrees b.changes b.among row))
     ]
 
 pub ends_dropped : (m : Reader) (code : List ℕ) (line : ℕ) → m.item ≡ items.Dropped

@@ -30,13 +30,14 @@ use Rattle.vcd_text.specs.Refusals.{IsRefusal, has_fault, too_large, no_memory, 
 use Rattle.vcd_text.specs.MemoryErrors.{memory_error}
 use Rattle.vcd_text.specs.inside.Spaces.{is_closed}
 use Rattle.vcd_text.specs.inside.Reading.{Reads}
-use Rattle.vcd_text.specs.inside.Chunks.{HasTaken, HasCome}
+use Rattle.vcd_text.specs.inside.Chunks.{HasTaken, HasCome, HasConsumed}
 use Rattle.vcd_text.specs.inside.WordWalk.{feeds}
 use Rattle.vcd_text.proofs.Ended.{no_fault as shows_none}
 use Rattle.vcd_text.proofs.FrontAnswers.{larger, failing}
 use Rattle.vcd_text.proofs.FrontFaults.{longer_front_fault}
 use Rattle.vcd_text.proofs.FileFaults.{file_fault, front_fault_stays}
 use Rattle.vcd_text.proofs.WordLaws.{feeds_both, no_feeds, word_part}
+use Rattle.vcd_text.specs.inside.Waiting.{Waiting}
 
 -- ---- line feeds
 
@@ -62,10 +63,10 @@ closed_at (suc n) (b ∷ c ∷ bs) within space = closed_at n (c ∷ bs) (omega 
 some_word : (line b : ℕ) (bs : List ℕ) → is_closed (b ∷ bs) ≡ true → is_white_space b ≡ false
     → 0 < length (words_from true line (b ∷ bs))
 unfolding words_from
-some_word line b [] closed black = let no : false ≡ true = sym black ∙ closed in absurd (cc)
-some_word line b (c ∷ bs) closed black =
+some_word line b [] closed no_space = let no : false ≡ true = sym no_space ∙ closed in absurd (cc)
+some_word line b (c ∷ bs) closed no_space =
     subst (λ s. 0 < length (with_byte s (is_white_space c) b line (words_from true (line_after b line) (c ∷ bs))))
-    (sym black) (by_test (is_white_space c) refl (λ e. some_word (line_after b line) c bs closed e))
+    (sym no_space) (by_test (is_white_space c) refl (λ e. some_word (line_after b line) c bs closed e))
   where
     longer : (ws : List PlacedWord) → 0 < length ws → 0 < length (with_longer_first b line ws)
     longer [] some = absurd (omega arith)
@@ -81,10 +82,7 @@ some_word line b (c ∷ bs) closed black =
 byte_first : (space last : Bool) (b line : ℕ) (ws more : List PlacedWord)
     → (space ≡ false → last ≡ false → 0 < length ws)
     → with_byte space last b line (ws ++ more) ≡ with_byte space last b line ws ++ more
-byte_first true last b line ws more some = refl
-byte_first false true b line ws more some = refl
-byte_first false false b line [] more some = absurd (omega (arith, some refl refl))
-byte_first false false b line (w ∷ ws) more some = refl
+byte_first space last b line ws more h6 = grind arith
 
 -- the words of a closed text, and those after it
 pub words_closed : (whole : Bool) (line : ℕ) (text rest : List ℕ) → is_closed text ≡ true
@@ -97,73 +95,65 @@ words_closed whole line (b ∷ c ∷ text) rest closed =
 
 -- ---- one more chunk
 
-module _ (m : Reader) (word : List ℕ) (passed left : ℕ) (bytes : List ℕ) (taken : HasTaken m word passed left bytes)
-    (chunk : List ℕ) (len : ℕ) (closed : is_closed (take len (word ++ chunk)) ≡ true)
-    (black : list_all (λ b. not (is_white_space b)) (drop len (word ++ chunk)) ≡ true) where
-  -- the complete words of the text, and the bytes after them
-  abbrev front : List ℕ
-  front = take len (word ++ chunk)
-
+module _ (p : Progress) (from len : ℕ) (bytes closed : List ℕ) (come : HasCome p from bytes)
+    (ends : is_closed (take len p.buffer.bytes) ≡ true)
+    (no_space : list_all (λ b. not (is_white_space b)) (drop len p.buffer.bytes) ≡ true)
+    (front : closed ≡ take len p.buffer.bytes) where
+  -- the bytes after the complete words
   abbrev back : List ℕ
-  back = drop len (word ++ chunk)
+  back = drop len p.buffer.bytes
+
+  -- the complete words
+  abbrev complete : List PlacedWord
+  complete = words_from true (p.line_feeds + 1) closed
+
+  in_two : come.word ++ come.chunk ≡ closed ++ back
+  in_two = sym come.text ∙ sym (take-append-drop len p.buffer.bytes) ∙ ap (λ text. text ++ back) (sym front)
 
   -- the words of all bytes so far, and of those that follow
-  words_now : (whole : Bool) (rest : List ℕ) → words_from whole 1 ((bytes ++ chunk) ++ rest)
-      ≡ closed_words bytes ++ (words_from true (passed + 1) front
-      ++ words_from whole ((passed + feeds front) + 1) (back ++ rest))
-  words_now whole rest =
-      ap (words_from whole 1) (append_assoc bytes chunk rest)
-      ∙ taken.following whole (chunk ++ rest)
-      ∙ ap (λ text. closed_words bytes ++ words_from whole (passed + 1) text)
-      (sym (append_assoc word chunk rest) ∙ ap (λ text. text ++ rest) (sym (take-append-drop len (word ++ chunk)))
-      ∙ append_assoc front back rest)
-      ∙ ap (λ words. closed_words bytes ++ words) (words_closed whole (passed + 1) front (back ++ rest) closed)
-      ∙ ap (λ line. closed_words bytes ++ (words_from true (passed + 1) front ++ words_from whole line (back ++ rest)))
-      (omega arith)
+  words_now : (whole : Bool) (rest : List ℕ) → words_from whole 1 (bytes ++ rest)
+      ≡ closed_words come.before ++ (complete ++ words_from whole ((p.line_feeds + feeds closed) + 1) (back ++ rest))
+  words_now whole rest = grind (arith, append_assoc, in_two, words_closed)
 
-  closed_now : closed_words (bytes ++ chunk) ≡ closed_words bytes ++ words_from true (passed + 1) front
+  closed_now : closed_words bytes ≡ closed_words come.before ++ complete
   closed_now =
-      ap (words_from false 1) (sym (append-nil (bytes ++ chunk)))
-      ∙ words_now false []
-      ∙ ap (λ text. closed_words bytes
-      ++ (words_from true (passed + 1) front ++ words_from false ((passed + feeds front) + 1) text))
+      ap (words_from false 1) (sym (append-nil bytes)) ∙ words_now false []
+      ∙ ap (λ text. closed_words come.before ++ (complete ++ words_from false ((p.line_feeds + feeds closed) + 1) text))
       (append-nil back)
-      ∙ ap (λ words. closed_words bytes ++ (words_from true (passed + 1) front ++ words))
-      (word_part ((passed + feeds front) + 1) back black)
-      ∙ ap (λ words. closed_words bytes ++ words) (append-nil (words_from true (passed + 1) front))
+      ∙ ap (λ words. closed_words come.before ++ (complete ++ words))
+      (word_part ((p.line_feeds + feeds closed) + 1) back no_space)
+      ∙ ap (λ words. closed_words come.before ++ words) (append-nil complete)
 
   -- the complete words have been taken
-  pub taken_now : (new : Reader) (rest : ℕ) → length chunk + rest ≡ left
-      → Reads new (closed_words bytes ++ words_from true (passed + 1) front)
-      → HasTaken new back (passed + feeds front) rest (bytes ++ chunk)
-  taken_now new rest fits reads = record {
-    reads = subst (Reads new) (sym closed_now) reads;
-    following = grind (arith, words_now, append_assoc, closed_now);
-    black = black;
-    short = omega (
-      arith,
-      length-append bytes chunk,
-      length-append word chunk,
-      length-drop {A = ℕ} len (word ++ chunk),
-      taken.short,
-    );
-    lines =
-        let all = feeds_both bytes chunk in
-        let text = feeds_both word chunk in
-        let parts = ap feeds (sym (take-append-drop len (word ++ chunk))) ∙ feeds_both front back in
-        let none = no_feeds word taken.black in
-        let none_after = no_feeds back black in
-        let before = taken.lines in
-        omega (arith, all, text, parts, none, none_after, before);
-    room = omega (arith, taken.room, fits, length-append bytes chunk);
-  }
+  pub now_taken : (new : Reader) → Reads new (closed_words come.before ++ complete)
+      → HasTaken new back (p.line_feeds + feeds closed) p.left bytes
+  now_taken new reads =
+      let all = ap (length {A = ℕ}) come.all ∙ length-append come.before come.chunk in
+      let parts = sym (length-append come.word come.chunk) ∙ ap (length {A = ℕ}) in_two ∙ length-append closed back in
+      let all_feeds = ap feeds come.all ∙ feeds_both come.before come.chunk in
+      let feeds_in_two = sym (feeds_both come.word come.chunk) ∙ ap feeds in_two ∙ feeds_both closed back in
+      record {
+        reads = subst (Reads new) (sym closed_now) reads;
+        following = grind (arith, words_now, append_assoc, closed_now);
+        no_space = no_space;
+        short = omega (arith, all, parts, come.taken.short);
+        lines = omega (
+          arith,
+          all_feeds,
+          feeds_in_two,
+          no_feeds come.word come.taken.no_space,
+          no_feeds back no_space,
+          come.taken.lines,
+        );
+        room = omega (arith, all, come.taken.room);
+      }
 
   -- or one of them shows a fault
-  pub shown_now : (e : ReadError)
-      → (e ≡ memory_error) ⊎ ShowsFault (closed_words bytes ++ words_from true (passed + 1) front) e.line e.fault
-      → (e ≡ memory_error) ⊎ FrontFault (bytes ++ chunk) e.line e.fault
-  shown_now e (inl none) = inl none
-  shown_now e (inr shows) = inr (subst (λ words. ShowsFault words e.line e.fault) (sym closed_now) shows)
+  pub now_shown : (e : ReadError)
+      → (e ≡ memory_error) ⊎ ShowsFault (closed_words come.before ++ complete) e.line e.fault
+      → (e ≡ memory_error) ⊎ FrontFault bytes e.line e.fault
+  now_shown e (inl none) = inl none
+  now_shown e (inr shows) = inr (subst (λ words. ShowsFault words e.line e.fault) (sym closed_now) shows)
 
 -- ---- where nothing has been read, and where all has been
 
@@ -172,28 +162,21 @@ unfolding words_from
 nothing_taken m word none reads = grind arith
 
 -- the words so far, and the last one
-pub all_words : (m : Reader) (word : List ℕ) (passed left : ℕ) (bytes : List ℕ) → HasTaken m word passed left bytes
-    → closed_words bytes ++ words_from true (passed + 1) word ≡ words_of bytes
-all_words m word passed left bytes taken =
-    ap (λ text. closed_words bytes ++ words_from true (passed + 1) text) (sym (append-nil word))
+all_words : (p : Progress) (text bytes : List ℕ) → HasConsumed p bytes → text ≡ p.buffer.bytes
+    → closed_words bytes ++ words_from true (p.line_feeds + 1) text ≡ words_of bytes
+all_words p text bytes taken is =
+    ap (λ word. closed_words bytes ++ words_from true (p.line_feeds + 1) word) (is ∙ sym (append-nil p.buffer.bytes))
     ∙ sym (taken.following true []) ∙ ap (words_from true 1) (append-nil bytes)
 
 -- so all words of the bytes have been taken, or one shows a fault
-pub last_taken : (m new : Reader) (word : List ℕ) (passed left : ℕ) (bytes : List ℕ) (words : List PlacedWord)
-    → HasTaken m word passed left bytes → words ≡ words_from true (passed + 1) word
-    → Reads new (closed_words bytes ++ words) → Reads new (words_of bytes)
-last_taken m new word passed left bytes words taken is reads =
-    subst (Reads new) (ap (λ words. closed_words bytes ++ words) is ∙ all_words m word passed left bytes taken) reads
+pub last_taken : (p : Progress) (new : Reader) (text bytes : List ℕ) → HasConsumed p bytes → text ≡ p.buffer.bytes
+    → Reads new (closed_words bytes ++ words_from true (p.line_feeds + 1) text) → Reads new (words_of bytes)
+last_taken p new text bytes taken is reads = subst (Reads new) (all_words p text bytes taken is) reads
 
-pub last_shown : (m : Reader) (word : List ℕ) (passed left : ℕ) (bytes : List ℕ) (words : List PlacedWord)
-    (e : ReadError) → HasTaken m word passed left bytes
-    → words ≡ words_from true (passed + 1) word
-    → (e ≡ memory_error) ⊎ ShowsFault (closed_words bytes ++ words) e.line e.fault
+pub last_shown : (p : Progress) (text bytes : List ℕ) (e : ReadError) → HasConsumed p bytes → text ≡ p.buffer.bytes
+    → (e ≡ memory_error) ⊎ ShowsFault (closed_words bytes ++ words_from true (p.line_feeds + 1) text) e.line e.fault
     → (e ≡ memory_error) ⊎ FoundFault bytes e.line e.fault
-last_shown m word passed left bytes words e taken is (inl none) = inl none
-last_shown m word passed left bytes words e taken is (inr shows) =
-    inr (word_shows (subst (λ words. ShowsFault words e.line e.fault) (ap (λ words. closed_words bytes ++ words) is
-    ∙ all_words m word passed left bytes taken) shows))
+last_shown p text bytes e h4 h5 h6 = grind (arith, all_words)
 
 -- ---- results for a file of which these bytes have come
 
@@ -224,13 +207,13 @@ shown_early (Some xs) (Some ys) failed bytes e ready consumes within (inr shows)
     ]
 
 -- the file has more bytes than the limit
-pub full : (coming middle left : Option (List ℕ)) (failed : Bool) (m : Reader) (word : List ℕ) (passed : ℕ)
-    (bytes chunk : List ℕ) (e : ReadError) → Consumes coming middle bytes → Consumes middle left chunk
-    → 0 < length chunk → HasTaken m word passed 0 bytes → e ≡ record { line = passed + 1; fault = faults.TooLarge }
+pub full : (coming middle left : Option (List ℕ)) (failed : Bool) (p : Progress) (bytes chunk : List ℕ) (e : ReadError)
+    → Consumes coming middle bytes → Consumes middle left chunk → 0 < length chunk → p.left ≡ 0 → HasConsumed p bytes
+    → e ≡ record { line = p.line_feeds + 1; fault = faults.TooLarge }
     → IfSome coming (λ file. IsRefusal file failed left e)
-full coming middle left failed m word passed bytes chunk e first second some taken is =
+full coming middle left failed p bytes chunk e first second some none taken is =
     larger coming left failed bytes e (over coming left (Consumes-trans coming middle left bytes chunk first second))
-    (inr (none_shown (shows_none m (closed_words bytes) taken.reads)
+    (inr (none_shown (shows_none p.reader (closed_words bytes) taken.reads)
     (ap (λ (e : ReadError). e.line) is ∙ sym taken.lines) (ap (λ (e : ReadError). e.fault) is)))
   where
     over : (coming left : Option (List ℕ)) → Consumes coming left (bytes ++ chunk)
@@ -244,21 +227,22 @@ full coming middle left failed m word passed bytes chunk e first second some tak
         length-append (bytes ++ chunk) ys,
         length-append bytes chunk,
         taken.room,
+        none,
         some,
       ),
       sym (ap (take FILE_LIMIT) (consumes ∙ append_assoc bytes chunk ys)
-          ∙ all_front FILE_LIMIT bytes (chunk ++ ys) (omega (arith, taken.room))),
+          ∙ all_front FILE_LIMIT bytes (chunk ++ ys) (omega (arith, taken.room, none))),
     )
 
 -- the reader failed
-pub broken : (coming middle left : Option (List ℕ)) (failed : Bool) (m : Reader) (word : List ℕ) (passed rest : ℕ)
-    (bytes : List ℕ) (e : ReadError) → IsTrue failed → Consumes coming middle bytes
-    → Keeps middle left → HasTaken m word passed rest bytes → e ≡ record { line = passed + 1; fault = faults.ReadFault }
+pub broken : (coming middle left : Option (List ℕ)) (failed : Bool) (p : Progress) (bytes : List ℕ) (e : ReadError)
+    → IsTrue failed → Consumes coming middle bytes → Keeps middle left → HasConsumed p bytes
+    → e ≡ record { line = p.line_feeds + 1; fault = faults.ReadFault }
     → IfSome coming (λ file. IsRefusal file failed left e)
-broken coming middle left failed m word passed rest bytes e has consumes keeps taken is =
+broken coming middle left failed p bytes e has consumes keeps taken is =
     failing coming left failed bytes e has (Consumes-kept coming middle left bytes consumes keeps)
     (omega (arith, taken.room))
-    (inr (none_shown (shows_none m (closed_words bytes) taken.reads)
+    (inr (none_shown (shows_none p.reader (closed_words bytes) taken.reads)
     (ap (λ (e : ReadError). e.line) is ∙ sym taken.lines) (ap (λ (e : ReadError). e.fault) is)))
 
 -- the whole file came
@@ -276,21 +260,11 @@ at_end (Some xs) (Some ys) failed bytes e ready consumes ends within (inr fault)
 -- a fact about the bytes is one about the file
 pub of_all : (coming left : Option (List ℕ)) (bytes : List ℕ) (P : List ℕ → Type 0) → Consumes coming left bytes
     → IsAtEnd left → P bytes → IfSome coming P
-of_all None left bytes P consumes ends holds = tt
-of_all (Some xs) None bytes P consumes ends holds = absurd consumes
-of_all (Some xs) (Some ys) bytes P consumes ends holds = grind (arith, append-nil)
+of_all coming left bytes P h4 h5 h6 = grind (arith, append-nil)
 
 by_change : (c : ParseState) (begun : List (List ℕ)) (word : List ℕ) (fault : Fault) → fault ≡ faults.ReadFault
     → ChangeFault c begun word fault → ⊥
-by_change c begun word fault is (no_tick digits p q s r) = absurd (cc)
-by_change c begun word fault is (tick_goes_back digits p q s t r) = absurd (cc)
-by_change c begun word fault is (value_alone digit p q s r) = absurd (cc)
-by_change c begun word fault is (value_of_none digit code p q s t u r) = absurd (cc)
-by_change c begun word fault is (pair_of_none first text p q s r) = absurd (cc)
-by_change c begun word fault is (no_value first digits d p q s t u r) = absurd (cc)
-by_change c begun word fault is (value_too_long first digits d p q s t u v r) = absurd (cc)
-by_change c begun word fault is (declaration_late p q r) = absurd (cc)
-by_change c begun word fault is (no_change first text p q s t r) = absurd (cc)
+by_change c begun word fault h4 h5 = grind arith
 
 pub is_no_failure : (bytes : List ℕ) (e : ReadError) → (e ≡ memory_error) ⊎ FrontFault bytes e.line e.fault
     → e.fault ≡ faults.ReadFault → ⊥
@@ -299,57 +273,18 @@ is_no_failure bytes e (inr shows) is = grind (arith, by_change)
 
 pub is_no_file_failure : (bytes : List ℕ) (e : ReadError) → (e ≡ memory_error) ⊎ FoundFault bytes e.line e.fault
     → e.fault ≡ faults.ReadFault → ⊥
-is_no_file_failure bytes e (inl none) is = grind arith
-is_no_file_failure bytes e (inr (word_shows shows)) is = grind (arith, by_change)
-is_no_file_failure bytes e (inr (too_early stops line fault)) is = absurd (cc)
+is_no_file_failure bytes e h2 h3 = grind (arith, by_change)
 
 -- ---- a chunk after the bytes taken
 
 -- the chunk came after the word that can go on
-pub has_come : (p now : Progress) (from count : ℕ) (before word chunk : List ℕ)
-    → HasTaken p.reader p.buffer.bytes p.passed p.left before → now.reader ≡ p.reader → now.passed ≡ p.passed
-    → now.buffer.bytes ≡ word ++ chunk → word ≡ p.buffer.bytes → count ≡ length chunk → count ≤ p.left
-    → now.left ≡ p.left - count → from ≡ length word → HasCome now from (before ++ chunk)
-has_come p now from count before word chunk taken reader passed text same many within left len = grind arith
-
--- the complete words have been taken
-pub now_taken : (p : Progress) (from len : ℕ) (bytes : List ℕ) (new : Reader) (closed : List ℕ)
-    (words : List PlacedWord) → (come : HasCome p from bytes)
-    → is_closed (take len p.buffer.bytes) ≡ true → list_all (λ b. not (is_white_space b)) (drop len p.buffer.bytes)
-    ≡ true → closed ≡ take len p.buffer.bytes → words ≡ words_from true (p.passed + 1) closed
-    → Reads new (closed_words come.before ++ words)
-    → HasTaken new (drop len p.buffer.bytes) (p.passed + feeds closed) p.left bytes
-now_taken p from len bytes new closed words come ends black front is reads =
-    let text = come.text in
-    subst (λ bytes. HasTaken new (drop len p.buffer.bytes) (p.passed + feeds closed) p.left bytes) (sym come.all)
-    (subst (λ n. HasTaken new (drop len p.buffer.bytes) n p.left (come.before ++ come.chunk))
-    (ap (λ l. p.passed + feeds l) (sym (front ∙ ap (take len) text)))
-    (subst (λ l. HasTaken new l (p.passed + feeds (take len (come.word ++ come.chunk))) p.left
-    (come.before ++ come.chunk)) (sym (ap (drop len) text))
-    (taken_now p.reader come.word p.passed (p.left + length come.chunk) come.before come.taken come.chunk len
-    (sym (ap (λ l. is_closed (take len l)) text) ∙ ends)
-    (sym (ap (λ l. list_all (λ b. not (is_white_space b)) (drop len l)) text) ∙ black) new p.left (omega arith)
-    (subst (λ words. Reads new (closed_words come.before ++ words)) (is
-    ∙ ap (words_from true (p.passed + 1)) (front ∙ ap (take len) text)) reads))))
-
--- or one of them shows a fault
-pub now_shown : (p : Progress) (from len : ℕ) (bytes : List ℕ) (e : ReadError) (closed : List ℕ)
-    (words : List PlacedWord) → (come : HasCome p from bytes)
-    → is_closed (take len p.buffer.bytes) ≡ true → list_all (λ b. not (is_white_space b)) (drop len p.buffer.bytes)
-    ≡ true → closed ≡ take len p.buffer.bytes → words ≡ words_from true (p.passed + 1) closed
-    → (e ≡ memory_error) ⊎ ShowsFault (closed_words come.before ++ words) e.line e.fault
-    → (e ≡ memory_error) ⊎ FrontFault bytes e.line e.fault
-now_shown p from len bytes e closed words come ends black front is shows =
-    let text = come.text in
-    subst (λ bytes. (e ≡ memory_error) ⊎ FrontFault bytes e.line e.fault) (sym come.all)
-    (shown_now p.reader come.word p.passed (p.left + length come.chunk) come.before come.taken come.chunk len
-    (sym (ap (λ l. is_closed (take len l)) text) ∙ ends)
-    (sym (ap (λ l. list_all (λ b. not (is_white_space b)) (drop len l)) text) ∙ black) e
-    (subst (λ words. (e ≡ memory_error) ⊎ ShowsFault (closed_words come.before ++ words) e.line e.fault) (is
-    ∙ ap (words_from true (p.passed + 1)) (front ∙ ap (take len) text)) shows))
+pub has_come : (p : Progress) (buffer : Waiting) (from count : ℕ) (before word chunk : List ℕ) → HasConsumed p before
+    → buffer.bytes ≡ word ++ chunk → word ≡ p.buffer.bytes → count ≡ length chunk → count ≤ p.left
+    → from ≡ length word → HasCome (record p { buffer = buffer; left = p.left - count }) from (before ++ chunk)
+has_come p buffer from count before word chunk taken text same many within len = grind arith
 
 -- the first bytes of the text are those of the word that can go on
 pub word_is_first : (p : Progress) (from : ℕ) (bytes : List ℕ) → HasCome p from bytes
     → (from ≤ length p.buffer.bytes) × (list_all (λ b. not (is_white_space b)) (take from p.buffer.bytes) ≡ true)
-    × (length bytes + p.left ≡ FILE_LIMIT) × (length p.buffer.bytes ≤ length bytes) × (p.passed ≤ length bytes)
+    × (length bytes + p.left ≡ FILE_LIMIT) × (length p.buffer.bytes ≤ length bytes) × (p.line_feeds ≤ length bytes)
 word_is_first p from bytes come = grind (arith, length-append, count_by-le-length, take-append_seam)

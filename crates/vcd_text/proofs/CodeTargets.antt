@@ -67,12 +67,7 @@ pub stands_moved : (vs ws : List Variable) (log rest : ℕ → List LoggedChange
     → ((position size : ℕ) → target ≡ Some (Kept position) → HasWave vs log position code size rs early
     → HasWave ws rest position code size ss late)
     → TargetMatches vs log rs early code target declared → TargetMatches ws rest ss late code target declared
-stands_moved vs ws log rest rs ss early late code None None transitions s = s
-stands_moved vs ws log rest rs ss early late code None (Some d) transitions s = s
-stands_moved vs ws log rest rs ss early late code (Some Skipped) None transitions s = s
-stands_moved vs ws log rest rs ss early late code (Some Skipped) (Some d) transitions s = s
-stands_moved vs ws log rest rs ss early late code (Some (Kept position)) None transitions s = s
-stands_moved vs ws log rest rs ss early late code (Some (Kept position)) (Some d) transitions s = grind arith
+stands_moved vs ws log rest rs ss early late code target declared h11 h12 = grind arith
 
 -- the first variable of a code, with one more declared
 pub found_with : (code : List ℕ) (ds : List VariableDeclaration) (d : VariableDeclaration)

@@ -12,10 +12,6 @@ use Rattle.vcd_text.specs.Text.{code_digits, code_of}
 use Rattle.vcd_text.proofs.Codes.{next_digit}
 use Rattle.vcd_text.proofs.WeakerTests.{all_weaker}
 
-abbrev tail_of : List ℕ → List ℕ
-tail_of [] = []
-tail_of (b ∷ bs) = bs
-
 -- the greatest number with this many digits
 abbrev greatest : ℕ → ℕ
 greatest zero = 0
@@ -31,7 +27,7 @@ same_number zero b (suc m) n in_a in_b same = absurd (omega arith)
 same_number (suc a) b (suc m) zero in_a in_b same = absurd (cc)
 same_number (suc a) zero (suc m) (suc n) in_a in_b same = absurd (omega arith)
 same_number (suc a) (suc b) (suc m) (suc n) in_a in_b same =
-    grind (arith, same_number a b (m / 94) (n / 94) (omega arith) (omega arith) (ap tail_of same))
+    grind (arith, same_number a b (m / 94) (n / 94) (omega arith) (omega arith) (cc))
 
 -- positions with one code are one
 pub codes_differ : (j k : ℕ) → code_of j ≡ code_of k → j ≡ k
@@ -72,12 +68,14 @@ pub code_short : (k : ℕ) → k < SIGNAL_LIMIT → length (code_of k) ≤ 3
 code_short k few = digits_few 3 (k + 1) (omega arith)
 
 -- a printable byte is no white space
-printable_is_black : (b : ℕ) → is_code_byte b ≡ true → not (is_white_space b) ≡ true
-printable_is_black b printable = grind (arith, and_parts, leb-true, not_from_false, or_from, and_right, lt-leb, ne_eqb)
+printable_is_no_space : (b : ℕ) → is_code_byte b ≡ true → not (is_white_space b) ≡ true
+printable_is_no_space b printable =
+    grind (arith, and_parts, leb-true, not_from_false, or_from, and_right, lt-leb, ne_eqb)
 
 -- a code has no white space
-pub code_black : (k : ℕ) → list_all (λ b. not (is_white_space b)) (code_of k) ≡ true
-code_black k = all_weaker is_code_byte (λ b. not (is_white_space b)) printable_is_black (code_of k) (code_printable k)
+pub code_no_space : (k : ℕ) → list_all (λ b. not (is_white_space b)) (code_of k) ≡ true
+code_no_space k =
+    all_weaker is_code_byte (λ b. not (is_white_space b)) printable_is_no_space (code_of k) (code_printable k)
 
 -- a code is not `$end`
 pub code_no_end : (k : ℕ) → k < SIGNAL_LIMIT → is_end_word (code_of k) ≡ false

@@ -18,6 +18,7 @@ use Rattle.vcd_text.specs.inside.Transitions.{Transition, transition_of, transit
 use Rattle.vcd_text.specs.inside.Transitions.{window_of_signal, unsorted_window}
 use Rattle.vcd_text.specs.Text.{differs_at}
 use Rattle.vcd_text.proofs.Sorting.{counted, times, times-append, RisesFrom}
+use Rattle.std.proofs.Math.Bool.{and-false}
 
 -- a number where the test passes, else 0
 abbrev if_so : Bool → ℕ → ℕ
@@ -94,23 +95,14 @@ rises_at : (f g t j : ℕ) (ss : List SignalContents) (ys : List Transition) →
     → RisesFrom f g (transitions_at t (enumerate_from j ss) ++ ys)
 rises_at f g t j [] ys reach rise = from_next f g t j ys reach rise
 rises_at f g t j (s ∷ ss) ys reach rise =
-    step (differs_at t s) (rises_at t j t (j + 1) ss ys (inr (refl, omega arith)) rise)
-    (rises_at f g t (j + 1) ss ys (further f g t j reach) rise)
-  where
-    step : (b : Bool) → RisesFrom t j (transitions_at t (enumerate_from (j + 1) ss) ++ ys)
-        → RisesFrom f g (transitions_at t (enumerate_from (j + 1) ss) ++ ys)
-        → RisesFrom f g (map (λ p. transition_of t p.0)
-        (cond b ((j, s) ∷ filter (λ p. differs_at t p.1) (enumerate_from (j + 1) ss))
-        (filter (λ p. differs_at t p.1) (enumerate_from (j + 1) ss))) ++ ys)
-    step true put left = (reach, put)
-    step false put left = left
+    let here = rises_at t j t (j + 1) ss ys (inr (refl, omega arith)) rise in
+    let later = rises_at f g t (j + 1) ss ys (further f g t j reach) rise in
+    grind (arith, here, later)
 
 pub rises_from : (signals : List SignalContents) (t n : ℕ) → RisesFrom t 0 (transitions_from signals t n)
 unfolding transitions_from
 rises_from signals t zero = tt
-rises_from signals t (suc n) =
-    rises_at t 0 t 0 signals (transitions_from signals (suc t) n) (inr (refl, omega arith))
-    (rises_from signals (suc t) n)
+rises_from signals t (suc n) = grind (arith, rises_at, rises_from signals (suc t) n)
 
 -- ---- windows
 
@@ -120,15 +112,8 @@ in_window from to t low high = ap (λ b. b && nat_lt t to) (le-leb from t low) �
 pub before_window : (from to t : ℕ) → t < from → is_in_window from to t ≡ false
 before_window from to t early = ap (λ b. b && nat_lt t to) (lt-leb from t early)
 
-both_false : (b : Bool) → (b && false) ≡ false
-both_false true = refl
-both_false false = refl
-
 pub after_window : (from to t : ℕ) → to ≤ t → is_in_window from to t ≡ false
-after_window from to t late = ap (λ b. nat_le from t && b) (le-ltb t to late) ∙ both_false (nat_le from t)
-
-pub window_bounds : (from to t : ℕ) → is_in_window from to t ≡ true → (from ≤ t) × (t < to)
-window_bounds from to t is = grind (arith, cases_lt, before_window, after_window)
+after_window from to t late = ap (λ b. nat_le from t && b) (le-ltb t to late) ∙ and-false (nat_le from t)
 
 -- ---- signal by signal
 
@@ -161,52 +146,14 @@ differ v w = counted (not (same_letters v w))
 same_is : (v w : List Bit) → v ≡ w → differ v w ≡ 0
 same_is v w e = ap (λ b. counted (not b)) ((same_letters-Decides v w).1 e)
 
-other_is : (v w : List Bit) → v ≢ w → differ v w ≡ 1
-other_is v w ne = grind (arith, same_letters-Decides)
-
 -- a wave has a change at a tick where its value differs from the tick before, and only there
 differs_where : (floor t : ℕ) (before : List Bit) (cs : List Change) → AreChangesFrom floor before cs
     → count_at (suc t) cs ≡ differ (value_from before cs (suc t)) (value_from before cs t)
 unfolding value_from
 differs_where floor t before [] rise = sym (same_is before before refl)
 differs_where floor t before (c ∷ cs) (from, other, wide, rest) =
-    elim (cases_lt c.tick (suc t)) [
-      | inl passed ↦
-          let values : differ (value_from before (c ∷ cs) (suc t)) (value_from before (c ∷ cs) t)
-          ≡ differ (value_from c.value cs (suc t)) (value_from c.value cs t) =
-          ap (λ v. differ v (value_from before (c ∷ cs) t)) (value_past before c cs (suc t) (omega arith))
-          ∙ ap (λ v. differ (value_from c.value cs (suc t)) v) (value_past before c cs t (omega arith)) in
-          omega (
-            arith,
-            ap counted (ne_eqb c.tick (suc t) (omega arith)),
-            differs_where (c.tick + 1) t c.value cs rest,
-            values,
-          )
-      | inr not_passed ↦
-          let still : value_from before (c ∷ cs) t ≡ before = grind (arith, value_skip, value_early) in
-          elim (cases_eq c.tick (suc t)) [
-            | inl at ↦
-                let now : value_from before (c ∷ cs) (suc t) ≡ c.value = grind (arith, value_past, value_early) in
-                let values : differ (value_from before (c ∷ cs) (suc t)) (value_from before (c ∷ cs) t) ≡ 1 =
-                grind (arith, other_is) in
-                omega (
-                  arith,
-                  ap counted (eq-eqb c.tick (suc t) at),
-                  none_at (c.tick + 1) (suc t) c.value cs rest (omega arith),
-                  values,
-                )
-            | inr apart ↦
-                let now : value_from before (c ∷ cs) (suc t) ≡ before = grind (arith, value_skip, value_early) in
-                let values : differ (value_from before (c ∷ cs) (suc t)) (value_from before (c ∷ cs) t) ≡ 0 =
-                same_is _ _ (now ∙ sym still) in
-                omega (
-                  arith,
-                  ap counted (ne_eqb c.tick (suc t) apart),
-                  none_at (c.tick + 1) (suc t) c.value cs rest (omega arith),
-                  values,
-                )
-          ]
-    ]
+    let later = differs_where (c.tick + 1) t c.value cs rest in
+    grind (arith, later, cases_lt, value_past, ne_eqb, value_skip, value_early, same_letters-Decides, eq-eqb, none_at)
 
 signal_differs : (end t : ℕ) (s : SignalContents) → IsSoundSignal end s
     → count_at (suc t) s.changes ≡ counted (differs_at (suc t) s)
@@ -260,7 +207,7 @@ count_within end t s sound = by (differs_at (suc t) s) (signal_differs end t s s
 
 one_of_signal : (t j : ℕ) (cs : List Change) → length (window_of_signal t (t + 1) j cs) ≤ count_at t cs
 one_of_signal t j [] = omega arith
-one_of_signal t j (c ∷ cs) = grind (arith, window_bounds, eq-eqb, one_of_signal t j cs)
+one_of_signal t j (c ∷ cs) = grind (arith, cases_lt, before_window, after_window, eq-eqb, one_of_signal t j cs)
 
 -- at one tick each signal changes once at most
 pub one_tick_within : (end t j : ℕ) (ss : List SignalContents) → 1 ≤ t → All (IsSoundSignal end) ss

@@ -6,13 +6,13 @@ use Rattle.std.proofs.lemmas.Fmt.{decimal_nonempty, digits_decimal, digits_value
 use Rattle.std.proofs.lemmas.Str.Parse.{IsDigitsTest, IsNumeralModel, numerals_by_value}
 use Rattle.std.specs.Char.{is_ascii_digit}
 use Rattle.vcd_core.specs.Decimal.{is_number, number_of}
-use Rattle.vcd_text.proofs.WordLaws.{both}
+use Rattle.std.proofs.lemmas.Bool.{and_parts}
 
 abbrev AreDigits : List ℕ → Type 0
 AreDigits text = list_all is_ascii_digit text ≡ true
 
 tells_digits : IsDigitsTest AreDigits
-tells_digits = grind (arith, both, leb-true, le-leb)
+tells_digits = grind (arith, and_parts, leb-true, le-leb)
 
 reads_decimals : IsNumeralModel AreDigits number_of
 reads_decimals = numerals_by_value AreDigits tells_digits

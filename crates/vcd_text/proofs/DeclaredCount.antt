@@ -10,18 +10,7 @@ use Rattle.vcd_text.specs.declared.reading.reader.Reader.{Reader}
 
 -- an item declares one variable at most
 declared_more : (c : ParseState) (i : Item) → length (state_after_item c i).declared ≤ length c.declared + 1
-declared_more c (entry kind words) = omega arith
-declared_more c (timescale words) = omega arith
-declared_more c (scope kind words) = omega arith
-declared_more c upscope = omega arith
-declared_more c (variable words) = grind (arith, length-append)
-declared_more c end_definitions = omega arith
-declared_more c (stamp digits) = omega arith
-declared_more c (scalar letter code) = omega arith
-declared_more c (vector first digits code) = omega arith
-declared_more c (real_or_string first text code) = omega arith
-declared_more c (bracket text) = omega arith
-declared_more c (other text words) = omega arith
+declared_more c i = grind (arith, length-append)
 
 -- items declare at most as many variables as there are items
 declared_by : (c : ParseState) (is : List Item) → length (state_after c is).declared ≤ length c.declared + length is
@@ -30,18 +19,7 @@ declared_by c (i ∷ is) = omega (arith, declared_by (state_after_item c i) is, 
 
 -- an item has a word
 has_words : (i : Item) → 0 < length (spelling i)
-has_words (entry kind words) = omega arith
-has_words (timescale words) = omega arith
-has_words (scope kind words) = omega arith
-has_words upscope = omega arith
-has_words (variable words) = omega arith
-has_words end_definitions = omega arith
-has_words (stamp digits) = omega arith
-has_words (scalar letter code) = omega arith
-has_words (vector first digits code) = omega arith
-has_words (real_or_string first text code) = omega arith
-has_words (bracket text) = omega arith
-has_words (other text words) = omega arith
+has_words i = grind arith
 
 -- items have at least as many words as there are items
 fewer_items : (is : List Item) → length is ≤ length (spellings is)

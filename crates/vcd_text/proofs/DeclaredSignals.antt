@@ -57,9 +57,6 @@ none_skipped end k (s ∷ ss) all =
 
 -- ---- codes
 
-pub same_code : (k : ℕ) → bytes_eq (code_of k) (code_of k) ≡ true
-same_code k = (bytes_eq-Decides (code_of k) (code_of k)).1 refl
-
 pub other_code : (j k : ℕ) → j ≢ k → bytes_eq (code_of j) (code_of k) ≡ false
 other_code j k other = grind (arith, false_from_ne_true, codes_differ, bytes_eq-Decides)
 
@@ -68,6 +65,6 @@ pub found_by_code : (ss : List SignalContents) (i j k : ℕ) (d : SignalContents
     → find (λ v. bytes_eq (code_of k) v.code) (declared_of j ss) ≡ Some (declared_as k (get_or ss i d))
 unfolding declared_of
 found_by_code [] i j k d at within = absurd (omega arith)
-found_by_code (s ∷ ss) zero j k d at within = grind (arith, same_code)
+found_by_code (s ∷ ss) zero j k d at within = grind (arith, bytes_eq-Decides)
 found_by_code (s ∷ ss) (suc i) j k d at within =
     grind (arith, other_code, found_by_code ss i (suc j) k d (omega arith) (omega arith))

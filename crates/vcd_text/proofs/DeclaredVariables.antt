@@ -38,10 +38,6 @@ use Rattle.vcd_text.proofs.CodeTargets.{own_code, by_code, stands_kept, stands_m
 
 -- ---- lists with one item more
 
-kept_skipped : (ds : List VariableDeclaration) (d : VariableDeclaration) → is_skipped d ≡ true
-    → kept_variables (ds ++ d ∷ []) ≡ kept_variables ds
-kept_skipped ds d skipped = grind (arith, filter-append, append-nil)
-
 kept_kept : (ds : List VariableDeclaration) (d : VariableDeclaration) → is_skipped d ≡ false
     → kept_variables (ds ++ d ∷ []) ≡ kept_variables ds ++ d ∷ []
 kept_kept ds d keeps = grind (arith, filter-append)
@@ -65,9 +61,10 @@ either_of [] w (suc n) v at = let no : None ≡ Some v = at in absurd (cc)
 either_of (u ∷ vs) w zero v at = inl at
 either_of (u ∷ vs) w (suc n) v at = grind (arith, either_of vs w n v at)
 
-pub last_of : (vs : List Variable) (w : Variable) → slice_get (vs ++ w ∷ []) (length vs) ≡ Some w
-last_of [] w = refl
-last_of (u ∷ vs) w = last_of vs w
+-- the item between two lists
+pub middle_of : (vs rest : List Variable) (w : Variable) → slice_get (vs ++ w ∷ rest) (length vs) ≡ Some w
+middle_of [] rest w = refl
+middle_of (u ∷ vs) rest w = middle_of vs rest w
 
 -- as many variables are kept as were declared as kept
 pub kept_long : (vs : Variables) (c : ParseState) → VariablesMatch vs c
@@ -134,9 +131,6 @@ module _ (old : Variables) (targets : CodeTargets) (c : ParseState) (d : Variabl
         (λ _. stands_still (logged old.log.items) c.value_changes c.tick old.kept.items key (target_of old key)
         (variable_of c key) (k.stand key))))
 
-    not_kept : (first : ℕ) → target_of old d.code ≡ Some (Kept first) → ⊥
-    not_kept first had = grind arith
-
     skip_firsts : (position : ℕ) (v : Variable) → slice_get old.kept.items position ≡ Some v
         → HasFirst (with_skipped old targets) position v
     skip_firsts position v at =
@@ -144,7 +138,7 @@ module _ (old : Variables) (targets : CodeTargets) (c : ParseState) (d : Variabl
         record {
           owned = puts v.code
               ∙ by_code (λ b. (if b then Some Skipped else target_of old v.code) ≡ Some (Kept v.first)) v.code d.code
-              (λ is. absurd (not_kept v.first (ap (target_of old) (sym is) ∙ before.owned))) (λ _. before.owned);
+              (λ is. absurd (grind arith)) (λ _. before.owned);
           no_later = before.no_later;
           same_size = before.same_size;
         }
@@ -160,7 +154,7 @@ module _ (old : Variables) (targets : CodeTargets) (c : ParseState) (d : Variabl
       skip_may (variable_of c d.code) (k.stand d.code),
       (λ i. skipped i || nat_lt (length (kept_variables c.declared)) SIGNAL_LIMIT),
       record {
-        kept = ap (map without_scopes) (kept_skipped c.declared d skipped) ∙ k.kept;
+        kept = ap (map without_scopes) (grind (arith, filter-append, append-nil)) ∙ k.kept;
         skipped = ap (λ n. n + 1) k.skipped ∙ sym (count_with c.declared d true skipped);
         widths = k.widths;
         stand = skip_stands;
@@ -210,45 +204,22 @@ module _ (old new : Variables) (c : ParseState) (scopes : List ScopeName) (code 
     (widths : new.widths.items ≡ old.widths.items ++ s.wave.width ∷ []) (log : new.log ≡ old.log)
     (free : IsFree old code s first)
     (puts : Puts old new code (Kept first)) where
-  -- the log has no change of a variable that is not there yet
-  log_silent : logged old.log.items (length old.kept.items) ≡ []
-  log_silent = grind (arith, cases_lt, slice_get_within, nil_from_length)
-
   silent_wave : HasWave (old.kept.items ++ variable_at code s first ∷ []) (logged old.log.items)
       (length old.kept.items) code s.wave.width c.value_changes c.tick
   unfolding latest_value value_from
   silent_wave = record {
     first = variable_at code s first;
-    stands = last_of old.kept.items (variable_at code s first);
+    stands = middle_of old.kept.items [] (variable_at code s first);
     coded = refl;
     sized = refl;
-    gives = grind (arith, log_silent, gives_as, gives_nothing);
+    gives = grind (arith, cases_lt, slice_get_within, nil_from_length, gives_as, gives_nothing);
   }
 
   keep_here : (v : Option VariableDeclaration)
       → TargetAgrees old c code (target_of old code) v
       → TargetMatches (old.kept.items ++ variable_at code s first ∷ []) (logged old.log.items) c.value_changes
       c.tick code (Some (Kept first)) (option_or v (Some (declaration_in scopes code s)))
-  keep_here None stands = elim free [
-    | inl (none, end) ↦ (
-      keeps,
-      subst (λ n. HasWave (old.kept.items ++ variable_at code s first ∷ []) (logged old.log.items) n
-          code s.wave.width c.value_changes c.tick) (sym end) silent_wave,
-    )
-    | inr (had, width) ↦ absurd
-        (subst (λ o. TargetAgrees old c code o None) had
-        stands)
-  ]
-  keep_here (Some e) stands = elim free [
-    | inl (none, end) ↦ absurd
-        (subst (λ o. TargetAgrees old c code o (Some e))
-        none stands)
-    | inr (had, width) ↦
-        stands_longer (logged old.log.items) c.value_changes c.tick old.kept.items
-        (variable_at code s first ∷ []) code (Some (Kept first)) (Some e)
-        (subst (λ o. TargetAgrees old c code o (Some e))
-        had stands)
-  ]
+  keep_here v h1 = grind (arith, silent_wave, stands_longer)
 
   keep_stands : (key : List ℕ)
       → TargetAgrees new c key (target_of new key)
@@ -298,10 +269,6 @@ module _ (old new : Variables) (c : ParseState) (scopes : List ScopeName) (code 
   first_within : first ≤ length old.kept.items
   first_within = grind (arith, stands_kept, slice_get_within)
 
-  first_width : (w : Variable) → slice_get (old.kept.items ++ variable_at code s first ∷ []) first ≡ Some w
-      → w.signal.wave.width ≡ s.wave.width
-  first_width w there = grind (arith, either_of, slice_get_within)
-
   keep_firsts : (position : ℕ) (v : Variable) → slice_get new.kept.items position ≡ Some v → HasFirst new position v
   keep_firsts position v at =
       elim (either_of old.kept.items (variable_at code s first) position v
@@ -310,7 +277,7 @@ module _ (old new : Variables) (c : ParseState) (scopes : List ScopeName) (code 
         | inr (end, is) ↦ subst (HasFirst new position) is (record {
           owned = puts code ∙ ap (λ b. if b then Some (Kept first) else target_of old code) (own_code code);
           no_later = omega (arith, end, first_within);
-          same_size = λ w there. first_width w (subst (λ vs. slice_get vs first ≡ Some w) items there);
+          same_size = λ w there. (grind (arith, either_of, slice_get_within));
         })
       ]
 
@@ -322,31 +289,15 @@ module _ (old new : Variables) (c : ParseState) (scopes : List ScopeName) (code 
         keep_may old c scopes code s first k keeps free (variable_of c code) (k.stand code),
         has_room_is old c scopes code s first k keeps free true (lt-ltb (length old.kept.items) SIGNAL_LIMIT room),
         record {
-          kept = ap (map without_scopes) (kept_kept c.declared d keeps)
-              ∙ map-append without_scopes (kept_variables c.declared) (d ∷ [])
-              ∙ (λ i. k.kept i ++ record {
-                scopes = sym bare i;
-                kind = s.kind;
-                size = s.wave.width;
-                code = code;
-                words =
-                    s.words;
-              } ∷ [])
-              ∙ sym (map-append declaration old.kept.items (variable_at code s first ∷ []))
-              ∙ ap (map declaration) (sym items);
+          kept = grind (arith, kept_kept, map-append);
           skipped = same ∙ k.skipped ∙ omega arith ∙ sym (count_with c.declared d false keeps);
-          widths = widths ∙ ap (λ ws. ws ++ s.wave.width ∷ []) k.widths
-              ∙ sym (map-append (λ (v : Variable). v.signal.wave.width) old.kept.items (variable_at code s first ∷ []))
-              ∙ ap (map (λ (v : Variable). v.signal.wave.width)) (sym items);
+          widths = grind (arith, map-append);
           stand = keep_stands;
           firsts = keep_firsts;
           few = subst (λ vs. length vs ≤ SIGNAL_LIMIT) (sym items)
               (omega (arith, room, length_push old.kept.items (variable_at code s first)));
           grouped = subst (λ (l : Vec (Vec LoggedChange)). AreGrouped 0 l.items) (sym log) k.grouped;
-          logs = subst (λ (l : Vec (Vec LoggedChange)). HasLogs new.kept.items (logged l.items)) (sym log)
-              (subst (λ (vs : List Variable). HasLogs vs (logged old.log.items)) (sym items)
-              (λ position some. let v = k.logs position some in
-              (v.0, stays old.kept.items (variable_at code s first ∷ []) position v.0 v.1, v.2)));
+          logs = grind (arith, stays);
         },
       )
 
@@ -415,10 +366,7 @@ declares_words c words kind size code names result new are some as_one = grind (
 pub words_in_front : (words : List (List ℕ)) (kind size code : List ℕ) → 3 ≤ length words → kind ≡ get_or words 0 kind
     → size ≡ get_or words 1 size → code ≡ get_or words 2 code
     → words ≡ kind ∷ size ∷ code ∷ drop 3 words
-words_in_front [] kind size code enough a b c = absurd (omega (arith, enough))
-words_in_front (x ∷ []) kind size code enough a b c = absurd (omega (arith, enough))
-words_in_front (x ∷ y ∷ []) kind size code enough a b c = absurd (omega (arith, enough))
-words_in_front (x ∷ y ∷ z ∷ rest) kind size code enough a b c = λ i. sym a i ∷ sym b i ∷ sym c i ∷ rest
+words_in_front words kind size code h4 h5 h6 h7 = grind arith
 
 -- ---- sizes that are read up to a bound
 

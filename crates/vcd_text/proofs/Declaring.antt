@@ -29,22 +29,10 @@ use Rattle.vcd_text.specs.declared.reading.variables.Variables.{Variables}
 use Rattle.vcd_text.proofs.VariablesMatch.{same_codes, knows_further}
 use Rattle.vcd_text.proofs.DeclaredVariables.{kept_long}
 use Rattle.vcd_text.proofs.HeldScopes.{so_deep}
+use Rattle.vcd_text.proofs.FileAnswers.{texts_more}
+use Rattle.vcd_text.proofs.WordOutcomes.{no_end_more}
 
 -- ---- words
-
--- one more word
-texts_more : (begun : List PlacedWord) (w : PlacedWord) → word_texts (begun ++ w ∷ []) ≡ word_texts begun ++ w.text ∷ []
-texts_more begun w = map-append (λ (v : PlacedWord). v.text) begun (w ∷ [])
-
--- the words of an item with its `$end`
-spelled_whole : (begun : List PlacedWord) (line : ℕ) (words : List (List ℕ)) → word_texts begun ≡ words
-    → words ++ end_word ∷ [] ≡ word_texts (begun ++ word_on end_word line ∷ [])
-spelled_whole begun line words spelled = grind (arith, texts_more)
-
--- one more word, which is not `$end`
-no_end_more : (words : List (List ℕ)) (text : List ℕ) → IsTrue (has_no_end_word words) → IsFalse (is_end_word text)
-    → IsTrue (has_no_end_word (words ++ text ∷ []))
-no_end_more words text none isnt = grind (arith, list_all-append)
 
 -- ---- the state stays the same
 
@@ -55,13 +43,19 @@ same_known vs c d declared value_changes tick known = grind (arith, knows_furthe
 
 -- ---- the end of an item
 
+-- the reader matches a state, part by part
+pub agrees_by : (m : Reader) (c : ParseState) → m.header.items ≡ c.header → m.timescale ≡ c.timescale
+    → HoldsScopes m.scopes c.scopes c.declared → m.changing ≡ c.changing → m.tick ≡ c.tick
+    → VariablesMatch m.variables c → (IsFalse c.changing → c.value_changes ≡ []) → ReaderMatches m c
+agrees_by m c header time scopes changing tick variables silent = grind arith
+
 -- where the conditions of the open item hold, its `$end` ends it
 ends_here : (new : Reader) (c : ParseState) (begun : List PlacedWord) (line : ℕ) (i : Item) (words : List (List ℕ))
     → word_texts begun ≡ words → spelling i ≡ words ++ end_word ∷ [] → Allows c i
     → ReaderMatches new (state_after_item c i) → new.item ≡ items.Nothing
     → WordStep c (begun ++ word_on end_word line ∷ []) new
 ends_here new c begun line i words spelled whole allows agrees closed =
-    ends_item i (whole ∙ spelled_whole begun line words spelled) allows
+    ends_item i (whole ∙ (grind (arith, texts_more))) allows
     (agrees, subst (IsBegun new []) (sym closed) refl)
 
 -- a header entry is the last of the header
@@ -78,15 +72,9 @@ closes_entry m new kind is pushed others line c begun at =
     (ends_here (record m { header = new.header; words = new.words; item = items.Nothing }) c begun line i
     (header_word kind ∷ m.words.items)
     b.spelled refl (sym a.changing ∙ b.declares, b.no_end)
-    (record {
-      header = pushed ∙ ap (λ h. h ++ record { kind = kind; words = m.words.items } ∷ []) a.header;
-      timescale = a.timescale;
-      scopes = a.scopes;
-      changing = a.changing;
-      tick = a.tick;
-      variables = same_known m.variables c (state_after_item c i) refl refl refl a.variables;
-      silent = a.silent;
-    }) refl)
+    (agrees_by _ _ (pushed ∙ ap (λ h. h ++ record { kind = kind; words = m.words.items } ∷ []) a.header)
+    a.timescale a.scopes a.changing a.tick
+    (same_known m.variables c (state_after_item c i) refl refl refl a.variables) a.silent) refl)
 
 -- a timescale replaces the one before
 pub closes_timescale : (m : Reader) (found : Timescale) → m.item ≡ items.Timescale
@@ -100,15 +88,8 @@ closes_timescale m found is some line c begun at =
     ends_here (record m { timescale = Some found; item = items.Nothing }) c begun line i
     (codes "$timescale" ∷ m.words.items)
     b.spelled refl (sym a.changing ∙ b.declares, b.no_end, subst IsSome (sym some) refl)
-    (record {
-      header = a.header;
-      timescale = sym some;
-      scopes = a.scopes;
-      changing = a.changing;
-      tick = a.tick;
-      variables = same_known m.variables c (state_after_item c i) refl refl refl a.variables;
-      silent = a.silent;
-    }) refl
+    (agrees_by _ _ a.header (sym some) a.scopes a.changing a.tick
+    (same_known m.variables c (state_after_item c i) refl refl refl a.variables) a.silent) refl
 
 -- the words spell no timescale
 pub shows_no_timescale : (m : Reader) → m.item ≡ items.Timescale → timescale_of m.words.items ≡ None
@@ -132,20 +113,10 @@ closes_scope m new s is words pushed others line c begun at =
     subst (WordStep c (begun ++ word_on end_word line ∷ [])) (sym others)
     (ends_here (record m { scopes = new.scopes; words = new.words; item = items.Nothing }) c begun line i
     (codes "$scope" ∷ s.kind ∷ s.words)
-    (b.spelled ∙ ap (λ ws. codes "$scope" ∷ ws) words) refl (
-      sym a.changing ∙ b.declares,
-      ap has_no_end_word (sym words)
-          ∙ b.no_end,
-    )
-    (record {
-      header = a.header;
-      timescale = a.timescale;
-      scopes = pushed c a.scopes;
-      changing = a.changing;
-      tick = a.tick;
-      variables = same_known m.variables c (state_after_item c i) refl refl refl a.variables;
-      silent = a.silent;
-    }) refl)
+    (b.spelled ∙ ap (λ ws. codes "$scope" ∷ ws) words) refl
+    (sym a.changing ∙ b.declares, ap has_no_end_word (sym words) ∙ b.no_end)
+    (agrees_by _ _ a.header a.timescale (pushed c a.scopes) a.changing a.tick
+    (same_known m.variables c (state_after_item c i) refl refl refl a.variables) a.silent) refl)
 
 -- the front of a list, and the rest
 pub front_removed : (xs ys : List (List ℕ)) (x : List ℕ) → 0 < length xs → x ≡ slice_index_or xs 0 x → ys ≡ remove xs 0
@@ -166,15 +137,8 @@ closes_upscope m new is popped others line c begun at =
     subst (WordStep c (begun ++ word_on end_word line ∷ [])) (sym others)
     (ends_here (record m { scopes = new.scopes; item = items.Nothing }) c begun line upscope (codes "$upscope" ∷ [])
     b.1 refl (sym a.changing ∙ b.0, omega (arith, so_deep m.scopes c a.scopes, b.2))
-    (record {
-      header = a.header;
-      timescale = a.timescale;
-      scopes = popped c a.scopes;
-      changing = a.changing;
-      tick = a.tick;
-      variables = same_known m.variables c (state_after_item c upscope) refl refl refl a.variables;
-      silent = a.silent;
-    }) refl)
+    (agrees_by _ _ a.header a.timescale (popped c a.scopes) a.changing a.tick
+    (same_known m.variables c (state_after_item c upscope) refl refl refl a.variables) a.silent) refl)
 
 -- the changes begin
 pub closes_definitions : (m : Reader) (code_targets : CodeTargets) → code_targets.codes ≡ m.variables.code_targets.codes
@@ -184,8 +148,7 @@ pub closes_definitions : (m : Reader) (code_targets : CodeTargets) → code_targ
     (record m {
       variables = record m.variables { code_targets = code_targets };
       changing = true;
-      item =
-          items.Nothing;
+      item = items.Nothing;
     })
 closes_definitions m code_targets same is line c begun at =
     let a = at.0 in
@@ -196,16 +159,10 @@ closes_definitions m code_targets same is line c begun at =
       item = items.Nothing;
     }) c begun line end_definitions (codes "$enddefinitions" ∷ [])
     b.1 refl (sym a.changing ∙ b.0)
-    (record {
-      header = a.header;
-      timescale = a.timescale;
-      scopes = a.scopes;
-      changing = refl;
-      tick = a.tick;
-      variables = same_codes m.variables code_targets (state_after_item c end_definitions) same
-          (same_known m.variables c (state_after_item c end_definitions) refl refl refl a.variables);
-      silent = λ _. a.silent (sym a.changing ∙ b.0);
-    }) refl
+    (agrees_by _ _ a.header a.timescale a.scopes refl a.tick
+    (same_codes m.variables code_targets (state_after_item c end_definitions) same
+    (same_known m.variables c (state_after_item c end_definitions) refl refl refl a.variables))
+    (λ _. a.silent (sym a.changing ∙ b.0))) refl
 
 -- another command changes nothing
 pub closes_other : (m : Reader) → m.item ≡ items.Other
@@ -216,15 +173,7 @@ closes_other m is line c begun at =
     let b : PassesOver m begun = subst (IsBegun m begun) is at.1 in
     ends_here (record m { item = items.Nothing }) c begun line (other b.keyword b.words) (b.keyword ∷ b.words)
     b.spelled refl (ap (λ changing. is_other changing b.keyword) (sym a.changing) ∙ b.other, b.no_end)
-    (record {
-      header = a.header;
-      timescale = a.timescale;
-      scopes = a.scopes;
-      changing = a.changing;
-      tick = a.tick;
-      variables = a.variables;
-      silent = a.silent;
-    }) refl
+    (agrees_by _ _ a.header a.timescale a.scopes a.changing a.tick a.variables a.silent) refl
 
 -- ---- variables
 
@@ -247,16 +196,8 @@ closes_variable m variables scopes words spelled note declare is line c begun at
     ends_here (record m { scopes = scopes; variables = variables; item = items.Nothing }) c begun line
     (variable m.words.items) (codes "$var" ∷ m.words.items)
     b.0.spelled refl (declares, b.0.no_end, b.1, d.0)
-    (record {
-      header = a.header;
-      timescale = a.timescale;
-      scopes = note c m.words.items a.scopes
-          (sym (kept_long variables (state_after_item c (variable m.words.items)) d.1));
-      changing = a.changing;
-      tick = a.tick;
-      variables = d.1;
-      silent = a.silent;
-    }) refl
+    (agrees_by _ _ a.header a.timescale (note c m.words.items a.scopes
+    (sym (kept_long variables (state_after_item c (variable m.words.items)) d.1))) a.changing a.tick d.1 a.silent) refl
 
 -- the fault of the variables is that of the grammar
 variable_fault : (m : Reader) (c : ParseState) (begun : List PlacedWord) (fault : Fault) → IsFalse c.changing

@@ -23,13 +23,12 @@ use Rattle.vcd_text.specs.declared.reading.reader.OpenItem.{OpenItem}
 use Rattle.vcd_text.specs.declared.reading.reader.OpenItem.TheVariants as items
 use Rattle.vcd_text.proofs.HeldScopes.{so_deep}
 use Rattle.vcd_text.proofs.OneAnswer.{accepted-not_refused, stopped-not_refused}
+use Rattle.vcd_text.proofs.Changing.{among_first, among_last}
 
 -- the kind of a header entry is one of three
 is_header : (kind : HeaderKind)
     → IsTrue (is_one_of (codes "$timescale" ∷ codes "$scope" ∷ header_words) (header_word kind))
-is_header Date = refl
-is_header Version = refl
-is_header Comment = refl
+is_header kind = grind arith
 
 collecting : (m : Reader) (c : ParseState) (begun : List PlacedWord) (keyword : List ℕ) → ReaderMatches m c
     → Collects m begun keyword
@@ -37,18 +36,6 @@ collecting : (m : Reader) (c : ParseState) (begun : List PlacedWord) (keyword : 
     → IsUnfinished c (word_texts begun)
 collecting m c begun keyword agrees is among =
     words_due keyword m.words.items (sym agrees.changing ∙ is.declares) is.spelled among is.no_end
-
-among_more : (letters more : List ℕ) (b : ℕ) → is_among letters b ≡ true → is_among (letters ++ more) b ≡ true
-among_more [] more b h = absurd (false≢true h)
-among_more (x ∷ xs) more b h =
-    elim (or_cases (nat_eq b x) (is_among xs b) h) [
-      | inl here ↦ or_left (nat_eq b x) (is_among (xs ++ more) b) here
-      | inr later ↦ or_right (nat_eq b x) (is_among (xs ++ more) b) (among_more xs more b later)
-    ]
-
-among_after : (letters front : List ℕ) (b : ℕ) → is_among letters b ≡ true → is_among (front ++ letters) b ≡ true
-among_after letters [] b h = h
-among_after letters (x ∷ xs) b h = or_right (nat_eq b x) (is_among (xs ++ letters) b) (among_after letters xs b h)
 
 awaiting : (m : Reader) (c : ParseState) (begun : List PlacedWord) (letters text : List ℕ) → ReaderMatches m c
     → AwaitsCode m begun letters text
@@ -73,9 +60,9 @@ unfinished m c begun items.Other agrees is no_end =
     other_due is.keyword is.words is.spelled (subst (λ b. IsTrue (is_other b is.keyword)) agrees.changing is.other)
     is.no_end
 unfinished m c begun items.Vector agrees is no_end =
-    awaiting m c begun vector_prefixes m.text.items agrees is (among_more vector_prefixes dropped_prefixes)
+    awaiting m c begun vector_prefixes m.digits.items agrees is (among_first vector_prefixes dropped_prefixes)
 unfinished m c begun items.Dropped agrees (text, is) no_end =
-    awaiting m c begun dropped_prefixes text agrees is (among_after dropped_prefixes vector_prefixes)
+    awaiting m c begun dropped_prefixes text agrees is (among_last vector_prefixes dropped_prefixes)
 
 texts_are : (m : Reader) (words : List PlacedWord) (r : Reads m words)
     → word_texts words ≡ spellings r.items ++ word_texts r.begun

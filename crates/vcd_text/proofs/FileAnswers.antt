@@ -22,6 +22,7 @@ use Rattle.vcd_text.specs.inside.SkippedVariables.{skipped_count}
 use Rattle.vcd_text.proofs.ItemsInTurn.{Leads, leads_none, leads_one, leads_both}
 use Rattle.vcd_text.proofs.WordLaws.{is_run, words_are_words}
 use Rattle.vcd_text.proofs.WordOutcomes.{IsOpen, between, inside, shows_fault, ends_item, goes_on, word_outcome}
+use Rattle.vcd_text.proofs.ItemsInTurn.{shown_by}
 
 -- the result of all words of a file
 data AnswerTo (words : List PlacedWord) : Type 0 where
@@ -46,10 +47,11 @@ record WordsSoFar (words rest : List PlacedWord) : Type 0 where
 word_after : (begun rest : List PlacedWord) (w : PlacedWord) → begun ++ w ∷ rest ≡ (begun ++ w ∷ []) ++ rest
 word_after begun rest w = sym (append_assoc begun (w ∷ []) rest)
 
-texts_more : (begun : List PlacedWord) (w : PlacedWord) → word_texts (begun ++ w ∷ []) ≡ word_texts begun ++ w.text ∷ []
+pub texts_more : (begun : List PlacedWord) (w : PlacedWord)
+    → word_texts (begun ++ w ∷ []) ≡ word_texts begun ++ w.text ∷ []
 texts_more begun w = map-append (λ (v : PlacedWord). v.text) begun (w ∷ [])
 
-spelled_more : (items : List Item) (i : Item) → spellings (items ++ i ∷ []) ≡ spellings items ++ spelling i
+pub spelled_more : (items : List Item) (i : Item) → spellings (items ++ i ∷ []) ≡ spellings items ++ spelling i
 spelled_more [] i = append-nil (spelling i)
 spelled_more (j ∷ items) i = grind (arith, append_assoc, spelled_more items i)
 
@@ -84,23 +86,6 @@ with_item words rest w u i spelled allows = record {
   leads = leads_both initial_state u.told (state_after_item u.told i) u.items (i ∷ []) u.leads
       (leads_one u.told (state_after_item u.told i) i allows refl);
   open_item = between refl;
-}
-
--- the word shows a fault
-shows_here : (words rest : List PlacedWord) (w : PlacedWord) (u : WordsSoFar words (w ∷ rest)) (fault : Fault)
-    → WordFault u.told (word_texts u.begun) w.text fault
-    → ShowsFault words (fault_line u.told.changing u.begun w) fault
-shows_here words rest w u fault decided = record {
-  items = u.items;
-  whole = u.whole;
-  begun = u.begun;
-  word = w;
-  more = rest;
-  parts = u.parts;
-  spelled = u.spelled;
-  allowed = u.leads.allowed;
-  decided = subst (λ c. WordFault c (word_texts u.begun) w.text fault) (sym u.leads.tells) decided;
-  at = ap (λ c. fault_line c.changing u.begun w) (sym u.leads.tells);
 }
 
 -- ---- the end
@@ -150,7 +135,8 @@ answer_after words (w ∷ rest) runs u =
     elim (word_outcome u.told (word_texts u.begun) w.text (All-head (λ (v : PlacedWord). is_run v.text) w rest runs).0
     u.open_item) [
       | shows_fault fault decided ↦
-          is_refused (fault_line u.told.changing u.begun w) fault (shows_here words rest w u fault decided)
+          is_refused (fault_line u.told.changing u.begun w) fault
+          (shown_by words u.whole u.begun rest w u.items u.told _ fault u.leads u.parts u.spelled decided refl)
       | ends_item i spelled allows ↦
           answer_after words rest (All-tail (λ (v : PlacedWord). is_run v.text) w rest runs)
           (with_item words rest w u i spelled allows)

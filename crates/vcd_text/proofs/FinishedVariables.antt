@@ -19,12 +19,7 @@ use Rattle.vcd_text.specs.inside.ChangeLog.{logged}
 use Rattle.vcd_text.proofs.LoggedValues.{gives_late}
 use Rattle.vcd_text.proofs.WaveChanges.{ended_upto}
 use Rattle.vcd_text.proofs.CodeTargets.{stands_kept}
-use Rattle.vcd_text.proofs.DeclaredVariables.{stays}
-
--- the item between two lists
-middle_of : (vs rest : List Variable) (v : Variable) → slice_get (vs ++ v ∷ rest) (length vs) ≡ Some v
-middle_of [] rest v = refl
-middle_of (u ∷ vs) rest v = middle_of vs rest v
+use Rattle.vcd_text.proofs.DeclaredVariables.{stays, middle_of}
 
 -- the variable of a signal
 variable_after : (f : Variable → SignalContents) (vs : List Variable) (signals : List Signal) (position : ℕ)

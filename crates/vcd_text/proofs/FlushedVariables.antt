@@ -17,22 +17,11 @@ use Rattle.vcd_text.specs.declared.reading.change_log.LoggedChange.{LoggedChange
 use Rattle.vcd_text.specs.declared.reading.variables.Variable.{Variable}
 use Rattle.vcd_text.specs.declared.reading.variables.Variables.{Variables}
 use Rattle.vcd_text.proofs.LoggedValues.{gives_narrow, gives_first, gives_flushed}
-use Rattle.vcd_text.proofs.ChangedVariables.{set_here, set_there, same_length, own_wave, with_changes}
+use Rattle.vcd_text.proofs.ChangedVariables.{set_here, set_there, own_wave, with_changes}
 use Rattle.vcd_text.proofs.CodeTargets.{stands_moved}
+use Rattle.std.proofs.lemmas.List.{length-set}
 
 -- ---- one variable
-
-becomes_same : (v : Variable) (es : List LoggedChange) → FlushesOne v v es es
-becomes_same v es = grind arith
-
-becomes_taken : (e : LoggedChange) (v w : Variable) (es : List LoggedChange) → AppliesToVariable e v w
-    → FlushesOne v w (e ∷ es) es
-becomes_taken e v w es takes = grind (arith, gives_flushed)
-
--- the declaration stays
-pub same_declaration : (v w : Variable) (es fs : List LoggedChange) → FlushesOne v w es fs
-    → declaration w ≡ declaration v
-same_declaration v w es fs b = grind arith
 
 -- ---- all variables
 
@@ -57,7 +46,7 @@ module _ (e : LoggedChange) (es : List LoggedChange) (rest : ℕ → List Logged
       → FlushesLog old new (λ position. changes_of_position position (e ∷ es) ++ rest position)
       (λ position. changes_of_position position es ++ rest position)
   flushes_one old new takes = record {
-    long = ap (length {A = Variable}) takes.others ∙ same_length old e.position takes.after;
+    long = ap (length {A = Variable}) takes.others ∙ length-set old e.position takes.after;
     each = λ position v at. elim (cases_Bool (e.position == position)) [
       | inl same ↦
           let here : e.position ≡ position = eqb-true e.position position same in
@@ -68,8 +57,7 @@ module _ (e : LoggedChange) (es : List LoggedChange) (rest : ℕ → List Logged
             subst (λ b. FlushesOne v takes.after
                 (cond b (e ∷ changes_of_position position es) (changes_of_position position es) ++ rest position)
                 (changes_of_position position es ++ rest position)) (sym same)
-                (becomes_taken e v takes.after (changes_of_position position es ++ rest position)
-                (subst (λ u. AppliesToVariable e u takes.after) is takes.takes)),
+                (grind (arith, gives_flushed)),
           )
       | inr other ↦ (
         v,
@@ -79,7 +67,7 @@ module _ (e : LoggedChange) (es : List LoggedChange) (rest : ℕ → List Logged
             ∙ at,
         subst (λ b. FlushesOne v v (cond b (e ∷ changes_of_position position es) (changes_of_position position es)
             ++ rest position) (changes_of_position position es ++ rest position)) (sym other)
-            (becomes_same v (changes_of_position position es ++ rest position)),
+            (grind arith),
       )
     ];
   }
@@ -163,13 +151,10 @@ module _ (old : Variables) (list : Vec Variable) (log : Vec (Vec LoggedChange)) 
   -- the waves have the changes of the log
   pub flushed_match : VariablesMatch (with_changes old list log) c
   flushed_match = record {
-    kept = grind (arith, same_all, same_declaration);
+    kept = grind (arith, same_all);
     skipped = k.skipped;
     widths = grind (arith, same_all);
-    stand = λ code.
-        stands_moved old.kept.items list.items (logged old.log.items) (logged log.items) c.value_changes
-        c.value_changes c.tick c.tick code (target_of old code) (variable_of c code)
-        (λ position size _ wave. flushed_wave position code size wave) (k.stand code);
+    stand = grind (arith, stands_moved, flushed_wave);
     firsts = flushed_firsts;
     few = omega (arith, flushes_log.long, k.few);
     grouped = subst (AreGrouped 0) (sym empty) tt;

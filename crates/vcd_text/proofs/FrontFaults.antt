@@ -8,6 +8,8 @@ use Rattle.vcd_text.specs.Words.{words_of, closed_words}
 use Rattle.vcd_text.specs.Faults.{ShowsFault}
 use Rattle.vcd_text.specs.FoundFaults.{FoundFault, word_shows}
 use Rattle.vcd_text.specs.FoundFaults.{FrontFault}
+use Rattle.vcd_text.proofs.ItemsInTurn.{shown_by}
+use Rattle.vcd_text.specs.Grammar.{state_after, initial_state}
 
 -- the first words of a list of words
 abbrev IsFront : List PlacedWord → List PlacedWord → Type 0
@@ -46,20 +48,12 @@ closed_in_front whole line (b ∷ next ∷ front) rest =
 -- a fault that words show is shown whatever words follow
 shown_further : (words all : List PlacedWord) (line : ℕ) (fault : Fault) → IsFront words all
     → ShowsFault words line fault → ShowsFault all line fault
-shown_further words all line fault front s = record {
-  items = s.items;
-  whole = s.whole;
-  begun = s.begun;
-  word = s.word;
-  more = s.more ++ front.0;
-  parts =
-      front.1 ∙ ap (λ ws. ws ++ front.0) s.parts ∙ append_assoc s.whole (s.begun ++ s.word ∷ s.more) front.0
-      ∙ ap (λ ws. s.whole ++ ws) (append_assoc s.begun (s.word ∷ s.more) front.0);
-  spelled = s.spelled;
-  allowed = s.allowed;
-  decided = s.decided;
-  at = s.at;
-}
+shown_further words all line fault front s =
+    shown_by all s.whole s.begun (s.more ++ front.0) s.word s.items (state_after initial_state s.items) line fault
+    (record { allowed = s.allowed; tells = refl })
+    (front.1 ∙ ap (λ ws. ws ++ front.0) s.parts ∙ append_assoc s.whole (s.begun ++ s.word ∷ s.more) front.0
+    ∙ ap (λ ws. s.whole ++ ws) (append_assoc s.begun (s.word ∷ s.more) front.0))
+    s.spelled s.decided s.at
 
 pub front_fault_found : (front rest : List ℕ) (line : ℕ) (fault : Fault) → FrontFault front line fault
     → FoundFault (front ++ rest) line fault

@@ -7,7 +7,7 @@ use Rattle.std.specs.Prelude.{nat_eq, ◌==◌}
 use Rattle.std.specs.List.{AllByRecursion}
 use Rattle.std.proofs.lemmas.Slice.Eq.{bytes_eq-Decides}
 use Rattle.std.proofs.lemmas.Bool.{and_parts, or_cases, not-true, cases_Bool, false≢true, eqb-true}
-use Rattle.std.proofs.lemmas.Bool.{leb-true, le-ltb, lt-ltb}
+use Rattle.std.proofs.lemmas.Bool.{leb-true, le-ltb, lt-ltb, cond-true, cond-false}
 use Rattle.vcd_core.specs.declared.capture.HeaderKind.TheVariants.{Date, Version, Comment}
 use Rattle.vcd_core.specs.declared.capture.Timescale.{Timescale}
 use Rattle.vcd_core.specs.declared.capture.ScopeName.{ScopeName}
@@ -32,6 +32,7 @@ use Rattle.vcd_text.specs.Faults.{value_of_none, pair_of_none, no_value, value_t
 use Rattle.vcd_text.specs.Faults.{among_declarations, among_changes}
 use Rattle.vcd_text.specs.FoundFaults.{declaration_due, words_due, upscope_due}
 use Rattle.vcd_text.specs.FoundFaults.{variable_due, definitions_due, code_due, other_due}
+use Rattle.vcd_text.proofs.OneOf.{by_among, by_one_of}
 
 -- a fault is at a place, counted from the front
 pub data Front : Type 0 where
@@ -174,31 +175,6 @@ front_of c words = front c.changing c words
 
 -- ---- tests
 
-on_true : {A : Type 0} (b : Bool) (x y : A) → b ≡ true → cond b x y ≡ x
-on_true b x y h = ap (λ t. cond t x y) h
-
-on_false : {A : Type 0} (b : Bool) (x y : A) → b ≡ false → cond b x y ≡ y
-on_false b x y h = ap (λ t. cond t x y) h
-
-by_among : (P : ℕ → Type 0) (bytes : List ℕ) (b : ℕ) → IsTrue (is_among bytes b) → AllByRecursion P bytes → P b
-by_among P [] b h all = absurd (false≢true h)
-by_among P (x ∷ xs) b h all =
-    elim (or_cases (nat_eq b x) (is_among xs b) h) [
-      | inl e ↦ subst P (sym (eqb-true b x e)) all.0
-      | inr e ↦
-          by_among P xs b e all.1
-    ]
-
-by_one_of : (P : List ℕ → Type 0) (words : List (List ℕ)) (w : List ℕ) → IsTrue (is_one_of words w)
-    → AllByRecursion P words → P w
-by_one_of P [] w h all = absurd (false≢true h)
-by_one_of P (x ∷ xs) w h all =
-    elim (or_cases (bytes_eq w x) (is_one_of xs w) h) [
-      | inl e ↦
-          subst P (sym ((bytes_eq-Decides w x).0 e)) all.0
-      | inr e ↦ by_one_of P xs w e all.1
-    ]
-
 pub front_at : (b : Bool) (c : ParseState) (words : List (List ℕ)) (f : Front) → c.changing ≡ b → front b c words ≡ f
     → front_of c words ≡ f
 front_at b c words f h e = ap (λ t. front t c words) h ∙ e
@@ -214,28 +190,10 @@ known_some : (o : Option VariableDeclaration) (f : Front) → IsSome o → known
 known_some None f h = absurd (false≢true h)
 known_some (Some d) f h = refl
 
-told_whole : (c : ParseState) (d : VariableDeclaration) (words rest : List (List ℕ))
-    → may_have_code (variable_of c d.code) d ≡ true → has_room c.declared d ≡ true
-    → variable_state c (Some d) words rest ≡ whole (variable words) rest
-told_whole c d words rest m r = grind (arith, on_true)
-
 variable_closing : (c : ParseState) (words rest : List (List ℕ)) → IsTrue (has_no_end_word words)
     → IsTrue (has_good_size words)
     → variable_front c (words ++ end_word ∷ rest) ≡ variable_state c (declaration_of c words) words rest
-variable_closing c [] [] n g = refl
-variable_closing c [] (r ∷ rest) n g = refl
-variable_closing c (kind ∷ []) rest n g = grind (arith, on_false, not-true, and_parts)
-variable_closing c (kind ∷ size ∷ words) rest n g = grind (arith, on_false, on_true, not-true, and_parts, closing_end)
-
-stamp_whole : (c : ParseState) (digits : List ℕ) (ws : List (List ℕ)) → is_tick digits ≡ true
-    → c.tick ≤ number_of digits → stamp_front c digits ws ≡ whole (stamp digits) ws
-stamp_whole c digits ws t le = grind (arith, on_true, on_false, le-ltb)
-
-vector_taken : (d : VariableDeclaration) (digits : List ℕ) (w : Front) → takes_binary_number d digits ≡ true
-    → cond (is_skipped d) w
-    (cond (is_binary_number digits) (cond (nat_lt d.size (length digits)) (faulty 0 ValueTooLong) w)
-    (faulty 0 BadChange)) ≡ w
-vector_taken d digits w h = grind (arith, or_cases, on_true, cases_Bool, and_parts, on_false, le-ltb, leb-true)
+variable_closing c words rest h3 h4 = grind (arith, cond-false, not-true, and_parts, cond-true, closing_end)
 
 vector_known : (o : Option VariableDeclaration) (digits : List ℕ) (w : Front)
     → IsSomeAnd o (λ d. IsTrue (takes_binary_number d digits))
@@ -243,21 +201,18 @@ vector_known : (o : Option VariableDeclaration) (digits : List ℕ) (w : Front)
     (cond (is_binary_number digits) (cond (nat_lt d.size (length digits)) (faulty 0 ValueTooLong) w)
     (faulty 0 BadChange))) ≡ w
 vector_known None digits w h = absurd h
-vector_known (Some d) digits w h = vector_taken d digits w h
-
-other_declared : (c : ParseState) (w : List ℕ) (ws : List (List ℕ)) → IsTrue (is_other false w)
-    → declaration_front c w ws ≡ closing (λ words rest. whole (other w words) rest) ws
-other_declared c w ws h = grind (arith, and_parts, on_true, on_false, not-true)
+vector_known (Some d) digits w h =
+    grind (arith, or_cases, cond-true, cases_Bool, and_parts, cond-false, le-ltb, leb-true)
 
 other_changed : (c : ParseState) (w : List ℕ) (ws : List (List ℕ)) → IsTrue (is_other true w)
     → change_front c w ws ≡ closing (λ words rest. whole (other w words) rest) ws
 other_changed c [] ws h = absurd (false≢true h)
-other_changed c (first ∷ text) ws h = grind (arith, and_parts, eqb-true, on_false, not-true)
+other_changed c (first ∷ text) ws h = grind (arith, and_parts, eqb-true, cond-false, not-true)
 
 other_front : (b : Bool) (c : ParseState) (w : List ℕ) (ws : List (List ℕ)) → IsTrue (is_other b w)
     → front b c (w ∷ ws) ≡ closing (λ words rest. whole (other w words) rest) ws
 other_front true c w ws h = other_changed c w ws h
-other_front false c w ws h = other_declared c w ws h
+other_front false c w ws h = grind (arith, and_parts, cond-true, cond-false, not-true)
 
 pub whole_front : (c : ParseState) (i : Item) (rest : List (List ℕ)) → Allows c i
     → front_of c (spelling i ++ rest) ≡ whole i rest
@@ -267,11 +222,11 @@ whole_front c (entry Comment words) rest a = front_at false c _ _ a.0 (closing_a
 whole_front c (timescale words) rest a = grind (arith, front_at, closing_at)
 whole_front c (scope kind words) rest a = front_at false c _ _ a.0 (closing_at scope_front (kind ∷ words) rest a.1)
 whole_front c upscope rest a = front_at false c _ _ a.0 (upscope_some c.scopes (end_word ∷ rest) a.1)
-whole_front c (variable words) rest a = grind (arith, front_at, append_assoc, variable_closing, told_whole)
+whole_front c (variable words) rest a = grind (arith, front_at, append_assoc, variable_closing, cond-true)
 whole_front c end_definitions rest a = front_at false c _ _ a refl
-whole_front c (stamp digits) rest a = front_at true c _ _ a.0 (stamp_whole c digits rest a.1 a.2)
+whole_front c (stamp digits) rest a = front_at true c _ _ a.0 (grind (arith, cond-true, cond-false, le-ltb))
 whole_front c (scalar letter []) rest a = absurd (omega (arith, a.2))
-whole_front c (scalar letter (b ∷ code)) rest a = grind (arith, front_at, on_true, known_some)
+whole_front c (scalar letter (b ∷ code)) rest a = grind (arith, front_at, cond-true, known_some)
 whole_front c (vector first digits code) rest a =
     front_at true c _ _ a.0
     (by_among (λ b. change_front c (b ∷ digits) (code ∷ rest) ≡ vector_front c b digits (code ∷ rest))
@@ -281,19 +236,15 @@ whole_front c (real_or_string first text code) rest a =
     (by_among (λ b. change_front c (b ∷ text) (code ∷ rest) ≡ dropped_front c b text (code ∷ rest)) dropped_prefixes
     first a.1 (refl, (refl, (refl, (refl, tt)))) ∙ known_some (variable_of c code) _ a.2)
 whole_front c (bracket word) rest a =
-    front_at true c _ _ a.0 (by_one_of (λ w. change_front c w rest ≡ whole (bracket w) rest) dump_words word a.1 (
-      refl,
-      (refl, (refl, (refl, (refl, tt)))),
-    ))
+    front_at true c _ _ a.0 (by_one_of (λ w. change_front c w rest ≡ whole (bracket w) rest) dump_words word a.1
+    (refl, (refl, (refl, (refl, (refl, tt))))))
 whole_front c (other word words) rest a = other_front c.changing c word _ a.0 ∙ closing_at _ words rest a.1
 
 -- ---- faults
 
 variable_open : (c : ParseState) (words : List (List ℕ)) → IsTrue (has_no_end_word words) → IsTrue (has_good_size words)
     → variable_front c words ≡ unfinished
-variable_open c [] n g = refl
-variable_open c (kind ∷ []) n g = on_false (is_end_word kind) _ _ (not-true (is_end_word kind) (and_parts _ _ n).0)
-variable_open c (kind ∷ size ∷ words) n g = grind (arith, on_false, on_true, not-true, and_parts, closing_none)
+variable_open c words h2 h3 = grind (arith, cond-false, not-true, and_parts, cond-true, closing_none)
 
 -- the distance of a fault from the first word of its item
 abbrev pub place_of : Bool → List (List ℕ) → ℕ
@@ -303,27 +254,17 @@ place_of true begun = 0
 declaration_faulty : (c : ParseState) (begun : List (List ℕ)) (word : List ℕ) (fault : Fault) (more : List (List ℕ))
     → DeclarationFault c begun word fault
     → front false c (begun ++ word ∷ more) ≡ faulty (length begun) fault
-declaration_faulty c begun word fault more (no_declaration b n f) = rw (b, f) (on_false (begins_declaration word) _ _ n)
-declaration_faulty c begun word fault more (no_timescale words b w n t f) = grind (arith, closing_end)
-declaration_faulty c begun word fault more (no_kind b w f) = rw (b, w, f) refl
-declaration_faulty c begun word fault more (upscope_at_top b w s f) = rw (b, w, f) (ap (λ x. upscope_front x more) s)
-declaration_faulty c begun word fault more (upscope_goes_on b w s f) = grind (arith, upscope_some, on_false)
-declaration_faulty c begun word fault more (no_size kind b k n f) = grind (arith, on_false)
-declaration_faulty c begun word fault more (no_variable words b w n g o f) = grind (arith, variable_closing)
-declaration_faulty c begun word fault more (code_mixed words d b w n g o m f) =
-    grind (arith, variable_closing, on_false)
-declaration_faulty c begun word fault more (no_room words d b w n g o m r f) =
-    grind (arith, variable_closing, on_true, on_false)
-declaration_faulty c begun word fault more (definitions_go_on b w f) = rw (b, f) (on_false (is_end_word word) _ _ w)
+declaration_faulty c begun word fault more h5 =
+    grind (arith, cond-false, closing_end, upscope_some, variable_closing, cond-true)
 
 change_faulty : (c : ParseState) (begun : List (List ℕ)) (word : List ℕ) (fault : Fault) (more : List (List ℕ))
     → ChangeFault c begun word fault
     → front true c (begun ++ word ∷ more) ≡ faulty 0 fault
-change_faulty c begun word fault more (no_tick digits b w t f) = rw (b, w, f) (on_false (is_tick digits) _ _ t)
-change_faulty c begun word fault more (tick_goes_back digits b w t l f) = grind (arith, on_true, lt-ltb)
-change_faulty c begun word fault more (value_alone letter b w h f) = grind (arith, on_true)
+change_faulty c begun word fault more (no_tick digits b w t f) = rw (b, w, f) (cond-false (is_tick digits) _ _ t)
+change_faulty c begun word fault more (tick_goes_back digits b w t l f) = grind (arith, cond-true, lt-ltb)
+change_faulty c begun word fault more (value_alone letter b w h f) = grind (arith, cond-true)
 change_faulty c begun word fault more (value_of_none letter [] b w h l n f) = absurd (omega (arith, l))
-change_faulty c begun word fault more (value_of_none letter (x ∷ code) b w h l n f) = grind (arith, on_true)
+change_faulty c begun word fault more (value_of_none letter (x ∷ code) b w h l n f) = grind (arith, cond-true)
 change_faulty c begun word fault more (pair_of_none first text b h n f) =
     let step : (g : VariableDeclaration → Front) → known (variable_of c word) g ≡ faulty 0 UnknownCode = grind arith in
     rw (b, f) (by_among (λ x. change_front c (x ∷ text) (word ∷ more) ≡ faulty 0 UnknownCode) pair_prefixes first h
@@ -331,20 +272,18 @@ change_faulty c begun word fault more (pair_of_none first text b h n f) =
 change_faulty c begun word fault more (no_value first digits d b h v s n f) =
     rw (b, f) (by_among (λ x. change_front c (x ∷ digits) (word ∷ more) ≡ vector_front c x digits (word ∷ more))
     vector_prefixes first h (refl, (refl, tt))
-    ∙ ap (λ o. known o (λ d. vector_fits c first digits word more d)) v ∙ on_false (is_skipped d) _ _ s
-    ∙ on_false (is_binary_number digits) _ _ n)
+    ∙ ap (λ o. known o (λ d. vector_fits c first digits word more d)) v ∙ cond-false (is_skipped d) _ _ s
+    ∙ cond-false (is_binary_number digits) _ _ n)
 change_faulty c begun word fault more (value_too_long first digits d b h v s n l f) =
     rw (b, f) (by_among (λ x. change_front c (x ∷ digits) (word ∷ more) ≡ vector_front c x digits (word ∷ more))
     vector_prefixes first h (refl, (refl, tt))
-    ∙ ap (λ o. known o (λ d. vector_fits c first digits word more d)) v ∙ on_false (is_skipped d) _ _ s
-    ∙ on_true (is_binary_number digits) _ _ n
-    ∙ on_true (nat_lt d.size (length digits)) _ _ (lt-ltb d.size (length digits) l))
+    ∙ ap (λ o. known o (λ d. vector_fits c first digits word more d)) v ∙ cond-false (is_skipped d) _ _ s
+    ∙ cond-true (is_binary_number digits) _ _ n
+    ∙ cond-true (nat_lt d.size (length digits)) _ _ (lt-ltb d.size (length digits) l))
 change_faulty c begun word fault more (declaration_late b w f) =
-    rw (b, f) (by_one_of (λ x. change_front c x more ≡ faulty 0 UnexpectedWord) declaring_words word w (
-      refl,
-      (refl, (refl, (refl, (refl, tt)))),
-    ))
-change_faulty c begun word fault more (no_change first text b w l n f) = grind (arith, on_false)
+    rw (b, f) (by_one_of (λ x. change_front c x more ≡ faulty 0 UnexpectedWord) declaring_words word w
+    (refl, (refl, (refl, (refl, (refl, tt))))))
+change_faulty c begun word fault more (no_change first text b w l n f) = grind (arith, cond-false)
 
 pub fault_front : (c : ParseState) (begun : List (List ℕ)) (word : List ℕ) (fault : Fault) (more : List (List ℕ))
     → WordFault c begun word fault
@@ -360,18 +299,15 @@ fault_front c begun word fault more (among_changes h d) =
 pub unfinished_front : (c : ParseState) (begun : List (List ℕ)) → IsUnfinished c begun → front_of c begun ≡ unfinished
 unfinished_front c begun (declaration_due h b) = rw b (front_at false c _ _ h refl)
 unfinished_front c begun (words_due word words h b k n) =
+    let none : (f : List (List ℕ) → List (List ℕ) → Front) → closing f words ≡ unfinished =
+    λ f. closing_none f words n in
     rw b (front_at false c _ _ h
     (by_one_of (λ w. declaration_front c w words ≡ unfinished) (codes "$timescale" ∷ codes "$scope" ∷ header_words)
-    word k (
-      closing_none _ words n,
-      (closing_none _ words n, (closing_none _ words n, (closing_none _ words n, (closing_none _ words n, tt)))),
-    )))
+    word k (none _, (none _, (none _, (none _, (none _, tt)))))))
 unfinished_front c begun (upscope_due h b s) = rw b (front_at false c _ _ h (upscope_some c.scopes [] s))
 unfinished_front c begun (variable_due words h b n g) = rw b (front_at false c _ _ h (variable_open c words n g))
 unfinished_front c begun (definitions_due h b) = rw b (front_at false c _ _ h refl)
 unfinished_front c begun (code_due first text h b k) =
-    rw b (front_at true c _ _ h (by_among (λ x. change_front c (x ∷ text) [] ≡ unfinished) pair_prefixes first k (
-      refl,
-      (refl, (refl, (refl, (refl, (refl, tt))))),
-    )))
+    rw b (front_at true c _ _ h (by_among (λ x. change_front c (x ∷ text) [] ≡ unfinished) pair_prefixes first k
+    (refl, (refl, (refl, (refl, (refl, (refl, tt))))))))
 unfinished_front c begun (other_due word words b k n) = grind (arith, other_front, closing_none)

@@ -15,6 +15,7 @@ use Rattle.vcd_text.specs.Grammar.{is_skipped}
 use Rattle.vcd_text.specs.inside.Scopes.{chains_of, chain_at, scopes_at, AreWithin, AreReached, HoldsScopes}
 use Rattle.vcd_text.specs.declared.reading.scopes.ScopePlace.{ScopePlace}
 use Rattle.vcd_text.specs.declared.reading.scopes.Scopes.{Scopes}
+use Rattle.std.proofs.lemmas.List.{take-take}
 
 -- ---- chains that go on
 
@@ -34,9 +35,6 @@ places_stay cs ds (p ∷ ps) grows (here, count, later) =
     let same : scopes_at ds p ≡ scopes_at cs p = grind (arith, take-append-le) in
     let rest = places_stay cs ds ps grows later in
     ((g.0, long, rest.0), λ i. same i ∷ rest.1 i)
-
-grows_by_chain : (cs : List (List ScopeName)) (chain : List ScopeName) → Grows cs (cs ++ chain ∷ [])
-grows_by_chain cs chain k within = grind (arith, length_push, get_or_append_left, append-nil)
 
 grows_by_scope : (cs : List (List ScopeName)) (chain : List ScopeName) (s : ScopeName)
     → Grows (cs ++ chain ∷ []) (cs ++ (chain ++ s ∷ []) ∷ [])
@@ -78,7 +76,7 @@ pub chain_begins : (old new : Scopes) (c : ParseState) → new.chains.items ≡ 
 chain_begins old new c chains chain depth places h =
     let all : chains_of new ≡ chains_of old ++ new.chain.items ∷ [] = ap (λ cs. cs ++ new.chain.items ∷ []) chains in
     let stay = places_stay (chains_of old) (chains_of old ++ new.chain.items ∷ []) old.places.items
-    (grows_by_chain (chains_of old) new.chain.items) h.places in
+    (grind (arith, length_push, get_or_append_left, append-nil)) h.places in
     let long : length new.chain.items ≡ old.depth = grind (arith, length-take-le) in
     record {
       within = omega (arith, long, depth);
@@ -112,18 +110,12 @@ scope_entered old new c s end chains chain depth reach places h =
 pub so_deep : (s : Scopes) (c : ParseState) → HoldsScopes s c.scopes c.declared → length c.scopes ≡ s.depth
 so_deep s c h = ap (length {A = ScopeName}) (sym h.inner) ∙ length-take-le s.depth s.chain.items h.within
 
-take_fewer : (n m : ℕ) (ss : List ScopeName) → m ≤ n → take m (take n ss) ≡ take m ss
-take_fewer n zero ss fewer = refl
-take_fewer zero (suc m) ss fewer = absurd (omega (arith, fewer))
-take_fewer (suc n) (suc m) [] fewer = refl
-take_fewer (suc n) (suc m) (s ∷ ss) fewer = ap (λ l. s ∷ l) (take_fewer n m ss (omega (arith, fewer)))
-
 -- the innermost scope is closed
 pub scope_left : (old new : Scopes) (c : ParseState) → new.chains.items ≡ old.chains.items
     → new.chain.items ≡ old.chain.items → new.depth ≡ old.depth - 1
     → new.reach ≡ old.reach → new.places.items ≡ old.places.items → HoldsScopes old c.scopes c.declared
     → HoldsScopes new (take (length c.scopes - 1) c.scopes) c.declared
-scope_left old new c chains chain depth reach places h = grind (arith, take_fewer, so_deep, reach_kept)
+scope_left old new c chains chain depth reach places h = grind (arith, take-take, so_deep, reach_kept)
 
 -- places that do not reach further keep their scopes where the last chain is cut
 places_cut : (cs : List (List ScopeName)) (chain : List ScopeName) (depth reach : ℕ) (ps : List ScopePlace)
@@ -155,7 +147,7 @@ places_cut cs chain depth reach (p ∷ ps) low within (one, others) (here, count
           let long : length (take depth chain) ≡ depth = length-take-le depth chain within in (
             omega (arith, is, length_push cs (take depth chain)),
             omega (arith, few, low, long, ap (length {A = ScopeName}) new_at),
-            ap (take p.count) new_at ∙ take_fewer depth p.count chain (omega (arith, few, low))
+            ap (take p.count) new_at ∙ take-take p.count depth chain (omega (arith, few, low))
                 ∙ ap (take p.count) (sym old_at),
           )
     ] in
@@ -199,14 +191,6 @@ one_more : (ds : List VariableDeclaration) (d : VariableDeclaration)
     → kept_variables (ds ++ d ∷ []) ≡ kept_variables ds ++ cond (not (is_skipped d)) (d ∷ []) []
 one_more ds d = filter-append (λ (e : VariableDeclaration). not (is_skipped e)) ds (d ∷ [])
 
--- no further variable is kept
-passed : (s new : Scopes) (c : ParseState) (o : Option VariableDeclaration) → new.chains.items ≡ s.chains.items
-    → new.chain.items ≡ s.chain.items → new.depth ≡ s.depth → new.reach ≡ s.reach
-    → new.places.items ≡ s.places.items → length (kept_variables (and_then c o).declared) ≤ length s.places.items
-    → HoldsScopes s c.scopes c.declared → HoldsScopes new c.scopes (and_then c o).declared
-passed s new c o chains chain depth reach places few h =
-    grind (arith, reach_kept, one_more, append-nil, length_push, as_many)
-
 -- one more variable is kept, in the open scopes
 noted : (s new : Scopes) (c : ParseState) (o : Option VariableDeclaration) → new.chains.items ≡ s.chains.items
     → new.chain.items ≡ s.chain.items → new.depth ≡ s.depth → s.reach ≤ new.reach → s.depth ≤ new.reach
@@ -243,11 +227,7 @@ noted s new c (Some d) chains chain depth far reach places more inside h =
 -- the declaration of words is in the open scopes
 declared_inside : (c : ParseState) (words : List (List ℕ)) (d : VariableDeclaration) → declaration_of c words ≡ Some d
     → d.scopes ≡ c.scopes
-declared_inside c [] d is = let never : None ≡ Some d = is in absurd (cc)
-declared_inside c (kind ∷ []) d is = let never : None ≡ Some d = is in absurd (cc)
-declared_inside c (kind ∷ size ∷ []) d is = let never : None ≡ Some d = is in absurd (cc)
-declared_inside c (kind ∷ size ∷ code ∷ []) d is = let never : None ≡ Some d = is in absurd (cc)
-declared_inside c (kind ∷ size ∷ code ∷ name ∷ names) d is = grind (arith, same_Some)
+declared_inside c words d h3 = grind (arith, same_Some)
 
 -- one more place is noted where one more variable is kept
 pub place_noted : (s new : Scopes) (c : ParseState) (words : List (List ℕ)) → new.chains.items ≡ s.chains.items

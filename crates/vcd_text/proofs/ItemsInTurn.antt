@@ -2,6 +2,12 @@
 use Rattle.std.proofs.Common.{◌≡◌, List, [], ◌∷◌, ◌++◌, refl, sym, subst, ◌∙◌}
 use Rattle.vcd_text.specs.Items.{Item}
 use Rattle.vcd_text.specs.Grammar.{ParseState, Allows, AllowsAll, state_after, state_after_item}
+use Rattle.std.proofs.Common.{ℕ, ap}
+use Rattle.vcd_text.specs.declared.fault.Fault.{Fault}
+use Rattle.vcd_text.specs.Words.{PlacedWord}
+use Rattle.vcd_text.specs.Items.{spellings}
+use Rattle.vcd_text.specs.Grammar.{initial_state, word_texts}
+use Rattle.vcd_text.specs.Faults.{WordFault, ShowsFault, fault_line}
 
 -- from the state `start` the conditions of each item hold, and the state after all of them is `told`
 pub record Leads (start : ParseState) (items : List Item) (told : ParseState) : Type 0 where
@@ -31,3 +37,21 @@ leads_both c d e (x ∷ xs) ys front back =
 -- the same items between the same states
 pub leads_same : (c d e : ParseState) (is : List Item) → Leads c is d → d ≡ e → Leads c is e
 leads_same c d e is leads same = record { allowed = leads.allowed; tells = leads.tells ∙ same }
+
+-- after the words of these items a word shows a fault, whatever follows it
+pub shown_by : (words whole begun more : List PlacedWord) (w : PlacedWord) (items : List Item) (c : ParseState)
+    (line : ℕ) (fault : Fault) → Leads initial_state items c → words ≡ whole ++ (begun ++ w ∷ more)
+    → word_texts whole ≡ spellings items → WordFault c (word_texts begun) w.text fault
+    → line ≡ fault_line c.changing begun w → ShowsFault words line fault
+shown_by words whole begun more w items c line fault leads parts spelled decided at = record {
+  items = items;
+  whole = whole;
+  begun = begun;
+  word = w;
+  more = more;
+  parts = parts;
+  spelled = spelled;
+  allowed = leads.allowed;
+  decided = subst (λ c. WordFault c (word_texts begun) w.text fault) (sym leads.tells) decided;
+  at = at ∙ ap (λ c. fault_line c.changing begun w) (sym leads.tells);
+}

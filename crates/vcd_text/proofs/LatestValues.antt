@@ -13,9 +13,10 @@ use Rattle.vcd_text.specs.Letters.{extension, short_form}
 use Rattle.vcd_text.specs.Grammar.{ValueChange}
 use Rattle.vcd_text.specs.Meaning.{latest_value}
 use Rattle.vcd_text.specs.Text.{code_of, differs_at}
-use Rattle.vcd_text.proofs.DeclaredSignals.{same_code, other_code}
+use Rattle.vcd_text.proofs.DeclaredSignals.{other_code}
 use Rattle.vcd_text.proofs.ReadValues.{ext-short}
 use Rattle.vcd_text.proofs.TextChanges.{differing, value_change_of, tick_value_changes}
+use Rattle.std.proofs.lemmas.Slice.Eq.{bytes_eq-Decides}
 
 latest_value-append : (width : ℕ) (code : List ℕ) (t : ℕ) (before : List Bit) (rs qs : List ValueChange)
     → latest_value width code t before (rs ++ qs) ≡ latest_value width code t (latest_value width code t before rs) qs
@@ -65,7 +66,7 @@ module _ (width k t : ℕ) where
         before)
     unfolding latest_value
     own_value_change [] i j d before at within come = absurd (omega arith)
-    own_value_change (s ∷ ss) zero j d before at within come = grind (arith, same_code, le-leb, later_signals)
+    own_value_change (s ∷ ss) zero j d before at within come = grind (arith, bytes_eq-Decides, le-leb, later_signals)
     own_value_change (s ∷ ss) (suc i) j d before at within come =
         grind (arith, other_code, own_value_change ss i (j + 1) d before (omega arith) (omega arith) come)
 

@@ -100,14 +100,8 @@ word_and_rest v left from word most fits within holds =
     let part = slice_range v start end in
     let few : length (letters_of count (word ∷ [])) ≡ count = grind (arith, length-letters_of) in
     let long : length part ≡ count = grind (arith, length-take-le, length-drop) in
-    let same : part ≡ letters_of count (word ∷ []) = same_letter_at part _ (long ∙ sym few) (λ k below.
-    let inside : k < count = omega (arith, below, long) in
-    let place : start + (length part - 1 - k) ≡ length v - 1 - (from + k) = omega (arith, inside, long, within) in
-    get_or-take (end - start) (drop start v) (length part - 1 - k) X (omega (arith, inside, long))
-    ∙ get_or-drop start v (length part - 1 - k) X
-    ∙ ap (λ i. get_or v i X) place
-    ∙ sym (held_letter v from word k holds (omega (arith, inside)) (omega (arith, inside)))
-    ∙ sym (given_letter count word k (omega arith) inside)) in
+    let same : part ≡ letters_of count (word ∷ []) =
+    grind (arith, same_letter_at, get_or-take, get_or-drop, held_letter, given_letter) in
     ap printed_letters (drop_split v start end (omega arith) ∙ ap (λ l. l ++ drop end v) same)
     ∙ map-append printed_letter (letters_of count (word ∷ [])) (drop end v)
 
@@ -125,10 +119,6 @@ spare_held v from word i holds inside within = grind (arith, held_letter)
 pub spare_given : (width : ℕ) (word : LetterWord) (i : ℕ) → width ≤ 64 → i + 1 < width
     → is_spare_above word i ≡ is_spare_in (letters_of width (word ∷ [])) i
 spare_given width word i narrow within = grind (arith, given_letter)
-
-abbrev bit : Bool → ℕ
-bit true = 1
-bit false = 0
 
 -- the bits that are set, by those of a letter and of the next
 abbrev mark : ℕ → ℕ → ℕ → ℕ → ℕ
@@ -164,9 +154,7 @@ needed_bit low high i small_low small_high inside =
     ∙ ap (min (bit_at low (i + 1))) (bit_at_not w64 (high / 2) i (omega (arith, small_high)) inside
     ∙ ap (λ n. 1 - n) h) in
     let both : bit_at (bit_and (high / 2) (bit_xor (low / 2) low)) i
-    ≡ min (bit_at high (i + 1)) ((bit_at low (i + 1) + bit_at low i) % 2) =
-    bit_at_and (high / 2) (bit_xor (low / 2) low) i ∙ ap (λ n. min n (bit_at (bit_xor (low / 2) low) i)) h
-    ∙ ap (min (bit_at high (i + 1))) (bit_at_xor (low / 2) low i ∙ ap (λ n. (n + bit_at low i) % 2) l) in
+    ≡ min (bit_at high (i + 1)) ((bit_at low (i + 1) + bit_at low i) % 2) = grind (arith, bit_at_and, bit_at_xor) in
     bit_at_or (bit_or (bit_xor (high / 2) high) (bit_and (low / 2) (bit_not w64 (high / 2))))
     (bit_and (high / 2) (bit_xor (low / 2) low)) i
     ∙ ap (λ n. max n (bit_at (bit_and (high / 2) (bit_xor (low / 2) low)) i))
@@ -230,13 +218,7 @@ kept_is count word marks mask least most fits is_mask tells =
     grind (arith, bit_at-lt) in
     record {
       least = omega (arith, kept);
-      most = elim (cases_lt (n - 1) (count - 1)) [
-        | inl within ↦ omega (arith, kept, within)
-        | inr past ↦ elim (cases_lt 0 n) [
-          | inl some ↦ absurd (omega (arith, (both (omega arith)).1, bit_at_ones_above (count - 1) (n - 1) past))
-          | inr none ↦ omega (arith, kept, none)
-        ]
-      ];
+      most = grind (arith, cases_lt, bit_at_ones_above);
       spare = grind (arith, bit_at_ones, spare_where_none);
       needed = λ some.
           let place : 65 - count_leading_zeros 64 m - 2 ≡ n - 1 = omega (arith, kept) in

@@ -22,6 +22,7 @@ use Rattle.vcd_core.specs.WordRows.{letter_in, letter_or, letters_of, word_at, H
 use Rattle.vcd_core.proofs.ValueLemmas.{same_letter_at, length-letters_of, letter_at-letters_of, one_word}
 use Rattle.vcd_text.specs.Letters.{is_binary_digit, letter_of_digit, letters_of_digits, pad_letter, extension}
 use Rattle.vcd_text.specs.inside.LetterWords.{digits_of, AddsLetters}
+use Rattle.std.proofs.lemmas.Bool.{and_left, and_right}
 
 -- ---- one letter more
 
@@ -45,11 +46,6 @@ held pad s word holds i inside = holds.each i inside ∙ ap (letter_or pad s) (l
 holds_each : (pad : Bit) (s : List Bit) (word : LetterWord)
     → ((i : ℕ) → i < 64 → letter_in word i ≡ letter_or pad s i) → HoldsLetters pad s 0 word
 holds_each pad s word each = grind arith
-
--- a word of one letter holds no others
-pub none_held : (pad : Bit) (word : LetterWord) → ((i : ℕ) → i < 64 → letter_in word i ≡ pad)
-    → HoldsLetters pad [] 0 word
-none_held pad word each = holds_each pad [] word (λ i inside. each i inside ∙ sym (past_text pad [] i (omega arith)))
 
 -- ---- more letters below those that a word holds
 
@@ -161,19 +157,13 @@ pub not_all_after : (n : ℕ) (digits : List ℕ) → list_all is_binary_digit (
     → list_all is_binary_digit digits ≡ false
 not_all_after n digits none =
     ap (list_all is_binary_digit) (sym (take-append-drop n digits))
-    ∙ list_all-append is_binary_digit (take n digits) (drop n digits)
-    ∙ ap (λ b. list_all is_binary_digit (take n digits) && b) none ∙ no_both (list_all is_binary_digit (take n digits))
-  where
-    no_both : (b : Bool) → (b && false) ≡ false
-    no_both true = refl
-    no_both false = refl
+    ∙ list_all-append is_binary_digit (take n digits) (drop n digits) ∙ and_right _ _ none
 
 pub not_all_before : (n : ℕ) (digits : List ℕ) → list_all is_binary_digit (take n digits) ≡ false
     → list_all is_binary_digit digits ≡ false
 not_all_before n digits none =
     ap (list_all is_binary_digit) (sym (take-append-drop n digits))
-    ∙ list_all-append is_binary_digit (take n digits) (drop n digits)
-    ∙ ap (λ b. b && list_all is_binary_digit (drop n digits)) none
+    ∙ list_all-append is_binary_digit (take n digits) (drop n digits) ∙ and_left _ _ none
 
 -- where a byte of a word is no digit, not all are
 pub no_letter : (digits : List ℕ) (k : ℕ) → list_all is_binary_digit (digits_of digits k) ≡ false
@@ -186,30 +176,15 @@ no_letter digits k none = grind (arith, not_all_after, not_all_before)
 extension_letter : (width : ℕ) (s : List Bit) (i : ℕ) → length s ≤ width → i < width
     → letter_at (extension width s) i ≡ letter_or (pad_letter s) s i
 extension_letter width s i fits inside =
-    let pad = pad_letter s in
-    let pads = replicate (width - length s) pad in
-    let front : length pads ≡ width - length s = length-replicate (width - length s) pad in
-    let long : length (pads ++ s) ≡ width = length-append pads s ∙ omega (arith, front) in
-    let place : length (pads ++ s) - 1 - i ≡ width - 1 - i = omega (arith, long) in
-    ap (λ n. get_or (pads ++ s) n X) place ∙ elim (cases_lt i (length s)) [
-      | inl within ↦
-          let at : width - 1 - i - (width - length s) ≡ length s - 1 - i = omega arith in
-          get_or-append_right pads s (width - length s) (width - 1 - i) X front (omega arith)
-          ∙ ap (λ n. get_or s n X) at ∙ sym (in_text pad s i within)
-      | inr past ↦
-          get_or_append_left pads s X (width - 1 - i) (omega (arith, front))
-          ∙ get_or-replicate (width - length s) (width - 1 - i) pad X (omega arith)
-          ∙ sym (past_text pad s i past)
-    ]
+    let pads = length-replicate (width - length s) (pad_letter s) in
+    grind (arith, pads, length-append, cases_lt, get_or-append_right, get_or_append_left, get_or-replicate)
 
 -- a row that holds all letters is the extension
 pub row_is_extension : (width count : ℕ) (s : List Bit) (words : List LetterWord) → length s ≤ width
     → width ≤ 64 * count → RowHolds (pad_letter s) s count words → letters_of width words ≡ extension width s
 row_is_extension width count s words fits covers row =
-    let long : length (extension width s) ≡ width = grind (arith, length-append, length-replicate) in
-    same_letter_at _ _ (length-letters_of width words ∙ sym long) (λ i below.
-    let inside : i < width = omega (arith, length-letters_of width words) in
-    letter_at-letters_of width words i inside ∙ row.each i (omega arith) ∙ sym (extension_letter width s i fits inside))
+    let long = length-letters_of width words in
+    grind (arith, long, length-append, length-replicate, same_letter_at, letter_at-letters_of, extension_letter)
 
 -- a word that holds all letters is the extension, where the width is at most 64
 pub word_is_extension : (width : ℕ) (s : List Bit) (word : LetterWord) → length s ≤ width → width ≤ 64

@@ -123,24 +123,17 @@ stops from to position cs n rise is late = grind (arith, ends)
 
 -- ---- signal by signal
 
--- the next change of one signal, put in its place
-put_next : (from p k : ℕ) (signals : List Signal) (nexts : List NextChange) (there s : Signal) (next n : NextChange)
-    → k ≡ p → p < length signals → length nexts ≡ length signals
-    → there ≡ get_or signals p there → IsNext from from there.wave.changes next
-    → IsNext from from (get_or signals k s).wave.changes (get_or (set nexts p next) k n)
-put_next from p k signals nexts there s next n at inside all is holds = grind (arith, get_or_default, get_or-set_same)
-
 -- the signals before a place, and one more
-pub passed_next : (from p : ℕ) (signals : List Signal) (nexts : List NextChange) (there : Signal) (next : NextChange)
-    → p < length signals → length nexts ≡ length signals → there ≡ get_or signals p there
+pub passed_next : (from p : ℕ) (signals : List Signal) (next_changes : List NextChange) (there : Signal)
+    (next : NextChange) → p < length signals → length next_changes ≡ length signals → there ≡ get_or signals p there
     → IsNext from from there.wave.changes next
     → ((k : ℕ) (s : Signal) (n : NextChange) → k < p
-    → IsNext from from (get_or signals k s).wave.changes (get_or nexts k n))
+    → IsNext from from (get_or signals k s).wave.changes (get_or next_changes k n))
     → (k : ℕ) (s : Signal) (n : NextChange) → k < p + 1
-    → IsNext from from (get_or signals k s).wave.changes (get_or (set nexts p next) k n)
-passed_next from p signals nexts there next inside all is holds before k s n less =
+    → IsNext from from (get_or signals k s).wave.changes (get_or (set next_changes p next) k n)
+passed_next from p signals next_changes there next inside all is holds before k s n less =
     elim (cases_eq k p) [
-      | inl at ↦ put_next from p k signals nexts there s next n at inside all is holds
+      | inl at ↦ (grind (arith, get_or_default, get_or-set_same))
       | inr apart ↦ subst (λ (x : NextChange). IsNext from from (get_or signals k s).wave.changes x)
-          (sym (get_or-set_other nexts p k next n apart)) (before k s n (omega arith))
+          (sym (get_or-set_other next_changes p k next n apart)) (before k s n (omega arith))
     ]

@@ -2,7 +2,6 @@
 use Rattle.std.proofs.Common.{◌≡◌, ℕ, zero, suc, Bool, true, false, List, [], ◌∷◌, ◌++◌, length, drop, refl, sym, ap}
 use Rattle.std.proofs.Common.{subst, ◌∙◌, append_assoc, arith}
 use Rattle.std.proofs.lemmas.List.{append-nil, drop_at, length-append, length-map, map-append}
-use Rattle.std.proofs.lemmas.Bool.{true≢false}
 use Rattle.vcd_core.specs.Contents.{Contents}
 use Rattle.vcd_text.specs.declared.fault.Fault.{Fault}
 use Rattle.vcd_text.specs.Words.{PlacedWord, words_of}
@@ -23,18 +22,6 @@ IsLast (faulty place fault) = Unit {0}
 IsLast unfinished = Unit {0}
 IsLast ended = Unit {0}
 
-abbrev item_of : Item → Front → Item
-item_of d (whole i rest) = i
-item_of d (faulty place fault) = d
-item_of d unfinished = d
-item_of d ended = d
-
-abbrev rest_of : Front → List (List ℕ)
-rest_of (whole i rest) = rest
-rest_of (faulty place fault) = []
-rest_of unfinished = []
-rest_of ended = []
-
 -- two readings of the same words have the same items and end at the same word
 same_end : (c : ParseState) (is js : List Item) (r s : List (List ℕ)) → spellings is ++ r ≡ spellings js ++ s
     → AllowsAll c is → AllowsAll c js
@@ -48,8 +35,9 @@ same_end c (i ∷ is) (j ∷ js) r s e a b p q =
     ∙ ap (front_of c) (sym (append_assoc (spelling i) (spellings is) r) ∙ e
     ∙ append_assoc (spelling j) (spellings js) s)
     ∙ whole_front c j (spellings js ++ s) b.0 in
-    let same : i ≡ j = ap (item_of i) f in
-    let further = same_end (state_after_item c i) is js r s (ap rest_of f) a.1
+    let same : i ≡ j = cc in
+    let rest : spellings is ++ r ≡ spellings js ++ s = cc in
+    let further = same_end (state_after_item c i) is js r s rest a.1
     (subst (λ x. AllowsAll (state_after_item c x) js) (sym same) b.1) p
     (subst (λ x. IsLast (front_of (state_after (state_after_item c x) js) s)) (sym same) q) in
     (ap (λ x. x ∷ is) same ∙ ap (λ x. j ∷ x) further.0, further.1)
@@ -104,27 +92,13 @@ line_after_begun (w ∷ begun) word more = line_after_begun begun word more
 
 line_replied : (changing : Bool) (begun : List PlacedWord) (word : PlacedWord) (more : List PlacedWord)
     → line_at (begun ++ word ∷ more) (place_of changing (word_texts begun)) ≡ fault_line changing begun word
-line_replied false begun word more = line_after_begun begun word more
-line_replied true [] word more = refl
-line_replied true (w ∷ begun) word more = refl
+line_replied changing begun word more = grind (arith, line_after_begun)
 
 -- two rests of one list that are equally long are the same
 same_rest : (words a b r s : List PlacedWord) → words ≡ a ++ r → words ≡ b ++ s → length r ≡ length s → r ≡ s
 same_rest words a b r s p q e =
     let n : length a ≡ length b = omega (arith, length-append a r, length-append b s, ap length (sym p ∙ q), e) in
     sym (drop_at a r (length a) refl) ∙ ap (drop (length a)) (sym p ∙ q) ∙ drop_at b s (length a) (sym n)
-
-abbrev place_in : Front → ℕ
-place_in (whole i rest) = 0
-place_in (faulty place fault) = place
-place_in unfinished = 0
-place_in ended = 0
-
-abbrev fault_in : Fault → Front → Fault
-fault_in d (whole i rest) = d
-fault_in d (faulty place fault) = fault
-fault_in d unfinished = d
-fault_in d ended = d
 
 -- ---- one answer for the words
 
@@ -138,43 +112,32 @@ pub one_fault : (words : List PlacedWord) (line other_line : ℕ) (fault other_f
 one_fault words line other_line fault other_fault p q =
     let e = one_end (word_texts words) _ _ _ _ _ _ (refuses_ends words line fault p)
     (refuses_ends words other_line other_fault q) in
+    let places : place_of (state_after initial_state p.items).changing (word_texts p.begun)
+    ≡ place_of (state_after initial_state q.items).changing (word_texts q.begun) = cc (e.2) in
     let long : length (p.begun ++ p.word ∷ p.more) ≡ length (q.begun ++ q.word ∷ q.more) = grind (arith, length-map) in
     let rests : p.begun ++ p.word ∷ p.more ≡ q.begun ++ q.word ∷ q.more =
     same_rest words p.whole q.whole _ _ p.parts q.parts long in (
       p.at ∙ sym (line_replied _ p.begun p.word p.more)
           ∙ ap (λ x. line_at x (place_of (state_after initial_state p.items).changing (word_texts p.begun))) rests
-          ∙ ap (λ f. line_at (q.begun ++ q.word ∷ q.more) (place_in f)) e.2 ∙ line_replied _ q.begun q.word q.more
-          ∙ sym q.at,
-      ap (fault_in fault) e.2,
+          ∙ ap (line_at (q.begun ++ q.word ∷ q.more)) places ∙ line_replied _ q.begun q.word q.more ∙ sym q.at,
+      cc (e.2),
     )
-
-abbrev is_ended : Front → Bool
-is_ended (whole i rest) = false
-is_ended (faulty place fault) = false
-is_ended unfinished = false
-is_ended ended = true
-
-abbrev is_unfinished : Front → Bool
-is_unfinished (whole i rest) = false
-is_unfinished (faulty place fault) = false
-is_unfinished unfinished = true
-is_unfinished ended = false
 
 pub accepted-not_refused : (words : List PlacedWord) (told : ParseState) (line : ℕ) (fault : Fault) → Accepts words told
     → ShowsFault words line fault → ⊥
 accepted-not_refused words told line fault p q =
-    true≢false (ap is_ended
-    (one_end (word_texts words) _ _ _ _ _ _ (accepts_ends words told p) (refuses_ends words line fault q)).2)
+    let e = one_end (word_texts words) _ _ _ _ _ _ (accepts_ends words told p) (refuses_ends words line fault q) in
+    absurd (cc (e.2))
 
 pub accepted-not_stopped : (words : List PlacedWord) (told : ParseState) → Accepts words told → Stops words → ⊥
 accepted-not_stopped words told p q =
-    true≢false (ap is_ended (one_end (word_texts words) _ _ _ _ _ _ (accepts_ends words told p) (stops_ends words q)).2)
+    let e = one_end (word_texts words) _ _ _ _ _ _ (accepts_ends words told p) (stops_ends words q) in absurd (cc (e.2))
 
 pub stopped-not_refused : (words : List PlacedWord) (line : ℕ) (fault : Fault) → Stops words
     → ShowsFault words line fault → ⊥
 stopped-not_refused words line fault p q =
-    true≢false (ap is_unfinished
-    (one_end (word_texts words) _ _ _ _ _ _ (stops_ends words p) (refuses_ends words line fault q)).2)
+    let e = one_end (word_texts words) _ _ _ _ _ _ (stops_ends words p) (refuses_ends words line fault q) in
+    absurd (cc (e.2))
 
 -- ---- one answer for a file
 

@@ -14,7 +14,7 @@ use Rattle.std.proofs.lemmas.List.Sorted.{IsPermutation-map}
 use Rattle.vcd_core.specs.declared.capture.TheConstants.{END_LIMIT}
 use Rattle.vcd_core.specs.Contents.{SignalContents}
 use Rattle.vcd_core.specs.Sound.{IsSoundSignal}
-use Rattle.vcd_text.specs.declared.writing.window.TheConstants.{PLACES}
+use Rattle.vcd_text.specs.declared.writing.window.TheConstants.{POSITIONS}
 use Rattle.vcd_text.specs.inside.Transitions.{Transition, last_tick, transition_items, transition_of, transition_value}
 use Rattle.vcd_text.specs.inside.Transitions.{transitions_from, unsorted_window}
 use Rattle.vcd_text.specs.inside.Windows.{IsKey, transition_of_key, transitions_of}
@@ -24,7 +24,7 @@ use Rattle.vcd_text.proofs.Sorting.{AtLeast, RisesFrom, same_transitions, times,
 
 -- a key that is not below another is that of a transition at its place or after it
 not_below : (from a b : ℕ) → a ≤ b
-    → AtLeast (from + a / PLACES) (a % PLACES) (transition_of_key from b)
+    → AtLeast (from + a / POSITIONS) (a % POSITIONS) (transition_of_key from b)
 not_below from a b up = grind (arith, cases_lt)
 
 not_less : (a b : ℕ) → is_lt (nat_cmp b a) ≡ false → a ≤ b
@@ -33,7 +33,7 @@ not_less a b is = grind (arith, cases_lt, lt-ltb)
 rises_after : (from key : ℕ) (keys : List ℕ)
     → ((k d : ℕ) → k + 1 < length (key ∷ keys)
     → is_lt (nat_cmp (get_or (key ∷ keys) (k + 1) d) (get_or (key ∷ keys) k d)) ≡ false)
-    → RisesFrom (from + key / PLACES) (key % PLACES) (transitions_of from keys)
+    → RisesFrom (from + key / POSITIONS) (key % POSITIONS) (transitions_of from keys)
 rises_after from key [] up = tt
 rises_after from key (next ∷ keys) up = (
   not_below from key next (not_less key next (up 0 0 (omega arith))),
@@ -61,14 +61,14 @@ ordered_are end from n ss keys sorted some listed moved up sound =
 -- ---- one key
 
 -- it is listed before others
-pub one_key : (from tick position key : ℕ) (keys new : List ℕ) (rest whole : List Transition) → position < PLACES
-    → from ≤ tick → key ≡ (tick - from) * PLACES + position → new ≡ keys ++ key ∷ []
+pub one_key : (from tick position key : ℕ) (keys new : List ℕ) (rest whole : List Transition) → position < POSITIONS
+    → from ≤ tick → key ≡ (tick - from) * POSITIONS + position → new ≡ keys ++ key ∷ []
     → transitions_of from keys ++ transition_of tick position ∷ rest ≡ whole
     → transitions_of from new ++ rest ≡ whole
 one_key from tick position key keys new rest whole small late is grown all = grind (arith, map-append, append_assoc)
 
-pub key_holds : (from tick position count key : ℕ) (keys new : List ℕ) → position < PLACES → position < count
-    → from ≤ tick → tick ≤ END_LIMIT → key ≡ (tick - from) * PLACES + position → new ≡ keys ++ key ∷ []
+pub key_holds : (from tick position count key : ℕ) (keys new : List ℕ) → position < POSITIONS → position < count
+    → from ≤ tick → tick ≤ END_LIMIT → key ≡ (tick - from) * POSITIONS + position → new ≡ keys ++ key ∷ []
     → All (IsKey from count) keys → All (IsKey from count) new
 key_holds from tick position count key keys new small inside late end is grown all =
     subst (All (IsKey from count)) (sym grown)
@@ -89,7 +89,7 @@ one_written signals from last k keys within = grind (arith, drop_more, flat_map-
 
 pub one_later : (from last k whole : ℕ) (keys : List ℕ) → k < length keys
     → last_tick last (transitions_of from (drop k keys)) ≡ whole
-    → last_tick (from + get_or keys k 0 / PLACES) (transitions_of from (drop (k + 1) keys)) ≡ whole
+    → last_tick (from + get_or keys k 0 / POSITIONS) (transitions_of from (drop (k + 1) keys)) ≡ whole
 unfolding last_tick
 one_later from last k whole keys within all = grind (arith, drop_more)
 

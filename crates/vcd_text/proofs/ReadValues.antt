@@ -19,10 +19,7 @@ use Rattle.vcd_text.specs.Grammar.{is_binary_number}
 -- ---- letters
 
 pub letter_back : (b : Bit) → letter_of_digit (printed_letter b) ≡ Some b
-letter_back Zero = refl
-letter_back One = refl
-letter_back X = refl
-letter_back Z = refl
+letter_back b = grind arith
 
 pub letters_back : (s : List Bit) → letters_of_digits (printed_letters s) ≡ s
 letters_back [] = refl

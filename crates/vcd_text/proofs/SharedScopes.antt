@@ -20,6 +20,7 @@ use Rattle.vcd_text.specs.Text.{same_scope, scope_items}
 use Rattle.vcd_text.proofs.Scopes.{all_closed}
 use Rattle.vcd_text.proofs.WeakerTests.{all_weaker}
 use Rattle.vcd_text.proofs.ItemsInTurn.{Leads, leads_none, leads_first, leads_both, leads_same}
+use Rattle.std.proofs.lemmas.List.Folds.{list_all-append}
 
 -- the state in the middle of the declarations
 abbrev pub declaring : List Header → Option Timescale → List ScopeName → List VariableDeclaration → ParseState
@@ -36,12 +37,7 @@ declaring header timescale scopes declared =
 
 -- scopes that compare as the same are one
 same_scope_is : (a b : ScopeName) → same_scope a b ≡ true → a ≡ b
-same_scope_is a b same =
-    let parts : (bytes_eq a.kind b.kind ≡ true) × (pointwise bytes_eq a.words b.words ≡ true) =
-    and_parts (bytes_eq a.kind b.kind) (pointwise bytes_eq a.words b.words) same in
-    let kind : a.kind ≡ b.kind = (bytes_eq-Decides a.kind b.kind).0 parts.0 in
-    let words : a.words ≡ b.words = (pointwise_decides bytes_eq-Decides a.words b.words).0 parts.1 in
-    λ i. record { kind = kind i; words = words i }
+same_scope_is a b same = grind (arith, pointwise, and_parts, bytes_eq-Decides, pointwise_decides)
 
 -- the front that two paths share is a front of both
 shared_front : (xs ys : List ScopeName)
@@ -56,13 +52,12 @@ shared_front (x ∷ xs) (y ∷ ys) =
     (λ other. refl)
 
 -- the scopes from a place on are sound
-later_scopes : (n : ℕ) (path : List ScopeName) → list_all is_sound_scope path ≡ true
+pub later_scopes : (n : ℕ) (path : List ScopeName) → list_all is_sound_scope path ≡ true
     → list_all is_sound_scope (drop n path) ≡ true
-later_scopes zero [] sound = refl
-later_scopes (suc n) [] sound = refl
-later_scopes zero (s ∷ path) sound = sound
-later_scopes (suc n) (s ∷ path) sound =
-    later_scopes n path (and_parts (is_sound_scope s) (list_all is_sound_scope path) sound).1
+later_scopes n path sound =
+    (and_parts (list_all is_sound_scope (take n path)) (list_all is_sound_scope (drop n path))
+    (sym (list_all-append is_sound_scope (take n path) (drop n path))
+    ∙ ap (list_all is_sound_scope) (take-append-drop n path) ∙ sound)).1
 
 -- words are not `$end`
 pub words_have_no_end : (ws : List (List ℕ)) → list_all is_word ws ≡ true → has_no_end_word ws ≡ true

@@ -27,14 +27,10 @@ shortened (a ∷ b ∷ s) = cond (same_letter (pad_letter (b ∷ [])) a) (shorte
 abbrev fits : List Bit → List Bit → Bool
 fits w t = same_letters (extension (length w) t) w
 
--- a text whose extension is a value has the extending letter of the value
-same_pad : (b : Bit) (s t : List Bit) → fits (b ∷ s) t ≡ true → pad_letter t ≡ pad_letter (b ∷ [])
-same_pad b s t is = grind (arith, same_letters-Decides)
-
 -- one more letter in front
 fits_more : (a b : Bit) (s t : List Bit) → length t ≤ length (b ∷ s)
     → fits (a ∷ b ∷ s) t ≡ (same_letter (pad_letter (b ∷ [])) a && fits (b ∷ s) t)
-fits_more a b s t within = grind (arith, same_pad)
+fits_more a b s t within = grind (arith, same_letters-Decides)
 
 -- no text is longer than this
 abbrev NoLonger : ℕ → List (List Bit) → Type 0

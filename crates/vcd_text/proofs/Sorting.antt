@@ -49,10 +49,7 @@ RisesFrom t k [] = Unit {0}
 RisesFrom t k (m ∷ ms) = AtLeast t k m × RisesFrom m.tick m.position ms
 
 before_move : (u j t k : ℕ) (m : Transition) → Before u j t k → AtLeast t k m → Before u j m.tick m.position
-before_move u j t k m (inl a) (inl b) = inl (omega arith)
-before_move u j t k m (inl a) (inr (b, c)) = inl (omega arith)
-before_move u j t k m (inr (a, d)) (inl b) = inl (omega arith)
-before_move u j t k m (inr (a, d)) (inr (b, c)) = inr (omega arith, omega arith)
+before_move u j t k m h5 h6 = grind arith
 
 not_before : (u j : ℕ) (m : Transition) → Before u j m.tick m.position → once u j m ≡ 0
 not_before u j m (inl a) = ap (λ b. counted (b && (m.position == j))) (ne_eqb m.tick u (omega arith))

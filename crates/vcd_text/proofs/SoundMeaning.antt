@@ -33,6 +33,7 @@ use Rattle.vcd_text.specs.Grammar.{variable_of, may_have_code, has_room, value_c
 use Rattle.vcd_text.specs.Grammar.{takes_binary_number}
 use Rattle.vcd_text.proofs.WordLaws.{is_run_text, texts_are_runs, run_is_word}
 use Rattle.vcd_text.specs.Meaning.{meaning, declared_signal, latest_value}
+use Rattle.std.proofs.lemmas.List.Folds.{find-append}
 
 -- ---- words
 
@@ -71,19 +72,12 @@ found_further P p (x ∷ xs) y some =
 -- the last item is found where none before it is
 found_last : {A : Type 0} (p : A → Bool) (xs : List A) (y : A) → find p xs ≡ None → p y ≡ true
     → find p (xs ++ y ∷ []) ≡ Some y
-found_last p [] y none here = ap (λ b. cond b (Some y) None) here
-found_last p (x ∷ xs) y none here =
-    by_test (λ b. cond b (Some x) (find p xs) ≡ None → cond b (Some x) (find p (xs ++ y ∷ [])) ≡ Some y) (p x)
-    (λ _ h. absurd (cc h)) (λ _ h. found_last p xs y h here) none
+found_last p xs y none here = grind (arith, find-append)
 
 all_taken : {A : Type 0} (p : A → Bool) (n : ℕ) (xs : List A) → list_all p xs ≡ true → list_all p (take n xs) ≡ true
 all_taken p n xs all =
     (and_parts (list_all p (take n xs)) (list_all p (drop n xs)) (sym (list_all-append p (take n xs) (drop n xs))
     ∙ ap (list_all p) (take-append-drop n xs) ∙ all)).0
-
-same_bytes : (bytes : List ℕ) → bytes_eq bytes bytes ≡ true
-same_bytes [] = refl
-same_bytes (b ∷ bs) = and_from (nat_eq b b) (bytes_eq bs bs) (eq-eqb b b refl) (same_bytes bs)
 
 -- ---- the invariant
 
@@ -191,7 +185,7 @@ clean_declared c d clean declaring is shares room =
         → is_skipped d ≡ false
         → IsSomeAnd (find (λ y. bytes_eq d.code y.code) (c.declared ++ d ∷ [])) (λ e. (e.size ≡ d.size)
         × (is_skipped e ≡ false))
-    first_or_same None none shares keeps = grind (arith, found_last, same_bytes)
+    first_or_same None none shares keeps = grind (arith, found_last, bytes_eq-Decides)
     first_or_same (Some x) some shares keeps =
         let here : ((is_skipped x && false) || (not (is_skipped x) && true && (x.size == d.size))) ≡ true =
         grind arith in
@@ -284,22 +278,14 @@ unfolding latest_value
 latest_length width code t before [] long all = long
 latest_length width code t before (r ∷ rs) long all =
     latest_length width code t (cond (bytes_eq r.code code && nat_le r.tick t) (extension width r.letters) before) rs
-    (by_test (λ b. length (cond b (extension width r.letters) before) ≡ width) (bytes_eq r.code code && nat_le r.tick t)
-    (λ here. length-ext width r.letters
-    (All-head (FitsWidth width code) r rs all (and_parts (bytes_eq r.code code) (nat_le r.tick t) here).0))
-    (λ _. long)) (All-tail (FitsWidth width code) r rs all)
-
--- the value changes of a kept code fit its width
-value_changes_fit : (c : ParseState) (d : VariableDeclaration) → IsAgreed c d → is_skipped d ≡ false
-    → All (Fits c) c.value_changes → All (FitsWidth d.size d.code) c.value_changes
-value_changes_fit c d agrees keeps fit = grind (arith, All-weaker, bytes_eq-Decides)
+    (grind (arith, by_test, length-ext, and_parts, All-head)) (All-tail (FitsWidth width code) r rs all)
 
 sound_signal : (c : ParseState) (d : VariableDeclaration) → IsClean c → IsCleanDeclaration d → IsAgreed c d
     → is_skipped d ≡ false → IsSoundSignal c.tick (declared_signal c.value_changes c.tick d)
 sound_signal c d clean is agrees keeps =
     let width = kept_is d keeps in
     let values : (t : ℕ) → length (latest_value d.size d.code t (all_x d.size) c.value_changes) ≡ d.size =
-    grind (arith, latest_length, length-replicate, value_changes_fit) in
+    grind (arith, latest_length, length-replicate, All-weaker, bytes_eq-Decides) in
     record {
       scopes = is.scopes;
       kind = is.kind;

@@ -20,9 +20,7 @@ pub sound_count : (t : Timescale) → is_sound_timescale t ≡ true → IsCount 
 sound_count t sound = grind (arith, or_cases, eqb-true)
 
 pub count_small : (n : ℕ) → IsCount n → n < 2 ^ 64
-count_small n (inl e) = omega arith
-count_small n (inr (inl e)) = omega arith
-count_small n (inr (inr e)) = omega arith
+count_small n h1 = grind arith
 
 -- the timescale that a text spells
 abbrev found_in : List ℕ → Timescale → Type 0
@@ -51,6 +49,4 @@ counted n unit (inr (inr e)) =
 -- its number and its unit, as two words, are read back
 pub timescale_read : (t : Timescale) → is_sound_timescale t ≡ true
     → timescale_of (decimal t.count ∷ unit_text t.unit ∷ []) ≡ Some t
-timescale_read t sound =
-    subst (λ text. found_in text t) (ap (λ l. decimal t.count ++ l) (sym (append-nil (unit_text t.unit))))
-    (counted t.count t.unit (sound_count t sound))
+timescale_read t sound = grind (arith, append-nil, counted, sound_count)

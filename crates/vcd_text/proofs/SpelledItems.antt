@@ -26,11 +26,13 @@ use Rattle.vcd_text.specs.Grammar.{word_texts}
 use Rattle.vcd_text.specs.Text.{header_items, timescale_items, same_scope, scope_items, code_of, variable_item}
 use Rattle.vcd_text.specs.Text.{signal_items, value_items}
 use Rattle.vcd_text.specs.Text.{with_stamp, first_items, tick_items, end_items, items_of, text}
-use Rattle.vcd_text.proofs.CodesDiffer.{code_black, code_not_empty}
+use Rattle.vcd_text.proofs.CodesDiffer.{code_no_space, code_not_empty}
 use Rattle.vcd_text.proofs.Decimals.{decimal_digits, decimal_not_empty}
 use Rattle.vcd_text.proofs.SoundTimescales.{sound_count, count_small}
 use Rattle.vcd_text.proofs.WeakerTests.{all_weaker}
 use Rattle.vcd_text.proofs.TextWords.{is_unbroken, is_spelled, words_of_lines}
+use Rattle.vcd_text.proofs.Scopes.{all_closed}
+use Rattle.vcd_text.proofs.SharedScopes.{later_scopes}
 
 -- ---- words
 
@@ -46,24 +48,24 @@ pub words_are_unbroken : (ws : List (List ℕ)) → list_all is_word ws ≡ true
 words_are_unbroken ws words = all_weaker is_word is_unbroken word_is_unbroken ws words
 
 no_space_is_unbroken : (w : List ℕ) → 0 < length w → list_all has_no_space w ≡ true → is_unbroken w ≡ true
-no_space_is_unbroken [] some black = absurd (omega arith)
-no_space_is_unbroken (b ∷ bs) some black = black
+no_space_is_unbroken [] some no_space = absurd (omega arith)
+no_space_is_unbroken (b ∷ bs) some no_space = no_space
 
-digit_is_black : (b : ℕ) → is_ascii_digit b ≡ true → has_no_space b ≡ true
-digit_is_black b digit = grind (arith, leb-true, and_parts, not_from_false, or_from, and_right, lt-leb, ne_eqb)
+digit_is_no_space : (b : ℕ) → is_ascii_digit b ≡ true → has_no_space b ≡ true
+digit_is_no_space b digit = grind (arith, leb-true, and_parts, not_from_false, or_from, and_right, lt-leb, ne_eqb)
 
-decimal_black : (n : ℕ) → n < 2 ^ 64 → list_all has_no_space (decimal n) ≡ true
-decimal_black n small = all_weaker is_ascii_digit has_no_space digit_is_black (decimal n) (decimal_digits n small)
+decimal_no_space : (n : ℕ) → n < 2 ^ 64 → list_all has_no_space (decimal n) ≡ true
+decimal_no_space n small = all_weaker is_ascii_digit has_no_space digit_is_no_space (decimal n) (decimal_digits n small)
 
 pub decimal_unbroken : (n : ℕ) → n < 2 ^ 64 → is_unbroken (decimal n) ≡ true
-decimal_unbroken n small = no_space_is_unbroken (decimal n) (decimal_not_empty n small) (decimal_black n small)
+decimal_unbroken n small = no_space_is_unbroken (decimal n) (decimal_not_empty n small) (decimal_no_space n small)
 
 pub code_unbroken : (k : ℕ) → is_unbroken (code_of k) ≡ true
-code_unbroken k = no_space_is_unbroken (code_of k) (code_not_empty k) (code_black k)
+code_unbroken k = no_space_is_unbroken (code_of k) (code_not_empty k) (code_no_space k)
 
-printed_black : (v : List Bit) → list_all has_no_space (printed_letters v) ≡ true
-printed_black [] = refl
-printed_black (b ∷ v) = grind (arith, and_from, printed_black v)
+printed_no_space : (v : List Bit) → list_all has_no_space (printed_letters v) ≡ true
+printed_no_space [] = refl
+printed_no_space (b ∷ v) = grind (arith, and_from, printed_no_space v)
 
 -- a word with another byte in front
 longer_unbroken : (b : ℕ) (w : List ℕ) → has_no_space b ≡ true → list_all has_no_space w ≡ true
@@ -71,9 +73,7 @@ longer_unbroken : (b : ℕ) (w : List ℕ) → has_no_space b ≡ true → list_
 longer_unbroken b w first rest = and_from (has_no_space b) (list_all has_no_space w) first rest
 
 header_word_unbroken : (kind : HeaderKind) → is_unbroken (header_word kind) ≡ true
-header_word_unbroken Date = refl
-header_word_unbroken Version = refl
-header_word_unbroken Comment = refl
+header_word_unbroken kind = grind arith
 
 -- ---- items
 
@@ -91,20 +91,17 @@ one_word : (w : List ℕ) → is_unbroken w ≡ true → list_all is_unbroken (w
 one_word w unbroken = and_from (is_unbroken w) true unbroken refl
 
 vector_spelled : (k : ℕ) (v : List Bit) → is_spelled (vector 98 (printed_letters (short_form v)) (code_of k)) ≡ true
-vector_spelled k v = grind (arith, and_from, longer_unbroken, printed_black, one_word, code_unbroken)
+vector_spelled k v = grind (arith, and_from, longer_unbroken, printed_no_space, one_word, code_unbroken)
 
 values_spelled : (t : ℕ) (placed : List (ℕ × SignalContents)) → list_all is_spelled (value_items t placed) ≡ true
 values_spelled t [] = refl
 values_spelled t (p ∷ ps) =
-    grind (arith, and_from, vector_spelled, one_word, longer_unbroken, code_black, values_spelled t ps)
+    grind (arith, and_from, vector_spelled, one_word, longer_unbroken, code_no_space, values_spelled t ps)
 
 stamped_spelled : (t : ℕ) (items : List Item) → t < 2 ^ 64 → list_all is_spelled items ≡ true
     → list_all is_spelled (with_stamp t items) ≡ true
 stamped_spelled t [] small spelled = refl
-stamped_spelled t (v ∷ vs) small spelled = grind (arith, and_from, one_word, longer_unbroken, decimal_black)
-
-first_spelled : (signals : List SignalContents) → list_all is_spelled (first_items signals) ≡ true
-first_spelled signals = grind (arith, both_spelled, and_from, one_word, longer_unbroken, decimal_black, values_spelled)
+stamped_spelled t (v ∷ vs) small spelled = grind (arith, and_from, one_word, longer_unbroken, decimal_no_space)
 
 ticks_spelled : (signals : List SignalContents) (t n : ℕ) → t + n ≤ 2 ^ 64
     → list_all is_spelled (tick_items signals t n) ≡ true
@@ -112,10 +109,6 @@ unfolding tick_items
 ticks_spelled signals t zero small = refl
 ticks_spelled signals t (suc n) small =
     grind (arith, both_spelled, stamped_spelled, values_spelled, ticks_spelled signals (suc t) n (omega arith))
-
-end_spelled : (signals : List SignalContents) (end : ℕ) → end < 2 ^ 64
-    → list_all is_spelled (end_items signals end) ≡ true
-end_spelled signals end small = grind (arith, cond_both, and_from, one_word, longer_unbroken, decimal_black)
 
 header_spelled : (header : List Header) → list_all is_sound_header header ≡ true
     → list_all is_spelled (header_items header) ≡ true
@@ -136,39 +129,30 @@ upscopes_spelled : (n : ℕ) → list_all is_spelled (replicate n upscope) ≡ t
 upscopes_spelled zero = refl
 upscopes_spelled (suc n) = upscopes_spelled n
 
-all_upscopes_spelled : (opened : List ScopeName) → list_all is_spelled (map (λ s. upscope) opened) ≡ true
-all_upscopes_spelled [] = refl
-all_upscopes_spelled (s ∷ opened) = all_upscopes_spelled opened
-
-scopes_spelled : (n : ℕ) (path : List ScopeName) → list_all is_sound_scope path ≡ true
-    → list_all is_spelled (map (λ s. scope s.kind s.words) (drop n path)) ≡ true
-scopes_spelled zero [] sound = refl
-scopes_spelled (suc n) [] sound = refl
-scopes_spelled zero (s ∷ path) sound =
+scopes_spelled : (path : List ScopeName) → list_all is_sound_scope path ≡ true
+    → list_all is_spelled (map (λ s. scope s.kind s.words) path) ≡ true
+scopes_spelled [] sound = refl
+scopes_spelled (s ∷ path) sound =
     let parts : (is_sound_scope s ≡ true) × (list_all is_sound_scope path ≡ true) = grind (arith, and_parts) in
     let words : (is_word s.kind ≡ true) × (list_all is_word s.words ≡ true) = grind (arith, and_parts) in
     and_from (is_spelled (scope s.kind s.words)) (list_all is_spelled (map (λ s. scope s.kind s.words) path))
     (and_from (is_unbroken s.kind) (list_all is_unbroken (s.words ++ end_word ∷ [])) (word_is_unbroken s.kind words.0)
     (with_end_unbroken s.words (words_are_unbroken s.words words.1)))
-    (scopes_spelled zero path parts.1)
-scopes_spelled (suc n) (s ∷ path) sound =
-    scopes_spelled n path (and_parts (is_sound_scope s) (list_all is_sound_scope path) sound).1
-
-variable_spelled : (end k : ℕ) (s : SignalContents) → IsSoundSignal end s → is_spelled (variable_item k s) ≡ true
-variable_spelled end k s sound =
-    grind (arith, with_end_unbroken, and_from, word_is_unbroken, decimal_unbroken, code_unbroken, words_are_unbroken)
+    (scopes_spelled path parts.1)
 
 signals_spelled : (end : ℕ) (opened : List ScopeName) (k : ℕ) (signals : List SignalContents)
     → AllByRecursion (IsSoundSignal end) signals → list_all is_spelled (signal_items opened k signals) ≡ true
 unfolding signal_items
-signals_spelled end opened k [] sound = all_upscopes_spelled opened
+signals_spelled end opened k [] sound = rw (all_closed opened) (upscopes_spelled (length opened))
 signals_spelled end opened k (s ∷ ss) sound =
     let shared : ℕ = common_prefix_len same_scope opened s.scopes in
     both_spelled (scope_items opened s.scopes) (variable_item k s ∷ signal_items s.scopes (suc k) ss)
     (both_spelled (replicate (length opened - shared) upscope) (map (λ s. scope s.kind s.words) (drop shared s.scopes))
-    (upscopes_spelled (length opened - shared)) (scopes_spelled shared s.scopes sound.0.scopes))
+    (upscopes_spelled (length opened - shared))
+    (scopes_spelled (drop shared s.scopes) (later_scopes shared s.scopes sound.0.scopes)))
     (and_from (is_spelled (variable_item k s)) (list_all is_spelled (signal_items s.scopes (suc k) ss))
-    (variable_spelled end k s sound.0) (signals_spelled end s.scopes (suc k) ss sound.1))
+    (grind (arith, with_end_unbroken, and_from, word_is_unbroken, decimal_unbroken, code_unbroken, words_are_unbroken))
+    (signals_spelled end s.scopes (suc k) ss sound.1))
 
 -- every word of a sound capture's items
 pub items_spelled : (c : Contents) → IsSound c → list_all is_spelled (items_of c) ≡ true
@@ -186,9 +170,9 @@ items_spelled c sound =
     (timescale_is_spelled c.timescale sound.timescale))
     (signals_spelled c.end [] 0 c.signals (recursion_from_All (IsSoundSignal c.end) c.signals sound.signals)))
     (and_from (is_spelled end_definitions) (list_all is_spelled (first_items c.signals)) refl
-    (first_spelled c.signals)))
+    (grind (arith, both_spelled, and_from, one_word, longer_unbroken, decimal_no_space, values_spelled))))
     (ticks_spelled c.signals 1 c.end (omega arith)))
-    (end_spelled c.signals c.end (omega arith))
+    (grind (arith, cond_both, and_from, one_word, longer_unbroken, decimal_no_space))
 
 -- the words of a sound capture's text
 pub words_of_text : (c : Contents) → IsSound c → word_texts (words_of (text c)) ≡ spellings (items_of c)

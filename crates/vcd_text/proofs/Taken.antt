@@ -15,7 +15,7 @@ use Rattle.vcd_text.specs.Grammar.{word_texts}
 use Rattle.vcd_text.specs.Faults.{WordFault, among_declarations, among_changes, ChangeFault, no_tick, tick_goes_back}
 use Rattle.vcd_text.specs.Faults.{value_alone, value_of_none, pair_of_none, no_value, value_too_long, declaration_late}
 use Rattle.vcd_text.specs.Faults.{no_change, ShowsFault, fault_line}
-use Rattle.vcd_text.specs.inside.OpenItems.{shown_line}
+use Rattle.vcd_text.specs.inside.OpenItems.{item_fault_line}
 use Rattle.vcd_text.specs.inside.Reading.{Reads, WordStep, goes_on, ends_item, ReaderMatches, IsBegun}
 use Rattle.vcd_text.specs.inside.Reading.{error_at, BeginsVector, WordsResult}
 use Rattle.vcd_text.specs.inside.Variables.{VariablesMatch, BinaryNumberFault, ChangeResult}
@@ -26,59 +26,27 @@ use Rattle.vcd_text.specs.declared.reading.reader.OpenItem.TheVariants as items
 use Rattle.vcd_text.specs.declared.reading.reader.Reader.{Reader}
 use Rattle.vcd_text.specs.declared.reading.variables.Variables.{Variables}
 use Rattle.vcd_text.proofs.Changing.{none_begun, whole_vector, vector_shown}
-
-allowed_more : (c : ParseState) (is : List Item) (i : Item) → AllowsAll c is → Allows (state_after c is) i
-    → AllowsAll c (is ++ i ∷ [])
-allowed_more c [] i all here = (here, tt)
-allowed_more c (j ∷ is) i (first, rest) here = (first, allowed_more (state_after_item c j) is i rest here)
-
-after_more : (c : ParseState) (is : List Item) (i : Item)
-    → state_after c (is ++ i ∷ []) ≡ state_after_item (state_after c is) i
-after_more c [] i = refl
-after_more c (j ∷ is) i = after_more (state_after_item c j) is i
-
-spelled_more : (is : List Item) (i : Item) → spellings (is ++ i ∷ []) ≡ spellings is ++ spelling i
-spelled_more [] i = append-nil (spelling i)
-spelled_more (j ∷ is) i = grind (arith, append_assoc, spelled_more is i)
+use Rattle.vcd_text.proofs.ItemsInTurn.{leads_both, leads_one, shown_by}
+use Rattle.vcd_text.proofs.FileAnswers.{spelled_more}
 
 -- words that go on with the open item, or end it
 pub words_taken : (old new : Reader) (taken words : List PlacedWord) (r : Reads old taken)
     → WordStep r.told (r.begun ++ words) new → Reads new (taken ++ words)
 words_taken old new taken words r (goes_on at) = grind (arith, append_assoc)
-words_taken old new taken words r (ends_item i spelled allows at) = record {
-  items = r.items ++ i ∷ [];
-  whole = taken ++ words;
-  begun = [];
-  told = state_after_item r.told i;
-  parts = sym (append-nil (taken ++ words));
-  spelled =
-      ap word_texts (ap (λ ws. ws ++ words) r.parts ∙ append_assoc r.whole r.begun words)
-      ∙ map-append (λ (v : PlacedWord). v.text) r.whole (r.begun ++ words)
-      ∙ ap (λ ws. ws ++ word_texts (r.begun ++ words)) r.spelled
-      ∙ ap (λ ws. spellings r.items ++ ws) (sym spelled)
-      ∙ sym (spelled_more r.items i);
-  allowed = allowed_more initial_state r.items i r.allowed (subst (λ c. Allows c i) (sym r.tells) allows);
-  tells = after_more initial_state r.items i ∙ ap (λ c. state_after_item c i) r.tells;
-  at = at;
-}
-
--- after the whole items a word shows a fault, whatever follows it
-shown_after : (old : Reader) (taken words begun more : List PlacedWord) (w : PlacedWord) (r : Reads old taken)
-    (line : ℕ) (fault : Fault) → words ≡ r.whole ++ (begun ++ w ∷ more)
-    → WordFault r.told (word_texts begun) w.text fault → line ≡ fault_line r.told.changing begun w
-    → ShowsFault words line fault
-shown_after old taken words begun more w r line fault parts decided at = record {
-  items = r.items;
-  whole = r.whole;
-  begun = begun;
-  word = w;
-  more = more;
-  parts = parts;
-  spelled = r.spelled;
-  allowed = r.allowed;
-  decided = subst (λ c. WordFault c (word_texts begun) w.text fault) (sym r.tells) decided;
-  at = at ∙ ap (λ c. fault_line c.changing begun w) (sym r.tells);
-}
+words_taken old new taken words r (ends_item i spelled allows at) =
+    let leads = leads_both initial_state r.told (state_after_item r.told i) r.items (i ∷ [])
+    (record { allowed = r.allowed; tells = r.tells }) (leads_one r.told (state_after_item r.told i) i allows refl) in
+    record {
+      items = r.items ++ i ∷ [];
+      whole = taken ++ words;
+      begun = [];
+      told = state_after_item r.told i;
+      parts = sym (append-nil (taken ++ words));
+      spelled = grind (arith, append_assoc, map-append, spelled_more);
+      allowed = leads.allowed;
+      tells = leads.tells;
+      at = at;
+    }
 
 -- a fault with its line is shown; out of memory has none
 error_shown : (words : List PlacedWord) (line : ℕ) (fault : Fault) → (fault ≡ NoMemory) ⊎ ShowsFault words line fault
@@ -91,17 +59,7 @@ error_shown words line fault (inr shows) = grind arith
 -- after another command no word shows a fault
 passed_over : (c : ParseState) (keyword : List ℕ) (words : List (List ℕ)) (word : List ℕ) (fault : Fault)
     → IsTrue (is_other c.changing keyword) → ChangeFault c (keyword ∷ words) word fault → ⊥
-passed_over c keyword words word fault is (no_tick digits begun p q r) = absurd (cc)
-passed_over c keyword words word fault is (tick_goes_back digits begun p q r s) = absurd (cc)
-passed_over c keyword words word fault is (value_alone letter begun p q r) = absurd (cc)
-passed_over c keyword words word fault is (value_of_none letter code begun p q r s t) = absurd (cc)
-passed_over c keyword words word fault is (pair_of_none first text begun among p q) = grind (arith, and_parts, eqb-true)
-passed_over c keyword words word fault is (no_value first digits d begun among p q r s) =
-    grind (arith, and_parts, eqb-true)
-passed_over c keyword words word fault is (value_too_long first digits d begun among p q r s t) =
-    grind (arith, and_parts, eqb-true)
-passed_over c keyword words word fault is (declaration_late begun p q) = absurd (cc)
-passed_over c keyword words word fault is (no_change first text begun p q r s) = absurd (cc)
+passed_over c keyword words word fault h5 h6 = grind (arith, and_parts, eqb-true)
 
 declaring : (m : Reader) (c : ParseState) (begun : List PlacedWord) (w : PlacedWord) → ReaderMatches m c
     → IsFalse m.changing → w.line ≡ fault_line c.changing begun w
@@ -110,7 +68,7 @@ declaring m c begun w agrees none = sym (ap (λ b. fault_line b begun w) (sym ag
 -- the line that is shown is that of the definition
 pub line_shown : (m : Reader) (c : ParseState) (begun : List PlacedWord) (w : PlacedWord) (fault : Fault)
     (item : OpenItem) → ReaderMatches m c → IsBegun m begun item → WordFault c (word_texts begun) w.text fault
-    → shown_line item m.line w.line ≡ fault_line c.changing begun w
+    → item_fault_line item m.line w.line ≡ fault_line c.changing begun w
 line_shown m c begun w fault items.Nothing agrees none decided = grind arith
 line_shown m c begun w fault (items.Entry kind) agrees is decided = declaring m c begun w agrees is.declares
 line_shown m c begun w fault items.Timescale agrees is decided = declaring m c begun w agrees is.declares
@@ -129,16 +87,17 @@ line_shown m c begun w fault items.Dropped agrees (text, is) decided = grind ari
 -- the fault of a word is that of the definition, with its line, whatever follows
 pub one_shown : (old : Reader) (taken more : List PlacedWord) (w : PlacedWord) (r : Reads old taken) (fault : Fault)
     → (fault ≡ NoMemory) ⊎ WordFault r.told (word_texts r.begun) w.text fault
-    → (let e : ReadError = error_at (shown_line old.item old.line w.line) fault in
+    → (let e : ReadError = error_at (item_fault_line old.item old.line w.line) fault in
     (e ≡ memory_error) ⊎ ShowsFault (taken ++ w ∷ more) e.line e.fault)
 one_shown old taken more w r fault refused =
-    let line = shown_line old.item old.line w.line in
+    let line = item_fault_line old.item old.line w.line in
     let words : List PlacedWord = taken ++ w ∷ more in
     let parts : words ≡ r.whole ++ (r.begun ++ w ∷ more) = ap (λ ws. ws ++ w ∷ more) r.parts
     ∙ append_assoc r.whole r.begun (w ∷ more) in
     error_shown words line fault (elim refused [
       | inl memory ↦ inl memory
-      | inr row ↦ inr (shown_after old taken words r.begun more w r line fault parts row
+      | inr row ↦ inr (shown_by words r.whole r.begun more w r.items r.told line fault
+          (record { allowed = r.allowed; tells = r.tells }) parts r.spelled row
           (line_shown old r.told r.begun w fault old.item r.at.0 r.at.1 row))
     ])
 
@@ -167,12 +126,11 @@ whole_vector_refused m new text digits code line code_line fault b refuses taken
     let first = word_on text line in
     let words : List PlacedWord = taken ++ first ∷ word_on code code_line ∷ more in
     let none = none_begun m r.begun b.between r.at.1 in
-    let parts : words ≡ r.whole ++ first ∷ word_on code code_line ∷ more =
-    ap (λ ws. ws ++ first ∷ word_on code code_line ∷ more) (r.parts ∙ ap (λ bs. r.whole ++ bs) none
-    ∙ append-nil r.whole) in
+    let parts : words ≡ r.whole ++ first ∷ word_on code code_line ∷ more = grind (arith, append-nil) in
     error_shown words line fault (elim (refuses r.told (sym r.at.0.tick) r.at.0.variables) [
       | inl memory ↦ inl memory
-      | inr row ↦ inr (shown_after m taken words (first ∷ []) more (word_on code code_line) r line fault parts
+      | inr row ↦ inr (shown_by words r.whole (first ∷ []) more (word_on code code_line) r.items r.told line fault
+          (record { allowed = r.allowed; tells = r.tells }) parts r.spelled
           (subst (λ t. WordFault r.told (t ∷ []) code fault) (sym b.spelled)
           (vector_shown m r.told b.letter digits code fault r.at.0 b.changes b.among row))
           (ap (λ changing. fault_line changing (first ∷ []) (word_on code code_line)) (sym b.changes

@@ -44,17 +44,12 @@ pub record IsPlaced (c : Contents) (p : ℕ × SignalContents) : Type 0 where
 
 module _ (c : Contents) (p : ℕ × SignalContents) (placed : IsPlaced c p) (value_changes : List ValueChange) (t : ℕ)
   where
-    vector_leads : (v : List Bit) → 0 < length v → length v ≡ p.1.width
-        → Leads (state_at c value_changes t) (vector 98 (printed_letters (short_form v)) (code_of p.0) ∷ [])
-        (state_at c (value_changes ++ record { tick = t; code = code_of p.0; letters = short_form v } ∷ []) t)
-    vector_leads v some wide = grind (arith, short_within, length-map, printed_is_value, le-leb, letters_back)
-
     value_leads_of : (v : List Bit) → length v ≡ p.1.width
         → Leads (state_at c value_changes t) (value_item (code_of p.0) v ∷ [])
         (state_at c (value_changes ++ record { tick = t; code = code_of p.0; letters = short_form v } ∷ []) t)
     value_leads_of [] wide = absurd (omega (arith, wide, placed.some))
     value_leads_of (b ∷ []) wide = grind (arith, letter_back, code_not_empty, letters_back, short_one)
-    value_leads_of (b ∷ d ∷ v) wide = vector_leads (b ∷ d ∷ v) (omega arith) wide
+    value_leads_of (b ∷ d ∷ v) wide = grind (arith, short_within, length-map, printed_is_value, le-leb, letters_back)
 
     value_leads : Leads (state_at c value_changes t) (value_item (code_of p.0) (signal_value p.1 t) ∷ [])
         (state_at c (value_changes ++ value_change_of t p ∷ []) t)
@@ -154,9 +149,7 @@ value_changes_at_last_tick c value_changes u t (p ∷ ps) later within all =
     let above : nat_lt 0 t ≡ true = lt-ltb 0 t (omega arith) in
     let none : (with_stamp t (value_items t (p ∷ ps))
     ++ (if nat_lt 0 t && (suc (length (value_items t ps)) == 0) then stamp_of t ∷ [] else []))
-    ≡ with_stamp t (value_items t (p ∷ ps)) =
-    (λ i. with_stamp t (value_items t (p ∷ ps)) ++ (if above i && more i then stamp_of t ∷ [] else []))
-    ∙ append-nil (with_stamp t (value_items t (p ∷ ps))) in
+    ≡ with_stamp t (value_items t (p ∷ ps)) = grind (arith, append-nil) in
     subst (λ is. Leads (state_at c value_changes u) is
     (state_at c (value_changes ++ map (value_change_of t) (p ∷ ps)) t)) (sym none)
     (stamped_lead c value_changes u t p ps (omega arith) within all)

@@ -77,16 +77,6 @@ words_declare : (c : ParseState) (kind size code : List ℕ) (n : ℕ) (words : 
 words_declare c kind size code n [] named number = absurd (omega arith)
 words_declare c kind size code n (w ∷ ws) named number = grind arith
 
--- no word of a variable is `$end`
-variable_no_end : (end k : ℕ) (s : SignalContents) → IsSoundSignal end s → k < SIGNAL_LIMIT
-    → has_no_end_word (s.kind ∷ decimal s.width ∷ code_of k ∷ s.words) ≡ true
-variable_no_end end k s sound few =
-    grind (arith, and_parts, words_have_no_end, and_from, decimal_no_end, not_from_false, code_no_end)
-
--- there is room after fewer variables than the limit of signals
-room_left : (ds : List VariableDeclaration) (d : VariableDeclaration) → length ds < SIGNAL_LIMIT → has_room ds d ≡ true
-room_left ds d few = grind (arith, length-filter, count_by-le-length, or_right, lt-ltb)
-
 -- the variable of the signal at a position
 variable_leads : (h : List Header) (t : Option Timescale) (ds : List VariableDeclaration) (end k : ℕ)
     (s : SignalContents) → IsSoundSignal end s → k < SIGNAL_LIMIT → length ds ≡ k → HasCodesBelow k ds
@@ -100,10 +90,10 @@ variable_leads h t ds end k s sound few at below =
     let fresh : may_have_code (variable_of before (code_of k)) (declared_as k s) ≡ true = grind arith in
     leads_one before (declaring h t s.scopes (ds ++ declared_as k s ∷ [])) (variable words) (
       refl,
-      variable_no_end end k s sound few,
+      (grind (arith, and_parts, words_have_no_end, and_from, decimal_no_end, not_from_false, code_no_end)),
       decimal_is_number s.width (omega arith),
       subst (λ o. IsSomeAnd o (λ d. IsTrue (may_have_code (variable_of before d.code) d) × IsTrue (has_room ds d)))
-          (sym declares) (fresh, room_left ds (declared_as k s) (omega arith)),
+          (sym declares) (fresh, (grind (arith, length-filter, count_by-le-length, or_right, lt-ltb))),
     )
     (ap (λ o. declaring h t s.scopes (ds ++ option_to_list o)) declares)
 

@@ -21,6 +21,7 @@ use Rattle.vcd_text.specs.inside.ValueFronts.{value_front}
 use Rattle.vcd_text.proofs.ReadValues.{length-value_at, short_within}
 use Rattle.vcd_text.proofs.Texts.{whole_text}
 use Rattle.vcd_text.proofs.Values.{line_of_front}
+use Rattle.std.proofs.lemmas.List.FromFn.{length-enumerate_from}
 
 abbrev bytes_of : List Item → ℕ
 bytes_of items = length (flat_map item_line items)
@@ -42,9 +43,7 @@ digits_within zero (suc n) = omega arith
 digits_within (suc most) (suc n) = let rest = digits_within most (n / 94) in omega arith
 
 front_within : (v : List Bit) → 0 < length v → length (value_front v) ≤ length v + 2
-front_within [] some = absurd (omega arith)
-front_within (b ∷ []) some = omega arith
-front_within (b ∷ d ∷ v) some = grind (arith, short_within, length-map, length-append)
+front_within v h1 = grind (arith, short_within, length-map, length-append)
 
 -- a signal at a position, with its width at each tick
 record IsPlacedShort (p : ℕ × SignalContents) : Type 0 where
@@ -127,15 +126,11 @@ short_enumerated end k (s ∷ ss) few all =
       short_enumerated end (k + 1) ss (omega arith) (All-tail (IsSoundSignal end) s ss all),
     )
 
-length_enumerated : (k : ℕ) (ss : List SignalContents) → length (enumerate_from k ss) ≡ length ss
-length_enumerated k [] = omega arith
-length_enumerated k (s ∷ ss) = let rest = length_enumerated (k + 1) ss in omega arith
-
 pub text_countable : (c : Contents) → IsSound c → length (declarations_text c) < 2 ^ 127 → length (text c) < 2 ^ 128 - 1
 text_countable c sound short =
     let all = short_enumerated c.end 0 c.signals (omega (arith, sound.few)) sound.signals in
     let n : ℕ = length (enumerate_from 0 c.signals) in
-    let few : n ≤ SIGNAL_LIMIT = omega (arith, length_enumerated 0 c.signals, sound.few) in
+    let few : n ≤ SIGNAL_LIMIT = omega (arith, length-enumerate_from 0 c.signals, sound.few) in
     let values : n * line_most ≤ SIGNAL_LIMIT * line_most = mul-le-mul_right line_most few in
     let tick : 22 + n * line_most ≤ 22 + SIGNAL_LIMIT * line_most = omega (arith, values) in
     let ticks : c.end * (22 + n * line_most) ≤ END_LIMIT * (22 + SIGNAL_LIMIT * line_most) =

@@ -23,13 +23,9 @@ pub writes_words : {W : Type 0} {t : W → Option (List ℕ)} {f : W → Bool} {
 writes_words front back first second =
     writes_as (sym (flat_map-append (λ w. 32 ∷ w) front back)) (writes_both first second)
 
--- the first word, the words after it, and the end
-line_of_words : (w : List ℕ) (ws : List (List ℕ))
-    → (w ++ spaced_words ws) ++ codes " $end\n" ≡ join_with_byte 32 (w ∷ (ws ++ end_word ∷ [])) ++ 10 ∷ []
-line_of_words w ws = grind (arith, append_assoc, joined, flat_map-append)
-
 pub writes_line : {W : Type 0} {t : W → Option (List ℕ)} {f : W → Bool} {s0 s1 s2 s3 : WriteBuffer × W} (w : List ℕ)
     (ws : List (List ℕ))
     → Emits t f s0 s1 w → Emits t f s1 s2 (spaced_words ws) → Emits t f s2 s3 (codes " $end\n")
     → Emits t f s0 s3 (join_with_byte 32 (w ∷ (ws ++ end_word ∷ [])) ++ 10 ∷ [])
-writes_line w ws first middle last = writes_as (line_of_words w ws) (writes_both (writes_both first middle) last)
+writes_line w ws first middle last =
+    writes_as (grind (arith, append_assoc, joined, flat_map-append)) (writes_both (writes_both first middle) last)

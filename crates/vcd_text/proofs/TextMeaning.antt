@@ -11,11 +11,6 @@ use Rattle.vcd_text.proofs.ReadValues.{length-value_at}
 use Rattle.vcd_text.proofs.LatestValues.{latest_is}
 use Rattle.vcd_text.proofs.TextChanges.{value_changes_of, state_at}
 
--- a signal of a capture is that of its declaration and the value changes
-signal_means : (c : Contents) → IsSound c → (k : ℕ) (d : SignalContents) → k < length c.signals
-    → declared_signal (value_changes_of c) c.end (declared_as k (get_or c.signals k d)) ≡ get_or c.signals k d
-signal_means c sound k d inside = grind (arith, wave_is, latest_is, length-value_at)
-
 -- a function that restores each signal restores all
 signals_back : (f : VariableDeclaration → SignalContents) (j : ℕ) (ss : List SignalContents)
     → ((i k : ℕ) (d : SignalContents) → j + i ≡ k → i < length ss → f (declared_as k (get_or ss i d)) ≡ get_or ss i d)
@@ -34,7 +29,7 @@ signals_mean c sound =
     ∙ signals_back (declared_signal (value_changes_of c) c.end) 0 c.signals
     (λ i k d at within. let here : i ≡ k = omega arith in
     ap (λ n. declared_signal (value_changes_of c) c.end (declared_as n (get_or c.signals i d))) (sym here)
-    ∙ signal_means c sound i d within)
+    ∙ (grind (arith, wave_is, latest_is, length-value_at)))
 
 -- the text of a sound capture means the capture
 pub text_means : (c : Contents) → IsSound c → c ≡ meaning (state_at c (value_changes_of c) c.end)

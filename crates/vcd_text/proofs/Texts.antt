@@ -9,9 +9,6 @@ use Rattle.vcd_text.specs.Text.{end_items, first_items, items_of, item_line, tex
 use Rattle.vcd_text.specs.Text.{tick_items}
 use Rattle.vcd_text.specs.inside.TextParts.{declarations_text}
 
-abbrev lines : List Item → List ℕ
-lines items = flat_map item_line items
-
 -- the declarations, the values at tick 0, and the rest
 pub whole_text : (c : Contents)
     → declarations_text c

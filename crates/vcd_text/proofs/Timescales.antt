@@ -7,6 +7,8 @@ use Rattle.vcd_core.specs.declared.capture.TimeUnit.{TimeUnit}
 use Rattle.vcd_core.specs.declared.capture.TimeUnit.TheVariants.{Second, Millisecond, Microsecond, Nanosecond}
 use Rattle.vcd_core.specs.declared.capture.TimeUnit.TheVariants.{Picosecond, Femtosecond}
 use Rattle.vcd_text.specs.inside.TimescaleText.{timescale_spelled, unit_named, timescale_of_unit}
+use Rattle.std.proofs.Math.Bool.{and-true}
+use Rattle.std.proofs.Common.{sym, ◌∙◌}
 
 -- the first of the six units that fits
 abbrev first : {A : Type 0} → (TimeUnit → A) → (s ms us ns ps fs : Bool) → Option A
@@ -26,10 +28,6 @@ first_counted n false false false false true fs = refl
 first_counted n false false false false false true = refl
 first_counted n false false false false false false = refl
 
-and_true : (b : Bool) → (b && true) ≡ false → b ≡ false
-and_true false e = refl
-and_true true e = e
-
 pub hundred : (unit : List ℕ) → timescale_spelled (49 ∷ 48 ∷ 48 ∷ unit) ≡ timescale_of_unit 100 (unit_named unit)
 unfolding digits
 hundred unit = first_counted 100 _ _ _ _ _ _
@@ -38,15 +36,15 @@ pub ten : (unit : List ℕ) → bytes_eq (take 3 (49 ∷ 48 ∷ unit)) (49 ∷ 4
     → timescale_spelled (49 ∷ 48 ∷ unit) ≡ timescale_of_unit 10 (unit_named unit)
 unfolding digits
 ten [] other = refl
-ten (b ∷ bs) other = rw (and_true (b == 48) other) (first_counted 10 _ _ _ _ _ _)
+ten (b ∷ bs) other = rw (sym (and-true (b == 48)) ∙ other) (first_counted 10 _ _ _ _ _ _)
 
 pub one : (unit : List ℕ) → bytes_eq (take 2 (49 ∷ unit)) (49 ∷ 48 ∷ []) ≡ false
     → timescale_spelled (49 ∷ unit) ≡ timescale_of_unit 1 (unit_named unit)
 unfolding digits
 one [] other = refl
-one (b ∷ bs) other = rw (and_true (b == 48) other) (first_counted 1 _ _ _ _ _ _)
+one (b ∷ bs) other = rw (sym (and-true (b == 48)) ∙ other) (first_counted 1 _ _ _ _ _ _)
 
 pub none : (text : List ℕ) → bytes_eq (take 1 text) (49 ∷ []) ≡ false → timescale_spelled text ≡ None
 unfolding digits
 none [] other = refl
-none (b ∷ bs) other = rw (and_true (b == 49) other) refl
+none (b ∷ bs) other = rw (sym (and-true (b == 49)) ∙ other) refl

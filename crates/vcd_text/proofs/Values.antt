@@ -13,18 +13,12 @@ many : (digits code : List ℕ) → ((98 ∷ []) ++ (digits ++ 32 ∷ [])) ++ (c
 many digits code = grind (arith, append_assoc)
 
 pub front_of_bit : (v : List Bit) → length v ≡ 1 → value_front v ≡ printed_letter (get_or v 0 X) ∷ []
-front_of_bit [] one = absurd (omega arith)
-front_of_bit (b ∷ []) one = refl
-front_of_bit (b ∷ c ∷ v) one = absurd (omega arith)
+front_of_bit v h1 = grind arith
 
 pub front_of_bits : (v : List Bit) → length v ≢ 1
     → value_front v ≡ (98 ∷ []) ++ (printed_letters (short_form v) ++ 32 ∷ [])
-front_of_bits [] more = refl
-front_of_bits (b ∷ []) more = absurd (more refl)
-front_of_bits (b ∷ c ∷ v) more = refl
+front_of_bits v h1 = grind arith
 
 -- the line
 pub line_of_front : (v : List Bit) (code : List ℕ) → value_front v ++ (code ++ 10 ∷ []) ≡ item_line (value_item code v)
-line_of_front [] code = many (printed_letters (short_form [])) code
-line_of_front (b ∷ []) code = refl
-line_of_front (b ∷ c ∷ v) code = many (printed_letters (short_form (b ∷ c ∷ v))) code
+line_of_front v code = grind (arith, many)

@@ -15,12 +15,6 @@ use Rattle.vcd_text.specs.declared.reading.variables.Variable.{Variable}
 use Rattle.vcd_text.specs.declared.reading.variables.Variables.{Variables}
 use Rattle.vcd_text.proofs.CodeTargets.{stands_moved}
 
-wave_further : (vs : List Variable) (log : ℕ → List LoggedChange) (value_changes : List ValueChange)
-    (early late position : ℕ) (code : List ℕ) (size : ℕ)
-    → early ≤ late → HasWave vs log position code size value_changes early
-    → HasWave vs log position code size value_changes late
-wave_further vs log value_changes early late position code size later w = grind (arith, gives_further)
-
 -- variables that match a state match it at a later tick too
 pub knows_further : (vs : Variables) (c d : ParseState) → c.declared ≡ d.declared → c.value_changes ≡ d.value_changes
     → c.tick ≤ d.tick → VariablesMatch vs c → VariablesMatch vs d
@@ -31,8 +25,7 @@ knows_further vs c d declared value_changes later k = record {
   stand = λ code.
       stands_moved vs.kept.items vs.kept.items (logged vs.log.items) (logged vs.log.items) d.value_changes
       d.value_changes c.tick d.tick code (target_of vs code) (find (λ e. bytes_eq code e.code) d.declared)
-      (λ position size _ wave. wave_further vs.kept.items (logged vs.log.items) d.value_changes c.tick d.tick
-      position code size later wave)
+      (λ position size _ wave. (grind (arith, gives_further)))
       (subst (λ rs. TargetMatches vs.kept.items (logged vs.log.items) rs c.tick code (target_of vs code)
       (find (λ e. bytes_eq code e.code) d.declared)) value_changes
       (subst (λ ds. TargetAgrees vs c code

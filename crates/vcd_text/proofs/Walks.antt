@@ -84,18 +84,11 @@ all_placed signals t = placed_filter signals t (enumerate_from 0 signals) (place
 walk_ticks : (signals : List SignalContents) (n end last t : ℕ) → last < t → t + n ≡ end
     → walk signals end last (transitions_from signals t (suc n)) ≡ tick_items signals t (suc n) ++ end_items signals end
 unfolding transitions_from tick_items
-walk_ticks signals zero end last t later all =
-    let at : t ≡ end = omega arith in
-    subst (λ e. walk signals e last (transitions_from signals t 1) ≡ tick_items signals t 1 ++ end_items signals e) at
-    (tick_at_end signals last t (filter (λ p. differs_at t p.1) (enumerate_from 0 signals)) later
-    (all_placed signals t))
+walk_ticks signals zero end last t later all = grind (arith, tick_at_end, all_placed)
 walk_ticks signals (suc n) end last t later all =
-    one_tick signals end last t (filter (λ p. differs_at t p.1) (enumerate_from 0 signals))
-    (transitions_from signals (suc t) (suc n)) (tick_items signals (suc t) (suc n) ++ end_items signals end)
-    later (all_placed signals t) (walk_ticks signals n end last (suc t) (omega arith) (omega arith))
-    (walk_ticks signals n end t (suc t) (omega arith) (omega arith))
-    ∙ sym (append_assoc (with_stamp t (new_values signals t)) (tick_items signals (suc t) (suc n))
-    (end_items signals end))
+    let still = walk_ticks signals n end last (suc t) (omega arith) (omega arith) in
+    let now = walk_ticks signals n end t (suc t) (omega arith) (omega arith) in
+    grind (arith, still, now, one_tick, all_placed, append_assoc)
 
 -- the walk over the transitions of all ticks
 pub walk_is : (signals : List SignalContents) (end : ℕ)

@@ -12,19 +12,11 @@ use Rattle.vcd_text.specs.Items.{is_end_word}
 use Rattle.vcd_text.specs.inside.WordWalk.{feeds}
 use Rattle.vcd_text.specs.inside.Spaces.{begins_with_space}
 use Rattle.vcd_text.specs.Words.{line_after, ends_before, with_longer_first, with_byte, PlacedWord, word_on, words_from}
-
--- the parts of a conjunction
-pub both : (a b : Bool) → (a && b) ≡ true → (a ≡ true) × (b ≡ true)
-both true b e = (refl, e)
-both false b e = let no : false ≡ true = e in absurd (cc)
-
-pub not_true : (b : Bool) → not b ≡ true → b ≡ false
-not_true true e = sym e
-not_true false e = refl
+use Rattle.std.proofs.lemmas.Bool.{and_parts, not-true}
 
 -- a byte that is no white space is no line feed
 pub no_space_is_no_feed : (b : ℕ) → is_white_space b ≡ false → (b == 10) ≡ false
-no_space_is_no_feed b black = grind (arith, Decides-eqb)
+no_space_is_no_feed b no_space = grind (arith, Decides-eqb)
 
 -- ---- line feeds
 
@@ -42,49 +34,49 @@ other_first b bs text is other = grind (arith, feeds_both)
 
 -- a word has no line feed
 pub no_feeds : (word : List ℕ) → list_all (λ b. not (is_white_space b)) word ≡ true → feeds word ≡ 0
-no_feeds [] black = refl
-no_feeds (b ∷ bs) black =
-    let parts = both (not (is_white_space b)) (list_all (λ b. not (is_white_space b)) bs) black in
-    other_first b bs (b ∷ bs) refl (no_space_is_no_feed b (not_true (is_white_space b) parts.0)) ∙ no_feeds bs parts.1
+no_feeds [] no_space = refl
+no_feeds (b ∷ bs) no_space =
+    let parts = and_parts (not (is_white_space b)) (list_all (λ b. not (is_white_space b)) bs) no_space in
+    other_first b bs (b ∷ bs) refl (no_space_is_no_feed b (not-true (is_white_space b) parts.0)) ∙ no_feeds bs parts.1
 
 pub feeds_after : (n : ℕ) (text : List ℕ) → list_all (λ b. not (is_white_space b)) (take n text) ≡ true
     → feeds (drop n text) ≡ feeds text
-feeds_after n text black =
+feeds_after n text no_space =
     omega (
       arith,
       ap feeds (take-append-drop n text),
       feeds_both (take n text) (drop n text),
-      no_feeds (take n text) black,
+      no_feeds (take n text) no_space,
     )
 
 -- ---- words at the front
 
 pub same_line : (b line : ℕ) → is_white_space b ≡ false → line_after b line ≡ line
-same_line b line black = ap (λ t. cond t (line + 1) line) (no_space_is_no_feed b black)
+same_line b line no_space = ap (λ t. cond t (line + 1) line) (no_space_is_no_feed b no_space)
 
 -- the words of a text that begins with a word
 pub word_whole : (whole : Bool) (line : ℕ) (w rest : List ℕ) → 0 < length w
     → list_all (λ b. not (is_white_space b)) w ≡ true → ends_before whole rest ≡ true
     → words_from whole line (w ++ rest) ≡ word_on w line ∷ words_from whole line rest
 unfolding words_from
-word_whole whole line [] rest some black ends = absurd (omega arith)
-word_whole whole line (b ∷ []) rest some black ends = grind (arith, not_true, both, same_line)
-word_whole whole line (b ∷ c ∷ w) rest some black ends =
-    let here : is_white_space b ≡ false = not_true _ (both _ _ black).0 in
-    let following : is_white_space c ≡ false = grind (arith, not_true, both) in
+word_whole whole line [] rest some no_space ends = absurd (omega arith)
+word_whole whole line (b ∷ []) rest some no_space ends = grind (arith, not-true, and_parts, same_line)
+word_whole whole line (b ∷ c ∷ w) rest some no_space ends =
+    let here : is_white_space b ≡ false = not-true _ (and_parts _ _ no_space).0 in
+    let following : is_white_space c ≡ false = grind (arith, not-true, and_parts) in
     ap (λ s. with_byte s (is_white_space c) b line (words_from whole (line_after b line) (c ∷ w ++ rest))) here
     ∙ ap (λ e. with_byte false e b line (words_from whole (line_after b line) (c ∷ w ++ rest))) following
     ∙ ap (λ n. with_longer_first b line (words_from whole n (c ∷ w ++ rest))) (same_line b line here)
-    ∙ ap (with_longer_first b line) (word_whole whole line (c ∷ w) rest (omega arith) (both _ _ black).1 ends)
+    ∙ ap (with_longer_first b line) (word_whole whole line (c ∷ w) rest (omega arith) (and_parts _ _ no_space).1 ends)
 
 -- the same at a place in the text
 pub word_split : (whole : Bool) (line n : ℕ) (text : List ℕ) → 0 < length (take n text)
     → list_all (λ b. not (is_white_space b)) (take n text) ≡ true
     → ends_before whole (drop n text) ≡ true
     → words_from whole line text ≡ word_on (take n text) line ∷ words_from whole line (drop n text)
-word_split whole line n text some black ends =
+word_split whole line n text some no_space ends =
     ap (words_from whole line) (sym (take-append-drop n text))
-    ∙ word_whole whole line (take n text) (drop n text) some black ends
+    ∙ word_whole whole line (take n text) (drop n text) some no_space ends
 
 -- white space at the front
 pub space_passed : (whole : Bool) (line b : ℕ) (bs : List ℕ) → is_white_space b ≡ true
@@ -97,22 +89,19 @@ pub no_word : (whole : Bool) (line n : ℕ) (text : List ℕ) → length (take n
     → ends_before true (drop n text) ≡ true
     → (words_from whole line text ≡ []) × (drop n text ≡ [])
 unfolding words_from
-no_word whole line zero [] none black ends = (refl, refl)
-no_word whole line (suc n) [] none black ends = (refl, refl)
-no_word whole line zero (b ∷ bs) none black ends = let no : false ≡ true = sym black ∙ ends in absurd (cc)
-no_word whole line (suc n) (b ∷ bs) none black ends = absurd (omega arith)
+no_word whole line n text h4 h5 h6 = grind arith
 
 -- a word that is not closed does not count
 pub word_part : (line : ℕ) (w : List ℕ) → list_all (λ b. not (is_white_space b)) w ≡ true → words_from false line w ≡ []
 unfolding words_from
-word_part line [] black = refl
-word_part line (b ∷ []) black = grind (arith, not_true, both)
-word_part line (b ∷ c ∷ w) black =
-    let here : is_white_space b ≡ false = not_true _ (both _ _ black).0 in
-    let following : is_white_space c ≡ false = grind (arith, not_true, both) in
+word_part line [] no_space = refl
+word_part line (b ∷ []) no_space = grind (arith, not-true, and_parts)
+word_part line (b ∷ c ∷ w) no_space =
+    let here : is_white_space b ≡ false = not-true _ (and_parts _ _ no_space).0 in
+    let following : is_white_space c ≡ false = grind (arith, not-true, and_parts) in
     ap (λ s. with_byte s (is_white_space c) b line (words_from false (line_after b line) (c ∷ w))) here
     ∙ ap (λ e. with_byte false e b line (words_from false (line_after b line) (c ∷ w))) following
-    ∙ ap (with_longer_first b line) (word_part (line_after b line) (c ∷ w) (both _ _ black).1)
+    ∙ ap (with_longer_first b line) (word_part (line_after b line) (c ∷ w) (and_parts _ _ no_space).1)
 
 -- ---- the form of words
 
@@ -145,7 +134,7 @@ abbrev pub is_run_text : List ℕ → Bool
 is_run_text text = not (length text == 0) && list_all (λ b. not (is_white_space b)) text
 
 run_passes : (text : List ℕ) → is_run text → is_run_text text ≡ true
-run_passes text (some, black) = rw (ne_eqb (length text) 0 (λ none. absurd (omega arith)), black) refl
+run_passes text (some, no_space) = rw (ne_eqb (length text) 0 (λ none. absurd (omega arith)), no_space) refl
 
 texts_pass : (ws : List PlacedWord) → All (λ (w : PlacedWord). is_run w.text) ws
     → list_all is_run_text (map (λ (w : PlacedWord). w.text) ws) ≡ true
@@ -166,10 +155,7 @@ run_is_word text run other = ap (λ t. t && not (is_end_word text)) run ∙ ap n
 -- there are no more words than bytes
 more_with_byte : (space last : Bool) (b line : ℕ) (ws : List PlacedWord)
     → length (with_byte space last b line ws) ≤ suc (length ws)
-more_with_byte true last b line ws = omega arith
-more_with_byte false true b line ws = omega arith
-more_with_byte false false b line [] = omega arith
-more_with_byte false false b line (w ∷ ws) = omega arith
+more_with_byte space last b line ws = grind arith
 
 pub words_are_few : (whole : Bool) (line : ℕ) (bytes : List ℕ) → length (words_from whole line bytes) ≤ length bytes
 unfolding words_from

@@ -30,6 +30,8 @@ use Rattle.vcd_text.specs.Faults.{among_changes}
 use Rattle.vcd_text.specs.FoundFaults.{declaration_due, words_due, upscope_due, variable_due, definitions_due}
 use Rattle.vcd_text.specs.FoundFaults.{code_due, other_due}
 use Rattle.vcd_text.proofs.OneOf.{by_among, by_one_of}
+use Rattle.vcd_core.specs.declared.capture.HeaderKind.{HeaderKind}
+use Rattle.vcd_text.specs.Items.{header_word}
 
 -- no word of an item has come, or a word must follow these
 pub data IsOpen (c : ParseState) (begun : List (List ℕ)) : Type 0 where
@@ -59,7 +61,7 @@ by_end : (P : List ℕ → Type 0) (word : List ℕ) → P end_word → (IsFalse
 by_end P word closes further = grind (arith, cases_Bool, bytes_eq-Decides)
 
 -- one more word, which is not `$end`
-no_end_more : (words : List (List ℕ)) (word : List ℕ) → IsTrue (has_no_end_word words) → IsFalse (is_end_word word)
+pub no_end_more : (words : List (List ℕ)) (word : List ℕ) → IsTrue (has_no_end_word words) → IsFalse (is_end_word word)
     → IsTrue (has_no_end_word (words ++ word ∷ []))
 no_end_more words word none isnt = grind (arith, list_all-append)
 
@@ -82,19 +84,13 @@ upscope_begins c declares =
 declaring_word : (c : ParseState) (word : List ℕ) → IsFalse c.changing → IsTrue (is_one_of declaring_words word)
     → WordOutcome c [] word
 declaring_word c word declares is =
-    by_one_of (WordOutcome c []) declaring_words word is (
-      goes_on (words_due (codes "$scope") [] declares refl refl refl),
-      (
-        upscope_begins c declares,
-        (
-          goes_on (variable_due [] declares refl refl refl),
-          (
-            goes_on (words_due (codes "$timescale") [] declares refl refl refl),
-            (goes_on (definitions_due declares refl), tt),
-          ),
-        ),
-      ),
-    )
+    let scoped : WordOutcome c [] (codes "$scope") = goes_on (words_due (codes "$scope") [] declares refl refl refl) in
+    let timed : WordOutcome c [] (codes "$timescale") =
+    goes_on (words_due (codes "$timescale") [] declares refl refl refl) in
+    let named : WordOutcome c [] (codes "$var") = goes_on (variable_due [] declares refl refl refl) in
+    let last : WordOutcome c [] (codes "$enddefinitions") = goes_on (definitions_due declares refl) in
+    by_one_of (WordOutcome c []) declaring_words word is
+    (scoped, (upscope_begins c declares, (named, (timed, (last, tt)))))
 
 declaration_begins : (c : ParseState) (word : List ℕ) → IsFalse c.changing → WordOutcome c [] word
 declaration_begins c word declares =
@@ -191,20 +187,12 @@ words_end : (c : ParseState) (keyword : List ℕ) (words : List (List ℕ)) → 
     → IsTrue (is_one_of (codes "$timescale" ∷ codes "$scope" ∷ header_words) keyword) → IsTrue (has_no_end_word words)
     → WordOutcome c (keyword ∷ words) end_word
 words_end c keyword words declares is no_end =
-    by_one_of (λ w. WordOutcome c (w ∷ words) end_word)
-    (codes "$timescale" ∷ codes "$scope" ∷ header_words) keyword is (
-      timescale_ends c words declares no_end,
-      (
-        scope_ends c words declares no_end,
-        (
-          ends_item (entry Date words) refl (declares, no_end),
-          (
-            ends_item (entry Version words) refl (declares, no_end),
-            (ends_item (entry Comment words) refl (declares, no_end), tt),
-          ),
-        ),
-      ),
-    )
+    let header_ends : (kind : HeaderKind) → WordOutcome c (header_word kind ∷ words) end_word =
+    λ kind. ends_item (entry kind words) refl (declares, no_end) in
+    let first = timescale_ends c words declares no_end in
+    let second = scope_ends c words declares no_end in
+    by_one_of (λ w. WordOutcome c (w ∷ words) end_word) (codes "$timescale" ∷ codes "$scope" ∷ header_words) keyword is
+    (first, (second, (header_ends Date, (header_ends Version, (header_ends Comment, tt)))))
 
 declared_ends : (c : ParseState) (words : List (List ℕ)) (d : VariableDeclaration) → IsFalse c.changing
     → IsTrue (has_no_end_word words) → IsTrue (has_good_size words)

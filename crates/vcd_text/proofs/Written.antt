@@ -140,11 +140,7 @@ nothing_taken (Some xs) = sym (append-nil xs)
 
 nothing_written : (o : WriteBuffer) (t : Option (List ℕ)) (f : Bool) → o.waiting.items ≡ [] → o.sent ≡ 0
     → HasEmitted t t f o []
-nothing_written o t f empty none = record {
-  within = omega (arith, none);
-  front = λ few. subst (λ n. Appends t t (take n [])) (sym none) (nothing_taken t);
-  rest = λ few ready. ap (λ n. drop n []) none ∙ sym empty;
-}
+nothing_written o t f empty none = grind (arith, nothing_taken)
 
 -- the text since the buffer was empty
 pub whole_written : {W : Type 0} {t : W → Option (List ℕ)} {f : W → Bool} {s0 s1 : WriteBuffer × W} {whole : List ℕ}

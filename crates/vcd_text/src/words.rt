@@ -48,7 +48,7 @@ impl<'a> Words<'a> {
         Words {
             walk: WordWalk {
                 rest: text,
-                passed: 0,
+                line_feeds: 0,
             },
         }
     }
@@ -58,7 +58,7 @@ impl<'a> Words<'a> {
         ensures words { MatchOption result (self.old ≡ []) (λ word.
             self.old ≡ word_at word ∷ self.new) }
         ensures some { IfSome result (λ word. 0 < length word.text.now) }
-        ensures over { IfNone result (self.new ≡ []) }
+        ensures none_left { IfNone result (self.new ≡ []) }
     {
         self.walk.next_word()
     }
@@ -82,7 +82,7 @@ impl<'a> Iterator for Words<'a> {
 #[derive(Drop)]
 pub struct WordWalk<'a> {
     pub rest: &'a [u8],
-    pub passed: u64,
+    pub line_feeds: u64,
 }
 
 impl<'a> WordWalk<'a> {
@@ -92,36 +92,36 @@ impl<'a> WordWalk<'a> {
         ensures words { MatchOption result (words_left self.old ≡ []) (λ word.
             words_left self.old ≡ word_at word ∷ words_left self.new) }
         ensures some { IfSome result (λ word. 0 < length word.text.now) }
-        ensures over { IfNone result (words_left self.new ≡ []) }
+        ensures none_left { IfNone result (words_left self.new ≡ []) }
         ensures end { IfNone result (self.new.rest.now ≡ []) }
         ensures room { LinesFit self.new }
         ensures feeds { feeds_at_end self.new ≡ feeds_at_end self.old }
     {
-        let (rest, passed) = after_space(self.rest, self.passed);
+        let (rest, line_feeds) = after_space(self.rest, self.line_feeds);
         let (text, following) = rest.split_at(word_len(rest));
-        self.passed = passed;
+        self.line_feeds = line_feeds;
         self.rest = following;
         if text.is_empty() {
             return None;
         }
         Some(PlacedWord {
             text,
-            line: passed + 1,
+            line: line_feeds + 1,
         })
     }
 }
 
 /// The text after the white space at its front, and the number of line feeds before that.
-fn after_space(text: &[u8], passed: u64) -> (&[u8], u64)
-    requires { passed + length text.now < 2 ^ 64 }
+fn after_space(text: &[u8], line_feeds: u64) -> (&[u8], u64)
+    requires { line_feeds + length text.now < 2 ^ 64 }
     ensures words { (whole : Bool) →
-        words_from whole (result.1 + 1) result.0.now ≡ words_from whole (passed + 1) text.now }
-    ensures room { result.1 + length result.0.now ≤ passed + length text.now }
-    ensures feeds { result.1 + feeds result.0.now ≡ passed + feeds text.now }
-    ensures black { begins_with_space result.0.now ≡ false }
+        words_from whole (result.1 + 1) result.0.now ≡ words_from whole (line_feeds + 1) text.now }
+    ensures room { result.1 + length result.0.now ≤ line_feeds + length text.now }
+    ensures feeds { result.1 + feeds result.0.now ≡ line_feeds + feeds text.now }
+    ensures no_space { begins_with_space result.0.now ≡ false }
 {
     let mut rest = text;
-    let mut lines = passed;
+    let mut lines = line_feeds;
     while let Some((byte, following)) = rest.split_first() {
         if !is_white_space(*byte) {
             break;
@@ -137,7 +137,7 @@ fn after_space(text: &[u8], passed: u64) -> (&[u8], u64)
 /// The number of bytes before the first white space.
 fn word_len(text: &[u8]) -> usize
     ensures within { result ≤ length text.now }
-    ensures black { list_all (λ b. not (white b)) (take result text.now) ≡ true }
+    ensures no_space { list_all (λ b. not (white b)) (take result text.now) ≡ true }
     ensures ends { ends_word true (drop result text.now) ≡ true }
 {
     for (i, byte) in text.iter().enumerate() {

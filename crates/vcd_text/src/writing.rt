@@ -19,7 +19,7 @@ mod values;
 mod window;
 
 use crate::fault::WriteError;
-use buffer::{WriteBuffer, finish};
+use buffer::{WriteBuffer, send_and_flush};
 use counting::check_countable;
 use declarations::write_declarations;
 use stamps::write_first_values;
@@ -54,5 +54,5 @@ pub fn write<W: Sink>(alloc: Global, capture: &Capture, writer: &mut W) -> Resul
     write_declarations(&mut buffer, writer, capture);
     write_first_values(&mut buffer, writer, signals);
     write_transitions(&mut buffer, writer, signals, &mut window, end);
-    finish(buffer, writer)
+    send_and_flush(buffer, writer)
 }

@@ -22,7 +22,7 @@ pub record IsNext (from to : ℕ) (changes : List Change) (next : NextChange) : 
   pub following : next.following ≡ tick_at changes (next.place + 1)
 
 -- each signal has its next change
-pub record AreNext (from : ℕ) (signals : List Signal) (nexts : List NextChange) : Type 0 where
-  pub all : length nexts ≡ length signals
+pub record AreNext (from : ℕ) (signals : List Signal) (next_changes : List NextChange) : Type 0 where
+  pub all : length next_changes ≡ length signals
   pub each : (k : ℕ) (s : Signal) (n : NextChange) → k < length signals
-      → IsNext from from (slice_index_or signals k s).wave.changes (slice_index_or nexts k n)
+      → IsNext from from (slice_index_or signals k s).wave.changes (slice_index_or next_changes k n)

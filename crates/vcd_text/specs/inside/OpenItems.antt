@@ -16,7 +16,7 @@ is_nothing items.Nothing = true
 is_nothing item = false
 
 -- the line of a fault that a word shows: that of the first word where a change of two words is open, else its own
-abbrev pub shown_line : OpenItem → (first own : ℕ) → ℕ
-shown_line items.Vector first own = first
-shown_line items.Dropped first own = first
-shown_line item first own = own
+abbrev pub item_fault_line : OpenItem → (first own : ℕ) → ℕ
+item_fault_line items.Vector first own = first
+item_fault_line items.Dropped first own = first
+item_fault_line item first own = own

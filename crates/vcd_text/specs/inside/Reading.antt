@@ -68,7 +68,7 @@ IsBegun m begun items.Upscope = IsFalse m.changing × (word_texts begun ≡ code
 IsBegun m begun items.Variable = Collects m begun (codes "$var") × IsTrue (has_good_size m.words.items)
 IsBegun m begun items.EndDefinitions = IsFalse m.changing × (word_texts begun ≡ codes "$enddefinitions" ∷ [])
 IsBegun m begun items.Other = PassesOver m begun
-IsBegun m begun items.Vector = AwaitsCode m begun vector_prefixes m.text.items
+IsBegun m begun items.Vector = AwaitsCode m begun vector_prefixes m.digits.items
 IsBegun m begun items.Dropped = (text : List ℕ) × AwaitsCode m begun dropped_prefixes text
 
 -- the whole items gave this state, and these words of an open item have been taken
@@ -131,7 +131,7 @@ HasRoomFor m words = (taken : List PlacedWord) × Reads m taken × (length taken
 
 -- all words of a list have been taken after others, or one shows a fault, or memory has run out
 abbrev pub AllWordsResult : List PlacedWord → List PlacedWord → Result ℕ ReadError → Reader → Type 0
-AllWordsResult taken words (Ok passed) new = Reads new (taken ++ words)
+AllWordsResult taken words (Ok line_feeds) new = Reads new (taken ++ words)
 AllWordsResult taken words (Err e) new = (e ≡ memory_error) ⊎ ShowsFault (taken ++ words) e.line e.fault
 
 -- nothing is open, and `$enddefinitions $end` has come

@@ -9,12 +9,12 @@ feeds bytes = count_by (λ b. b == 10) bytes
 
 -- the words that are still to come
 abbrev pub words_left : WordWalk → List PlacedWord
-words_left w = words_from true (w.passed + 1) w.rest.now
+words_left w = words_from true (w.line_feeds + 1) w.rest.now
 
 -- the line feeds before the end of the text
 abbrev pub feeds_at_end : WordWalk → ℕ
-feeds_at_end w = w.passed + feeds w.rest.now
+feeds_at_end w = w.line_feeds + feeds w.rest.now
 
 -- each byte that is left can be a line feed without overflow of the count
 abbrev pub LinesFit : WordWalk → Type 0
-LinesFit w = w.passed + length {A = ℕ} w.rest.now < 2 ^ 64
+LinesFit w = w.line_feeds + length {A = ℕ} w.rest.now < 2 ^ 64

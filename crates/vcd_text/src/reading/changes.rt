@@ -131,8 +131,8 @@ impl Reader {
         ensures { (first : ℕ) → is_among vector_prefixes first ≡ true →
             WordResult self.old (word_on (first ∷ digits.now) line) result self.new }
     {
-        self.text.clear();
-        self.text.extend_from_slice(digits)?;
+        self.digits.clear();
+        self.digits.extend_from_slice(digits)?;
         self.item = OpenItem::Vector;
         self.line = line;
         Ok(())
@@ -158,7 +158,7 @@ impl Reader {
         ensures { (line : ℕ) → WordResult self.old (word_on code.now line) result self.new }
     {
         self.item = OpenItem::Nothing;
-        let digits = self.text.as_slice();
+        let digits = self.digits.as_slice();
         self.variables.change(alloc, code, self.tick, digits)
     }
 

@@ -33,7 +33,7 @@ pub struct Progress {
     /// The bytes after the last white space: a word that can go on.
     pub buffer: ReadBuffer,
     /// The line feeds so far.
-    pub passed: u64,
+    pub line_feeds: u64,
     /// The number of bytes that the file can still have.
     pub left: usize,
 }
@@ -46,7 +46,7 @@ impl Progress {
         Progress {
             reader: Reader::new(alloc),
             buffer: ReadBuffer::new(alloc),
-            passed: 0,
+            line_feeds: 0,
             left: FILE_LIMIT,
         }
     }
@@ -58,7 +58,7 @@ impl Progress {
         source: &mut R,
     ) -> Result<bool, ReadError>
         requires ready { R.has_failed source.old ≡ false }
-        requires stands { (bytes : List ℕ) × HasConsumed self.old bytes }
+        requires consumed { (bytes : List ℕ) × HasConsumed self.old bytes }
         ensures taken { OnOk result ((coming : Option (List ℕ)) →
             ProgressMatches coming (R.coming source.old) self.old →
             ProgressMatches coming (R.coming source.new) self.new) }
@@ -76,10 +76,10 @@ impl Progress {
         self.buffer.make_room()?;
         let from = self.buffer.len();
         let Ok(count) = self.buffer.read_from(source, self.left) else {
-            return Err(ReadError::at(self.passed + 1, Fault::ReadFault));
+            return Err(ReadError::at(self.line_feeds + 1, Fault::ReadFault));
         };
         if count > self.left {
-            return Err(ReadError::at(self.passed + 1, Fault::TooLarge));
+            return Err(ReadError::at(self.line_feeds + 1, Fault::TooLarge));
         }
         self.left -= count;
         self.take_words(alloc, from)?;
@@ -96,9 +96,9 @@ impl Progress {
         let len = closed_len(self.buffer.as_slice(), from);
         let closed = WordWalk {
             rest: &self.buffer.as_slice()[..len],
-            passed: self.passed,
+            line_feeds: self.line_feeds,
         };
-        self.passed = read_words(&mut self.reader, alloc, closed)?;
+        self.line_feeds = read_words(&mut self.reader, alloc, closed)?;
         self.buffer.drop_front(len);
         Ok(())
     }
@@ -115,16 +115,16 @@ impl Progress {
         let Progress {
             mut reader,
             buffer,
-            passed,
+            line_feeds,
             ..
         } = self;
         let word = WordWalk {
             rest: buffer.as_slice(),
-            passed,
+            line_feeds,
         };
         read_words(&mut reader, alloc, word)?;
-        check_complete(&reader, passed + 1)?;
-        Ok(reader.finish(alloc)?)
+        check_complete(&reader, line_feeds + 1)?;
+        Ok(reader.into_loaded(alloc)?)
     }
 }
 
@@ -143,10 +143,10 @@ fn check_complete(reader: &Reader, line: u64) -> Result<(), ReadError>
 /// The number of bytes up to the last white space, which is not among the first `from`.
 fn closed_len(bytes: &[u8], from: usize) -> usize
     requires within { from ≤ length bytes.now }
-    requires black { list_all (λ b. not (white b)) (take from bytes.now) ≡ true }
+    requires no_space { list_all (λ b. not (white b)) (take from bytes.now) ≡ true }
     ensures within { result ≤ length bytes.now }
     ensures closed { is_closed (take result bytes.now) ≡ true }
-    ensures black { list_all (λ b. not (white b)) (drop result bytes.now) ≡ true }
+    ensures no_space { list_all (λ b. not (white b)) (drop result bytes.now) ≡ true }
 {
     let mut len = bytes.len();
     while len > from {
@@ -165,13 +165,13 @@ fn read_words(reader: &mut Reader, alloc: Global, words: WordWalk) -> Result<u64
     requires lines { LinesFit words }
     ensures words { (taken : List WordInFile) → Reads reader.old taken →
         AllWordsResult taken (words_left words.entry) result reader.new }
-    ensures feeds { IfOk result (λ passed. passed ≡ feeds_at_end words.entry) }
+    ensures feeds { IfOk result (λ line_feeds. line_feeds ≡ feeds_at_end words.entry) }
 {
     let mut left = words;
     while let Some(first) = left.next_word() {
         take_from(reader, alloc, first, &mut left)?;
     }
-    Ok(left.passed)
+    Ok(left.line_feeds)
 }
 
 /// Takes this word, and also the code after it where it begins a change of several bits.

@@ -43,7 +43,7 @@ impl Reader {
     ///
     /// The error is `UnexpectedWord` after `$upscope` and `$enddefinitions`, and `BadVar` for a
     /// size that is no decimal number.
-    pub fn go_on(&mut self, alloc: Global, text: &[u8]) -> Result<(), Fault>
+    pub fn continue_item(&mut self, alloc: Global, text: &[u8]) -> Result<(), Fault>
         requires inside { is_inside self.old.item ≡ true }
         requires word { is_end_word text.now ≡ false }
         ensures { (line : ℕ) → WordResult self.old (word_on text.now line) result self.new }
@@ -51,7 +51,7 @@ impl Reader {
         match self.item {
             OpenItem::Upscope | OpenItem::EndDefinitions => Err(Fault::UnexpectedWord),
             OpenItem::Other => Ok(()),
-            OpenItem::Variable => self.go_on_variable(alloc, text),
+            OpenItem::Variable => self.continue_variable(alloc, text),
             _ => self.keep_word(alloc, text),
         }
     }
@@ -67,7 +67,7 @@ impl Reader {
     }
 
     /// Keeps a word of a variable. The second is its size.
-    fn go_on_variable(&mut self, alloc: Global, text: &[u8]) -> Result<(), Fault>
+    fn continue_variable(&mut self, alloc: Global, text: &[u8]) -> Result<(), Fault>
         requires item { self.old.item ≡ items.Variable }
         requires word { is_end_word text.now ≡ false }
         ensures { (line : ℕ) → WordResult self.old (word_on text.now line) result self.new }

@@ -5,7 +5,7 @@ ghost use Rattle.vcd_text.specs.Grammar.{ParseState};
 ghost use Rattle.vcd_text.specs.inside.Variables.{VariablesMatch};
 ghost use Rattle.vcd_core.specs.Contents.{contents};
 ghost use Rattle.vcd_text.specs.Words.{word_on};
-ghost use Rattle.vcd_text.specs.inside.OpenItems.{shown_line};
+ghost use Rattle.vcd_text.specs.inside.OpenItems.{item_fault_line};
 ghost use Rattle.vcd_text.specs.inside.Reading.{Reads, IsUnderway, WordResult, WordsResult, is_complete, BeginsVector, Means};
 
 use crate::fault::{Fault, ReadError};
@@ -50,7 +50,7 @@ pub struct Reader {
     /// The words of the open declaration, after its keyword.
     pub words: Vec<Word>,
     /// The digits of the open change of several bits.
-    pub text: Vec<u8>,
+    pub digits: Vec<u8>,
     /// The line of the open change.
     pub line: u64,
 }
@@ -68,7 +68,7 @@ impl Reader {
             tick: 0,
             item: OpenItem::Nothing,
             words: Vec::new(alloc),
-            text: Vec::new(alloc),
+            digits: Vec::new(alloc),
             line: 0,
         }
     }
@@ -79,7 +79,7 @@ impl Reader {
         requires word { 0 < length text.now }
         ensures { WordsResult self.old (word_on text.now line ∷ []) result self.new }
     {
-        let shown = self.shown_line(line);
+        let shown = self.fault_line(line);
         match self.take(alloc, text, line) {
             Ok(()) => Ok(()),
             Err(fault) => Err(ReadError::at(shown, fault)),
@@ -106,8 +106,8 @@ impl Reader {
     }
 
     /// The line of a fault of the next word, which is on this line.
-    fn shown_line(&self, line: u64) -> u64
-        ensures { result ≡ shown_line self.now.item self.now.line line }
+    fn fault_line(&self, line: u64) -> u64
+        ensures { result ≡ item_fault_line self.now.item self.now.line line }
     {
         match self.item {
             OpenItem::Vector | OpenItem::Dropped => self.line,
@@ -127,7 +127,7 @@ impl Reader {
             OpenItem::Vector => self.end_vector(alloc, text),
             OpenItem::Dropped => self.end_dropped(text),
             _ if text == b"$end".as_slice() => self.close(alloc),
-            _ => self.go_on(alloc, text),
+            _ => self.continue_item(alloc, text),
         }
     }
 
@@ -139,7 +139,7 @@ impl Reader {
     }
 
     /// The capture that the file means, once its last word has been taken.
-    pub fn finish(self, alloc: Global) -> Result<Loaded, NoMemory>
+    pub fn into_loaded(self, alloc: Global) -> Result<Loaded, NoMemory>
         requires complete { is_complete self ≡ true }
         requires known { (c : ParseState) × VariablesMatch self.variables c }
         ensures { IfOk result (λ loaded. Means self (contents loaded.capture) loaded.skipped) }

@@ -46,7 +46,11 @@ pub fn write_piece<W: Sink>(buffer: &mut WriteBuffer, writer: &mut W, piece: &[u
         return;
     }
     send_waiting(buffer, writer);
-    write_first(buffer, writer, piece);
+    if has_space_for(&buffer.waiting, piece.len()) {
+        let _ = buffer.waiting.extend_from_slice(piece);
+        return;
+    }
+    send_piece(buffer, writer, piece);
 }
 
 /// Appends a byte to the text.
@@ -62,23 +66,6 @@ pub fn write_byte<W: Sink>(buffer: &mut WriteBuffer, writer: &mut W, byte: u8)
         return;
     }
     write_piece(buffer, writer, &[byte]);
-}
-
-/// Keeps a piece where the buffer has room for it; otherwise sends it after the waiting bytes.
-fn write_first<W: Sink>(buffer: &mut WriteBuffer, writer: &mut W, piece: &[u8])
-    ensures written { Emits W.taken W.has_failed (buffer.old, writer.old) (buffer.new, writer.new)
-        piece.now }
-    // where there is room the writer is not called
-    ensures gathered { vec_len buffer.old.waiting + length piece.now ≤ vec_capacity buffer.old.waiting →
-        writer.new ≡ writer.old }
-    ensures room { vec_capacity buffer.old.waiting ≤ vec_capacity buffer.new.waiting }
-{
-    if has_space_for(&buffer.waiting, piece.len()) {
-        let _ = buffer.waiting.extend_from_slice(piece);
-        return;
-    }
-    send_waiting(buffer, writer);
-    send_piece(buffer, writer, piece);
 }
 
 fn has_space_for(waiting: &Vec<u8>, count: usize) -> bool
@@ -131,7 +118,7 @@ fn send_bytes<W: Sink>(writer: &mut W, bytes: &[u8]) -> u128
 ///
 /// An error means that the writer has failed. It gives the number of bytes of the text that the
 /// writer took.
-pub fn finish<W: Sink>(buffer: WriteBuffer, writer: &mut W) -> Result<(), WriteError>
+pub fn send_and_flush<W: Sink>(buffer: WriteBuffer, writer: &mut W) -> Result<(), WriteError>
     ensures written { OnOk result ((before : Option (List ℕ)) (text : List ℕ) → length text < 2 ^ 128 - 1
         → HasEmitted before (W.taken writer.old) (W.has_failed writer.old) buffer text
         → Appends before (W.taken writer.new) text) }

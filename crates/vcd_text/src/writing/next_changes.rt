@@ -18,13 +18,13 @@ pub struct NextChange {
 
 /// The first change of each signal after tick 0: 24 bytes for each signal.
 pub fn first_changes(alloc: Global, signals: &[Signal]) -> Result<Vec<NextChange>, NoMemory>
-    ensures { IfOk result (λ nexts. AreNext 1 signals.now nexts.items) }
+    ensures { IfOk result (λ next_changes. AreNext 1 signals.now next_changes.items) }
 {
-    let mut nexts = Vec::with_capacity(alloc, signals.len())?;
+    let mut next_changes = Vec::with_capacity(alloc, signals.len())?;
     for signal in signals {
-        nexts.push(first_change(&signal.wave))?;
+        next_changes.push(first_change(&signal.wave))?;
     }
-    Ok(nexts)
+    Ok(next_changes)
 }
 
 /// The first change after tick 0.

@@ -7,14 +7,14 @@ ghost use Rattle.vcd_core.specs.declared.capture.TheConstants.{END_LIMIT, SIGNAL
 ghost use Rattle.vcd_text.specs.inside.Transitions.{last_tick, transition_items};
 ghost use Rattle.vcd_text.specs.inside.Windows.{IsKey, IsReady, transitions_of};
 ghost use Rattle.vcd_text.specs.inside.Written.{Emits};
-ghost use Rattle.vcd_text.specs.declared.writing.window.TheConstants.{PLACES};
+ghost use Rattle.vcd_text.specs.declared.writing.window.TheConstants.{POSITIONS};
 ghost use Rattle.vcd_text.specs.Text.{end_items, item_line, tick_items};
 
 use super::buffer::WriteBuffer;
 use super::next_changes::{NextChange, tick_at_place};
 use super::stamps::{write_last_stamp, write_new_stamp};
 use super::values::write_value_near;
-use super::window::{PLACES, Window, fill_window};
+use super::window::{POSITIONS, Window, fill_window};
 use vcd_core::{Signal, Sink};
 
 /// Writes the changes after tick 0, and the end, window by window. Ticks without a change are not
@@ -88,57 +88,46 @@ fn write_window<W: Sink>(
 ) -> u64
     requires few { length signals.now ≤ SIGNAL_LIMIT }
     requires keys { All (IsKey from (length signals.now)) window.old.keys.items }
-    requires begun { length window.old.begun.items ≡ length signals.now }
+    requires first_tried { length window.old.first_tried.items ≡ length signals.now }
     ensures text { Emits W.taken W.has_failed (buffer.old, writer.old) (buffer.new, writer.new)
         (flat_map item_line (transition_items (map signal_contents signals.now) last
         (transitions_of from window.old.keys.items))) }
     ensures last { result ≡ last_tick last (transitions_of from window.old.keys.items) }
     ensures keys { window.new.keys ≡ window.old.keys }
-    ensures next { window.new.nexts ≡ window.old.nexts }
-    ensures begun { length window.new.begun.items ≡ length signals.now }
+    ensures next { window.new.next_changes ≡ window.old.next_changes }
+    ensures first_tried { length window.new.first_tried.items ≡ length signals.now }
 {
-    let Window {
-        keys,
-        nexts: _,
-        begun,
-    } = window;
-    write_keys(
-        buffer,
-        writer,
-        signals,
-        keys.as_slice(),
-        begun.as_mut_slice(),
-        from,
-        last,
-    )
+    let keys = window.keys.as_slice();
+    let first_tried = window.first_tried.as_mut_slice();
+    write_keys(buffer, writer, signals, keys, first_tried, from, last)
 }
 
-/// Writes the changes of keys, after the text up to tick `last`. Returns the last tick. `begun` has
-/// the place where the next change of each signal is looked up first.
+/// Writes the changes of keys, after the text up to tick `last`. Returns the last tick. At
+/// `first_tried` is the place where the next change of each signal is looked up first.
 fn write_keys<W: Sink>(
     buffer: &mut WriteBuffer,
     writer: &mut W,
     signals: &[Signal],
     keys: &[u64],
-    begun: &mut [NextChange],
+    first_tried: &mut [NextChange],
     from: u64,
     last: u64,
 ) -> u64
     requires few { length signals.now ≤ SIGNAL_LIMIT }
     requires keys { All (IsKey from (length signals.now)) keys.now }
-    requires begun { length begun.old ≡ length signals.now }
+    requires first_tried { length first_tried.old ≡ length signals.now }
     ensures text { Emits W.taken W.has_failed (buffer.old, writer.old) (buffer.new, writer.new)
         (flat_map item_line (transition_items (map signal_contents signals.now) last
         (transitions_of from keys.now))) }
     ensures last { result ≡ last_tick last (transitions_of from keys.now) }
-    ensures begun { length begun.new ≡ length begun.old }
+    ensures first_tried { length first_tried.new ≡ length first_tried.old }
 {
     let mut last = last;
     for (k, key) in keys.iter().enumerate() {
-        look_ahead(signals, begun, keys, k);
-        let tick = from + *key / PLACES;
-        let position = (*key % PLACES) as usize;
-        let place = begun[position].place;
+        look_ahead(signals, first_tried, keys, k);
+        let tick = from + *key / POSITIONS;
+        let position = (*key % POSITIONS) as usize;
+        let place = first_tried[position].place;
         write_new_stamp(buffer, writer, last, tick);
         write_value_near(
             buffer,
@@ -148,7 +137,7 @@ fn write_keys<W: Sink>(
             tick,
             place,
         );
-        begun[position].place = place.saturating_add(1);
+        first_tried[position].place = place.saturating_add(1);
         last = tick;
     }
     last
@@ -159,25 +148,25 @@ fn write_keys<W: Sink>(
 const AHEAD: usize = 32;
 
 /// Looks at the changes of the next `AHEAD` keys, where the place is a multiple of that number.
-fn look_ahead(signals: &[Signal], begun: &mut [NextChange], keys: &[u64], place: usize)
-    ensures { length begun.new ≡ length begun.old }
+fn look_ahead(signals: &[Signal], first_tried: &mut [NextChange], keys: &[u64], place: usize)
+    ensures { length first_tried.new ≡ length first_tried.old }
 {
     if place % AHEAD != 0 {
         return;
     }
     for k in place..keys.len().min(place.saturating_add(AHEAD)) {
-        look_at(signals, begun, keys[k]);
+        look_at(signals, first_tried, keys[k]);
     }
 }
 
 /// Looks at the change of a key. Nothing waits for what it reads.
-fn look_at(signals: &[Signal], begun: &mut [NextChange], key: u64)
-    ensures { length begun.new ≡ length begun.old }
+fn look_at(signals: &[Signal], first_tried: &mut [NextChange], key: u64)
+    ensures { length first_tried.new ≡ length first_tried.old }
 {
-    let position = (key % PLACES) as usize;
-    if position >= begun.len() || position >= signals.len() {
+    let position = (key % POSITIONS) as usize;
+    if position >= first_tried.len() || position >= signals.len() {
         return;
     }
     let changes = signals[position].wave.changes();
-    begun[position].tick = tick_at_place(changes, begun[position].place);
+    first_tried[position].tick = tick_at_place(changes, first_tried[position].place);
 }

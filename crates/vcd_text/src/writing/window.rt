@@ -15,9 +15,9 @@ use std::mem::swap;
 use vcd_core::{Change, NoMemory, Signal};
 
 /// The limit of the positions in a key, and of the ticks. Both fit together in a word.
-pub const PLACES: u64 = 65536;
+pub const POSITIONS: u64 = 65536;
 
-pub const SPAN: u64 = u64::MAX / PLACES;
+pub const SPAN: u64 = u64::MAX / POSITIONS;
 
 /// The least number of changes that a window has room for. A short list is sorted faster, and stays
 /// in a cache.
@@ -26,13 +26,14 @@ const LEAST: usize = 4096;
 /// A window of ticks.
 #[derive(Drop)]
 pub struct Window {
-    /// A key for each change: its tick, counted from the window's first, times `PLACES`, and the
+    /// A key for each change: its tick, counted from the window's first, times `POSITIONS`, and the
     /// position of its signal.
     pub keys: Vec<u64>,
     /// The next change of each signal after the window.
-    pub nexts: Vec<NextChange>,
-    /// The next changes from the window's first tick on.
-    pub begun: Vec<NextChange>,
+    pub next_changes: Vec<NextChange>,
+    /// The next changes from the window's first tick on; as it is written, the places where they are
+    /// looked up first.
+    pub first_tried: Vec<NextChange>,
 }
 
 impl Window {
@@ -44,9 +45,13 @@ impl Window {
         ensures { IfOk result (IsReady end 1 signals.now) }
     {
         let keys = Vec::with_capacity(alloc, signals.len().max(LEAST))?;
-        let nexts = first_changes(alloc, signals)?;
-        let begun = nexts.clone()?;
-        Ok(Window { keys, nexts, begun })
+        let next_changes = first_changes(alloc, signals)?;
+        let first_tried = next_changes.clone()?;
+        Ok(Window {
+            keys,
+            next_changes,
+            first_tried,
+        })
     }
 }
 
@@ -63,18 +68,17 @@ pub fn fill_window(window: &mut Window, signals: &[Signal], from: u64, most: u64
     ensures keys { All (IsKey from (length signals.now)) window.new.keys.items }
     ensures ready { IsReady end (from + result) signals.now window.new }
 {
-    let Window { keys, nexts, begun } = window;
-    swap(nexts, begun);
+    swap(&mut window.next_changes, &mut window.first_tried);
     let count = list_some(
-        keys,
+        &mut window.keys,
         signals,
-        begun.as_slice(),
-        nexts.as_mut_slice(),
+        window.first_tried.as_slice(),
+        window.next_changes.as_mut_slice(),
         from,
         most,
         end,
     );
-    keys.sort_unstable();
+    window.keys.sort_unstable();
     count
 }
 
@@ -82,8 +86,8 @@ pub fn fill_window(window: &mut Window, signals: &[Signal], from: u64, most: u64
 fn list_some(
     keys: &mut Vec<u64>,
     signals: &[Signal],
-    begun: &[NextChange],
-    nexts: &mut [NextChange],
+    first_tried: &[NextChange],
+    next_changes: &mut [NextChange],
     from: u64,
     most: u64,
     end: u64,
@@ -92,8 +96,8 @@ fn list_some(
     requires sound { All (IsSoundSignal end) (map signal_contents signals.now) }
     requires from { 1 ≤ from }
     requires room { length signals.now ≤ vec_capacity keys.old }
-    requires begun { AreNext from signals.now begun.now }
-    requires next { length nexts.old ≡ length signals.now }
+    requires first_tried { AreNext from signals.now first_tried.now }
+    requires next { length next_changes.old ≡ length signals.now }
     requires some { 1 ≤ most }
     requires most { from + most ≤ END_LIMIT + 1 }
     ensures some { 1 ≤ result }
@@ -101,11 +105,19 @@ fn list_some(
     ensures all { transitions_of from keys.new.items
         ≡ unsorted_window from (from + result) 0 (map signal_contents signals.now) }
     ensures keys { All (IsKey from (length signals.now)) keys.new.items }
-    ensures next { AreNext (from + result) signals.now nexts.new }
+    ensures next { AreNext (from + result) signals.now next_changes.new }
     ensures room { vec_capacity keys.old ≤ vec_capacity keys.new }
 {
     let mut count = most;
-    while !list_window(keys, signals, begun, nexts, from, from + count, end) {
+    while !list_window(
+        keys,
+        signals,
+        first_tried,
+        next_changes,
+        from,
+        from + count,
+        end,
+    ) {
         count /= 2;
     }
     count
@@ -116,23 +128,23 @@ fn list_some(
 fn list_window(
     keys: &mut Vec<u64>,
     signals: &[Signal],
-    begun: &[NextChange],
-    nexts: &mut [NextChange],
+    first_tried: &[NextChange],
+    next_changes: &mut [NextChange],
     from: u64,
     to: u64,
     end: u64,
 ) -> bool
     requires few { length signals.now ≤ SIGNAL_LIMIT }
     requires sound { All (IsSoundSignal end) (map signal_contents signals.now) }
-    requires begun { AreNext from signals.now begun.now }
-    requires next { length nexts.old ≡ length signals.now }
+    requires first_tried { AreNext from signals.now first_tried.now }
+    requires next { length next_changes.old ≡ length signals.now }
     requires order { from ≤ to }
     requires end { to ≤ END_LIMIT + 1 }
     ensures all { result ≡ true → transitions_of from keys.new.items
         ≡ unsorted_window from to 0 (map signal_contents signals.now) }
     ensures keys { All (IsKey from (length signals.now)) keys.new.items }
-    ensures next { result ≡ true → AreNext to signals.now nexts.new }
-    ensures all_next { length nexts.new ≡ length signals.now }
+    ensures next { result ≡ true → AreNext to signals.now next_changes.new }
+    ensures all_next { length next_changes.new ≡ length signals.now }
     ensures full { result ≡ false → (from + SPAN < to) ⊎ (vec_capacity keys.old
         < length (unsorted_window from to 0 (map signal_contents signals.now))) }
     ensures room { vec_capacity keys.old ≤ vec_capacity keys.new }
@@ -140,8 +152,8 @@ fn list_window(
     keys.clear();
     for (position, signal) in signals.iter().enumerate() {
         let changes = signal.wave.changes();
-        match list_signal(keys, position, changes, begun[position], from, to) {
-            Some(next) => nexts[position] = next,
+        match list_signal(keys, position, changes, first_tried[position], from, to) {
+            Some(next) => next_changes[position] = next,
             None => return false,
         }
     }
@@ -159,7 +171,7 @@ fn list_signal(
     from: u64,
     to: u64,
 ) -> Option<NextChange>
-    requires position { position < PLACES }
+    requires position { position < POSITIONS }
     requires rise { AreRising changes.now }
     requires next { IsNext from from changes.now next }
     requires order { from ≤ to }
@@ -190,10 +202,10 @@ fn list_signal(
 /// The key of a change of the signal at `position`, this number of ticks after the window's first.
 fn key_of(ticks: u64, position: usize) -> u64
     requires ticks { ticks < SPAN }
-    requires position { position < PLACES }
-    ensures { result ≡ ticks * PLACES + position }
+    requires position { position < POSITIONS }
+    ensures { result ≡ ticks * POSITIONS + position }
 {
-    ticks * PLACES + position as u64
+    ticks * POSITIONS + position as u64
 }
 
 /// Appends a key to a list that has room for it.

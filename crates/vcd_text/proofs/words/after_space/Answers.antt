@@ -6,7 +6,7 @@ use Rattle.vcd_text.specs.Words.{words_from}
 use Rattle.vcd_text.proofs.WordLaws.{space_passed, feed_first, other_first}
 use Rattle.vcd_text.proofs.words.after_space.Goals as goal
 
--- a line feed, or other white space, is passed
+-- a line feed, or other white space, is line_feeds
 passed_feed : (whole : Bool) (line b : ℕ) (bs text : List ℕ) → text ≡ b ∷ bs → is_white_space b ≡ true → b ≡ 10
     → words_from whole (line + 1) bs ≡ words_from whole line text
 passed_feed whole line b bs text is space feed = grind (arith, Decides-eqb, space_passed)

@@ -5,9 +5,9 @@ use Rattle.vcd_text.proofs.words.after_space.Given as goal
 
 abbrev pub invariant-loop-byte : goal.invariant-loop-byte
 invariant-loop-byte l =
-    ((whole : Bool) → words_from whole (l.lines + 1) l.rest ≡ words_from whole (l.passed + 1) l.text)
-    × (l.lines + length l.rest ≤ l.passed + length l.text)
-    × (l.lines + feeds l.rest ≡ l.passed + feeds l.text)
+    ((whole : Bool) → words_from whole (l.lines + 1) l.rest ≡ words_from whole (l.line_feeds + 1) l.text)
+    × (l.lines + length l.rest ≤ l.line_feeds + length l.text)
+    × (l.lines + feeds l.rest ≡ l.line_feeds + feeds l.text)
 
 abbrev pub decreases-loop-byte : goal.decreases-loop-byte
 decreases-loop-byte l = length l.rest

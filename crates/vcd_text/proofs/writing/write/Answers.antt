@@ -38,21 +38,21 @@ all_written c signals end same at empty none declarations first later =
 pub returns-clause-written : goal.returns-clause-written
 returns-clause-written g c =
     let whole = contents c.args.capture.now in
-    on_ok c.finish.result
+    on_ok c.send_and_flush.result
     (λ ends. ends (g.W.Sink.taken c.args.writer.now) (text whole)
     (text_countable whole c.requires.sound c.in_ok-check_countable.ensures.counted)
     (all_written whole c.signals-signals.result.now c.end-end.result
     (ap (map signal_contents) c.signals-signals.ensures) c.end-end.ensures c.in_ok-buffer.ensures.waiting
     c.in_ok-buffer.ensures.sent c.write_declarations.ensures c.write_first_values.ensures c.write_transitions.ensures))
-    c.finish.ensures.written
+    c.send_and_flush.ensures.written
 
 pub returns-clause-fault : goal.returns-clause-fault
 returns-clause-fault g c =
     let whole = contents c.args.capture.now in
-    IfErr-weaker c.finish.result _ _
+    IfErr-weaker c.send_and_flush.result _ _
     (λ e ends. ends (g.W.Sink.taken c.args.writer.now) (text whole)
     (text_countable whole c.requires.sound c.in_ok-check_countable.ensures.counted)
     (all_written whole c.signals-signals.result.now c.end-end.result
     (ap (map signal_contents) c.signals-signals.ensures) c.end-end.ensures c.in_ok-buffer.ensures.waiting
     c.in_ok-buffer.ensures.sent c.write_declarations.ensures c.write_first_values.ensures c.write_transitions.ensures))
-    c.finish.ensures.fault
+    c.send_and_flush.ensures.fault

@@ -3,7 +3,6 @@
 
 ghost use Rattle.std.specs.Prelude.{◌≡◌, ◌++◌, ◌∷◌, [], map, slice_get, IfOk, OnOk};
 ghost use Rattle.vcd_core.specs.Contents.{signal_contents};
-ghost use Rattle.vcd_core.specs.Wave.{IsWave};
 ghost use Rattle.vcd_text.specs.Grammar.{ParseState, kept_variables};
 ghost use Rattle.vcd_text.specs.Meaning.{declared_signal};
 ghost use Rattle.vcd_text.specs.inside.Variables.{without_scopes, VariablesMatch, Finishes};
@@ -26,12 +25,12 @@ impl Variables {
             map (declared_signal c.value_changes c.tick) (map without_scopes (kept_variables c.declared))) }
     {
         let mut variables = self;
-        variables.flush_log(alloc)?;
+        variables.empty_log(alloc)?;
         variables.flushed_signals(alloc)
     }
 
     /// Gives the waves their changes of the log, which is then empty.
-    fn flush_log(&mut self, alloc: Global) -> Result<(), NoMemory>
+    fn empty_log(&mut self, alloc: Global) -> Result<(), NoMemory>
         requires { (c : ParseState) × VariablesMatch self.old c }
         ensures same { OnOk result ((c : ParseState) → VariablesMatch self.old c → VariablesMatch self.new c) }
         ensures empty { OnOk result (self.new.log.items ≡ []) }
@@ -76,7 +75,9 @@ fn finished_signal(variable: Variable, before: &mut [Signal]) -> Result<Signal, 
     if first < before.len() {
         return with_wave_of(signal, &mut before[first]);
     }
-    Ok(with_form(signal))
+    // Called for its clause alone: the wave has its one form.
+    signal.wave.changes();
+    Ok(signal)
 }
 
 /// A signal whose wave shares the list of another's.
@@ -91,14 +92,4 @@ fn with_wave_of(signal: Signal, first: &mut Signal) -> Result<Signal, NoMemory>
     let mut other = signal;
     other.wave = first.wave.share()?;
     Ok(other)
-}
-
-/// The signal itself, and the clause that its wave is the list of changes of its values.
-fn with_form(signal: Signal) -> Signal
-    ensures same { result ≡ signal }
-    ensures form { IsWave result.wave.width result.wave.changes }
-{
-    // Called for its clause alone: the wave has its one form.
-    signal.wave.changes();
-    signal
 }

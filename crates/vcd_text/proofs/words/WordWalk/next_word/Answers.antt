@@ -7,9 +7,9 @@ use Rattle.vcd_text.proofs.words.WordWalk.next_word.Goals as goal
 pub returns-then-is_empty-clause-words : goal.returns-then-is_empty-clause-words
 returns-then-is_empty-clause-words c = grind (arith, eqb-true, no_word)
 
-pub returns-then-is_empty-clause-over : goal.returns-then-is_empty-clause-over
+pub returns-then-is_empty-clause-none_left : goal.returns-then-is_empty-clause-none_left
 unfolding words_from
-returns-then-is_empty-clause-over c = grind (arith, eqb-true, no_word)
+returns-then-is_empty-clause-none_left c = grind (arith, eqb-true, no_word)
 
 pub returns-then-is_empty-clause-end : goal.returns-then-is_empty-clause-end
 returns-then-is_empty-clause-end c = grind (arith, eqb-true, no_word)

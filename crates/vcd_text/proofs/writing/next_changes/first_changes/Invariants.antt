@@ -8,7 +8,7 @@ use Rattle.vcd_text.proofs.writing.next_changes.first_changes.Given as goal
 abbrev pub invariant-loop-signal : goal.invariant-loop-signal
 invariant-loop-signal l =
     record {
-      all : length l.nexts.items ≡ l.signal-index;
+      all : length l.next_changes.items ≡ l.signal-index;
       each : (k : ℕ) (s : Signal) (n : NextChange) → k < l.signal-index
-          → IsNext 1 1 (get_or l.signals k s).wave.changes (get_or l.nexts.items k n);
+          → IsNext 1 1 (get_or l.signals k s).wave.changes (get_or l.next_changes.items k n);
     }

@@ -3,20 +3,20 @@ use Rattle.std.proofs.Common.{◌<◌, ◌+◌, ◌/◌, ◌%◌, length, map, g
 use Rattle.std.proofs.lemmas.List.{get_or_default, length-set}
 use Rattle.vcd_core.specs.Contents.{signal_contents}
 use Rattle.vcd_text.specs.Text.{code_of, item_line, value_item}
-use Rattle.vcd_text.specs.declared.writing.window.TheConstants.{PLACES}
+use Rattle.vcd_text.specs.declared.writing.window.TheConstants.{POSITIONS}
 use Rattle.vcd_text.proofs.Listing.{value_there}
 use Rattle.vcd_text.proofs.Orders.{last_written, none_written, one_later, one_written}
 use Rattle.vcd_text.proofs.Written.{front_begun, front_grows, front_whole, writes_as, writes_both}
 use Rattle.vcd_text.proofs.writing.transitions.write_keys.Goals as goal
 
 pub loop-k-init : goal.loop-k-init
-loop-k-init g c = record { text = front_begun refl; last = refl; begun = refl }
+loop-k-init g c = record { text = front_begun refl; last = refl; first_tried = refl }
 
 pub overflow_add-tick : goal.overflow_add-tick
 overflow_add-tick g c = omega (arith, (c.requires.keys c.loop-k.k 0 (omega arith)).tick)
 
-pub bounds-begun-position : goal.bounds-begun-position
-bounds-begun-position g c = grind arith
+pub bounds-first_tried-position : goal.bounds-first_tried-position
+bounds-first_tried-position g c = grind arith
 
 pub bounds-signals-position : goal.bounds-signals-position
 bounds-signals-position g c = omega (arith, (c.requires.keys c.loop-k.k 0 (omega arith)).position)
@@ -33,16 +33,17 @@ loop-k-preserved g c =
     let inside : k < length keys = omega arith in
     let key = get_or keys k 0 in
     let there = (c.requires.keys k 0 inside).position in
-    let s = get_or signals (key % PLACES) c.index-signals-position.result in
-    let value = value_there signals s (key % PLACES) (c.args.from + key / PLACES) there
-    (get_or_default signals (key % PLACES) c.index-signals-position.result s there) in
+    let s = get_or signals (key % POSITIONS) c.index-signals-position.result in
+    let value = value_there signals s (key % POSITIONS) (c.args.from + key / POSITIONS) there
+    (get_or_default signals (key % POSITIONS) c.index-signals-position.result s there) in
     record {
       text = front_grows _ kept.text (writes_both c.write_new_stamp.ensures
-          (writes_as (ap (λ v. item_line (value_item (code_of (key % PLACES)) v)) (sym value))
+          (writes_as (ap (λ v. item_line (value_item (code_of (key % POSITIONS)) v)) (sym value))
           c.write_value_near.ensures))
           (one_written (map signal_contents signals) c.args.from c.loop-k.last k keys inside);
       last = one_later c.args.from c.loop-k.last k _ keys inside kept.last;
-      begun = length-set c.look_ahead.new.begun (key % PLACES) _ ∙ c.look_ahead.ensures ∙ kept.begun;
+      first_tried = length-set c.look_ahead.new.first_tried (key % POSITIONS) _ ∙ c.look_ahead.ensures
+          ∙ kept.first_tried;
     }
 
 pub returns-clause-text : goal.returns-clause-text

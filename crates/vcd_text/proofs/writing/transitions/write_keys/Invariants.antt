@@ -18,5 +18,5 @@ invariant-loop-k g l =
           (transitions_of l.from l.keys)));
       last : last_tick l.last (transitions_of l.from (drop l.k l.keys))
           ≡ last_tick l.initial.last (transitions_of l.from l.keys);
-      begun : length l.begun ≡ length l.initial.begun;
+      first_tried : length l.first_tried ≡ length l.initial.first_tried;
     }

@@ -35,7 +35,7 @@ loop-from-preserved g c =
         room = subst (λ k. length signals ≤ vec_capacity k) (sym written.ensures.keys) ready.room;
         next = subst (λ n. AreNext (c.loop-from.from + filled.result) signals n.items) (sym written.ensures.next)
             ready.next;
-        begun = written.ensures.begun;
+        first_tried = written.ensures.first_tried;
       };
       within = following;
       some = c.next_most-most.ensures;

@@ -5,7 +5,7 @@ use Rattle.vcd_text.proofs.writing.window.list_some.Given as goal
 abbrev pub invariant-loop-count : goal.invariant-loop-count
 invariant-loop-count l =
     record {
-      next : length l.nexts ≡ length l.signals;
+      next : length l.next_changes ≡ length l.signals;
       some : 1 ≤ l.count;
       most : l.count ≤ l.most;
       room : vec_capacity l.initial.keys ≤ vec_capacity l.keys;

@@ -19,9 +19,9 @@ list_signal-requires-clause-next c =
     let k = c.loop-position.position in
     let s = c.index-signals-position.result in
     let none : NextChange = record { place = 0; tick = 0; following = 0 } in
-    subst (λ (l : List Change). IsNext c.args.from c.args.from l (get_or c.args.begun.now k none))
+    subst (λ (l : List Change). IsNext c.args.from c.args.from l (get_or c.args.first_tried.now k none))
     (ap (λ (x : Signal). x.wave.changes) (sym c.index-signals-position.is) ∙ sym c.changes-changes.ensures.changes)
-    (c.requires.begun.each k s none (omega arith))
+    (c.requires.first_tried.each k s none (omega arith))
 
 pub returns-in-None-clause-keys : goal.returns-in-None-clause-keys
 returns-in-None-clause-keys c =
@@ -54,8 +54,8 @@ loop-position-preserved c =
           ∙ ap (λ (l : List Change). transitions_of c.args.from c.loop-position.keys.items
           ++ window_of_signal c.args.from c.args.to k l) c.changes-changes.ensures.changes) kept.all;
       keys = c.list_signal.ensures.keys (length signals) inside kept.keys;
-      all_next = length-set c.loop-position.nexts k c.in-Some.next ∙ kept.all_next;
-      passed = passed_next c.args.to k signals c.loop-position.nexts s c.in-Some.next inside kept.all_next
+      all_next = length-set c.loop-position.next_changes k c.in-Some.next ∙ kept.all_next;
+      passed = passed_next c.args.to k signals c.loop-position.next_changes s c.in-Some.next inside kept.all_next
           c.index-signals-position.is
           (subst (λ (l : List Change). IsNext c.args.to c.args.to l c.in-Some.next) c.changes-changes.ensures.changes
           c.in-Some.ensures.next) kept.passed;

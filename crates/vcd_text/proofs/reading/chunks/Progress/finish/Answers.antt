@@ -19,9 +19,7 @@ returns-in_err-read_words-clause-fault c =
     let refused = err_from_is_err_and c.from_residual.result c.from_residual.ensures.1 in
     subst (λ r. IfErr r (λ (e : ReadError). (bytes : List ℕ) → HasConsumed p bytes
     → (e ≡ memory_error) ⊎ FoundFault bytes e.line e.fault)) (sym (refused.1 ∙ ap Err refused.2))
-    (λ bytes taken. last_shown p.reader p.buffer.bytes p.passed p.left bytes
-    (words_from true (p.passed + 1) c.as_slice.result.now) c.in_err-read_words.field-0.0 taken
-    (ap (words_from true (p.passed + 1)) c.as_slice.ensures)
+    (λ bytes taken. last_shown p c.as_slice.result.now bytes c.in_err-read_words.field-0.0 taken c.as_slice.ensures
     (c.in_err-read_words.ensures.words (closed_words bytes) taken.reads))
 
 pub returns-in_err-check_complete-clause-fault : goal.returns-in_err-check_complete-clause-fault
@@ -34,38 +32,27 @@ returns-in_err-check_complete-clause-fault c =
     subst (λ r. IfErr r (λ (e : ReadError). (bytes : List ℕ) → HasConsumed p bytes
     → (e ≡ memory_error) ⊎ FoundFault bytes e.line e.fault)) (sym (refused.1 ∙ ap Err refused.2))
     (λ bytes taken.
-    let reads = last_taken p.reader m p.buffer.bytes p.passed p.left bytes
-    (words_from true (p.passed + 1) c.as_slice.result.now) taken
-    (ap (words_from true (p.passed + 1)) c.as_slice.ensures)
+    let reads = last_taken p m c.as_slice.result.now bytes taken c.as_slice.ensures
     (c.in_ok-read_words.ensures.words (closed_words bytes) taken.reads) in
     inr (too_early (stops m _ reads open_still) (ap (λ (e : ReadError). e.line) truncated
     ∙ sym taken.lines) (ap (λ (e : ReadError). e.fault) truncated)))
 
-pub finish-requires-clause-known : goal.finish-requires-clause-known
-finish-requires-clause-known c =
+pub into_loaded-requires-clause-known : goal.into_loaded-requires-clause-known
+into_loaded-requires-clause-known c =
     let (bytes, taken) = c.requires in
-    let p = c.args.self in
-    let reads = last_taken p.reader c.read_words.new.reader p.buffer.bytes p.passed p.left bytes
-    (words_from true (p.passed + 1) c.as_slice.result.now) taken
-    (ap (words_from true (p.passed + 1)) c.as_slice.ensures)
+    let reads = last_taken c.args.self c.read_words.new.reader c.as_slice.result.now bytes taken c.as_slice.ensures
     (c.in_ok-read_words.ensures.words (closed_words bytes) taken.reads) in
     (reads.told, reads.at.0.variables)
 
 pub returns-clause-means : goal.returns-clause-means
 returns-clause-means c = λ bytes taken.
-    let p = c.args.self in
-    let reads = last_taken p.reader c.read_words.new.reader p.buffer.bytes p.passed p.left bytes
-    (words_from true (p.passed + 1) c.as_slice.result.now) taken
-    (ap (words_from true (p.passed + 1)) c.as_slice.ensures)
+    let reads = last_taken c.args.self c.read_words.new.reader c.as_slice.result.now bytes taken c.as_slice.ensures
     (c.in_ok-read_words.ensures.words (closed_words bytes) taken.reads) in
-    c.in_ok-finish.ensures.means bytes reads
+    c.in_ok-into_loaded.ensures.means bytes reads
 
 pub returns-clause-sound : goal.returns-clause-sound
 returns-clause-sound c =
     let (bytes, taken) = c.requires in
-    let p = c.args.self in
-    let reads = last_taken p.reader c.read_words.new.reader p.buffer.bytes p.passed p.left bytes
-    (words_from true (p.passed + 1) c.as_slice.result.now) taken
-    (ap (words_from true (p.passed + 1)) c.as_slice.ensures)
+    let reads = last_taken c.args.self c.read_words.new.reader c.as_slice.result.now bytes taken c.as_slice.ensures
     (c.in_ok-read_words.ensures.words (closed_words bytes) taken.reads) in
-    c.in_ok-finish.ensures.sound bytes reads
+    c.in_ok-into_loaded.ensures.sound bytes reads

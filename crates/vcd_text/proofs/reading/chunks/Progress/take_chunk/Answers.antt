@@ -17,8 +17,7 @@ returns-in_default-clause-refused g c = λ coming stands.
     let source = c.read_from.new.source in
     let (bytes, first, taken) = stands in
     broken coming (g.R.Source.coming c.args.source.now) (g.R.Source.coming source) (g.R.Source.has_failed source)
-    p.reader p.buffer.bytes p.passed p.left bytes c.at.result
-    c.in_default.ensures.failed first c.in_default.ensures.kept taken c.at.ensures
+    p bytes c.at.result c.in_default.ensures.failed first c.in_default.ensures.kept taken c.at.ensures
 
 pub returns-then-count-self-clause-refused : goal.returns-then-count-self-clause-refused
 returns-then-count-self-clause-refused g c = λ coming stands.
@@ -26,29 +25,24 @@ returns-then-count-self-clause-refused g c = λ coming stands.
     let source = c.read_from.new.source in
     let (bytes, first, taken) = stands in
     let (chunk, second, text, count) = c.in-Ok.ensures.more in
-    let none_left = c.in-Ok.ensures.within c.if-count-self.true in
-    full coming (g.R.Source.coming c.args.source.now) (g.R.Source.coming source) (g.R.Source.has_failed source) p.reader
-    p.buffer.bytes p.passed bytes chunk c.at-then-count-self.result first second
-    (omega (arith, count, c.if-count-self.true))
-    (subst (λ left. HasTaken p.reader p.buffer.bytes p.passed left bytes) none_left taken)
-    c.at-then-count-self.ensures
+    full coming (g.R.Source.coming c.args.source.now) (g.R.Source.coming source) (g.R.Source.has_failed source) p bytes
+    chunk c.at-then-count-self.result first second (omega (arith, count, c.if-count-self.true))
+    (c.in-Ok.ensures.within c.if-count-self.true) taken c.at-then-count-self.ensures
 
 pub take_words-requires : goal.take_words-requires
 take_words-requires g c =
     let p = c.args.self.now in
-    let (bytes, taken) = c.requires.stands in
-    let (chunk, consumes, text, count) = c.in-Ok.ensures.more in
-    let now : Progress = record p { buffer = c.read_from.new.self; left = p.left - c.in-Ok.count } in (
+    let (bytes, taken) = c.requires.consumed in
+    let (chunk, consumes, text, count) = c.in-Ok.ensures.more in (
       bytes ++ chunk,
-      has_come p now c.len-from.result c.in-Ok.count bytes c.make_room.new.self.bytes chunk taken refl
-          refl text c.in_ok-make_room.ensures.same count (omega (arith, c.if-count-self.false)) refl c.len-from.ensures,
+      has_come p c.read_from.new.self c.len-from.result c.in-Ok.count bytes c.make_room.new.self.bytes chunk taken text
+          c.in_ok-make_room.ensures.same count (omega (arith, c.if-count-self.false)) c.len-from.ensures,
     )
 
 pub returns-in_err-take_words-clause-refused : goal.returns-in_err-take_words-clause-refused
 returns-in_err-take_words-clause-refused g c =
     let p = c.args.self.now in
     let (chunk, second, text, count) = c.in-Ok.ensures.more in
-    let now : Progress = record p { buffer = c.read_from.new.self; left = p.left - c.in-Ok.count } in
     let refused = err_from_is_err_and c.from_residual-in_err-take_words.result
     c.from_residual-in_err-take_words.ensures.1 in
     let source = c.read_from.new.source in
@@ -58,8 +52,8 @@ returns-in_err-take_words-clause-refused g c =
     (sym (refused.1 ∙ ap Err refused.2))
     (λ coming stands.
     let (bytes, first, taken) = stands in
-    let come = has_come p now c.len-from.result c.in-Ok.count bytes c.make_room.new.self.bytes chunk taken refl refl
-    text c.in_ok-make_room.ensures.same count (omega (arith, c.if-count-self.false)) refl c.len-from.ensures in
+    let come = has_come p c.read_from.new.self c.len-from.result c.in-Ok.count bytes c.make_room.new.self.bytes chunk
+    taken text c.in_ok-make_room.ensures.same count (omega (arith, c.if-count-self.false)) c.len-from.ensures in
     shown_early coming (g.R.Source.coming source) (g.R.Source.has_failed source) (bytes ++ chunk)
     c.in_err-take_words.field-0.0 c.in-Ok.ensures.ready
     (Consumes-trans coming (g.R.Source.coming c.args.source.now) (g.R.Source.coming source) bytes chunk first second)
@@ -69,11 +63,10 @@ returns-in_err-take_words-clause-refused g c =
 pub returns-in_err-take_words-clause-failed : goal.returns-in_err-take_words-clause-failed
 returns-in_err-take_words-clause-failed g c =
     let p = c.args.self.now in
-    let (bytes, taken) = c.requires.stands in
+    let (bytes, taken) = c.requires.consumed in
     let (chunk, second, text, count) = c.in-Ok.ensures.more in
-    let now : Progress = record p { buffer = c.read_from.new.self; left = p.left - c.in-Ok.count } in
-    let come = has_come p now c.len-from.result c.in-Ok.count bytes c.make_room.new.self.bytes chunk taken refl refl
-    text c.in_ok-make_room.ensures.same count (omega (arith, c.if-count-self.false)) refl c.len-from.ensures in
+    let come = has_come p c.read_from.new.self c.len-from.result c.in-Ok.count bytes c.make_room.new.self.bytes chunk
+    taken text c.in_ok-make_room.ensures.same count (omega (arith, c.if-count-self.false)) c.len-from.ensures in
     let refused = err_from_is_err_and c.from_residual-in_err-take_words.result
     c.from_residual-in_err-take_words.ensures.1 in
     subst (λ r. IfErr r (λ (e : ReadError). e.fault ≡ faults.ReadFault
@@ -86,9 +79,8 @@ returns-clause-taken g c = λ coming stands.
     let p = c.args.self.now in
     let (bytes, first, taken) = stands in
     let (chunk, second, text, count) = c.in-Ok.ensures.more in
-    let now : Progress = record p { buffer = c.read_from.new.self; left = p.left - c.in-Ok.count } in
-    let come = has_come p now c.len-from.result c.in-Ok.count bytes c.make_room.new.self.bytes chunk taken refl refl
-    text c.in_ok-make_room.ensures.same count (omega (arith, c.if-count-self.false)) refl c.len-from.ensures in (
+    let come = has_come p c.read_from.new.self c.len-from.result c.in-Ok.count bytes c.make_room.new.self.bytes chunk
+    taken text c.in_ok-make_room.ensures.same count (omega (arith, c.if-count-self.false)) c.len-from.ensures in (
       bytes ++ chunk,
       Consumes-trans coming (g.R.Source.coming c.args.source.now) (g.R.Source.coming c.read_from.new.source) bytes chunk
           first second,

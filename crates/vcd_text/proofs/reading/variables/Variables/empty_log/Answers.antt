@@ -5,7 +5,7 @@ use Rattle.std.proofs.lemmas.Result.{on_ok_weaker}
 use Rattle.vcd_text.specs.inside.ChangeLog.{logged, FlushesLog}
 use Rattle.vcd_text.specs.declared.reading.change_log.LoggedChange.{LoggedChange}
 use Rattle.vcd_text.proofs.FlushedVariables.{variables_can_flush, flushed_match}
-use Rattle.vcd_text.proofs.reading.variables.Variables.flush_log.Goals as goal
+use Rattle.vcd_text.proofs.reading.variables.Variables.empty_log.Goals as goal
 
 pub flush_log-requires : goal.flush_log-requires
 flush_log-requires c = grind (arith, variables_can_flush)

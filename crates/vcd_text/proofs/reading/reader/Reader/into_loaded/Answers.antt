@@ -8,7 +8,7 @@ use Rattle.vcd_text.proofs.Ended.{accepts}
 use Rattle.vcd_core.specs.declared.capture.Signal.{Signal}
 use Rattle.vcd_text.proofs.PlacedSignals.{all_signals}
 use Rattle.vcd_text.proofs.SoundMeaning.{meaning_is_sound}
-use Rattle.vcd_text.proofs.reading.reader.Reader.finish.Goals as goal
+use Rattle.vcd_text.proofs.reading.reader.Reader.into_loaded.Goals as goal
 
 pub returns : goal.returns
 returns c =

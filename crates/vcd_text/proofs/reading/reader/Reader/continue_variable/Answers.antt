@@ -1,6 +1,6 @@
 use Rattle.std.proofs.Common.{inr, arith}
 use Rattle.vcd_text.proofs.Declaring.{shows_no_size, no_number}
-use Rattle.vcd_text.proofs.reading.reader.Reader.go_on_variable.Goals as goal
+use Rattle.vcd_text.proofs.reading.reader.Reader.continue_variable.Goals as goal
 
 pub returns-then-is_none : goal.returns-then-is_none
 returns-then-is_none c = λ line d begun at.
