@@ -10,6 +10,7 @@ use Rattle.std.proofs.lemmas.List.Elements.{filter-append, All-nil, All-cons, Al
 use Rattle.vcd_text.specs.inside.ChangeLog.{changes_of_position, logged, AreGrouped}
 use Rattle.vcd_text.specs.declared.reading.change_log.LoggedChange.{LoggedChange}
 use Rattle.vcd_text.specs.declared.reading.change_log.TheConstants.{GROUPS}
+use Rattle.std.proofs.lemmas.Grind.{common_steps}
 
 -- ---- an empty group more
 
@@ -46,8 +47,7 @@ none_after index (g ∷ gs) position early (here, are) =
 module _ (e : LoggedChange) (h : Vec LoggedChange) where
   -- the change comes after the others of its position
   here_with : (index : ℕ) (gs : List (Vec LoggedChange)) (i : ℕ) (g : Vec LoggedChange) → slice_get gs i ≡ Some g
-      → h.items ≡ g.items ++ e ∷ []
-      → e.position % GROUPS ≡ index + i → AreGrouped index gs
+      → h.items ≡ g.items ++ e ∷ [] → e.position % GROUPS ≡ index + i → AreGrouped index gs
       → logged (set gs i h) e.position ≡ logged gs e.position ++ e ∷ []
   here_with index [] i g at more of are = let never : None ≡ Some g = at in absurd (cc)
   here_with index (x ∷ gs) zero g at more of (here, are) =
@@ -77,12 +77,6 @@ module _ (e : LoggedChange) (h : Vec LoggedChange) where
       → h.items ≡ g.items ++ e ∷ []
       → e.position % GROUPS ≡ index + i → AreGrouped index gs → AreGrouped index (set gs i h)
   grouped_with index [] i g at more of are = tt
-  grouped_with index (x ∷ gs) zero g at more of (here, are) =
-      let is : x ≡ g = same_Some x g at in (
-        subst (All (λ (x : LoggedChange). x.position % GROUPS ≡ index))
-            (ap (λ (v : Vec LoggedChange). v.items ++ e ∷ []) is ∙ sym more)
-            (all_more (λ (x : LoggedChange). x.position % GROUPS ≡ index) x.items here (of ∙ omega arith)),
-        are,
-      )
+  grouped_with index (x ∷ gs) zero g at more of (here, are) = grind (arith, common_steps, same_Some, all_more)
   grouped_with index (x ∷ gs) (suc i) g at more of (here, are) =
-      (here, grouped_with (index + 1) gs i g at more (omega (arith, of)) are)
+      grind (arith, common_steps, grouped_with (index + 1) gs i g at more (omega (arith, of)) are)

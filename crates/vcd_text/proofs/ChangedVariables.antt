@@ -193,8 +193,7 @@ module _ (old : Variables) (list : Vec Variable) (log : Vec (Vec LoggedChange)) 
       (λ position size owned wave. elim (cases_Bool (bytes_eq code key)) [
         | inl equal ↦ wave_changed key position size (same_code code key equal) owned wave
         | inr other ↦ wave_kept key position size other wave
-      ])
-      (k.stand key)
+      ]) (k.stand key)
 
   told_are : value_changes_after c code (letters_of_digits digits) (variable_of c code) ≡ new_value_change ∷ []
   unfolding new_value_change
@@ -222,8 +221,7 @@ module _ (old : Variables) (list : Vec Variable) (log : Vec (Vec LoggedChange)) 
   changed_takes : IsSomeAnd (variable_of c code) (λ d. IsTrue (takes_binary_number d digits))
   changed_takes = grind (arith, own_wave, le-leb, sized)
 
-  pub changed : (x : Unit {0})
-      → ChangeResult c code digits (Ok x) (with_changes old list log)
+  pub changed : (x : Unit {0}) → ChangeResult c code digits (Ok x) (with_changes old list log)
   changed x = (changed_takes, changed_knows)
 
 -- the result of a change of a wide variable
@@ -253,13 +251,10 @@ wide_changes old list c code digits first width v w (Err fault) k had read row w
 
 -- the result of a change of another variable, which goes to the log
 pub narrow_changes : (old : Variables) (log : Vec (Vec LoggedChange)) (c : ParseState) (code digits : List ℕ)
-    (first width : ℕ)
-    (e : LoggedChange) (k : VariablesMatch old c)
+    (first width : ℕ) (e : LoggedChange) (k : VariablesMatch old c)
     (had : target_of old code ≡ Some (Kept first)) → width ≡ get_or old.widths.items first width → width ≤ 64
-    → e.tick ≡ c.tick → e.position ≡ first → WritesValue width digits (logged_letters width e)
-    → AreGrouped 0 log.items
-    → ((position : ℕ) → logged log.items position
-    ≡ (if e.position == position then logged old.log.items position
+    → e.tick ≡ c.tick → e.position ≡ first → WritesValue width digits (logged_letters width e) → AreGrouped 0 log.items
+    → ((position : ℕ) → logged log.items position ≡ (if e.position == position then logged old.log.items position
     ++ e ∷ [] else logged old.log.items position))
     → (x : Unit {0}) → ChangeResult c code digits (Ok x) (with_changes old old.kept log)
 narrow_changes old log c code digits first width e k had row narrow at_tick at writes grouped more x =
@@ -282,5 +277,4 @@ narrow_changes old log c code digits first width e k had row narrow at_tick at w
     (λ position apart.
     more position ∙ ap (λ b. if b then logged old.log.items position
     ++ e ∷ [] else logged old.log.items position)
-    (ne_eqb e.position position (λ equal. apart (sym at ∙ equal))))
-    x
+    (ne_eqb e.position position (λ equal. apart (sym at ∙ equal)))) x

@@ -59,8 +59,7 @@ shown_at : (m : Reader) (c : ParseState) (begun : List PlacedWord) (w : PlacedWo
     → ChangeFault c [] w.text fault → (fault ≡ NoMemory) ⊎ WordFault c (word_texts begun) w.text fault
 shown_at m c begun w fault between changing (agrees, taken) row =
     inr (among_changes (sym agrees.changing
-    ∙ changing) (subst (λ bs. ChangeFault c (word_texts bs) w.text fault) (sym (none_begun m begun between taken))
-    row))
+    ∙ changing) (subst (λ bs. ChangeFault c (word_texts bs) w.text fault) (sym (none_begun m begun between taken)) row))
 
 shows : (old new : Reader) (w : PlacedWord) (fault : Fault) → old.item ≡ items.Nothing → old.changing ≡ true
     → ((c : ParseState) → ReaderMatches old c → ChangeFault c [] w.text fault) → WordResult old w (Err fault) new
@@ -73,16 +72,14 @@ agrees_still m c item line agrees = grind arith
 
 -- one more value change among the changes
 agrees_set : (m : Reader) (c : ParseState) (vs : Variables) (value_changes : List ValueChange) (item : OpenItem)
-    → ReaderMatches m c → m.changing ≡ true
-    → VariablesMatch vs (record c { value_changes = value_changes })
+    → ReaderMatches m c → m.changing ≡ true → VariablesMatch vs (record c { value_changes = value_changes })
     → ReaderMatches (record m { variables = vs; item = item }) (record c { value_changes = value_changes })
 agrees_set m c vs value_changes item agrees changing knows = grind (arith, not_both)
 
 -- ---- stamps
 
 pub no_stamp : (m new : Reader) (digits : List ℕ) (line : ℕ) → m.item ≡ items.Nothing → m.changing ≡ true
-    → is_tick digits ≡ false
-    → WordResult m (word_on (35 ∷ digits) line) (Err BadTime) new
+    → is_tick digits ≡ false → WordResult m (word_on (35 ∷ digits) line) (Err BadTime) new
 no_stamp m new digits line between changing isnt =
     shows m new (word_on (35 ∷ digits) line) BadTime between changing (λ c agrees. no_tick digits refl refl isnt refl)
 
@@ -137,8 +134,7 @@ passes_over m text line between changing command dump declaring c begun (agrees,
 -- ---- changes of one word
 
 pub no_code : (m new : Reader) (letter : ℕ) (code : List ℕ) (line : ℕ) → m.item ≡ items.Nothing → m.changing ≡ true
-    → is_binary_digit letter ≡ true
-    → length code ≡ 0 → WordResult m (word_on (letter ∷ code) line) (Err BadChange) new
+    → is_binary_digit letter ≡ true → length code ≡ 0 → WordResult m (word_on (letter ∷ code) line) (Err BadChange) new
 no_code m new letter code line between changing is none =
     shows m new (word_on (letter ∷ code) line) BadChange between changing
     (λ c agrees. value_alone letter refl (ap (λ cs. letter ∷ cs) (nil_from_length code none)) is refl)
@@ -146,8 +142,7 @@ no_code m new letter code line between changing is none =
 pub begins_nothing : (m new : Reader) (first : ℕ) (text : List ℕ) (line : ℕ) → m.item ≡ items.Nothing
     → m.changing ≡ true
     → is_among (codes "#$") first ≡ false → is_binary_digit first ≡ false → is_among vector_prefixes first ≡ false
-    → is_among dropped_prefixes first ≡ false
-    → WordResult m (word_on (first ∷ text) line) (Err BadChange) new
+    → is_among dropped_prefixes first ≡ false → WordResult m (word_on (first ∷ text) line) (Err BadChange) new
 begins_nothing m new first text line between changing no_command no_letter no_vector no_dropped =
     let other : is_among (codes "#$" ++ pair_prefixes) first ≡ false = grind (arith, list_any-append, or_from) in
     shows m new (word_on (first ∷ text) line) BadChange between changing
@@ -164,8 +159,7 @@ one_letter : (letter : ℕ) → is_binary_digit letter ≡ true → is_binary_nu
 one_letter letter is = λ i. is i && true
 
 bit_shows : (c : ParseState) (letter : ℕ) (code : List ℕ) (fault : Fault) → is_binary_digit letter ≡ true
-    → 0 < length code
-    → BinaryNumberFault c code (letter ∷ []) fault → ChangeFault c [] (letter ∷ code) fault
+    → 0 < length code → BinaryNumberFault c code (letter ∷ []) fault → ChangeFault c [] (letter ∷ code) fault
 bit_shows c letter code fault is some (variables.unknown none which) =
     value_of_none letter code refl refl is some none which
 bit_shows c letter code fault is some (variables.no_value d found keeps isnt which) =
@@ -220,8 +214,7 @@ texts_begun : (m : Reader) (begun : List PlacedWord) (letters text : List ℕ) (
 texts_begun m begun letters text b = ap word_texts b.is ∙ ap (λ t. t ∷ []) b.spelled
 
 texts_whole : (m : Reader) (begun : List PlacedWord) (letters text code : List ℕ) (line : ℕ)
-    (b : AwaitsCode m begun letters text)
-    → (b.letter ∷ text) ∷ code ∷ [] ≡ word_texts (begun ++ word_on code line ∷ [])
+    (b : AwaitsCode m begun letters text) → (b.letter ∷ text) ∷ code ∷ [] ≡ word_texts (begun ++ word_on code line ∷ [])
 texts_whole m begun letters text code line b = grind arith
 
 pub among_first : (xs ys : List ℕ) (b : ℕ) → is_among xs b ≡ true → is_among (xs ++ ys) b ≡ true
@@ -244,8 +237,7 @@ vector_shows c first digits code fault is (variables.too_long d found keeps valu
 pub whole_vector : (m : Reader) (c : ParseState) (vs : Variables) (item : OpenItem) (words : List PlacedWord)
     (letter : ℕ) (digits code : List ℕ) → ReaderMatches m c → m.changing ≡ true
     → item ≡ items.Nothing → is_among vector_prefixes letter ≡ true → (letter ∷ digits) ∷ code ∷ [] ≡ word_texts words
-    → ChangeResult c code digits (Ok tt) vs
-    → WordStep c words (record m { variables = vs; item = item })
+    → ChangeResult c code digits (Ok tt) vs → WordStep c words (record m { variables = vs; item = item })
 whole_vector m c vs item words letter digits code agrees changing closed is spelled change =
     ends_item (vector letter digits code) spelled (sym agrees.changing ∙ changing, is, change.0) (
       agrees_set m c vs (state_after_item c (vector letter digits code)).value_changes item agrees changing change.1,
@@ -254,8 +246,7 @@ whole_vector m c vs item words letter digits code agrees changing closed is spel
 
 -- the code of a change of several bits shows a fault
 pub vector_shown : (m : Reader) (c : ParseState) (letter : ℕ) (digits code : List ℕ) (fault : Fault) → ReaderMatches m c
-    → m.changing ≡ true
-    → is_among vector_prefixes letter ≡ true → BinaryNumberFault c code digits fault
+    → m.changing ≡ true → is_among vector_prefixes letter ≡ true → BinaryNumberFault c code digits fault
     → WordFault c ((letter ∷ digits) ∷ []) code fault
 vector_shown m c letter digits code fault agrees changing is row =
     among_changes (sym agrees.changing ∙ changing) (vector_shows c letter digits code fault is row)

@@ -38,6 +38,7 @@ use Rattle.vcd_text.proofs.FrontFaults.{longer_front_fault}
 use Rattle.vcd_text.proofs.FileFaults.{file_fault, front_fault_stays}
 use Rattle.vcd_text.proofs.WordLaws.{feeds_both, no_feeds, word_part}
 use Rattle.vcd_text.specs.inside.Waiting.{Waiting}
+use Rattle.std.proofs.lemmas.Grind.{common_steps}
 
 -- ---- line feeds
 
@@ -128,25 +129,7 @@ module _ (p : Progress) (from len : ℕ) (bytes closed : List ℕ) (come : HasCo
   pub now_taken : (new : Reader) → Reads new (closed_words come.before ++ complete)
       → HasTaken new back (p.line_feeds + feeds closed) p.left bytes
   now_taken new reads =
-      let all = ap (length {A = ℕ}) come.all ∙ length-append come.before come.chunk in
-      let parts = sym (length-append come.word come.chunk) ∙ ap (length {A = ℕ}) in_two ∙ length-append closed back in
-      let all_feeds = ap feeds come.all ∙ feeds_both come.before come.chunk in
-      let feeds_in_two = sym (feeds_both come.word come.chunk) ∙ ap feeds in_two ∙ feeds_both closed back in
-      record {
-        reads = subst (Reads new) (sym closed_now) reads;
-        following = grind (arith, words_now, append_assoc, closed_now);
-        no_space = no_space;
-        short = omega (arith, all, parts, come.taken.short);
-        lines = omega (
-          arith,
-          all_feeds,
-          feeds_in_two,
-          no_feeds come.word come.taken.no_space,
-          no_feeds back no_space,
-          come.taken.lines,
-        );
-        room = omega (arith, all, come.taken.room);
-      }
+      grind (arith, common_steps, length-append, in_two, feeds_both, closed_now, words_now, append_assoc, no_feeds)
 
   -- or one of them shows a fault
   pub now_shown : (e : ReadError)

@@ -40,14 +40,12 @@ module _ {S : Type 0} (old new : IndexMap (Vec ℕ) CodeTarget S) (k : Vec ℕ) 
   put_elsewhere key apart = grind (arith, nat_list_eq_equiv)
 
   -- then it has its new target, and the others keep theirs
-  pub target_put : (key : List ℕ)
-      → get_by (λ v. bytes_eq key v.items) new
+  pub target_put : (key : List ℕ) → get_by (λ v. bytes_eq key v.items) new
       ≡ (if bytes_eq key k.items then Some w else get_by (λ v. bytes_eq key v.items) old)
   target_put key =
       by_code (λ b. get_by (λ v. bytes_eq key v.items) new
       ≡ (if b then Some w else get_by (λ v. bytes_eq key v.items) old)) key k.items
-      (λ same. subst (λ code. get_by (λ v. bytes_eq code v.items) new ≡ Some w) (sym same) puts.1)
-      (put_elsewhere key)
+      (λ same. subst (λ code. get_by (λ v. bytes_eq code v.items) new ≡ Some w) (sym same) puts.1) (put_elsewhere key)
 
 -- ---- a code against the variables that were declared
 

@@ -11,6 +11,7 @@ use Rattle.vcd_text.specs.Items.{end_word, is_end_word}
 use Rattle.vcd_text.specs.Text.{code_digits, code_of}
 use Rattle.vcd_text.proofs.Codes.{next_digit}
 use Rattle.vcd_text.proofs.WeakerTests.{all_weaker}
+use Rattle.std.proofs.lemmas.Grind.{common_steps}
 
 -- the greatest number with this many digits
 abbrev greatest : ℕ → ℕ
@@ -79,8 +80,4 @@ code_no_space k =
 
 -- a code is not `$end`
 pub code_no_end : (k : ℕ) → k < SIGNAL_LIMIT → is_end_word (code_of k) ≡ false
-code_no_end k few =
-    let short : length (code_of k) ≤ 3 = code_short k few in
-    false_from_ne_true (is_end_word (code_of k)) (λ same.
-    let long : length (code_of k) ≡ 4 = ap length ((bytes_eq-Decides (code_of k) end_word).0 same) in
-    omega arith)
+code_no_end k few = grind (arith, common_steps, code_short, false_from_ne_true, bytes_eq-Decides)

@@ -54,8 +54,7 @@ stays (w ∷ vs) more (suc n) v at = stays vs more n v at
 
 -- an item of a list with one more is an item of the list, or the new one
 either_of : (vs : List Variable) (w : Variable) (position : ℕ) (v : Variable)
-    → slice_get (vs ++ w ∷ []) position ≡ Some v
-    → (slice_get vs position ≡ Some v) ⊎ ((position ≡ length vs) × (w ≡ v))
+    → slice_get (vs ++ w ∷ []) position ≡ Some v → (slice_get vs position ≡ Some v) ⊎ ((position ≡ length vs) × (w ≡ v))
 either_of [] w zero v at = inr (refl, same_Some w v at)
 either_of [] w (suc n) v at = let no : None ≡ Some v = at in absurd (cc)
 either_of (u ∷ vs) w zero v at = inl at
@@ -76,15 +75,13 @@ kept_long vs c k = grind (arith, length-map)
 module _ (log : ℕ → List LoggedChange) (value_changes : List ValueChange) (tick : ℕ) where
   -- a variable after the others does not change the target of a code
   stands_longer : (vs more : List Variable) (code : List ℕ) (target : Option CodeTarget)
-      (declared : Option VariableDeclaration)
-      → TargetMatches vs log value_changes tick code target declared
+      (declared : Option VariableDeclaration) → TargetMatches vs log value_changes tick code target declared
       → TargetMatches (vs ++ more) log value_changes tick code target declared
   stands_longer vs more code target declared s = grind (arith, stands_moved, stays)
 
   -- a later declaration of another code does not change the target of a code
   stands_still : (vs : List Variable) (code : List ℕ) (target : Option CodeTarget)
-      (declared : Option VariableDeclaration)
-      → TargetMatches vs log value_changes tick code target declared
+      (declared : Option VariableDeclaration) → TargetMatches vs log value_changes tick code target declared
       → TargetMatches vs log value_changes tick code target (option_or declared None)
   stands_still vs code target None s = s
   stands_still vs code target (Some d) s = s
@@ -181,8 +178,7 @@ IsFree old code s first =
 module _ (old : Variables) (c : ParseState) (scopes : List ScopeName) (code : List ℕ) (s : Signal) (first : ℕ)
     (k : VariablesMatch old c)
     (keeps : is_skipped (declaration_in scopes code s) ≡ false) (free : IsFree old code s first) where
-  keep_may : (v : Option VariableDeclaration)
-      → TargetAgrees old c code (target_of old code) v
+  keep_may : (v : Option VariableDeclaration) → TargetAgrees old c code (target_of old code) v
       → may_have_code v (declaration_in scopes code s) ≡ true
   keep_may None stands = refl
   keep_may (Some e) stands = grind arith
@@ -215,14 +211,12 @@ module _ (old new : Variables) (c : ParseState) (scopes : List ScopeName) (code 
     gives = grind (arith, cases_lt, slice_get_within, nil_from_length, gives_as, gives_nothing);
   }
 
-  keep_here : (v : Option VariableDeclaration)
-      → TargetAgrees old c code (target_of old code) v
+  keep_here : (v : Option VariableDeclaration) → TargetAgrees old c code (target_of old code) v
       → TargetMatches (old.kept.items ++ variable_at code s first ∷ []) (logged old.log.items) c.value_changes
       c.tick code (Some (Kept first)) (option_or v (Some (declaration_in scopes code s)))
   keep_here v h1 = grind (arith, silent_wave, stands_longer)
 
-  keep_stands : (key : List ℕ)
-      → TargetAgrees new c key (target_of new key)
+  keep_stands : (key : List ℕ) → TargetAgrees new c key (target_of new key)
       (variable_of (with_declaration c (declaration_in scopes code s)) key)
   keep_stands key =
       let all = old.kept.items ++ variable_at code s first ∷ [] in
@@ -245,8 +239,7 @@ module _ (old new : Variables) (c : ParseState) (scopes : List ScopeName) (code 
       (subst (λ o. TargetMatches all (logged old.log.items) c.value_changes c.tick key o
       (variable_of (with_declaration c d) key)) (sym (puts key))
       (subst (TargetMatches all (logged old.log.items) c.value_changes c.tick key
-      (if bytes_eq key code then Some (Kept first) else target_of old key)) (sym (found_with key c.declared d))
-      both)))
+      (if bytes_eq key code then Some (Kept first) else target_of old key)) (sym (found_with key c.declared d)) both)))
 
   -- the variables before it have the positions of their first ones
   keep_earlier : (position : ℕ) (v : Variable) → slice_get old.kept.items position ≡ Some v → HasFirst new position v
@@ -344,8 +337,7 @@ worded_declaration c kind size code names =
     record { scopes = c.scopes; kind = kind; size = number_of size; code = code; words = names }
 
 declares_names : (c : ParseState) (kind size code : List ℕ) (names : List (List ℕ)) (result : Result (Unit {0}) Fault)
-    (new : Variables) → 0 < length names
-    → DeclaresAs c (worded_declaration c kind size code names) result new
+    (new : Variables) → 0 < length names → DeclaresAs c (worded_declaration c kind size code names) result new
     → Declares c (kind ∷ size ∷ code ∷ names) result new
 declares_names c kind size code [] result new some as_one = absurd (omega (arith, some))
 declares_names c kind size code (name ∷ names) (Ok x) new some (may, room, knows) = ((may, room), knows)
@@ -357,23 +349,20 @@ declares_names c kind size code (name ∷ names) (Err fault) new some as_one = e
 
 -- so the result of the words is that of their declaration
 pub declares_words : (c : ParseState) (words : List (List ℕ)) (kind size code : List ℕ) (names : List (List ℕ))
-    (result : Result (Unit {0}) Fault) (new : Variables)
-    → words ≡ kind ∷ size ∷ code ∷ names → 0 < length names
+    (result : Result (Unit {0}) Fault) (new : Variables) → words ≡ kind ∷ size ∷ code ∷ names → 0 < length names
     → DeclaresAs c (worded_declaration c kind size code names) result new → Declares c words result new
 declares_words c words kind size code names result new are some as_one = grind (arith, declares_names)
 
 -- three words, and those after them
 pub words_in_front : (words : List (List ℕ)) (kind size code : List ℕ) → 3 ≤ length words → kind ≡ get_or words 0 kind
-    → size ≡ get_or words 1 size → code ≡ get_or words 2 code
-    → words ≡ kind ∷ size ∷ code ∷ drop 3 words
+    → size ≡ get_or words 1 size → code ≡ get_or words 2 code → words ≡ kind ∷ size ∷ code ∷ drop 3 words
 words_in_front words kind size code h4 h5 h6 h7 = grind arith
 
 -- ---- sizes that are read up to a bound
 
 -- a variable is skipped for its kind, or for the size that is read
 pub left_out : (c : ParseState) (kind word code : List ℕ) (names : List (List ℕ)) (size : ℕ)
-    → size ≡ min (number_of word) (WIDTH_LIMIT + 1)
-    → is_skipped (worded_declaration c kind word code names)
+    → size ≡ min (number_of word) (WIDTH_LIMIT + 1) → is_skipped (worded_declaration c kind word code names)
     ≡ (is_skipped_kind kind || (size == 0 || nat_lt WIDTH_LIMIT size))
 left_out c kind word code names size is = grind (arith, cases_lt, lt-ltb)
 

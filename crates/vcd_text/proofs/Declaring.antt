@@ -142,10 +142,8 @@ closes_upscope m new is popped others line c begun at =
 
 -- the changes begin
 pub closes_definitions : (m : Reader) (code_targets : CodeTargets) → code_targets.codes ≡ m.variables.code_targets.codes
-    → m.item ≡ items.EndDefinitions
-    → (line : ℕ) (c : ParseState) (begun : List PlacedWord) → IsAtState m c begun
-    → WordStep c (begun ++ word_on end_word line ∷ [])
-    (record m {
+    → m.item ≡ items.EndDefinitions → (line : ℕ) (c : ParseState) (begun : List PlacedWord) → IsAtState m c begun
+    → WordStep c (begun ++ word_on end_word line ∷ []) (record m {
       variables = record m.variables { code_targets = code_targets };
       changing = true;
       item = items.Nothing;
@@ -179,13 +177,11 @@ closes_other m is line c begun at =
 
 -- the variables have the declaration
 pub closes_variable : (m : Reader) (variables : Variables) (scopes : Scopes) (words : List (List ℕ))
-    → words ≡ m.words.items
-    → ((c : ParseState) (ws : List (List ℕ)) → HoldsScopes m.scopes c.scopes c.declared
+    → words ≡ m.words.items → ((c : ParseState) (ws : List (List ℕ)) → HoldsScopes m.scopes c.scopes c.declared
     → length variables.kept.items ≡ length (kept_variables (state_after_item c (variable ws)).declared)
     → HoldsScopes scopes c.scopes (state_after_item c (variable ws)).declared)
     → ((c : ParseState) → c.value_changes ≡ [] → VariablesMatch m.variables c → Declares c words (Ok tt) variables)
-    → m.item ≡ items.Variable
-    → (line : ℕ) (c : ParseState) (begun : List PlacedWord) → IsAtState m c begun
+    → m.item ≡ items.Variable → (line : ℕ) (c : ParseState) (begun : List PlacedWord) → IsAtState m c begun
     → WordStep c (begun ++ word_on end_word line ∷ [])
     (record m { scopes = scopes; variables = variables; item = items.Nothing })
 closes_variable m variables scopes words spelled note declare is line c begun at =
@@ -220,8 +216,7 @@ fault_shown m c begun fault declares b good (inr shown) = inr (variable_fault m 
 
 -- the words declare no variable that is allowed here
 pub shows_no_variable : (m new : Reader) (result : Result (Unit {0}) Fault) (fault : Fault) (variables : Variables)
-    (words : List (List ℕ))
-    → words ≡ m.words.items
+    (words : List (List ℕ)) → words ≡ m.words.items
     → ((c : ParseState) → c.value_changes ≡ [] → VariablesMatch m.variables c → Declares c words (Err fault) variables)
     → m.item ≡ items.Variable
     → IsErrAnd result (λ e. e ≡ fault) → (line : ℕ) → WordResult m (word_on end_word line) result new
@@ -251,8 +246,7 @@ no_number (Some n) text Q said none = let some : true ≡ false = none in absurd
 
 -- a size that is no number
 pub shows_no_size : (m : Reader) (text : List ℕ) → m.item ≡ items.Variable → length m.words.items ≡ 1
-    → is_number text ≡ false
-    → (c : ParseState) (begun : List PlacedWord) → IsAtState m c begun
+    → is_number text ≡ false → (c : ParseState) (begun : List PlacedWord) → IsAtState m c begun
     → WordFault c (word_texts begun) text faults.BadVar
 shows_no_size m text is one isnt c begun at =
     let b : Collects m begun (codes "$var") × IsTrue (has_good_size m.words.items) = subst (IsBegun m begun) is at.1 in

@@ -31,8 +31,7 @@ is_header : (kind : HeaderKind)
 is_header kind = grind arith
 
 collecting : (m : Reader) (c : ParseState) (begun : List PlacedWord) (keyword : List ℕ) → ReaderMatches m c
-    → Collects m begun keyword
-    → IsTrue (is_one_of (codes "$timescale" ∷ codes "$scope" ∷ header_words) keyword)
+    → Collects m begun keyword → IsTrue (is_one_of (codes "$timescale" ∷ codes "$scope" ∷ header_words) keyword)
     → IsUnfinished c (word_texts begun)
 collecting m c begun keyword agrees is among =
     words_due keyword m.words.items (sym agrees.changing ∙ is.declares) is.spelled among is.no_end

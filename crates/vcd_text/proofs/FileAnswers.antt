@@ -122,8 +122,7 @@ at_end words u (inside due) = stops_here words u due
 at_end words u (between none) =
     elim (cases_Bool u.told.changing) [
       | inl changing ↦ accepts_here words u none changing
-      | inr declares ↦
-          stops_here words u (declaration_due declares none)
+      | inr declares ↦ stops_here words u (declaration_due declares none)
     ]
 
 -- ---- all words

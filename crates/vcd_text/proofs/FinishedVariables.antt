@@ -57,15 +57,13 @@ module _ (vs : Variables) (c : ParseState) (yielded rest : List Variable) (v : V
   first_means end is = grind (arith, own_wave, same_Some, stands_at, gives_late, wave_is, ended_upto)
 
   -- a later variable has the wave of the first
-  later_means : (s signal : Signal) → slice_get signals v.first ≡ Some s
-      → signal_contents signal ≡ record {
-        scopes = v.signal.scopes;
-        kind = v.signal.kind;
-        words = v.signal.words;
-        width = s.wave.width;
-        changes = s.wave.changes;
-      }
-      → signal_contents signal ≡ declared_signal c.value_changes c.tick (declaration v)
+  later_means : (s signal : Signal) → slice_get signals v.first ≡ Some s → signal_contents signal ≡ record {
+    scopes = v.signal.scopes;
+    kind = v.signal.kind;
+    words = v.signal.words;
+    width = s.wave.width;
+    changes = s.wave.changes;
+  } → signal_contents signal ≡ declared_signal c.value_changes c.tick (declaration v)
   unfolding changes_by
   later_means s signal at takes = grind (arith, variable_after, map_twice, stays, own_wave, same_Some, stands_at)
 

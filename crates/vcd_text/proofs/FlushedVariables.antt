@@ -56,8 +56,7 @@ module _ (e : LoggedChange) (es : List LoggedChange) (rest : ℕ → List Logged
                 ∙ set_here old e.position takes.before takes.after takes.stands,
             subst (λ b. FlushesOne v takes.after
                 (cond b (e ∷ changes_of_position position es) (changes_of_position position es) ++ rest position)
-                (changes_of_position position es ++ rest position)) (sym same)
-                (grind (arith, gives_flushed)),
+                (changes_of_position position es ++ rest position)) (sym same) (grind (arith, gives_flushed)),
           )
       | inr other ↦ (
         v,
@@ -66,8 +65,7 @@ module _ (e : LoggedChange) (es : List LoggedChange) (rest : ℕ → List Logged
             ∙ ap (λ p. e.position == p) same ∙ other in absurd (cc))
             ∙ at,
         subst (λ b. FlushesOne v v (cond b (e ∷ changes_of_position position es) (changes_of_position position es)
-            ++ rest position) (changes_of_position position es ++ rest position)) (sym other)
-            (grind arith),
+            ++ rest position) (changes_of_position position es ++ rest position)) (sym other) (grind arith),
       )
     ];
   }
@@ -126,8 +124,7 @@ module _ (old : Variables) (list : Vec Variable) (log : Vec (Vec LoggedChange)) 
         let u = flushes_log.each position v there in (
           v,
           there,
-          subst (λ x. FlushesOne v x (logged old.log.items position) [])
-              (same_Some u.0 w (sym u.1 ∙ at)) u.2,
+          subst (λ x. FlushesOne v x (logged old.log.items position) []) (same_Some u.0 w (sym u.1 ∙ at)) u.2,
         )
     | inr (past, none) ↦ absurd (omega (arith, past, flushes_log.long, slice_get_within list.items position w at))
   ]

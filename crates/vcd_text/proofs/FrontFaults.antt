@@ -1,6 +1,6 @@
 -- The closed words of a front are the first words of every file with this front, so a fault that they show is the
 -- file's.
-use Rattle.std.proofs.Common.{◌≡◌, ℕ, Bool, true, false, List, [], ◌∷◌, ◌++◌, refl, ap, ◌∙◌, append_assoc}
+use Rattle.std.proofs.Common.{arith, ◌≡◌, ℕ, Bool, true, false, List, [], ◌∷◌, ◌++◌, refl, ap, ◌∙◌, append_assoc}
 use Rattle.vcd_core.specs.Word.{is_white_space}
 use Rattle.vcd_text.specs.declared.fault.Fault.{Fault}
 use Rattle.vcd_text.specs.Words.{PlacedWord, word_on, line_after, ends_before, with_longer_first, with_byte, words_from}
@@ -37,13 +37,9 @@ closed_in_front : (whole : Bool) (line : ℕ) (front rest : List ℕ)
     → IsFront (words_from false line front) (words_from whole line (front ++ rest))
 unfolding words_from
 closed_in_front whole line [] rest = (words_from whole line rest, refl)
-closed_in_front whole line (b ∷ []) rest =
-    front_with_last (is_white_space b) (ends_before whole rest) b line (words_from whole (line_after b line) rest)
+closed_in_front whole line (b ∷ []) rest = search (arith, front_with_last)
 closed_in_front whole line (b ∷ next ∷ front) rest =
-    front_with_byte (is_white_space b) (is_white_space next) b line
-    (words_from false (line_after b line) (next ∷ front))
-    (words_from whole (line_after b line) (next ∷ front ++ rest))
-    (closed_in_front whole (line_after b line) (next ∷ front) rest)
+    search (arith, front_with_byte, closed_in_front whole (line_after b line) (next ∷ front) rest)
 
 -- a fault that words show is shown whatever words follow
 shown_further : (words all : List PlacedWord) (line : ℕ) (fault : Fault) → IsFront words all
@@ -52,8 +48,7 @@ shown_further words all line fault front s =
     shown_by all s.whole s.begun (s.more ++ front.0) s.word s.items (state_after initial_state s.items) line fault
     (record { allowed = s.allowed; tells = refl })
     (front.1 ∙ ap (λ ws. ws ++ front.0) s.parts ∙ append_assoc s.whole (s.begun ++ s.word ∷ s.more) front.0
-    ∙ ap (λ ws. s.whole ++ ws) (append_assoc s.begun (s.word ∷ s.more) front.0))
-    s.spelled s.decided s.at
+    ∙ ap (λ ws. s.whole ++ ws) (append_assoc s.begun (s.word ∷ s.more) front.0)) s.spelled s.decided s.at
 
 pub front_fault_found : (front rest : List ℕ) (line : ℕ) (fault : Fault) → FrontFault front line fault
     → FoundFault (front ++ rest) line fault

@@ -96,8 +96,7 @@ variable_front c (kind ∷ []) = cond (is_end_word kind) (faulty 1 BadVar) unfin
 variable_front c (kind ∷ size ∷ ws) =
     cond (is_end_word kind) (faulty 1 BadVar)
     (cond (is_number size)
-    (closing (λ words rest. variable_state c (declaration_of c words) words rest) (kind ∷ size ∷ ws))
-    (faulty 2 BadVar))
+    (closing (λ words rest. variable_state c (declaration_of c words) words rest) (kind ∷ size ∷ ws)) (faulty 2 BadVar))
 
 -- the front of some words among the declarations, where their first word is given apart
 abbrev pub declaration_front : ParseState → List ℕ → List (List ℕ) → Front
@@ -113,8 +112,7 @@ declaration_front c w ws =
     (cond (bytes_eq w (codes "$date")) (closing (λ words rest. whole (entry Date words) rest) ws)
     (cond (bytes_eq w (codes "$version")) (closing (λ words rest. whole (entry Version words) rest) ws)
     (closing (λ words rest. whole (entry Comment words) rest) ws)))
-    (closing (λ words rest. whole (other w words) rest) ws)))
-    (faulty 0 UnexpectedWord)
+    (closing (λ words rest. whole (other w words) rest) ws))) (faulty 0 UnexpectedWord)
 
 -- ---- changes
 
@@ -159,8 +157,7 @@ change_front c (first ∷ text) ws =
     (cond (is_among (codes "#") first) (stamp_front c text ws)
     (cond (is_among (codes "$") first) (command_front (first ∷ text) ws)
     (cond (is_among vector_prefixes first) (vector_front c first text ws)
-    (cond (is_among dropped_prefixes first) (dropped_front c first text ws)
-    (faulty 0 BadChange)))))
+    (cond (is_among dropped_prefixes first) (dropped_front c first text ws) (faulty 0 BadChange)))))
 
 -- ---- the front of some words
 
@@ -196,8 +193,7 @@ variable_closing : (c : ParseState) (words rest : List (List ℕ)) → IsTrue (h
 variable_closing c words rest h3 h4 = grind (arith, cond-false, not-true, and_parts, cond-true, closing_end)
 
 vector_known : (o : Option VariableDeclaration) (digits : List ℕ) (w : Front)
-    → IsSomeAnd o (λ d. IsTrue (takes_binary_number d digits))
-    → known o (λ d. cond (is_skipped d) w
+    → IsSomeAnd o (λ d. IsTrue (takes_binary_number d digits)) → known o (λ d. cond (is_skipped d) w
     (cond (is_binary_number digits) (cond (nat_lt d.size (length digits)) (faulty 0 ValueTooLong) w)
     (faulty 0 BadChange))) ≡ w
 vector_known None digits w h = absurd h
@@ -252,14 +248,12 @@ place_of false begun = length begun
 place_of true begun = 0
 
 declaration_faulty : (c : ParseState) (begun : List (List ℕ)) (word : List ℕ) (fault : Fault) (more : List (List ℕ))
-    → DeclarationFault c begun word fault
-    → front false c (begun ++ word ∷ more) ≡ faulty (length begun) fault
+    → DeclarationFault c begun word fault → front false c (begun ++ word ∷ more) ≡ faulty (length begun) fault
 declaration_faulty c begun word fault more h5 =
     grind (arith, cond-false, closing_end, upscope_some, variable_closing, cond-true)
 
 change_faulty : (c : ParseState) (begun : List (List ℕ)) (word : List ℕ) (fault : Fault) (more : List (List ℕ))
-    → ChangeFault c begun word fault
-    → front true c (begun ++ word ∷ more) ≡ faulty 0 fault
+    → ChangeFault c begun word fault → front true c (begun ++ word ∷ more) ≡ faulty 0 fault
 change_faulty c begun word fault more (no_tick digits b w t f) = rw (b, w, f) (cond-false (is_tick digits) _ _ t)
 change_faulty c begun word fault more (tick_goes_back digits b w t l f) = grind (arith, cond-true, lt-ltb)
 change_faulty c begun word fault more (value_alone letter b w h f) = grind (arith, cond-true)
@@ -286,8 +280,7 @@ change_faulty c begun word fault more (declaration_late b w f) =
 change_faulty c begun word fault more (no_change first text b w l n f) = grind (arith, cond-false)
 
 pub fault_front : (c : ParseState) (begun : List (List ℕ)) (word : List ℕ) (fault : Fault) (more : List (List ℕ))
-    → WordFault c begun word fault
-    → front_of c (begun ++ word ∷ more) ≡ faulty (place_of c.changing begun) fault
+    → WordFault c begun word fault → front_of c (begun ++ word ∷ more) ≡ faulty (place_of c.changing begun) fault
 fault_front c begun word fault more (among_declarations h d) =
     front_at false c _ _ h (declaration_faulty c begun word fault more d)
     ∙ ap (λ b. faulty (place_of b begun) fault) (sym h)

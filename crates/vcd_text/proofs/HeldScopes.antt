@@ -16,6 +16,7 @@ use Rattle.vcd_text.specs.inside.Scopes.{chains_of, chain_at, scopes_at, AreWith
 use Rattle.vcd_text.specs.declared.reading.scopes.ScopePlace.{ScopePlace}
 use Rattle.vcd_text.specs.declared.reading.scopes.Scopes.{Scopes}
 use Rattle.std.proofs.lemmas.List.{take-take}
+use Rattle.std.proofs.lemmas.Grind.{common_steps}
 
 -- ---- chains that go on
 
@@ -63,8 +64,7 @@ reached_more n reach further (q ∷ ps) p far count (one, others) =
 
 -- the chains, the reach and the places stay
 reach_kept : (old new : Scopes) → new.chains.items ≡ old.chains.items → new.reach ≡ old.reach
-    → new.places.items ≡ old.places.items
-    → AreReached (length old.chains.items) old.reach old.places.items
+    → new.places.items ≡ old.places.items → AreReached (length old.chains.items) old.reach old.places.items
     → AreReached (length new.chains.items) new.reach new.places.items
 reach_kept old new chains reach places reached = grind arith
 
@@ -74,17 +74,7 @@ pub chain_begins : (old new : Scopes) (c : ParseState) → new.chains.items ≡ 
     → new.depth ≡ old.depth → new.places.items ≡ old.places.items → HoldsScopes old c.scopes c.declared
     → HoldsScopes new c.scopes c.declared
 chain_begins old new c chains chain depth places h =
-    let all : chains_of new ≡ chains_of old ++ new.chain.items ∷ [] = ap (λ cs. cs ++ new.chain.items ∷ []) chains in
-    let stay = places_stay (chains_of old) (chains_of old ++ new.chain.items ∷ []) old.places.items
-    (grind (arith, length_push, get_or_append_left, append-nil)) h.places in
-    let long : length new.chain.items ≡ old.depth = grind (arith, length-take-le) in
-    record {
-      within = omega (arith, long, depth);
-      inner = take_all new.depth new.chain.items (omega (arith, long, depth)) ∙ chain ∙ h.inner;
-      places = grind arith;
-      reached = grind (arith, reached_by_none);
-      paths = (λ i. map (scopes_at (all i)) (places i)) ∙ stay.1 ∙ h.paths;
-    }
+    search (arith, places_stay, length_push, get_or_append_left, append-nil, length-take-le, take_all, reached_by_none)
 
 -- a scope is opened at the end of the chain
 pub scope_entered : (old new : Scopes) (c : ParseState) (s : ScopeName) → old.depth ≡ length old.chain.items
@@ -125,33 +115,7 @@ places_cut : (cs : List (List ScopeName)) (chain : List ScopeName) (depth reach 
 places_cut cs chain depth reach [] low within reached places = (tt, refl)
 places_cut cs chain depth reach (p ∷ ps) low within (one, others) (here, count, later) =
     let rest = places_cut cs chain depth reach ps low within others later in
-    let placed : (p.chain < length (cs ++ take depth chain ∷ []))
-    × (p.count ≤ length (chain_at (cs ++ take depth chain ∷ []) p.chain))
-    × (scopes_at (cs ++ take depth chain ∷ []) p ≡ scopes_at (cs ++ chain ∷ []) p) =
-    elim (cases_lt p.chain (length cs)) [
-      | inl before ↦
-          let new_at : chain_at (cs ++ take depth chain ∷ []) p.chain ≡ chain_at cs p.chain =
-          get_or_append_left cs (take depth chain ∷ []) [] p.chain before in
-          let old_at : chain_at (cs ++ chain ∷ []) p.chain ≡ chain_at cs p.chain =
-          get_or_append_left cs (chain ∷ []) [] p.chain before in (
-            omega (arith, before, length_push cs (take depth chain)),
-            omega (arith, count, ap (length {A = ScopeName}) new_at, ap (length {A = ScopeName}) old_at),
-            ap (take p.count) (new_at ∙ sym old_at),
-          )
-      | inr last ↦
-          let is : p.chain ≡ length cs = omega (arith, last, here, length_push cs chain) in
-          let few : p.count ≤ reach = one is in
-          let new_at : chain_at (cs ++ take depth chain ∷ []) p.chain ≡ take depth chain =
-          ap (chain_at (cs ++ take depth chain ∷ [])) is ∙ get_or-append_seam cs (take depth chain) [] [] in
-          let old_at : chain_at (cs ++ chain ∷ []) p.chain ≡ chain = grind (arith, get_or-append_seam) in
-          let long : length (take depth chain) ≡ depth = length-take-le depth chain within in (
-            omega (arith, is, length_push cs (take depth chain)),
-            omega (arith, few, low, long, ap (length {A = ScopeName}) new_at),
-            ap (take p.count) new_at ∙ take-take p.count depth chain (omega (arith, few, low))
-                ∙ ap (take p.count) (sym old_at),
-          )
-    ] in
-    ((placed.0, placed.1, rest.0), λ i. placed.2 i ∷ rest.1 i)
+    grind (arith, common_steps, rest, get_or_append_left, length_push, get_or-append_seam, length-take-le, take-take)
 
 -- the chain is cut back to the open scopes
 pub chain_cut : (old new : Scopes) (c : ParseState) → new.chains.items ≡ old.chains.items

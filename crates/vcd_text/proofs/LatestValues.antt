@@ -60,10 +60,8 @@ module _ (width k t : ℕ) where
 
     -- the signal itself, where it passes
     own_value_change : (ss : List SignalContents) (i j : ℕ) (d : SignalContents) (before : List Bit) → j + i ≡ k
-        → i < length ss → u ≤ t
-        → after_value_changes before (value_changes_from j ss)
-        ≡ (if test (k, get_or ss i d) then extension width (short_form (signal_value (get_or ss i d) u)) else
-        before)
+        → i < length ss → u ≤ t → after_value_changes before (value_changes_from j ss)
+        ≡ (if test (k, get_or ss i d) then extension width (short_form (signal_value (get_or ss i d) u)) else before)
     unfolding latest_value
     own_value_change [] i j d before at within come = absurd (omega arith)
     own_value_change (s ∷ ss) zero j d before at within come = grind (arith, bytes_eq-Decides, le-leb, later_signals)
@@ -85,8 +83,7 @@ module _ (signals : List SignalContents) (k t : ℕ) (d : SignalContents) (insid
   whole u = grind (arith, ext-short)
 
   -- a value that differs is listed, and one that does not stays
-  at_tick : (u : ℕ) → u ≤ t
-      → latest_value signal.width (code_of k) t (signal_value signal (u - 1))
+  at_tick : (u : ℕ) → u ≤ t → latest_value signal.width (code_of k) t (signal_value signal (u - 1))
       (map (value_change_of u) (differing signals u)) ≡ signal_value signal u
   at_tick u come =
       own_value_change signal.width k t u (λ p. differs_at u p.1) signals k 0 d (signal_value signal (u - 1))

@@ -27,8 +27,7 @@ use Rattle.vcd_text.specs.inside.ValueFronts.{IsKept, is_spare_above}
 -- ---- the letters of words
 
 pub held_letter : (v : List Bit) (from : ℕ) (word : LetterWord) (i : ℕ) → HoldsLetters Zero v from word → i < 64
-    → from + i < length v
-    → letter_in word i ≡ letter_at v (from + i)
+    → from + i < length v → letter_in word i ≡ letter_at v (from + i)
 held_letter v from word i holds inside within = grind (arith, lt-ltb)
 
 -- a letter of the value of a word
@@ -89,8 +88,7 @@ row_end row count word long fits written =
 
 -- the letters of a word of a value are before the lower ones
 pub word_and_rest : (v : List Bit) (left from : ℕ) (word : LetterWord) → from ≤ left → left ≤ from + 64
-    → left ≤ length v
-    → HoldsLetters Zero v from word
+    → left ≤ length v → HoldsLetters Zero v from word
     → printed_letters (lowest left v) ≡ printed_letters (letters_of (left - from) (word ∷ []))
     ++ printed_letters (lowest from v)
 word_and_rest v left from word most fits within holds =
@@ -112,8 +110,7 @@ abbrev pub is_spare_in : List Bit → ℕ → Bool
 is_spare_in v i = same_letter (pad_letter (letter_at v i ∷ [])) (letter_at v (i + 1))
 
 pub spare_held : (v : List Bit) (from : ℕ) (word : LetterWord) (i : ℕ) → HoldsLetters Zero v from word → i + 1 < 64
-    → from + i + 1 < length v
-    → is_spare_above word i ≡ is_spare_in v (from + i)
+    → from + i + 1 < length v → is_spare_above word i ≡ is_spare_in v (from + i)
 spare_held v from word i holds inside within = grind (arith, held_letter)
 
 pub spare_given : (width : ℕ) (word : LetterWord) (i : ℕ) → width ≤ 64 → i + 1 < width
@@ -203,8 +200,7 @@ needed_where_one true n is one = absurd (omega arith)
 needed_where_one false n is one = refl
 
 pub kept_is : (count : ℕ) (word : LetterWord) (marks mask : ℕ) → 1 ≤ count → count ≤ 64 → mask < 2 ^ 64
-    → mask ≡ 2 ^ (count - 1) - 1
-    → ((i : ℕ) → i < 64 → bit_at marks i ≡ (if is_spare_above word i then 0 else 1))
+    → mask ≡ 2 ^ (count - 1) - 1 → ((i : ℕ) → i < 64 → bit_at marks i ≡ (if is_spare_above word i then 0 else 1))
     → IsKept count word (65 - count_leading_zeros 64 (bit_and marks mask))
 kept_is count word marks mask least most fits is_mask tells =
     let m : ℕ = bit_and marks mask in

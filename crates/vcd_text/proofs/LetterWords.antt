@@ -85,8 +85,7 @@ pub holds_both : (pad : Bit) (front back all : List ℕ) (old new : LetterWord) 
 holds_both pad front back all old new whole holds adds = grind (arith, map-append)
 
 pub both_are_digits : (front back all : List ℕ) → front ++ back ≡ all → list_all is_binary_digit front ≡ true
-    → list_all is_binary_digit back ≡ true
-    → list_all is_binary_digit all ≡ true
+    → list_all is_binary_digit back ≡ true → list_all is_binary_digit all ≡ true
 both_are_digits front back all whole first second = grind (arith, list_all-append, and_from)
 
 -- ---- one word more

@@ -12,8 +12,7 @@ use Rattle.vcd_text.specs.inside.Transitions.{unsorted_window}
 use Rattle.vcd_text.specs.inside.Transitions.{window_of_signal}
 
 pub one_listed : (from to k : ℕ) (signals : List Signal) (s : Signal) (out new whole : List Transition)
-    → k < length signals → s ≡ get_or signals k s
-    → new ≡ out ++ window_of_signal from to k s.wave.changes
+    → k < length signals → s ≡ get_or signals k s → new ≡ out ++ window_of_signal from to k s.wave.changes
     → out ++ unsorted_window from to k (map signal_contents (drop k signals)) ≡ whole
     → new ++ unsorted_window from to (k + 1) (map signal_contents (drop (k + 1) signals)) ≡ whole
 unfolding unsorted_window

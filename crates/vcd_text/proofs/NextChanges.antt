@@ -86,8 +86,7 @@ begins from to position (c ∷ cs) (suc place) passed =
 
 -- the next change is in it
 pub steps : (from to position : ℕ) (cs : List Change) (n : NextChange) → IsNext from to cs n → n.tick < to
-    → to ≤ END_LIMIT + 1
-    → window_of_signal from to position (drop n.place cs)
+    → to ≤ END_LIMIT + 1 → window_of_signal from to position (drop n.place cs)
     ≡ transition_of n.tick position ∷ window_of_signal from to position (drop (n.place + 1) cs)
 steps from to position cs n is early end =
     let d = change 0 [] in
@@ -117,8 +116,7 @@ ends from to position floor before (c ∷ cs) (suc k) (low, other, wide, rest) l
     ends from to position (c.tick + 1) c.value cs k rest late
 
 pub stops : (from to position : ℕ) (cs : List Change) (n : NextChange) → AreRising cs → IsNext from to cs n
-    → to ≤ n.tick
-    → window_of_signal from to position (drop n.place cs) ≡ []
+    → to ≤ n.tick → window_of_signal from to position (drop n.place cs) ≡ []
 stops from to position cs n rise is late = grind (arith, ends)
 
 -- ---- signal by signal
@@ -126,8 +124,7 @@ stops from to position cs n rise is late = grind (arith, ends)
 -- the signals before a place, and one more
 pub passed_next : (from p : ℕ) (signals : List Signal) (next_changes : List NextChange) (there : Signal)
     (next : NextChange) → p < length signals → length next_changes ≡ length signals → there ≡ get_or signals p there
-    → IsNext from from there.wave.changes next
-    → ((k : ℕ) (s : Signal) (n : NextChange) → k < p
+    → IsNext from from there.wave.changes next → ((k : ℕ) (s : Signal) (n : NextChange) → k < p
     → IsNext from from (get_or signals k s).wave.changes (get_or next_changes k n))
     → (k : ℕ) (s : Signal) (n : NextChange) → k < p + 1
     → IsNext from from (get_or signals k s).wave.changes (get_or (set next_changes p next) k n)

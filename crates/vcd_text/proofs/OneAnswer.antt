@@ -148,8 +148,7 @@ one_meaning bytes c d m n p q =
     (p.means ∙ ap meaning e ∙ sym q.means, p.left_out ∙ ap skipped_count e ∙ sym q.left_out)
 
 pub one_found_fault : (bytes : List ℕ) (line other_line : ℕ) (fault other_fault : Fault) → FoundFault bytes line fault
-    → FoundFault bytes other_line other_fault
-    → (line ≡ other_line) × (fault ≡ other_fault)
+    → FoundFault bytes other_line other_fault → (line ≡ other_line) × (fault ≡ other_fault)
 one_found_fault bytes line other_line fault other_fault (word_shows p) (word_shows q) =
     one_fault (words_of bytes) line other_line fault other_fault p q
 one_found_fault bytes line other_line fault other_fault (word_shows p) (too_early q l f) =

@@ -8,8 +8,7 @@ use Rattle.vcd_core.specs.Word.{is_one_of}
 
 -- for any test of equality
 by_equal : {A : Type 0} (same : A → A → Bool) → ((x y : A) → same x y ≡ true → x ≡ y)
-    → (P : A → Type 0) (xs : List A) (x : A) → list_any (same x) xs ≡ true
-    → AllByRecursion P xs → P x
+    → (P : A → Type 0) (xs : List A) (x : A) → list_any (same x) xs ≡ true → AllByRecursion P xs → P x
 by_equal same equal P [] x h all = absurd (false≢true h)
 by_equal same equal P (y ∷ ys) x h all =
     elim (or_cases (same x y) (list_any (same x) ys) h) [

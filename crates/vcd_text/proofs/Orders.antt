@@ -21,17 +21,16 @@ use Rattle.vcd_text.specs.inside.Windows.{IsKey, transition_of_key, transitions_
 use Rattle.vcd_text.specs.Text.{code_of, item_line, stamp_of, value_item}
 use Rattle.vcd_text.proofs.Counts.{rises_from, same_times}
 use Rattle.vcd_text.proofs.Sorting.{AtLeast, RisesFrom, same_transitions, times, times_permuted}
+use Rattle.std.proofs.lemmas.Grind.{common_steps}
 
 -- a key that is not below another is that of a transition at its place or after it
-not_below : (from a b : ℕ) → a ≤ b
-    → AtLeast (from + a / POSITIONS) (a % POSITIONS) (transition_of_key from b)
+not_below : (from a b : ℕ) → a ≤ b → AtLeast (from + a / POSITIONS) (a % POSITIONS) (transition_of_key from b)
 not_below from a b up = grind (arith, cases_lt)
 
 not_less : (a b : ℕ) → is_lt (nat_cmp b a) ≡ false → a ≤ b
 not_less a b is = grind (arith, cases_lt, lt-ltb)
 
-rises_after : (from key : ℕ) (keys : List ℕ)
-    → ((k d : ℕ) → k + 1 < length (key ∷ keys)
+rises_after : (from key : ℕ) (keys : List ℕ) → ((k d : ℕ) → k + 1 < length (key ∷ keys)
     → is_lt (nat_cmp (get_or (key ∷ keys) (k + 1) d) (get_or (key ∷ keys) k d)) ≡ false)
     → RisesFrom (from + key / POSITIONS) (key % POSITIONS) (transitions_of from keys)
 rises_after from key [] up = tt
@@ -49,8 +48,7 @@ keys_rise from (key ∷ keys) up = grind (arith, cases_lt, rises_after)
 -- sorted keys list the transitions of the window by tick
 pub ordered_are : (end from n : ℕ) (ss : List SignalContents) (keys sorted : List ℕ) → 1 ≤ from
     → transitions_of from keys ≡ unsorted_window from (from + n) 0 ss → IsPermutation keys sorted
-    → IsSorted nat_cmp sorted → All (IsSoundSignal end) ss
-    → transitions_of from sorted ≡ transitions_from ss from n
+    → IsSorted nat_cmp sorted → All (IsSoundSignal end) ss → transitions_of from sorted ≡ transitions_from ss from n
 ordered_are end from n ss keys sorted some listed moved up sound =
     same_transitions (transitions_of from sorted) (transitions_from ss from n) 0 0 from 0
     (keys_rise from sorted up) (rises_from ss from n)
@@ -63,19 +61,13 @@ ordered_are end from n ss keys sorted some listed moved up sound =
 -- it is listed before others
 pub one_key : (from tick position key : ℕ) (keys new : List ℕ) (rest whole : List Transition) → position < POSITIONS
     → from ≤ tick → key ≡ (tick - from) * POSITIONS + position → new ≡ keys ++ key ∷ []
-    → transitions_of from keys ++ transition_of tick position ∷ rest ≡ whole
-    → transitions_of from new ++ rest ≡ whole
+    → transitions_of from keys ++ transition_of tick position ∷ rest ≡ whole → transitions_of from new ++ rest ≡ whole
 one_key from tick position key keys new rest whole small late is grown all = grind (arith, map-append, append_assoc)
 
 pub key_holds : (from tick position count key : ℕ) (keys new : List ℕ) → position < POSITIONS → position < count
     → from ≤ tick → tick ≤ END_LIMIT → key ≡ (tick - from) * POSITIONS + position → new ≡ keys ++ key ∷ []
     → All (IsKey from count) keys → All (IsKey from count) new
-key_holds from tick position count key keys new small inside late end is grown all =
-    subst (All (IsKey from count)) (sym grown)
-    (All-append (IsKey from count) keys (key ∷ []) all
-    (All-cons (IsKey from count) key []
-    (record { position = omega (arith, is, small, inside); tick = omega (arith, is, small, late, end) })
-    (λ i d none. absurd (omega arith))))
+key_holds from tick position count key keys new small inside late end is grown all = grind (arith, common_steps)
 
 -- it is written before the later ones
 pub one_written : (signals : List SignalContents) (from last k : ℕ) (keys : List ℕ) → k < length keys

@@ -35,8 +35,7 @@ module _ (chains : List (List ScopeName)) where
   pub next_placed : (ps : List ScopePlace) (old now : List Signal) (k : ℕ) (item : Signal) (path : List ScopeName)
       → k < length old → k < length now
       → map signal_contents now ≡ with_places chains (take k (map signal_contents old)) ps
-      ++ drop k (map signal_contents old)
-      → path ≡ scopes_of chains (slice_get ps k)
+      ++ drop k (map signal_contents old) → path ≡ scopes_of chains (slice_get ps k)
       → map signal_contents (set now k (record (get_or now k item) { scopes = path }))
       ≡ with_places chains (take (k + 1) (map signal_contents old)) ps ++ drop (k + 1) (map signal_contents old)
   next_placed ps old now k item path within inside told given =

@@ -75,8 +75,7 @@ short_one b = grind arith
 
 -- each value of a wave has its width
 wide_from : (width floor t : ℕ) (kept before : List Bit) (cs : List Change) → AreChangesFrom floor kept cs
-    → length kept ≡ width → length before ≡ width
-    → length (value_from before cs t) ≡ width
+    → length kept ≡ width → length before ≡ width → length (value_from before cs t) ≡ width
 unfolding value_from
 wide_from width floor t kept before [] rise long wide = wide
 wide_from width floor t kept before (c ∷ cs) (from, other, same, rest) long wide =

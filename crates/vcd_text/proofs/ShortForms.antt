@@ -81,15 +81,13 @@ short_is (b ∷ s) = ap (λ o. unwrap_or o (b ∷ s)) (found b s)
 
 -- the letter at k is spare
 spare_at : (v : List Bit) (k : ℕ) → k + 1 < length v → same_letter (pad_letter (get_or v (k + 1) X ∷ [])) (get_or v k X)
-    ≡ true
-    → shortened (drop k v) ≡ shortened (drop (k + 1) v)
+    ≡ true → shortened (drop k v) ≡ shortened (drop (k + 1) v)
 unfolding shortened
 spare_at v k within spare = grind (arith, drop_more)
 
 -- the letter at k is not spare
 kept_at : (v : List Bit) (k : ℕ) → k + 1 < length v → same_letter (pad_letter (get_or v (k + 1) X ∷ [])) (get_or v k X)
-    ≡ false
-    → shortened (drop k v) ≡ drop k v
+    ≡ false → shortened (drop k v) ≡ drop k v
 unfolding shortened
 kept_at v k within kept = grind (arith, drop_more)
 
@@ -149,8 +147,7 @@ short_given width word kept narrow is =
 
 -- the letters of a word are left out, or stay
 pub word_left_out : (v : List Bit) (from : ℕ) (word : LetterWord) (left kept : ℕ) → HoldsLetters Zero v from word
-    → from < left
-    → left ≤ from + 64 → left ≤ length v
+    → from < left → left ≤ from + 64 → left ≤ length v
     → IsKept (left - from) word kept → shortened (lowest left v) ≡ shortened (lowest (from + kept) v)
 word_left_out v from word left kept holds some fits within is =
     left_out v left (from + kept) (omega (arith, is.least)) (omega (arith, is.most)) within (λ i past below.
@@ -161,14 +158,11 @@ word_left_out v from word left kept holds some fits within is =
     ∙ is.spare j (omega (arith, is.least)) (omega (arith, is.least)))
 
 pub word_stays : (v : List Bit) (from : ℕ) (word : LetterWord) (left kept : ℕ) → HoldsLetters Zero v from word
-    → from < left
-    → left ≤ from + 64 → left ≤ length v
-    → IsKept (left - from) word kept → (from ≡ 0) ⊎ (1 < kept)
+    → from < left → left ≤ from + 64 → left ≤ length v → IsKept (left - from) word kept → (from ≡ 0) ⊎ (1 < kept)
     → shortened (lowest (from + kept) v) ≡ lowest (from + kept) v
 word_stays v from word left kept holds some fits within is last = grind (arith, stays, spare_held)
 
 -- the state after a test of two letters
 pub state_at : (v : List Bit) (k : ℕ) (letter next : Bit) (r b : Bool) → 1 ≤ k → letter ≡ letter_at v k
-    → next ≡ letter_at v (k - 1)
-    → r ≡ same_letter (pad_letter (next ∷ [])) letter → r ≡ b → is_spare_in v (k - 1) ≡ b
+    → next ≡ letter_at v (k - 1) → r ≡ same_letter (pad_letter (next ∷ [])) letter → r ≡ b → is_spare_in v (k - 1) ≡ b
 state_at v k letter next r b some at_k at_next told is = grind arith

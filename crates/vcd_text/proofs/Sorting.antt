@@ -63,8 +63,7 @@ none_before u j t k (m ∷ ms) (first, rest) before =
     omega (arith, not_before u j m further, none_before u j m.tick m.position ms rest further)
 
 first_differs : (x y : Transition) (xs ys : List Transition) → RisesFrom y.tick y.position ys
-    → Before x.tick x.position y.tick y.position
-    → times x.tick x.position (x ∷ xs) ≢ times x.tick x.position (y ∷ ys)
+    → Before x.tick x.position y.tick y.position → times x.tick x.position (x ∷ xs) ≢ times x.tick x.position (y ∷ ys)
 first_differs x y xs ys rise before same = grind (arith, once_itself, not_before, none_before)
 
 compared : (x y : Transition)

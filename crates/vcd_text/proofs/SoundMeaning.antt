@@ -214,8 +214,7 @@ clean_variable c (kind ∷ size ∷ code ∷ name ∷ names) clean all allows =
       kind = kind;
       size = number_of size;
       code = code;
-      words =
-          name ∷ names;
+      words = name ∷ names;
     }) clean allows.0
     (record { scopes = clean.scopes; kind = p.0; named = omega arith; words = r.1 }) allows.3.0 allows.3.1
 
@@ -223,8 +222,7 @@ clean_variable c (kind ∷ size ∷ code ∷ name ∷ names) clean all allows =
 clean_beside : (c : ParseState) (header : List Header) (time : Option Timescale) (scopes : List ScopeName)
     (changing : Bool) (tick : ℕ) → IsClean c
     → list_all is_sound_header header ≡ true → IfSome time (λ t. is_sound_timescale t ≡ true)
-    → list_all is_sound_scope scopes ≡ true
-    → (changing ≡ false → c.value_changes ≡ []) → tick ≤ END_LIMIT
+    → list_all is_sound_scope scopes ≡ true → (changing ≡ false → c.value_changes ≡ []) → tick ≤ END_LIMIT
     → IsClean (record {
       header = header;
       timescale = time;
@@ -283,20 +281,7 @@ latest_length width code t before (r ∷ rs) long all =
 sound_signal : (c : ParseState) (d : VariableDeclaration) → IsClean c → IsCleanDeclaration d → IsAgreed c d
     → is_skipped d ≡ false → IsSoundSignal c.tick (declared_signal c.value_changes c.tick d)
 sound_signal c d clean is agrees keeps =
-    let width = kept_is d keeps in
-    let values : (t : ℕ) → length (latest_value d.size d.code t (all_x d.size) c.value_changes) ≡ d.size =
-    grind (arith, latest_length, length-replicate, All-weaker, bytes_eq-Decides) in
-    record {
-      scopes = is.scopes;
-      kind = is.kind;
-      kept = ap not width.0;
-      named = is.named;
-      words = is.words;
-      least = width.1;
-      most = width.2;
-      wave = changes_rise d.size c.tick _ values;
-      ticks = changes_end d.size c.tick _;
-    }
+    search (arith, kept_is, latest_length, length-replicate, bytes_eq-Decides, changes_rise, changes_end)
 
 pub meaning_is_sound : (bytes : List ℕ) (told : ParseState) → Accepts (words_of bytes) told → IsSound (meaning told)
 meaning_is_sound bytes told accepted =

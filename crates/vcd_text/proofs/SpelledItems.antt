@@ -137,8 +137,7 @@ scopes_spelled (s ∷ path) sound =
     let words : (is_word s.kind ≡ true) × (list_all is_word s.words ≡ true) = grind (arith, and_parts) in
     and_from (is_spelled (scope s.kind s.words)) (list_all is_spelled (map (λ s. scope s.kind s.words) path))
     (and_from (is_unbroken s.kind) (list_all is_unbroken (s.words ++ end_word ∷ [])) (word_is_unbroken s.kind words.0)
-    (with_end_unbroken s.words (words_are_unbroken s.words words.1)))
-    (scopes_spelled path parts.1)
+    (with_end_unbroken s.words (words_are_unbroken s.words words.1))) (scopes_spelled path parts.1)
 
 signals_spelled : (end : ℕ) (opened : List ScopeName) (k : ℕ) (signals : List SignalContents)
     → AllByRecursion (IsSoundSignal end) signals → list_all is_spelled (signal_items opened k signals) ≡ true

@@ -118,8 +118,7 @@ whole_vector_taken m vs text digits code line code_line b takes taken r =
 
 -- the code shows a fault, with the line of the first
 pub whole_vector_refused : (m new : Reader) (text digits code : List ℕ) (line code_line : ℕ) (fault : Fault)
-    → BeginsVector m text digits
-    → ((c : ParseState) → c.tick ≡ m.tick → VariablesMatch m.variables c
+    → BeginsVector m text digits → ((c : ParseState) → c.tick ≡ m.tick → VariablesMatch m.variables c
     → (fault ≡ NoMemory) ⊎ BinaryNumberFault c code digits fault)
     → WordsResult m (word_on text line ∷ word_on code code_line ∷ []) (Err (error_at line fault)) new
 whole_vector_refused m new text digits code line code_line fault b refuses taken more r =

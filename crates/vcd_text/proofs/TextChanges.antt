@@ -58,8 +58,7 @@ module _ (c : Contents) (p : ℕ × SignalContents) (placed : IsPlaced c p) (val
 -- ---- all values at a tick
 
 pub values_lead : (c : Contents) (placed : List (ℕ × SignalContents)) (value_changes : List ValueChange) (t : ℕ)
-    → All (IsPlaced c) placed
-    → Leads (state_at c value_changes t) (value_items t placed)
+    → All (IsPlaced c) placed → Leads (state_at c value_changes t) (value_items t placed)
     (state_at c (value_changes ++ map (value_change_of t) placed) t)
 values_lead c [] value_changes t all = grind (arith, leads_same, leads_none, append-nil)
 values_lead c (p ∷ ps) value_changes t all =
@@ -170,8 +169,7 @@ ticks_lead c zero value_changes u t later at within all =
     (state_at c (value_changes ++ tick_value_changes c.signals t 1) t))
     (sym (append-nil (with_stamp t (new_values c.signals t))))
     (subst (λ rs. Leads (state_at c value_changes u) (with_stamp t (new_values c.signals t) ++ end_items c.signals t)
-    (state_at c (value_changes ++ rs) t)) (sym (append-nil (map (value_change_of t) (differing c.signals t))))
-    here))
+    (state_at c (value_changes ++ rs) t)) (sym (append-nil (map (value_change_of t) (differing c.signals t)))) here))
 ticks_lead c (suc n) value_changes u t later at within all =
     let here = map (value_change_of t) (differing c.signals t) in
     subst (λ is. Leads (state_at c value_changes u) is

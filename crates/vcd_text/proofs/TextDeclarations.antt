@@ -71,8 +71,7 @@ codes_below_more k ds d below is = grind (arith, false_from_ne_true, codes_diffe
 
 -- the declaration of the words of a variable
 words_declare : (c : ParseState) (kind size code : List ℕ) (n : ℕ) (words : List (List ℕ)) → 0 < length words
-    → number_of size ≡ n
-    → declaration_of c (kind ∷ size ∷ code ∷ words)
+    → number_of size ≡ n → declaration_of c (kind ∷ size ∷ code ∷ words)
     ≡ Some (record { scopes = c.scopes; kind = kind; size = n; code = code; words = words })
 words_declare c kind size code n [] named number = absurd (omega arith)
 words_declare c kind size code n (w ∷ ws) named number = grind arith
@@ -144,8 +143,7 @@ declarations_lead c sound =
     (leads_one declared (declared_state c) end_definitions refl refl)
 
 -- the declarations, and the items after them
-pub items_in_two : (c : Contents)
-    → items_of c ≡ declaration_items c
+pub items_in_two : (c : Contents) → items_of c ≡ declaration_items c
     ++ (first_items c.signals ++ tick_items c.signals 1 c.end ++ end_items c.signals c.end)
 unfolding items_of
 items_in_two c = grind (arith, append_assoc)

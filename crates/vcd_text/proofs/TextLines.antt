@@ -17,15 +17,13 @@ joined w (v ∷ ws) = ap (λ l. w ++ (32 ∷ l)) (joined v ws)
 
 -- words and further ones
 pub writes_words : {W : Type 0} {t : W → Option (List ℕ)} {f : W → Bool} {s0 s1 s2 : WriteBuffer × W}
-    (front back : List (List ℕ))
-    → Emits t f s0 s1 (spaced_words front) → Emits t f s1 s2 (spaced_words back)
+    (front back : List (List ℕ)) → Emits t f s0 s1 (spaced_words front) → Emits t f s1 s2 (spaced_words back)
     → Emits t f s0 s2 (spaced_words (front ++ back))
 writes_words front back first second =
     writes_as (sym (flat_map-append (λ w. 32 ∷ w) front back)) (writes_both first second)
 
 pub writes_line : {W : Type 0} {t : W → Option (List ℕ)} {f : W → Bool} {s0 s1 s2 s3 : WriteBuffer × W} (w : List ℕ)
-    (ws : List (List ℕ))
-    → Emits t f s0 s1 w → Emits t f s1 s2 (spaced_words ws) → Emits t f s2 s3 (codes " $end\n")
+    (ws : List (List ℕ)) → Emits t f s0 s1 w → Emits t f s1 s2 (spaced_words ws) → Emits t f s2 s3 (codes " $end\n")
     → Emits t f s0 s3 (join_with_byte 32 (w ∷ (ws ++ end_word ∷ [])) ++ 10 ∷ [])
 writes_line w ws first middle last =
     writes_as (grind (arith, append_assoc, joined, flat_map-append)) (writes_both (writes_both first middle) last)

@@ -10,9 +10,7 @@ use Rattle.vcd_text.specs.Text.{tick_items}
 use Rattle.vcd_text.specs.inside.TextParts.{declarations_text}
 
 -- the declarations, the values at tick 0, and the rest
-pub whole_text : (c : Contents)
-    → declarations_text c
-    ++ (flat_map item_line (first_items c.signals)
+pub whole_text : (c : Contents) → declarations_text c ++ (flat_map item_line (first_items c.signals)
     ++ flat_map item_line (tick_items c.signals 1 c.end ++ end_items c.signals c.end)) ≡ text c
 unfolding text items_of
 whole_text c = grind (arith, flat_map-append, append_assoc)

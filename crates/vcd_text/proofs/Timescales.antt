@@ -1,6 +1,6 @@
 -- A timescale is a count, the longest that fits, and the name of a unit.
 use Rattle.std.proofs.Common.{◌≡◌, ℕ, Bool, true, false, cond, ◌&&◌, ◌==◌, Option, Some, None, List, [], ◌∷◌, take}
-use Rattle.std.proofs.Common.{refl}
+use Rattle.std.proofs.Common.{arith, refl}
 use Rattle.std.specs.Prelude.{bytes_eq}
 use Rattle.std.specs.Fmt.{digits}
 use Rattle.vcd_core.specs.declared.capture.TimeUnit.{TimeUnit}
@@ -20,13 +20,7 @@ first f s ms us ns ps fs =
 
 first_counted : (n : ℕ) (s ms us ns ps fs : Bool) → first (λ u. record { count = n; unit = u }) s ms us ns ps fs
     ≡ timescale_of_unit n (first (λ u. u) s ms us ns ps fs)
-first_counted n true ms us ns ps fs = refl
-first_counted n false true us ns ps fs = refl
-first_counted n false false true ns ps fs = refl
-first_counted n false false false true ps fs = refl
-first_counted n false false false false true fs = refl
-first_counted n false false false false false true = refl
-first_counted n false false false false false false = refl
+first_counted n s ms us ns ps fs = search arith
 
 pub hundred : (unit : List ℕ) → timescale_spelled (49 ∷ 48 ∷ 48 ∷ unit) ≡ timescale_of_unit 100 (unit_named unit)
 unfolding digits

@@ -50,8 +50,7 @@ same_codes vs code_targets c same k = record {
       record {
         owned = ap (λ m. code_target m v.code) same ∙ first.owned;
         no_later = first.no_later;
-        same_size =
-            first.same_size;
+        same_size = first.same_size;
       };
   few = k.few;
   grouped = k.grouped;

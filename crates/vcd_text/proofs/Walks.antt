@@ -13,6 +13,7 @@ use Rattle.vcd_text.specs.inside.Transitions.{Transition, transition_of, transit
 use Rattle.vcd_text.specs.inside.Transitions.{transition_items}
 use Rattle.vcd_text.specs.Text.{code_of, differs_at, end_items, item_line, new_values, stamp_of, with_stamp, tick_items}
 use Rattle.vcd_text.specs.Text.{value_item, value_items}
+use Rattle.std.proofs.lemmas.Grind.{common_steps}
 
 -- the text of transitions, where the last stamp was that of a tick
 unfoldable pub walk : List SignalContents → ℕ → ℕ → List Transition → List Item
@@ -72,10 +73,8 @@ placed_enumerated : (signals : List SignalContents) (k : ℕ) (ss : List SignalC
     → AllPlaced signals (enumerate_from k ss)
 placed_enumerated signals k [] is = tt
 placed_enumerated signals k (s ∷ ss) is =
-    let here : get_or signals k no_signal ≡ s =
-    ap (λ n. get_or signals n no_signal) (let e : k ≡ k + 0 = omega arith in e)
-    ∙ sym (get_or-drop k signals 0 no_signal) ∙ ap (λ l. get_or l 0 no_signal) is in
-    (here, placed_enumerated signals (k + 1) ss (sym (drop-drop 1 k signals) ∙ ap (drop 1) is))
+    let later = placed_enumerated signals (k + 1) ss (sym (drop-drop 1 k signals) ∙ ap (drop 1) is) in
+    grind (arith, common_steps, later, get_or-drop, drop-drop)
 
 all_placed : (signals : List SignalContents) (t : ℕ)
     → AllPlaced signals (filter (λ p. differs_at t p.1) (enumerate_from 0 signals))
@@ -115,8 +114,7 @@ whole_walk signals end = grind (arith, walk_is)
 pub window_walked : (signals : List SignalContents) (end last next from count : ℕ) (ms : List Transition)
     → ms ≡ transitions_from signals from count → next ≡ last_tick last ms → from + count ≤ end + 1
     → flat_map item_line (walk signals end last (transitions_from signals from (end + 1 - from)))
-    ≡ flat_map item_line (transition_items signals last ms)
-    ++ flat_map item_line
+    ≡ flat_map item_line (transition_items signals last ms) ++ flat_map item_line
     (walk signals end next (transitions_from signals (from + count) (end + 1 - (from + count))))
 window_walked signals end last next from count ms all at within =
     let left = end + 1 - (from + count) in

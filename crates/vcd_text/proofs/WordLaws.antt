@@ -13,6 +13,7 @@ use Rattle.vcd_text.specs.inside.WordWalk.{feeds}
 use Rattle.vcd_text.specs.inside.Spaces.{begins_with_space}
 use Rattle.vcd_text.specs.Words.{line_after, ends_before, with_longer_first, with_byte, PlacedWord, word_on, words_from}
 use Rattle.std.proofs.lemmas.Bool.{and_parts, not-true}
+use Rattle.std.proofs.lemmas.Grind.{common_steps}
 
 -- a byte that is no white space is no line feed
 pub no_space_is_no_feed : (b : ℕ) → is_white_space b ≡ false → (b == 10) ≡ false
@@ -25,9 +26,7 @@ feeds_both xs ys = sum_by-append (λ b. cond (b == 10) 1 0) xs ys
 
 -- one line feed at the front, or none
 pub feed_first : (b : ℕ) (bs text : List ℕ) → text ≡ b ∷ bs → b ≡ 10 → feeds text ≡ 1 + feeds bs
-feed_first b bs text is feed =
-    let one : feeds (b ∷ []) ≡ 1 = ap (λ t. 0 + cond t 1 0) ((Decides-eqb b 10).1 feed) in
-    omega (arith, ap feeds is, feeds_both (b ∷ []) bs, one)
+feed_first b bs text is feed = grind (arith, common_steps, feeds_both)
 
 pub other_first : (b : ℕ) (bs text : List ℕ) → text ≡ b ∷ bs → (b == 10) ≡ false → feeds text ≡ feeds bs
 other_first b bs text is other = grind (arith, feeds_both)
@@ -71,8 +70,7 @@ word_whole whole line (b ∷ c ∷ w) rest some no_space ends =
 
 -- the same at a place in the text
 pub word_split : (whole : Bool) (line n : ℕ) (text : List ℕ) → 0 < length (take n text)
-    → list_all (λ b. not (is_white_space b)) (take n text) ≡ true
-    → ends_before whole (drop n text) ≡ true
+    → list_all (λ b. not (is_white_space b)) (take n text) ≡ true → ends_before whole (drop n text) ≡ true
     → words_from whole line text ≡ word_on (take n text) line ∷ words_from whole line (drop n text)
 word_split whole line n text some no_space ends =
     ap (words_from whole line) (sym (take-append-drop n text))
@@ -86,8 +84,7 @@ space_passed whole line b bs space = grind arith
 
 -- where a text has no word at its front, and no white space, it is at its end
 pub no_word : (whole : Bool) (line n : ℕ) (text : List ℕ) → length (take n text) ≡ 0 → begins_with_space text ≡ false
-    → ends_before true (drop n text) ≡ true
-    → (words_from whole line text ≡ []) × (drop n text ≡ [])
+    → ends_before true (drop n text) ≡ true → (words_from whole line text ≡ []) × (drop n text ≡ [])
 unfolding words_from
 no_word whole line n text h4 h5 h6 = grind arith
 

@@ -289,8 +289,7 @@ first_word : (c : ParseState) (word : List ℕ) → 0 < length word → WordOutc
 first_word c word some =
     elim (cases_Bool c.changing) [
       | inl changing ↦ change_begins c word changing some
-      | inr declares ↦
-          declaration_begins c word declares
+      | inr declares ↦ declaration_begins c word declares
     ]
 
 later_word : (c : ParseState) (begun : List (List ℕ)) (word : List ℕ) → IsUnfinished c begun → WordOutcome c begun word

@@ -44,10 +44,8 @@ pub front_begun : {W : Type 0} {t : W → Option (List ℕ)} {f : W → Bool} {s
 front_begun same = record { done = []; writes = writes_none; split = same }
 
 pub front_grows : {W : Type 0} {t : W → Option (List ℕ)} {f : W → Bool} {s0 s1 s2 : WriteBuffer × W}
-    {piece left whole : List ℕ}
-    (rest : List ℕ)
-    → WritesFront t f s0 s1 left whole → Emits t f s1 s2 piece → left ≡ piece ++ rest
-    → WritesFront t f s0 s2 rest whole
+    {piece left whole : List ℕ} (rest : List ℕ)
+    → WritesFront t f s0 s1 left whole → Emits t f s1 s2 piece → left ≡ piece ++ rest → WritesFront t f s0 s2 rest whole
 front_grows {piece = piece} {left = left} {whole = whole} rest front more is = record {
   done = front.done ++ piece;
   writes = writes_both front.writes more;
@@ -95,8 +93,7 @@ count_within n k few whole within fits counted = grind (arith, ltb-true, ltb-fal
 
 -- bytes are sent that are the rest of the text with the piece
 pub bytes_sent : {W : Type 0} (t : W → Option (List ℕ)) (f : W → Bool) (s0 s1 : WriteBuffer × W) (k : ℕ)
-    (piece bytes : List ℕ)
-    → ((text : List ℕ) → s0.0.sent ≤ length text → drop s0.0.sent text ≡ s0.0.waiting.items
+    (piece bytes : List ℕ) → ((text : List ℕ) → s0.0.sent ≤ length text → drop s0.0.sent text ≡ s0.0.waiting.items
     → drop s0.0.sent (text ++ piece) ≡ bytes)
     → Appends (t s0.1) (t s1.1) (take k bytes) → k ≤ length bytes → (f s1.1 ≡ false → k ≡ length bytes)
     → (f s0.1 ≡ true → k ≡ 0) → (f s0.1 ≡ true → f s1.1 ≡ true)
@@ -144,13 +141,11 @@ nothing_written o t f empty none = grind (arith, nothing_taken)
 
 -- the text since the buffer was empty
 pub whole_written : {W : Type 0} {t : W → Option (List ℕ)} {f : W → Bool} {s0 s1 : WriteBuffer × W} {whole : List ℕ}
-    → s0.0.waiting.items ≡ [] → s0.0.sent ≡ 0 → Emits t f s0 s1 whole
-    → HasEmitted (t s0.1) (t s1.1) (f s1.1) s1.0 whole
+    → s0.0.waiting.items ≡ [] → s0.0.sent ≡ 0 → Emits t f s0 s1 whole → HasEmitted (t s0.1) (t s1.1) (f s1.1) s1.0 whole
 whole_written {t = t} {f = f} {s0 = s0} empty none writes =
     writes.following (t s0.1) [] (nothing_written s0.0 (t s0.1) (f s0.1) empty none)
 
 -- the number of bytes of a text that was written to a writer that has not failed
 pub length_written : (before after : Option (List ℕ)) (failed : Bool) (o : WriteBuffer) (text : List ℕ) → failed ≡ false
-    → o.sent < 2 ^ 128 - 1 → HasEmitted before after failed o text
-    → length text ≡ o.sent + length o.waiting.items
+    → o.sent < 2 ^ 128 - 1 → HasEmitted before after failed o text → length text ≡ o.sent + length o.waiting.items
 length_written before after failed o text ready few stands = grind (arith, length-drop)

@@ -31,7 +31,7 @@ impl Reader {
         let Some(item) = opened_item(text) else {
             return Err(Fault::UnexpectedWord);
         };
-        if item == OpenItem::Upscope && self.scopes.is_at_top() {
+        if item == OpenItem::Upscope && self.scopes.depth == 0 {
             return Err(Fault::UpscopeAtTop);
         }
         self.item = item;

@@ -1,8 +1,7 @@
 //! Binary digits and their letters (IEEE 1364-2005, 18.2).
 
-ghost use Rattle.std.specs.Prelude.{◌≡◌, true, unwrap_or, Some};
+ghost use Rattle.std.specs.Prelude.{◌≡◌, true, Some};
 ghost use Rattle.std.specs.List.{list_all};
-ghost use Rattle.vcd_core.specs.declared.bit.Bit.TheVariants.{X};
 ghost use Rattle.vcd_text.specs.Letters.{letter_of_digit, is_binary_digit as digit_test, letters_of_digits, pad_letter};
 ghost use Rattle.vcd_text.specs.inside.LetterWords.{is_two_state};
 
@@ -57,17 +56,10 @@ pub fn pad_of(digits: &[u8]) -> Bit
 {
     match digits {
         [first, ..] if is_two_state(*first) => Bit::Zero,
-        [first, ..] => match bit_or_x(*first) {
+        [first, ..] => match letter_of_digit(*first).unwrap_or(Bit::X) {
             Bit::Zero | Bit::One => Bit::Zero,
             letter => letter,
         },
         [] => Bit::X,
     }
-}
-
-/// The letter of a byte, or x where it is no binary digit.
-fn bit_or_x(digit: u8) -> Bit
-    ensures { result ≡ unwrap_or (letter_of_digit digit) X }
-{
-    letter_of_digit(digit).unwrap_or(Bit::X)
 }

@@ -38,7 +38,7 @@ pub struct Scopes {
 }
 
 impl Scopes {
-    ghost use Rattle.std.specs.Prelude.{ℕ, List, ◌-◌, ◌==◌, ◌++◌, ◌∷◌, [], map, take, OnOk};
+    ghost use Rattle.std.specs.Prelude.{ℕ, List, ◌-◌, ◌++◌, ◌∷◌, [], map, take, OnOk};
     ghost use Rattle.vcd_core.specs.Contents.{signal_contents};
     ghost use Rattle.vcd_text.specs.Items.{variable};
     ghost use Rattle.vcd_text.specs.Grammar.{ParseState, kept_variables, state_after_item};
@@ -57,13 +57,6 @@ impl Scopes {
             reach: 0,
             places: Vec::new(alloc),
         }
-    }
-
-    /// Whether no scope is open.
-    pub fn is_at_top(&self) -> bool
-        ensures { result ≡ (self.now.depth == 0) }
-    {
-        self.depth == 0
     }
 
     /// Opens a scope in the innermost one. After a closed scope with a variable in it, it copies

@@ -40,7 +40,9 @@ pub fn write_transitions<W: Sink>(
             return;
         }
         let count = fill_window(window, signals, from, most.min(end - from + 1), end);
-        last = write_window(buffer, writer, signals, window, from, last);
+        let keys = window.keys.as_slice();
+        let first_tried = window.first_tried.as_mut_slice();
+        last = write_keys(buffer, writer, signals, keys, first_tried, from, last);
         most = next_most(count, window.keys.len(), window.keys.capacity());
         from += count;
     }
@@ -75,31 +77,6 @@ fn next_most(count: u64, used: usize, room: usize) -> u64
         return count.saturating_mul(2);
     }
     count
-}
-
-/// Writes the changes of a window in order, after the text up to tick `last`. Returns the last tick.
-fn write_window<W: Sink>(
-    buffer: &mut WriteBuffer,
-    writer: &mut W,
-    signals: &[Signal],
-    window: &mut Window,
-    from: u64,
-    last: u64,
-) -> u64
-    requires few { length signals.now ≤ SIGNAL_LIMIT }
-    requires keys { All (IsKey from (length signals.now)) window.old.keys.items }
-    requires first_tried { length window.old.first_tried.items ≡ length signals.now }
-    ensures text { Emits W.taken W.has_failed (buffer.old, writer.old) (buffer.new, writer.new)
-        (flat_map item_line (transition_items (map signal_contents signals.now) last
-        (transitions_of from window.old.keys.items))) }
-    ensures last { result ≡ last_tick last (transitions_of from window.old.keys.items) }
-    ensures keys { window.new.keys ≡ window.old.keys }
-    ensures next { window.new.next_changes ≡ window.old.next_changes }
-    ensures first_tried { length window.new.first_tried.items ≡ length signals.now }
-{
-    let keys = window.keys.as_slice();
-    let first_tried = window.first_tried.as_mut_slice();
-    write_keys(buffer, writer, signals, keys, first_tried, from, last)
 }
 
 /// Writes the changes of keys, after the text up to tick `last`. Returns the last tick. At

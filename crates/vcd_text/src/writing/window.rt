@@ -69,57 +69,19 @@ pub fn fill_window(window: &mut Window, signals: &[Signal], from: u64, most: u64
     ensures ready { IsReady end (from + result) signals.now window.new }
 {
     swap(&mut window.next_changes, &mut window.first_tried);
-    let count = list_some(
+    let mut count = most;
+    while !list_window(
         &mut window.keys,
         signals,
         window.first_tried.as_slice(),
         window.next_changes.as_mut_slice(),
-        from,
-        most,
-        end,
-    );
-    window.keys.sort_unstable();
-    count
-}
-
-/// Lists the keys of as many ticks as fit. Returns the number of these ticks.
-fn list_some(
-    keys: &mut Vec<u64>,
-    signals: &[Signal],
-    first_tried: &[NextChange],
-    next_changes: &mut [NextChange],
-    from: u64,
-    most: u64,
-    end: u64,
-) -> u64
-    requires few { length signals.now ≤ SIGNAL_LIMIT }
-    requires sound { All (IsSoundSignal end) (map signal_contents signals.now) }
-    requires from { 1 ≤ from }
-    requires room { length signals.now ≤ vec_capacity keys.old }
-    requires first_tried { AreNext from signals.now first_tried.now }
-    requires next { length next_changes.old ≡ length signals.now }
-    requires some { 1 ≤ most }
-    requires most { from + most ≤ END_LIMIT + 1 }
-    ensures some { 1 ≤ result }
-    ensures most { result ≤ most }
-    ensures all { transitions_of from keys.new.items
-        ≡ unsorted_window from (from + result) 0 (map signal_contents signals.now) }
-    ensures keys { All (IsKey from (length signals.now)) keys.new.items }
-    ensures next { AreNext (from + result) signals.now next_changes.new }
-    ensures room { vec_capacity keys.old ≤ vec_capacity keys.new }
-{
-    let mut count = most;
-    while !list_window(
-        keys,
-        signals,
-        first_tried,
-        next_changes,
         from,
         from + count,
         end,
     ) {
         count /= 2;
     }
+    window.keys.sort_unstable();
     count
 }
 

@@ -48,5 +48,4 @@ returns-clause-failed g c =
     let (bytes, consumes, taken) =
     c.in_ok-take_chunk.ensures.taken (g.R.Source.coming c.args.reader.now) c.loop-progress.invariant.0 in
     IfErr-weaker c.finish.result _ (λ (e : ReadError). e.fault ≡ faults.ReadFault
-    → failed ≡ true) (λ e fault is. absurd (is_no_file_failure bytes e (fault bytes taken) is))
-    c.finish.ensures.fault
+    → failed ≡ true) (λ e fault is. absurd (is_no_file_failure bytes e (fault bytes taken) is)) c.finish.ensures.fault

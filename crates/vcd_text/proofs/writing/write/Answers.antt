@@ -24,8 +24,7 @@ all_written : {W : Type 0} {t : W → Option (List ℕ)} {f : W → Bool} {s0 s1
     → s0.0.waiting.items ≡ [] → s0.0.sent ≡ 0 → Emits t f s0 s1 (declarations_text c)
     → Emits t f s1 s2 (flat_map item_line (first_items (map signal_contents signals)))
     → Emits t f s2 s3 (flat_map item_line (tick_items (map signal_contents signals) 1 end
-    ++ end_items (map signal_contents signals) end))
-    → HasEmitted (t s0.1) (t s3.1) (f s3.1) s3.0 (text c)
+    ++ end_items (map signal_contents signals) end)) → HasEmitted (t s0.1) (t s3.1) (f s3.1) s3.0 (text c)
 all_written c signals end same at empty none declarations first later =
     whole_written empty none
     (writes_as (ap (λ ss. declarations_text c ++ (flat_map item_line (first_items ss)

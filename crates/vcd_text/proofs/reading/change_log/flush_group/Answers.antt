@@ -38,8 +38,7 @@ loop-change-preserved c =
             (sym more) (more_left e left (after position) position some))
             (subst (λ (es : List LoggedChange). FlushesLog now new (λ position. changes_of_position position es
             ++ after position) (λ position. changes_of_position position left ++ after position)) (sym more)
-            (flushes_one e left after now new takes))
-            can,
+            (flushes_one e left after now new takes)) can,
       ),
       λ rest.
           flushes_then c.args.kept.now.items now new (λ position. changes_of_position position group ++ rest position)

@@ -12,8 +12,7 @@ use Rattle.vcd_text.proofs.reading.chunks.read_words.Goals as goal
 
 -- the words so far, this word and those taken with it, and the words left
 in_turn : (all came words following left : List PlacedWord) (first : PlacedWord) (rest : List PlacedWord)
-    → all ≡ came ++ words → words ≡ first ∷ rest → rest ≡ following ++ left
-    → all ≡ came ++ (first ∷ following) ++ left
+    → all ≡ came ++ words → words ≡ first ∷ rest → rest ≡ following ++ left → all ≡ came ++ (first ∷ following) ++ left
 in_turn all came words following left first rest parts next taken = grind (arith, append_assoc)
 
 pub loop-first-init : goal.loop-first-init

@@ -15,8 +15,7 @@ use Rattle.vcd_text.proofs.reading.digit_words.word_of_digits.Goals as goal
 
 -- the digits of one of the eights
 eight_digits : (digits : List ℕ) (eights : List (List ℕ)) (i : ℕ) → eights ≡ first_chunks 8 (length digits / 8) digits
-    → i < length digits / 8
-    → get_or eights i [] ≡ take 8 (drop (8 * i) digits)
+    → i < length digits / 8 → get_or eights i [] ≡ take 8 (drop (8 * i) digits)
 eight_digits digits eights i front within = ap (λ l. get_or l i []) front ∙ eight_at (length digits / 8) i digits within
 
 pub returns-in_err-word : goal.returns-in_err-word
@@ -49,11 +48,9 @@ loop-eight-preserved c =
 
 -- the letters of the eights, and of the rest after them
 of_the_rest : (pad : Bit) (digits : List ℕ) (n : ℕ) (old : LetterWord) (o : Option LetterWord)
-    → list_all is_binary_digit (take n digits) ≡ true
-    → HoldsLetters pad (letters_of_digits (take n digits)) 0 old
+    → list_all is_binary_digit (take n digits) ≡ true → HoldsLetters pad (letters_of_digits (take n digits)) 0 old
     → MatchOption o (list_all is_binary_digit (drop n digits) ≡ false)
-    (λ w. (list_all is_binary_digit (drop n digits) ≡ true)
-    × AddsLetters (letters_of_digits (drop n digits)) old w)
+    (λ w. (list_all is_binary_digit (drop n digits) ≡ true) × AddsLetters (letters_of_digits (drop n digits)) old w)
     → MatchOption o (list_all is_binary_digit digits ≡ false) (λ w. (list_all is_binary_digit digits ≡ true)
     × HoldsLetters pad (letters_of_digits digits) 0 w)
 of_the_rest pad digits n old None letters holds none = not_all_after n digits none
@@ -72,5 +69,4 @@ returns c =
     c.loop-eight.invariant.holds
     (subst (λ l. MatchOption c.with_digits.result (list_all is_binary_digit l ≡ false)
     (λ w. (list_all is_binary_digit l ≡ true)
-    × AddsLetters (letters_of_digits l) c.loop-eight.word w)) back
-    c.with_digits.ensures)
+    × AddsLetters (letters_of_digits l) c.loop-eight.word w)) back c.with_digits.ensures)

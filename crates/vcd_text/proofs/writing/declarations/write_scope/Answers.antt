@@ -11,5 +11,4 @@ returns g c =
     writes_line (codes "$scope") (name.kind ∷ name.words) c.write_piece.ensures.written
     (writes_words (name.kind ∷ []) name.words
     (writes_as (ap (λ l. spaced_words (l ∷ [])) c.as_slice.ensures) c.write_word.ensures)
-    (writes_as (ap spaced_words c.as_slice-2.ensures) c.write_words.ensures))
-    c.write_end.ensures
+    (writes_as (ap spaced_words c.as_slice-2.ensures) c.write_words.ensures)) c.write_end.ensures

@@ -22,5 +22,4 @@ returns g c =
     writes_line (codes "$var") (signal.kind ∷ width ∷ code ∷ signal.words) c.write_piece.ensures.written
     (writes_words (signal.kind ∷ width ∷ code ∷ []) signal.words
     (writes_words (signal.kind ∷ width ∷ []) (code ∷ [])
-    (writes_words (signal.kind ∷ []) (width ∷ []) kind size) place) words)
-    c.write_end.ensures
+    (writes_words (signal.kind ∷ []) (width ∷ []) kind size) place) words) c.write_end.ensures

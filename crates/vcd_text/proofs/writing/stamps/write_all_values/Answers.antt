@@ -19,12 +19,7 @@ constant_piece : (k : ℕ) (signals : List Signal) (s : Signal) → k < length s
 constant_piece k signals s within at = grind (arith, drop_more)
 
 pub loop-position-preserved : goal.loop-position-preserved
-loop-position-preserved g c =
-    front_grows _ c.loop-position.invariant c.write_value_near.ensures
-    (constant_piece c.loop-position.position c.args.signals.now c.index-signals-position.result (omega arith)
-    c.index-signals-position.is)
+loop-position-preserved g c = grind (arith, front_grows, constant_piece)
 
 pub returns : goal.returns
-returns g c =
-    front_whole c.loop-position.invariant
-    (ap (values_from c.loop-position.position) (drop_all c.loop-position.position c.args.signals.now (omega arith)))
+returns g c = grind (arith, front_whole, drop_all)

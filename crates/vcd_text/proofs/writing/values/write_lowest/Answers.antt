@@ -10,18 +10,7 @@ pub loop-left-init : goal.loop-left-init
 loop-left-init g c = record { front = front_begun refl; within = c.requires }
 
 pub loop-left-preserved : goal.loop-left-preserved
-loop-left-preserved g c =
-    let v = c.args.value.now in
-    let left = c.loop-left.left in
-    let from : ℕ = 64 * ((left - 1) / 64) in
-    record {
-      front = front_grows (printed_letters (lowest from v)) c.loop-left.invariant.front c.write_letters.ensures
-          (word_and_rest v left from _ (omega arith) (omega arith) c.loop-left.invariant.within c.word.ensures);
-      within = omega (arith, c.loop-left.invariant.within);
-    }
+loop-left-preserved g c = grind (arith, front_grows, lowest, word_and_rest)
 
 pub returns : goal.returns
-returns g c =
-    let v = c.args.value.now in
-    front_whole c.loop-left.invariant.front
-    (ap printed_letters (drop_all (length v - c.loop-left.left) v (omega (arith, c.loop-left-test.false))))
+returns g c = grind (arith, front_whole, drop_all)

@@ -9,8 +9,7 @@ abbrev pub invariant-loop-next : goal.invariant-loop-next
 invariant-loop-next l =
     record {
       next : IsNext l.from l.to l.changes l.next;
-      all : transitions_of l.from l.keys.items
-          ++ window_of_signal l.from l.to l.position (drop l.next.place l.changes)
+      all : transitions_of l.from l.keys.items ++ window_of_signal l.from l.to l.position (drop l.next.place l.changes)
           ≡ transitions_of l.from l.initial.keys.items ++ window_of_signal l.from l.to l.position l.changes;
       keys : (count : ℕ) → l.position < count → All (IsKey l.from count) l.initial.keys.items
           → All (IsKey l.from count) l.keys.items;

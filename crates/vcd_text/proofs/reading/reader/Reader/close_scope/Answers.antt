@@ -15,8 +15,7 @@ returns c =
     closes_scope m (record m {
       scopes = c.enter.new.self;
       words = c.words_out_of-words.new.words;
-      item =
-          items.Nothing;
+      item = items.Nothing;
     })
     (record { kind = c.remove-kind.result; words = c.words_out_of-words.result }) c.requires front c.in_ok-enter.ensures
     refl

@@ -6,5 +6,4 @@ use Rattle.vcd_text.proofs.reading.reader.Reader.close_upscope.Goals as goal
 pub returns : goal.returns
 returns c =
     let m = c.args.self.now in
-    closes_upscope m (record m { scopes = c.leave.new.self; item = items.Nothing }) c.requires
-    c.leave.ensures refl
+    closes_upscope m (record m { scopes = c.leave.new.self; item = items.Nothing }) c.requires c.leave.ensures refl

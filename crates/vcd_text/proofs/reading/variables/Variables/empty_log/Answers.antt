@@ -17,5 +17,4 @@ returns-clause-same c =
     flushed_match c.args.self.now c.flush_log.new.kept c.replace-groups.new.dest told k
     (ap (λ (gs : Vec (Vec LoggedChange)). gs.items) c.replace-groups.ensures.after ∙ c.new.ensures.items)
     (subst (λ (gs : Vec (Vec LoggedChange)). FlushesLog c.args.self.now.kept.items c.flush_log.new.kept.items
-    (logged gs.items) (λ _. [])) c.replace-groups.ensures.value d))
-    c.flush_log.ensures
+    (logged gs.items) (λ _. [])) c.replace-groups.ensures.value d)) c.flush_log.ensures

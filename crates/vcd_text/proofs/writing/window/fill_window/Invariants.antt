@@ -1,0 +1,16 @@
+-- Some ticks are left, there is as much room as before, and the same changes are tried.
+use Rattle.std.proofs.Common.{◌≡◌, ◌≤◌, length, vec_capacity}
+use Rattle.vcd_text.proofs.writing.window.fill_window.Given as goal
+
+abbrev pub invariant-loop-count : goal.invariant-loop-count
+invariant-loop-count l =
+    record {
+      next : length l.window.next_changes.items ≡ length l.signals;
+      tried : l.window.first_tried ≡ l.initial.window.first_tried;
+      some : 1 ≤ l.count;
+      most : l.count ≤ l.most;
+      room : vec_capacity l.initial.window.keys ≤ vec_capacity l.window.keys;
+    }
+
+abbrev pub decreases-loop-count : goal.decreases-loop-count
+decreases-loop-count l = l.count
