@@ -16,21 +16,22 @@ use Rattle.vcd_decode.specs.declared.i2c_bus.events.BusEvent.{BusEvent}
 use Rattle.vcd_decode.specs.declared.i2c_bus.events.BusEvent.TheVariants as events
 use Rattle.vcd_decode.specs.declared.i2c_bus.bytes.ByteRole.{ByteRole}
 use Rattle.vcd_decode.specs.declared.i2c_bus.bytes.ByteRole.TheVariants as roles
-use Rattle.vcd_decode.specs.declared.i2c_bus.bytes.PartByte.{PartByte}
+use Rattle.vcd_decode.specs.declared.i2c_bus.bytes.PartialByte.{PartialByte}
 use Rattle.vcd_decode.specs.declared.i2c_bus.transfer.Transfer.{Transfer}
 use Rattle.vcd_decode.specs.Lines.{annotation}
 use Rattle.vcd_decode.specs.BusBytes.{number_with, number_of_bits, byte_kind, role_after, acknowledge_kind}
 use Rattle.vcd_decode.specs.BusBytes.{ten_bit_address}
 use Rattle.vcd_decode.specs.I2c.{bits_annotation, byte_annotations, rest_annotations, nines_annotations, bits_until}
-use Rattle.vcd_decode.specs.I2c.{has_condition, shown_address, events_annotations}
-use Rattle.vcd_decode.specs.inside.BusWalk.{no_bits, part_with, part_of, left_annotations, whole_annotations}
+use Rattle.vcd_decode.specs.I2c.{has_condition, shown_address, annotations_of_events}
+use Rattle.vcd_decode.specs.inside.BusWalk.{no_bits, partial_byte_with, partial_byte_of, transfer_rest_annotations}
+use Rattle.vcd_decode.specs.inside.BusWalk.{whole_byte_annotations}
 use Rattle.vcd_decode.specs.inside.BusWalk.{transfer_after_byte, event_annotations, bus_after, walk_annotations}
 use Rattle.vcd_decode.specs.Groups.{groups_of}
 use Rattle.vcd_decode.proofs.Groups.{groups_none, groups_short, groups_whole}
-use Rattle.vcd_decode.proofs.PartBytes.{part_count, part_first, part_last, part_number}
+use Rattle.vcd_decode.proofs.PartialBytes.{part_count, part_first, part_last, part_number}
 
 -- a transfer of these parts
-abbrev pub transfer_of : ByteRole → PartByte → Option ℕ → Transfer
+abbrev pub transfer_of : ByteRole → PartialByte → Option ℕ → Transfer
 transfer_of role part given = record { role = role; part = part; address = given }
 
 test_other : (m n : ℕ) → m ≢ n → (m == n) ≡ false
@@ -53,7 +54,7 @@ rest_alone ended role (b ∷ g) few =
 
 -- the annotations of these bits where a condition comes
 left_is : (role : ByteRole) (g : List BusBit) (given : Option ℕ)
-    → left_annotations (Some (transfer_of role (part_of g) given)) ≡ rest_annotations true g
+    → transfer_rest_annotations (Some (transfer_of role (partial_byte_of g) given)) ≡ rest_annotations true g
 left_is role [] given = refl
 left_is role (b ∷ g) given =
     let count = part_count (b ∷ g) in
@@ -74,7 +75,7 @@ none_given g = choose (nat_le 2 (length g))
 
 -- eight current bits and the ninth
 whole_is : (role : ByteRole) (g : List BusBit) (given : Option ℕ) (b : BusBit) → length g ≡ 8
-    → byte_annotations role (g ++ b ∷ []) ≡ whole_annotations (transfer_of role (part_of g) given) b
+    → byte_annotations role (g ++ b ∷ []) ≡ whole_byte_annotations (transfer_of role (partial_byte_of g) given) b
 whole_is role [] given b eight = absurd (omega arith)
 whole_is role (a ∷ g) given b eight =
     let front = take_at (a ∷ g) (b ∷ []) 8 eight in
@@ -102,7 +103,7 @@ or_none (Some x) = refl
 
 -- the address that the whole bits show, with the one that came before
 given_past : (t : Transfer) (b : BusBit) (others : List Annotation)
-    → option_or t.address (shown_address (whole_annotations t b ++ others))
+    → option_or t.address (shown_address (whole_byte_annotations t b ++ others))
     ≡ option_or (transfer_after_byte t).address (shown_address others)
 unfolding shown_address
 given_past t b others =
@@ -118,13 +119,14 @@ stretch es role g = nines_annotations (has_condition es) role (groups_of 9 (g ++
 -- a full nine and the bits after it
 stretch_past : (es : List BusEvent) (role : ByteRole) (g : List BusBit) (given : Option ℕ) (b : BusBit) → length g ≡ 8
     → nines_annotations (has_condition es) role (groups_of 9 (g ++ b ∷ bits_until es))
-    ≡ whole_annotations (transfer_of role (part_of g) given) b ++ stretch es (role_after role (part_of g).number) []
+    ≡ whole_byte_annotations (transfer_of role (partial_byte_of g) given) b
+    ++ stretch es (role_after role (partial_byte_of g).number) []
 unfolding nines_annotations
 stretch_past es role g given b eight =
     let nine : length (g ++ b ∷ []) ≡ 9 = length_push g b ∙ omega arith in
     let full : (length (g ++ b ∷ []) == 9) ≡ true = (Decides-eqb (length (g ++ b ∷ [])) 9).1 nine in
     let front = take_at g (b ∷ []) 8 eight in
-    let number : number_of_bits (take 8 (g ++ b ∷ [])) ≡ (part_of g).number = ap number_of_bits front
+    let number : number_of_bits (take 8 (g ++ b ∷ [])) ≡ (partial_byte_of g).number = ap number_of_bits front
     ∙ sym (part_number g) in
     let annotations = whole_is role g given b eight in
     ap (λ (bs : List BusBit). nines_annotations (has_condition es) role (groups_of 9 bs))
@@ -136,17 +138,17 @@ stretch_past es role g given b eight =
 -- ---- all events
 
 abbrev WalksFree : List BusEvent → Type 0
-WalksFree es = walk_annotations None es ≡ events_annotations None es
+WalksFree es = walk_annotations None es ≡ annotations_of_events None es
 
 abbrev WalksTransfer : List BusEvent → Type 0
 WalksTransfer es = (role : ByteRole) (g : List BusBit) (given : Option ℕ) → length g ≤ 8
-    → walk_annotations (Some (transfer_of role (part_of g) given)) es ≡ stretch es role g
-    ++ events_annotations (Some (option_or given (shown_address (stretch es role g)))) es
+    → walk_annotations (Some (transfer_of role (partial_byte_of g) given)) es ≡ stretch es role g
+    ++ annotations_of_events (Some (option_or given (shown_address (stretch es role g)))) es
 
 -- at a condition the current bits are a rest
 at_condition : (c : BusEvent) (es : List BusEvent) (role : ByteRole) (g : List BusBit) (given : Option ℕ) → length g ≤ 8
     → bits_until (c ∷ es) ≡ [] → has_condition (c ∷ es) ≡ true
-    → (left_annotations (Some (transfer_of role (part_of g) given)) ≡ stretch (c ∷ es) role g)
+    → (transfer_rest_annotations (Some (transfer_of role (partial_byte_of g) given)) ≡ stretch (c ∷ es) role g)
     × (option_or given (shown_address (stretch (c ∷ es) role g)) ≡ given)
 at_condition c es role g given few none ended =
     let all : stretch (c ∷ es) role g ≡ rest_annotations true g =
@@ -160,111 +162,115 @@ at_condition c es role g given few none ended =
 
 -- a bit that ends a byte, and one that does not
 bit_whole : (t : Transfer) (b : BusBit) (es : List BusEvent) → (t.part.count == 8) ≡ true
-    → walk_annotations (Some t) (events.Bit b ∷ es) ≡ whole_annotations t b
+    → walk_annotations (Some t) (events.Bit b ∷ es) ≡ whole_byte_annotations t b
     ++ walk_annotations (Some (transfer_after_byte t)) es
 unfolding walk_annotations
 bit_whole t b es is =
-    λ i. (if is i then whole_annotations t b else [])
-    ++ walk_annotations (Some (if is i then transfer_after_byte t else record t { part = part_with t.part b })) es
+    λ i. (if is i then whole_byte_annotations t b else [])
+    ++ walk_annotations (Some
+    (if is i then transfer_after_byte t else record t { part = partial_byte_with t.part b })) es
 
 bit_more : (t : Transfer) (b : BusBit) (es : List BusEvent) → (t.part.count == 8) ≡ false
-    → walk_annotations (Some t) (events.Bit b ∷ es) ≡ walk_annotations (Some (record t { part = part_with t.part b }))
+    → walk_annotations (Some t) (events.Bit b ∷ es)
+    ≡ walk_annotations (Some (record t { part = partial_byte_with t.part b }))
     es
 unfolding walk_annotations
-bit_more t b es is = λ i. (if is i then whole_annotations t b else [])
-    ++ walk_annotations (Some (if is i then transfer_after_byte t else record t { part = part_with t.part b })) es
+bit_more t b es is = λ i. (if is i then whole_byte_annotations t b else [])
+    ++ walk_annotations (Some
+    (if is i then transfer_after_byte t else record t { part = partial_byte_with t.part b })) es
 
 held_byte : (b : BusBit) (es : List BusEvent) (role : ByteRole) (g : List BusBit) (given : Option ℕ) → WalksTransfer es
     → length g ≡ 8
-    → walk_annotations (Some (transfer_of role (part_of g) given)) (events.Bit b ∷ es)
+    → walk_annotations (Some (transfer_of role (partial_byte_of g) given)) (events.Bit b ∷ es)
     ≡ stretch (events.Bit b ∷ es) role g
-    ++ events_annotations (Some (option_or given (shown_address (stretch (events.Bit b ∷ es) role g))))
+    ++ annotations_of_events (Some (option_or given (shown_address (stretch (events.Bit b ∷ es) role g))))
     (events.Bit b ∷ es)
-unfolding bits_until has_condition events_annotations
+unfolding bits_until has_condition annotations_of_events
 held_byte b es role g given later eight =
-    let t : Transfer = transfer_of role (part_of g) given in
+    let t : Transfer = transfer_of role (partial_byte_of g) given in
     let count : (t.part.count == 8) ≡ true = (Decides-eqb t.part.count 8).1 (part_count g ∙ eight) in
-    let whole : List Annotation = whole_annotations t b in
-    let next : ByteRole = role_after role (part_of g).number in
+    let whole : List Annotation = whole_byte_annotations t b in
+    let next : ByteRole = role_after role (partial_byte_of g).number in
     let rest : List Annotation = stretch es next [] in
     let given_then : Option ℕ = (transfer_after_byte t).address in
     let past = stretch_past es role g given b eight in
     bit_whole t b es count
     ∙ ap (λ (annotations : List Annotation). whole ++ annotations) (later next [] given_then (omega arith))
-    ∙ sym (append_assoc whole rest (events_annotations (Some (option_or given_then (shown_address rest))) es))
-    ∙ ap (λ (o : Option ℕ). (whole ++ rest) ++ events_annotations (Some o) es) (sym (given_past t b rest))
-    ∙ sym (λ i. past i ++ events_annotations (Some (option_or given (shown_address (past i)))) es)
+    ∙ sym (append_assoc whole rest (annotations_of_events (Some (option_or given_then (shown_address rest))) es))
+    ∙ ap (λ (o : Option ℕ). (whole ++ rest) ++ annotations_of_events (Some o) es) (sym (given_past t b rest))
+    ∙ sym (λ i. past i ++ annotations_of_events (Some (option_or given (shown_address (past i)))) es)
 
 held_bit : (b : BusBit) (es : List BusEvent) (role : ByteRole) (g : List BusBit) (given : Option ℕ) → WalksTransfer es
     → length g < 8
-    → walk_annotations (Some (transfer_of role (part_of g) given)) (events.Bit b ∷ es)
+    → walk_annotations (Some (transfer_of role (partial_byte_of g) given)) (events.Bit b ∷ es)
     ≡ stretch (events.Bit b ∷ es) role g
-    ++ events_annotations (Some (option_or given (shown_address (stretch (events.Bit b ∷ es) role g))))
+    ++ annotations_of_events (Some (option_or given (shown_address (stretch (events.Bit b ∷ es) role g))))
     (events.Bit b ∷ es)
-unfolding bits_until has_condition events_annotations
+unfolding bits_until has_condition annotations_of_events
 held_bit b es role g given later few =
-    let t : Transfer = transfer_of role (part_of g) given in
+    let t : Transfer = transfer_of role (partial_byte_of g) given in
     let count : (t.part.count == 8) ≡ false = test_other t.part.count 8 (λ eight. omega (arith, part_count g)) in
-    let more : part_with (part_of g) b ≡ part_of (g ++ b ∷ []) = sym (fold-append part_with no_bits g (b ∷ [])) in
+    let more : partial_byte_with (partial_byte_of g) b
+    ≡ partial_byte_of (g ++ b ∷ []) = sym (fold-append partial_byte_with no_bits g (b ∷ [])) in
     let longer = append_assoc g (b ∷ []) (bits_until es) in
     bit_more t b es count
-    ∙ ap (λ (p : PartByte). walk_annotations (Some (transfer_of role p given)) es) more
+    ∙ ap (λ (p : PartialByte). walk_annotations (Some (transfer_of role p given)) es) more
     ∙ later role (g ++ b ∷ []) given (omega (arith, length_push g b))
     ∙ (λ i. nines_annotations (has_condition es) role (groups_of 9 (longer i))
-    ++ events_annotations
+    ++ annotations_of_events
     (Some (option_or given (shown_address (nines_annotations (has_condition es) role (groups_of 9 (longer i))))))
     es)
 
 held_start : (t : ℕ) (es : List BusEvent) (role : ByteRole) (g : List BusBit) (given : Option ℕ) → WalksTransfer es
     → length g ≤ 8
-    → walk_annotations (Some (transfer_of role (part_of g) given)) (events.Start t ∷ es)
+    → walk_annotations (Some (transfer_of role (partial_byte_of g) given)) (events.Start t ∷ es)
     ≡ stretch (events.Start t ∷ es) role g
-    ++ events_annotations (Some (option_or given (shown_address (stretch (events.Start t ∷ es) role g))))
+    ++ annotations_of_events (Some (option_or given (shown_address (stretch (events.Start t ∷ es) role g))))
     (events.Start t ∷ es)
-unfolding walk_annotations bits_until has_condition events_annotations
+unfolding walk_annotations bits_until has_condition annotations_of_events
 held_start t es role g given later few =
     let here = at_condition (events.Start t) es role g given few refl refl in
-    let rest : List Annotation = left_annotations (Some (transfer_of role (part_of g) given)) in
+    let rest : List Annotation = transfer_rest_annotations (Some (transfer_of role (partial_byte_of g) given)) in
     let shown : List Annotation = stretch es (roles.Address given) [] in
-    let others : List Annotation = shown ++ events_annotations (Some (shown_address shown)) es in
+    let others : List Annotation = shown ++ annotations_of_events (Some (shown_address shown)) es in
     let start : List Annotation = annotation t t kinds.RepeatedStart ∷ [] in
     let old = sym here.1 in
     ap (λ (annotations : List Annotation). (rest ++ start) ++ annotations)
     (later (roles.Address given) [] None (omega arith))
     ∙ append_assoc rest start others
-    ∙ (λ i. here.0 i ++ events_annotations (Some (old i)) (events.Start t ∷ es))
+    ∙ (λ i. here.0 i ++ annotations_of_events (Some (old i)) (events.Start t ∷ es))
 
 held_stop : (t : ℕ) (es : List BusEvent) (role : ByteRole) (g : List BusBit) (given : Option ℕ) → WalksFree es
     → length g ≤ 8
-    → walk_annotations (Some (transfer_of role (part_of g) given)) (events.Stop t ∷ es)
+    → walk_annotations (Some (transfer_of role (partial_byte_of g) given)) (events.Stop t ∷ es)
     ≡ stretch (events.Stop t ∷ es) role g
-    ++ events_annotations (Some (option_or given (shown_address (stretch (events.Stop t ∷ es) role g))))
+    ++ annotations_of_events (Some (option_or given (shown_address (stretch (events.Stop t ∷ es) role g))))
     (events.Stop t ∷ es)
-unfolding walk_annotations bits_until has_condition events_annotations
+unfolding walk_annotations bits_until has_condition annotations_of_events
 held_stop t es role g given later few =
     let here = at_condition (events.Stop t) es role g given few refl refl in
-    let rest : List Annotation = left_annotations (Some (transfer_of role (part_of g) given)) in
+    let rest : List Annotation = transfer_rest_annotations (Some (transfer_of role (partial_byte_of g) given)) in
     let stop : List Annotation = annotation t t kinds.Stop ∷ [] in
     let old = sym here.1 in
     ap (λ (annotations : List Annotation). (rest ++ stop) ++ annotations) later
-    ∙ append_assoc rest stop (events_annotations None es)
-    ∙ (λ i. here.0 i ++ events_annotations (Some (old i)) (events.Stop t ∷ es))
+    ∙ append_assoc rest stop (annotations_of_events None es)
+    ∙ (λ i. here.0 i ++ annotations_of_events (Some (old i)) (events.Stop t ∷ es))
 
 held_none : WalksTransfer []
-unfolding walk_annotations bits_until has_condition events_annotations
+unfolding walk_annotations bits_until has_condition annotations_of_events
 held_none role g given few =
     sym (append-nil (stretch [] role g)
     ∙ ap (λ (bs : List BusBit). nines_annotations false role (groups_of 9 bs)) (append-nil g)
     ∙ rest_alone false role g few)
 
 held_start_free : (t : ℕ) (es : List BusEvent) → WalksTransfer es → WalksFree (events.Start t ∷ es)
-unfolding walk_annotations events_annotations
+unfolding walk_annotations annotations_of_events
 held_start_free t es later =
     ap (λ (annotations : List Annotation). annotation t t kinds.Start ∷ annotations)
     (later (roles.Address None) [] None (omega arith))
 
 walked : (es : List BusEvent) → WalksFree es × WalksTransfer es
-unfolding walk_annotations events_annotations
+unfolding walk_annotations annotations_of_events
 walked [] = (refl, held_none)
 walked (events.Bit b ∷ es) =
     let later = walked es in (
@@ -284,7 +290,7 @@ walked (events.Stop t ∷ es) =
     )
 
 -- events taken one at a time, from a free bus on
-pub walk_is : (es : List BusEvent) → walk_annotations None es ≡ events_annotations None es
+pub walk_is : (es : List BusEvent) → walk_annotations None es ≡ annotations_of_events None es
 walk_is es = (walked es).0
 
 -- the annotations of an event, and then those after it

@@ -17,7 +17,7 @@ use Rattle.vcd_decode.specs.WaveLines.{line_of}
 use Rattle.vcd_decode.specs.Groups.{groups_of}
 use Rattle.vcd_decode.specs.BusEvents.{bus_events}
 use Rattle.vcd_decode.specs.I2c.{i2c_annotations, nines_annotations, bits_until, has_condition, shown_address}
-use Rattle.vcd_decode.specs.I2c.{events_annotations}
+use Rattle.vcd_decode.specs.I2c.{annotations_of_events}
 
 abbrev at : ℕ → Kind → Annotation
 at tick kind = annotation tick tick kind
@@ -51,26 +51,26 @@ annotations scl sda end =
 -- an address and its acknowledge; one bit follows them, the rise of SCL before STOP
 address_of_seven_bits : annotations (clock 9) (turns One Zero (0 ∷ 10 ∷ 17 ∷ 27 ∷ 37 ∷ 47 ∷ 115 ∷ [])) 120
     ≡ at 10 Start ∷ annotation 20 90 (Address 80 Write) ∷ at 100 Ack ∷ at 115 Stop ∷ []
-unfolding value_from bus_events groups_of nines_annotations bits_until has_condition shown_address events_annotations
+unfolding value_from bus_events groups_of nines_annotations bits_until has_condition shown_address annotations_of_events
 address_of_seven_bits = refl
 
 -- a line that nothing drives is high
 z_is_high : annotations (clock 9) (turns Z Zero (0 ∷ 10 ∷ 17 ∷ 27 ∷ 37 ∷ 47 ∷ 115 ∷ [])) 120
     ≡ at 10 Start ∷ annotation 20 90 (Address 80 Write) ∷ at 100 Ack ∷ at 115 Stop ∷ []
-unfolding value_from bus_events groups_of nines_annotations bits_until has_condition shown_address events_annotations
+unfolding value_from bus_events groups_of nines_annotations bits_until has_condition shown_address annotations_of_events
 z_is_high = refl
 
 -- a bit that is x
 unknown_byte : annotations (clock 9) (turns One Zero (0 ∷ 10 ∷ 17 ∷ 27 ∷ 37 ∷ 47 ∷ [])
     ++ from 50 X ∷ from 51 Zero ∷ from 115 One ∷ []) 120
     ≡ at 10 Start ∷ annotation 20 90 Unknown ∷ at 100 Ack ∷ at 115 Stop ∷ []
-unfolding value_from bus_events groups_of nines_annotations bits_until has_condition shown_address events_annotations
+unfolding value_from bus_events groups_of nines_annotations bits_until has_condition shown_address annotations_of_events
 unknown_byte = refl
 
 -- three bits before STOP, including the rise of SCL before it
 partial_byte : annotations (clock 2) (turns One Zero (0 ∷ 10 ∷ 45 ∷ [])) 50
     ≡ at 10 Start ∷ annotation 20 40 (PartialOf 3) ∷ at 45 Stop ∷ []
-unfolding value_from bus_events groups_of nines_annotations bits_until has_condition shown_address events_annotations
+unfolding value_from bus_events groups_of nines_annotations bits_until has_condition shown_address annotations_of_events
 partial_byte = refl
 
 -- a byte is read after a repeated START
@@ -80,7 +80,7 @@ repeated_start : annotations (clock 28)
     ≡ at 10 Start ∷ annotation 20 90 (Address 80 Write) ∷ at 100 Ack ∷ at 113 RepeatedStart
     ∷ annotation 120 190 (Address 80 Read) ∷ at 200 Ack
     ∷ annotation 210 280 (Data 15) ∷ at 290 Nack ∷ at 303 Stop ∷ []
-unfolding value_from bus_events groups_of nines_annotations bits_until has_condition shown_address events_annotations
+unfolding value_from bus_events groups_of nines_annotations bits_until has_condition shown_address annotations_of_events
 repeated_start = refl
 
 -- an address of ten bits is written, and read again
@@ -91,7 +91,7 @@ ten_bits : annotations (clock 37)
     ∷ at 190 Ack ∷ at 203 RepeatedStart
     ∷ annotation 210 280 (TenBitAddress 677 Read) ∷ at 290 Ack ∷ annotation 300 370 (Data 15) ∷ at 380 Nack
     ∷ at 393 Stop ∷ []
-unfolding value_from bus_events groups_of nines_annotations bits_until has_condition shown_address events_annotations
+unfolding value_from bus_events groups_of nines_annotations bits_until has_condition shown_address annotations_of_events
 ten_bits = refl
 
 -- the same where the write is cut away
@@ -99,11 +99,11 @@ ten_bits_without_write : annotations (beats 0 19)
     (turns One Zero (0 ∷ 3 ∷ 7 ∷ 47 ∷ 57 ∷ 67 ∷ 77 ∷ 87 ∷ 137 ∷ 187 ∷ 193 ∷ [])) 200
     ≡ at 3 Start ∷ annotation 10 80 (AddressHigh 2 Read) ∷ at 90 Ack ∷ annotation 100 170 (Data 15) ∷ at 180 Nack
     ∷ at 193 Stop ∷ []
-unfolding value_from bus_events groups_of nines_annotations bits_until has_condition shown_address events_annotations
+unfolding value_from bus_events groups_of nines_annotations bits_until has_condition shown_address annotations_of_events
 ten_bits_without_write = refl
 
 no_changes : annotations [] [] 9 ≡ []
-unfolding value_from bus_events groups_of nines_annotations bits_until has_condition shown_address events_annotations
+unfolding value_from bus_events groups_of nines_annotations bits_until has_condition shown_address annotations_of_events
 no_changes = refl
 
 -- ---- from the events on
@@ -119,66 +119,68 @@ byte tick n = bits tick (map (λ k. if n / 2 ^ k % 2 == 1 then One else Zero) (7
     ++ Zero ∷ [])
 
 -- eight bits without an acknowledge are no byte
-eight_bits : events_annotations None (events.Start 0 ∷ bits 1 (One ∷ Zero ∷ One ∷ Zero ∷ One ∷ Zero ∷ One ∷ Zero ∷ [])
+eight_bits : annotations_of_events None
+    (events.Start 0 ∷ bits 1 (One ∷ Zero ∷ One ∷ Zero ∷ One ∷ Zero ∷ One ∷ Zero ∷ [])
     ++ events.Stop 9 ∷ [])
     ≡ at 0 Start ∷ annotation 1 8 (PartialOf 8) ∷ at 9 Stop ∷ []
-unfolding groups_of nines_annotations bits_until has_condition shown_address events_annotations
+unfolding groups_of nines_annotations bits_until has_condition shown_address annotations_of_events
 eight_bits = refl
 
 -- at the capture's end an unfinished byte gives nothing, and whole ones are annotations
-cut_off : events_annotations None (events.Start 0 ∷ byte 1 7 ++ bits 10 (Zero ∷ Zero ∷ []))
+cut_off : annotations_of_events None (events.Start 0 ∷ byte 1 7 ++ bits 10 (Zero ∷ Zero ∷ []))
     ≡ at 0 Start ∷ annotation 1 8 (Address 3 Read) ∷ at 9 Ack ∷ []
-unfolding groups_of nines_annotations bits_until has_condition shown_address events_annotations
+unfolding groups_of nines_annotations bits_until has_condition shown_address annotations_of_events
 cut_off = refl
 
 -- bits before a START and after a STOP belong to nothing
-outside : events_annotations None (byte 1 7 ++ events.Start 10 ∷ events.Stop 11 ∷ byte 12 7 ++ events.Start 21 ∷ [])
+outside : annotations_of_events None (byte 1 7 ++ events.Start 10 ∷ events.Stop 11 ∷ byte 12 7 ++ events.Start 21 ∷ [])
     ≡ at 10 Start ∷ at 11 Stop ∷ at 21 Start ∷ []
-unfolding groups_of nines_annotations bits_until has_condition shown_address events_annotations
+unfolding groups_of nines_annotations bits_until has_condition shown_address annotations_of_events
 outside = refl
 
 -- an acknowledge that is x; data after an address that is unknown
-unknown_acknowledge : events_annotations None
+unknown_acknowledge : annotations_of_events None
     (events.Start 0 ∷ bits 1 (Zero ∷ Zero ∷ Zero ∷ Zero ∷ Zero ∷ Zero ∷ Zero ∷ X ∷ X ∷ []) ++ byte 10 7
     ++ events.Stop 19 ∷ [])
     ≡ at 0 Start ∷ annotation 1 8 Unknown ∷ at 9 Unknown ∷ annotation 10 17 (Data 7) ∷ at 18 Ack ∷ at 19 Stop ∷ []
-unfolding groups_of nines_annotations bits_until has_condition shown_address events_annotations
+unfolding groups_of nines_annotations bits_until has_condition shown_address annotations_of_events
 unknown_acknowledge = refl
 
 -- an address of ten bits is read again also after a read of it; data follow its second byte
-read_twice : events_annotations None (events.Start 0 ∷ byte 1 244 ++ byte 10 165 ++ byte 19 9
+read_twice : annotations_of_events None (events.Start 0 ∷ byte 1 244 ++ byte 10 165 ++ byte 19 9
     ++ events.Start 28 ∷ byte 29 245 ++ events.Start 38 ∷ byte 39 245)
     ≡ at 0 Start ∷ annotation 1 8 (AddressHigh 2 Write) ∷ at 9 Ack ∷ annotation 10 17 (TenBitAddress 677 Write)
     ∷ at 18 Ack ∷ annotation 19 26 (Data 9) ∷ at 27 Ack
     ∷ at 28 RepeatedStart ∷ annotation 29 36 (TenBitAddress 677 Read) ∷ at 37 Ack ∷ at 38 RepeatedStart
     ∷ annotation 39 46 (TenBitAddress 677 Read) ∷ at 47 Ack ∷ []
-unfolding groups_of nines_annotations bits_until has_condition shown_address events_annotations
+unfolding groups_of nines_annotations bits_until has_condition shown_address annotations_of_events
 read_twice = refl
 
 -- not where there is a STOP between them
-read_after_stop : events_annotations None (events.Start 0 ∷ byte 1 244 ++ byte 10 165
+read_after_stop : annotations_of_events None (events.Start 0 ∷ byte 1 244 ++ byte 10 165
     ++ events.Stop 19 ∷ events.Start 20 ∷ byte 21 245)
     ≡ at 0 Start ∷ annotation 1 8 (AddressHigh 2 Write) ∷ at 9 Ack ∷ annotation 10 17 (TenBitAddress 677 Write)
     ∷ at 18 Ack ∷ at 19 Stop
     ∷ at 20 Start ∷ annotation 21 28 (AddressHigh 2 Read) ∷ at 29 Ack ∷ []
-unfolding groups_of nines_annotations bits_until has_condition shown_address events_annotations
+unfolding groups_of nines_annotations bits_until has_condition shown_address annotations_of_events
 read_after_stop = refl
 
 -- nor with other high bits, nor after another address
-read_of_another : events_annotations None (events.Start 0 ∷ byte 1 244 ++ byte 10 165 ++ events.Start 19 ∷ byte 20 243
+read_of_another : annotations_of_events None
+    (events.Start 0 ∷ byte 1 244 ++ byte 10 165 ++ events.Start 19 ∷ byte 20 243
     ++ events.Start 29 ∷ byte 30 245)
     ≡ at 0 Start ∷ annotation 1 8 (AddressHigh 2 Write) ∷ at 9 Ack ∷ annotation 10 17 (TenBitAddress 677 Write)
     ∷ at 18 Ack
     ∷ at 19 RepeatedStart ∷ annotation 20 27 (AddressHigh 1 Read) ∷ at 28 Ack ∷ at 29 RepeatedStart
     ∷ annotation 30 37 (AddressHigh 2 Read) ∷ at 38 Ack ∷ []
-unfolding groups_of nines_annotations bits_until has_condition shown_address events_annotations
+unfolding groups_of nines_annotations bits_until has_condition shown_address annotations_of_events
 read_of_another = refl
 
 -- nor where the second byte was unknown
-read_of_unknown : events_annotations None
+read_of_unknown : annotations_of_events None
     (events.Start 0 ∷ byte 1 244 ++ bits 10 (One ∷ Zero ∷ One ∷ X ∷ Zero ∷ One ∷ Zero ∷ One ∷ Zero ∷ [])
     ++ events.Start 19 ∷ byte 20 245)
     ≡ at 0 Start ∷ annotation 1 8 (AddressHigh 2 Write) ∷ at 9 Ack ∷ annotation 10 17 Unknown ∷ at 18 Ack
     ∷ at 19 RepeatedStart ∷ annotation 20 27 (AddressHigh 2 Read) ∷ at 28 Ack ∷ []
-unfolding groups_of nines_annotations bits_until has_condition shown_address events_annotations
+unfolding groups_of nines_annotations bits_until has_condition shown_address annotations_of_events
 read_of_unknown = refl

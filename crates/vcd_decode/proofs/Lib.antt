@@ -9,6 +9,6 @@ pub mod Groups
 pub mod EdgeTicks
 pub mod SpiGroups
 pub mod SpiSteps
-pub mod PartBytes
+pub mod PartialBytes
 pub mod BusWalks
 pub mod BusEdges

@@ -18,12 +18,12 @@ use Rattle.vcd_decode.specs.declared.spi_setup.BitOrder.TheVariants.{Msb, Lsb}
 use Rattle.vcd_decode.specs.SpiSetup.{SpiSetup}
 use Rattle.vcd_decode.specs.Lines.{is_one, is_unclear, number_from_letters}
 use Rattle.vcd_decode.specs.WaveLines.{line_of}
-use Rattle.vcd_decode.specs.Spi.{ordered_number, data_of, line_data, group_annotation}
+use Rattle.vcd_decode.specs.Spi.{ordered_number, data_of_letters, line_data, group_annotation}
 use Rattle.vcd_decode.specs.inside.SpiParts.{group_start, group_end}
 use Rattle.vcd_decode.specs.inside.SpiParts.{segment_annotations}
 use Rattle.vcd_decode.specs.inside.SpiGroup.{longer_number, data_after, data_before, first_data, DataFits, group_before}
-use Rattle.vcd_decode.specs.inside.SpiGroup.{word_annotation, rest_annotation}
-use Rattle.vcd_decode.specs.inside.SpiWalk.{annotations_at_rest, group_of}
+use Rattle.vcd_decode.specs.inside.SpiGroup.{word_annotation, unfinished_annotation}
+use Rattle.vcd_decode.specs.inside.SpiWalk.{annotations_of_unfinished, tick_group}
 use Rattle.vcd_decode.proofs.Groups.{groups_none, groups_short}
 
 -- ---- numbers
@@ -68,7 +68,7 @@ any_last bs b = list_any-append is_unclear bs (b ∷ []) ∙ ap (λ r. list_any 
     or_false false = refl
 
 data_last : (order : BitOrder) (bs : List Bit) (b : Bit)
-    → data_of order (bs ++ b ∷ []) ≡ data_after order (length bs) (data_of order bs) (Some b)
+    → data_of_letters order (bs ++ b ∷ []) ≡ data_after order (length bs) (data_of_letters order bs) (Some b)
 data_last order bs b =
     ap (λ r. if r then Unknown else Number (ordered_number order (bs ++ b ∷ []))) (any_last bs b)
     ∙ ap (λ n. if (list_any is_unclear bs || is_unclear b) then Unknown else Number n) (ordered_last order bs b)
@@ -89,9 +89,9 @@ line_last : (order : BitOrder) (line : Option (ℕ → Bit)) (ts : List ℕ) (t 
     ≡ data_after order (length ts) (line_data order line ts) (option_map (λ f. f t) line)
 line_last order None ts t = refl
 line_last order (Some f) ts t =
-    ap (data_of order) (map-append f ts (t ∷ []))
+    ap (data_of_letters order) (map-append f ts (t ∷ []))
     ∙ data_last order (map f ts) (f t)
-    ∙ ap (λ n. data_after order n (data_of order (map f ts)) (Some (f t))) (length-map ts f)
+    ∙ ap (λ n. data_after order n (data_of_letters order (map f ts)) (Some (f t))) (length-map ts f)
 
 pub line_fits : (order : BitOrder) (line : Option (ℕ → Bit)) (ts : List ℕ)
     → DataFits (length ts) (line_data order line ts)
@@ -158,7 +158,7 @@ module _ (u : SpiSetup) (mosi miso : Option (ℕ → Bit)) where
     count = length ts + 1;
     mosi = data_after u.order (length ts) (line_data u.order mosi ts) (option_map (λ f. f t) mosi);
     miso = data_after u.order (length ts) (line_data u.order miso ts) (option_map (λ f. f t) miso);
-  } ≡ group_of u mosi miso (ts ++ t ∷ [])
+  } ≡ tick_group u mosi miso (ts ++ t ∷ [])
   group_last ts t =
       let start = first_last ts t in
       let last = last_last ts t in
@@ -168,7 +168,7 @@ module _ (u : SpiSetup) (mosi miso : Option (ℕ → Bit)) where
       λ i. record { start = start i; last = last i; count = count i; mosi = out i; miso = back i }
 
   -- the group before the first tick
-  pub group_none : (ts : List ℕ) → group_before (group_of u mosi miso ts) ≡ group_of u mosi miso []
+  pub group_none : (ts : List ℕ) → group_before (tick_group u mosi miso ts) ≡ tick_group u mosi miso []
   group_none ts =
       let out = line_before u.order mosi ts in
       let back = line_before u.order miso ts in
@@ -176,16 +176,16 @@ module _ (u : SpiSetup) (mosi miso : Option (ℕ → Bit)) where
 
   -- the annotation of a group that is no whole word
   pub rest_is : (ts : List ℕ) → length ts < u.bits
-      → annotations_at_rest (group_of u mosi miso ts) ≡ segment_annotations u mosi miso ts
+      → annotations_of_unfinished (tick_group u mosi miso ts) ≡ segment_annotations u mosi miso ts
   rest_is [] short = sym (ap (map (group_annotation u mosi miso)) (groups_none u.bits))
   rest_is (t ∷ ts) short =
       let some = not_none t ts in
-      let seen : group_annotation u mosi miso (t ∷ ts) ≡ rest_annotation (group_of u mosi miso (t ∷ ts)) =
+      let seen : group_annotation u mosi miso (t ∷ ts) ≡ unfinished_annotation (tick_group u mosi miso (t ∷ ts)) =
       rw (lt-ltb (length (t ∷ ts)) u.bits short) refl in
       rw some (sym (ap (map (group_annotation u mosi miso)) (groups_short u.bits (t ∷ ts) (omega arith) (omega arith))
       ∙ ap (λ a. a ∷ []) seen))
 
   -- the annotation of a whole word
   pub word_is : (ts : List ℕ) → length ts ≡ u.bits
-      → group_annotation u mosi miso ts ≡ word_annotation (group_of u mosi miso ts)
+      → group_annotation u mosi miso ts ≡ word_annotation (tick_group u mosi miso ts)
   word_is ts whole = rw (le-ltb (length ts) u.bits (omega arith)) refl

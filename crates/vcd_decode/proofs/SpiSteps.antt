@@ -16,16 +16,17 @@ use Rattle.vcd_decode.specs.declared.spi_group.Group.{Group}
 use Rattle.vcd_decode.specs.SpiSetup.{SpiSetup}
 use Rattle.vcd_decode.specs.Lines.{letter_before, is_zero, is_one}
 use Rattle.vcd_decode.specs.WaveLines.{line_of}
-use Rattle.vcd_decode.specs.Spi.{has_edge, is_selected, line_data, group_annotation}
-use Rattle.vcd_decode.specs.inside.SpiParts.{samples_rise, group_start}
+use Rattle.vcd_decode.specs.Spi.{has_sampling_edge, is_selected, line_data, group_annotation}
+use Rattle.vcd_decode.specs.inside.SpiParts.{samples_rising_edge, group_start}
 use Rattle.vcd_decode.specs.Spi.{spi_annotations}
 use Rattle.vcd_decode.specs.inside.SpiParts.{segment_annotations}
 use Rattle.vcd_decode.specs.inside.LineEdges.{lines_of, line_edge}
-use Rattle.vcd_decode.specs.inside.SpiClock.{passes, samples}
+use Rattle.vcd_decode.specs.inside.SpiClock.{is_present_and, samples_at}
 use Rattle.vcd_decode.specs.inside.SpiGroup.{line_bit, first_data, data_after, group_before, group_after}
 use Rattle.vcd_decode.specs.inside.SpiGroup.{word_annotation}
-use Rattle.vcd_decode.specs.inside.SpiWalk.{selects, deselects, is_sampling, annotations_at_rest, annotations_at_edge}
-use Rattle.vcd_decode.specs.inside.SpiWalk.{edge_group, group_of, edge_marks, annotations_at_marks, HasRoomForBit}
+use Rattle.vcd_decode.specs.inside.SpiWalk.{selects_chip, deselects_chip, is_sampling, annotations_of_unfinished}
+use Rattle.vcd_decode.specs.inside.SpiWalk.{annotations_at_edge}
+use Rattle.vcd_decode.specs.inside.SpiWalk.{edge_group, tick_group, edge_marks, annotations_at_marks, HasRoomForBit}
 use Rattle.vcd_decode.specs.inside.SpiWalk.{SpiProgress}
 use Rattle.vcd_decode.proofs.Groups.{groups_none, groups_whole}
 use Rattle.vcd_decode.proofs.EdgeTicks.{each_edge, over_edges}
@@ -51,29 +52,32 @@ module _ (u : SpiSetup) (some : 0 < u.bits) (mosi miso : Option (ℕ → Bit)) w
 
   -- ---- the group of some ticks after an edge: the marks that the edge adds give the same
 
-  pub record Goes (divides reads : Bool) (longer : Group) (t : ℕ) (ts : List ℕ) (marks : List (Option ℕ)) : Type 0 where
+  pub record IsClockStep (divides reads : Bool) (longer : Group) (t : ℕ) (ts : List ℕ)
+      (marks : List (Option ℕ)) : Type 0 where
     pub after : List ℕ
     pub short : length after < u.bits
-    pub group : (if divides then group_before (group_of u mosi miso ts)
-        else (if not reads then group_of u mosi miso ts else
-        (if nat_lt (length ts + 1) u.bits then longer else group_before longer))) ≡ group_of u mosi miso after
-    pub appended : (if divides then annotations_at_rest (group_of u mosi miso ts)
+    pub group : (if divides then group_before (tick_group u mosi miso ts)
+        else (if not reads then tick_group u mosi miso ts else
+        (if nat_lt (length ts + 1) u.bits then longer else group_before longer))) ≡ tick_group u mosi miso after
+    pub appended : (if divides then annotations_of_unfinished (tick_group u mosi miso ts)
         else (if not reads then [] else (if nat_lt (length ts + 1) u.bits then [] else word_annotation longer ∷ [])))
         ++ annotations_at_marks u mosi miso after marks
         ≡ annotations_at_marks u mosi miso ts ((if divides then None ∷ [] else (if reads then Some t ∷ [] else []))
         ++ marks)
 
-  goes : (divides reads : Bool) (longer : Group) (t : ℕ) (ts : List ℕ) (marks : List (Option ℕ)) → length ts < u.bits
-      → longer ≡ group_of u mosi miso (ts ++ t ∷ []) → Goes divides reads longer t ts marks
+  clock_step : (divides reads : Bool) (longer : Group) (t : ℕ) (ts : List ℕ) (marks : List (Option ℕ))
+      → length ts < u.bits
+      → longer ≡ tick_group u mosi miso (ts ++ t ∷ []) → IsClockStep divides reads longer t ts marks
   unfolding annotations_at_marks
-  goes true reads longer t ts marks short is = record {
+  clock_step true reads longer t ts marks short is = record {
     after = [];
     short = some;
     group = group_none u mosi miso ts;
     appended = ap (λ a. a ++ annotations_at_marks u mosi miso [] marks) (rest_is u mosi miso ts short);
   }
-  goes false false longer t ts marks short is = record { after = ts; short = short; group = refl; appended = refl }
-  goes false true longer t ts marks short is =
+  clock_step false false longer t ts marks short is =
+      record { after = ts; short = short; group = refl; appended = refl }
+  clock_step false true longer t ts marks short is =
       elim (cases_lt (length ts + 1) u.bits) [
         | inl less ↦
             let test : nat_lt (length ts + 1) u.bits ≡ true = lt-ltb (length ts + 1) u.bits less in
@@ -108,7 +112,7 @@ module _ (u : SpiSetup) (some : 0 < u.bits) (mosi miso : Option (ℕ → Bit)) w
     SoFar all found g left = SpiProgress u clk mosi miso cs all found g left
 
     longer_is : (e : BitEdge) (ts : List ℕ) → e ≡ line_edge lines e.tick
-        → group_after u.order (group_of u mosi miso ts) e ≡ group_of u mosi miso (ts ++ e.tick ∷ [])
+        → group_after u.order (tick_group u mosi miso ts) e ≡ tick_group u mosi miso (ts ++ e.tick ∷ [])
     longer_is e ts is =
         let out : line_bit e.at 1 ≡ option_map (λ f. f e.tick) mosi = ap (λ (x : BitEdge). line_bit x.at 1) is in
         let back : line_bit e.at 2 ≡ option_map (λ f. f e.tick) miso = ap (λ (x : BitEdge). line_bit x.at 2) is in
@@ -121,9 +125,11 @@ module _ (u : SpiSetup) (some : 0 < u.bits) (mosi miso : Option (ℕ → Bit)) w
         }) ∙ group_last u mosi miso ts e.tick
 
     edge_goes : (e : BitEdge) (ts : List ℕ) (marks : List (Option ℕ)) → length ts < u.bits → e ≡ line_edge lines e.tick
-        → Goes (deselects e) (is_sampling u e) (group_after u.order (group_of u mosi miso ts) e) e.tick ts marks
+        → IsClockStep (deselects_chip e) (is_sampling u e)
+        (group_after u.order (tick_group u mosi miso ts) e) e.tick ts marks
     edge_goes e ts marks short is =
-        goes (deselects e) (is_sampling u e) (group_after u.order (group_of u mosi miso ts) e) e.tick ts marks short
+        clock_step (deselects_chip e) (is_sampling u e)
+        (group_after u.order (tick_group u mosi miso ts) e) e.tick ts marks short
         (longer_is e ts is)
 
     -- ---- the loop
@@ -148,7 +154,7 @@ module _ (u : SpiSetup) (some : 0 < u.bits) (mosi miso : Option (ℕ → Bit)) w
           rest =
               ap (λ xs. xs ++ annotations_at_marks u mosi miso step.after marks) (appended
               ∙ ap (λ (x : Group). found ++ annotations_at_edge u x e) so_far.is_group)
-              ∙ append_assoc found (annotations_at_edge u (group_of u mosi miso ts) e)
+              ∙ append_assoc found (annotations_at_edge u (tick_group u mosi miso ts) e)
               (annotations_at_marks u mosi miso step.after marks)
               ∙ ap (λ xs. found ++ xs) step.appended
               ∙ before;
@@ -156,11 +162,11 @@ module _ (u : SpiSetup) (some : 0 < u.bits) (mosi miso : Option (ℕ → Bit)) w
 
     -- at the end the rest is annotated
     pub so_far_ends : (all found more : List Annotation) (g : Group) (left : List BitEdge) → SoFar all found g left
-        → left ≡ [] → more ≡ found ++ annotations_at_rest g → more ≡ all
+        → left ≡ [] → more ≡ found ++ annotations_of_unfinished g → more ≡ all
     unfolding annotations_at_marks
     so_far_ends all found more g left so_far over appended =
         let ts = so_far.ticks in
-        appended ∙ ap (λ (x : Group). found ++ annotations_at_rest x) so_far.is_group
+        appended ∙ ap (λ (x : Group). found ++ annotations_of_unfinished x) so_far.is_group
         ∙ ap (λ xs. found ++ xs) (rest_is u mosi miso ts so_far.short)
         ∙ ap (λ (es : List BitEdge). found ++ annotations_at_marks u mosi miso ts (flat_map (edge_marks u) es))
         (sym over)
@@ -171,7 +177,7 @@ module _ (u : SpiSetup) (some : 0 < u.bits) (mosi miso : Option (ℕ → Bit)) w
         → HasRoomForBit u g
     so_far_open all found g left so_far =
         let ts = so_far.ticks in
-        let open_there : HasRoomForBit u (group_of u mosi miso ts) =
+        let open_there : HasRoomForBit u (tick_group u mosi miso ts) =
         record { count = so_far.short; mosi = line_fits u.order mosi ts; miso = line_fits u.order miso ts } in
         subst (HasRoomForBit u) (sym so_far.is_group) open_there
 
@@ -179,15 +185,15 @@ module _ (u : SpiSetup) (some : 0 < u.bits) (mosi miso : Option (ℕ → Bit)) w
 
     -- whether the chip is selected just before a tick
     abbrev was_selected : ℕ → Bool
-    was_selected t = selects (option_map (λ f. letter_before f t) cs)
+    was_selected t = selects_chip (option_map (λ f. letter_before f t) cs)
 
     abbrev mark : Bool → Bool → Bool → ℕ → List (Option ℕ)
     mark was is reads t = if was && not is then None ∷ [] else (if is && reads then Some t ∷ [] else [])
 
-    selected_is : (t : ℕ) → selects (option_map (λ f. f t) cs) ≡ is_selected cs t
+    selected_is : (t : ℕ) → selects_chip (option_map (λ f. f t) cs) ≡ is_selected cs t
     selected_is t = choose cs
       where
-        choose : (line : Option (ℕ → Bit)) → selects (option_map (λ f. f t) line) ≡ is_selected line t
+        choose : (line : Option (ℕ → Bit)) → selects_chip (option_map (λ f. f t) line) ≡ is_selected line t
         choose None = refl
         choose (Some f) = refl
 
@@ -195,20 +201,20 @@ module _ (u : SpiSetup) (some : 0 < u.bits) (mosi miso : Option (ℕ → Bit)) w
     selected_before t = choose cs
       where
         choose : (line : Option (ℕ → Bit))
-            → selects (option_map (λ f. letter_before f (suc t)) line) ≡ is_selected line t
+            → selects_chip (option_map (λ f. letter_before f (suc t)) line) ≡ is_selected line t
         choose None = refl
         choose (Some f) = refl
 
     mark_is : (t : ℕ) → edge_marks u (line_edge lines t)
-        ≡ mark (was_selected t) (is_selected cs t) (has_edge u.mode clk t) t
+        ≡ mark (was_selected t) (is_selected cs t) (has_sampling_edge u.mode clk t) t
     unfolding edge_marks
-    mark_is t = ap (λ is. mark (was_selected t) is (has_edge u.mode clk t) t) (selected_is t)
+    mark_is t = ap (λ is. mark (was_selected t) is (has_sampling_edge u.mode clk t) t) (selected_is t)
 
     -- the annotations of parts of ticks, where some ticks come before the first part
     abbrev parts_annotations : List ℕ → List (List ℕ) → List Annotation
     parts_annotations ts [] = annotations_of_ticks ts
-    parts_annotations ts (part ∷ parts) = annotations_of_ticks (ts ++ filter (has_edge u.mode clk) part)
-        ++ flat_map annotations_of_ticks (map (filter (has_edge u.mode clk)) parts)
+    parts_annotations ts (part ∷ parts) = annotations_of_ticks (ts ++ filter (has_sampling_edge u.mode clk) part)
+        ++ flat_map annotations_of_ticks (map (filter (has_sampling_edge u.mode clk)) parts)
 
     abbrev parts : ℕ → ℕ → List (List ℕ)
     parts a n = slice_split (λ t. not (is_selected cs t)) (range_with_len a n)
@@ -218,24 +224,24 @@ module _ (u : SpiSetup) (some : 0 < u.bits) (mosi miso : Option (ℕ → Bit)) w
 
     -- without ticks before, they are those of each part
     parts_alone : (ps : List (List ℕ))
-        → parts_annotations [] ps ≡ flat_map annotations_of_ticks (map (filter (has_edge u.mode clk)) ps)
+        → parts_annotations [] ps ≡ flat_map annotations_of_ticks (map (filter (has_sampling_edge u.mode clk)) ps)
     parts_alone [] = none_is
     parts_alone (part ∷ ps) = refl
 
     -- a tick at which the chip is selected belongs to the first part
-    parts_read : (reads : Bool) (a : ℕ) (ts : List ℕ) (ps : List (List ℕ)) → has_edge u.mode clk a ≡ reads
+    parts_read : (reads : Bool) (a : ℕ) (ts : List ℕ) (ps : List (List ℕ)) → has_sampling_edge u.mode clk a ≡ reads
         → parts_annotations (if reads then ts ++ a ∷ [] else ts) ps ≡ parts_annotations ts (onto_first a ps)
     parts_read true a ts [] is = rw is (sym (append-nil (annotations_of_ticks (ts ++ a ∷ []))))
     parts_read false a ts [] is =
         rw is (sym (append-nil (annotations_of_ticks (ts ++ [])) ∙ ap annotations_of_ticks (append-nil ts)))
     parts_read true a ts (part ∷ ps) is =
         rw is (ap (λ us. annotations_of_ticks us
-        ++ flat_map annotations_of_ticks (map (filter (has_edge u.mode clk)) ps))
-        (append_assoc ts (a ∷ []) (filter (has_edge u.mode clk) part)))
+        ++ flat_map annotations_of_ticks (map (filter (has_sampling_edge u.mode clk)) ps))
+        (append_assoc ts (a ∷ []) (filter (has_sampling_edge u.mode clk) part)))
     parts_read false a ts (part ∷ ps) is = rw is refl
 
     annotations_at_tick : (was is reads : Bool) (a : ℕ) (ts : List ℕ) (marks : List (Option ℕ)) (ps : List (List ℕ))
-        → (was ≡ false → ts ≡ []) → has_edge u.mode clk a ≡ reads
+        → (was ≡ false → ts ≡ []) → has_sampling_edge u.mode clk a ≡ reads
         → ((us : List ℕ) → (is ≡ false → us ≡ []) → annotations_at_marks u mosi miso us marks ≡ parts_annotations us ps)
         → annotations_at_marks u mosi miso ts (mark was is reads a ++ marks)
         ≡ parts_annotations ts (cond (not is) ([] ∷ ps) (onto_first a ps))
@@ -250,15 +256,16 @@ module _ (u : SpiSetup) (some : 0 < u.bits) (mosi miso : Option (ℕ → Bit)) w
         ∙ parts_read false a ts ps edge
     annotations_at_tick true false reads a ts marks ps following edge later =
         ap (λ xs. annotations_of_ticks ts ++ xs) (later [] (λ none. refl) ∙ parts_alone ps)
-        ∙ ap (λ us. annotations_of_ticks us ++ flat_map annotations_of_ticks (map (filter (has_edge u.mode clk)) ps))
+        ∙ ap (λ us. annotations_of_ticks us
+        ++ flat_map annotations_of_ticks (map (filter (has_sampling_edge u.mode clk)) ps))
         (sym (append-nil ts))
     annotations_at_tick false false reads a ts marks ps following edge later =
         later ts (λ none. following refl)
         ∙ ap (λ us. parts_annotations us ps) (following refl)
         ∙ parts_alone ps
-        ∙ ap (λ xs. xs ++ flat_map annotations_of_ticks (map (filter (has_edge u.mode clk)) ps)) (sym none_is)
+        ∙ ap (λ xs. xs ++ flat_map annotations_of_ticks (map (filter (has_sampling_edge u.mode clk)) ps)) (sym none_is)
         ∙ ap (λ us. annotations_of_ticks (us ++ [])
-        ++ flat_map annotations_of_ticks (map (filter (has_edge u.mode clk)) ps)) (sym (following refl))
+        ++ flat_map annotations_of_ticks (map (filter (has_sampling_edge u.mode clk)) ps)) (sym (following refl))
 
     annotations_at_ticks : (a n : ℕ) (ts : List ℕ) → (was_selected a ≡ false → ts ≡ [])
         → annotations_at_marks u mosi miso ts (flat_map (λ t. edge_marks u (line_edge lines t)) (range_with_len a n))
@@ -272,7 +279,7 @@ module _ (u : SpiSetup) (some : 0 < u.bits) (mosi miso : Option (ℕ → Bit)) w
         (λ was. none (sym next ∙ was)) in
         ap (λ marks. annotations_at_marks u mosi miso ts
         (marks ++ flat_map (λ t. edge_marks u (line_edge lines t)) (range_with_len (a + 1) n))) (mark_is a)
-        ∙ annotations_at_tick (was_selected a) (is_selected cs a) (has_edge u.mode clk a) a ts
+        ∙ annotations_at_tick (was_selected a) (is_selected cs a) (has_sampling_edge u.mode clk a) a ts
         (flat_map (λ t. edge_marks u (line_edge lines t)) (range_with_len (a + 1) n)) (parts (a + 1) n) following
         refl later
 
@@ -288,13 +295,15 @@ module _ (u : SpiSetup) (some : 0 < u.bits) (mosi miso : Option (ℕ → Bit)) w
 still : (u : SpiSetup) (e : BitEdge) → e.at ≡ e.before → edge_marks u e ≡ []
 unfolding edge_marks
 still u e same =
-    let unread : samples u.mode (line_bit e.before 0) (line_bit e.before 0) ≡ false =
-    no_edge (samples_rise u.mode) (line_bit e.before 0) in
+    let unread : samples_at u.mode (line_bit e.before 0) (line_bit e.before 0) ≡ false =
+    no_edge (samples_rising_edge u.mode) (line_bit e.before 0) in
     ap (λ bits. edge_marks u (record { tick = e.tick; before = e.before; at = bits })) same
-    ∙ nothing (selects (line_bit e.before 3)) (samples u.mode (line_bit e.before 0) (line_bit e.before 0)) unread
+    ∙ nothing (selects_chip (line_bit e.before 3))
+    (samples_at u.mode (line_bit e.before 0) (line_bit e.before 0)) unread
   where
     no_edge : (rise : Bool) (b : Option Bit)
-        → (if rise then passes is_zero b && passes is_one b else passes is_one b && passes is_zero b) ≡ false
+        → (if rise then is_present_and is_zero b && is_present_and is_one b else is_present_and is_one b
+        && is_present_and is_zero b) ≡ false
     no_edge true None = refl
     no_edge true (Some Zero) = refl
     no_edge true (Some One) = refl

@@ -73,15 +73,15 @@ start_kind (Some given) = kinds.RepeatedStart
 
 -- the annotations of conditions and bits; `last` is none unless the condition before them was a START, and has the
 -- address of ten bits after it
-unfoldable pub events_annotations : Option (Option ℕ) → List BusEvent → List Annotation
-events_annotations last [] = []
-events_annotations last (events.Bit b ∷ es) = events_annotations last es
-events_annotations last (events.Stop t ∷ es) = annotation t t kinds.Stop ∷ events_annotations None es
-events_annotations last (events.Start t ∷ es) =
+unfoldable pub annotations_of_events : Option (Option ℕ) → List BusEvent → List Annotation
+annotations_of_events last [] = []
+annotations_of_events last (events.Bit b ∷ es) = annotations_of_events last es
+annotations_of_events last (events.Stop t ∷ es) = annotation t t kinds.Stop ∷ annotations_of_events None es
+annotations_of_events last (events.Start t ∷ es) =
     let shown = nines_annotations (has_condition es) (roles.Address (option_flatten last))
     (groups_of 9 (bits_until es)) in
-    annotation t t (start_kind last) ∷ shown ++ events_annotations (Some (shown_address shown)) es
+    annotation t t (start_kind last) ∷ shown ++ annotations_of_events (Some (shown_address shown)) es
 
 -- the annotations of the lines SCL and SDA at the ticks 0 to `end`
 abbrev pub i2c_annotations : (ℕ → Bit) → (ℕ → Bit) → ℕ → List Annotation
-i2c_annotations scl sda end = events_annotations None (bus_events scl sda end)
+i2c_annotations scl sda end = annotations_of_events None (bus_events scl sda end)

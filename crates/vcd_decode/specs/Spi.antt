@@ -18,8 +18,8 @@ use Rattle.std.specs.Prelude.{if◌then◌else◌}
 -- ---- the sampling ticks
 
 -- whether the clock has the mode's edge at a tick: in the modes 0 and 3 it rises, in 1 and 2 it falls
-abbrev pub has_edge : (mode : ℕ) → (clk : ℕ → Bit) → ℕ → Bool
-has_edge mode clk t = if mode == 0 || mode == 3 then is_zero (letter_before clk t) && is_one (clk t)
+abbrev pub has_sampling_edge : (mode : ℕ) → (clk : ℕ → Bit) → ℕ → Bool
+has_sampling_edge mode clk t = if mode == 0 || mode == 3 then is_zero (letter_before clk t) && is_one (clk t)
     else is_one (letter_before clk t) && is_zero (clk t)
 
 -- whether the chip is selected at a tick: always where there is no such line
@@ -29,7 +29,7 @@ is_selected (Some cs) t = is_zero (cs t)
 
 -- the sampled ticks 0 to `end`, in parts between the ticks at which the chip is not selected
 abbrev pub segments : SpiSetup → (ℕ → Bit) → Option (ℕ → Bit) → ℕ → List (List ℕ)
-segments u clk cs end = map (filter (has_edge u.mode clk))
+segments u clk cs end = map (filter (has_sampling_edge u.mode clk))
     (slice_split (λ t. not (is_selected cs t)) (range_with_len 0 (suc end)))
 
 -- ---- words
@@ -40,13 +40,13 @@ ordered_number Msb letters = number_from_letters (reverse letters)
 ordered_number Lsb letters = number_from_letters letters
 
 -- the data of these letters: unknown where one is neither 0 nor 1
-abbrev pub data_of : BitOrder → List Bit → LineData
-data_of order letters = if list_any is_unclear letters then Unknown else Number (ordered_number order letters)
+abbrev pub data_of_letters : BitOrder → List Bit → LineData
+data_of_letters order letters = if list_any is_unclear letters then Unknown else Number (ordered_number order letters)
 
 -- the data of a line at some ticks
 abbrev pub line_data : BitOrder → Option (ℕ → Bit) → List ℕ → LineData
 line_data order None ticks = Absent
-line_data order (Some f) ticks = data_of order (map f ticks)
+line_data order (Some f) ticks = data_of_letters order (map f ticks)
 
 -- the annotation of a group of ticks: a word, or the number of bits of an unfinished one
 abbrev pub group_annotation : SpiSetup → (mosi miso : Option (ℕ → Bit)) → List ℕ → Annotation

@@ -1,7 +1,7 @@
 //! The bits of an SPI word so far.
 
 ghost use Rattle.std.specs.Prelude.{◌≡◌, ◌<◌, ◌==◌, ◌^◌};
-ghost use Rattle.vcd_decode.specs.inside.SpiGroup.{digit_of, longer_number, data_after, data_before, first_data, DataFits, group_before, group_after, word_annotation, rest_annotation};
+ghost use Rattle.vcd_decode.specs.inside.SpiGroup.{digit_of, longer_number, data_after, data_before, first_data, DataFits, group_before, group_after, word_annotation, unfinished_annotation};
 
 use crate::annotation::{Annotation, Kind, LineData};
 use crate::spi_setup::{BitOrder, WORD_BITS_LIMIT};
@@ -33,21 +33,21 @@ impl Group {
             start: 0,
             last: 0,
             count: 0,
-            mosi: data_at_start(mosi),
-            miso: data_at_start(miso),
+            mosi: first_data(mosi),
+            miso: first_data(miso),
         }
     }
 
     /// No bits yet, for the same data lines.
-    pub(crate) fn emptied(&self) -> Group
+    pub(crate) fn before_first_bit(&self) -> Group
         ensures { result ≡ group_before self.now }
     {
         Group {
             start: 0,
             last: 0,
             count: 0,
-            mosi: emptied(self.mosi),
-            miso: emptied(self.miso),
+            mosi: data_before(self.mosi),
+            miso: data_before(self.miso),
         }
     }
 
@@ -66,8 +66,8 @@ impl Group {
             },
             last: edge.tick,
             count: self.count + 1,
-            mosi: with_next_bit(order, self.count, self.mosi, edge.at[1]),
-            miso: with_next_bit(order, self.count, self.miso, edge.at[2]),
+            mosi: data_after(order, self.count, self.mosi, edge.at[1]),
+            miso: data_after(order, self.count, self.miso, edge.at[2]),
         }
     }
 
@@ -86,8 +86,8 @@ impl Group {
     }
 
     /// The annotation of an unfinished word.
-    pub(crate) fn rest(&self) -> Annotation
-        ensures { result ≡ rest_annotation self.now }
+    pub(crate) fn unfinished_word(&self) -> Annotation
+        ensures { result ≡ unfinished_annotation self.now }
     {
         Annotation {
             start: self.start,
@@ -98,10 +98,10 @@ impl Group {
 }
 
 /// The data of a line before its first bit.
-fn data_at_start(is_there: bool) -> LineData
-    ensures { result ≡ first_data is_there }
+fn first_data(is_present: bool) -> LineData
+    ensures { result ≡ first_data is_present }
 {
-    if is_there {
+    if is_present {
         LineData::Number(0)
     } else {
         LineData::Absent
@@ -109,7 +109,7 @@ fn data_at_start(is_there: bool) -> LineData
 }
 
 /// The data before the first bit of a line with these data.
-fn emptied(shown: LineData) -> LineData
+fn data_before(shown: LineData) -> LineData
     ensures { result ≡ data_before shown }
 {
     match shown {
@@ -119,14 +119,14 @@ fn emptied(shown: LineData) -> LineData
 }
 
 /// The data of a line after one more bit, where `count` bits came before.
-fn with_next_bit(order: BitOrder, count: u64, shown: LineData, bit: Option<Bit>) -> LineData
+fn data_after(order: BitOrder, count: u64, shown: LineData, bit: Option<Bit>) -> LineData
     requires count { count < WORD_BITS_LIMIT }
     requires fits { DataFits count shown }
     ensures { result ≡ data_after order count shown bit }
 {
     match (shown, bit) {
-        (LineData::Number(number), Some(bit)) => match digit(bit) {
-            Some(digit) => LineData::Number(longer(order, count, number, digit)),
+        (LineData::Number(number), Some(bit)) => match digit_of(bit) {
+            Some(digit) => LineData::Number(longer_number(order, count, number, digit)),
             None => LineData::Unknown,
         },
         (shown, _) => shown,
@@ -134,7 +134,7 @@ fn with_next_bit(order: BitOrder, count: u64, shown: LineData, bit: Option<Bit>)
 }
 
 /// 0 or 1 as a number.
-fn digit(bit: Bit) -> Option<u32>
+fn digit_of(bit: Bit) -> Option<u32>
     ensures { result ≡ digit_of bit }
 {
     match bit {
@@ -145,7 +145,7 @@ fn digit(bit: Bit) -> Option<u32>
 }
 
 /// The number of `count` bits with one more.
-fn longer(order: BitOrder, count: u64, number: u32, digit: u32) -> u32
+fn longer_number(order: BitOrder, count: u64, number: u32, digit: u32) -> u32
     requires count { count < WORD_BITS_LIMIT }
     requires fits { number < 2 ^ count }
     requires digit { digit < 2 }

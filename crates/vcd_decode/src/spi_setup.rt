@@ -5,7 +5,7 @@ ghost use Rattle.vcd_decode.specs.SetupFaults.{spi_fault};
 ghost use Rattle.vcd_decode.specs.SpiSetup.{spi_setup};
 ghost use Rattle.vcd_decode.specs.SetupFaults.{SetupFaultIs};
 ghost use Rattle.vcd_decode.specs.Lines.{is_zero as zero_test, is_one as one_test};
-ghost use Rattle.vcd_decode.specs.inside.SpiClock.{passes};
+ghost use Rattle.vcd_decode.specs.inside.SpiClock.{is_present_and};
 
 use crate::letters::{is_one, is_zero};
 use crate::setup_error::SetupError;
@@ -54,8 +54,8 @@ impl Model for Spi {
 }
 
 impl Spi {
-    ghost use Rattle.vcd_decode.specs.inside.SpiParts.{samples_rise};
-    ghost use Rattle.vcd_decode.specs.inside.SpiClock.{samples};
+    ghost use Rattle.vcd_decode.specs.inside.SpiParts.{samples_rising_edge};
+    ghost use Rattle.vcd_decode.specs.inside.SpiClock.{samples_at};
 
     /// A setup of a mode, the number of bits in a word and their order.
     ///
@@ -97,20 +97,20 @@ impl Spi {
         self.order
     }
 
-    /// Whether bits are read where the clock changes from one bit to another.
-    pub(crate) fn reads_at(&self, before: Option<Bit>, at: Option<Bit>) -> bool
-        ensures { result ≡ samples self.now.mode before at }
+    /// Whether bits are sampled where the clock changes from one bit to another.
+    pub(crate) fn samples_at(&self, before: Option<Bit>, at: Option<Bit>) -> bool
+        ensures { result ≡ samples_at self.now.mode before at }
     {
-        if self.reads_where_it_rises() {
+        if self.samples_rising_edge() {
             shows_zero(before) & shows_one(at)
         } else {
             shows_one(before) & shows_zero(at)
         }
     }
 
-    /// Whether bits are read where the clock rises.
-    fn reads_where_it_rises(&self) -> bool
-        ensures { result ≡ samples_rise self.now.mode }
+    /// Whether bits are sampled where the clock rises.
+    fn samples_rising_edge(&self) -> bool
+        ensures { result ≡ samples_rising_edge self.now.mode }
     {
         (self.mode == 0) | (self.mode == 3)
     }
@@ -118,7 +118,7 @@ impl Spi {
 
 /// Whether the bit is present and 0.
 fn shows_zero(bit: Option<Bit>) -> bool
-    ensures { result ≡ passes zero_test bit }
+    ensures { result ≡ is_present_and zero_test bit }
 {
     match bit {
         Some(bit) => is_zero(bit),
@@ -128,7 +128,7 @@ fn shows_zero(bit: Option<Bit>) -> bool
 
 /// Whether the bit is present and 1.
 fn shows_one(bit: Option<Bit>) -> bool
-    ensures { result ≡ passes one_test bit }
+    ensures { result ≡ is_present_and one_test bit }
 {
     match bit {
         Some(bit) => is_one(bit),

@@ -6,7 +6,7 @@ ghost use Rattle.vcd_core.specs.Edges.{EachUpTo};
 ghost use Rattle.vcd_core.specs.BitEdges.{EachOneBit};
 ghost use Rattle.vcd_decode.specs.WaveLines.{line_of};
 ghost use Rattle.vcd_decode.specs.Spi.{spi_annotations};
-ghost use Rattle.vcd_decode.specs.inside.SpiWalk.{selects, deselects, is_sampling, HasRoomForBit, annotations_at_rest, annotations_at_edge, edge_group, annotations_at_bit, bit_group};
+ghost use Rattle.vcd_decode.specs.inside.SpiWalk.{selects_chip, deselects_chip, is_sampling, HasRoomForBit, annotations_of_unfinished, annotations_at_edge, edge_group, annotations_at_bit, bit_group};
 
 use crate::annotation::Annotation;
 use crate::letters::is_zero;
@@ -51,7 +51,7 @@ pub fn spi<'a>(
     for edge in edges {
         group = take_clock_edge(&mut found, setup, &group, &edge)?;
     }
-    annotate_rest(&mut found, &group)?;
+    append_unfinished(&mut found, &group)?;
     Ok(found)
 }
 
@@ -67,9 +67,9 @@ fn take_clock_edge(
         ≡ found.old.items ++ annotations_at_edge setup.now group.now edge.now) }
     ensures group { IfOk result (λ g. g ≡ edge_group setup.now group.now edge.now) }
 {
-    if deselects(edge) {
-        annotate_rest(found, group)?;
-        return Ok(group.emptied());
+    if deselects_chip(edge) {
+        append_unfinished(found, group)?;
+        return Ok(group.before_first_bit());
     }
     take_sample(found, setup, group, edge)
 }
@@ -90,42 +90,42 @@ fn take_sample(
         return Ok(*group);
     }
     let bits = setup.bits();
-    let longer = group.with_edge(setup.order(), edge);
-    if longer.count < bits {
-        return Ok(longer);
+    let next_group = group.with_edge(setup.order(), edge);
+    if next_group.count < bits {
+        return Ok(next_group);
     }
-    found.push(longer.whole_word())?;
-    Ok(longer.emptied())
+    found.push(next_group.whole_word())?;
+    Ok(next_group.before_first_bit())
 }
 
 /// Appends the number of bits of an unfinished word, if there are any.
-fn annotate_rest(found: &mut Vec<Annotation>, group: &Group) -> Result<(), NoMemory>
-    ensures { OnOk result (found.new.items ≡ found.old.items ++ annotations_at_rest group.now) }
+fn append_unfinished(found: &mut Vec<Annotation>, group: &Group) -> Result<(), NoMemory>
+    ensures { OnOk result (found.new.items ≡ found.old.items ++ annotations_of_unfinished group.now) }
 {
     if group.count == 0 {
         return Ok(());
     }
-    found.push(group.rest())?;
+    found.push(group.unfinished_word())?;
     Ok(())
 }
 
 /// Whether an edge ends the selection of the chip.
-fn deselects(edge: &BitEdge) -> bool
-    ensures { result ≡ deselects edge.now }
+fn deselects_chip(edge: &BitEdge) -> bool
+    ensures { result ≡ deselects_chip edge.now }
 {
-    bit_selects(edge.before[3]) & !bit_selects(edge.at[3])
+    selects_chip(edge.before[3]) & !selects_chip(edge.at[3])
 }
 
-/// Whether the data lines are read at an edge.
+/// Whether the data lines are sampled at an edge.
 fn is_sampling(setup: &Spi, edge: &BitEdge) -> bool
     ensures { result ≡ is_sampling setup.now edge.now }
 {
-    bit_selects(edge.at[3]) & setup.reads_at(edge.before[0], edge.at[0])
+    selects_chip(edge.at[3]) & setup.samples_at(edge.before[0], edge.at[0])
 }
 
 /// Whether the chip is selected, by the bit of its line.
-fn bit_selects(cs: Option<Bit>) -> bool
-    ensures { result ≡ selects cs }
+fn selects_chip(cs: Option<Bit>) -> bool
+    ensures { result ≡ selects_chip cs }
 {
     match cs {
         Some(bit) => is_zero(bit),

@@ -75,16 +75,16 @@ fn begun_frame(wave: &Wave, near: usize, end: u64, setup: &Uart, start: u64) -> 
         end,
         kind: Kind::Partial,
     };
-    let left = end - start;
+    let ticks_left = end - start;
     let first = setup.sample_offset(0);
-    if left < first {
+    if ticks_left < first {
         return Some(cut_off);
     }
     if !is_zero(letter_near(wave, near, start + first)) {
         return None;
     }
     let last = setup.sample_offset(setup.last_bit());
-    if left < last {
+    if ticks_left < last {
         return Some(cut_off);
     }
     let kind = frame_kind_at(wave, near, setup, start);

@@ -19,7 +19,7 @@ use Rattle.vcd_decode.specs.SpiSetup.{spi_setup}
 use Rattle.vcd_decode.specs.Spi.{spi_annotations}
 use Rattle.vcd_decode.specs.Groups.{groups_of}
 use Rattle.vcd_decode.specs.BusEvents.{bus_events}
-use Rattle.vcd_decode.specs.I2c.{nines_annotations, bits_until, has_condition, shown_address, events_annotations}
+use Rattle.vcd_decode.specs.I2c.{nines_annotations, bits_until, has_condition, shown_address, annotations_of_events}
 use Rattle.vcd_text.specs.Words.{words_from}
 use Rattle.vcdedit.specs.declared.script.command.Command.{Command}
 use Rattle.vcdedit.specs.declared.script.command.Command.TheVariants as commands
@@ -139,5 +139,5 @@ cut_short = capture 50 (wire (top ∷ []) (codes "scl") 1
 conditions_told : i2c_lines cut_short 0 1 ≡ codes "10-10 i2c start" ∷ codes "20-40 i2c partial 3"
     ∷ codes "45-45 i2c stop" ∷ []
 unfolding cut_short value_from bus_events groups_of nines_annotations bits_until has_condition shown_address
-    events_annotations digits
+    annotations_of_events digits
 conditions_told = refl

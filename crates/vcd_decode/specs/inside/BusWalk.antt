@@ -13,7 +13,7 @@ use Rattle.vcd_decode.specs.declared.i2c_bus.events.BusBit.{BusBit}
 use Rattle.vcd_decode.specs.declared.i2c_bus.events.BusEvent.{BusEvent}
 use Rattle.vcd_decode.specs.declared.i2c_bus.events.BusEvent.TheVariants as events
 use Rattle.vcd_decode.specs.declared.i2c_bus.bytes.ByteRole.TheVariants as roles
-use Rattle.vcd_decode.specs.declared.i2c_bus.bytes.PartByte.{PartByte}
+use Rattle.vcd_decode.specs.declared.i2c_bus.bytes.PartialByte.{PartialByte}
 use Rattle.vcd_decode.specs.declared.i2c_bus.transfer.Transfer.{Transfer}
 use Rattle.vcd_decode.specs.Lines.{annotation}
 use Rattle.vcd_decode.specs.inside.LevelEvents.{bus_event}
@@ -22,12 +22,12 @@ use Rattle.vcd_decode.specs.BusBytes.{number_with, byte_kind, role_after, acknow
 -- ---- the bits at hand
 
 -- no bit of a byte yet
-abbrev pub no_bits : PartByte
+abbrev pub no_bits : PartialByte
 no_bits = record { count = 0; first = 0; last = 0; number = Some 0 }
 
 -- the bits and one more
-abbrev pub part_with : PartByte → BusBit → PartByte
-part_with p b = record {
+abbrev pub partial_byte_with : PartialByte → BusBit → PartialByte
+partial_byte_with p b = record {
   count = p.count + 1;
   first = if p.count == 0 then b.tick else p.first;
   last = b.tick;
@@ -36,18 +36,18 @@ part_with p b = record {
 }
 
 -- the state of a byte with these bits
-abbrev pub part_of : List BusBit → PartByte
-part_of bits = fold part_with no_bits bits
+abbrev pub partial_byte_of : List BusBit → PartialByte
+partial_byte_of bits = fold partial_byte_with no_bits bits
 
 -- at most eight bits, with a number that fits them
-abbrev pub IsPart : PartByte → Type 0
-IsPart p = (p.count ≤ 8) × IfSome p.number (λ n. n < 2 ^ p.count)
+abbrev pub IsPartialByte : PartialByte → Type 0
+IsPartialByte p = (p.count ≤ 8) × IfSome p.number (λ n. n < 2 ^ p.count)
 
 -- ---- the state since the last START, none after a STOP
 
 -- the current transfer, if there is one, is sound
-abbrev pub IsBus : Option Transfer → Type 0
-IsBus bus = IfSome bus (λ t. IsPart t.part)
+abbrev pub IsSoundTransfer : Option Transfer → Type 0
+IsSoundTransfer bus = IfSome bus (λ t. IsPartialByte t.part)
 
 -- the address of ten bits that came since the START
 abbrev pub bus_address : Option Transfer → Option ℕ
@@ -59,21 +59,21 @@ abbrev pub new_transfer : Option Transfer → Transfer
 new_transfer bus = record { role = roles.Address (bus_address bus); part = no_bits; address = None }
 
 -- the kind of a START
-abbrev pub start_of : Option Transfer → Kind
-start_of None = kinds.Start
-start_of (Some t) = kinds.RepeatedStart
+abbrev pub bus_start_kind : Option Transfer → Kind
+bus_start_kind None = kinds.Start
+bus_start_kind (Some t) = kinds.RepeatedStart
 
 -- the annotations of the current bits where a condition comes
-abbrev pub left_annotations : Option Transfer → List Annotation
-left_annotations None = []
-left_annotations (Some t) =
+abbrev pub transfer_rest_annotations : Option Transfer → List Annotation
+transfer_rest_annotations None = []
+transfer_rest_annotations (Some t) =
     if nat_le 2 t.part.count then annotation t.part.first t.part.last (kinds.PartialOf t.part.count) ∷ [] else []
 
 -- ---- one bit
 
 -- the current byte and the acknowledge
-abbrev pub whole_annotations : Transfer → BusBit → List Annotation
-whole_annotations t b =
+abbrev pub whole_byte_annotations : Transfer → BusBit → List Annotation
+whole_byte_annotations t b =
     annotation t.part.first t.part.last (byte_kind t.role t.part.number)
     ∷ annotation b.tick b.tick (acknowledge_kind (number_with (Some 0) b)) ∷ []
 
@@ -87,18 +87,19 @@ transfer_after_byte t = record {
 
 -- the annotations of a bit of a transfer
 abbrev pub bit_annotations : Transfer → BusBit → List Annotation
-bit_annotations t b = if t.part.count == 8 then whole_annotations t b else []
+bit_annotations t b = if t.part.count == 8 then whole_byte_annotations t b else []
 
 -- the transfer after a bit of it
 abbrev pub transfer_after_bit : Transfer → BusBit → Transfer
-transfer_after_bit t b = if t.part.count == 8 then transfer_after_byte t else record t { part = part_with t.part b }
+transfer_after_bit t b =
+    if t.part.count == 8 then transfer_after_byte t else record t { part = partial_byte_with t.part b }
 
 -- ---- any event
 
 -- the annotations of an event on the bus
 abbrev pub event_annotations : Option Transfer → BusEvent → List Annotation
-event_annotations bus (events.Start t) = left_annotations bus ++ annotation t t (start_of bus) ∷ []
-event_annotations bus (events.Stop t) = left_annotations bus ++ annotation t t kinds.Stop ∷ []
+event_annotations bus (events.Start t) = transfer_rest_annotations bus ++ annotation t t (bus_start_kind bus) ∷ []
+event_annotations bus (events.Stop t) = transfer_rest_annotations bus ++ annotation t t kinds.Stop ∷ []
 event_annotations None (events.Bit b) = []
 event_annotations (Some t) (events.Bit b) = bit_annotations t b
 

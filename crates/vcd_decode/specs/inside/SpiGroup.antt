@@ -79,5 +79,5 @@ abbrev pub word_annotation : Group → Annotation
 word_annotation g = annotation g.start g.last (Word g.mosi g.miso)
 
 -- the annotation of a group that is not whole
-abbrev pub rest_annotation : Group → Annotation
-rest_annotation g = annotation g.start g.last (PartialOf g.count)
+abbrev pub unfinished_annotation : Group → Annotation
+unfinished_annotation g = annotation g.start g.last (PartialOf g.count)

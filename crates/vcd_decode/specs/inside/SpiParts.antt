@@ -7,8 +7,8 @@ use Rattle.vcd_decode.specs.Groups.{groups_of}
 use Rattle.vcd_decode.specs.Spi.{group_annotation}
 
 -- whether a mode samples where its clock rises
-abbrev pub samples_rise : ℕ → Bool
-samples_rise mode = mode == 0 || mode == 3
+abbrev pub samples_rising_edge : ℕ → Bool
+samples_rising_edge mode = mode == 0 || mode == 3
 
 -- the first of some ticks
 abbrev pub group_start : List ℕ → ℕ

@@ -11,24 +11,24 @@ use Rattle.vcd_decode.specs.Lines.{is_zero}
 use Rattle.vcd_decode.specs.Spi.{line_data}
 use Rattle.vcd_decode.specs.inside.SpiParts.{group_start, group_end, segment_annotations}
 use Rattle.vcd_decode.specs.inside.LineEdges.{line_edge}
-use Rattle.vcd_decode.specs.inside.SpiClock.{samples}
+use Rattle.vcd_decode.specs.inside.SpiClock.{samples_at}
 use Rattle.vcd_decode.specs.inside.SpiGroup.{line_bit, DataFits, group_before, group_after, word_annotation}
-use Rattle.vcd_decode.specs.inside.SpiGroup.{rest_annotation}
+use Rattle.vcd_decode.specs.inside.SpiGroup.{unfinished_annotation}
 
 -- ---- the tests of an edge
 
 -- whether the chip is selected by the bit of its line
-abbrev pub selects : Option Bit → Bool
-selects None = true
-selects (Some b) = is_zero b
+abbrev pub selects_chip : Option Bit → Bool
+selects_chip None = true
+selects_chip (Some b) = is_zero b
 
 -- whether the chip is deselected
-abbrev pub deselects : BitEdge → Bool
-deselects e = selects (line_bit e.before 3) && not (selects (line_bit e.at 3))
+abbrev pub deselects_chip : BitEdge → Bool
+deselects_chip e = selects_chip (line_bit e.before 3) && not (selects_chip (line_bit e.at 3))
 
 -- whether the data lines are sampled
 abbrev pub is_sampling : SpiSetup → BitEdge → Bool
-is_sampling u e = selects (line_bit e.at 3) && samples u.mode (line_bit e.before 0) (line_bit e.at 0)
+is_sampling u e = selects_chip (line_bit e.at 3) && samples_at u.mode (line_bit e.before 0) (line_bit e.at 0)
 
 -- ---- the annotations of an edge, and the group after it
 
@@ -39,8 +39,8 @@ pub record HasRoomForBit (u : SpiSetup) (g : Group) : Type 0 where
   pub miso : DataFits g.count g.miso
 
 -- the annotations of an unfinished group
-abbrev pub annotations_at_rest : Group → List Annotation
-annotations_at_rest g = if g.count == 0 then [] else rest_annotation g ∷ []
+abbrev pub annotations_of_unfinished : Group → List Annotation
+annotations_of_unfinished g = if g.count == 0 then [] else unfinished_annotation g ∷ []
 
 -- the annotations of an edge where the chip's selection does not change
 abbrev pub annotations_at_bit : SpiSetup → Group → BitEdge → List Annotation
@@ -58,17 +58,17 @@ bit_group u g e =
 
 -- the annotations of any edge
 abbrev pub annotations_at_edge : SpiSetup → Group → BitEdge → List Annotation
-annotations_at_edge u g e = if deselects e then annotations_at_rest g else annotations_at_bit u g e
+annotations_at_edge u g e = if deselects_chip e then annotations_of_unfinished g else annotations_at_bit u g e
 
 -- the group after any edge
 abbrev pub edge_group : SpiSetup → Group → BitEdge → Group
-edge_group u g e = if deselects e then group_before g else bit_group u g e
+edge_group u g e = if deselects_chip e then group_before g else bit_group u g e
 
 -- ---- the same by ticks
 
 -- the group of some ticks
-abbrev pub group_of : SpiSetup → Option (ℕ → Bit) → Option (ℕ → Bit) → List ℕ → Group
-group_of u mosi miso ticks = record {
+abbrev pub tick_group : SpiSetup → Option (ℕ → Bit) → Option (ℕ → Bit) → List ℕ → Group
+tick_group u mosi miso ticks = record {
   start = group_start ticks;
   last = group_end ticks;
   count = length ticks;
@@ -78,7 +78,7 @@ group_of u mosi miso ticks = record {
 
 -- the mark of an edge: a sampling tick, or none where the chip is deselected
 unfoldable pub edge_marks : SpiSetup → BitEdge → List (Option ℕ)
-edge_marks u e = if deselects e then None ∷ [] else (if is_sampling u e then Some e.tick ∷ [] else [])
+edge_marks u e = if deselects_chip e then None ∷ [] else (if is_sampling u e then Some e.tick ∷ [] else [])
 
 -- the annotations of marks, after some ticks of the segment
 unfoldable pub annotations_at_marks : SpiSetup → Option (ℕ → Bit) → Option (ℕ → Bit) → List ℕ → List (Option ℕ)
@@ -94,6 +94,6 @@ pub record SpiProgress (u : SpiSetup) (clk : ℕ → Bit) (mosi miso cs : Option
     (group : Group) (left : List BitEdge) : Type 0 where
   pub ticks : List ℕ
   pub short : length ticks < u.bits
-  pub is_group : group ≡ group_of u mosi miso ticks
+  pub is_group : group ≡ tick_group u mosi miso ticks
   pub each : AllByRecursion (λ e. e ≡ line_edge (Some clk ∷ mosi ∷ miso ∷ cs ∷ []) e.tick) left
   pub rest : found ++ annotations_at_marks u mosi miso ticks (flat_map (edge_marks u) left) ≡ all

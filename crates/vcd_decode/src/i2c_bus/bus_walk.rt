@@ -62,11 +62,11 @@ fn take_line_edge(
     bus: Option<Transfer>,
     edge: BitEdge,
 ) -> Result<Option<Transfer>, NoMemory>
-    requires part { walk.IsBus bus }
+    requires part { walk.IsSoundTransfer bus }
     ensures annotations { IfOk result (λ next. (es : List BusEvent)
         → found.new.items ++ walk.walk_annotations next es
         ≡ found.old.items ++ walk.walk_annotations bus (cons_option (walk.edge_event edge) es)) }
-    ensures part { IfOk result walk.IsBus }
+    ensures part { IfOk result walk.IsSoundTransfer }
 {
     let before = levels_of(edge.before);
     match bus_event(edge.tick, before, levels_of(edge.at)) {

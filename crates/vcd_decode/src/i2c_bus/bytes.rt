@@ -2,7 +2,7 @@
 
 ghost use Rattle.std.specs.Prelude.{◌≡◌, ◌<◌, IfSome};
 ghost use Rattle.vcd_decode.specs.BusBytes as spec;
-ghost use Rattle.vcd_decode.specs.inside.BusWalk.{no_bits, part_with, IsPart};
+ghost use Rattle.vcd_decode.specs.inside.BusWalk.{no_bits, partial_byte_with, IsPartialByte};
 
 use crate::annotation::{Direction, Kind};
 use crate::i2c_bus::events::{BusBit, is_line_high};
@@ -23,20 +23,20 @@ pub(super) enum ByteRole {
 /// The bits of the current byte: how many, the ticks of the first and the last, and the number that
 /// they give, most significant bit first. The value is none where a bit is neither high nor low.
 #[derive(Clone, Copy)]
-pub(super) struct PartByte {
+pub(super) struct PartialByte {
     pub(super) count: u64,
     pub(super) first: u64,
     pub(super) last: u64,
     pub(super) number: Option<u8>,
 }
 
-impl PartByte {
+impl PartialByte {
     /// No bits.
-    pub(super) fn new() -> PartByte
+    pub(super) fn new() -> PartialByte
         ensures bits { result ≡ no_bits }
-        ensures part { IsPart result }
+        ensures part { IsPartialByte result }
     {
-        PartByte {
+        PartialByte {
             count: 0,
             first: 0,
             last: 0,
@@ -45,13 +45,13 @@ impl PartByte {
     }
 
     /// These bits and one more. There are eight at most.
-    pub(super) fn with(self, bit: BusBit) -> PartByte
-        requires part { IsPart self }
-        requires few { self.count < 8 }
-        ensures bits { result ≡ part_with self bit }
-        ensures part { IsPart result }
+    pub(super) fn with(self, bit: BusBit) -> PartialByte
+        requires part { IsPartialByte self }
+        requires not_full { self.count < 8 }
+        ensures bits { result ≡ partial_byte_with self bit }
+        ensures part { IsPartialByte result }
     {
-        PartByte {
+        PartialByte {
             count: self.count + 1,
             first: if self.count == 0 {
                 bit.tick

@@ -6,7 +6,7 @@ ghost use Rattle.vcd_decode.specs.inside.BusWalk as walk;
 
 use crate::annotation::{Annotation, Kind};
 use crate::i2c_bus::bytes::{
-    ByteRole, PartByte, acknowledge_kind, byte_kind, number_with, role_after, ten_bit_address,
+    ByteRole, PartialByte, acknowledge_kind, byte_kind, number_with, role_after, ten_bit_address,
 };
 use crate::i2c_bus::events::{BusBit, BusEvent};
 use vcd_core::NoMemory;
@@ -17,7 +17,7 @@ pub(super) struct Transfer {
     /// The role of the current byte.
     pub(super) role: ByteRole,
     /// The bits of the current byte, at most eight.
-    pub(super) part: PartByte,
+    pub(super) part: PartialByte,
     /// The address of ten bits that came since the START.
     pub(super) address: Option<u16>,
 }
@@ -28,16 +28,16 @@ pub(super) fn take_event(
     bus: Option<Transfer>,
     event: BusEvent,
 ) -> Result<Option<Transfer>, NoMemory>
-    requires part { walk.IsBus bus }
+    requires part { walk.IsSoundTransfer bus }
     ensures annotations { OnOk result
         (found.new.items ≡ found.old.items ++ walk.event_annotations bus event) }
     ensures bus { IfOk result (λ next. next ≡ walk.bus_after bus event) }
-    ensures part { IfOk result walk.IsBus }
+    ensures part { IfOk result walk.IsSoundTransfer }
 {
     match event {
         BusEvent::Start(tick) => {
             append_rest(found, bus)?;
-            append_annotation(found, tick, tick, start_of(bus))?;
+            append_annotation(found, tick, tick, bus_start_kind(bus))?;
             Ok(Some(new_transfer(bus)))
         }
         BusEvent::Stop(tick) => {
@@ -55,11 +55,11 @@ fn take_bit(
     bus: Option<Transfer>,
     bit: BusBit,
 ) -> Result<Option<Transfer>, NoMemory>
-    requires part { walk.IsBus bus }
+    requires part { walk.IsSoundTransfer bus }
     ensures annotations { OnOk result
         (found.new.items ≡ found.old.items ++ walk.event_annotations bus (BusEvent.Bit bit)) }
     ensures bus { IfOk result (λ next. next ≡ walk.bus_after bus (BusEvent.Bit bit)) }
-    ensures part { IfOk result walk.IsBus }
+    ensures part { IfOk result walk.IsSoundTransfer }
 {
     let Some(transfer) = bus else {
         return Ok(None);
@@ -72,10 +72,10 @@ fn take_bit(
 
 /// The transfer with one more bit of the current byte.
 fn transfer_with_bit(transfer: Transfer, bit: BusBit) -> Transfer
-    requires part { walk.IsPart transfer.part }
-    requires few { transfer.part.count < 8 }
-    ensures bits { result ≡ record transfer { part = walk.part_with transfer.part bit } }
-    ensures part { walk.IsPart result.part }
+    requires part { walk.IsPartialByte transfer.part }
+    requires not_full { transfer.part.count < 8 }
+    ensures bits { result ≡ record transfer { part = walk.partial_byte_with transfer.part bit } }
+    ensures part { walk.IsPartialByte result.part }
 {
     Transfer {
         role: transfer.role,
@@ -91,7 +91,7 @@ fn end_byte(
     bit: BusBit,
 ) -> Result<Transfer, NoMemory>
     ensures annotations { OnOk result
-        (found.new.items ≡ found.old.items ++ walk.whole_annotations transfer bit) }
+        (found.new.items ≡ found.old.items ++ walk.whole_byte_annotations transfer bit) }
     ensures bus { IfOk result (λ next. next ≡ walk.transfer_after_byte transfer) }
 {
     let part = transfer.part;
@@ -101,7 +101,7 @@ fn end_byte(
     append_annotation(found, bit.tick, bit.tick, acknowledge)?;
     Ok(Transfer {
         role: role_after(transfer.role, part.number),
-        part: PartByte::new(),
+        part: PartialByte::new(),
         address: transfer.address.or(ten_bit_address(kind)),
     })
 }
@@ -109,7 +109,7 @@ fn end_byte(
 /// Appends the current bits where a condition comes. A single bit is the rise of SCL before the
 /// condition, and gives nothing.
 fn append_rest(found: &mut Vec<Annotation>, bus: Option<Transfer>) -> Result<(), NoMemory>
-    ensures { OnOk result (found.new.items ≡ found.old.items ++ walk.left_annotations bus) }
+    ensures { OnOk result (found.new.items ≡ found.old.items ++ walk.transfer_rest_annotations bus) }
 {
     let Some(transfer) = bus else {
         return Ok(());
@@ -136,18 +136,18 @@ fn append_annotation(
 /// The transfer that a START begins.
 fn new_transfer(bus: Option<Transfer>) -> Transfer
     ensures bits { result ≡ walk.new_transfer bus }
-    ensures part { walk.IsPart result.part }
+    ensures part { walk.IsPartialByte result.part }
 {
     Transfer {
         role: ByteRole::Address(bus.and_then(|transfer| transfer.address)),
-        part: PartByte::new(),
+        part: PartialByte::new(),
         address: None,
     }
 }
 
 /// The kind of a START: a repeated one where the last condition was a START.
-fn start_of(bus: Option<Transfer>) -> Kind
-    ensures { result ≡ walk.start_of bus }
+fn bus_start_kind(bus: Option<Transfer>) -> Kind
+    ensures { result ≡ walk.bus_start_kind bus }
 {
     match bus {
         Some(_) => Kind::RepeatedStart,

@@ -55,5 +55,5 @@ returns c =
     let cs = option_map line_of (option_copied c.args.cs) in
     so_far_ends u some mosi miso (line_of c.args.clk.now) cs
     (spi_annotations u (line_of c.args.clk.now) mosi miso cs c.args.end)
-    c.loop-edge.found.items c.annotate_rest.new.found.items c.loop-edge.group c.loop-edge.edge-iterator
-    c.loop-edge.invariant c.in-None.ensures.steps.0 c.in_ok-annotate_rest.ensures
+    c.loop-edge.found.items c.append_unfinished.new.found.items c.loop-edge.group c.loop-edge.edge-iterator
+    c.loop-edge.invariant c.in-None.ensures.steps.0 c.in_ok-append_unfinished.ensures

@@ -5,8 +5,8 @@ use Rattle.vcd_decode.specs.Uart.{sample_tick, sample_offset}
 use Rattle.vcd_decode.proofs.BegunFrames.{cut_in_start_bit, glitch, cut_later, whole}
 use Rattle.vcd_decode.proofs.uart_frames.begun_frame.Goals as goal
 
-pub returns-then-left-first : goal.returns-then-left-first
-returns-then-left-first c =
+pub returns-then-ticks_left-first : goal.returns-then-ticks_left-first
+returns-then-ticks_left-first c =
     sym (cut_in_start_bit (line_of c.args.wave.now) c.args.end c.args.setup.now c.args.start (omega arith))
 
 pub returns-then-not-is_zero : goal.returns-then-not-is_zero
@@ -17,8 +17,8 @@ returns-then-not-is_zero c =
     ap is_zero (sym first) ∙ sym c.is_zero.ensures ∙ c.if-not-is_zero.true in
     sym (glitch (line_of c.args.wave.now) c.args.end c.args.setup.now c.args.start (omega arith) high)
 
-pub returns-then-left-last : goal.returns-then-left-last
-returns-then-left-last c =
+pub returns-then-ticks_left-last : goal.returns-then-ticks_left-last
+returns-then-ticks_left-last c =
     let first : c.letter_near.result ≡ line_of c.args.wave.now (sample_tick c.args.setup.now c.args.start 0) =
     c.letter_near.ensures ∙ ap (λ n. line_of c.args.wave.now (c.args.start + n)) c.sample_offset-first.ensures in
     let low : is_zero (line_of c.args.wave.now (sample_tick c.args.setup.now c.args.start 0)) ≡ true =

@@ -1,9 +1,9 @@
 use Rattle.std.proofs.Common.{◌≡◌, ◌++◌, None}
-use Rattle.vcd_decode.specs.inside.BusWalk.{walk_annotations, edge_events, IsBus}
+use Rattle.vcd_decode.specs.inside.BusWalk.{walk_annotations, edge_events, IsSoundTransfer}
 use Rattle.vcd_decode.proofs.i2c_bus.bus_walk.annotations_of.Given as goal
 
 -- the annotations found and those of the edges that are left are all annotations
 abbrev pub invariant-loop-edge : goal.invariant-loop-edge
 invariant-loop-edge l =
     (l.found.items ++ walk_annotations l.bus (edge_events l.edge-iterator)
-    ≡ walk_annotations None (edge_events l.fn.edges)) × IsBus l.bus
+    ≡ walk_annotations None (edge_events l.fn.edges)) × IsSoundTransfer l.bus
