@@ -13,13 +13,13 @@ use Rattle.vcd_edit.specs.declared.edit.Edit.TheVariants.{Cut}
 use Rattle.vcd_edit.specs.declared.record.Piece.{Piece}
 use Rattle.vcd_edit.specs.RecordView.{PieceView}
 use Rattle.vcd_edit.specs.Effect.{cut_value, signal_after_cut, effect}
-use Rattle.vcd_edit.specs.Allowed.{edit_fault}
+use Rattle.vcd_edit.specs.EditFaults.{edit_fault}
 use Rattle.vcd_edit.specs.AppliedRecords.{apply_record, IsOneStep}
 use Rattle.vcd_edit.specs.Records.{piece_view}
-use Rattle.vcd_edit.specs.inside.Plans.{IsPlan, GivesValues, LeadEach}
+use Rattle.vcd_edit.specs.inside.Plans.{IsPlan, GivesValues, PiecesForEach}
 use Rattle.vcd_edit.proofs.Faults.{no_fault}
 use Rattle.vcd_edit.proofs.SoundEffects.{sound_at}
-use Rattle.vcd_edit.proofs.Plans.{is_plan, contents_at}
+use Rattle.vcd_edit.proofs.EditPlans.{is_plan, contents_at}
 use Rattle.vcd_edit.proofs.PieceLists.{lead_without, lead_with, lead_all}
 use Rattle.vcd_edit.proofs.Cuts.{quiet_cut}
 
@@ -44,8 +44,8 @@ module _ (c : Contents) (signals : List Signal) (are : c.signals ≡ map signal_
   sound_here = subst (IsSoundSignal c.end) here (sound_at c n within_c sound)
 
   pub cut_without : All (λ c. c.tick < from) s.wave.changes
-      → LeadEach c (neg_ℤ (pos (to - from))) (signal_after_cut stop from to) n (map piece_view ps)
-      → LeadEach c (neg_ℤ (pos (to - from))) (signal_after_cut stop from to) (n + 1) (map piece_view ps)
+      → PiecesForEach c (neg_ℤ (pos (to - from))) (signal_after_cut stop from to) n (map piece_view ps)
+      → PiecesForEach c (neg_ℤ (pos (to - from))) (signal_after_cut stop from to) (n + 1) (map piece_view ps)
   cut_without quiet lead =
       lead_without c (signal_after_cut stop from to) n (neg_ℤ (pos (to - from))) (map piece_view ps) lead within_c
       (signal_contents s) here
@@ -54,12 +54,13 @@ module _ (c : Contents) (signals : List Signal) (are : c.signals ≡ map signal_
   pub cut_with : (p : Piece) (more : List Piece)
       → ((end stop : ℕ) → IsSoundSignal end (signal_contents s) → end ≤ stop + (to - from) → from ≤ stop → stop < 2 ^ 64
       → GivesValues n (signal_contents s) stop (neg_ℤ (pos (to - from))) (cut_value from to (signal_contents s)) p)
-      → more ≡ ps ++ p ∷ [] → LeadEach c (neg_ℤ (pos (to - from))) (signal_after_cut stop from to) n (map piece_view ps)
-      → LeadEach c (neg_ℤ (pos (to - from))) (signal_after_cut stop from to) (n + 1) (map piece_view more)
+      → more ≡ ps ++ p ∷ []
+      → PiecesForEach c (neg_ℤ (pos (to - from))) (signal_after_cut stop from to) n (map piece_view ps)
+      → PiecesForEach c (neg_ℤ (pos (to - from))) (signal_after_cut stop from to) (n + 1) (map piece_view more)
   cut_with p more gives is lead =
       let piece = gives c.end stop sound_here (omega (arith, some, ends)) (omega (arith, some, ends))
       (omega (arith, sound.end)) in
-      subst (LeadEach c (neg_ℤ (pos (to - from))) (signal_after_cut stop from to) (n + 1))
+      subst (PiecesForEach c (neg_ℤ (pos (to - from))) (signal_after_cut stop from to) (n + 1))
       (sym (ap (map piece_view) is ∙ map-append piece_view ps (p ∷ [])))
       (lead_with c (signal_after_cut stop from to) n (neg_ℤ (pos (to - from))) (map piece_view ps) lead within_c
       (signal_contents s) (piece_view p) stop (cut_value from to (signal_contents s)) here piece.signal refl
@@ -67,7 +68,7 @@ module _ (c : Contents) (signals : List Signal) (are : c.signals ≡ map signal_
 
 -- the pieces of all signals, and the end
 pub cut_plan : (c : Contents) (from to : ℕ) (ps : List PieceView) → IsSound c → edit_fault (Cut from to) c ≡ None
-    → LeadEach c (neg_ℤ (pos (to - from))) (signal_after_cut (c.end - (to - from)) from to) (length c.signals) ps
+    → PiecesForEach c (neg_ℤ (pos (to - from))) (signal_after_cut (c.end - (to - from)) from to) (length c.signals) ps
     → IsPlan (Cut from to) c (record {
       pieces = ps;
       word = None;
@@ -90,15 +91,16 @@ cut_plan c from to ps sound none lead =
 -- all signals have been reached
 pub cut_end : (c : Contents) (signals : List Signal) → c.signals ≡ map signal_contents signals
     → (from to n : ℕ) (ps : List PieceView) → n ≡ length signals
-    → LeadEach c (neg_ℤ (pos (to - from))) (signal_after_cut (c.end - (to - from)) from to) n ps
-    → LeadEach c (neg_ℤ (pos (to - from))) (signal_after_cut (c.end - (to - from)) from to) (length c.signals) ps
+    → PiecesForEach c (neg_ℤ (pos (to - from))) (signal_after_cut (c.end - (to - from)) from to) n ps
+    → PiecesForEach c (neg_ℤ (pos (to - from))) (signal_after_cut (c.end - (to - from)) from to) (length c.signals) ps
 cut_end c signals are from to n ps all lead =
-    subst (λ (n : ℕ). LeadEach c (neg_ℤ (pos (to - from))) (signal_after_cut (c.end - (to - from)) from to) n ps) (all
+    subst (λ (n : ℕ). PiecesForEach c (neg_ℤ (pos (to - from))) (signal_after_cut (c.end - (to - from)) from to) n ps)
+    (all
     ∙ sym (ap length are ∙ length-map signals signal_contents)) lead
 
 -- such pieces are the only part of the record except the end
 pub cut_is_one_step : (c : Contents) (by : ℤ) (g : SignalContents → SignalContents) (n : ℕ) (ps : List PieceView)
-    (end : ℕ) → LeadEach c by g n ps
+    (end : ℕ) → PiecesForEach c by g n ps
     → IsOneStep (record { pieces = ps; word = None; signal = None; other_end = Some end })
 cut_is_one_step c by g n ps end lead =
     record {

@@ -11,7 +11,7 @@ use Rattle.vcd_core.specs.Wave.{change, unless_same, IsWave, AllUpTo, last_value
 use Rattle.vcd_core.specs.Contents.{SignalContents, signal_value}
 use Rattle.vcd_edit.specs.RecordView.{PieceView}
 use Rattle.vcd_edit.specs.Effect.{cut_value, signal_after_cut}
-use Rattle.vcd_edit.specs.inside.Ranges.{value_just_before, changes_in, LeadsTo}
+use Rattle.vcd_edit.specs.inside.Ranges.{value_just_before, changes_in, GivesChanges}
 use Rattle.vcd_core.proofs.Waves.{wave_is}
 use Rattle.vcd_core.proofs.Pushes.{upto_from_all}
 use Rattle.vcd_core.proofs.EdgeLines.{value_last}
@@ -63,7 +63,7 @@ module _ (a b end stop : ℕ) (s : SignalContents) (is : IsWave s.width s.change
       → p.to ≡ count_by (λ c. nat_lt c.tick (b + 1)) s.changes → p.by ≡ by
       → p.changes ≡ [] ++ unless_same (same_letters (signal_value s b) (value_just_before s.width (signal_value s) a))
       (change a (signal_value s b)) []
-      → LeadsTo p s.changes s.width stop (cut_value a b s)
+      → GivesChanges p s.changes s.width stop (cut_value a b s)
   cut_leads p by later from to is_by told =
       replacement_leads s.width end s.changes is upto a (b + 1) 1 (stop - a) p.from p.to stop by (cut_value a b s)
       p.changes (omega arith) (omega arith) from to later p refl refl refl is_by

@@ -18,7 +18,7 @@ use Rattle.vcd_edit.specs.declared.record.Piece.{Piece}
 use Rattle.vcd_edit.specs.RecordView.{PieceView}
 use Rattle.vcd_edit.specs.AppliedRecords.{changes_with_piece}
 use Rattle.vcd_edit.specs.Effect.{steady_value}
-use Rattle.vcd_edit.specs.inside.Thinned.{kept_changes}
+use Rattle.vcd_edit.specs.inside.RemainingChanges.{kept_changes}
 use Rattle.vcd_edit.specs.inside.Plans.{GivesValues}
 use Rattle.vcd_edit.specs.Records.{piece_view}
 use Rattle.vcd_edit.proofs.KeptChanges.{kept_are, kept_of_none}

@@ -18,13 +18,13 @@ use Rattle.vcd_edit.specs.declared.edit.Rule.TheVariants.{Not, And, Or, Xor, Bit
 use Rattle.vcd_edit.specs.declared.record.Piece.{Piece}
 use Rattle.vcd_edit.specs.RecordView.{PieceView}
 use Rattle.vcd_edit.specs.Effect.{first_operand, rule_bit, derived_signal, effect}
-use Rattle.vcd_edit.specs.Allowed.{edit_fault}
+use Rattle.vcd_edit.specs.EditFaults.{edit_fault}
 use Rattle.vcd_edit.specs.AppliedRecords.{with_pieces, apply_record, PieceFits}
 use Rattle.vcd_edit.specs.Touched.{puts_in}
 use Rattle.vcd_edit.specs.Records.{piece_view}
 use Rattle.vcd_edit.specs.inside.Derived.{last_operand, operator_bit}
 use Rattle.vcd_edit.specs.inside.Plans.{IsPlan}
-use Rattle.vcd_edit.proofs.Plans.{is_plan}
+use Rattle.vcd_edit.proofs.EditPlans.{is_plan}
 
 -- a rule by the values of its operands
 rule_is : (rule : Rule) (c : Contents) (t : ℕ)

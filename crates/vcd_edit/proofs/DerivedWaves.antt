@@ -21,11 +21,11 @@ use Rattle.vcd_core.proofs.Waves.{value_past, wave_is}
 use Rattle.vcd_core.proofs.Pushes.{upto_from_all}
 use Rattle.vcd_edit.specs.declared.edit.Rule.{Rule}
 use Rattle.vcd_edit.specs.declared.edit.Rule.TheVariants.{Not, And, Or, Xor, BitOf}
-use Rattle.vcd_edit.specs.inside.Thinned.{TicksRise}
+use Rattle.vcd_edit.specs.inside.RemainingChanges.{TicksRise}
 use Rattle.vcd_edit.specs.inside.Ranges.{value_just_before}
 use Rattle.vcd_edit.specs.inside.Derived.{has_two_operands, operator_bit, bit_of_two, edge_bit, edge_change}
-use Rattle.vcd_edit.specs.inside.Derived.{operand_change, IsMade}
-use Rattle.vcd_edit.proofs.ThinnedLists.{rise_lower, early_value, wave_rises, mapped_upto, mapped_value}
+use Rattle.vcd_edit.specs.inside.Derived.{operand_change, DerivedSoFar}
+use Rattle.vcd_edit.proofs.WithoutRepeats.{rise_lower, early_value, wave_rises, mapped_upto, mapped_value}
 
 -- ---- one change after another
 
@@ -36,7 +36,8 @@ rise_all width floor (c ∷ cs) (from, wide, rest) =
     (λ k d less. omega (arith, from, rise_all width (c.tick + 1) cs rest k d less))
 
 -- nothing is made yet
-pub none_made : (all : List Change) (w : WaveView) → w.width ≡ 1 → w.changes ≡ [] → TicksRise 1 0 all → IsMade all all w
+pub none_made : (all : List Change) (w : WaveView) → w.width ≡ 1 → w.changes ≡ [] → TicksRise 1 0 all
+    → DerivedSoFar all all w
 unfolding value_from
 none_made all w width none rise = record {
   width = width;
@@ -48,11 +49,11 @@ none_made all w width none rise = record {
 }
 
 -- one more change is pushed
-pub made_more : (all rest : List Change) (c : Change) (old new : WaveView) → IsMade all (c ∷ rest) old
+pub made_more : (all rest : List Change) (c : Change) (old new : WaveView) → DerivedSoFar all (c ∷ rest) old
     → new.width ≡ old.width
     → ((t : ℕ) → value_at new.width new.changes t
     ≡ (if nat_le c.tick t then c.value else value_at old.width old.changes t))
-    → All (λ d. d.tick ≤ c.tick) new.changes → IsMade all rest new
+    → All (λ d. d.tick ≤ c.tick) new.changes → DerivedSoFar all rest new
 unfolding value_from
 made_more all rest c old new made width values last =
     let (from, wide, rise) = made.rise in
@@ -72,54 +73,56 @@ made_more all rest c old new made width values last =
     }
 
 -- the next change is not before the last
-pub late_enough : (all rest : List Change) (c : Change) (w : WaveView) → IsMade all (c ∷ rest) w
+pub late_enough : (all rest : List Change) (c : Change) (w : WaveView) → DerivedSoFar all (c ∷ rest) w
     → All (λ d. d.tick ≤ c.tick) w.changes
 late_enough all rest c w made = λ k d less. made.before k d less 0 c (omega arith)
 
 -- the same for an edge
 pub edge_made : (rule : Rule) (all left rest : List BitEdge) (e : BitEdge) (value : List Bit) (old new : WaveView)
     → left ≡ e ∷ rest → value ≡ edge_bit rule e.at ∷ []
-    → IsMade (map (edge_change rule) all) (map (edge_change rule) left) old → new.width ≡ old.width
+    → DerivedSoFar (map (edge_change rule) all) (map (edge_change rule) left) old → new.width ≡ old.width
     → ((t : ℕ) → value_at new.width new.changes t
     ≡ (if nat_le e.tick t then value else value_at old.width old.changes t))
     → All (λ d. d.tick ≤ e.tick) new.changes
-    → IsMade (map (edge_change rule) all) (map (edge_change rule) rest) new
+    → DerivedSoFar (map (edge_change rule) all) (map (edge_change rule) rest) new
 edge_made rule all left rest e value old new steps is made width values last =
     made_more (map (edge_change rule) all) (map (edge_change rule) rest) (edge_change rule e) old new
-    (subst (λ (es : List BitEdge). IsMade (map (edge_change rule) all) (map (edge_change rule) es) old) steps made)
+    (subst (λ (es : List BitEdge). DerivedSoFar (map (edge_change rule) all)
+    (map (edge_change rule) es) old) steps made)
     width
     (λ t. values t ∙ ap (λ v. if nat_le e.tick t then v else value_at old.width old.changes t) is) last
 
 pub edge_late : (rule : Rule) (all left rest : List BitEdge) (e : BitEdge) (w : WaveView) → left ≡ e ∷ rest
-    → IsMade (map (edge_change rule) all) (map (edge_change rule) left) w → All (λ d. d.tick ≤ e.tick) w.changes
+    → DerivedSoFar (map (edge_change rule) all) (map (edge_change rule) left) w → All (λ d. d.tick ≤ e.tick) w.changes
 edge_late rule all left rest e w steps made =
     late_enough (map (edge_change rule) all) (map (edge_change rule) rest) (edge_change rule e) w
-    (subst (λ (es : List BitEdge). IsMade (map (edge_change rule) all) (map (edge_change rule) es) w) steps made)
+    (subst (λ (es : List BitEdge). DerivedSoFar (map (edge_change rule) all) (map (edge_change rule) es) w) steps made)
 
 -- the same for a change of the one operand
 pub operand_made : (rule : Rule) (cs : List Change) (i : ℕ) (c : Change) (value : List Bit) (old new : WaveView)
     → i < length cs → c ≡ get_or cs i c → value ≡ operator_bit rule c.value c.value ∷ []
-    → IsMade (map (operand_change rule) cs) (map (operand_change rule) (drop i cs)) old → new.width ≡ old.width
+    → DerivedSoFar (map (operand_change rule) cs) (map (operand_change rule) (drop i cs)) old → new.width ≡ old.width
     → ((t : ℕ) → value_at new.width new.changes t
     ≡ (if nat_le c.tick t then value else value_at old.width old.changes t))
     → All (λ d. d.tick ≤ c.tick) new.changes
-    → IsMade (map (operand_change rule) cs) (map (operand_change rule) (drop (i + 1) cs)) new
+    → DerivedSoFar (map (operand_change rule) cs) (map (operand_change rule) (drop (i + 1) cs)) new
 operand_made rule cs i c value old new within at is made width values last =
     let here : drop i cs ≡ c ∷ drop (i + 1) cs = drop_more cs i c within ∙ ap (λ d. d ∷ drop (i + 1) cs) (sym at) in
     made_more (map (operand_change rule) cs) (map (operand_change rule) (drop (i + 1) cs)) (operand_change rule c) old
     new
-    (subst (λ (l : List Change). IsMade (map (operand_change rule) cs) (map (operand_change rule) l) old) here made)
+    (subst (λ (l : List Change). DerivedSoFar (map (operand_change rule) cs)
+    (map (operand_change rule) l) old) here made)
     width
     (λ t. values t ∙ ap (λ v. if nat_le c.tick t then v else value_at old.width old.changes t) is) last
 
 pub operand_late : (rule : Rule) (cs : List Change) (i : ℕ) (c : Change) (w : WaveView) → i < length cs
     → c ≡ get_or cs i c
-    → IsMade (map (operand_change rule) cs) (map (operand_change rule) (drop i cs)) w
+    → DerivedSoFar (map (operand_change rule) cs) (map (operand_change rule) (drop i cs)) w
     → All (λ d. d.tick ≤ c.tick) w.changes
 operand_late rule cs i c w within at made =
     let here : drop i cs ≡ c ∷ drop (i + 1) cs = drop_more cs i c within ∙ ap (λ d. d ∷ drop (i + 1) cs) (sym at) in
     late_enough (map (operand_change rule) cs) (map (operand_change rule) (drop (i + 1) cs)) (operand_change rule c) w
-    (subst (λ (l : List Change). IsMade (map (operand_change rule) cs) (map (operand_change rule) l) w) here made)
+    (subst (λ (l : List Change). DerivedSoFar (map (operand_change rule) cs) (map (operand_change rule) l) w) here made)
 
 pub operand_rise : (rule : Rule) (width floor : ℕ) (cs : List Change) → TicksRise width floor cs
     → TicksRise 1 floor (map (operand_change rule) cs)
@@ -132,14 +135,14 @@ operands_rise rule width cs is =
     operand_rise rule width 0 cs (wave_rises width 0 (all_x width) cs (length-replicate width X) is.rise)
 
 pub none_to_make : (rule : Rule) (cs : List Change) (i : ℕ) (w : WaveView) → length cs ≤ i
-    → IsMade (map (operand_change rule) cs) (map (operand_change rule) (drop i cs)) w
-    → IsMade (map (operand_change rule) cs) [] w
+    → DerivedSoFar (map (operand_change rule) cs) (map (operand_change rule) (drop i cs)) w
+    → DerivedSoFar (map (operand_change rule) cs) [] w
 none_to_make rule cs i w done made =
-    subst (λ (l : List Change). IsMade (map (operand_change rule) cs) (map (operand_change rule) l) w)
+    subst (λ (l : List Change). DerivedSoFar (map (operand_change rule) cs) (map (operand_change rule) l) w)
     (drop_all i cs done) made
 
 -- all is made
-pub made_is : (all : List Change) (w : WaveView) (end : ℕ) (f : ℕ → List Bit) → IsMade all [] w
+pub made_is : (all : List Change) (w : WaveView) (end : ℕ) (f : ℕ → List Bit) → DerivedSoFar all [] w
     → IsWave w.width w.changes → AllUpTo end all
     → ((t : ℕ) → t ≤ end → value_from (all_x 1) all t ≡ f t) → w.changes ≡ changes_of 1 end f
 unfolding value_from
@@ -303,7 +306,7 @@ module _ (rule : Rule) (a b : WaveView) where
 
   -- the wave from the edges has the rule's bit at each tick
   pub derived_is : has_two_operands rule ≡ true → (end : ℕ) (w : WaveView)
-      → IsMade (map (edge_change rule) (bit_edges end)) [] w → IsWave w.width w.changes
+      → DerivedSoFar (map (edge_change rule) (bit_edges end)) [] w → IsWave w.width w.changes
       → w.changes ≡ changes_of 1 end rule_value
   derived_is two end w made form =
       let all = edge_changes two end in
@@ -335,7 +338,7 @@ module _ (rule : Rule) (a b : WaveView) where
 
 -- the wave from the changes of one operand has the rule's bit at each tick
 pub derived_of_one_is : (rule : Rule) (a : WaveView) (end : ℕ) (w : WaveView) → AllUpTo end a.changes
-    → IsMade (map (operand_change rule) a.changes) [] w → IsWave w.width w.changes
+    → DerivedSoFar (map (operand_change rule) a.changes) [] w → IsWave w.width w.changes
     → w.changes ≡ changes_of 1 end (λ t. operator_bit rule (value_at a.width a.changes t) (value_at a.width a.changes t)
     ∷ [])
 derived_of_one_is rule a end w upto made form =

@@ -9,9 +9,9 @@ use Rattle.vcd_edit.specs.declared.edit.Rule.TheVariants.{Not, And, Or, Xor, Bit
 use Rattle.vcd_edit.specs.declared.fault.EditError.{EditError}
 use Rattle.vcd_edit.specs.Effect.{first_operand}
 use Rattle.vcd_edit.specs.inside.Derived.{last_operand, has_two_operands}
-use Rattle.vcd_edit.specs.Allowed.{is_no_signal, is_wide, has_wide_operand, lacks_operand, lacks_signal}
-use Rattle.vcd_edit.specs.Allowed.{joins_wide_signal, lacks_bit, has_bad_range, has_bad_count, has_bad_value}
-use Rattle.vcd_edit.specs.Allowed.{gives_no_word, takes_name, adds_too_many, edit_fault}
+use Rattle.vcd_edit.specs.EditFaults.{is_no_signal, is_wide, has_wide_operand, lacks_operand, lacks_signal}
+use Rattle.vcd_edit.specs.EditFaults.{joins_wide_signal, lacks_bit, has_bad_range, has_bad_count, has_bad_value}
+use Rattle.vcd_edit.specs.EditFaults.{gives_no_word, gives_taken_name, adds_too_many, edit_fault}
 
 -- none of the nine tests holds
 pub record HasNoFault (e : Edit) (c : Contents) : Type 0 where
@@ -22,7 +22,7 @@ pub record HasNoFault (e : Edit) (c : Contents) : Type 0 where
   pub count : has_bad_count e ≡ false
   pub value : has_bad_value e c ≡ false
   pub word : gives_no_word e ≡ false
-  pub name : takes_name e c ≡ false
+  pub name : gives_taken_name e c ≡ false
   pub room : adds_too_many e c ≡ false
 
 -- a test that does not hold is passed over
@@ -41,7 +41,7 @@ no_fault e c none =
     let g = not_first (has_bad_count e) _ _ f.1 in
     let h = not_first (has_bad_value e c) _ _ g.1 in
     let i = not_first (gives_no_word e) _ _ h.1 in
-    let j = not_first (takes_name e c) _ _ i.1 in
+    let j = not_first (gives_taken_name e c) _ _ i.1 in
     let k = not_first (adds_too_many e c) _ _ j.1 in
     record {
       signals = a.0;
@@ -56,8 +56,8 @@ no_fault e c none =
     }
 
 -- a position below the number of signals
-pub signal_there : (c : Contents) (k : ℕ) → is_no_signal c k ≡ false → k < length c.signals
-signal_there c k none = grind (arith, nat_tests)
+pub position_below : (c : Contents) (k : ℕ) → is_no_signal c k ≡ false → k < length c.signals
+position_below c k none = grind (arith, nat_tests)
 
 neither : (p q : Bool) → (p || q) ≡ false → p ≡ false
 neither true q none = none
@@ -66,11 +66,11 @@ neither false q none = refl
 -- the first operand exists if none is missing
 pub first_operand_there : (c : Contents) (rule : Rule) → lacks_operand rule c ≡ false
     → first_operand rule < length c.signals
-first_operand_there c (Not a) none = signal_there c a none
-first_operand_there c (And a b) none = signal_there c a (neither (is_no_signal c a) (is_no_signal c b) none)
-first_operand_there c (Or a b) none = signal_there c a (neither (is_no_signal c a) (is_no_signal c b) none)
-first_operand_there c (Xor a b) none = signal_there c a (neither (is_no_signal c a) (is_no_signal c b) none)
-first_operand_there c (BitOf a k) none = signal_there c a none
+first_operand_there c (Not a) none = position_below c a none
+first_operand_there c (And a b) none = position_below c a (neither (is_no_signal c a) (is_no_signal c b) none)
+first_operand_there c (Or a b) none = position_below c a (neither (is_no_signal c a) (is_no_signal c b) none)
+first_operand_there c (Xor a b) none = position_below c a (neither (is_no_signal c a) (is_no_signal c b) none)
+first_operand_there c (BitOf a k) none = position_below c a none
 
 other : (p q : Bool) → (p || q) ≡ false → q ≡ false
 other true q none = absurd (cc)

@@ -15,10 +15,10 @@ use Rattle.vcd_edit.specs.Effect.{renamed_signal}
 use Rattle.vcd_edit.specs.AppliedRecords.{with_piece, with_pieces, with_first_word, with_moved_signal, with_end}
 use Rattle.vcd_edit.specs.AppliedRecords.{apply_record, PieceFits, MayMoveSignal, Fits, IsOneStep}
 use Rattle.vcd_edit.specs.inside.Fitting.{AreSoundSignals, PartsFit, KindFits, HasSoundMetadata}
-use Rattle.vcd_edit.proofs.Plans.{contents_at}
+use Rattle.vcd_edit.proofs.EditPlans.{contents_at}
 use Rattle.vcd_edit.proofs.Others.{with_other, other_there, with_one_more, one_more_there}
-use Rattle.vcd_edit.proofs.WaysBack.{parts, none_put, no_pieces_at_word, no_pieces_at_move, no_word_at_move}
-use Rattle.vcd_edit.proofs.WaysBack.{move_of_end, end_kept}
+use Rattle.vcd_edit.proofs.OppositeRecords.{parts, none_put, no_pieces_at_word, no_pieces_at_move, no_word_at_move}
+use Rattle.vcd_edit.proofs.OppositeRecords.{move_of_end, end_kept}
 
 -- ---- a word
 

@@ -15,13 +15,13 @@ use Rattle.vcd_core.specs.Contents.{Contents, SignalContents, no_signal, signal_
 use Rattle.vcd_core.specs.Sound.{IsSoundSignal}
 use Rattle.vcd_edit.specs.RecordView.{PieceView}
 use Rattle.vcd_edit.specs.AppliedRecords.{changes_with_piece, signal_with_changes, with_piece, with_pieces, PieceFits}
-use Rattle.vcd_edit.specs.AppliedRecords.{NoneFor, AreApart}
+use Rattle.vcd_edit.specs.AppliedRecords.{NoPieceFor, HaveDistinctSignals}
 use Rattle.vcd_edit.specs.declared.record.Piece.{Piece}
 use Rattle.vcd_edit.specs.Records.{piece_view}
 use Rattle.vcd_edit.specs.inside.Adjacency.{IsValidPiece}
 use Rattle.vcd_edit.specs.inside.Fitting.{HasSoundNames, IsFormedSignal, late_count, IsValidIn, AreSoundSignals}
 use Rattle.vcd_edit.proofs.TouchedSums.{sum_by-map}
-use Rattle.vcd_edit.proofs.PiecesBack.{signal_elsewhere, count_kept, counts_kept, none_all, pieces_reach}
+use Rattle.vcd_edit.proofs.OppositePieces.{signal_elsewhere, count_kept, counts_kept, none_all, pieces_reach}
 
 -- ---- a signal by its names and its changes
 
@@ -94,8 +94,8 @@ stands_after : (end : ℕ) (c : Contents) (p q : PieceView) → q.signal ≢ p.s
     → IsValidIn end (with_piece c p).signals q
 stands_after end c p q other stands = record {
   within = omega (arith, count_kept c p, stands.within);
-  stands = subst (λ (s : SignalContents). IsValidPiece s.width end s.changes q)
-      (sym (signal_elsewhere c p q.signal other)) stands.stands;
+  valid = subst (λ (s : SignalContents). IsValidPiece s.width end s.changes q)
+      (sym (signal_elsewhere c p q.signal other)) stands.valid;
 }
 
 abbrev late_in : ℕ → List SignalContents → ℕ
@@ -113,7 +113,7 @@ late_after end c p stands =
     omega (
       arith,
       sum_by-set (λ (s : SignalContents). late_count end s.changes) c.signals p.signal new no_signal stands.within,
-      not_late end new.changes stands.stands.upto,
+      not_late end new.changes stands.valid.upto,
     )
 
 -- all but the changes
@@ -133,12 +133,12 @@ bare_after c p =
 
 -- ---- pieces one after another
 
-stand_after : (end : ℕ) (c : Contents) (p : PieceView) (ps : List PieceView) → NoneFor p.signal ps
+stand_after : (end : ℕ) (c : Contents) (p : PieceView) (ps : List PieceView) → NoPieceFor p.signal ps
     → All (IsValidIn end c.signals) ps → All (IsValidIn end (with_piece c p).signals) ps
 stand_after end c p ps none stand =
     λ k d less. stands_after end c p (get_or ps k d) (none_all p.signal ps none k d less) (stand k d less)
 
-late_elsewhere : (end : ℕ) (c : Contents) (p : PieceView) (ps : List PieceView) → NoneFor p.signal ps
+late_elsewhere : (end : ℕ) (c : Contents) (p : PieceView) (ps : List PieceView) → NoPieceFor p.signal ps
     → sum_by (late_at end (with_piece c p)) ps ≡ sum_by (late_at end c) ps
 late_elsewhere end c p [] none = refl
 late_elsewhere end c p (q ∷ qs) (other, none) =
@@ -146,7 +146,7 @@ late_elsewhere end c p (q ∷ qs) (other, none) =
     ∙ (λ i. late_count end (signal_elsewhere c p q.signal other i).changes + late_elsewhere end c p qs none i)
     ∙ sym (sum_by-cons (late_at end c) q qs)
 
-late_all : (end : ℕ) (c : Contents) (ps : List PieceView) → AreApart ps → All (IsValidIn end c.signals) ps
+late_all : (end : ℕ) (c : Contents) (ps : List PieceView) → HaveDistinctSignals ps → All (IsValidIn end c.signals) ps
     → late_in end (with_pieces c ps).signals + sum_by (late_at end c) ps ≡ late_in end c.signals
 unfolding with_pieces
 late_all end c [] apart stand = omega arith
@@ -165,7 +165,7 @@ unfolding with_pieces
 bare_all c [] = refl
 bare_all c (p ∷ ps) = bare_all (with_piece c p) ps ∙ bare_after c p
 
-formed_all : (end : ℕ) (c : Contents) (ps : List PieceView) → AreApart ps → All (IsValidIn end c.signals) ps
+formed_all : (end : ℕ) (c : Contents) (ps : List PieceView) → HaveDistinctSignals ps → All (IsValidIn end c.signals) ps
     → All IsFormedSignal c.signals → All IsFormedSignal (with_pieces c ps).signals
 unfolding with_pieces
 formed_all end c [] apart stand formed = formed
@@ -177,7 +177,7 @@ formed_all end c (p ∷ ps) (none, apart) stand formed =
     (stand_after end c p ps none (All-tail (IsValidIn end c.signals) p ps stand))
     (All-set IsFormedSignal c.signals p.signal (signal_with_changes old (changes_with_piece p old.changes)) (
       names,
-      here.stands.form,
+      here.valid.form,
     ) formed)
 
 -- ---- what the tests of pieces show
@@ -215,7 +215,7 @@ late_pieces_are end c ss pieces same =
 abbrev FitAll : ℕ → Contents → List PieceView → Type 0
 FitAll end c ps = All (PieceFits c) ps × AreSoundSignals end (with_pieces c ps).signals
 
-module _ (end : ℕ) (c : Contents) (ps : List PieceView) (apart : AreApart ps) where
+module _ (end : ℕ) (c : Contents) (ps : List PieceView) (apart : HaveDistinctSignals ps) where
   pub few_before : FitAll end c ps → length c.signals ≤ SIGNAL_LIMIT
   few_before (fit, (few, sound)) = omega (arith, few, counts_kept c ps)
 
@@ -226,9 +226,9 @@ module _ (end : ℕ) (c : Contents) (ps : List PieceView) (apart : AreApart ps) 
       let upto = all_in_time end (with_pieces c ps).signals (omega (arith, late_all end c ps apart stand, late)) in (
         (λ k d less. record {
           signal = (stand k d less).within;
-          ordered = (stand k d less).stands.ordered;
-          within = (stand k d less).stands.within;
-          ticks = (stand k d less).stands.ticks;
+          ordered = (stand k d less).valid.ordered;
+          within = (stand k d less).valid.within;
+          ticks = (stand k d less).valid.ticks;
         }),
         (
           omega (arith, few, counts_kept c ps),
@@ -258,7 +258,7 @@ module _ (end : ℕ) (c : Contents) (ps : List PieceView) (apart : AreApart ps) 
       (All-get_or (IsSoundSignal end) (with_pieces c ps).signals p.signal no_signal inside sound) in
       record {
         within = fits.signal;
-        stands = record {
+        valid = record {
           ordered = fits.ordered;
           within = fits.within;
           ticks = fits.ticks;

@@ -11,7 +11,7 @@ use Rattle.vcd_core.specs.Wave.{change, unless_same, IsWave, AllUpTo}
 use Rattle.vcd_core.specs.Contents.{SignalContents, signal_value}
 use Rattle.vcd_edit.specs.RecordView.{PieceView}
 use Rattle.vcd_edit.specs.Effect.{force_value}
-use Rattle.vcd_edit.specs.inside.Ranges.{value_just_before, changes_in, LeadsTo}
+use Rattle.vcd_edit.specs.inside.Ranges.{value_just_before, changes_in, GivesChanges}
 use Rattle.vcd_edit.proofs.Ranges.{changes_in-split, changes_in-constant, replacement_leads}
 
 -- the value before a tick, of two functions that agree on all ticks before it
@@ -51,7 +51,7 @@ module _ (a b end : ℕ) (v : List Bit) (s : SignalContents) where
     -- up to the end
     pub force_to_end : b ≡ end + 1 → p.to ≡ count_by (λ c. nat_lt c.tick b) s.changes
         → p.changes ≡ [] ++ unless_same (same_letters v (value_just_before s.width (signal_value s) a)) (change a v) []
-        → LeadsTo p s.changes s.width end forced
+        → GivesChanges p s.changes s.width end forced
     force_to_end all to told =
         replacement_leads s.width end s.changes is upto a b (b - a) 0 p.from p.to end (pos 0) forced p.changes
         (omega arith) (omega arith) from to (omega (arith, ints)) p refl refl refl by
@@ -75,7 +75,7 @@ module _ (a b end : ℕ) (v : List Bit) (s : SignalContents) where
     pub force_before_end : b ≤ end → p.to ≡ count_by (λ c. nat_lt c.tick (b + 1)) s.changes
         → p.changes ≡ [] ++ unless_same (same_letters v (value_just_before s.width (signal_value s) a)) (change a v) []
         ++ unless_same (same_letters (signal_value s b) v) (change b (signal_value s b)) []
-        → LeadsTo p s.changes s.width end forced
+        → GivesChanges p s.changes s.width end forced
     force_before_end early to told =
         let parts : changes_in s.width forced a (b - a + 1) ≡ changes_in s.width forced a (b - a)
         ++ changes_in s.width forced b 1 =

@@ -12,61 +12,64 @@ use Rattle.vcd_core.specs.Contents.{Contents, SignalContents, signal_at}
 use Rattle.vcd_edit.specs.declared.edit.Edit.TheVariants.{Invert}
 use Rattle.vcd_edit.specs.Operators.{not_bit}
 use Rattle.vcd_edit.specs.Effect.{inverse_value, with_wave, effect}
-use Rattle.vcd_edit.specs.inside.Thinned.{thinned_list, with_value}
-use Rattle.vcd_edit.proofs.ThinnedLists.{thinned_is, wave_rises, mapped_rise, mapped_upto, mapped_value}
+use Rattle.vcd_edit.specs.inside.RemainingChanges.{without_repeats, mapped_change}
+use Rattle.vcd_edit.proofs.WithoutRepeats.{without_repeats_is, wave_rises, mapped_rise, mapped_upto, mapped_value}
 
 -- ---- the changes of a wave, one after another
 
 -- the last change added, while the rest remains
-pub thinned_more : (before last : List Bit) (c : Change) (out more rest all : List Change)
-    → out ++ thinned_list last (c ∷ rest) ≡ all → more ≡ out ++ unless_same (same_letters c.value last) c []
-    → more ++ thinned_list c.value rest ≡ all
-unfolding thinned_list
-thinned_more before last c out more rest all was put =
-    ap (λ (cs : List Change). cs ++ thinned_list c.value rest) put
-    ∙ append_assoc out (unless_same (same_letters c.value last) c []) (thinned_list c.value rest)
+pub without_repeats_more : (before last : List Bit) (c : Change) (out more rest all : List Change)
+    → out ++ without_repeats last (c ∷ rest) ≡ all → more ≡ out ++ unless_same (same_letters c.value last) c []
+    → more ++ without_repeats c.value rest ≡ all
+unfolding without_repeats
+without_repeats_more before last c out more rest all was put =
+    ap (λ (cs : List Change). cs ++ without_repeats c.value rest) put
+    ∙ append_assoc out (unless_same (same_letters c.value last) c []) (without_repeats c.value rest)
     ∙ ap (λ (cs : List Change). out ++ cs) (joined (same_letters c.value last)) ∙ was
   where
-    joined : (b : Bool) → unless_same b c [] ++ thinned_list c.value rest ≡ unless_same b c (thinned_list c.value rest)
+    joined : (b : Bool) → unless_same b c [] ++ without_repeats c.value rest
+        ≡ unless_same b c (without_repeats c.value rest)
     joined true = refl
     joined false = refl
 
 -- the changes that remain
 left : (h : List Bit → List Bit) (cs : List Change) (i : ℕ) (c : Change) → i < length cs → c ≡ get_or cs i c
-    → map (with_value h) (drop i cs) ≡ with_value h c ∷ map (with_value h) (drop (i + 1) cs)
+    → map (mapped_change h) (drop i cs) ≡ mapped_change h c ∷ map (mapped_change h) (drop (i + 1) cs)
 left h cs i c within at =
-    ap (map (with_value h)) (drop-cons cs i c within ∙ ap (λ (d : Change). d ∷ drop (suc i) cs) (sym at))
-    ∙ ap (λ n. with_value h c ∷ map (with_value h) (drop n cs)) {x = suc i} {y = i + 1} (omega arith)
+    ap (map (mapped_change h)) (drop-cons cs i c within ∙ ap (λ (d : Change). d ∷ drop (suc i) cs) (sym at))
+    ∙ ap (λ n. mapped_change h c ∷ map (mapped_change h) (drop n cs)) {x = suc i} {y = i + 1} (omega arith)
 
 pub inverse_more : (before last value : List Bit) (cs : List Change) (i : ℕ) (c : Change) (out more : List Change)
     → i < length cs → c ≡ get_or cs i c → value ≡ map not_bit c.value
-    → out ++ thinned_list last (map (with_value (map not_bit)) (drop i cs))
-    ≡ thinned_list before (map (with_value (map not_bit)) cs)
+    → out ++ without_repeats last (map (mapped_change (map not_bit)) (drop i cs))
+    ≡ without_repeats before (map (mapped_change (map not_bit)) cs)
     → more ≡ out ++ unless_same (same_letters value last) (change c.tick value) []
-    → more ++ thinned_list value (map (with_value (map not_bit)) (drop (i + 1) cs))
-    ≡ thinned_list before (map (with_value (map not_bit)) cs)
+    → more ++ without_repeats value (map (mapped_change (map not_bit)) (drop (i + 1) cs))
+    ≡ without_repeats before (map (mapped_change (map not_bit)) cs)
 inverse_more before last value cs i c out more within at is was put =
-    ap (λ v. more ++ thinned_list v (map (with_value (map not_bit)) (drop (i + 1) cs))) is
-    ∙ thinned_more before last (with_value (map not_bit) c) out more (map (with_value (map not_bit)) (drop (i + 1) cs))
-    (thinned_list before (map (with_value (map not_bit)) cs))
-    (ap (λ (rest : List Change). out ++ thinned_list last rest) (sym (left (map not_bit) cs i c within at)) ∙ was)
+    ap (λ v. more ++ without_repeats v (map (mapped_change (map not_bit)) (drop (i + 1) cs))) is
+    ∙ without_repeats_more before last (mapped_change (map not_bit) c) out more
+    (map (mapped_change (map not_bit)) (drop (i + 1) cs))
+    (without_repeats before (map (mapped_change (map not_bit)) cs))
+    (ap (λ (rest : List Change). out ++ without_repeats last rest) (sym (left (map not_bit) cs i c within at)) ∙ was)
     (put ∙ ap (λ v. out ++ unless_same (same_letters v last) (change c.tick v) []) is)
 
 -- none remains
 pub inverse_done : (before last : List Bit) (cs : List Change) (i : ℕ) (out : List Change) → length cs ≤ i
-    → out ++ thinned_list last (map (with_value (map not_bit)) (drop i cs))
-    ≡ thinned_list before (map (with_value (map not_bit)) cs)
-    → out ≡ thinned_list before (map (with_value (map not_bit)) cs)
-unfolding thinned_list
+    → out ++ without_repeats last (map (mapped_change (map not_bit)) (drop i cs))
+    ≡ without_repeats before (map (mapped_change (map not_bit)) cs)
+    → out ≡ without_repeats before (map (mapped_change (map not_bit)) cs)
+unfolding without_repeats
 inverse_done before last cs i out past all =
-    sym (append-nil out) ∙ ap (λ (rest : List Change). out ++ thinned_list last (map (with_value (map not_bit)) rest))
+    sym (append-nil out) ∙ ap
+    (λ (rest : List Change). out ++ without_repeats last (map (mapped_change (map not_bit)) rest))
     (sym (drop_all i cs past)) ∙ all
 
 pub inverse_none : (before : List Bit) (cs out : List Change) → out ≡ []
-    → out ++ thinned_list before (map (with_value (map not_bit)) (drop 0 cs))
-    ≡ thinned_list before (map (with_value (map not_bit)) cs)
+    → out ++ without_repeats before (map (mapped_change (map not_bit)) (drop 0 cs))
+    ≡ without_repeats before (map (mapped_change (map not_bit)) cs)
 inverse_none before cs out empty =
-    ap (λ (l : List Change). l ++ thinned_list before (map (with_value (map not_bit)) cs)) empty
+    ap (λ (l : List Change). l ++ without_repeats before (map (mapped_change (map not_bit)) cs)) empty
 
 -- ---- the whole signal
 
@@ -76,13 +79,14 @@ inverse_of_x (suc width) = ap (λ (v : List Bit). X ∷ v) (inverse_of_x width)
 
 -- the changes to inverse values, without those that change nothing
 pub inverse_changes : (end : ℕ) (s : SignalContents) → IsWave s.width s.changes → AllUpTo end s.changes
-    → thinned_list (all_x s.width) (map (with_value (map not_bit)) s.changes) ≡ changes_of s.width end (inverse_value s)
+    → without_repeats (all_x s.width) (map (mapped_change (map not_bit)) s.changes)
+    ≡ changes_of s.width end (inverse_value s)
 inverse_changes end s is upto =
-    thinned_is s.width end (map (with_value (map not_bit)) s.changes) (inverse_value s)
+    without_repeats_is s.width end (map (mapped_change (map not_bit)) s.changes) (inverse_value s)
     (mapped_rise s.width 0 (map not_bit) s.changes (λ v. length-map v not_bit)
     (wave_rises s.width 0 (all_x s.width) s.changes (length-replicate s.width X) is.rise))
     (mapped_upto end (map not_bit) s.changes upto)
-    (λ t to. ap (λ v. value_from v (map (with_value (map not_bit)) s.changes) t) (sym (inverse_of_x s.width))
+    (λ t to. ap (λ v. value_from v (map (mapped_change (map not_bit)) s.changes) t) (sym (inverse_of_x s.width))
     ∙ mapped_value (map not_bit) (all_x s.width) s.changes t)
 
 pub invert_is_wave : (k : ℕ) (c : Contents) → effect (Invert k) c ≡ with_wave c k (inverse_value (signal_at c k))

@@ -8,7 +8,8 @@ use Rattle.vcd_core.specs.declared.wave.Change.{Change}
 use Rattle.vcd_core.specs.Value.{same_letters}
 use Rattle.vcd_core.specs.inside.ValueLaws.{same_letters-Decides}
 use Rattle.vcd_core.specs.Wave.{unless_same, last_value}
-use Rattle.vcd_edit.specs.inside.Thinned.{thinned_list, begins_steady, steady_changes, is_kept, kept_changes}
+use Rattle.vcd_edit.specs.inside.RemainingChanges.{without_repeats, begins_steady, steady_changes, is_kept}
+use Rattle.vcd_edit.specs.inside.RemainingChanges.{kept_changes}
 
 -- a change that remains, and one that is taken out
 pub kept_first : (n : ℕ) (before : List Bit) (c : Change) (cs : List Change) → is_kept n before c cs ≡ true
@@ -24,27 +25,27 @@ left_out_first n before c cs out = ap (λ b. if b then c ∷ kept_changes n c.va
 -- they are those that begin steady runs and change the value
 kept_if_other : (n : ℕ) (before : List Bit) (c : Change) (cs : List Change) (same : Bool)
     → (same ≡ true → c.value ≡ before)
-    → kept_changes n before cs ≡ thinned_list before (steady_changes n cs)
-    → kept_changes n c.value cs ≡ thinned_list c.value (steady_changes n cs)
+    → kept_changes n before cs ≡ without_repeats before (steady_changes n cs)
+    → kept_changes n c.value cs ≡ without_repeats c.value (steady_changes n cs)
     → (if not same then c ∷ kept_changes n c.value cs else kept_changes n before cs)
-    ≡ unless_same same c (thinned_list c.value (steady_changes n cs))
+    ≡ unless_same same c (without_repeats c.value (steady_changes n cs))
 kept_if_other n before c cs true equal out kept = out
-    ∙ ap (λ v. thinned_list v (steady_changes n cs)) (sym (equal refl))
+    ∙ ap (λ v. without_repeats v (steady_changes n cs)) (sym (equal refl))
 kept_if_other n before c cs false equal out kept = ap (λ l. c ∷ l) kept
 
 kept_if_steady : (n : ℕ) (before : List Bit) (c : Change) (cs : List Change) (steady : Bool)
-    → kept_changes n before cs ≡ thinned_list before (steady_changes n cs)
-    → kept_changes n c.value cs ≡ thinned_list c.value (steady_changes n cs)
+    → kept_changes n before cs ≡ without_repeats before (steady_changes n cs)
+    → kept_changes n c.value cs ≡ without_repeats c.value (steady_changes n cs)
     → (if steady && not (same_letters c.value before) then c ∷ kept_changes n c.value cs else kept_changes n before cs)
-    ≡ thinned_list before (if steady then c ∷ steady_changes n cs else steady_changes n cs)
-unfolding thinned_list
+    ≡ without_repeats before (if steady then c ∷ steady_changes n cs else steady_changes n cs)
+unfolding without_repeats
 kept_if_steady n before c cs false out kept = out
 kept_if_steady n before c cs true out kept =
     kept_if_other n before c cs (same_letters c.value before) ((same_letters-Decides c.value before).0) out kept
 
 pub kept_are : (n : ℕ) (before : List Bit) (cs : List Change)
-    → kept_changes n before cs ≡ thinned_list before (steady_changes n cs)
-unfolding kept_changes steady_changes thinned_list
+    → kept_changes n before cs ≡ without_repeats before (steady_changes n cs)
+unfolding kept_changes steady_changes without_repeats
 kept_are n before [] = refl
 kept_are n before (c ∷ cs) =
     kept_if_steady n before c cs (begins_steady n c cs) (kept_are n before cs) (kept_are n c.value cs)

@@ -12,9 +12,9 @@ use Rattle.vcd_core.specs.Contents.{Contents, SignalContents, no_signal, signal_
 use Rattle.vcd_edit.specs.RecordView.{PieceView}
 use Rattle.vcd_edit.specs.Effect.{with_values}
 use Rattle.vcd_edit.specs.AppliedRecords.{changes_with_piece, signal_with_changes, with_piece, with_pieces, PieceFits}
-use Rattle.vcd_edit.specs.AppliedRecords.{NoneFor, AreApart}
-use Rattle.vcd_edit.specs.inside.Ranges.{LeadsTo}
-use Rattle.vcd_edit.specs.inside.Plans.{LeadEach}
+use Rattle.vcd_edit.specs.AppliedRecords.{NoPieceFor, HaveDistinctSignals}
+use Rattle.vcd_edit.specs.inside.Ranges.{GivesChanges}
+use Rattle.vcd_edit.specs.inside.Plans.{PiecesForEach}
 
 -- one more piece is the last
 pub with_pieces-push : (c : Contents) (ps : List PieceView) (p : PieceView)
@@ -23,13 +23,13 @@ unfolding with_pieces
 with_pieces-push c [] p = refl
 with_pieces-push c (q ∷ ps) p = with_pieces-push (with_piece c q) ps p
 
-none_more : (k : ℕ) (ps : List PieceView) (p : PieceView) → NoneFor k ps → p.signal ≢ k → NoneFor k (ps ++ p ∷ [])
+none_more : (k : ℕ) (ps : List PieceView) (p : PieceView) → NoPieceFor k ps → p.signal ≢ k → NoPieceFor k (ps ++ p ∷ [])
 none_more k [] p none other = (other, tt)
 none_more k (q ∷ ps) p (apart, none) other = (apart, none_more k ps p none other)
 
 -- pieces for signals below a position, and one for the signal there
-apart_more : (ps : List PieceView) (p : PieceView) → AreApart ps → All (λ q. q.signal < p.signal) ps
-    → AreApart (ps ++ p ∷ [])
+apart_more : (ps : List PieceView) (p : PieceView) → HaveDistinctSignals ps → All (λ q. q.signal < p.signal) ps
+    → HaveDistinctSignals (ps ++ p ∷ [])
 apart_more [] p apart below = (tt, tt)
 apart_more (q ∷ ps) p (none, apart) below =
     let first : q.signal < p.signal = All-head (λ (q : PieceView). q.signal < p.signal) q ps below in (
@@ -48,7 +48,7 @@ element_here f xs ys i d within is =
     ∙ ap (λ k. get_or xs k d) {x = i + (i - i)} {y = i} (omega arith)
 
 module _ (c : Contents) (g : SignalContents → SignalContents) (n : ℕ) (by : ℤ) (ps : List PieceView)
-    (lead : LeadEach c by g n ps) (within : n < length c.signals) where
+    (lead : PiecesForEach c by g n ps) (within : n < length c.signals) where
   abbrev reached : List SignalContents
   reached = map g (take n c.signals) ++ drop n c.signals
 
@@ -69,7 +69,7 @@ module _ (c : Contents) (g : SignalContents → SignalContents) (n : ℕ) (by : 
   still_below = λ k d less. omega (arith, lead.below k d less)
 
   -- a signal that stays as it is needs no piece
-  pub lead_without : (s : SignalContents) → signal_at c n ≡ s → g s ≡ s → LeadEach c by g (n + 1) ps
+  pub lead_without : (s : SignalContents) → signal_at c n ≡ s → g s ≡ s → PiecesForEach c by g (n + 1) ps
   lead_without s is same = record {
     led = lead.led ∙ ap (λ (ss : List SignalContents). record c { signals = ss }) (sym unchanged ∙ more);
     fit = lead.fit;
@@ -86,8 +86,8 @@ module _ (c : Contents) (g : SignalContents → SignalContents) (n : ℕ) (by : 
 
   -- a signal with a piece
   pub lead_with : (s : SignalContents) (p : PieceView) (end : ℕ) (f : ℕ → List Bit) → signal_at c n ≡ s → p.signal ≡ n
-      → g s ≡ with_values end f s → LeadsTo p s.changes s.width end f → p.by ≡ by
-      → LeadEach c by g (n + 1) (ps ++ p ∷ [])
+      → g s ≡ with_values end f s → GivesChanges p s.changes s.width end f → p.by ≡ by
+      → PiecesForEach c by g (n + 1) (ps ++ p ∷ [])
   lead_with s p end f is at_n given gives moves = record {
     led = with_pieces-push c ps p ∙ ap (λ (d : Contents). with_piece d p) lead.led
         ∙ ap (λ (ss : List SignalContents). record c { signals = ss }) (written ∙ more);
@@ -119,10 +119,10 @@ module _ (c : Contents) (g : SignalContents → SignalContents) (n : ℕ) (by : 
 
 -- no signal yet
 pub lead_none : (c : Contents) (by : ℤ) (g : SignalContents → SignalContents) (ps : List PieceView) → ps ≡ []
-    → LeadEach c by g 0 ps
+    → PiecesForEach c by g 0 ps
 unfolding with_pieces
 lead_none c by g ps empty =
-    subst (LeadEach c by g 0) (sym empty)
+    subst (PiecesForEach c by g 0) (sym empty)
     (record {
       led = refl;
       fit = All-nil (PieceFits c);
@@ -134,7 +134,7 @@ lead_none c by g ps empty =
 
 -- all signals
 pub lead_all : (c : Contents) (by : ℤ) (g : SignalContents → SignalContents) (ps : List PieceView)
-    → LeadEach c by g (length c.signals) ps → with_pieces c ps ≡ record c { signals = map g c.signals }
+    → PiecesForEach c by g (length c.signals) ps → with_pieces c ps ≡ record c { signals = map g c.signals }
 lead_all c by g ps lead =
     lead.led ∙ ap (λ (ss : List SignalContents). record c { signals = ss })
     ((λ i. map g (take_all (length c.signals) c.signals (omega arith) i)

@@ -9,11 +9,11 @@ use Rattle.vcd_core.specs.Contents.{Contents, signal_at}
 use Rattle.vcd_core.specs.WaveView.{WaveView}
 use Rattle.vcd_edit.specs.declared.record.Piece.{Piece}
 use Rattle.vcd_edit.specs.RecordView.{PieceView}
-use Rattle.vcd_edit.specs.AppliedRecords.{with_piece, with_pieces, AreApart}
+use Rattle.vcd_edit.specs.AppliedRecords.{with_piece, with_pieces, HaveDistinctSignals}
 use Rattle.vcd_edit.specs.Records.{piece_view}
-use Rattle.vcd_edit.specs.inside.Exchanges.{IsInversePiece, PieceReadyIn, AreInversePieces, wave_at, HasNoLessRoom}
-use Rattle.vcd_edit.specs.inside.Exchanges.{HasRoomForPiece, ReservedSoFar, PutSoFar}
-use Rattle.vcd_edit.proofs.PiecesBack.{ready_after, with_pieces-push, AreInversePieces-push, none_all}
+use Rattle.vcd_edit.specs.inside.Exchanges.{IsOppositePiece, PieceReadyIn, AreOppositePieces, wave_at, HasNoLessRoom}
+use Rattle.vcd_edit.specs.inside.Exchanges.{HasRoomForPiece, ReservedSoFar, ExchangedSoFar}
+use Rattle.vcd_edit.proofs.OppositePieces.{ready_after, with_pieces-push, AreOppositePieces-push, none_all}
 
 module _ (old new : List Piece) (i : ℕ) (x y : Piece) (within : i < length new) (is : x ≡ get_or new i x)
     (rest : drop i new ≡ drop i old) where
@@ -67,15 +67,15 @@ reserved_more old new i x y ss tt' within is before same room more =
     }
 
 module _ (before : Contents) (old new : List Piece) (i : ℕ) (x y : Piece) (now after : Contents) (ss tt' : List Signal)
-    (within : i < length new) (is : x ≡ get_or new i x) (far : PutSoFar before old i new now ss) where
+    (within : i < length new) (is : x ≡ get_or new i x) (far : ExchangedSoFar before old i new now ss) where
   begins : drop i old ≡ x ∷ drop (i + 1) old
   begins = rest_begins old new i x y within is far.rest
 
   ready_now : All (PieceReadyIn now) (piece_view x ∷ map piece_view (drop (i + 1) old))
   ready_now = subst (λ l. All (PieceReadyIn now) (map piece_view l)) begins far.ready
 
-  apart_now : AreApart (piece_view x ∷ map piece_view (drop (i + 1) old))
-  apart_now = subst (λ l. AreApart (map piece_view l)) begins far.apart
+  apart_now : HaveDistinctSignals (piece_view x ∷ map piece_view (drop (i + 1) old))
+  apart_now = subst (λ l. HaveDistinctSignals (map piece_view l)) begins far.apart
 
   room_now : All (HasRoomForPiece ss) (x ∷ drop (i + 1) old)
   room_now = subst (All (HasRoomForPiece ss)) begins far.room
@@ -103,25 +103,26 @@ module _ (before : Contents) (old new : List Piece) (i : ℕ) (x y : Piece) (now
       }
 
   pub put_more : after ≡ with_piece now (piece_view x)
-      → IsInversePiece (signal_at now x.signal).changes (piece_view x) (piece_view y)
-      → ((k : ℕ) → k ≢ x.signal → wave_at tt' k ≡ wave_at ss k) → PutSoFar before old (i + 1) (set new i y) after tt'
+      → IsOppositePiece (signal_at now x.signal).changes (piece_view x) (piece_view y)
+      → ((k : ℕ) → k ≢ x.signal → wave_at tt' k ≡ wave_at ss k)
+      → ExchangedSoFar before old (i + 1) (set new i y) after tt'
   put_more put leads kept =
       let made : after ≡ with_pieces before (map piece_view (take i old) ++ piece_view x ∷ []) =
       put ∙ ap (λ c. with_piece c (piece_view x)) far.there
       ∙ sym (with_pieces-push before (map piece_view (take i old)) (piece_view x)) in
-      let leads_on : AreInversePieces before (map piece_view (take i old) ++ piece_view x ∷ [])
+      let leads_on : AreOppositePieces before (map piece_view (take i old) ++ piece_view x ∷ [])
       (map piece_view (take i new) ++ piece_view y ∷ []) =
-      AreInversePieces-push before (map piece_view (take i old)) (map piece_view (take i new)) (piece_view x)
+      AreOppositePieces-push before (map piece_view (take i old)) (map piece_view (take i new)) (piece_view x)
       (piece_view y) far.back
       (subst (λ (c : Contents). x.signal < length c.signals) far.there next_ready.signal)
-      (subst (λ (c : Contents). IsInversePiece (signal_at c x.signal).changes (piece_view x) (piece_view y)) far.there
+      (subst (λ (c : Contents). IsOppositePiece (signal_at c x.signal).changes (piece_view x) (piece_view y)) far.there
       leads) in
       record {
         rest = rest_more old new i x y within is far.rest;
         there = made ∙ ap (with_pieces before) (sym (old_more old new i x y within is far.rest));
-        back = subst (λ l. AreInversePieces before l (map piece_view (take (i + 1) (set new i y))))
+        back = subst (λ l. AreOppositePieces before l (map piece_view (take (i + 1) (set new i y))))
             (sym (old_more old new i x y within is far.rest))
-            (subst (AreInversePieces before (map piece_view (take i old) ++ piece_view x ∷ []))
+            (subst (AreOppositePieces before (map piece_view (take i old) ++ piece_view x ∷ []))
             (sym (new_more old new i x y within is far.rest)) leads_on);
         ready = subst (λ c. All (PieceReadyIn c) (map piece_view (drop (i + 1) old))) (sym put)
             (λ k d less. ready_after now (piece_view x) (get_or (map piece_view (drop (i + 1) old)) k d)

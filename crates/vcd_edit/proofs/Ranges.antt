@@ -18,7 +18,7 @@ use Rattle.vcd_core.specs.Wave.{last_value}
 use Rattle.vcd_core.specs.Splice.{moved_change, TickFits, AllTicksFit, spliced_changes}
 use Rattle.vcd_core.proofs.Waves.{put_cases, changes_are}
 use Rattle.vcd_edit.specs.RecordView.{PieceView}
-use Rattle.vcd_edit.specs.inside.Ranges.{value_just_before, changes_in, LeadsTo}
+use Rattle.vcd_edit.specs.inside.Ranges.{value_just_before, changes_in, GivesChanges}
 
 -- ---- a range is two ranges
 
@@ -270,7 +270,7 @@ module _ (width end : ℕ) (cs : List Change) (is : IsWave width cs) (upto : All
       → ((s : ℕ) → s < a → f s ≡ value_at width cs s) → ((i : ℕ) → i < n → f (a + m + i) ≡ value_at width cs (u + i))
       → (0 < n → value_just_before width f (a + m) ≡ value_just_before width (value_at width cs) u)
       → piece ≡ changes_in width f a m
-      → LeadsTo p cs width stop f
+      → GivesChanges p cs width stop f
   replacement_leads p is_from is_to is_piece is_by ordered small early late before told =
       record {
         ordered = omega (arith, is_from, is_to, from, to, counts_rise a u cs ordered);

@@ -8,8 +8,8 @@ use Rattle.vcd_edit.specs.declared.edit.Edit.TheVariants.{Rename, Remove, Invert
 use Rattle.vcd_edit.specs.declared.edit.Rule.TheVariants.{Not, And, Or, Xor, BitOf}
 use Rattle.vcd_edit.specs.declared.fault.EditError.{EditError}
 use Rattle.vcd_edit.specs.EditErrorNames.{edit_error_name}
-use Rattle.vcd_edit.specs.Allowed.{first_fault, fault_rows, edit_fault}
-use Rattle.vcd_edit.specs.Refused.{Tests, unless_refused, edit_tests}
+use Rattle.vcd_edit.specs.EditFaults.{first_fault, fault_rows, edit_fault}
+use Rattle.vcd_edit.specs.EditTests.{Tests, unless_refused, edit_tests}
 
 -- the name of the first test that holds
 abbrev refusal_among : Tests → Option (List ℕ)

@@ -14,8 +14,8 @@ use Rattle.vcd_core.specs.Contents.{Contents, SignalContents, signal_at, signal_
 use Rattle.vcd_core.proofs.Waves.{value_past, value_early}
 use Rattle.vcd_edit.specs.declared.edit.Edit.TheVariants.{Deglitch}
 use Rattle.vcd_edit.specs.Effect.{run_start, run_end, is_steady, steady_value, with_wave, effect}
-use Rattle.vcd_edit.specs.inside.Thinned.{TicksRise, thinned_list, begins_steady, steady_changes}
-use Rattle.vcd_edit.proofs.ThinnedLists.{rise_lower, early_value, wave_rises, thinned_is}
+use Rattle.vcd_edit.specs.inside.RemainingChanges.{TicksRise, without_repeats, begins_steady, steady_changes}
+use Rattle.vcd_edit.proofs.WithoutRepeats.{rise_lower, early_value, wave_rises, without_repeats_is}
 
 -- ---- a choice by whether two values are the same
 
@@ -246,10 +246,10 @@ steady_values n end width (c ∷ cs) (from, other, wide, rest) (here, upto) t to
 
 -- the changes without the glitches
 pub steady_are : (n end : ℕ) (s : SignalContents) → IsWave s.width s.changes → AllUpTo end s.changes
-    → thinned_list (all_x s.width) (steady_changes n s.changes)
+    → without_repeats (all_x s.width) (steady_changes n s.changes)
     ≡ changes_of s.width end (steady_value n end (signal_value s))
 steady_are n end s is upto =
-    thinned_is s.width end (steady_changes n s.changes) (steady_value n end (signal_value s))
+    without_repeats_is s.width end (steady_changes n s.changes) (steady_value n end (signal_value s))
     (steady_rise n s.width 0 s.changes
     (wave_rises s.width 0 (all_x s.width) s.changes (length-replicate s.width X) is.rise))
     (steady_upto n end s.changes upto) (steady_values n end s.width s.changes is.rise upto)

@@ -22,11 +22,11 @@ use Rattle.vcd_core.specs.declared.memory.NoMemory.{NoMemory}
 use Rattle.vcd_edit.specs.declared.record.Piece.{Piece}
 use Rattle.vcd_edit.specs.Records.{piece_view}
 use Rattle.vcd_edit.specs.inside.Plans.{GivesValues}
-use Rattle.vcd_edit.proofs.Plans.{at_ok}
+use Rattle.vcd_edit.proofs.EditPlans.{at_ok}
 use Rattle.vcd_edit.specs.RecordView.{PieceView}
-use Rattle.vcd_edit.specs.Effect.{value_near, shift_value, cut_value, with_wave, effect}
+use Rattle.vcd_edit.specs.Effect.{value_at_any_tick, shift_value, cut_value, with_wave, effect}
 use Rattle.vcd_edit.specs.declared.edit.Edit.TheVariants.{Shift}
-use Rattle.vcd_edit.specs.inside.Ranges.{value_just_before, changes_in, LeadsTo}
+use Rattle.vcd_edit.specs.inside.Ranges.{value_just_before, changes_in, GivesChanges}
 use Rattle.vcd_edit.proofs.Ranges.{changes_in-split, changes_in-constant, changes_in-moved, changes_before_tick}
 use Rattle.vcd_edit.proofs.Ranges.{replacement_leads}
 use Rattle.vcd_edit.proofs.Cuts.{all_counted}
@@ -39,7 +39,7 @@ past_end end t s upto late = value_last (all_x s.width) s.changes end t upto lat
 
 -- the same function up to the end
 pub leads_same : (p : PieceView) (cs : List Change) (width end : ℕ) (f g : ℕ → List Bit)
-    → ((t : ℕ) → t ≤ end → f t ≡ g t) → LeadsTo p cs width end f → LeadsTo p cs width end g
+    → ((t : ℕ) → t ≤ end → f t ≡ g t) → GivesChanges p cs width end f → GivesChanges p cs width end g
 leads_same p cs width end f g same leads =
     record {
       ordered = leads.ordered;
@@ -84,7 +84,7 @@ module _ (d end : ℕ) (s : SignalContents) (upto : AllUpTo end s.changes) where
   -- the value is that of d ticks later
   pub shift_earlier : (t : ℕ) → shift_value end back s t ≡ signal_value s (t + d)
   shift_earlier t =
-      ap (value_near end s) (there d t)
+      ap (value_at_any_tick end s) (there d t)
       ∙ elim (cases_lt end (t + d)) [
         | inl far ↦ ap (λ q. if q then signal_value s end else signal_value s (t + d)) (lt-ltb end (t + d) far)
             ∙ sym (past_end end (t + d) s upto (omega arith))
@@ -108,14 +108,14 @@ module _ (d end : ℕ) (s : SignalContents) (upto : AllUpTo end s.changes) where
 
 module _ (d end : ℕ) (s : SignalContents) where
   pub shift_before : (t : ℕ) → t < d → shift_value end (pos d) s t ≡ all_x s.width
-  shift_before t early = ap (value_near end s) (there t early)
+  shift_before t early = ap (value_at_any_tick end s) (there t early)
     where
       there : (t : ℕ) → t < d → pos t -ℤ pos d ≡ negsuc (d - suc t)
       there t early = omega (arith, ints)
 
   shift_after : (t u : ℕ) → t ≡ d + u → t ≤ end → shift_value end (pos d) s t ≡ signal_value s u
   shift_after t u is to =
-      ap (value_near end s) (there t u is)
+      ap (value_at_any_tick end s) (there t u is)
       ∙ ap (λ q. if q then signal_value s end else signal_value s u) (le-ltb end u (omega (arith, is)))
     where
       there : (t u : ℕ) → t ≡ d + u → pos t -ℤ pos d ≡ pos u
@@ -143,7 +143,7 @@ module _ (d end : ℕ) (s : SignalContents) where
       (count : kept ≡ count_by (λ c. nat_lt c.tick (end - d + 1)) s.changes) where
     -- no change is pushed past the end
     pub later_all_stay : kept ≡ length s.changes → p.to ≡ 0 → p.changes ≡ [] → p.by ≡ pos d
-        → LeadsTo p s.changes s.width end (shift_value end (pos d) s)
+        → GivesChanges p s.changes s.width end (shift_value end (pos d) s)
     later_all_stay all last empty by =
         replacement_leads s.width (end - d) s.changes is
         (upto_from_all (end - d) s.changes
@@ -163,7 +163,7 @@ module _ (d end : ℕ) (s : SignalContents) where
 
     -- the changes that stay, d ticks later
     pub later_some_stay : p.to ≡ length s.changes → p.changes ≡ map (moved_change (pos d)) (take kept s.changes)
-        → LeadsTo p s.changes s.width end (shift_value end (pos d) s)
+        → GivesChanges p s.changes s.width end (shift_value end (pos d) s)
     later_some_stay last told =
         whole_leads p s.changes s.width end (shift_value end (pos d) s) first last
         (told ∙ ap (map (moved_change (pos d)))

@@ -12,9 +12,9 @@ use Rattle.vcd_edit.specs.Effect.{effect, with_values, with_wave, renamed_signal
 use Rattle.vcd_edit.specs.Effect.{inverse_value, shift_value, steady_value, force_value}
 use Rattle.vcd_edit.specs.TouchedByEdit.{IsRemove}
 use Rattle.vcd_edit.specs.AppliedRecords.{apply_record, with_pieces, with_first_word, with_moved_signal}
-use Rattle.vcd_edit.specs.AppliedRecords.{PutsNoneIn, MovedSignalFits, Fits, IsOneStep}
-use Rattle.vcd_edit.proofs.PiecesBack.{counts_kept}
-use Rattle.vcd_edit.proofs.WaysBack.{parts, move_of_end, no_pieces_at_move}
+use Rattle.vcd_edit.specs.AppliedRecords.{PutsNoSignalIn, MovedSignalFits, Fits, IsOneStep}
+use Rattle.vcd_edit.proofs.OppositePieces.{counts_kept}
+use Rattle.vcd_edit.proofs.OppositeRecords.{parts, move_of_end, no_pieces_at_move}
 
 -- pieces and a word leave as many signals
 word_count : (c : Contents) (ps : List PieceView) (w : Option (ℕ × List ℕ))
@@ -28,7 +28,7 @@ word_count c ps (Some w) =
 fewer_parts : (c : Contents) (ps : List PieceView) (w : Option (ℕ × List ℕ)) (m : Option (ℕ × Option SignalContents))
     (e : Option ℕ)
     → IsOneStep (parts ps w m e) → MovedSignalFits c m
-    → length (apply_record (parts ps w m e) c).signals < length c.signals → (ps ≡ []) × PutsNoneIn m
+    → length (apply_record (parts ps w m e) c).signals < length c.signals → (ps ≡ []) × PutsNoSignalIn m
 unfolding apply_record
 fewer_parts c ps w None e one fits less =
     absurd (omega (
@@ -51,7 +51,7 @@ fewer_parts c ps w (Some (k, Some s)) e one fits less =
     ))
 
 pub fewer_is_taken_out : (r : RecordView) (c : Contents) → IsOneStep r → Fits r c
-    → length (apply_record r c).signals < length c.signals → (r.pieces ≡ []) × PutsNoneIn r.signal
+    → length (apply_record r c).signals < length c.signals → (r.pieces ≡ []) × PutsNoSignalIn r.signal
 fewer_is_taken_out r c one fits less = fewer_parts c r.pieces r.word r.signal r.other_end one fits.signal less
 
 -- another wave of a signal leaves as many

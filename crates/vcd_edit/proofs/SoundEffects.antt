@@ -21,11 +21,11 @@ use Rattle.vcd_edit.specs.declared.edit.Edit.{Edit}
 use Rattle.vcd_edit.specs.declared.edit.Edit.TheVariants.{Rename, Remove, Invert, Shift, Cut, Deglitch, Force, Derive}
 use Rattle.vcd_edit.specs.declared.edit.Rule.{Rule}
 use Rattle.vcd_edit.specs.Operators.{not_bit}
-use Rattle.vcd_edit.specs.Effect.{with_values, with_wave, renamed_signal, inverse_value, value_near, shift_value}
+use Rattle.vcd_edit.specs.Effect.{with_values, with_wave, renamed_signal, inverse_value, value_at_any_tick, shift_value}
 use Rattle.vcd_edit.specs.Effect.{cut_value, force_value, is_steady, steady_value, first_operand, rule_bit}
 use Rattle.vcd_edit.specs.Effect.{derived_signal, cut_contents, effect}
-use Rattle.vcd_edit.specs.Allowed.{edit_fault}
-use Rattle.vcd_edit.proofs.Faults.{no_fault, signal_there, first_operand_there, holds_where_not}
+use Rattle.vcd_edit.specs.EditFaults.{edit_fault}
+use Rattle.vcd_edit.proofs.Faults.{no_fault, position_below, first_operand_there, holds_where_not}
 
 -- ---- the width of values
 
@@ -55,7 +55,7 @@ either_width true v w width left right = left
 either_width false v w width left right = right
 
 value_near_width : (end : ℕ) (s : SignalContents) (t : ℤ) → IsWave s.width s.changes
-    → length (value_near end s t) ≡ s.width
+    → length (value_at_any_tick end s t) ≡ s.width
 value_near_width end s (negsuc n) wave = length-replicate s.width X
 value_near_width end s (pos u) wave =
     either_width (nat_lt end u) _ _ s.width (value_at_width s.width s.changes end wave)
@@ -205,29 +205,29 @@ effect_is_sound (Rename k word) c sound none =
     let free = no_fault (Rename k word) c none in
     sound_with_signal c k (renamed_signal word.now (signal_at c k)) sound
     (sound_renamed c.end word.now (signal_at c k) (holds_where_not (is_word word.now) free.word)
-    (sound_at c k (signal_there c k free.signals) sound))
+    (sound_at c k (position_below c k free.signals) sound))
 effect_is_sound (Remove k) c sound none =
-    sound_removed c k (signal_there c k (no_fault (Remove k) c none).signals) sound
+    sound_removed c k (position_below c k (no_fault (Remove k) c none).signals) sound
 effect_is_sound (Invert k) c sound none =
-    let within = signal_there c k (no_fault (Invert k) c none).signals in
+    let within = position_below c k (no_fault (Invert k) c none).signals in
     let s : SignalContents = signal_at c k in
     sound_with_wave c k (inverse_value s) within sound
     (λ t. length-map (signal_value s t) not_bit ∙ value_at_width s.width s.changes t (sound_at c k within sound).wave)
 effect_is_sound (Shift k by) c sound none =
-    let within = signal_there c k (no_fault (Shift k by) c none).signals in
+    let within = position_below c k (no_fault (Shift k by) c none).signals in
     let s : SignalContents = signal_at c k in
     sound_with_wave c k (shift_value c.end by s) within sound
     (λ t. value_near_width c.end s (pos t -ℤ by) (sound_at c k within sound).wave)
 effect_is_sound (Cut from to) c sound none = sound_cut c from to sound
 effect_is_sound (Deglitch k ticks) c sound none =
-    let within = signal_there c k (no_fault (Deglitch k ticks) c none).signals in
+    let within = position_below c k (no_fault (Deglitch k ticks) c none).signals in
     let s : SignalContents = signal_at c k in
     sound_with_wave c k (steady_value ticks c.end (signal_value s)) within sound
     (λ t. steady_value_width ticks c.end (signal_value s) t s.width
     (λ u. value_at_width s.width s.changes u (sound_at c k within sound).wave))
 effect_is_sound (Force k from to value) c sound none =
     let free = no_fault (Force k from to value) c none in
-    let within = signal_there c k free.signals in
+    let within = position_below c k free.signals in
     let s : SignalContents = signal_at c k in
     sound_with_wave c k (force_value from to value s) within sound
     (λ t. either_width (nat_le from t && nat_lt t to) _ _ s.width (same_width value s free.value)

@@ -9,7 +9,7 @@ use Rattle.vcd_core.specs.declared.capture.Signal.{Signal}
 use Rattle.vcd_core.specs.Contents.{signal_contents, no_signal}
 use Rattle.vcd_core.specs.Names.{full_name, full_names}
 use Rattle.vcd_edit.specs.Effect.{renamed_signal}
-use Rattle.vcd_edit.proofs.Plans.{contents_at}
+use Rattle.vcd_edit.proofs.EditPlans.{contents_at}
 
 -- the others are before the position or after it
 has_other : (name : List ℕ) (signals : List Signal) (k : ℕ)

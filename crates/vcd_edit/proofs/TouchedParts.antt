@@ -17,7 +17,7 @@ use Rattle.vcd_core.specs.declared.wave.Change.{Change}
 use Rattle.vcd_core.specs.Value.{same_letters}
 use Rattle.vcd_core.specs.inside.ValueLaws.{same_letters-Decides}
 use Rattle.vcd_core.specs.Splice.{moved_change, TickFits, AllTicksFit}
-use Rattle.vcd_edit.specs.Touched.{same_change, same_lowered, common_suffix_lowered, touched_count}
+use Rattle.vcd_edit.specs.Touched.{same_change, same_moved_change, common_moved_suffix, touched_count}
 
 -- ---- tests of changes
 
@@ -35,14 +35,14 @@ same_change_is c d same =
 
 -- a change matches its moved change
 same_lowered_moved : (by o : ℤ) (c : Change) → o ≡ neg_ℤ by → TickFits by c
-    → same_lowered o c (moved_change by c) ≡ true
+    → same_moved_change o c (moved_change by c) ≡ true
 unfolding moved_change TickFits
 same_lowered_moved by o c opposite fits =
     let tick : pos c.tick -ℤ o ≡ pos (unsigned_abs (pos c.tick +ℤ by)) = omega (arith, ints, fits.0, opposite) in
     and_from _ _ ((Decides-int_eq _ _).1 tick) (same_letters_self c)
 
 -- and only that one
-same_lowered_is : (by o : ℤ) (c d : Change) → o ≡ neg_ℤ by → d.tick < 2 ^ 64 → same_lowered o c d ≡ true
+same_lowered_is : (by o : ℤ) (c d : Change) → o ≡ neg_ℤ by → d.tick < 2 ^ 64 → same_moved_change o c d ≡ true
     → (moved_change by c ≡ d) × TickFits by c
 unfolding moved_change TickFits
 same_lowered_is by o c d opposite small same =
@@ -107,23 +107,23 @@ module _ {X Y : Type 0} (e : X → Y → Bool) where
 
 -- the last changes that move with the tail match
 suffix_end : (by o : ℤ) (xs ys cs : List Change) → o ≡ neg_ℤ by → AllTicksFit by cs
-    → common_suffix_lowered o (xs ++ cs) (ys ++ map (moved_change by) cs) ≡ length cs + common_suffix_lowered o xs ys
+    → common_moved_suffix o (xs ++ cs) (ys ++ map (moved_change by) cs) ≡ length cs + common_moved_suffix o xs ys
 suffix_end by o xs ys [] opposite fit =
-    (λ i. common_suffix_lowered o (append-nil xs i) (append-nil ys i)) ∙ omega arith
+    (λ i. common_moved_suffix o (append-nil xs i) (append-nil ys i)) ∙ omega arith
 suffix_end by o xs ys (c ∷ cs) opposite fit =
     let d = moved_change by c in
-    let last : common_suffix_lowered o (xs ++ c ∷ []) (ys ++ d ∷ []) ≡ 1 + common_suffix_lowered o xs ys =
-    (λ i. common_prefix_len (same_lowered o) (reverse-append xs (c ∷ []) i) (reverse-append ys (d ∷ []) i))
-    ∙ cond-true (same_lowered o c d) _ _ (same_lowered_moved by o c opposite (All-head (TickFits by) c cs fit)) in
-    (λ i. common_suffix_lowered o (sym (append_assoc xs (c ∷ []) cs) i)
+    let last : common_moved_suffix o (xs ++ c ∷ []) (ys ++ d ∷ []) ≡ 1 + common_moved_suffix o xs ys =
+    (λ i. common_prefix_len (same_moved_change o) (reverse-append xs (c ∷ []) i) (reverse-append ys (d ∷ []) i))
+    ∙ cond-true (same_moved_change o c d) _ _ (same_lowered_moved by o c opposite (All-head (TickFits by) c cs fit)) in
+    (λ i. common_moved_suffix o (sym (append_assoc xs (c ∷ []) cs) i)
     (sym (append_assoc ys (d ∷ []) (map (moved_change by) cs)) i))
     ∙ suffix_end by o (xs ++ c ∷ []) (ys ++ d ∷ []) cs opposite (All-tail (TickFits by) c cs fit)
     ∙ ap (λ n. length cs + n) last ∙ omega arith
 
-pub suffix_le : (o : ℤ) (xs ys : List Change) → (common_suffix_lowered o xs ys ≤ length xs)
-    × (common_suffix_lowered o xs ys ≤ length ys)
+pub suffix_le : (o : ℤ) (xs ys : List Change) → (common_moved_suffix o xs ys ≤ length xs)
+    × (common_moved_suffix o xs ys ≤ length ys)
 suffix_le o xs ys =
-    let both = common_prefix_len-le (same_lowered o) (reverse xs) (reverse ys) in
+    let both = common_prefix_len-le (same_moved_change o) (reverse xs) (reverse ys) in
     (omega (arith, both.0, length-reverse xs), omega (arith, both.1, length-reverse ys))
 
 module _ {X : Type 0} where
@@ -154,13 +154,13 @@ module _ {X : Type 0} where
 
 -- the old changes that match at the end move to the new ones
 pub suffix_moves : (by o : ℤ) (xs ys : List Change) → o ≡ neg_ℤ by → All (λ c. c.tick < 2 ^ 64) ys
-    → (map (moved_change by) (drop (length xs - common_suffix_lowered o xs ys) xs)
-    ≡ drop (length ys - common_suffix_lowered o xs ys) ys)
-    × AllTicksFit by (drop (length xs - common_suffix_lowered o xs ys) xs)
+    → (map (moved_change by) (drop (length xs - common_moved_suffix o xs ys) xs)
+    ≡ drop (length ys - common_moved_suffix o xs ys) ys)
+    × AllTicksFit by (drop (length xs - common_moved_suffix o xs ys) xs)
 suffix_moves by o xs ys opposite small =
-    let n = common_suffix_lowered o xs ys in
+    let n = common_moved_suffix o xs ys in
     let le = suffix_le o xs ys in
-    let parts = prefix_parts (same_lowered o) (moved_change by) (TickFits by) (λ c. c.tick < 2 ^ 64)
+    let parts = prefix_parts (same_moved_change o) (moved_change by) (TickFits by) (λ c. c.tick < 2 ^ 64)
     (λ c d less same. same_lowered_is by o c d opposite less same)
     (reverse xs) (reverse ys) (All-reverse (λ c. c.tick < 2 ^ 64) ys small) in (
       ap (map (moved_change by)) (drop-by_reverse xs n le.0) ∙ map-reverse (moved_change by) (take n (reverse xs))
@@ -243,11 +243,11 @@ module _ (by o : ℤ) (before ms ns cs : List Change) (opposite : o ≡ neg_ℤ 
               omega (arith, least, lengths, both.0, both.1)
           | inl in_ns ↦
               let same = front_is in_ms in_ns in
-              let ends : common_suffix_lowered o (drop (common_prefix_len same_change old new) old)
+              let ends : common_moved_suffix o (drop (common_prefix_len same_change old new) old)
               (drop (common_prefix_len same_change old new) new)
-              ≡ length cs + common_suffix_lowered o (drop front ms) (drop front ns) =
-              (λ i. common_suffix_lowered o (drop (same i) old) (drop (same i) new))
-              ∙ (λ i. common_suffix_lowered o (rest_is ms cs (omega arith) i)
+              ≡ length cs + common_moved_suffix o (drop front ms) (drop front ns) =
+              (λ i. common_moved_suffix o (drop (same i) old) (drop (same i) new))
+              ∙ (λ i. common_moved_suffix o (rest_is ms cs (omega arith) i)
               (rest_is ns (map (moved_change by) cs) (omega arith) i))
               ∙ suffix_end by o (drop front ms) (drop front ns) cs opposite fit in
               omega (arith, same, ends, length-append (before ++ ms) cs, length-append before ms)

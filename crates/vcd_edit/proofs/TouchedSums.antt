@@ -1,4 +1,4 @@
--- What inverse pieces store is at most what is touched, signal by signal.
+-- What opposite pieces store is at most what is touched, signal by signal.
 use Rattle.std.proofs.Common.{◌≡◌, ℕ, zero, suc, ◌+◌, ◌<◌, ◌≤◌, ◌==◌, ℤ, neg_ℤ, List, [], ◌∷◌, length, map, reverse}
 use Rattle.std.proofs.Common.{get_or, set, All, Option, Some, None, refl, sym, ap, ◌∙◌, arith}
 use Rattle.std.specs.List.{sum_by, common_prefix_len}
@@ -9,11 +9,12 @@ use Rattle.std.proofs.lemmas.List.Elements.{All-cons, All-head, All-tail}
 use Rattle.vcd_core.specs.declared.wave.Change.{Change}
 use Rattle.vcd_core.specs.Contents.{Contents, SignalContents, no_signal, signal_at}
 use Rattle.vcd_edit.specs.RecordView.{PieceView}
-use Rattle.vcd_edit.specs.AppliedRecords.{changes_with_piece, signal_with_changes, with_piece, with_pieces, AreApart}
-use Rattle.vcd_edit.specs.Touched.{same_change, touched_count, touched_of, touched_from, piece_offset}
-use Rattle.vcd_edit.specs.inside.Exchanges.{AreInversePieces}
+use Rattle.vcd_edit.specs.AppliedRecords.{changes_with_piece, signal_with_changes, with_piece, with_pieces}
+use Rattle.vcd_edit.specs.AppliedRecords.{HaveDistinctSignals}
+use Rattle.vcd_edit.specs.Touched.{same_change, touched_count, touched_in_signal, touched_from, piece_offset}
+use Rattle.vcd_edit.specs.inside.Exchanges.{AreOppositePieces}
 use Rattle.vcd_edit.proofs.TouchedParts.{same_change_self}
-use Rattle.vcd_edit.proofs.PiecesBack.{signal_here, signal_kept, counts_kept, count_kept, none_all}
+use Rattle.vcd_edit.proofs.OppositePieces.{signal_here, signal_kept, counts_kept, count_kept, none_all}
 
 -- ---- the sum over the signals
 
@@ -21,18 +22,18 @@ use Rattle.vcd_edit.proofs.PiecesBack.{signal_here, signal_kept, counts_kept, co
 pub touched_at_least : (offset : ℕ → ℤ) (j : ℕ) (ss : List SignalContents) (ns : List (Option SignalContents)) (k : ℕ)
     (s : SignalContents) (n : Option SignalContents)
     → k < length ss → k < length ns
-    → touched_of (offset (j + k)) (get_or ss k s) (get_or ns k n) ≤ touched_from offset j ss ns
+    → touched_in_signal (offset (j + k)) (get_or ss k s) (get_or ns k n) ≤ touched_from offset j ss ns
 unfolding touched_from
 touched_at_least offset j [] ns k s n in_ss in_ns = absurd (omega arith)
 touched_at_least offset j (x ∷ ss) [] k s n in_ss in_ns = absurd (omega arith)
 touched_at_least offset j (x ∷ ss) (y ∷ ns) zero s n in_ss in_ns =
-    omega (arith, ap (λ i. touched_of (offset i) x y) {x = j + 0} {y = j} (omega arith))
+    omega (arith, ap (λ i. touched_in_signal (offset i) x y) {x = j + 0} {y = j} (omega arith))
 touched_at_least offset j (x ∷ ss) (y ∷ ns) (suc k) s n in_ss in_ns =
     let rest = touched_at_least offset (suc j) ss ns k s n (omega arith) (omega arith) in
     omega (
       arith,
       rest,
-      ap (λ i. touched_of (offset i) (get_or ss k s) (get_or ns k n)) {x = j + suc k} {y =
+      ap (λ i. touched_in_signal (offset i) (get_or ss k s) (get_or ns k n)) {x = j + suc k} {y =
           suc j + k} (omega arith),
     )
 
@@ -40,24 +41,25 @@ touched_at_least offset j (x ∷ ss) (y ∷ ns) (suc k) s n in_ss in_ns =
 touched-set : (offset : ℕ → ℤ) (j : ℕ) (ss : List SignalContents) (ns : List (Option SignalContents)) (k : ℕ)
     (s new : SignalContents) (n : Option SignalContents)
     → k < length ss → k < length ns
-    → touched_from offset j (set ss k new) ns + touched_of (offset (j + k)) (get_or ss k s) (get_or ns k n)
-    ≡ touched_from offset j ss ns + touched_of (offset (j + k)) new (get_or ns k n)
+    → touched_from offset j (set ss k new) ns + touched_in_signal (offset (j + k)) (get_or ss k s) (get_or ns k n)
+    ≡ touched_from offset j ss ns + touched_in_signal (offset (j + k)) new (get_or ns k n)
 unfolding touched_from
 touched-set offset j [] ns k s new n in_ss in_ns = absurd (omega arith)
 touched-set offset j (x ∷ ss) [] k s new n in_ss in_ns = absurd (omega arith)
 touched-set offset j (x ∷ ss) (y ∷ ns) zero s new n in_ss in_ns =
     omega (
       arith,
-      ap (λ i. touched_of (offset i) x y) {x = j + 0} {y = j} (omega arith),
-      ap (λ i. touched_of (offset i) new y) {x = j + 0} {y = j} (omega arith),
+      ap (λ i. touched_in_signal (offset i) x y) {x = j + 0} {y = j} (omega arith),
+      ap (λ i. touched_in_signal (offset i) new y) {x = j + 0} {y = j} (omega arith),
     )
 touched-set offset j (x ∷ ss) (y ∷ ns) (suc k) s new n in_ss in_ns =
     let rest = touched-set offset (suc j) ss ns k s new n (omega arith) (omega arith) in
     omega (
       arith,
       rest,
-      ap (λ i. touched_of (offset i) (get_or ss k s) (get_or ns k n)) {x = j + suc k} {y = suc j + k} (omega arith),
-      ap (λ i. touched_of (offset i) new (get_or ns k n)) {x = j + suc k} {y = suc j + k} (omega arith),
+      ap (λ i. touched_in_signal (offset i) (get_or ss k s) (get_or ns k n)) {x = j + suc k} {y = suc j + k}
+          (omega arith),
+      ap (λ i. touched_in_signal (offset i) new (get_or ns k n)) {x = j + suc k} {y = suc j + k} (omega arith),
     )
 
 -- ---- pieces
@@ -73,8 +75,9 @@ touched_self o cs =
     prefix_self [] = refl
     prefix_self (x ∷ xs) = cond-true (same_change x x) _ _ (same_change_self x) ∙ omega (arith, prefix_self xs)
 
--- what inverse pieces store, with the opposite offsets
-pub stored_within : (offset : ℕ → ℤ) (c : Contents) (ps qs : List PieceView) → AreInversePieces c ps qs → AreApart ps
+-- what opposite pieces store, with the opposite offsets
+pub stored_within : (offset : ℕ → ℤ) (c : Contents) (ps qs : List PieceView) → AreOppositePieces c ps qs
+    → HaveDistinctSignals ps
     → All (λ p. offset p.signal ≡ neg_ℤ p.by) ps
     → sum_by (λ q. length q.changes) qs ≤ touched_from offset 0 c.signals (map Some (with_pieces c ps).signals)
 unfolding with_pieces
@@ -96,12 +99,12 @@ stored_within offset c (p ∷ ps) (q ∷ qs) (within, leads, lead) (none, apart)
     ∙ ap Some (signal_kept next ps p.signal none ∙ signal_here c p within) in
     let moved = touched-set offset 0 c.signals after p.signal no_signal new None within in_after in
     let mine : touched_count (neg_ℤ p.by) old.changes new.changes
-    ≡ touched_of (offset (0 + p.signal)) old (get_or after p.signal None) =
+    ≡ touched_in_signal (offset (0 + p.signal)) old (get_or after p.signal None) =
     ap (λ o. touched_count o old.changes new.changes) (sym (All-head (λ p. offset p.signal ≡ neg_ℤ p.by) p ps opposite))
     ∙ ap (λ i. touched_count (offset i) old.changes new.changes) {x = p.signal} {y = 0 + p.signal} (omega arith)
-    ∙ ap (touched_of (offset (0 + p.signal)) old) (sym partner) in
-    let nothing : touched_of (offset (0 + p.signal)) new (get_or after p.signal None) ≡ 0 =
-    ap (touched_of (offset (0 + p.signal)) new) partner ∙ touched_self (offset (0 + p.signal)) new.changes in
+    ∙ ap (touched_in_signal (offset (0 + p.signal)) old) (sym partner) in
+    let nothing : touched_in_signal (offset (0 + p.signal)) new (get_or after p.signal None) ≡ 0 =
+    ap (touched_in_signal (offset (0 + p.signal)) new) partner ∙ touched_self (offset (0 + p.signal)) new.changes in
     omega (arith, sum_by-cons (λ (q : PieceView). length q.changes) q qs, rest, leads.stored, moved, mine, nothing)
 
 pub sum_by-reverse : (f : PieceView → ℕ) (ps : List PieceView) → sum_by f (reverse ps) ≡ sum_by f ps
@@ -118,7 +121,7 @@ sum_by-map f g (x ∷ xs) = sum_by-cons f (g x) (map g xs) ∙ ap (λ n. f (g x)
 
 -- ---- the offsets of a record's own pieces
 
-pub own_offsets : (ps : List PieceView) → AreApart ps → All (λ p. piece_offset ps p.signal ≡ neg_ℤ p.by) ps
+pub own_offsets : (ps : List PieceView) → HaveDistinctSignals ps → All (λ p. piece_offset ps p.signal ≡ neg_ℤ p.by) ps
 unfolding piece_offset
 own_offsets [] apart = λ k d less. absurd (omega arith)
 own_offsets (p ∷ ps) (none, apart) =

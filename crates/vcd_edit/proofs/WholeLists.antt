@@ -14,13 +14,13 @@ use Rattle.vcd_edit.specs.declared.record.Piece.{Piece}
 use Rattle.vcd_edit.specs.Records.{piece_view}
 use Rattle.vcd_edit.specs.inside.Plans.{GivesValues}
 use Rattle.vcd_edit.specs.RecordView.{PieceView}
-use Rattle.vcd_edit.specs.inside.Ranges.{LeadsTo}
+use Rattle.vcd_edit.specs.inside.Ranges.{GivesChanges}
 use Rattle.vcd_edit.proofs.Ranges.{changes_in-constant}
 
 -- the piece of a whole list gives its own changes
 pub whole_leads : (p : PieceView) (cs : List Change) (width end : ℕ) (f : ℕ → List Bit) → p.from ≡ 0 → p.to ≡ length cs
     → p.changes ≡ changes_of width end f
-    → LeadsTo p cs width end f
+    → GivesChanges p cs width end f
 unfolding spliced_changes
 whole_leads p cs width end f first last told =
     let none : drop p.to cs ≡ [] = drop_all p.to cs (omega (arith, last)) in

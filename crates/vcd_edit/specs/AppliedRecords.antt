@@ -46,9 +46,9 @@ with_moved_signal None c = c
 with_moved_signal (Some m) c = record c { signals = signals_after_move m.0 m.1 c.signals }
 
 -- no signal is put in
-abbrev pub PutsNoneIn : Option (ℕ × Option SignalContents) → Type 0
-PutsNoneIn None = Unit {0}
-PutsNoneIn (Some m) = m.1 ≡ None
+abbrev pub PutsNoSignalIn : Option (ℕ × Option SignalContents) → Type 0
+PutsNoSignalIn None = Unit {0}
+PutsNoSignalIn (Some m) = m.1 ≡ None
 
 -- the capture with another end
 abbrev pub with_end : Option ℕ → Contents → Contents
@@ -95,17 +95,17 @@ pub record Fits (r : RecordView) (c : Contents) : Type 0 where
 -- ---- which records there are
 
 -- no piece is for the signal at this position
-abbrev pub NoneFor : ℕ → List PieceView → Type 0
-NoneFor k [] = Unit {0}
-NoneFor k (p ∷ ps) = (p.signal ≢ k) × NoneFor k ps
+abbrev pub NoPieceFor : ℕ → List PieceView → Type 0
+NoPieceFor k [] = Unit {0}
+NoPieceFor k (p ∷ ps) = (p.signal ≢ k) × NoPieceFor k ps
 
 -- each signal has at most one piece
-abbrev pub AreApart : List PieceView → Type 0
-AreApart [] = Unit {0}
-AreApart (p ∷ ps) = NoneFor p.signal ps × AreApart ps
+abbrev pub HaveDistinctSignals : List PieceView → Type 0
+HaveDistinctSignals [] = Unit {0}
+HaveDistinctSignals (p ∷ ps) = NoPieceFor p.signal ps × HaveDistinctSignals ps
 
 -- a record has pieces, or a word, or a signal to put in or take out: at most one of the three
 pub record IsOneStep (r : RecordView) : Type 0 where
-  pub apart : AreApart r.pieces
+  pub apart : HaveDistinctSignals r.pieces
   pub word_alone : r.word ≢ None → r.pieces ≡ []
   pub signal_alone : r.signal ≢ None → (r.pieces ≡ []) × (r.word ≡ None)

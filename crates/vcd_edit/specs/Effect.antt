@@ -31,13 +31,13 @@ abbrev pub inverse_value : SignalContents → ℕ → List Bit
 inverse_value s t = map not_bit (signal_value s t)
 
 -- the value at a tick that may be outside: all x before tick 0, the last value past the end
-abbrev pub value_near : ℕ → SignalContents → ℤ → List Bit
-value_near end s (negsuc n) = all_x s.width
-value_near end s (pos u) = if nat_lt end u then signal_value s end else signal_value s u
+abbrev pub value_at_any_tick : ℕ → SignalContents → ℤ → List Bit
+value_at_any_tick end s (negsuc n) = all_x s.width
+value_at_any_tick end s (pos u) = if nat_lt end u then signal_value s end else signal_value s u
 
 -- the value `by` ticks before
 abbrev pub shift_value : ℕ → ℤ → SignalContents → ℕ → List Bit
-shift_value end by s t = value_near end s (pos t -ℤ by)
+shift_value end by s t = value_at_any_tick end s (pos t -ℤ by)
 
 -- the value after the ticks `from` up to before `to` are cut out
 abbrev pub cut_value : ℕ → ℕ → SignalContents → ℕ → List Bit

@@ -2,8 +2,8 @@
 pub mod EditErrorNames
 pub mod Operators
 pub mod Effect
-pub mod Allowed
-pub mod Refused
+pub mod EditFaults
+pub mod EditTests
 pub mod Laws
 pub mod RecordView
 pub mod Records

@@ -1,4 +1,4 @@
--- The logical operators on four-state letters, by the tables of IEEE 1364-2005, 5.1.10.
+-- The bitwise operators on four-state letters, by the tables of IEEE 1364-2005, 5.1.10.
 use Rattle.vcd_core.specs.declared.bit.Bit.{Bit}
 use Rattle.vcd_core.specs.declared.bit.Bit.TheVariants.{Zero, One, X, Z}
 

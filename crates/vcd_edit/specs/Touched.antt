@@ -16,18 +16,18 @@ abbrev pub same_change : Change → Change → Bool
 same_change a b = (a.tick == b.tick) && same_letters a.value b.value
 
 -- whether the first change, `offset` ticks earlier, is the second
-abbrev pub same_lowered : ℤ → Change → Change → Bool
-same_lowered offset a b = int_eq (pos a.tick -ℤ offset) (pos b.tick) && same_letters a.value b.value
+abbrev pub same_moved_change : ℤ → Change → Change → Bool
+same_moved_change offset a b = int_eq (pos a.tick -ℤ offset) (pos b.tick) && same_letters a.value b.value
 
--- how many last changes two lists have in common, the old ticks lowered
-abbrev pub common_suffix_lowered : ℤ → List Change → List Change → ℕ
-common_suffix_lowered offset old new = common_prefix_len (same_lowered offset) (reverse old) (reverse new)
+-- how many last changes two lists have in common, the old ones `offset` ticks earlier
+abbrev pub common_moved_suffix : ℤ → List Change → List Change → ℕ
+common_moved_suffix offset old new = common_prefix_len (same_moved_change offset) (reverse old) (reverse new)
 
 -- how many old changes remain without the longest common prefix, and then without the longest common suffix
 unfoldable pub touched_count : ℤ → List Change → List Change → ℕ
 touched_count offset old new =
     let front = common_prefix_len same_change old new in
-    length old - front - common_suffix_lowered offset (drop front old) (drop front new)
+    length old - front - common_moved_suffix offset (drop front old) (drop front new)
 
 -- ---- each signal of a capture compared with what it is after a step
 
@@ -44,15 +44,15 @@ partners (takes_out k) after = insert (map Some after) k None
 partners (puts_in k) after = map Some (remove after k)
 
 -- how many changes of a signal are touched: all of them if it is taken out
-abbrev pub touched_of : ℤ → SignalContents → Option SignalContents → ℕ
-touched_of offset s None = length s.changes
-touched_of offset s (Some n) = touched_count offset s.changes n.changes
+abbrev pub touched_in_signal : ℤ → SignalContents → Option SignalContents → ℕ
+touched_in_signal offset s None = length s.changes
+touched_in_signal offset s (Some n) = touched_count offset s.changes n.changes
 
 -- the sum over the signals from position k on, each with its own offset
 unfoldable pub touched_from : (ℕ → ℤ) → ℕ → List SignalContents → List (Option SignalContents) → ℕ
 touched_from offset k [] ns = 0
 touched_from offset k (s ∷ ss) [] = 0
-touched_from offset k (s ∷ ss) (n ∷ ns) = touched_of (offset k) s n + touched_from offset (suc k) ss ns
+touched_from offset k (s ∷ ss) (n ∷ ns) = touched_in_signal (offset k) s n + touched_from offset (suc k) ss ns
 
 -- ---- what reverting a record touches
 
@@ -84,10 +84,10 @@ change_count None = 0
 change_count (Some s) = length s.changes
 
 -- how many changes a signal to put in has
-abbrev pub moved_change_count : Option (ℕ × Option SignalContents) → ℕ
-moved_change_count None = 0
-moved_change_count (Some m) = change_count m.1
+abbrev pub inserted_change_count : Option (ℕ × Option SignalContents) → ℕ
+inserted_change_count None = 0
+inserted_change_count (Some m) = change_count m.1
 
 -- the changes in the pieces and in a signal to put in
 abbrev pub stored_changes : RecordView → ℕ
-stored_changes r = sum_by (λ p. length p.changes) r.pieces + moved_change_count r.signal
+stored_changes r = sum_by (λ p. length p.changes) r.pieces + inserted_change_count r.signal

@@ -2,7 +2,7 @@
 -- them.
 pub mod Ranges
 pub mod Plans
-pub mod Thinned
+pub mod RemainingChanges
 pub mod Derived
 pub mod Trims
 pub mod Exchanges

@@ -4,15 +4,15 @@ ghost use Rattle.std.specs.Prelude.{◌≡◌, ◌≤◌, None, IsOk, IfOk, OnOk
 ghost use Rattle.vcd_core.specs.Contents.{contents};
 ghost use Rattle.vcd_core.specs.Sound.{IsSound};
 ghost use Rattle.vcd_edit.specs.Effect.{effect as edit_effect};
-ghost use Rattle.vcd_edit.specs.Allowed.{edit_fault, MayRefuse};
+ghost use Rattle.vcd_edit.specs.EditFaults.{edit_fault, MayRefuse};
 ghost use Rattle.vcd_edit.specs.AppliedRecords.{apply_record, Fits};
 ghost use Rattle.vcd_edit.specs.Touched.{stored_changes};
 ghost use Rattle.vcd_edit.specs.TouchedByEdit.{touched_by_edit, IsRemove};
 
 use crate::checking::check;
 use crate::edit::Edit;
-use crate::effects::plan;
 use crate::fault::EditError;
+use crate::plans::plan;
 use crate::record::Record;
 use crate::reverting::exchange_record;
 use std::alloc::Global;
@@ -40,14 +40,14 @@ pub fn apply(alloc: Global, capture: &mut Capture, edit: &Edit) -> Result<Record
         (λ r. stored_changes r ≤ touched_by_edit edit.now (contents capture.old)) }
     ensures sound { OnOk result (IsSound (contents capture.new)) }
     ensures refused { IfErr result (MayRefuse (edit_fault edit.now (contents capture.old))) }
-    ensures never { IsRemove edit.now → edit_fault edit.now (contents capture.old) ≡ None →
+    ensures never_refused { IsRemove edit.now → edit_fault edit.now (contents capture.old) ≡ None →
         IsOk result }
     ensures unchanged { OnErr result (contents capture.new ≡ contents capture.old) }
 {
     check(capture, edit)?;
-    let patch = plan(alloc, capture, edit)?;
-    match exchange_record(alloc, capture, patch) {
-        Ok(inverse) => Ok(inverse),
+    let edit_record = plan(alloc, capture, edit)?;
+    match exchange_record(alloc, capture, edit_record) {
+        Ok(opposite_record) => Ok(opposite_record),
         Err(_) => Err(EditError::NoMemory),
     }
 }

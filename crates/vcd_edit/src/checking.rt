@@ -2,7 +2,7 @@
 
 ghost use Rattle.std.specs.Prelude.{◌∷◌, []};
 ghost use Rattle.vcd_core.specs.Contents.{contents};
-ghost use Rattle.vcd_edit.specs.Allowed.{is_no_signal, first_fault, edit_fault, FaultIs};
+ghost use Rattle.vcd_edit.specs.EditFaults.{is_no_signal, first_fault, edit_fault, FaultIs};
 ghost use Rattle.vcd_edit.specs.declared.edit.Edit.TheVariants as edits;
 ghost use Rattle.vcd_edit.specs.declared.fault.EditError.TheVariants as errors;
 
@@ -15,7 +15,7 @@ pub(crate) use new_names::after_first;
 use new_names::{check_derive, check_rename};
 use vcd_core::{Capture, Value};
 
-#[tactic(auto, unfolding(crate::specs::Allowed::edit_fault))]
+#[tactic(auto, unfolding(crate::specs::EditFaults::edit_fault))]
 /// The fault of an edit on a capture: the first that holds, in the order of [`EditError`].
 ///
 /// It takes no memory. Its time grows with the signals and their names if the edit gives a name; otherwise it is
@@ -51,7 +51,7 @@ fn check_signal(capture: &Capture, signal: usize) -> Result<(), EditError>
     Ok(())
 }
 
-#[tactic(auto, unfolding(crate::specs::Allowed::edit_fault))]
+#[tactic(auto, unfolding(crate::specs::EditFaults::edit_fault))]
 fn check_cut(capture: &Capture, from: u64, to: u64) -> Result<(), EditError>
     ensures { FaultIs result (edit_fault (edits.Cut from to) (contents capture.now)) }
 {
@@ -61,7 +61,7 @@ fn check_cut(capture: &Capture, from: u64, to: u64) -> Result<(), EditError>
     Ok(())
 }
 
-#[tactic(auto, unfolding(crate::specs::Allowed::edit_fault))]
+#[tactic(auto, unfolding(crate::specs::EditFaults::edit_fault))]
 fn check_deglitch(capture: &Capture, signal: usize, ticks: u64) -> Result<(), EditError>
     ensures { FaultIs result (edit_fault (edits.Deglitch signal ticks) (contents capture.now)) }
 {
@@ -74,7 +74,7 @@ fn check_deglitch(capture: &Capture, signal: usize, ticks: u64) -> Result<(), Ed
     Ok(())
 }
 
-#[tactic(auto, unfolding(crate::specs::Allowed::edit_fault))]
+#[tactic(auto, unfolding(crate::specs::EditFaults::edit_fault))]
 fn check_force(
     capture: &Capture,
     signal: usize,

@@ -14,7 +14,7 @@ pub enum EditError {
     /// A position is not below the number of signals.
     #[error("NoSuchSignal")]
     NoSuchSignal,
-    /// An operand of a logical operator is wider than one bit.
+    /// An operand of a bitwise operator is wider than one bit.
     #[error("NotScalar")]
     NotScalar,
     /// A bit number is not below the width of its signal.

@@ -7,11 +7,11 @@
 mod applying;
 mod checking;
 mod edit;
-mod effects;
 mod fault;
 mod fitting;
 mod laws;
 mod pieces;
+mod plans;
 mod record;
 mod reverting;
 

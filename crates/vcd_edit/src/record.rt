@@ -1,8 +1,8 @@
-//! Pieces and records, the patches from one capture to another.
+//! Pieces and records: the difference between two captures.
 
 ghost use Rattle.std.specs.Prelude.{◌≡◌, ℕ, ◌^◌, ◌<◌, length};
 ghost use Rattle.std.specs.List.{sum_by};
-ghost use Rattle.vcd_edit.specs.Touched.{moved_change_count};
+ghost use Rattle.vcd_edit.specs.Touched.{inserted_change_count};
 ghost use Rattle.vcd_edit.specs.Records.{moved_signal_view};
 
 use std::marker::Model;
@@ -19,7 +19,7 @@ pub struct Piece {
     pub(crate) by: i64,
 }
 
-/// A patch from one capture to another. It has pieces of waves, a new first word of a signal's name, or a signal to put
+/// The difference between two captures. It has pieces of waves, a new first word of a signal's name, or a signal to put
 /// in or take out. It may also have another end.
 ///
 /// Each signal has at most one piece. A record with a word has no pieces, and one with a signal to put in or take out
@@ -76,7 +76,7 @@ fn count_in_pieces(pieces: &[Piece]) -> u128
 }
 
 fn count_in_signal(signal: &Option<(usize, Option<Signal>)>) -> u128
-    ensures count { result ≡ moved_change_count (moved_signal_view signal.now) }
+    ensures count { result ≡ inserted_change_count (moved_signal_view signal.now) }
     ensures most { result < 2 ^ 64 }
 {
     match signal {

@@ -3,9 +3,9 @@
 ghost use Rattle.std.specs.Prelude.{◌≡◌, ℕ, ◌<◌, ◌≤◌, [], None, neg_ℤ, length, All, IsOk, IfOk, OnOk, OnErr, IfErr};
 ghost use Rattle.vcd_core.specs.Contents.{contents};
 ghost use Rattle.vcd_core.specs.Sound.{IsSound};
-ghost use Rattle.vcd_edit.specs.AppliedRecords.{apply_record, Fits, IsOneStep, PutsNoneIn};
+ghost use Rattle.vcd_edit.specs.AppliedRecords.{apply_record, Fits, IsOneStep, PutsNoSignalIn};
 ghost use Rattle.vcd_edit.specs.Touched.{touched_by_record, stored_changes};
-ghost use Rattle.vcd_edit.specs.inside.Opposites.{IsInverse};
+ghost use Rattle.vcd_edit.specs.inside.Opposites.{IsOppositeRecord};
 
 mod parts;
 
@@ -26,16 +26,16 @@ pub struct Kept {
 pub(crate) fn exchange_record(
     alloc: Global,
     capture: &mut Capture,
-    patch: Record,
+    edit_record: Record,
 ) -> Result<Record, Kept>
-    requires fits { Fits patch (contents capture.old) }
+    requires fits { Fits edit_record (contents capture.old) }
     requires sound { IsSound (contents capture.old) }
-    ensures effect { OnOk result (contents capture.new ≡ apply_record patch (contents capture.old)) }
-    ensures undo { IfOk result (IsInverse (contents capture.old) patch) }
-    ensures kept { IfErr result (λ k. k.held ≡ patch) }
+    ensures effect { OnOk result (contents capture.new ≡ apply_record edit_record (contents capture.old)) }
+    ensures undo { IfOk result (IsOppositeRecord (contents capture.old) edit_record) }
+    ensures given_back { IfErr result (λ k. k.held ≡ edit_record) }
     ensures unchanged { OnErr result (contents capture.new ≡ contents capture.old) }
-    ensures never { patch.pieces ≡ [] → PutsNoneIn patch.signal → IsOk result }
-    ensures one_step { IsOneStep patch }
+    ensures never_refused { edit_record.pieces ≡ [] → PutsNoSignalIn edit_record.signal → IsOk result }
+    ensures one_step { IsOneStep edit_record }
 {
     // Each field is named, so that a further one, such as a whole capture that is kept, does not compile.
     let Record {
@@ -43,7 +43,7 @@ pub(crate) fn exchange_record(
         word,
         signal,
         other_end,
-    } = patch;
+    } = edit_record;
     if reserve_all(capture, pieces.as_mut_slice()).is_err() {
         let held = Record {
             pieces,
@@ -87,20 +87,20 @@ pub(crate) fn exchange_record(
 ///
 /// The cost is the pieces, their ranges, and for each piece one move of its signal's later changes. A signal that is
 /// put in or taken out costs one move of the later signals.
-pub fn revert(alloc: Global, capture: &mut Capture, patch: Record) -> Result<Record, Kept>
-    requires fits { Fits patch (contents capture.old) }
+pub fn revert(alloc: Global, capture: &mut Capture, edit_record: Record) -> Result<Record, Kept>
+    requires fits { Fits edit_record (contents capture.old) }
     requires sound { IsSound (contents capture.old) }
-    ensures effect { OnOk result (contents capture.new ≡ apply_record patch (contents capture.old)) }
+    ensures effect { OnOk result (contents capture.new ≡ apply_record edit_record (contents capture.old)) }
     ensures undo { IfOk result (λ r. apply_record r (contents capture.new) ≡ contents capture.old) }
     ensures fits { IfOk result (λ r. Fits r (contents capture.new)) }
     ensures bound { IfOk result (λ r. stored_changes r
-        ≤ touched_by_record patch (contents capture.old)) }
+        ≤ touched_by_record edit_record (contents capture.old)) }
     ensures sound { OnOk result (IsSound (contents capture.new)) }
-    ensures kept { IfErr result (λ k. k.held ≡ patch) }
+    ensures given_back { IfErr result (λ k. k.held ≡ edit_record) }
     ensures unchanged { OnErr result (contents capture.new ≡ contents capture.old) }
-    ensures never { patch.pieces ≡ [] → PutsNoneIn patch.signal → IsOk result }
-    ensures fewer { length (apply_record patch (contents capture.old)).signals
+    ensures never_refused { edit_record.pieces ≡ [] → PutsNoSignalIn edit_record.signal → IsOk result }
+    ensures never_refused_with_fewer_signals { length (apply_record edit_record (contents capture.old)).signals
         < length (contents capture.old).signals → IsOk result }
 {
-    exchange_record(alloc, capture, patch)
+    exchange_record(alloc, capture, edit_record)
 }

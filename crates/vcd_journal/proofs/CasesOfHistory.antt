@@ -9,7 +9,7 @@ use Rattle.vcd_edit.specs.declared.edit.Edit.{Edit}
 use Rattle.vcd_edit.specs.declared.edit.Edit.TheVariants.{Rename, Invert, Cut}
 use Rattle.vcd_edit.specs.declared.fault.EditError.TheVariants as errors
 use Rattle.vcd_edit.specs.Effect.{effect}
-use Rattle.vcd_edit.specs.Allowed.{edit_fault}
+use Rattle.vcd_edit.specs.EditFaults.{edit_fault}
 use Rattle.vcd_edit.proofs.CasesOfEdits.{capture, wire, alone, from, lent}
 use Rattle.vcd_journal.specs.declared.step.TheConstants.{DEPTH_LIMIT}
 use Rattle.vcd_journal.specs.declared.step.Step.{Step}

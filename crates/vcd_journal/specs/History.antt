@@ -4,7 +4,7 @@ use Rattle.std.specs.Prelude.{drop, codes}
 use Rattle.vcd_core.specs.Contents.{Contents}
 use Rattle.vcd_edit.specs.declared.edit.Edit.{Edit}
 use Rattle.vcd_edit.specs.Effect.{effect}
-use Rattle.vcd_edit.specs.Refused.{Tests, edit_tests}
+use Rattle.vcd_edit.specs.EditTests.{Tests, edit_tests}
 use Rattle.vcd_journal.specs.declared.step.TheConstants.{DEPTH_LIMIT}
 use Rattle.vcd_journal.specs.declared.step.Step.{Step}
 use Rattle.vcd_journal.specs.declared.step.Step.TheVariants as steps

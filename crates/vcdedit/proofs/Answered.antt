@@ -7,7 +7,7 @@ use Rattle.vcd_edit.specs.declared.edit.Edit.TheVariants.{Rename, Remove, Invert
 use Rattle.vcd_edit.specs.declared.fault.EditError.{EditError}
 use Rattle.vcd_edit.specs.declared.fault.EditError.TheVariants as errors
 use Rattle.vcd_edit.specs.Effect.{effect}
-use Rattle.vcd_edit.specs.Allowed.{edit_fault}
+use Rattle.vcd_edit.specs.EditFaults.{edit_fault}
 use Rattle.vcd_journal.specs.declared.step.Step.{Step}
 use Rattle.vcd_journal.specs.declared.step.Step.TheVariants as steps
 use Rattle.vcd_journal.specs.declared.step.StepError.{StepError}

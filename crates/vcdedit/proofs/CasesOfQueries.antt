@@ -8,7 +8,7 @@ use Rattle.vcd_core.specs.Names.{name_in, lookup}
 use Rattle.vcd_core.specs.Contents.{Contents, signal_at}
 use Rattle.vcd_text.specs.Words.{words_from}
 use Rattle.vcd_edit.specs.Effect.{effect}
-use Rattle.vcd_edit.specs.Allowed.{edit_fault}
+use Rattle.vcd_edit.specs.EditFaults.{edit_fault}
 use Rattle.vcdedit.specs.declared.script.command.Command.TheVariants as commands
 use Rattle.vcdedit.specs.declared.script.line_error.LineError.TheVariants.{WrongCount, BadNumber, NoSuchName}
 use Rattle.vcdedit.specs.Script.{script_lines}

@@ -9,7 +9,7 @@ use Rattle.vcd_text.specs.Words.{words_from}
 use Rattle.vcd_text.specs.Letters.{short_form}
 use Rattle.vcd_text.specs.Text.{code_digits, signal_items, tick_items, items_of, text}
 use Rattle.vcd_edit.specs.Effect.{effect}
-use Rattle.vcd_edit.specs.Allowed.{edit_fault}
+use Rattle.vcd_edit.specs.EditFaults.{edit_fault}
 use Rattle.vcdedit.specs.Script.{script_lines}
 use Rattle.vcdedit.specs.ParsedLines.{command_of_line}
 use Rattle.vcdedit.specs.MachineReplies.{line_reply}

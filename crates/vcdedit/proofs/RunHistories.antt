@@ -17,8 +17,8 @@ use Rattle.vcd_text.proofs.TextReadBack.{read_back}
 use Rattle.vcd_text.proofs.SoundMeaning.{meaning_is_sound}
 use Rattle.vcd_edit.specs.declared.edit.Edit.{Edit}
 use Rattle.vcd_edit.specs.declared.fault.EditError.{EditError}
-use Rattle.vcd_edit.specs.Allowed.{edit_fault}
-use Rattle.vcd_edit.specs.Refused.{unless_refused}
+use Rattle.vcd_edit.specs.EditFaults.{edit_fault}
+use Rattle.vcd_edit.specs.EditTests.{unless_refused}
 use Rattle.vcd_edit.proofs.RefusedEdits.{unless_fault, edit_refused_is}
 use Rattle.vcd_journal.specs.declared.step.Step.{Step}
 use Rattle.vcd_journal.specs.declared.step.Step.TheVariants as steps

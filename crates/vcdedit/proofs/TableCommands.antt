@@ -17,7 +17,7 @@ use Rattle.vcd_decode.specs.SetupErrorNames.{setup_error_name}
 use Rattle.vcd_decode.specs.UartSetup.{UartSetup, uart_setup}
 use Rattle.vcd_decode.specs.SpiSetup.{SpiSetup, spi_setup}
 use Rattle.vcd_decode.specs.SetupFaults.{uart_fault, spi_fault}
-use Rattle.vcd_edit.specs.Refused.{Tests, unless_refused, is_vector}
+use Rattle.vcd_edit.specs.EditTests.{Tests, unless_refused, is_vector}
 use Rattle.vcd_edit.specs.declared.edit.Edit.TheVariants.{Derive}
 use Rattle.vcd_edit.specs.declared.edit.Rule.{Rule}
 use Rattle.vcd_edit.specs.declared.edit.Rule.TheVariants.{Not, And, Or, Xor, BitOf}

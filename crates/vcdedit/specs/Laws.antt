@@ -3,7 +3,7 @@ use Rattle.std.specs.Prelude.{◌≡◌, ◌≤◌, ℕ, true, List, ◌∷◌, 
 use Rattle.vcd_core.specs.Contents.{Contents}
 use Rattle.vcdedit.specs.declared.script.command.Command.TheVariants as commands
 use Rattle.vcd_edit.specs.declared.edit.Edit.{Edit}
-use Rattle.vcd_edit.specs.Allowed.{edit_fault}
+use Rattle.vcd_edit.specs.EditFaults.{edit_fault}
 use Rattle.vcd_journal.specs.declared.step.Step.{Step}
 use Rattle.vcd_journal.specs.declared.step.Step.TheVariants as steps
 use Rattle.vcd_journal.specs.declared.step.Answer.{Answer}

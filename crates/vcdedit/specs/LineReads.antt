@@ -9,7 +9,7 @@ use Rattle.vcd_core.specs.Contents.{Contents}
 use Rattle.vcd_core.specs.Decimal.{is_number, number_of}
 use Rattle.vcd_core.specs.Names.{lookup}
 use Rattle.vcd_text.specs.Letters.{value_of_digits}
-use Rattle.vcd_edit.specs.Refused.{Tests, is_vector}
+use Rattle.vcd_edit.specs.EditTests.{Tests, is_vector}
 use Rattle.vcd_decode.specs.declared.spi_setup.BitOrder.{BitOrder}
 use Rattle.vcd_decode.specs.declared.spi_setup.BitOrder.TheVariants.{Msb, Lsb}
 use Rattle.vcd_decode.specs.declared.spi_setup.TheConstants.{GREATEST_MODE, WORD_BITS_LIMIT}

@@ -14,7 +14,7 @@ use Rattle.vcd_edit.specs.EditErrorNames.{edit_error_name}
 use Rattle.vcd_journal.specs.StepErrorNames.{step_error_name}
 use Rattle.vcd_journal.specs.Machine.{is_depth}
 use Rattle.vcdedit.specs.LineErrorNames.{line_error_name}
-use Rattle.vcd_edit.specs.Allowed.{edit_fault}
+use Rattle.vcd_edit.specs.EditFaults.{edit_fault}
 use Rattle.vcdedit.specs.DecoderReply.{uart_lines, spi_lines, i2c_lines}
 use Rattle.vcdedit.specs.ParsedLines.{command_of_line}
 use Rattle.vcdedit.specs.Queries.{listing}

@@ -10,7 +10,7 @@ use Rattle.vcd_core.specs.WaveView.{WaveView}
 use Rattle.vcd_edit.specs.declared.edit.Rule.{Rule}
 use Rattle.vcd_edit.specs.declared.edit.Rule.TheVariants.{Not, And, Or, Xor, BitOf}
 use Rattle.vcd_edit.specs.Operators.{not_bit, and_bit, or_bit, xor_bit}
-use Rattle.vcd_edit.specs.inside.Thinned.{TicksRise}
+use Rattle.vcd_edit.specs.inside.RemainingChanges.{TicksRise}
 
 -- the position of a rule's last operand, which may be the only one
 abbrev pub last_operand : Rule → ℕ
@@ -58,7 +58,7 @@ abbrev pub operand_change : Rule → Change → Change
 operand_change rule c = change c.tick (operator_bit rule c.value c.value ∷ [])
 
 -- the changes of the wave, followed by the changes that remain, give the values of all changes
-pub record IsMade (all left : List Change) (w : WaveView) : Type 0 where
+pub record DerivedSoFar (all left : List Change) (w : WaveView) : Type 0 where
   pub width : w.width ≡ 1
   pub values : (t : ℕ) → value_from (value_at 1 w.changes t) left t ≡ value_from (all_x 1) all t
   pub rise : TicksRise 1 0 left

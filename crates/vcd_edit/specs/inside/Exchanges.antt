@@ -10,7 +10,7 @@ use Rattle.vcd_core.specs.Wave.{IsWave}
 use Rattle.vcd_core.specs.Splice.{AllTicksFit}
 use Rattle.vcd_edit.specs.declared.record.Piece.{Piece}
 use Rattle.vcd_edit.specs.RecordView.{PieceView}
-use Rattle.vcd_edit.specs.AppliedRecords.{changes_with_piece, with_piece, with_pieces, AreApart}
+use Rattle.vcd_edit.specs.AppliedRecords.{changes_with_piece, with_piece, with_pieces, HaveDistinctSignals}
 use Rattle.vcd_edit.specs.Records.{piece_view}
 use Rattle.vcd_edit.specs.Touched.{touched_count}
 
@@ -26,7 +26,7 @@ pub record PieceReady (width : ℕ) (cs : List Change) (p : PieceView) : Type 0 
   pub upto : All (λ c. c.tick ≤ END_LIMIT) cs
 
 -- the second piece undoes the first one on a list, and stores touched changes only
-pub record IsInversePiece (cs : List Change) (p q : PieceView) : Type 0 where
+pub record IsOppositePiece (cs : List Change) (p q : PieceView) : Type 0 where
   pub signal : q.signal ≡ p.signal
   pub ordered : q.from ≤ q.to
   pub within : q.to ≤ length (changes_with_piece p cs)
@@ -42,12 +42,12 @@ pub record PieceReadyIn (c : Contents) (p : PieceView) : Type 0 where
   pub ready : PieceReady (signal_at c p.signal).width (signal_at c p.signal).changes p
 
 -- the pieces of the second list undo those of the first, one after another
-abbrev pub AreInversePieces : Contents → List PieceView → List PieceView → Type 0
-AreInversePieces c [] [] = Unit {0}
-AreInversePieces c [] (q ∷ qs) = ⊥
-AreInversePieces c (p ∷ ps) [] = ⊥
-AreInversePieces c (p ∷ ps) (q ∷ qs) = (p.signal < length c.signals) × IsInversePiece (signal_at c p.signal).changes p q
-    × AreInversePieces (with_piece c p) ps qs
+abbrev pub AreOppositePieces : Contents → List PieceView → List PieceView → Type 0
+AreOppositePieces c [] [] = Unit {0}
+AreOppositePieces c [] (q ∷ qs) = ⊥
+AreOppositePieces c (p ∷ ps) [] = ⊥
+AreOppositePieces c (p ∷ ps) (q ∷ qs) = (p.signal < length c.signals)
+    × IsOppositePiece (signal_at c p.signal).changes p q × AreOppositePieces (with_piece c p) ps qs
 
 -- ---- room
 
@@ -79,11 +79,11 @@ pub record ReservedSoFar (old : List Piece) (i : ℕ) (new : List Piece) (ss : L
   pub room : All (HasRoomForPiece ss) (take i new)
 
 -- the first i pieces were put in and now undo that; the later ones are unchanged, and ready
-pub record PutSoFar (before : Contents) (old : List Piece) (i : ℕ) (new : List Piece) (now : Contents)
+pub record ExchangedSoFar (before : Contents) (old : List Piece) (i : ℕ) (new : List Piece) (now : Contents)
     (ss : List Signal) : Type 0 where
   pub rest : drop i new ≡ drop i old
   pub there : now ≡ with_pieces before (map piece_view (take i old))
-  pub back : AreInversePieces before (map piece_view (take i old)) (map piece_view (take i new))
+  pub back : AreOppositePieces before (map piece_view (take i old)) (map piece_view (take i new))
   pub ready : All (PieceReadyIn now) (map piece_view (drop i old))
-  pub apart : AreApart (map piece_view (drop i old))
+  pub apart : HaveDistinctSignals (map piece_view (drop i old))
   pub room : All (HasRoomForPiece ss) (drop i old)

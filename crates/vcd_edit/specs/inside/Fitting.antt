@@ -27,7 +27,7 @@ late_count end cs = if list_all (λ c. nat_le c.tick end) cs then 0 else 1
 -- a piece is for one of the signals, and gives a wave up to the end
 pub record IsValidIn (end : ℕ) (ss : List SignalContents) (p : PieceView) : Type 0 where
   pub within : p.signal < length ss
-  pub stands : IsValidPiece (slice_index_or ss p.signal no_signal).width end
+  pub valid : IsValidPiece (slice_index_or ss p.signal no_signal).width end
       (slice_index_or ss p.signal no_signal).changes p
 
 -- a capture may have so many signals, and each is sound up to an end

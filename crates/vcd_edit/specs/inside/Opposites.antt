@@ -26,7 +26,7 @@ abbrev pub opposite_end : Option ℕ → Contents → Option ℕ
 opposite_end None c = None
 opposite_end (Some end) c = Some c.end
 
--- the record of the opposite step: its pieces are the inverse ones, the last one first
+-- the record of the opposite step: its pieces are the opposite ones, the last one first
 abbrev pub opposite_record : RecordView → List PieceView → Contents → RecordView
 opposite_record r qs c = record {
   pieces = reverse qs;
@@ -46,7 +46,7 @@ IsNamedAt c (Some w) = 0 < length (signal_at c w.0).words
 
 -- the second record undoes the first one on a capture; it stores no more than that one touches, and has the opposite
 -- offsets
-pub record IsInverse (c : Contents) (r q : RecordView) : Type 0 where
+pub record IsOppositeRecord (c : Contents) (r q : RecordView) : Type 0 where
   pub fits : Fits q (apply_record r c)
   pub leads : apply_record q (apply_record r c) ≡ c
   pub stored : (offset : ℕ → ℤ) → All (λ p. offset p.signal ≡ neg_ℤ p.by) r.pieces

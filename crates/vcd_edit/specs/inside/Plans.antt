@@ -8,8 +8,8 @@ use Rattle.vcd_edit.specs.RecordView.{PieceView, RecordView}
 use Rattle.vcd_edit.specs.Effect.{effect}
 use Rattle.vcd_edit.specs.Touched.{record_pairing}
 use Rattle.vcd_edit.specs.TouchedByEdit.{edit_offset, edit_pairing}
-use Rattle.vcd_edit.specs.AppliedRecords.{with_pieces, apply_record, PieceFits, Fits, AreApart}
-use Rattle.vcd_edit.specs.inside.Ranges.{LeadsTo}
+use Rattle.vcd_edit.specs.AppliedRecords.{with_pieces, apply_record, PieceFits, Fits, HaveDistinctSignals}
+use Rattle.vcd_edit.specs.inside.Ranges.{GivesChanges}
 use Rattle.vcd_edit.specs.Records.{piece_view}
 
 -- the record changes a capture into the effect of an edit on it
@@ -23,13 +23,14 @@ pub record IsPlan (e : Edit) (c : Contents) (r : RecordView) : Type 0 where
 pub record GivesValues (k : ℕ) (s : SignalContents) (end : ℕ) (by : ℤ) (f : ℕ → List Bit) (p : Piece) : Type 0 where
   pub signal : p.signal ≡ k
   pub moves : p.by ≡ by
-  pub leads : LeadsTo (piece_view p) s.changes s.width end f
+  pub leads : GivesChanges (piece_view p) s.changes s.width end f
 
 -- pieces for at most the first n signals of a capture change each of these by g, all with one offset
-pub record LeadEach (c : Contents) (by : ℤ) (g : SignalContents → SignalContents) (n : ℕ) (ps : List PieceView) : Type 0
+pub record PiecesForEach (c : Contents) (by : ℤ) (g : SignalContents → SignalContents) (n : ℕ)
+    (ps : List PieceView) : Type 0
   where
     pub led : with_pieces c ps ≡ record c { signals = map g (take n c.signals) ++ drop n c.signals }
     pub fit : All (PieceFits c) ps
     pub below : All (λ p. p.signal < n) ps
-    pub apart : AreApart ps
+    pub apart : HaveDistinctSignals ps
     pub moves : All (λ p. p.by ≡ by) ps

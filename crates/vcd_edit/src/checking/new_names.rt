@@ -6,7 +6,7 @@ ghost use Rattle.std.specs.Str.{bytes_eq};
 ghost use Rattle.vcd_core.specs.Contents.{contents, signal_contents, no_signal};
 ghost use Rattle.vcd_core.specs.Names.{full_name, full_names};
 ghost use Rattle.vcd_edit.specs.Effect.{renamed_signal};
-ghost use Rattle.vcd_edit.specs.Allowed.{lacks_operand, takes_name, edit_fault, FaultIs};
+ghost use Rattle.vcd_edit.specs.EditFaults.{lacks_operand, gives_taken_name, edit_fault, FaultIs};
 ghost use Rattle.vcd_edit.specs.declared.edit.Edit.TheVariants as edits;
 
 use crate::checking::operands::check_operands;
@@ -14,7 +14,7 @@ use crate::edit::Rule;
 use crate::fault::EditError;
 use vcd_core::{Capture, FullName, SIGNAL_LIMIT, Signal, Word, is_word};
 
-#[tactic(auto, unfolding(crate::specs::Allowed::edit_fault))]
+#[tactic(auto, unfolding(crate::specs::EditFaults::edit_fault))]
 pub(crate) fn check_rename(capture: &Capture, signal: usize, word: &[u8]) -> Result<(), EditError>
     ensures { FaultIs result
         (edit_fault (edits.Rename signal word.entry) (contents capture.now)) }
@@ -56,7 +56,7 @@ pub(crate) fn after_first(words: &[Word]) -> &[Word]
     }
 }
 
-#[tactic(auto, unfolding(crate::specs::Allowed::edit_fault))]
+#[tactic(auto, unfolding(crate::specs::EditFaults::edit_fault))]
 pub(crate) fn check_derive(capture: &Capture, word: &[u8], rule: Rule) -> Result<(), EditError>
     ensures { FaultIs result (edit_fault (edits.Derive word.entry rule) (contents capture.now)) }
 {
@@ -76,7 +76,7 @@ pub(crate) fn check_derive(capture: &Capture, word: &[u8], rule: Rule) -> Result
 /// Whether a signal already has the full name of the derived one.
 fn is_derived_name_taken(capture: &Capture, word: &[u8], rule: Rule) -> bool
     requires { lacks_operand rule (contents capture.now) ≡ false }
-    ensures { result ≡ takes_name (edits.Derive word.entry rule) (contents capture.now) }
+    ensures { result ≡ gives_taken_name (edits.Derive word.entry rule) (contents capture.now) }
 {
     let signals = capture.signals();
     let scopes = signals[rule.first_operand()].scopes.as_slice();

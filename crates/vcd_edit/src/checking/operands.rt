@@ -2,7 +2,7 @@
 
 ghost use Rattle.std.specs.Prelude.{◌∷◌, ◌||◌, nat_le, []};
 ghost use Rattle.vcd_core.specs.Contents.{contents, signal_at};
-ghost use Rattle.vcd_edit.specs.Allowed.{is_no_signal, is_wide, lacks_operand, has_wide_operand, is_bit_outside, first_fault, FaultIs};
+ghost use Rattle.vcd_edit.specs.EditFaults.{is_no_signal, is_wide, lacks_operand, has_wide_operand, is_bit_outside, first_fault, FaultIs};
 ghost use Rattle.vcd_edit.specs.declared.fault.EditError.TheVariants as errors;
 
 use crate::edit::Rule;
@@ -18,7 +18,7 @@ pub(crate) fn check_operands(capture: &Capture, rule: Rule) -> Result<(), EditEr
 {
     match rule {
         Rule::Not(a) => check_scalar(capture, a),
-        Rule::And(a, b) | Rule::Or(a, b) | Rule::Xor(a, b) => check_scalars(capture, a, b),
+        Rule::And(a, b) | Rule::Or(a, b) | Rule::Xor(a, b) => check_scalar_pair(capture, a, b),
         Rule::BitOf(a, k) => check_bit(capture, a, k),
     }
 }
@@ -38,7 +38,7 @@ fn check_scalar(capture: &Capture, a: usize) -> Result<(), EditError>
     Ok(())
 }
 
-fn check_scalars(capture: &Capture, a: usize, b: usize) -> Result<(), EditError>
+fn check_scalar_pair(capture: &Capture, a: usize, b: usize) -> Result<(), EditError>
     ensures { FaultIs result (first_fault ((
       is_no_signal (contents capture.now) a || is_no_signal (contents capture.now) b,
       errors.NoSuchSignal,

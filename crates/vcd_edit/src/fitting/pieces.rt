@@ -3,7 +3,7 @@
 ghost use Rattle.std.specs.Prelude.{◌≡◌, ◌↔◌, ℕ, ◌<◌, ◌≤◌, All, IsTrue, Some, None, map, length, slice_index_or};
 ghost use Rattle.std.specs.List.{sum_by};
 ghost use Rattle.vcd_core.specs.Contents.{Contents, SignalContents, contents, signal_contents, no_signal};
-ghost use Rattle.vcd_edit.specs.AppliedRecords.{with_pieces, PieceFits, AreApart};
+ghost use Rattle.vcd_edit.specs.AppliedRecords.{with_pieces, PieceFits, HaveDistinctSignals};
 ghost use Rattle.vcd_edit.specs.Records.{piece_view};
 ghost use Rattle.vcd_edit.specs.inside.Fitting.{HasSoundNames, IsFormedSignal, late_count as lateness_of, IsValidIn, AreSoundSignals};
 
@@ -82,7 +82,7 @@ fn late_pieces(pieces: &[Piece], signals: &[Signal], end: u64) -> usize
 /// Whether pieces fit signals and give sound ones up to the end. Pieces have distinct signals, so equal counts mean
 /// that every signal with a change past the end has a piece.
 pub(crate) fn pieces_fit(pieces: &[Piece], signals: &[Signal], end: u64) -> bool
-    requires apart { AreApart (map piece_view pieces.now) }
+    requires apart { HaveDistinctSignals (map piece_view pieces.now) }
     ensures { (c : Contents) → c.signals ≡ map signal_contents signals.now
         → IsTrue result ↔ (All (PieceFits c) (map piece_view pieces.now)
         × AreSoundSignals end (with_pieces c (map piece_view pieces.now)).signals) }

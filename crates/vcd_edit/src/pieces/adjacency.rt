@@ -11,7 +11,7 @@ use crate::record::Piece;
 use vcd_core::{Change, WIDTH_LIMIT, Wave, ends_by, last_value, moved_change};
 
 /// Whether a tick comes after all changes.
-fn is_free(before: &[Change], tick: u64) -> bool
+fn comes_after(before: &[Change], tick: u64) -> bool
     ensures { result ≡ nat_le (floor_after 0 before.now) tick }
 {
     match before.split_last() {
@@ -28,7 +28,7 @@ fn may_follow(before: &[Change], width: u64, change: &Change) -> bool
         ≡ may_follow (floor_after 0 before.now) (value_following width before.now) change.now }
 {
     let last = last_value(before, width);
-    is_free(before, change.tick) && change.value != last && change.value.width() == last.width()
+    comes_after(before, change.tick) && change.value != last && change.value.width() == last.width()
 }
 
 /// The changes before the one at `index`: those of `changes`, or `before` if it is the first.

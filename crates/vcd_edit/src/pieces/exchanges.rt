@@ -5,11 +5,11 @@ ghost use Rattle.std.specs.Int.{w64, FitsUnsigned};
 ghost use Rattle.vcd_core.specs.declared.capture.TheConstants.{END_LIMIT};
 ghost use Rattle.vcd_core.specs.Contents.{contents, signal_at};
 ghost use Rattle.vcd_edit.specs.RecordView.{PieceView};
-ghost use Rattle.vcd_edit.specs.AppliedRecords.{changes_with_piece, with_piece, with_pieces, AreApart};
+ghost use Rattle.vcd_edit.specs.AppliedRecords.{changes_with_piece, with_piece, with_pieces, HaveDistinctSignals};
 ghost use Rattle.vcd_edit.specs.Records.{piece_view};
-ghost use Rattle.vcd_edit.specs.inside.Exchanges.{PieceReady, PieceReadyIn, IsInversePiece, AreInversePieces, wave_at, HasRoomForPiece};
+ghost use Rattle.vcd_edit.specs.inside.Exchanges.{PieceReady, PieceReadyIn, IsOppositePiece, AreOppositePieces, wave_at, HasRoomForPiece};
 
-use crate::pieces::spare_room::release_rooms;
+use crate::pieces::spare_room::release_all_spare_room;
 use crate::pieces::trimming::trim;
 use crate::record::Piece;
 use vcd_core::{Capture, Wave};
@@ -25,14 +25,14 @@ fn opposite(by: i64) -> i64
 /// Swaps a range of changes with a trimmed piece, in place. The piece then undoes this.
 ///
 /// It takes no memory. The cost is the piece, its range and one move of the later changes.
-fn exchange_piece(piece: &mut Piece, wave: &mut Wave)
+fn exchange_with_wave(piece: &mut Piece, wave: &mut Wave)
     requires ready { PieceReady wave.old.width wave.old.changes (piece_view piece.old) }
     requires room { length wave.old.changes + vec_len piece.old.changes
         < wave.old.splice_room + (piece.old.to - piece.old.from) }
     requires piece_room { piece.old.to - piece.old.from ≤ vec_capacity piece.old.changes }
     ensures width { wave.new.width ≡ wave.old.width }
     ensures effect { wave.new.changes ≡ changes_with_piece (piece_view piece.old) wave.old.changes }
-    ensures undo { IsInversePiece wave.old.changes (piece_view piece.old) (piece_view piece.new) }
+    ensures undo { IsOppositePiece wave.old.changes (piece_view piece.old) (piece_view piece.new) }
 {
     trim(piece, wave.changes());
     let seam = piece.from + piece.changes.as_slice().len();
@@ -42,45 +42,45 @@ fn exchange_piece(piece: &mut Piece, wave: &mut Wave)
 }
 
 /// Swaps a range of the piece's signal with the piece, in place. The piece then undoes this.
-fn put_one(capture: &mut Capture, piece: &mut Piece)
+fn exchange_in_signal(capture: &mut Capture, piece: &mut Piece)
     requires ready { PieceReadyIn (contents capture.old) (piece_view piece.old) }
     requires room { HasRoomForPiece capture.old.signals piece.old }
     ensures effect { contents capture.new
         ≡ with_piece (contents capture.old) (piece_view piece.old) }
-    ensures undo { IsInversePiece (signal_at (contents capture.old) piece.old.signal).changes
+    ensures undo { IsOppositePiece (signal_at (contents capture.old) piece.old.signal).changes
         (piece_view piece.old) (piece_view piece.new) }
     ensures others { (k : ℕ) → k ≢ piece.old.signal
         → wave_at capture.new.signals k ≡ wave_at capture.old.signals k }
 {
-    exchange_piece(piece, &mut capture.signals.item_mut(piece.signal).wave);
+    exchange_with_wave(piece, &mut capture.signals.item_mut(piece.signal).wave);
 }
 
 /// Swaps all pieces with their ranges of the capture, one after another. The pieces then undo this.
-fn put_all(capture: &mut Capture, pieces: &mut [Piece])
+fn exchange_in_order(capture: &mut Capture, pieces: &mut [Piece])
     requires ready { All (PieceReadyIn (contents capture.old)) (map piece_view pieces.old) }
-    requires apart { AreApart (map piece_view pieces.old) }
+    requires apart { HaveDistinctSignals (map piece_view pieces.old) }
     requires room { All (HasRoomForPiece capture.old.signals) pieces.old }
     ensures effect { contents capture.new
         ≡ with_pieces (contents capture.old) (map piece_view pieces.old) }
-    ensures undo { AreInversePieces (contents capture.old)
+    ensures undo { AreOppositePieces (contents capture.old)
         (map piece_view pieces.old) (map piece_view pieces.new) }
 {
     for piece in pieces.iter_mut() {
-        put_one(capture, piece);
+        exchange_in_signal(capture, piece);
     }
 }
 
 /// Swaps all pieces with their ranges of the capture, then reverses their list, so that the last is undone first.
-fn put_pieces(capture: &mut Capture, pieces: &mut Vec<Piece>)
+fn exchange_and_reverse(capture: &mut Capture, pieces: &mut Vec<Piece>)
     requires ready { All (PieceReadyIn (contents capture.old)) (map piece_view pieces.old.items) }
-    requires apart { AreApart (map piece_view pieces.old.items) }
+    requires apart { HaveDistinctSignals (map piece_view pieces.old.items) }
     requires room { All (HasRoomForPiece capture.old.signals) pieces.old.items }
     ensures effect { contents capture.new
         ≡ with_pieces (contents capture.old) (map piece_view pieces.old.items) }
     ensures undo { (qs : List PieceView) × (map piece_view pieces.new.items ≡ reverse qs)
-        × AreInversePieces (contents capture.old) (map piece_view pieces.old.items) qs }
+        × AreOppositePieces (contents capture.old) (map piece_view pieces.old.items) qs }
 {
-    put_all(capture, pieces.as_mut_slice());
+    exchange_in_order(capture, pieces.as_mut_slice());
     pieces.reverse();
 }
 
@@ -88,13 +88,13 @@ fn put_pieces(capture: &mut Capture, pieces: &mut Vec<Piece>)
 /// changes.
 pub(crate) fn exchange_pieces(capture: &mut Capture, pieces: &mut Vec<Piece>)
     requires ready { All (PieceReadyIn (contents capture.old)) (map piece_view pieces.old.items) }
-    requires apart { AreApart (map piece_view pieces.old.items) }
+    requires apart { HaveDistinctSignals (map piece_view pieces.old.items) }
     requires room { All (HasRoomForPiece capture.old.signals) pieces.old.items }
     ensures effect { contents capture.new
         ≡ with_pieces (contents capture.old) (map piece_view pieces.old.items) }
     ensures undo { (qs : List PieceView) × (map piece_view pieces.new.items ≡ reverse qs)
-        × AreInversePieces (contents capture.old) (map piece_view pieces.old.items) qs }
+        × AreOppositePieces (contents capture.old) (map piece_view pieces.old.items) qs }
 {
-    put_pieces(capture, pieces);
-    release_rooms(pieces.as_mut_slice());
+    exchange_and_reverse(capture, pieces);
+    release_all_spare_room(pieces.as_mut_slice());
 }

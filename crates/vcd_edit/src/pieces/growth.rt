@@ -35,7 +35,7 @@ fn reserve_wave(
 
 /// Makes room for the exchange of one piece with its wave: in the piece for just the changes that it gets. The contents
 /// of both stay the same, also if the memory is refused.
-fn reserve_one(capture: &mut Capture, piece: &mut Piece) -> Result<(), NoMemory>
+fn reserve_piece(capture: &mut Capture, piece: &mut Piece) -> Result<(), NoMemory>
     requires signal { piece.old.signal < length capture.old.signals }
     requires ordered { piece.old.from ≤ piece.old.to }
     requires within { piece.old.to
@@ -48,15 +48,15 @@ fn reserve_one(capture: &mut Capture, piece: &mut Piece) -> Result<(), NoMemory>
     ensures never_less { (k : ℕ) →
         HasNoLessRoom (wave_at capture.old.signals k) (wave_at capture.new.signals k) }
 {
-    let come = piece.changes.as_slice().len();
-    let part = piece.to - piece.from;
-    piece.changes.reserve_exact(part.saturating_sub(come))?;
+    let len = piece.changes.as_slice().len();
+    let range_len = piece.to - piece.from;
+    piece.changes.reserve_exact(range_len.saturating_sub(len))?;
     let changes = piece.changes.as_slice();
     reserve_wave(capture, piece.signal, piece.from, piece.to, changes)
 }
 
 /// Makes the room for each piece in order, up to the first for which memory is refused.
-fn reserve_each(capture: &mut Capture, pieces: &mut [Piece]) -> Result<(), NoMemory>
+fn reserve_in_order(capture: &mut Capture, pieces: &mut [Piece]) -> Result<(), NoMemory>
     requires signal { All (λ p. p.signal < length capture.old.signals) pieces.old }
     requires ordered { All (λ p. p.from ≤ p.to) pieces.old }
     requires within { All (λ p. p.to
@@ -64,16 +64,16 @@ fn reserve_each(capture: &mut Capture, pieces: &mut [Piece]) -> Result<(), NoMem
     ensures contents { contents capture.new ≡ contents capture.old }
     ensures pieces { map piece_view pieces.new ≡ map piece_view pieces.old }
     ensures room { OnOk result (All (HasRoomForPiece capture.new.signals) pieces.new) }
-    ensures never { pieces.old ≡ [] → IsOk result }
+    ensures never_refused { pieces.old ≡ [] → IsOk result }
 {
     for piece in pieces.iter_mut() {
-        reserve_one(capture, piece)?;
+        reserve_piece(capture, piece)?;
     }
     Ok(())
 }
 
 /// If the list of a signal is shared, gives back the memory taken for a list of its own.
-fn cancel_wave(capture: &mut Capture, signal: usize)
+fn cancel_reservation(capture: &mut Capture, signal: usize)
     requires { signal < length capture.old.signals }
     ensures { contents capture.new ≡ contents capture.old }
 {
@@ -81,12 +81,12 @@ fn cancel_wave(capture: &mut Capture, signal: usize)
 }
 
 /// Gives back the memory taken for lists of their own, for each of the first `count` signals.
-fn cancel_waves(capture: &mut Capture, count: usize)
+fn cancel_first_reservations(capture: &mut Capture, count: usize)
     requires { count ≤ length capture.old.signals }
     ensures { contents capture.new ≡ contents capture.old }
 {
     for signal in 0..count {
-        cancel_wave(capture, signal);
+        cancel_reservation(capture, signal);
     }
 }
 
@@ -100,11 +100,11 @@ pub(crate) fn reserve_all(capture: &mut Capture, pieces: &mut [Piece]) -> Result
     ensures contents { contents capture.new ≡ contents capture.old }
     ensures pieces { map piece_view pieces.new ≡ map piece_view pieces.old }
     ensures room { OnOk result (All (HasRoomForPiece capture.new.signals) pieces.new) }
-    ensures never { pieces.old ≡ [] → IsOk result }
+    ensures never_refused { pieces.old ≡ [] → IsOk result }
 {
-    let reserved = reserve_each(capture, pieces);
+    let reserved = reserve_in_order(capture, pieces);
     if reserved.is_err() {
-        cancel_waves(capture, capture.signals().len());
+        cancel_first_reservations(capture, capture.signals().len());
     }
     reserved
 }

@@ -4,7 +4,7 @@ ghost use Rattle.std.specs.Prelude.{◌≡◌, ℕ, ◌^◌, ◌<◌, ◌≤◌,
 ghost use Rattle.std.specs.List.{common_prefix_len};
 ghost use Rattle.std.specs.Ordering.{int_eq};
 ghost use Rattle.vcd_core.specs.Splice.{AllTicksFit};
-ghost use Rattle.vcd_edit.specs.Touched.{same_change, same_lowered, common_suffix_lowered};
+ghost use Rattle.vcd_edit.specs.Touched.{same_change, same_moved_change, common_moved_suffix};
 ghost use Rattle.vcd_edit.specs.Records.{piece_view};
 ghost use Rattle.vcd_edit.specs.inside.Trims.{IsTrimmed};
 
@@ -26,7 +26,7 @@ fn is_later(tick: u64, by: i64, later: u64) -> bool
 
 /// Whether the old change, `by` ticks later, is the new one.
 fn is_moved(old: &Change, by: i64, new: &Change) -> bool
-    ensures { result ≡ same_lowered (neg_ℤ by) old.now new.now }
+    ensures { result ≡ same_moved_change (neg_ℤ by) old.now new.now }
 {
     is_later(old.tick, by, new.tick) && old.value == new.value
 }
@@ -48,7 +48,7 @@ fn common_front(old: &[Change], new: &[Change]) -> usize
 
 /// How many last old changes, `by` ticks later, are the last new ones.
 fn common_back(old: &[Change], new: &[Change], by: i64) -> usize
-    ensures count { result ≡ common_suffix_lowered (neg_ℤ by) old.now new.now }
+    ensures count { result ≡ common_moved_suffix (neg_ℤ by) old.now new.now }
     ensures in_old { result ≤ length old.now }
     ensures in_new { result ≤ length new.now }
 {

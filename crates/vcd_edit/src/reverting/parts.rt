@@ -5,7 +5,7 @@ ghost use Rattle.std.specs.List.{insert, remove};
 ghost use Rattle.vcd_core.specs.Contents.{contents, signal_contents, signal_at, with_signal};
 ghost use Rattle.vcd_core.specs.Sound.{IsSound};
 ghost use Rattle.vcd_edit.specs.Effect.{renamed_signal};
-ghost use Rattle.vcd_edit.specs.AppliedRecords.{with_first_word, with_moved_signal, PutsNoneIn, with_end, WordFits, MovedSignalFits};
+ghost use Rattle.vcd_edit.specs.AppliedRecords.{with_first_word, with_moved_signal, PutsNoSignalIn, with_end, WordFits, MovedSignalFits};
 ghost use Rattle.vcd_edit.specs.Records.{word_view, moved_signal_view};
 ghost use Rattle.vcd_edit.specs.inside.Opposites.{opposite_word, opposite_move, opposite_end, IsNamedAt};
 
@@ -19,7 +19,7 @@ fn replace_word(capture: &mut Capture, signal: usize, word: Vec<u8>) -> Vec<u8>
     requires named { 0 < length (signal_at (contents capture.old) signal).words }
     ensures effect { contents capture.new ≡ with_signal (contents capture.old) signal
         (renamed_signal word.items (signal_at (contents capture.old) signal)) }
-    ensures first { result.items
+    ensures old_word { result.items
         ≡ slice_index_or (signal_at (contents capture.old) signal).words 0 result.items }
 {
     let words = &mut capture.signals.item_mut(signal).words;
@@ -59,7 +59,7 @@ fn put_signal(alloc: Global, capture: &mut Capture, at: usize, signal: Signal) -
     ensures effect { OnOk result (contents capture.new
         ≡ with_moved_signal (Some (at, Some (signal_contents signal))) (contents capture.old)) }
     ensures unchanged { OnErr result (contents capture.new ≡ contents capture.old) }
-    ensures kept { IfErr result (λ s. s ≡ signal) }
+    ensures given_back { IfErr result (λ s. s ≡ signal) }
 {
     let mut signals = mem::replace(&mut capture.signals, Seq::new(alloc)).into_vec();
     let put = signals.insert(at, signal);
@@ -96,9 +96,9 @@ pub(crate) fn exchange_signal(
     ensures undo { IfOk result (λ m. moved_signal_view m
         ≡ opposite_move (moved_signal_view signal) (contents capture.old)) }
     ensures unchanged { OnErr result (contents capture.new ≡ contents capture.old) }
-    ensures kept { IfErr result (λ m. moved_signal_view m ≡ moved_signal_view signal) }
-    ensures never { PutsNoneIn (moved_signal_view signal) → IsOk result }
-    ensures still { signal ≡ None → capture.new ≡ capture.old }
+    ensures given_back { IfErr result (λ m. moved_signal_view m ≡ moved_signal_view signal) }
+    ensures never_refused { PutsNoSignalIn (moved_signal_view signal) → IsOk result }
+    ensures unchanged_without_signal { signal ≡ None → capture.new ≡ capture.old }
 {
     match signal {
         Some((at, Some(signal))) => match put_signal(alloc, capture, at, signal) {

@@ -5,10 +5,11 @@ use Rattle.vcd_edit.proofs.pieces.exchanges.exchange_pieces.Goals as goal
 
 pub returns-clause-undo : goal.returns-clause-undo
 returns-clause-undo c =
-    let back = c.put_pieces.ensures.undo in (
+    let back = c.exchange_and_reverse.ensures.undo in (
       back.0,
-      ap (map piece_view) (whole_list c.put_pieces.new.pieces.len c.release_rooms.new.pieces
-          c.put_pieces.new.pieces.items (omega (arith, c.as_mut_slice.ensures.len, c.release_rooms.auto.pieces)))
-          ∙ c.release_rooms.ensures ∙ ap (map piece_view) c.as_mut_slice.ensures.value ∙ back.1,
+      ap (map piece_view) (whole_list c.exchange_and_reverse.new.pieces.len c.release_all_spare_room.new.pieces
+          c.exchange_and_reverse.new.pieces.items
+          (omega (arith, c.as_mut_slice.ensures.len, c.release_all_spare_room.auto.pieces)))
+          ∙ c.release_all_spare_room.ensures ∙ ap (map piece_view) c.as_mut_slice.ensures.value ∙ back.1,
       back.2,
     )

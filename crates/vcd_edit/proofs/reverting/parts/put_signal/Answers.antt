@@ -1,7 +1,7 @@
 use Rattle.std.proofs.Common.{List, map, ap, ◌∙◌, is_ok, if◌then◌else◌}
 use Rattle.std.specs.List.{insert}
 use Rattle.vcd_core.specs.Contents.{Contents, SignalContents, signal_contents, contents}
-use Rattle.vcd_edit.proofs.PiecesPut.{signal_put}
+use Rattle.vcd_edit.proofs.ContentsAfterExchange.{signal_put}
 use Rattle.vcd_edit.proofs.reverting.parts.put_signal.Goals as goal
 
 pub returns-in-Ok-clause-effect : goal.returns-in-Ok-clause-effect

@@ -1,7 +1,7 @@
 use Rattle.std.proofs.Common.{List, map, ap, ◌∙◌}
 use Rattle.std.specs.List.{remove}
 use Rattle.vcd_core.specs.Contents.{Contents, SignalContents, signal_contents, contents}
-use Rattle.vcd_edit.proofs.PiecesPut.{signal_taken}
+use Rattle.vcd_edit.proofs.ContentsAfterExchange.{signal_taken}
 use Rattle.vcd_edit.proofs.reverting.parts.take_signal.Goals as goal
 
 pub returns-clause-effect : goal.returns-clause-effect

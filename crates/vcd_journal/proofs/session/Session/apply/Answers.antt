@@ -41,5 +41,5 @@ returns-in_err-record-clause-step c =
     let made = c.in_err-record.ensures in
     rw (refused.1, refused.2, ← c.self.view_is)
     (edit_refused c.args.edit.now _ _ _ made.refused
-    (λ removes none. let never = made.never removes none in cc)
+    (λ removes none. let never = made.never_refused removes none in cc)
     (same_machine (contents old.capture) _ old.past.items _ old.future.items _ old.depth made.unchanged refl refl))

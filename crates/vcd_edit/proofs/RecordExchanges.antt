@@ -1,0 +1,73 @@
+-- A record was exchanged with a capture, part by part.
+use Rattle.std.proofs.Common.{◌≡◌, List, map, reverse, All, arith, sym, ap, subst, ◌∙◌}
+use Rattle.std.proofs.lemmas.List.{get_or-map, length-map}
+use Rattle.vcd_core.specs.Contents.{Contents}
+use Rattle.vcd_core.specs.Sound.{IsSound}
+use Rattle.vcd_edit.specs.RecordView.{PieceView, RecordView}
+use Rattle.vcd_edit.specs.AppliedRecords.{with_pieces, with_first_word, with_moved_signal, with_end, apply_record}
+use Rattle.vcd_edit.specs.AppliedRecords.{PieceFits, WordFits, Fits, HaveDistinctSignals, IsOneStep}
+use Rattle.vcd_edit.specs.declared.record.Piece.{Piece}
+use Rattle.vcd_edit.specs.Records.{piece_view}
+use Rattle.vcd_edit.specs.inside.Exchanges.{PieceReadyIn, AreOppositePieces}
+use Rattle.vcd_edit.specs.inside.Opposites.{opposite_word, opposite_move, opposite_end, opposite_record, IsNamedAt}
+use Rattle.vcd_edit.specs.inside.Opposites.{IsOppositeRecord}
+use Rattle.vcd_edit.proofs.OppositeRecords.{pieces_ready, opposite_is_record, leads_other_way, in_order, ready_moved}
+use Rattle.vcd_edit.proofs.OppositeRecords.{lead_moved, word_fits, word_named, word_same, end_same}
+
+-- each piece of a record that fits
+pub fits_each : (c : Contents) (l : List Piece) → All (PieceFits c) (map piece_view l)
+    → All (λ p. PieceFits c (piece_view p)) l
+fits_each c l all = λ k d less. subst (PieceFits c) (get_or-map piece_view l k d (piece_view d) less)
+    (all k (piece_view d) (omega (arith, less, length-map l piece_view)))
+
+module _ (c : Contents) (r : RecordView) (fits : Fits r c) (one : IsOneStep r) (sound : IsSound c) (l : List PieceView)
+    (whole : l ≡ r.pieces)
+    (moved : Contents) (to_moved : moved ≡ with_moved_signal r.signal c) where
+  -- after the signal, before the pieces
+  pub ready_then : All (PieceReadyIn moved) l
+  ready_then = subst (All (PieceReadyIn moved)) (sym whole)
+      (subst (λ x. All (PieceReadyIn x) r.pieces) (sym to_moved)
+      (ready_moved c r one (pieces_ready c r fits one sound)))
+
+  pub apart_then : HaveDistinctSignals l
+  apart_then = subst HaveDistinctSignals (sym whole) one.apart
+
+  -- after the pieces, before the word
+  module _ (spliced : Contents) (to_spliced : spliced ≡ with_pieces moved l) where
+    spliced_is : spliced ≡ with_pieces (with_moved_signal r.signal c) r.pieces
+    spliced_is = to_spliced ∙ (λ i. with_pieces (to_moved i) (whole i))
+
+    pub word_fits_then : WordFits spliced r.word
+    word_fits_then = subst (λ x. WordFits x r.word) (sym spliced_is) (word_fits c r one fits.word)
+
+    pub word_named_then : IsNamedAt spliced r.word
+    word_named_then = subst (λ x. IsNamedAt x r.word) (sym spliced_is) (word_named c r one fits.word sound)
+
+    -- after the word and the end
+    module _ (named end : Contents) (to_named : named ≡ with_first_word r.word spliced)
+        (to_end : end ≡ with_end r.other_end named) where
+      pub end_is_back : end ≡ apply_record r c
+      end_is_back = to_end ∙ ap (λ x. with_end r.other_end x) to_named
+          ∙ ap (λ x. with_end r.other_end (with_first_word r.word x)) spliced_is ∙ in_order c r one
+
+      module _ (qs : List PieceView) (lead : AreOppositePieces moved l qs) (q : RecordView)
+          (pieces : q.pieces ≡ reverse qs) (word : q.word ≡ opposite_word r.word spliced)
+          (signal : q.signal ≡ opposite_move r.signal c) (other_end : q.other_end ≡ opposite_end r.other_end named)
+        where
+          lead_is : AreOppositePieces c r.pieces qs
+          lead_is = lead_moved c r one qs
+              (subst (λ x. AreOppositePieces x r.pieces qs) to_moved
+              (subst (λ xs. AreOppositePieces moved xs qs) whole lead))
+
+          other_way : q ≡ opposite_record r qs c
+          other_way =
+              let word_is = word ∙ ap (opposite_word r.word) spliced_is ∙ word_same c r one in
+              let end_is = other_end ∙ ap (opposite_end r.other_end) (to_named ∙ ap (with_first_word r.word) spliced_is)
+              ∙ end_same c r one in
+              λ i. record { pieces = pieces i; word = word_is i; signal = signal i; other_end = end_is i }
+
+          pub is_record_then : IsOneStep q
+          is_record_then = subst IsOneStep (sym other_way) (opposite_is_record c r qs one lead_is)
+
+          pub leads_then : IsOppositeRecord c r q
+          leads_then = subst (IsOppositeRecord c r) (sym other_way) (leads_other_way c r qs one fits sound lead_is)

@@ -1,0 +1,90 @@
+//! Every bit negated.
+
+ghost use Rattle.std.specs.Prelude.{◌≡◌, ◌<◌, ◌-◌, ℕ, pos, None, IfOk, length, map};
+ghost use Rattle.vcd_core.specs.Contents.{contents, signal_contents};
+ghost use Rattle.vcd_core.specs.Sound.{IsSound, IsSoundSignal};
+ghost use Rattle.vcd_core.specs.Value.{all_x};
+ghost use Rattle.vcd_core.specs.Wave.{value_at};
+ghost use Rattle.vcd_edit.specs.Operators.{not_bit};
+ghost use Rattle.vcd_edit.specs.Effect.{inverse_value};
+ghost use Rattle.vcd_edit.specs.EditFaults.{edit_fault};
+ghost use Rattle.vcd_edit.specs.inside.RemainingChanges.{without_repeats, mapped_change};
+ghost use Rattle.std.specs.Int.{bit_at};
+ghost use Rattle.vcd_core.specs.WordRows.{letter_in};
+ghost use Rattle.vcd_edit.specs.inside.Inverse.{ShowsInverse};
+ghost use Rattle.vcd_edit.specs.inside.Plans.{IsPlan, GivesValues};
+ghost use Rattle.vcd_edit.specs.declared.edit.Edit.TheVariants as edits;
+
+use crate::plans::piece_builders::{piece_record, push_if_new, signal_at, whole_piece, x_value};
+use crate::record::Record;
+use std::alloc::Global;
+use vcd_core::{Bit, Capture, Change, LetterWord, NoMemory, Value, WORDS, words_in};
+
+/// The record of the whole list of changes.
+pub(crate) fn plan(alloc: Global, capture: &Capture, signal: usize) -> Result<Record, NoMemory>
+    requires sound { IsSound (contents capture.now) }
+    requires allowed { edit_fault (edits.Invert signal) (contents capture.now) ≡ None }
+    ensures { IfOk result (IsPlan (edits.Invert signal) (contents capture.now)) }
+{
+    let wave = &signal_at(capture, signal).wave;
+    let changes = inverse_changes(alloc, wave.changes(), x_value(wave))?;
+    piece_record(alloc, whole_piece(wave, signal, changes))
+}
+
+/// The changes to the inverse values after the value `before`, without those that change nothing. There is room for as
+/// many as there were.
+fn inverse_changes(
+    alloc: Global,
+    changes: &[Change],
+    before: Value,
+) -> Result<Vec<Change>, NoMemory>
+    ensures { IfOk result (λ inverse. inverse.items
+        ≡ without_repeats before (map (mapped_change (map not_bit)) changes.now)) }
+{
+    let mut inverse = Vec::new(alloc);
+    inverse.reserve_exact(changes.len())?;
+    let mut last = before;
+    for change in changes {
+        let value = inverse_of(&change.value);
+        push_if_new(&mut inverse, last, change.tick, value)?;
+        last = value;
+    }
+    Ok(inverse)
+}
+
+/// The value with each bit negated, 64 bits at a time.
+fn inverse_of(value: &Value) -> Value
+    ensures { result ≡ map not_bit value.now }
+{
+    let mut words = [LetterWord::filled(Bit::Zero); WORDS];
+    write_inverse(value, &mut words);
+    Value::from_words(value.width(), &words)
+}
+
+/// Writes the words of the inverse.
+fn write_inverse(value: &Value, words: &mut [LetterWord])
+    requires { length words.old ≡ WORDS }
+    ensures shows { ShowsInverse (length value.now) value.now words.new }
+    ensures word_count { length words.new ≡ WORDS }
+{
+    for j in 0..words_in(value.width()) {
+        words[j] = inverse_word(value.word(j));
+    }
+}
+
+/// The word with each letter negated.
+fn inverse_word(word: LetterWord) -> LetterWord
+    ensures { (i : ℕ) → i < 64 → letter_in result i ≡ not_bit (letter_in word i) }
+{
+    LetterWord {
+        low: word.high | inverse_bits(word.low),
+        high: word.high,
+    }
+}
+
+/// The word with each bit inverted.
+fn inverse_bits(bits: u64) -> u64
+    ensures { (i : ℕ) → i < 64 → bit_at result i ≡ 1 - bit_at bits i }
+{
+    !bits
+}
