@@ -12,7 +12,7 @@ use Rattle.vcd_journal.specs.declared.step.Step.{Step}
 use Rattle.vcd_journal.specs.declared.step.Step.TheVariants as steps
 use Rattle.vcd_journal.specs.declared.step.Answer.{Answer}
 use Rattle.vcd_journal.specs.Machine.{Machine, StepOutcome, first_machine, edit_outcome, undo_outcome, redo_outcome}
-use Rattle.vcd_journal.specs.Machine.{is_depth, step_outcome, IsStep, StepsLead}
+use Rattle.vcd_journal.specs.Machine.{is_depth, step_outcome, IsStep, AreSteps}
 use Rattle.vcd_journal.specs.Laws.{HistoryIsBounded}
 use Rattle.vcd_journal.proofs.Replay.{depth_choice}
 
@@ -57,8 +57,8 @@ step_bounded m s a n few (inl same) =
 step_bounded m s a n few (inr refused) = subst IsBounded (sym refused.unchanged) few
 
 pub run_bounded : (m : Machine) (asked : List Step) (answers : List Answer) (n : Machine) → IsBounded m
-    → StepsLead m asked answers n → IsBounded n
-unfolding StepsLead
+    → AreSteps m asked answers n → IsBounded n
+unfolding AreSteps
 run_bounded m [] [] n few r = subst IsBounded (sym r) few
 run_bounded m [] (a ∷ answers) n few r = absurd r
 run_bounded m (s ∷ asked) [] n few r = absurd r

@@ -19,7 +19,7 @@ use Rattle.vcd_journal.specs.declared.step.StepError.TheVariants as refusals
 use Rattle.vcd_journal.specs.declared.step.Answer.{Answer}
 use Rattle.vcd_journal.specs.declared.step.Answer.TheVariants.{Done, Refused}
 use Rattle.vcd_journal.specs.Machine.{Machine, first_machine, step_outcome, accepted_outcome, refused_outcome}
-use Rattle.vcd_journal.specs.InForce.{tally_of_steps, tally_after_all, earlier_replays, later_replays}
+use Rattle.vcd_journal.specs.InForce.{edits_of_steps, edits_after_all, earlier_replays, later_replays}
 use Rattle.vcd_journal.specs.History.{replay}
 
 -- ---- renames of one signal
@@ -128,9 +128,9 @@ their_answers = Done ∷ Done ∷ Done ∷ Done ∷ Refused refusals.DepthTooSma
 
 -- a rename stays in force after the history has dropped its capture
 still_in_force :
-    ((tally_of_steps three_renames their_answers).edits_in_force ≡ rename (codes "b") ∷ [])
-    × ((tally_of_steps three_renames their_answers).undone_edits ≡ rename (codes "c") ∷ rename (codes "d") ∷ [])
-unfolding tally_after_all
+    ((edits_of_steps three_renames their_answers).edits_in_force ≡ rename (codes "b") ∷ [])
+    × ((edits_of_steps three_renames their_answers).undone_edits ≡ rename (codes "c") ∷ rename (codes "d") ∷ [])
+unfolding edits_after_all
 still_in_force = (refl, refl)
 
 -- the replays of the edits in force on the first capture, earlier and later

@@ -13,8 +13,8 @@ use Rattle.vcd_journal.specs.declared.step.StepError.TheVariants as refusals
 use Rattle.vcd_journal.specs.declared.step.Answer.{Answer}
 use Rattle.vcd_journal.specs.Machine.{Machine, StepOutcome, first_machine, machine_after_depth, accepted_outcome}
 use Rattle.vcd_journal.specs.Machine.{refused_outcome, edit_outcome, undo_outcome, redo_outcome, is_depth, step_outcome}
-use Rattle.vcd_journal.specs.Machine.{memory_refusal, IsStep, StepsLead}
-use Rattle.vcd_journal.specs.InForce.{Tally, tally_after, tally_after_all, earlier_replays, later_replays}
+use Rattle.vcd_journal.specs.Machine.{memory_refusal, IsStep, AreSteps}
+use Rattle.vcd_journal.specs.InForce.{EditLists, edits_after, edits_after_all, earlier_replays, later_replays}
 use Rattle.vcd_journal.specs.History.{replay}
 use Rattle.vcd_journal.specs.InForce.{IsReplay}
 use Rattle.vcd_journal.specs.Laws.{SessionIsReplay}
@@ -33,8 +33,8 @@ FutureFollows c es (u ∷ undone_edits) [] = ⊥
 FutureFollows c es (u ∷ undone_edits) (next ∷ later) = (next ≡ replay c (u ∷ es))
     × FutureFollows c (u ∷ es) undone_edits later
 
--- the machine holds what the tally makes of the first capture
-pub record Follows (c : Contents) (t : Tally) (m : Machine) : Type 0 where
+-- the machine holds what the edit lists make of the first capture
+pub record Follows (c : Contents) (t : EditLists) (m : Machine) : Type 0 where
   pub now : m.now ≡ replay c t.edits_in_force
   pub past : PastFollows c t.edits_in_force m.past
   pub future : FutureFollows c t.edits_in_force t.undone_edits m.future
@@ -48,8 +48,8 @@ past_taken c (suc n) (e ∷ es) (held ∷ older) h = (h.0, past_taken c n es old
 
 -- ---- the outcome of each step with enough memory
 
-pub edit_follows : (c : Contents) (t : Tally) (m : Machine) (e : Edit) (found : Option EditError) → Follows c t m
-    → Follows c (tally_after t (steps.Edit e) (edit_outcome found e m).answer) (edit_outcome found e m).after
+pub edit_follows : (c : Contents) (t : EditLists) (m : Machine) (e : Edit) (found : Option EditError) → Follows c t m
+    → Follows c (edits_after t (steps.Edit e) (edit_outcome found e m).answer) (edit_outcome found e m).after
 unfolding replay
 edit_follows c t m e None f = record {
   now = ap (effect e) f.now;
@@ -61,7 +61,7 @@ edit_follows c t m e (Some found) f = f
 pub undo_follows : (c : Contents) (es undone_edits : List Edit) (m : Machine) (past : List Contents)
     → PastFollows c es past →
     Follows c (record { edits_in_force = es; undone_edits = undone_edits }) m →
-    Follows c (tally_after (record { edits_in_force = es; undone_edits = undone_edits }) steps.Undo
+    Follows c (edits_after (record { edits_in_force = es; undone_edits = undone_edits }) steps.Undo
     (undo_outcome past m).answer) (undo_outcome past m).after
 undo_follows c es undone_edits m [] p f = f
 undo_follows c [] undone_edits m (held ∷ older) p f = absurd p
@@ -70,7 +70,7 @@ undo_follows c (e ∷ es) undone_edits m (held ∷ older) p f = record { now = p
 pub redo_follows : (c : Contents) (es undone_edits : List Edit) (m : Machine) (future : List Contents)
     → FutureFollows c es undone_edits future →
     Follows c (record { edits_in_force = es; undone_edits = undone_edits }) m →
-    Follows c (tally_after (record { edits_in_force = es; undone_edits = undone_edits }) steps.Redo
+    Follows c (edits_after (record { edits_in_force = es; undone_edits = undone_edits }) steps.Redo
     (redo_outcome future m).answer) (redo_outcome future m).after
 redo_follows c es undone_edits m [] p f = f
 redo_follows c es [] m (next ∷ later) p f = absurd p
@@ -81,8 +81,8 @@ abbrev pub depth_choice : ℕ → Machine → Bool → Bool → StepOutcome
 depth_choice depth m bad small = if bad then refused_outcome refusals.BadDepth m
     else (if small then refused_outcome refusals.DepthTooSmall m else accepted_outcome (machine_after_depth depth m))
 
-pub depth_follows : (c : Contents) (t : Tally) (m : Machine) (depth : ℕ) (bad small : Bool) → Follows c t m →
-    Follows c (tally_after t (steps.Depth depth) (depth_choice depth m bad small).answer)
+pub depth_follows : (c : Contents) (t : EditLists) (m : Machine) (depth : ℕ) (bad small : Bool) → Follows c t m →
+    Follows c (edits_after t (steps.Depth depth) (depth_choice depth m bad small).answer)
     (depth_choice depth m bad small).after
 depth_follows c t m depth true small f = f
 depth_follows c t m depth false true f = f
@@ -92,8 +92,8 @@ depth_follows c t m depth false false f = record {
   future = f.future;
 }
 
-pub outcome_follows : (c : Contents) (t : Tally) (m : Machine) (s : Step) → Follows c t m
-    → Follows c (tally_after t s (step_outcome m s).answer) (step_outcome m s).after
+pub outcome_follows : (c : Contents) (t : EditLists) (m : Machine) (s : Step) → Follows c t m
+    → Follows c (edits_after t s (step_outcome m s).answer) (step_outcome m s).after
 outcome_follows c t m (steps.Edit e) f = edit_follows c t m e (edit_fault e m.now) f
 outcome_follows c t m steps.Undo f = undo_follows c t.edits_in_force t.undone_edits m m.past f.past f
 outcome_follows c t m steps.Redo f = redo_follows c t.edits_in_force t.undone_edits m m.future f.future f
@@ -102,28 +102,28 @@ outcome_follows c t m (steps.Depth depth) f =
 
 -- ---- every possible outcome of each step
 
--- a step refused because memory ran out does not change the tally
-pub refusal_counts_not : (t : Tally) (s : Step) → tally_after t s (memory_refusal s) ≡ t
+-- a step refused because memory ran out does not change the edit lists
+pub refusal_counts_not : (t : EditLists) (s : Step) → edits_after t s (memory_refusal s) ≡ t
 refusal_counts_not t (steps.Edit e) = refl
 refusal_counts_not t steps.Undo = refl
 refusal_counts_not t steps.Redo = refl
 refusal_counts_not t (steps.Depth depth) = refl
 
-pub step_follows : (c : Contents) (t : Tally) (m : Machine) (s : Step) (a : Answer) (n : Machine) → Follows c t m
-    → IsStep m s a n → Follows c (tally_after t s a) n
+pub step_follows : (c : Contents) (t : EditLists) (m : Machine) (s : Step) (a : Answer) (n : Machine) → Follows c t m
+    → IsStep m s a n → Follows c (edits_after t s a) n
 step_follows c t m s a n f (inl same) =
-    subst (λ (o : StepOutcome). Follows c (tally_after t s o.answer) o.after) (sym same) (outcome_follows c t m s f)
+    subst (λ (o : StepOutcome). Follows c (edits_after t s o.answer) o.after) (sym same) (outcome_follows c t m s f)
 step_follows c t m s a n f (inr refused) = rw (refused.answer, refused.unchanged, refusal_counts_not t s) f
 
 -- any steps
-pub run_follows : (c : Contents) (t : Tally) (m : Machine) (asked : List Step) (answers : List Answer) (n : Machine) →
-    Follows c t m → StepsLead m asked answers n → Follows c (tally_after_all t asked answers) n
-unfolding StepsLead tally_after_all
+pub run_follows : (c : Contents) (t : EditLists) (m : Machine) (asked : List Step) (answers : List Answer) (n : Machine)
+    → Follows c t m → AreSteps m asked answers n → Follows c (edits_after_all t asked answers) n
+unfolding AreSteps edits_after_all
 run_follows c t m [] [] n f r = subst (Follows c t) (sym r) f
 run_follows c t m [] (a ∷ answers) n f r = absurd r
 run_follows c t m (s ∷ asked) [] n f r = absurd r
 run_follows c t m (s ∷ asked) (a ∷ answers) n f r =
-    run_follows c (tally_after t s a) r.0 asked answers n (step_follows c t m s a r.0 f r.1) r.2
+    run_follows c (edits_after t s a) r.0 asked answers n (step_follows c t m s a r.0 f r.1) r.2
 
 -- ---- as lists
 
@@ -143,8 +143,8 @@ future_is c es (u ∷ undone_edits) [] p = absurd p
 future_is c es (u ∷ undone_edits) (next ∷ later) p = let rest = future_is c (u ∷ es) undone_edits later p.1 in
     λ i. p.0 i ∷ rest i
 
--- a machine that follows the tally is a replay
-pub is_replay : (c : Contents) (t : Tally) (m : Machine) → Follows c t m → IsReplay c t m
+-- a machine that follows the edit lists is a replay
+pub is_replay : (c : Contents) (t : EditLists) (m : Machine) → Follows c t m → IsReplay c t m
 is_replay c t m f = record {
   now = f.now;
   past = past_is c t.edits_in_force m.past f.past;
@@ -154,6 +154,6 @@ is_replay c t m f = record {
 pub session_is_replay : SessionIsReplay
 unfolding replay
 session_is_replay c depth asked answers m r =
-    is_replay c (tally_after_all (record { edits_in_force = []; undone_edits = [] }) asked answers) m
+    is_replay c (edits_after_all (record { edits_in_force = []; undone_edits = [] }) asked answers) m
     (run_follows c (record { edits_in_force = []; undone_edits = [] }) (first_machine c depth) asked answers m
     (record { now = refl; past = tt; future = tt }) r)

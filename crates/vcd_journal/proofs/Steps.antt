@@ -17,7 +17,7 @@ use Rattle.vcd_journal.specs.declared.step.Answer.{Answer}
 use Rattle.vcd_journal.specs.declared.step.Answer.TheVariants.{Done, Refused}
 use Rattle.vcd_journal.specs.Machine.{Machine, machine_after_edit, machine_after_depth, refused_outcome, undo_outcome}
 use Rattle.vcd_journal.specs.Machine.{redo_outcome, is_depth, step_outcome, may_need_memory, memory_refusal}
-use Rattle.vcd_journal.specs.Machine.{IsStep, StepsLead}
+use Rattle.vcd_journal.specs.Machine.{IsStep, AreSteps}
 
 -- ---- edits
 
@@ -130,15 +130,15 @@ outcome_of_step m s a n (inl same) other = same
 outcome_of_step m s a n (inr refused) other = absurd (other refused.answer)
 
 -- no step
-pub no_steps_lead : (m : Machine) → StepsLead m [] [] m
-unfolding StepsLead
-no_steps_lead m = refl
+pub no_steps : (m : Machine) → AreSteps m [] [] m
+unfolding AreSteps
+no_steps m = refl
 
 -- one more step
 pub steps_lead_more : (m : Machine) (asked : List Step) (answers : List Answer) (n : Machine) (s : Step) (a : Answer)
     (last : Machine) →
-    StepsLead m asked answers n → IsStep n s a last → StepsLead m (asked ++ s ∷ []) (answers ++ a ∷ []) last
-unfolding StepsLead
+    AreSteps m asked answers n → IsStep n s a last → AreSteps m (asked ++ s ∷ []) (answers ++ a ∷ []) last
+unfolding AreSteps
 steps_lead_more m [] [] n s a last before step =
     (last, subst (λ (from : Machine). IsStep from s a last) before step, refl)
 steps_lead_more m [] (b ∷ answers) n s a last before step = absurd before

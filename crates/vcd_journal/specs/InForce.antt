@@ -10,35 +10,35 @@ use Rattle.vcd_journal.specs.Machine.{Machine}
 use Rattle.vcd_journal.specs.History.{replay}
 
 -- the edits in force and the undone edits, both with the last one first
-pub record Tally : Type 0 where
+pub record EditLists : Type 0 where
   pub edits_in_force : List Edit
   pub undone_edits : List Edit
 
 -- an accepted undo: the last edit in force is undone
-abbrev pub tally_after_undo : List Edit → List Edit → Tally
-tally_after_undo [] undone_edits = record { edits_in_force = []; undone_edits = undone_edits }
-tally_after_undo (e ∷ es) undone_edits = record { edits_in_force = es; undone_edits = e ∷ undone_edits }
+abbrev pub edits_after_undo : List Edit → List Edit → EditLists
+edits_after_undo [] undone_edits = record { edits_in_force = []; undone_edits = undone_edits }
+edits_after_undo (e ∷ es) undone_edits = record { edits_in_force = es; undone_edits = e ∷ undone_edits }
 
 -- an accepted redo: the edit undone last is in force again
-abbrev pub tally_after_redo : List Edit → List Edit → Tally
-tally_after_redo edits_in_force [] = record { edits_in_force = edits_in_force; undone_edits = [] }
-tally_after_redo edits_in_force (e ∷ es) = record { edits_in_force = e ∷ edits_in_force; undone_edits = es }
+abbrev pub edits_after_redo : List Edit → List Edit → EditLists
+edits_after_redo edits_in_force [] = record { edits_in_force = edits_in_force; undone_edits = [] }
+edits_after_redo edits_in_force (e ∷ es) = record { edits_in_force = e ∷ edits_in_force; undone_edits = es }
 
 -- an accepted edit is in force and clears the undone ones; a depth and a refused step change nothing
-abbrev pub tally_after : Tally → Step → Answer → Tally
-tally_after t (steps.Edit e) Done = record { edits_in_force = e ∷ t.edits_in_force; undone_edits = [] }
-tally_after t steps.Undo Done = tally_after_undo t.edits_in_force t.undone_edits
-tally_after t steps.Redo Done = tally_after_redo t.edits_in_force t.undone_edits
-tally_after t s a = t
+abbrev pub edits_after : EditLists → Step → Answer → EditLists
+edits_after t (steps.Edit e) Done = record { edits_in_force = e ∷ t.edits_in_force; undone_edits = [] }
+edits_after t steps.Undo Done = edits_after_undo t.edits_in_force t.undone_edits
+edits_after t steps.Redo Done = edits_after_redo t.edits_in_force t.undone_edits
+edits_after t s a = t
 
--- the tally after steps with their answers
-unfoldable pub tally_after_all : Tally → List Step → List Answer → Tally
-tally_after_all t (s ∷ asked) (a ∷ answers) = tally_after_all (tally_after t s a) asked answers
-tally_after_all t asked answers = t
+-- the edit lists after steps with their answers
+unfoldable pub edits_after_all : EditLists → List Step → List Answer → EditLists
+edits_after_all t (s ∷ asked) (a ∷ answers) = edits_after_all (edits_after t s a) asked answers
+edits_after_all t asked answers = t
 
--- the tally after steps with their answers, from an empty one
-abbrev pub tally_of_steps : List Step → List Answer → Tally
-tally_of_steps asked answers = tally_after_all (record { edits_in_force = []; undone_edits = [] }) asked answers
+-- the edit lists after steps with their answers, from empty ones
+abbrev pub edits_of_steps : List Step → List Answer → EditLists
+edits_of_steps asked answers = edits_after_all (record { edits_in_force = []; undone_edits = [] }) asked answers
 
 -- the replays of the edits without the last, without the last two, and so on down to none
 unfoldable pub earlier_replays : Contents → List Edit → List Contents
@@ -52,7 +52,7 @@ later_replays c es (u ∷ undone_edits) = replay c (u ∷ es) ∷ later_replays 
 
 -- the capture is the replay of the edits in force; the past has the newest replays of fewer edits, the future those
 -- with undone edits made again
-pub record IsReplay (c : Contents) (t : Tally) (m : Machine) : Type 0 where
+pub record IsReplay (c : Contents) (t : EditLists) (m : Machine) : Type 0 where
   pub now : m.now ≡ replay c t.edits_in_force
   pub past : m.past ≡ take (length m.past) (earlier_replays c t.edits_in_force)
   pub future : m.future ≡ later_replays c t.edits_in_force t.undone_edits

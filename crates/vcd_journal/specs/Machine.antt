@@ -129,8 +129,8 @@ abbrev pub IsStepCall : {T : Type 0} → Machine → Step → Result T StepError
 IsStepCall m s result n = MatchResult result (λ _. IsStep m s Done n) (λ refusal. IsStep m s (Refused refusal) n)
 
 -- the steps, with these answers, change m into n
-unfoldable pub StepsLead : Machine → List Step → List Answer → Machine → Type 0
-StepsLead m [] [] n = n ≡ m
-StepsLead m [] (a ∷ answers) n = ⊥
-StepsLead m (s ∷ asked) [] n = ⊥
-StepsLead m (s ∷ asked) (a ∷ answers) n = (between : Machine) × IsStep m s a between × StepsLead between asked answers n
+unfoldable pub AreSteps : Machine → List Step → List Answer → Machine → Type 0
+AreSteps m [] [] n = n ≡ m
+AreSteps m [] (a ∷ answers) n = ⊥
+AreSteps m (s ∷ asked) [] n = ⊥
+AreSteps m (s ∷ asked) (a ∷ answers) n = (between : Machine) × IsStep m s a between × AreSteps between asked answers n

@@ -36,7 +36,7 @@ pub fn push_newest(ring: &mut Ring, newest: Record, depth: usize)
 }
 
 /// Puts a record in front. The ring has room for it.
-fn push_in_room(ring: &mut Ring, newest: Record)
+fn push_record_in_room(ring: &mut Ring, newest: Record)
     requires { length ring.old.items < ring.old.capacity }
     ensures items { ring.new.items ≡ newest ∷ ring.old.items }
     ensures capacity { ring.new.capacity ≡ ring.old.capacity }
@@ -69,21 +69,21 @@ pub fn enlarge(ring: &mut Ring, capacity: usize) -> Result<(), NoMemory>
 
 /// Applies the newest record of `from` to the capture. That record is removed, and the one that undoes it becomes the
 /// newest of `to`. If memory is refused, nothing changes. A step that removes a signal never needs memory.
-pub fn follow_newest(
+pub fn apply_newest(
     alloc: Global,
     capture: &mut Capture,
     from: &mut Ring,
     to: &mut Ring,
 ) -> Result<(), NoMemory>
-    requires some { 0 < length from.old.items }
+    requires not_empty { 0 < length from.old.items }
     requires within { length from.old.items ≤ from.old.capacity }
     requires room { length to.old.items < to.old.capacity }
     requires sound { IsSound (contents capture.old) }
-    requires fit { AllRecordsFit (contents capture.old) from.old.items }
-    requires after_fit { AllRecordsFit (contents capture.old) to.old.items }
-    ensures ahead { OnOk result (PopsRecord (contents capture.old) from.old.items
+    requires from_fit { AllRecordsFit (contents capture.old) from.old.items }
+    requires to_fit { AllRecordsFit (contents capture.old) to.old.items }
+    ensures from_records { OnOk result (PopsRecord (contents capture.old) from.old.items
         (contents capture.new) from.new.items) }
-    ensures following { OnOk result (PopsRecord (contents capture.new) to.new.items
+    ensures to_records { OnOk result (PopsRecord (contents capture.new) to.new.items
         (contents capture.old) to.old.items) }
     ensures sound { IsSound (contents capture.new) }
     ensures from_room { from.new.capacity ≡ from.old.capacity }
@@ -96,13 +96,13 @@ pub fn follow_newest(
         unreachable!()
     };
     match revert(alloc, capture, record) {
-        Ok(inverse) => {
-            push_in_room(to, inverse);
+        Ok(opposite_record) => {
+            push_record_in_room(to, opposite_record);
             Ok(())
         }
         Err(kept) => {
             // there is room, since the record was just taken out
-            push_in_room(from, kept.held);
+            push_record_in_room(from, kept.held);
             Err(NoMemory)
         }
     }

@@ -2,7 +2,7 @@
 
 ghost use Rattle.std.specs.Prelude.{◌≡◌, ◌≤◌, ◌+◌, ◌++◌, List, length};
 ghost use Rattle.std.specs.Vec.{vec_len, vec_capacity};
-ghost use Rattle.vcd_journal.specs.Machine.{IsStep, StepsLead};
+ghost use Rattle.vcd_journal.specs.Machine.{IsStep, AreSteps};
 ghost use Rattle.vcd_journal.specs.declared.step.Answer.{Answer};
 
 use crate::session::Session;
@@ -13,7 +13,7 @@ use crate::step::{Answer, Step};
 pub fn run(session: &mut Session, steps: &[Step], answers: &mut Vec<Answer>)
     requires room { vec_len answers.old + length steps.now ≤ vec_capacity answers.old }
     ensures answered { (given : List Answer) × (answers.new.items ≡ answers.old.items ++ given)
-        × StepsLead session.old steps.now given session.new }
+        × AreSteps session.old steps.now given session.new }
 {
     for step in steps {
         answers.push_reserved(answer_to(session, step));

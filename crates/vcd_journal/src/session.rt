@@ -6,7 +6,7 @@ ghost use Rattle.vcd_core.specs.Sound.{IsSound};
 ghost use Rattle.vcd_journal.specs.Machine.{first_machine, is_depth as depth_test, IsStepCall};
 ghost use Rattle.vcd_journal.specs.declared.step.Step.TheVariants as steps;
 
-use crate::rings::{Ring, empty_rings, enlarge, follow_newest, keep_newest, push_newest};
+use crate::rings::{Ring, apply_newest, empty_rings, enlarge, keep_newest, push_newest};
 use crate::step::{DEPTH_LIMIT, Step, StepError};
 use std::alloc::Global;
 use std::marker::Model;
@@ -100,7 +100,7 @@ impl Session {
         if self.past.is_empty() {
             return Err(StepError::NothingToUndo);
         }
-        follow_newest(
+        apply_newest(
             self.alloc,
             &mut self.capture,
             &mut self.past,
@@ -121,7 +121,7 @@ impl Session {
         if self.future.is_empty() {
             return Err(StepError::NothingToRedo);
         }
-        follow_newest(
+        apply_newest(
             self.alloc,
             &mut self.capture,
             &mut self.future,

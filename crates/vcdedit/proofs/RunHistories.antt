@@ -26,7 +26,7 @@ use Rattle.vcd_journal.specs.declared.step.StepError.TheVariants as refusals
 use Rattle.vcd_journal.specs.StepErrorNames.{step_error_name}
 use Rattle.vcd_journal.specs.Machine.{Machine, first_machine, step_outcome, edit_outcome, undo_outcome, redo_outcome}
 use Rattle.vcd_journal.specs.Machine.{is_depth}
-use Rattle.vcd_journal.specs.InForce.{Tally}
+use Rattle.vcd_journal.specs.InForce.{EditLists}
 use Rattle.vcd_journal.specs.History.{History, first_history, replay, step_tests, history_after}
 use Rattle.vcd_journal.proofs.Replay.{Follows, PastFollows, FutureFollows, edit_follows, undo_follows, redo_follows}
 use Rattle.vcd_journal.proofs.Replay.{depth_choice, depth_follows}
@@ -51,13 +51,13 @@ use Rattle.vcdedit.specs.Laws.{EveryRunIs, RunsAreOfReplays}
 use Rattle.vcdedit.proofs.RunReplays.{refused_line_changes_nothing, run_is_of_replays}
 use Rattle.vcdedit.proofs.SoundCaptures.{lines_sound}
 
--- the edits in force and those undone as a tally
-abbrev tally_of : History → Tally
-tally_of h = record { edits_in_force = h.edits; undone_edits = h.undone }
+-- the edits in force and those undone, as two lists
+abbrev edits_of : History → EditLists
+edits_of h = record { edits_in_force = h.edits; undone_edits = h.undone }
 
 -- the machine holds what the history says
 pub record Matches (c : Contents) (h : History) (m : Machine) : Type 0 where
-  pub follows : Follows c (tally_of h) m
+  pub follows : Follows c (edits_of h) m
   pub undoable : h.undoable ≡ length m.past
   pub depth : h.depth ≡ m.depth
 
@@ -141,7 +141,7 @@ edit_matches : (c : Contents) (h : History) (m : Machine) (e : Edit) (found : Op
 edit_matches c h m e None is accepted =
     let one_more : h.undoable + 1 ≡ length (m.now ∷ m.past) = omega (arith, is.undoable) in
     record {
-      follows = edit_follows c (tally_of h) m e None is.follows;
+      follows = edit_follows c (edits_of h) m e None is.follows;
       undoable = ap (λ (d : ℕ). min d (h.undoable + 1)) is.depth ∙ ap (min m.depth) one_more
           ∙ sym (length-take m.depth (m.now ∷ m.past));
       depth = is.depth;
@@ -185,7 +185,7 @@ depth_matches c h m depth false true is accepted = absurd (cc)
 depth_matches c h m depth false false is accepted =
     let undone = undone_count c h.edits h.undone m.future is.follows.future in
     record {
-      follows = depth_follows c (tally_of h) m depth false false is.follows;
+      follows = depth_follows c (edits_of h) m depth false false is.follows;
       undoable = ap (λ (n : ℕ). min (depth - n) h.undoable) undone ∙ ap (min (depth - length m.future)) is.undoable
           ∙ sym (length-take (depth - length m.future) m.past);
       depth = refl;

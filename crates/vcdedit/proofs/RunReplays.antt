@@ -28,7 +28,7 @@ use Rattle.vcdedit.specs.Script.{script_lines}
 use Rattle.vcdedit.specs.ParsedLines.{command_of_line}
 use Rattle.vcdedit.specs.MachineReplies.{line_reply, command_reply, step_reply}
 use Rattle.vcdedit.specs.RunMachines.{machine_after_command, machine_after_line, machine_after_lines, no_edits}
-use Rattle.vcdedit.specs.RunMachines.{tally_after_lines, reply_on, is_refused_on, IsLineOfRun, machine_at, tally_at}
+use Rattle.vcdedit.specs.RunMachines.{edits_after_lines, reply_on, is_refused_on, IsLineOfRun, machine_at, edits_at}
 use Rattle.vcdedit.specs.Run.{RunOutcome}
 use Rattle.vcdedit.specs.RunMachines.{last_replay, IsOfReplays, refusal_count}
 use Rattle.vcdedit.specs.RunOutcomes.{line_replies, run_outcome}
@@ -89,7 +89,7 @@ pub undo_takes_back_the_last : UndoTakesBackTheLast
 unfolding machine_after_line
 undo_takes_back_the_last c depth lines undo_line asked held =
     let m = machine_after_lines (first_machine c depth) lines in
-    let so = undone_last c (tally_after_lines no_edits (first_machine c depth) lines).edits_in_force m.past m
+    let so = undone_last c (edits_after_lines no_edits (first_machine c depth) lines).edits_in_force m.past m
     (run_is_replay c depth lines).past held in
     (so.0, so.1, so.2, ap (λ r. (machine_after_command m r).now) asked ∙ so.3)
 
@@ -169,7 +169,7 @@ line_undone skipped line m asked accepted =
     (command_reply r m.now skipped (length m.past) (length m.future))) asked) ∙ accepted)
 
 line_of_run : (c : Contents) (depth skipped : ℕ) (lines : List (List ℕ)) (count : ℕ) → count < length lines →
-    IsLineOfRun c (tally_at c depth lines count) skipped (get_or lines count []) (machine_at c depth lines count)
+    IsLineOfRun c (edits_at c depth lines count) skipped (get_or lines count []) (machine_at c depth lines count)
     (machine_at c depth lines (count + 1))
 line_of_run c depth skipped lines count below =
     let m = machine_at c depth lines count in

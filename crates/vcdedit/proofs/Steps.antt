@@ -12,7 +12,7 @@ use Rattle.vcd_journal.specs.declared.step.StepError.TheVariants as refusals
 use Rattle.vcd_journal.specs.declared.step.Answer.{Answer}
 use Rattle.vcd_journal.specs.StepErrorNames.{step_error_name}
 use Rattle.vcd_journal.specs.Machine.{Machine, first_machine, step_outcome, edit_outcome, undo_outcome, redo_outcome}
-use Rattle.vcd_journal.specs.Machine.{is_depth, accepted_outcome, refused_outcome, machine_after_depth, StepsLead}
+use Rattle.vcd_journal.specs.Machine.{is_depth, accepted_outcome, refused_outcome, machine_after_depth, AreSteps}
 use Rattle.vcd_journal.proofs.Steps.{ample_step}
 use Rattle.vcd_journal.proofs.Replay.{session_is_replay}
 use Rattle.vcdedit.specs.declared.script.command.Command.{Command}
@@ -20,9 +20,9 @@ use Rattle.vcdedit.specs.declared.script.command.Command.TheVariants as commands
 use Rattle.vcdedit.specs.declared.script.line_error.LineError.{LineError}
 use Rattle.vcdedit.specs.ParsedLines.{command_of_line}
 use Rattle.vcdedit.specs.MachineReplies.{ok_reply, step_reply, edit_reply}
-use Rattle.vcd_journal.specs.InForce.{Tally, IsReplay, tally_after_all}
+use Rattle.vcd_journal.specs.InForce.{EditLists, IsReplay, edits_after_all}
 use Rattle.vcdedit.specs.RunMachines.{machine_after_line, machine_after_lines, machine_after_command, no_edits}
-use Rattle.vcdedit.specs.RunMachines.{tally_after_command, tally_after_lines}
+use Rattle.vcdedit.specs.RunMachines.{edits_after_command, edits_after_lines}
 use Rattle.vcdedit.specs.inside.LineSteps.{steps_of_command, steps_of_lines, answers_of_lines}
 use Rattle.vcdedit.specs.Laws.{RunIsReplay, ReplyIsAnswer, answer_reply}
 
@@ -60,10 +60,10 @@ reply_is_answer m (steps.Depth depth) =
 
 -- a line asks for at most one step, and gives the outcome of that step
 pub command_is_run : (m : Machine) (r : Result Command LineError) (asked : List Step) (answers : List Answer)
-    (n : Machine) → StepsLead (machine_after_command m r) asked answers n →
-    StepsLead m (steps_of_command r ++ asked) (map (λ step. (step_outcome m step).answer) (steps_of_command r)
+    (n : Machine) → AreSteps (machine_after_command m r) asked answers n →
+    AreSteps m (steps_of_command r ++ asked) (map (λ step. (step_outcome m step).answer) (steps_of_command r)
     ++ answers) n
-unfolding StepsLead
+unfolding AreSteps
 command_is_run m (Ok commands.Nothing) asked answers n h = h
 command_is_run m (Ok commands.List) asked answers n h = h
 command_is_run m (Ok (commands.Value k tick)) asked answers n h = h
@@ -75,41 +75,41 @@ command_is_run m (Ok (commands.I2c scl sda)) asked answers n h = h
 command_is_run m (Err found) asked answers n h = h
 
 pub lines_are_run : (m : Machine) (lines : List (List ℕ))
-    → StepsLead m (steps_of_lines m lines) (answers_of_lines m lines) (machine_after_lines m lines)
-unfolding StepsLead steps_of_lines answers_of_lines machine_after_lines machine_after_line
+    → AreSteps m (steps_of_lines m lines) (answers_of_lines m lines) (machine_after_lines m lines)
+unfolding AreSteps steps_of_lines answers_of_lines machine_after_lines machine_after_line
 lines_are_run m [] = refl
 lines_are_run m (line ∷ lines) =
     let next : Machine = machine_after_line m line in
     command_is_run m (command_of_line m.now line) (steps_of_lines next lines) (answers_of_lines next lines)
     (machine_after_lines next lines) (lines_are_run next lines)
 
--- the tally after a line is that of the step that it asks for
-command_tally : (t : Tally) (m : Machine) (r : Result Command LineError) (asked : List Step) (answers : List Answer) →
-    tally_after_all t (steps_of_command r ++ asked) (map (λ step. (step_outcome m step).answer) (steps_of_command r)
-    ++ answers) ≡ tally_after_all (tally_after_command t m r) asked answers
-unfolding tally_after_all
-command_tally t m (Ok commands.Nothing) asked answers = refl
-command_tally t m (Ok commands.List) asked answers = refl
-command_tally t m (Ok (commands.Value k tick)) asked answers = refl
-command_tally t m (Ok (commands.Changes k)) asked answers = refl
-command_tally t m (Ok (commands.Step step)) asked answers = refl
-command_tally t m (Ok (commands.Uart k setup)) asked answers = refl
-command_tally t m (Ok (commands.Spi clk mosi miso cs setup)) asked answers = refl
-command_tally t m (Ok (commands.I2c scl sda)) asked answers = refl
-command_tally t m (Err found) asked answers = refl
+-- the edit lists after a line are those of the step that it asks for
+command_edits : (t : EditLists) (m : Machine) (r : Result Command LineError) (asked : List Step) (answers : List Answer)
+    → edits_after_all t (steps_of_command r ++ asked) (map (λ step. (step_outcome m step).answer) (steps_of_command r)
+    ++ answers) ≡ edits_after_all (edits_after_command t m r) asked answers
+unfolding edits_after_all
+command_edits t m (Ok commands.Nothing) asked answers = refl
+command_edits t m (Ok commands.List) asked answers = refl
+command_edits t m (Ok (commands.Value k tick)) asked answers = refl
+command_edits t m (Ok (commands.Changes k)) asked answers = refl
+command_edits t m (Ok (commands.Step step)) asked answers = refl
+command_edits t m (Ok (commands.Uart k setup)) asked answers = refl
+command_edits t m (Ok (commands.Spi clk mosi miso cs setup)) asked answers = refl
+command_edits t m (Ok (commands.I2c scl sda)) asked answers = refl
+command_edits t m (Err found) asked answers = refl
 
-lines_tally : (t : Tally) (m : Machine) (lines : List (List ℕ))
-    → tally_after_all t (steps_of_lines m lines) (answers_of_lines m lines) ≡ tally_after_lines t m lines
-unfolding steps_of_lines answers_of_lines tally_after_lines tally_after_all
-lines_tally t m [] = refl
-lines_tally t m (line ∷ lines) =
+lines_edits : (t : EditLists) (m : Machine) (lines : List (List ℕ))
+    → edits_after_all t (steps_of_lines m lines) (answers_of_lines m lines) ≡ edits_after_lines t m lines
+unfolding steps_of_lines answers_of_lines edits_after_lines edits_after_all
+lines_edits t m [] = refl
+lines_edits t m (line ∷ lines) =
     let next : Machine = machine_after_line m line in
-    command_tally t m (command_of_line m.now line) (steps_of_lines next lines) (answers_of_lines next lines)
-    ∙ lines_tally (tally_after_command t m (command_of_line m.now line)) next lines
+    command_edits t m (command_of_line m.now line) (steps_of_lines next lines) (answers_of_lines next lines)
+    ∙ lines_edits (edits_after_command t m (command_of_line m.now line)) next lines
 
 pub run_is_replay : RunIsReplay
 run_is_replay c depth lines =
     let m = first_machine c depth in
-    subst (λ (t : Tally). IsReplay c t (machine_after_lines m lines)) (lines_tally no_edits m lines)
+    subst (λ (t : EditLists). IsReplay c t (machine_after_lines m lines)) (lines_edits no_edits m lines)
     (session_is_replay c depth (steps_of_lines m lines) (answers_of_lines m lines) (machine_after_lines m lines)
     (lines_are_run m lines))

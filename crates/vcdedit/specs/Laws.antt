@@ -16,7 +16,7 @@ use Rattle.vcdedit.specs.ParsedLines.{command_of_line}
 use Rattle.vcdedit.specs.MachineReplies.{LineReply, ok_reply, step_reply}
 use Rattle.vcdedit.specs.Run.{RunOutcome, IsRun}
 use Rattle.vcdedit.specs.RunMachines.{IsRunOfReplays, machine_after_line, machine_after_lines, no_edits}
-use Rattle.vcdedit.specs.RunMachines.{tally_after_lines, is_refused_on}
+use Rattle.vcdedit.specs.RunMachines.{edits_after_lines, is_refused_on}
 use Rattle.vcdedit.specs.RunOutcomes.{RunWrites}
 
 -- ---- replies
@@ -36,7 +36,7 @@ ReplyIsAnswer = (m : Machine) (step : Step)
 -- after any lines the machine holds replays of the edits that they leave in force
 abbrev pub RunIsReplay : Type 0
 RunIsReplay = (c : Contents) (depth : ℕ) (lines : List (List ℕ))
-    → IsReplay c (tally_after_lines no_edits (first_machine c depth) lines)
+    → IsReplay c (edits_after_lines no_edits (first_machine c depth) lines)
     (machine_after_lines (first_machine c depth) lines)
 
 -- whatever a machine makes a run write is what a run writes
@@ -88,7 +88,7 @@ UndoTakesBackTheLast = (c : Contents) (depth : ℕ) (lines : List (List ℕ)) (u
     → let m = machine_after_lines (first_machine c depth) lines in
     command_of_line m.now undo_line ≡ Ok (commands.Step steps.Undo) → 1 ≤ length m.past
     → (e : Edit) × (es : List Edit)
-    × ((tally_after_lines no_edits (first_machine c depth) lines).edits_in_force ≡ e ∷ es)
+    × ((edits_after_lines no_edits (first_machine c depth) lines).edits_in_force ≡ e ∷ es)
     × ((machine_after_line m undo_line).now ≡ replay c es)
 
 -- a refused line changes nothing: neither the capture nor what can be undone or redone

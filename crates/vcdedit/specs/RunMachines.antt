@@ -11,7 +11,7 @@ use Rattle.vcd_text.specs.Text.{text}
 use Rattle.vcd_edit.specs.declared.edit.Edit.{Edit}
 use Rattle.vcd_journal.specs.declared.step.Step.TheVariants as steps
 use Rattle.vcd_journal.specs.Machine.{Machine, first_machine, step_outcome}
-use Rattle.vcd_journal.specs.InForce.{Tally, IsReplay, tally_after}
+use Rattle.vcd_journal.specs.InForce.{EditLists, IsReplay, edits_after}
 use Rattle.vcd_journal.specs.History.{replay}
 use Rattle.vcdedit.specs.Script.{script_lines}
 use Rattle.vcdedit.specs.ParsedLines.{command_of_line}
@@ -35,19 +35,19 @@ machine_after_lines m [] = m
 machine_after_lines m (line ∷ lines) = machine_after_lines (machine_after_line m line) lines
 
 -- no edit is in force, and none undone
-abbrev pub no_edits : Tally
+abbrev pub no_edits : EditLists
 no_edits = record { edits_in_force = []; undone_edits = [] }
 
 -- the edits in force and those undone, after what a line asks for on a machine
-abbrev pub tally_after_command : Tally → Machine → Result Command LineError → Tally
-tally_after_command t m (Ok (commands.Step step)) = tally_after t step (step_outcome m step).answer
-tally_after_command t m asked = t
+abbrev pub edits_after_command : EditLists → Machine → Result Command LineError → EditLists
+edits_after_command t m (Ok (commands.Step step)) = edits_after t step (step_outcome m step).answer
+edits_after_command t m asked = t
 
 -- the same after lines
-unfoldable pub tally_after_lines : Tally → Machine → List (List ℕ) → Tally
-tally_after_lines t m [] = t
-tally_after_lines t m (line ∷ lines) =
-    tally_after_lines (tally_after_command t m (command_of_line m.now line)) (machine_after_line m line) lines
+unfoldable pub edits_after_lines : EditLists → Machine → List (List ℕ) → EditLists
+edits_after_lines t m [] = t
+edits_after_lines t m (line ∷ lines) =
+    edits_after_lines (edits_after_command t m (command_of_line m.now line)) (machine_after_line m line) lines
 
 -- the reply that a line with this number gets on a machine
 abbrev pub reply_on : (skipped number : ℕ) → List ℕ → Machine → List ℕ
@@ -66,7 +66,7 @@ refusal_count skipped m (line ∷ lines) =
 -- ---- replays
 
 -- a line on a capture where these edits are in force: it leads from one machine to the next
-pub record IsLineOfRun (c : Contents) (t : Tally) (skipped : ℕ) (line : List ℕ) (m next : Machine) : Type 0 where
+pub record IsLineOfRun (c : Contents) (t : EditLists) (skipped : ℕ) (line : List ℕ) (m next : Machine) : Type 0 where
   -- refused, it changes nothing: neither the capture nor what can be undone or redone
   pub unchanged : is_refused_on skipped line m ≡ true → next ≡ m
   -- an undo that is not refused gives back the capture before the last edit in force
@@ -80,22 +80,22 @@ module _ (c : Contents) (depth : ℕ) (lines : List (List ℕ)) where
   machine_at count = machine_after_lines (first_machine c depth) (take count lines)
 
   -- the edits then in force, and those undone
-  abbrev pub tally_at : (count : ℕ) → Tally
-  tally_at count = tally_after_lines no_edits (first_machine c depth) (take count lines)
+  abbrev pub edits_at : (count : ℕ) → EditLists
+  edits_at count = edits_after_lines no_edits (first_machine c depth) (take count lines)
 
   -- the replay of the edits that are in force in the end
   abbrev pub last_replay : Contents
-  last_replay = replay c (tally_at (length lines)).edits_in_force
+  last_replay = replay c (edits_at (length lines)).edits_in_force
 
   -- what is written where these lines are run is of replays
   pub record IsOfReplays (skipped : ℕ) (written : RunOutcome) : Type 0 where
     -- after each line the capture is the replay of the edits then in force, and undo and redo lead to the others
-    pub replays : (count : ℕ) → IsReplay c (tally_at count) (machine_at count)
+    pub replays : (count : ℕ) → IsReplay c (edits_at count) (machine_at count)
     -- it is sound
     pub sound : (count : ℕ) → IsSound (machine_at count).now
     -- undo restores, and a refused line changes nothing
     pub each : (count : ℕ) → count < length lines →
-        IsLineOfRun c (tally_at count) skipped (get_or lines count []) (machine_at count) (machine_at (count + 1))
+        IsLineOfRun c (edits_at count) skipped (get_or lines count []) (machine_at count) (machine_at (count + 1))
     -- one reply to each line, said on the capture before it
     pub one_each : length written.replies ≡ length lines
     pub replies : (count : ℕ) → count < length lines →

@@ -2,11 +2,11 @@ use Rattle.std.proofs.Common.{◌≡◌, ◌+◌, ◌++◌, ◌∷◌, [], ◌�
 use Rattle.std.proofs.lemmas.List.{append-nil, append_assoc, take_more}
 use Rattle.vcd_journal.specs.declared.step.Step.{Step}
 use Rattle.vcd_journal.specs.declared.step.Answer.{Answer}
-use Rattle.vcd_journal.proofs.Steps.{steps_lead_more, no_steps_lead}
+use Rattle.vcd_journal.proofs.Steps.{steps_lead_more, no_steps}
 use Rattle.vcd_journal.proofs.running.run.Goals as goal
 
 pub loop-step-init : goal.loop-step-init
-loop-step-init c = (([], sym (append-nil c.args.answers.now.items), no_steps_lead c.args.session.now), omega arith)
+loop-step-init c = (([], sym (append-nil c.args.answers.now.items), no_steps c.args.session.now), omega arith)
 
 pub loop-step-preserved : goal.loop-step-preserved
 loop-step-preserved c =

@@ -8,14 +8,14 @@ use Rattle.vcd_journal.proofs.Steps.{undo_no_memory}
 use Rattle.vcd_journal.proofs.Histories.{some_captures, same_machine, undo_needs}
 use Rattle.vcd_journal.proofs.session.Session.undo.Goals as goal
 
-pub returns-in_err-follow_newest-clause-step : goal.returns-in_err-follow_newest-clause-step
-returns-in_err-follow_newest-clause-step c =
+pub returns-in_err-apply_newest-clause-step : goal.returns-in_err-apply_newest-clause-step
+returns-in_err-apply_newest-clause-step c =
     let refused = err_from_is_err_and c.from_residual.result c.from_residual.ensures.1 in
     let old = c.self.inside in
-    let kept = c.in_err-follow_newest.ensures.unchanged in
+    let kept = c.in_err-apply_newest.ensures.unchanged in
     let some : 0 < length old.past.items = grind (arith, nat_tests) in
     rw (refused.1, refused.2, ← c.self.view_is)
     (undo_no_memory _ _ (some_captures (contents old.capture) old.past.items some)
-    (undo_needs (contents old.capture) old.past.items old.future.items old.depth c.in_err-follow_newest.ensures.needs)
+    (undo_needs (contents old.capture) old.past.items old.future.items old.depth c.in_err-apply_newest.ensures.needs)
     (same_machine (contents old.capture) _ old.past.items _ old.future.items _ old.depth kept.0
     (ap (λ (ring : Buffer RecordView). ring.items) kept.1) (ap (λ (ring : Buffer RecordView). ring.items) kept.2)))
