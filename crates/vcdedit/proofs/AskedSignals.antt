@@ -28,14 +28,14 @@ use Rattle.vcdedit.specs.ScriptCommands.{is_comment}
 use Rattle.vcdedit.proofs.KeywordCommands.{words_are}
 use Rattle.vcdedit.specs.inside.ParsedCommands.{pair_command, rule_command, derive_command, keyword_command}
 use Rattle.vcdedit.specs.inside.ParsedCommands.{words_command, keyword_in_tables}
-use Rattle.vcdedit.specs.CommandSignals.{IsScalarAt, HasItsSignals}
-use Rattle.vcdedit.specs.Addressless.{command_without_address}
+use Rattle.vcdedit.specs.CommandSignals.{IsScalarAt, HasCommandSignals}
+use Rattle.vcdedit.specs.WithoutAddress.{command_without_address}
 use Rattle.vcdedit.specs.ParsedLines.{line_words, command_of_line}
 use Rattle.vcdedit.proofs.NamedSignals.{named_within}
 
 -- a command that is read has its signals
 pub record GivesSignals (c : Contents) (r : Result Command LineError) : Type 0 where
-  pub has : IfOk r (HasItsSignals c)
+  pub has : IfOk r (HasCommandSignals c)
 
 -- a line that is no command gives none
 refused : (c : Contents) (fault : LineError) → GivesSignals c (Err fault)
@@ -262,19 +262,19 @@ of_keyword c keywords.Uart words = of_uart c words
 of_keyword c keywords.Spi words = of_spi c words
 of_keyword c keywords.I2c words = of_i2c c words
 
-of_words : (c : Capture) (words : List (List ℕ)) → GivesSignals (contents c) (words_command (contents c) words)
-of_words c [] = record { has = tt }
-of_words c (first ∷ arguments) =
+signals_of_words : (c : Capture) (words : List (List ℕ)) → GivesSignals (contents c) (words_command (contents c) words)
+signals_of_words c [] = record { has = tt }
+signals_of_words c (first ∷ arguments) =
     either _ (is_comment first) _ _ (record { has = tt })
     (then_any _ (ok_or (keyword_in_tables first) UnknownCommand) _ (λ keyword. of_keyword c keyword arguments))
 
 of_line : (c : Capture) (line : List ℕ) → GivesSignals (contents c) (command_of_line (contents c) line)
 unfolding command_of_line
 of_line c line = subst (GivesSignals (contents c)) (sym (words_are (contents c) (line_words line)))
-    (of_words c (line_words line))
+    (signals_of_words c (line_words line))
 
-without_address : (c : Contents) (command : Command) → HasItsSignals c (command_without_address command)
-    → HasItsSignals c command
+without_address : (c : Contents) (command : Command) → HasCommandSignals c (command_without_address command)
+    → HasCommandSignals c command
 without_address c commands.Nothing has = tt
 without_address c (commands.Step step) has = tt
 without_address c commands.List has = tt
@@ -287,8 +287,8 @@ without_address c (commands.I2c scl sda) has = has
 -- what is read of a line has its signals
 pub read_has_its_signals : (c : Capture) (line : List ℕ) (read : Result Command LineError) →
     IfOk read (λ command. command_of_line (contents c) line ≡ Ok (command_without_address command))
-    → IfOk read (HasItsSignals (contents c))
+    → IfOk read (HasCommandSignals (contents c))
 read_has_its_signals c line (Ok command) reads =
     without_address (contents c) command
-    (subst (λ (r : Result Command LineError). IfOk r (HasItsSignals (contents c))) reads (of_line c line).has)
+    (subst (λ (r : Result Command LineError). IfOk r (HasCommandSignals (contents c))) reads (of_line c line).has)
 read_has_its_signals c line (Err found) reads = tt

@@ -15,7 +15,7 @@ use Rattle.vcdedit.specs.ParsedLines.{command_of_line}
 use Rattle.vcdedit.specs.MachineReplies.{line_reply}
 use Rattle.vcdedit.specs.RunMachines.{machine_after_line, machine_after_lines, refusal_count}
 use Rattle.vcdedit.specs.Run.{RunOutcome}
-use Rattle.vcdedit.specs.RunOutcomes.{line_replies, run_outcome, RunWrites}
+use Rattle.vcdedit.specs.RunOutcomes.{line_replies, run_outcome, IsMachineRun}
 use Rattle.vcdedit.specs.RunEnds.{DeviceEnd, RunEnds}
 use Rattle.vcdedit.specs.declared.running.run_error.RunError.TheVariants as run_errors
 use Rattle.vcdedit.proofs.RunHistories.{run_is}
@@ -62,7 +62,7 @@ unfolding script_lines words_from command_of_line lookup name_in edit_fault effe
 full_history_run = refl
 
 -- the same from the bytes of the file and the script to those that are written
-rename_of_file : RunWrites one_scalar_file (codes "rename top.a b\n") 100
+rename_of_file : IsMachineRun one_scalar_file (codes "rename top.a b\n") 100
     (record { replies = codes "ok\n" ∷ []; output = one_scalar_text (codes "b"); refused = 0 })
 unfolding script_lines words_from command_of_line lookup name_in edit_fault effect line_reply machine_after_line
     machine_after_lines line_replies refusal_count text items_of signal_items code_digits tick_items value_from
@@ -73,13 +73,13 @@ rename_of_file = record { contents = one_scalar_contents; skipped = 0; means = o
 undone : RunOutcome
 undone = record { replies = codes "ok\n" ∷ codes "ok\n" ∷ []; output = one_scalar_text (codes "a"); refused = 0 }
 
-undo_of_file : RunWrites one_scalar_file (codes "rename top.a b\nundo\n") 100 undone
+undo_of_file : IsMachineRun one_scalar_file (codes "rename top.a b\nundo\n") 100 undone
 unfolding undone script_lines words_from command_of_line lookup name_in edit_fault effect line_reply machine_after_line
     machine_after_lines line_replies refusal_count text items_of signal_items code_digits tick_items value_from
     short_form digits
 undo_of_file = record { contents = one_scalar_contents; skipped = 0; means = one_scalar_means; run = refl }
 
--- a reader that was read to its end
+-- a source that was read to its end
 abbrev read_whole : List ℕ → DeviceEnd
 read_whole bytes = record { before = Some bytes; after = Some []; has_failed = false }
 

@@ -11,7 +11,7 @@ pub mod CasesOfQueries
 pub mod CasesOfDecoders
 pub mod Lines
 pub mod ScriptLines
-pub mod Answered
+pub mod AnsweredLines
 pub mod LinesLeft
 pub mod LinesStopped
 pub mod RunParts

@@ -35,19 +35,19 @@ use Rattle.vcdedit.specs.declared.script.command.Command.TheVariants as commands
 use Rattle.vcdedit.specs.declared.script.line_error.LineError.{LineError}
 use Rattle.vcdedit.specs.Script.{script_lines}
 use Rattle.vcdedit.specs.ParsedLines.{line_words, command_of_line}
-use Rattle.vcdedit.specs.LineReads.{Read, ◌▷◌}
-use Rattle.vcdedit.specs.CommandTable.{Request, asked_by_words}
+use Rattle.vcdedit.specs.LineReads.{ReadResult, ◌▷◌}
+use Rattle.vcdedit.specs.CommandTable.{Request, request_of_words}
 use Rattle.vcdedit.proofs.TableCommands.{requested, asked_is}
 use Rattle.vcdedit.proofs.UndoneEdits.{refused_line_keeps, undo_gives_back_earlier}
 use Rattle.vcdedit.specs.Reply.{reply_text}
-use Rattle.vcdedit.specs.Run.{RunOutcome, answer, history_after_asked, line_answer, history_after_line, history_at}
+use Rattle.vcdedit.specs.Run.{RunOutcome, answer, history_after_request, line_answer, history_after_line, history_at}
 use Rattle.vcdedit.specs.Run.{answers, capture_at, IsRunOfLines}
 use Rattle.vcdedit.specs.inside.LineAnswers.{line_answers}
 use Rattle.vcdedit.specs.MachineReplies.{LineReply, ok_reply, edit_reply, history_reply, step_reply}
 use Rattle.vcdedit.specs.MachineReplies.{command_reply, line_reply}
 use Rattle.vcdedit.specs.RunMachines.{machine_after_command, machine_after_line, machine_after_lines, refusal_count}
 use Rattle.vcdedit.specs.RunOutcomes.{line_replies, run_outcome}
-use Rattle.vcdedit.specs.Laws.{EveryRunIs, RunsAreOfReplays}
+use Rattle.vcdedit.specs.Laws.{MachineRunIsRun, RunIsOfReplays}
 use Rattle.vcdedit.proofs.RunReplays.{refused_line_changes_nothing, run_is_of_replays}
 use Rattle.vcdedit.proofs.SoundCaptures.{lines_sound}
 
@@ -206,7 +206,7 @@ step_matches c h m (steps.Depth depth) is accepted =
 asked_matches : (c : Contents) (h : History) (m : Machine) (skipped : ℕ) (asked : Result Command LineError)
     → Matches c h m →
     is_err (command_reply asked m.now skipped (length m.past) (length m.future)) ≡ false
-    → Matches c (history_after_asked h (requested m.now skipped asked)) (machine_after_command m asked)
+    → Matches c (history_after_request h (requested m.now skipped asked)) (machine_after_command m asked)
 asked_matches c h m skipped (Err fault) is accepted = is
 asked_matches c h m skipped (Ok commands.Nothing) is accepted = is
 asked_matches c h m skipped (Ok (commands.Step step)) is accepted = step_matches c h m step is accepted
@@ -221,7 +221,7 @@ asked_matches c h m skipped (Ok (commands.I2c scl sda)) is accepted = is
 
 -- what is said to a line on this capture
 abbrev said_on : Contents → (skipped : ℕ) → History → List ℕ → LineReply
-said_on now skipped h line = asked_by_words now skipped (line_words line) ▷ answer now h
+said_on now skipped h line = request_of_words now skipped (line_words line) ▷ answer now h
 
 answer_here : (c : Contents) (h : History) (m : Machine) (skipped : ℕ) (line : List ℕ) → Matches c h m →
     line_reply line m.now skipped (length m.past) (length m.future) ≡ said_on m.now skipped h line
@@ -229,7 +229,7 @@ unfolding line_reply
 answer_here c h m skipped line is =
     command_said m.now skipped h (command_of_line m.now line) (length m.past) (length m.future) is.undoable
     (undone_count c h.edits h.undone m.future is.follows.future)
-    ∙ ap (λ (asked : Read Request). asked ▷ answer m.now h) (asked_is m.now skipped line)
+    ∙ ap (λ (asked : ReadResult Request). asked ▷ answer m.now h) (asked_is m.now skipped line)
 
 answer_is : (c : Contents) (h : History) (m : Machine) (skipped : ℕ) (line : List ℕ) → Matches c h m →
     line_reply line m.now skipped (length m.past) (length m.future) ≡ line_answer c skipped h line
@@ -239,13 +239,13 @@ answer_is c h m skipped line is =
 -- the history after a line that is refused or not
 by_refusal : (c : Contents) (h : History) (m : Machine) (skipped : ℕ) (line : List ℕ) (refused : Bool) → Matches c h m →
     is_err (line_reply line m.now skipped (length m.past) (length m.future)) ≡ refused →
-    Matches c (cond refused h (history_after_asked h (asked_by_words m.now skipped (line_words line))))
+    Matches c (cond refused h (history_after_request h (request_of_words m.now skipped (line_words line))))
     (machine_after_line m line)
 unfolding line_reply machine_after_line
 by_refusal c h m skipped line true is said =
     subst (Matches c h) (sym (refused_line_changes_nothing m line skipped said)) is
 by_refusal c h m skipped line false is said =
-    subst (λ (asked : Read Request). Matches c (history_after_asked h asked) (machine_after_line m line))
+    subst (λ (asked : ReadResult Request). Matches c (history_after_request h asked) (machine_after_line m line))
     (asked_is m.now skipped line) (asked_matches c h m skipped (command_of_line m.now line) is said)
 
 line_matches : (c : Contents) (h : History) (m : Machine) (skipped : ℕ) (line : List ℕ) → Matches c h m
@@ -253,7 +253,7 @@ line_matches : (c : Contents) (h : History) (m : Machine) (skipped : ℕ) (line 
 line_matches c h m skipped line is =
     subst (λ (now : Contents). Matches c
     (cond (is_err (line_answer c skipped h line)) h
-    (history_after_asked h (asked_by_words now skipped (line_words line))))
+    (history_after_request h (request_of_words now skipped (line_words line))))
     (machine_after_line m line)) is.follows.now
     (by_refusal c h m skipped line (is_err (line_answer c skipped h line)) is
     (ap is_err (answer_is c h m skipped line is)))
@@ -305,7 +305,7 @@ unfolding line_answers
 answers_from c skipped h before [] = refl
 answers_from c skipped h before (line ∷ lines) =
     let step : History → List ℕ → History = history_after_line c skipped in
-    let said : List (List ℕ) → ℕ → List (Read (List (List ℕ))) = λ all n.
+    let said : List (List ℕ) → ℕ → List (ReadResult (List (List ℕ))) = λ all n.
     map (λ (p : ℕ × List ℕ). line_answer c skipped (fold step h (take p.0 all)) p.1) (enumerate_from n lines) in
     let first = ap (λ (ls : List (List ℕ)). line_answer c skipped (fold step h ls) line)
     (take-append_seam before (line ∷ lines)) in
@@ -377,7 +377,7 @@ lines_are_run c depth skipped lines sound =
 pub file_sound : (file : List ℕ) (c : Contents) (skipped : ℕ) → FileMeans file c skipped → IsSound c
 file_sound file c skipped means = subst IsSound (sym means.means) (meaning_is_sound file means.told means.accepted)
 
-pub run_is : EveryRunIs
+pub run_is : MachineRunIsRun
 run_is file script depth written writes = record {
   contents = writes.contents;
   skipped = writes.skipped;
@@ -395,7 +395,7 @@ same_outcome : (written other : RunOutcome) → written.replies ≡ other.replie
 same_outcome written other replies output refused =
     λ i. record { replies = replies i; output = output i; refused = refused i }
 
-pub runs_are_of_replays : RunsAreOfReplays
+pub runs_are_of_replays : RunIsOfReplays
 runs_are_of_replays file script depth written is =
     let other = run_outcome is.contents is.skipped script depth in
     let also = lines_are_run is.contents depth is.skipped (script_lines script)

@@ -32,7 +32,7 @@ use Rattle.vcdedit.specs.RunMachines.{edits_after_lines, reply_on, is_refused_on
 use Rattle.vcdedit.specs.Run.{RunOutcome}
 use Rattle.vcdedit.specs.RunMachines.{last_replay, IsOfReplays, refusal_count}
 use Rattle.vcdedit.specs.RunOutcomes.{line_replies, run_outcome}
-use Rattle.vcdedit.specs.Laws.{EveryRunIsOfReplays, EveryRunWritesOneThing, ReplaysAreOfRun, RefusedLineChangesNothing}
+use Rattle.vcdedit.specs.Laws.{MachineRunIsOfReplays, RunIsUnique, ReplaysAreMachineRun, RefusedLineChangesNothing}
 use Rattle.vcdedit.specs.Laws.{UndoGivesBack, UndoTakesBackTheLast, answer_reply}
 use Rattle.vcdedit.proofs.Steps.{run_is_replay, reply_is_answer}
 use Rattle.vcdedit.proofs.SoundCaptures.{lines_sound}
@@ -216,7 +216,7 @@ lines_of_replays c depth skipped lines sound =
           (last_replay c depth lines) count 0 means back;
     }
 
-pub run_is_of_replays : EveryRunIsOfReplays
+pub run_is_of_replays : MachineRunIsOfReplays
 run_is_of_replays file script depth written writes =
     let sound : IsSound writes.contents =
     subst IsSound (sym writes.means.means) (meaning_is_sound file writes.means.told writes.means.accepted) in
@@ -245,7 +245,7 @@ one_of_replays c depth skipped lines written other is also =
     ∙ sym (also.replies count within)) in
     same_outcome written other replies (is.output ∙ sym also.output) (is.refused ∙ sym also.refused)
 
-pub run_writes_one_thing : EveryRunWritesOneThing
+pub run_writes_one_thing : RunIsUnique
 run_writes_one_thing file script depth written other is also =
     let one = one_meaning file is.contents also.contents is.skipped also.skipped is.means also.means in
     let here : IsOfReplays also.contents depth (script_lines script) also.skipped written =
@@ -253,7 +253,7 @@ run_writes_one_thing file script depth written other is also =
     (subst (λ (n : ℕ). IsOfReplays is.contents depth (script_lines script) n written) one.1 is.run) in
     one_of_replays also.contents depth also.skipped (script_lines script) written other here also.run
 
-pub replays_are_of_run : ReplaysAreOfRun
+pub replays_are_of_run : ReplaysAreMachineRun
 replays_are_of_run file script depth written is = record {
   contents = is.contents;
   skipped = is.skipped;

@@ -41,29 +41,30 @@ use Rattle.vcdedit.specs.ParsedLines.{line_words, command_of_line}
 use Rattle.vcdedit.specs.Queries.{listing}
 use Rattle.vcdedit.specs.WaveReplies.{value_line, change_lines}
 use Rattle.vcdedit.specs.DecoderReply.{uart_lines, spi_lines, i2c_lines}
-use Rattle.vcdedit.specs.LineReads.{Read, ◌▷◌, read_listed, read_signal, read_fitting, read_number}
+use Rattle.vcdedit.specs.LineReads.{ReadResult, ◌▷◌, read_entry, read_signal, read_in_range, read_number}
 use Rattle.vcdedit.specs.LineReads.{read_distance, read_value, read_ratio_at, read_ratio, read_parity, read_order}
 use Rattle.vcdedit.specs.LineReads.{read_line, scalar_test, uart_tests, spi_tests}
-use Rattle.vcdedit.specs.CommandTable.{Request, step, reply, OfWords, of_words, ask_pair, rule_rows, ask_derive}
-use Rattle.vcdedit.specs.CommandTable.{command_rows, asked_by_words}
+use Rattle.vcdedit.specs.CommandTable.{Request, step, reply, WordFunction, request_of_n_words, ask_pair, rule_rows}
+use Rattle.vcdedit.specs.CommandTable.{ask_derive}
+use Rattle.vcdedit.specs.CommandTable.{command_rows, request_of_words}
 use Rattle.vcdedit.specs.inside.ParsedCommands.{not_command, pair_command, bit_command, rule_command}
 use Rattle.vcdedit.specs.inside.ParsedCommands.{keyword_command, words_command, keyword_in_tables, derive_command}
 use Rattle.vcdedit.specs.inside.WordCounts.{no_word, one_word, two_words, four_words, five_words, seven_words}
 use Rattle.vcdedit.proofs.KeywordCommands.{words_are, keyword_is}
 
 -- what is read, with the name of its fault
-abbrev named : {A : Type 0} → Result A LineError → Read A
+abbrev named : {A : Type 0} → Result A LineError → ReadResult A
 named (Ok x) = Ok x
 named (Err fault) = Err (line_error_name fault)
 
 -- ---- what is read on
 
-then : {A B : Type 0} (r : Result A LineError) (s : Read A) (f : A → Result B LineError) (g : A → Read B)
+then : {A B : Type 0} (r : Result A LineError) (s : ReadResult A) (f : A → Result B LineError) (g : A → ReadResult B)
     → named r ≡ s → ((x : A) → named (f x) ≡ g x) → named (r >>= f) ≡ (s ▷ g)
 then (Ok x) s f g same rest = rest x ∙ ap (λ t. t ▷ g) same
 then (Err fault) s f g same rest = ap (λ t. t ▷ g) same
 
-by_test : {A : Type 0} (b : Bool) (r q : Result A LineError) (s t : Read A) → named r ≡ s → named q ≡ t
+by_test : {A : Type 0} (b : Bool) (r q : Result A LineError) (s t : ReadResult A) → named r ≡ s → named q ≡ t
     → named (cond b r q) ≡ cond b s t
 by_test true r q s t first second = first
 by_test false r q s t first second = second
@@ -81,15 +82,15 @@ number_is : (word : List ℕ) → named (number_of_word word) ≡ read_number wo
 number_is word = by_test (is_number word && nat_lt (number_of word) (2 ^ 64)) (Ok (number_of word))
     (Err line_errors.BadNumber) (Ok (number_of word)) (Err (codes "BadNumber")) refl refl
 
-abbrev read_forth : List ℕ → Read ℤ
-read_forth = read_fitting (λ n. nat_lt n (2 ^ 63)) pos
+abbrev read_forth : List ℕ → ReadResult ℤ
+read_forth = read_in_range (λ n. nat_lt n (2 ^ 63)) pos
 
 forth_is : (word : List ℕ) → named (distance_forth word) ≡ read_forth word
 forth_is word = by_test (is_number word && nat_lt (number_of word) (2 ^ 63)) (Ok (pos (number_of word)))
     (Err line_errors.BadNumber) (Ok (pos (number_of word))) (Err (codes "BadNumber")) refl refl
 
 back_is : (word : List ℕ) → named (distance_back word)
-    ≡ read_fitting (λ n. nat_le n (2 ^ 63)) (λ n. neg_ℤ (pos n)) word
+    ≡ read_in_range (λ n. nat_le n (2 ^ 63)) (λ n. neg_ℤ (pos n)) word
 back_is word = by_test (is_number word && nat_le (number_of word) (2 ^ 63)) (Ok (neg_ℤ (pos (number_of word))))
     (Err line_errors.BadNumber) (Ok (neg_ℤ (pos (number_of word)))) (Err (codes "BadNumber")) refl refl
 
@@ -102,7 +103,7 @@ distance_is : (word : List ℕ) → named (distance_of_word word) ≡ read_dista
 distance_is [] = refl
 distance_is (c ∷ digits) =
     by_test (c == 45) (distance_back digits) (cond (c == 43) (distance_forth digits) (distance_forth (c ∷ digits)))
-    (read_fitting (λ n. nat_le n (2 ^ 63)) (λ n. neg_ℤ (pos n)) digits)
+    (read_in_range (λ n. nat_le n (2 ^ 63)) (λ n. neg_ℤ (pos n)) digits)
     (read_forth (cond (c == 43) digits (c ∷ digits))) (back_is digits)
     (signed_forth_is (c == 43) (c ∷ digits) digits)
 
@@ -152,16 +153,16 @@ request_of c skipped (commands.Spi clk mosi miso cs setup) = reply (spi_lines c 
 request_of c skipped (commands.I2c scl sda) = reply (i2c_lines c scl sda)
 
 -- what a line that is read so asks for, with the name of its fault
-abbrev pub requested : Contents → (skipped : ℕ) → Result Command LineError → Read Request
+abbrev pub requested : Contents → (skipped : ℕ) → Result Command LineError → ReadResult Request
 requested c skipped (Ok command) = Ok (request_of c skipped command)
 requested c skipped (Err fault) = Err (line_error_name fault)
 
 -- what the fault of a setup makes of a request
-abbrev match_fault : Option SetupError → Request → Read Request
+abbrev match_fault : Option SetupError → Request → ReadResult Request
 match_fault None request = Ok request
 match_fault (Some fault) request = Err (setup_error_name fault)
 
-fault_row : (request : Request) (b : Bool) (fault : SetupError) (others : Option SetupError) (r : Read Request)
+fault_row : (request : Request) (b : Bool) (fault : SetupError) (others : Option SetupError) (r : ReadResult Request)
     → match_fault others request ≡ r → match_fault (cond b (Some fault) others) request
     ≡ cond b (Err (setup_error_name fault)) r
 fault_row request true fault others r same = refl
@@ -170,15 +171,15 @@ fault_row request false fault others r same = same
 -- ---- what a line asks for
 
 module _ (c : Contents) (skipped : ℕ) where
-  abbrev told : Result Command LineError → Read Request
+  abbrev told : Result Command LineError → ReadResult Request
   told r = requested c skipped r
 
-  then_asks : {A : Type 0} (r : Result A LineError) (s : Read A) (f : A → Result Command LineError)
-      (g : A → Read Request) → named r ≡ s → ((x : A) → told (f x) ≡ g x) → told (r >>= f) ≡ (s ▷ g)
+  then_asks : {A : Type 0} (r : Result A LineError) (s : ReadResult A) (f : A → Result Command LineError)
+      (g : A → ReadResult Request) → named r ≡ s → ((x : A) → told (f x) ≡ g x) → told (r >>= f) ≡ (s ▷ g)
   then_asks (Ok x) s f g same rest = rest x ∙ ap (λ t. t ▷ g) same
   then_asks (Err fault) s f g same rest = ap (λ t. t ▷ g) same
 
-  either_asks : (b : Bool) (r q : Result Command LineError) (s t : Read Request) → told r ≡ s → told q ≡ t
+  either_asks : (b : Bool) (r q : Result Command LineError) (s t : ReadResult Request) → told r ≡ s → told q ≡ t
       → told (cond b r q) ≡ cond b s t
   either_asks true r q s t first second = first
   either_asks false r q s t first second = second
@@ -186,8 +187,8 @@ module _ (c : Contents) (skipped : ℕ) where
   -- ---- setups
 
   -- a setup whose fault is decided by tests is asked for unless one of them holds
-  setup_asks : {S : Type 0} (fault : Option SetupError) (setup : S) (command : S → Command) (tests : Read Request) →
-      match_fault fault (request_of c skipped (command setup)) ≡ tests
+  setup_asks : {S : Type 0} (fault : Option SetupError) (setup : S) (command : S → Command) (tests : ReadResult Request)
+      → match_fault fault (request_of c skipped (command setup)) ≡ tests
       → told (faultless_setup fault setup >>= λ s. Ok (command s)) ≡ tests
   setup_asks None setup command tests same = same
   setup_asks (Some fault) setup command tests same = same
@@ -206,27 +207,27 @@ module _ (c : Contents) (skipped : ℕ) where
 
   -- ---- so many words
 
-  of_none : (words : List (List ℕ)) (asked : Result Command LineError) (also : Read Request) → told asked ≡ also
-      → told (no_word words asked) ≡ of_words 0 also words
+  of_none : (words : List (List ℕ)) (asked : Result Command LineError) (also : ReadResult Request) → told asked ≡ also
+      → told (no_word words asked) ≡ request_of_n_words 0 also words
   of_none [] asked also same = same
   of_none (a ∷ words) asked also same = refl
 
-  of_one : (words : List (List ℕ)) (asked : List ℕ → Result Command LineError) (also : OfWords 1)
-      → ((a : List ℕ) → told (asked a) ≡ also a) → told (one_word words asked) ≡ of_words 1 also words
+  of_one : (words : List (List ℕ)) (asked : List ℕ → Result Command LineError) (also : WordFunction 1)
+      → ((a : List ℕ) → told (asked a) ≡ also a) → told (one_word words asked) ≡ request_of_n_words 1 also words
   of_one [] asked also same = refl
   of_one (a ∷ []) asked also same = same a
   of_one (a ∷ b ∷ words) asked also same = refl
 
-  of_two : (words : List (List ℕ)) (asked : List ℕ → List ℕ → Result Command LineError) (also : OfWords 2)
-      → ((a b : List ℕ) → told (asked a b) ≡ also a b) → told (two_words words asked) ≡ of_words 2 also words
+  of_two : (words : List (List ℕ)) (asked : List ℕ → List ℕ → Result Command LineError) (also : WordFunction 2)
+      → ((a b : List ℕ) → told (asked a b) ≡ also a b) → told (two_words words asked) ≡ request_of_n_words 2 also words
   of_two [] asked also same = refl
   of_two (a ∷ []) asked also same = refl
   of_two (a ∷ b ∷ []) asked also same = same a b
   of_two (a ∷ b ∷ d ∷ words) asked also same = refl
 
   of_four : (words : List (List ℕ)) (asked : List ℕ → List ℕ → List ℕ → List ℕ → Result Command LineError)
-      (also : OfWords 4) → ((a b d e : List ℕ) → told (asked a b d e) ≡ also a b d e)
-      → told (four_words words asked) ≡ of_words 4 also words
+      (also : WordFunction 4) → ((a b d e : List ℕ) → told (asked a b d e) ≡ also a b d e)
+      → told (four_words words asked) ≡ request_of_n_words 4 also words
   of_four [] asked also same = refl
   of_four (a ∷ []) asked also same = refl
   of_four (a ∷ b ∷ []) asked also same = refl
@@ -235,8 +236,8 @@ module _ (c : Contents) (skipped : ℕ) where
   of_four (a ∷ b ∷ d ∷ e ∷ f ∷ words) asked also same = refl
 
   of_five : (words : List (List ℕ)) (asked : List ℕ → List ℕ → List ℕ → List ℕ → List ℕ → Result Command LineError)
-      (also : OfWords 5) → ((a b d e f : List ℕ) → told (asked a b d e f) ≡ also a b d e f)
-      → told (five_words words asked) ≡ of_words 5 also words
+      (also : WordFunction 5) → ((a b d e f : List ℕ) → told (asked a b d e f) ≡ also a b d e f)
+      → told (five_words words asked) ≡ request_of_n_words 5 also words
   of_five [] asked also same = refl
   of_five (a ∷ []) asked also same = refl
   of_five (a ∷ b ∷ []) asked also same = refl
@@ -247,8 +248,8 @@ module _ (c : Contents) (skipped : ℕ) where
 
   of_seven : (words : List (List ℕ))
       (asked : List ℕ → List ℕ → List ℕ → List ℕ → List ℕ → List ℕ → List ℕ → Result Command LineError)
-      (also : OfWords 7) → ((a b d e f g h : List ℕ) → told (asked a b d e f g h) ≡ also a b d e f g h)
-      → told (seven_words words asked) ≡ of_words 7 also words
+      (also : WordFunction 7) → ((a b d e f g h : List ℕ) → told (asked a b d e f g h) ≡ also a b d e f g h)
+      → told (seven_words words asked) ≡ request_of_n_words 7 also words
   of_seven [] asked also same = refl
   of_seven (a ∷ []) asked also same = refl
   of_seven (a ∷ b ∷ []) asked also same = refl
@@ -262,19 +263,19 @@ module _ (c : Contents) (skipped : ℕ) where
   -- ---- rules
 
   pair_is : (rule : ℕ → ℕ → Rule) (word : List ℕ) (operands : List (List ℕ))
-      → told (pair_command c rule word operands) ≡ of_words 2 (ask_pair c word rule) operands
+      → told (pair_command c rule word operands) ≡ request_of_n_words 2 (ask_pair c word rule) operands
   pair_is rule word operands = of_two operands _ _ (λ a b.
       then_asks (signal_of_name c a) (read_signal c a) _ _ (signal_is c a)
       (λ j. then_asks (signal_of_name c b) (read_signal c b) _ _ (signal_is c b) (λ k. refl)))
 
   not_is : (word : List ℕ) (operands : List (List ℕ)) → told (not_command c word operands)
-      ≡ of_words 1 (λ a. read_signal c a ▷ λ k.
+      ≡ request_of_n_words 1 (λ a. read_signal c a ▷ λ k.
       Ok (step (steps.Edit (Derive (lent_bytes word) (Not k))))) operands
   not_is word operands = of_one operands _ _ (λ a.
       then_asks (signal_of_name c a) (read_signal c a) _ _ (signal_is c a) (λ k. refl))
 
   bit_is : (word : List ℕ) (operands : List (List ℕ)) → told (bit_command c word operands)
-      ≡ of_words 2 (λ a bit. read_signal c a ▷ λ j. read_number bit ▷ λ k.
+      ≡ request_of_n_words 2 (λ a bit. read_signal c a ▷ λ j. read_number bit ▷ λ k.
       Ok (step (steps.Edit (Derive (lent_bytes word) (BitOf j k))))) operands
   bit_is word operands = of_two operands _ _ (λ a bit.
       then_asks (signal_of_name c a) (read_signal c a) _ _ (signal_is c a)
@@ -282,14 +283,14 @@ module _ (c : Contents) (skipped : ℕ) where
 
   -- what a row of a table asks for, or the rows after it
   row_asks : (b : Bool) (r q : Result Command LineError) (words : List (List ℕ))
-      (asked : List (List ℕ) → Read Request) (others : Read (List (List ℕ) → Read Request)) →
+      (asked : List (List ℕ) → ReadResult Request) (others : ReadResult (List (List ℕ) → ReadResult Request)) →
       told r ≡ asked words → told q ≡ (others ▷ λ ask. ask words)
       → told (cond b r q) ≡ (cond b (Ok asked) others ▷ λ ask. ask words)
   row_asks true r q words asked others first second = first
   row_asks false r q words asked others first second = second
 
   rule_is : (word rule : List ℕ) (operands : List (List ℕ)) → told (rule_command c word rule operands)
-      ≡ (read_listed (codes "BadOption") (rule_rows c word) rule ▷ λ asked. asked operands)
+      ≡ (read_entry (codes "BadOption") (rule_rows c word) rule ▷ λ asked. asked operands)
   rule_is word rule operands =
       row_asks (bytes_eq rule (codes "not")) _ _ operands _ _ (not_is word operands)
       (row_asks (bytes_eq rule (codes "and")) _ _ operands _ _ (pair_is And word operands)
@@ -325,24 +326,24 @@ module _ (c : Contents) (skipped : ℕ) where
   keyword_text keywords.I2c = codes "i2c"
 
   -- what its row asks for
-  abbrev row_of : Keyword → List (List ℕ) → Read Request
+  abbrev row_of : Keyword → List (List ℕ) → ReadResult Request
   row_of keyword words =
-      read_listed (codes "UnknownCommand") (command_rows c skipped) (keyword_text keyword) ▷ λ ask. ask words
+      read_entry (codes "UnknownCommand") (command_rows c skipped) (keyword_text keyword) ▷ λ ask. ask words
 
-  of_name : (name : List ℕ) (f : ℕ → Result Command LineError) (g : ℕ → Read Request)
+  of_name : (name : List ℕ) (f : ℕ → Result Command LineError) (g : ℕ → ReadResult Request)
       → ((k : ℕ) → told (f k) ≡ g k) → told (signal_of_name c name >>= f) ≡ (read_signal c name ▷ g)
   of_name name f g same = then_asks (signal_of_name c name) (read_signal c name) f g (signal_is c name) same
 
-  of_number : (word : List ℕ) (f : ℕ → Result Command LineError) (g : ℕ → Read Request)
+  of_number : (word : List ℕ) (f : ℕ → Result Command LineError) (g : ℕ → ReadResult Request)
       → ((n : ℕ) → told (f n) ≡ g n) → told (number_of_word word >>= f) ≡ (read_number word ▷ g)
   of_number word f g same = then_asks (number_of_word word) (read_number word) f g (number_is word) same
 
-  of_line : (word : List ℕ) (f : Option ℕ → Result Command LineError) (g : Option ℕ → Read Request)
+  of_line : (word : List ℕ) (f : Option ℕ → Result Command LineError) (g : Option ℕ → ReadResult Request)
       → ((l : Option ℕ) → told (f l) ≡ g l) → told (signal_or_absent c word >>= f) ≡ (read_line c word ▷ g)
   of_line word f g same = then_asks (signal_or_absent c word) (read_line c word) f g (line_is c word) same
 
   -- these signals have one bit, and the other tests hold of none
-  abbrev unless_vector : List ℕ → Tests → Request → Read Request
+  abbrev unless_vector : List ℕ → Tests → Request → ReadResult Request
   unless_vector ks tests request = unless_refused (scalar_test c ks ∷ tests) request
 
   by_width : (one wide : Bool) (k : ℕ) (f : ℕ → Result Command LineError) (tests : Tests) (request : Request)
@@ -419,7 +420,7 @@ module _ (c : Contents) (skipped : ℕ) where
   -- ---- lines
 
   either_row : (b : Bool) (row : List ℕ × Keyword) (found : Option (List ℕ × Keyword))
-      (words : List (List ℕ)) (others : Read (List (List ℕ) → Read Request)) →
+      (words : List (List ℕ)) (others : ReadResult (List (List ℕ) → ReadResult Request)) →
       told (ok_or (option_map (λ (r : List ℕ × Keyword). r.1) found) line_errors.UnknownCommand
       >>= λ k. keyword_command c k words) ≡ (others ▷ λ ask. ask words) →
       told (ok_or (option_map (λ (r : List ℕ × Keyword). r.1) (cond b (Some row) found)) line_errors.UnknownCommand
@@ -430,11 +431,11 @@ module _ (c : Contents) (skipped : ℕ) where
   rows_are : (rows : List (List ℕ × Keyword)) (word : List ℕ) (words : List (List ℕ)) →
       told (ok_or (option_map (λ (r : List ℕ × Keyword). r.1) (find (λ r. bytes_eq word r.0) rows))
       line_errors.UnknownCommand >>= λ k. keyword_command c k words)
-      ≡ (read_listed (codes "UnknownCommand") (map (λ r. (r.0, row_of r.1)) rows) word ▷ λ ask. ask words)
+      ≡ (read_entry (codes "UnknownCommand") (map (λ r. (r.0, row_of r.1)) rows) word ▷ λ ask. ask words)
   rows_are [] word words = refl
   rows_are (row ∷ rows) word words =
       either_row (bytes_eq word row.0) row (find (λ r. bytes_eq word r.0) rows) words
-      (read_listed (codes "UnknownCommand") (map (λ r. (r.0, row_of r.1)) rows) word) (rows_are rows word words)
+      (read_entry (codes "UnknownCommand") (map (λ r. (r.0, row_of r.1)) rows) word) (rows_are rows word words)
 
   -- the table has the row of each keyword
   table_is : map (λ (r : List ℕ × Keyword). (r.0, row_of r.1)) keyword_words ≡ command_rows c skipped
@@ -442,21 +443,21 @@ module _ (c : Contents) (skipped : ℕ) where
 
   first_is : (first : List ℕ) (words : List (List ℕ)) →
       told (ok_or (keyword_in_tables first) line_errors.UnknownCommand >>= λ k. keyword_command c k words)
-      ≡ (read_listed (codes "UnknownCommand") (command_rows c skipped) first ▷ λ ask. ask words)
+      ≡ (read_entry (codes "UnknownCommand") (command_rows c skipped) first ▷ λ ask. ask words)
   first_is first words =
       ap (λ (k : Option Keyword). told (ok_or k line_errors.UnknownCommand >>= λ k. keyword_command c k words))
       (sym (keyword_is first))
       ∙ rows_are keyword_words first words
 
-  words_table : (words : List (List ℕ)) → told (words_command c words) ≡ asked_by_words c skipped words
+  words_table : (words : List (List ℕ)) → told (words_command c words) ≡ request_of_words c skipped words
   words_table [] = refl
   words_table (first ∷ words) = either_asks (is_comment first) _ _ _ _ refl (first_is first words)
       ∙ ap (λ (comment : Bool). cond comment (Ok (reply []))
-      (read_listed (codes "UnknownCommand") (command_rows c skipped) first ▷ λ ask. ask words)) (comment_is first)
+      (read_entry (codes "UnknownCommand") (command_rows c skipped) first ▷ λ ask. ask words)) (comment_is first)
 
 -- a line asks for what its parser reads
 pub asked_is : (c : Contents) (skipped : ℕ) (line : List ℕ)
-    → requested c skipped (command_of_line c line) ≡ asked_by_words c skipped (line_words line)
+    → requested c skipped (command_of_line c line) ≡ request_of_words c skipped (line_words line)
 unfolding command_of_line
 asked_is c skipped line =
     ap (requested c skipped) (words_are c (line_words line)) ∙ words_table c skipped (line_words line)

@@ -8,9 +8,9 @@ use Rattle.vcd_edit.specs.declared.edit.Edit.{Edit}
 use Rattle.vcd_text.specs.Words.{words_from}
 use Rattle.vcd_journal.specs.declared.step.Step.TheVariants as steps
 use Rattle.vcd_journal.specs.History.{History, first_history, replay}
-use Rattle.vcdedit.specs.LineReads.{Read, ◌▷◌}
+use Rattle.vcdedit.specs.LineReads.{ReadResult, ◌▷◌}
 use Rattle.vcdedit.specs.CommandTable.{Request, step, reply}
-use Rattle.vcdedit.specs.Run.{answer, history_after_asked, asked_by, line_answer, history_after_line, history_at}
+use Rattle.vcdedit.specs.Run.{answer, history_after_request, line_request, line_answer, history_after_line, history_at}
 use Rattle.vcdedit.specs.Run.{capture_at, IsStepAt}
 
 -- the edits in force after all undone ones are made again
@@ -53,10 +53,10 @@ module _ (c : Contents) (skipped depth : ℕ) (lines : List (List ℕ)) where
   abbrev AllMade : (count : ℕ) → History → Type 0
   AllMade count h = AreMade count (restored h.edits h.undone)
 
-  made_by_asked : (count : ℕ) (asked : Read Request) →
-      asked_by c skipped (at_line count) (get_or lines count []) ≡ asked →
+  made_by_asked : (count : ℕ) (asked : ReadResult Request) →
+      line_request c skipped (at_line count) (get_or lines count []) ≡ asked →
       is_err (line_answer c skipped (at_line count) (get_or lines count [])) ≡ false → AllMade count (at_line count)
-      → AllMade (suc count) (history_after_asked (at_line count) asked)
+      → AllMade (suc count) (history_after_request (at_line count) asked)
   unfolding AreMade restored
   made_by_asked count (Err refusal) is accepted made = made_later count _ made
   made_by_asked count (Ok (reply said)) is accepted made = made_later count _ made
@@ -75,7 +75,7 @@ module _ (c : Contents) (skipped depth : ℕ) (lines : List (List ℕ)) where
   made_by_line : (count : ℕ) (refused : Bool) →
       is_err (line_answer c skipped (at_line count) (get_or lines count [])) ≡ refused → AllMade count (at_line count)
       → AllMade (suc count) (cond refused (at_line count)
-      (history_after_asked (at_line count) (asked_by c skipped (at_line count) (get_or lines count []))))
+      (history_after_request (at_line count) (line_request c skipped (at_line count) (get_or lines count []))))
   made_by_line count true is made = made_later count _ made
   made_by_line count false is made = made_by_asked count _ refl is made
 
@@ -100,7 +100,7 @@ module _ (c : Contents) (skipped depth : ℕ) (lines : List (List ℕ)) where
       let one_more : j + 1 ≡ suc j = omega arith in
       ap at_line one_more ∙ history_next j
       ∙ ap (λ (is_refused : Bool). cond is_refused h
-      (history_after_asked h (asked_by c skipped h (get_or lines j [])))) refused
+      (history_after_request h (line_request c skipped h (get_or lines j [])))) refused
 
   all_made : (count : ℕ) → AllMade count (at_line count)
   unfolding AreMade restored
@@ -140,12 +140,12 @@ module _ (c : Contents) (skipped depth : ℕ) (lines : List (List ℕ)) where
       let line = get_or lines j [] in
       let h = at_line j in
       let accepted : is_err (answer (replay c h.edits) h (step steps.Undo)) ≡ false =
-      sym (ap (λ (asked : Read Request). is_err (asked ▷ answer (replay c h.edits) h)) undo.0) ∙ undo.1 in
+      sym (ap (λ (asked : ReadResult Request). is_err (asked ▷ answer (replay c h.edits) h)) undo.0) ∙ undo.1 in
       let held : 1 ≤ length h.edits = omega (arith, undo_held (replay c h.edits) h accepted, few j) in
       let found = undone_edit j h.edits refl held (made_in_force j h.edits h.undone (all_made j)) in
       let one_more : j + 1 ≡ suc j = omega arith in
-      let next : at_line (j + 1) ≡ history_after_asked h (Ok (step steps.Undo)) =
+      let next : at_line (j + 1) ≡ history_after_request h (Ok (step steps.Undo)) =
       ap at_line one_more ∙ history_next j
-      ∙ ap (λ (refused : Bool). cond refused h (history_after_asked h (asked_by c skipped h line))) undo.1
-      ∙ ap (history_after_asked h) undo.0 in
+      ∙ ap (λ (refused : Bool). cond refused h (history_after_request h (line_request c skipped h line))) undo.1
+      ∙ ap (history_after_request h) undo.0 in
       (found.0, found.1, found.2, found.3, found.4, ap (λ (n : History). replay c n.edits) next ∙ found.5)

@@ -9,11 +9,11 @@ abbrev pub IsScalarAt : Contents → ℕ → Type 0
 IsScalarAt c k = (k < length c.signals) × ((signal_at c k).width ≡ 1)
 
 -- the signals of a command exist, and those that it decodes have one bit
-abbrev pub HasItsSignals : Contents → Command → Type 0
-HasItsSignals c (commands.Value k tick) = k < length c.signals
-HasItsSignals c (commands.Changes k) = k < length c.signals
-HasItsSignals c (commands.Uart k setup) = IsScalarAt c k
-HasItsSignals c (commands.Spi clk mosi miso cs setup) = IsScalarAt c clk × IfSome mosi (IsScalarAt c)
+abbrev pub HasCommandSignals : Contents → Command → Type 0
+HasCommandSignals c (commands.Value k tick) = k < length c.signals
+HasCommandSignals c (commands.Changes k) = k < length c.signals
+HasCommandSignals c (commands.Uart k setup) = IsScalarAt c k
+HasCommandSignals c (commands.Spi clk mosi miso cs setup) = IsScalarAt c clk × IfSome mosi (IsScalarAt c)
     × IfSome miso (IsScalarAt c) × IfSome cs (IsScalarAt c)
-HasItsSignals c (commands.I2c scl sda) = IsScalarAt c scl × IsScalarAt c sda
-HasItsSignals c command = Unit {0}
+HasCommandSignals c (commands.I2c scl sda) = IsScalarAt c scl × IsScalarAt c sda
+HasCommandSignals c command = Unit {0}

@@ -16,7 +16,7 @@ use Rattle.vcd_journal.specs.declared.step.Step.TheVariants as steps
 use Rattle.vcdedit.specs.Queries.{listing, change_line}
 use Rattle.vcdedit.specs.DecoderReply.{uart_lines, spi_lines, i2c_lines}
 use Rattle.vcdedit.specs.Lent.{lent_bytes}
-use Rattle.vcdedit.specs.LineReads.{Read, ◌▷◌, read_listed, read_signal, read_number, read_distance, read_value}
+use Rattle.vcdedit.specs.LineReads.{ReadResult, ◌▷◌, read_entry, read_signal, read_number, read_distance, read_value}
 use Rattle.vcdedit.specs.LineReads.{read_ratio, read_parity, read_order, read_line, scalar_test, uart_tests}
 use Rattle.vcdedit.specs.LineReads.{spi_tests}
 
@@ -26,34 +26,34 @@ pub data Request : Type 0 where
   reply : List (List ℕ) → Request
 
 -- a function of n words, which says what they ask for
-abbrev pub OfWords : ℕ → Type 0
-OfWords zero = Read Request
-OfWords (suc n) = List ℕ → OfWords n
+abbrev pub WordFunction : ℕ → Type 0
+WordFunction zero = ReadResult Request
+WordFunction (suc n) = List ℕ → WordFunction n
 
 -- the request of these words, refused unless they are n
-abbrev pub of_words : (n : ℕ) → OfWords n → List (List ℕ) → Read Request
-of_words zero asked [] = asked
-of_words (suc n) asked (word ∷ words) = of_words n (asked word) words
-of_words n asked words = Err (codes "WrongCount")
+abbrev pub request_of_n_words : (n : ℕ) → WordFunction n → List (List ℕ) → ReadResult Request
+request_of_n_words zero asked [] = asked
+request_of_n_words (suc n) asked (word ∷ words) = request_of_n_words n (asked word) words
+request_of_n_words n asked words = Err (codes "WrongCount")
 
 -- a keyword, with what the words after it ask for
-abbrev pub Row : Type 0
-Row = List ℕ × (List (List ℕ) → Read Request)
+abbrev pub KeywordRow : Type 0
+KeywordRow = List ℕ × (List (List ℕ) → ReadResult Request)
 
 -- a keyword that needs so many words after it
-abbrev pub row : List ℕ → (n : ℕ) → OfWords n → Row
-row keyword n asked = (keyword, of_words n asked)
+abbrev pub row : List ℕ → (n : ℕ) → WordFunction n → KeywordRow
+row keyword n asked = (keyword, request_of_n_words n asked)
 
 -- an edit
-abbrev pub ask_edit : Edit → Read Request
+abbrev pub ask_edit : Edit → ReadResult Request
 ask_edit e = Ok (step (steps.Edit e))
 
 -- a signal with this name, derived by a rule of two signals
-abbrev pub ask_pair : Contents → List ℕ → (ℕ → ℕ → Rule) → OfWords 2
+abbrev pub ask_pair : Contents → List ℕ → (ℕ → ℕ → Rule) → WordFunction 2
 ask_pair c word rule a b = read_signal c a ▷ λ j. read_signal c b ▷ λ k. ask_edit (Derive (lent_bytes word) (rule j k))
 
 -- the rules by which a signal with this name is derived
-abbrev pub rule_rows : Contents → List ℕ → List Row
+abbrev pub rule_rows : Contents → List ℕ → List KeywordRow
 rule_rows c word =
     row (codes "not") 1 (λ a. read_signal c a ▷ λ k. ask_edit (Derive (lent_bytes word) (Not k)))
     ∷ row (codes "and") 2 (ask_pair c word And) ∷ row (codes "or") 2 (ask_pair c word Or)
@@ -61,12 +61,12 @@ rule_rows c word =
     read_signal c a ▷ λ j. read_number bit ▷ λ k. ask_edit (Derive (lent_bytes word) (BitOf j k))) ∷ []
 
 -- the words after `derive`: the name, the rule, and its operands
-abbrev pub ask_derive : Contents → List (List ℕ) → Read Request
-ask_derive c (word ∷ rule ∷ operands) = read_listed (codes "BadOption") (rule_rows c word) rule ▷ λ ask. ask operands
+abbrev pub ask_derive : Contents → List (List ℕ) → ReadResult Request
+ask_derive c (word ∷ rule ∷ operands) = read_entry (codes "BadOption") (rule_rows c word) rule ▷ λ ask. ask operands
 ask_derive c words = Err (codes "WrongCount")
 
 -- all commands; the first refusal counts, in the order in which their words are read here
-abbrev pub command_rows : Contents → (skipped : ℕ) → List Row
+abbrev pub command_rows : Contents → (skipped : ℕ) → List KeywordRow
 command_rows c skipped =
     row (codes "rename") 2 (λ name word. read_signal c name ▷ λ k. ask_edit (Rename k (lent_bytes word)))
     ∷ row (codes "remove") 1 (λ name. read_signal c name ▷ λ k. ask_edit (Remove k))
@@ -96,7 +96,7 @@ command_rows c skipped =
 
 -- what the words of a line ask for on a capture, or the name of the refusal; `skipped`: the variables that were left
 -- out
-abbrev pub asked_by_words : Contents → (skipped : ℕ) → List (List ℕ) → Read Request
-asked_by_words c skipped [] = Ok (reply [])
-asked_by_words c skipped (first ∷ words) = if bytes_eq (take 1 first) (codes "#") then Ok (reply [])
-    else (read_listed (codes "UnknownCommand") (command_rows c skipped) first ▷ λ asked. asked words)
+abbrev pub request_of_words : Contents → (skipped : ℕ) → List (List ℕ) → ReadResult Request
+request_of_words c skipped [] = Ok (reply [])
+request_of_words c skipped (first ∷ words) = if bytes_eq (take 1 first) (codes "#") then Ok (reply [])
+    else (read_entry (codes "UnknownCommand") (command_rows c skipped) first ▷ λ asked. asked words)

@@ -17,7 +17,7 @@ use Rattle.vcdedit.specs.MachineReplies.{LineReply, ok_reply, step_reply}
 use Rattle.vcdedit.specs.Run.{RunOutcome, IsRun}
 use Rattle.vcdedit.specs.RunMachines.{IsRunOfReplays, machine_after_line, machine_after_lines, no_edits}
 use Rattle.vcdedit.specs.RunMachines.{edits_after_lines, is_refused_on}
-use Rattle.vcdedit.specs.RunOutcomes.{RunWrites}
+use Rattle.vcdedit.specs.RunOutcomes.{IsMachineRun}
 
 -- ---- replies
 
@@ -40,28 +40,28 @@ RunIsReplay = (c : Contents) (depth : ℕ) (lines : List (List ℕ))
     (machine_after_lines (first_machine c depth) lines)
 
 -- whatever a machine makes a run write is what a run writes
-abbrev pub EveryRunIs : Type 0
-EveryRunIs = (file script : List ℕ) (depth : ℕ) (written : RunOutcome)
-    → RunWrites file script depth written → IsRun file script depth written
+abbrev pub MachineRunIsRun : Type 0
+MachineRunIsRun = (file script : List ℕ) (depth : ℕ) (written : RunOutcome)
+    → IsMachineRun file script depth written → IsRun file script depth written
 
 -- and what a run writes is of replays
-abbrev pub RunsAreOfReplays : Type 0
-RunsAreOfReplays = (file script : List ℕ) (depth : ℕ) (written : RunOutcome)
+abbrev pub RunIsOfReplays : Type 0
+RunIsOfReplays = (file script : List ℕ) (depth : ℕ) (written : RunOutcome)
     → IsRun file script depth written → IsRunOfReplays file script depth written
 
 -- whatever a run writes is of replays
-abbrev pub EveryRunIsOfReplays : Type 0
-EveryRunIsOfReplays = (file script : List ℕ) (depth : ℕ) (written : RunOutcome)
-    → RunWrites file script depth written → IsRunOfReplays file script depth written
+abbrev pub MachineRunIsOfReplays : Type 0
+MachineRunIsOfReplays = (file script : List ℕ) (depth : ℕ) (written : RunOutcome)
+    → IsMachineRun file script depth written → IsRunOfReplays file script depth written
 
 -- whatever is of replays is what the run writes
-abbrev pub ReplaysAreOfRun : Type 0
-ReplaysAreOfRun = (file script : List ℕ) (depth : ℕ) (written : RunOutcome)
-    → IsRunOfReplays file script depth written → RunWrites file script depth written
+abbrev pub ReplaysAreMachineRun : Type 0
+ReplaysAreMachineRun = (file script : List ℕ) (depth : ℕ) (written : RunOutcome)
+    → IsRunOfReplays file script depth written → IsMachineRun file script depth written
 
 -- a capture file and a script determine what a run writes
-abbrev pub EveryRunWritesOneThing : Type 0
-EveryRunWritesOneThing = (file script : List ℕ) (depth : ℕ) (written other : RunOutcome)
+abbrev pub RunIsUnique : Type 0
+RunIsUnique = (file script : List ℕ) (depth : ℕ) (written other : RunOutcome)
     → IsRunOfReplays file script depth written → IsRunOfReplays file script depth other → written ≡ other
 
 -- ---- lines

@@ -1,7 +1,7 @@
 -- The definitions of vcdedit, from a line of a script to a whole run and its report.
 pub mod LineErrorNames
 pub mod Lent
-pub mod Addressless
+pub mod WithoutAddress
 pub mod ScriptWords
 pub mod LineWords
 pub mod DecoderWords

@@ -35,25 +35,25 @@ ending_of (Ok summary) = Done summary
 ending_of (Err e) = Failed e
 
 -- why a run does not begin: an input can't be opened, or there is no memory for the buffer of the replies
-abbrev pub IsNotBegun : RunError → Type 0
-IsNotBegun e = (e ≡ run_errors.Capture (record { line = 1; fault = faults.ReadFault }))
+abbrev pub IsFaultBeforeRun : RunError → Type 0
+IsFaultBeforeRun e = (e ≡ run_errors.Capture (record { line = 1; fault = faults.ReadFault }))
     ⊎ (e ≡ run_errors.ScriptReadFault)
     ⊎ (e ≡ run_errors.NoMemory 0)
 
--- the outcome is that of a run on these readers; it writes the output if there is a path
-abbrev pub IsRunOn : {P : Type 0} → (path : Option P) → Result Summary RunError → (depth : ℕ)
+-- the outcome is that of a run on these sources; it writes the output if there is a path
+abbrev pub IsOutcomeOn : {P : Type 0} → (path : Option P) → Result Summary RunError → (depth : ℕ)
     → (capture script : DeviceEnd) → Type 0
-IsRunOn path outcome depth capture script = (replies : DeviceEnd) × (output : Option DeviceEnd)
+IsOutcomeOn path outcome depth capture script = (replies : DeviceEnd) × (output : Option DeviceEnd)
     × (is_some output ≡ is_some path) × RunEnds depth capture script replies output outcome
 
 -- the outcome is that of a run with these options, or the run does not begin
-abbrev pub IsOutcome : AskedOptions → Result Summary RunError → Type 0
-IsOutcome options outcome = ((e : RunError) × IsNotBegun e × (outcome ≡ Err e))
-    ⊎ ((capture : DeviceEnd) × (script : DeviceEnd) × IsRunOn options.output outcome options.depth capture script)
+abbrev pub IsOutcomeOfOptions : AskedOptions → Result Summary RunError → Type 0
+IsOutcomeOfOptions options outcome = ((e : RunError) × IsFaultBeforeRun e × (outcome ≡ Err e))
+    ⊎ ((capture : DeviceEnd) × (script : DeviceEnd) × IsOutcomeOn options.output outcome options.depth capture script)
 
 -- the ending is that of accepted words
 abbrev pub IsEndingOf : (words : List (List ℕ)) → Ending → Type 0
-IsEndingOf words ending = (outcome : Result Summary RunError) × IsOutcome (asked_options words) outcome
+IsEndingOf words ending = (outcome : Result Summary RunError) × IsOutcomeOfOptions (asked_options words) outcome
     × (ending ≡ ending_of outcome)
 
 -- the run was completed

@@ -21,7 +21,7 @@ run_error_name (run_errors.Write e) = write_error_name e
 abbrev pub done_status : ℕ → ℕ
 done_status refused = if refused == 0 then 0 else 1
 
--- the exit status for a fault of the capture: 3 for its text, 4 for its reader, 5 if memory ran out
+-- the exit status for a fault of the capture: 3 for its text, 4 for its source, 5 if memory ran out
 abbrev pub capture_status : Fault → ℕ
 capture_status faults.ReadFault = 4
 capture_status faults.NoMemory = 5

@@ -14,8 +14,8 @@ use Rattle.vcd_journal.specs.declared.step.Step.{Step}
 use Rattle.vcd_journal.specs.declared.step.Step.TheVariants as steps
 use Rattle.vcd_journal.specs.History.{History, first_history, history_after, replay, step_tests}
 use Rattle.vcdedit.specs.Script.{script_lines}
-use Rattle.vcdedit.specs.LineReads.{Read, ◌▷◌}
-use Rattle.vcdedit.specs.CommandTable.{Request, step, reply, asked_by_words}
+use Rattle.vcdedit.specs.LineReads.{ReadResult, ◌▷◌}
+use Rattle.vcdedit.specs.CommandTable.{Request, step, reply, request_of_words}
 use Rattle.vcdedit.specs.Reply.{reply_text}
 
 -- what a whole run writes: a reply to each line, and the output; and how many lines it refuses
@@ -25,28 +25,28 @@ pub record RunOutcome : Type 0 where
   pub refused : ℕ
 
 -- the answer to a request, where the capture has this history: the lines of the reply, or the name of the refusal
-abbrev pub answer : Contents → History → Request → Read (List (List ℕ))
+abbrev pub answer : Contents → History → Request → ReadResult (List (List ℕ))
 answer c h (step s) = unless_refused (step_tests c h s) (codes "ok" ∷ [])
 answer c h (reply lines) = Ok lines
 
 -- the history after a request that is not refused: steps alone change it
-abbrev pub history_after_asked : History → Read Request → History
-history_after_asked h (Ok (step s)) = history_after h s
-history_after_asked h asked = h
+abbrev pub history_after_request : History → ReadResult Request → History
+history_after_request h (Ok (step s)) = history_after h s
+history_after_request h asked = h
 
 -- lines on a capture, so many variables of whose file were skipped
 module _ (c : Contents) (skipped : ℕ) where
   -- what a line asks for on the replay of the edits in force
-  abbrev pub asked_by : History → List ℕ → Read Request
-  asked_by h line = asked_by_words (replay c h.edits) skipped (word_texts (words_of line))
+  abbrev pub line_request : History → List ℕ → ReadResult Request
+  line_request h line = request_of_words (replay c h.edits) skipped (word_texts (words_of line))
 
   -- the answer to it there: the reply's lines, or the word with which its words or its step are refused
-  abbrev pub line_answer : History → List ℕ → Read (List (List ℕ))
-  line_answer h line = asked_by h line ▷ answer (replay c h.edits) h
+  abbrev pub line_answer : History → List ℕ → ReadResult (List (List ℕ))
+  line_answer h line = line_request h line ▷ answer (replay c h.edits) h
 
   -- the history after a line: a refused one changes nothing
   abbrev pub history_after_line : History → List ℕ → History
-  history_after_line h line = if is_err (line_answer h line) then h else history_after_asked h (asked_by h line)
+  history_after_line h line = if is_err (line_answer h line) then h else history_after_request h (line_request h line)
 
 -- the same lines, with a history of at most `depth`
 module _ (c : Contents) (skipped depth : ℕ) (lines : List (List ℕ)) where
@@ -59,12 +59,12 @@ module _ (c : Contents) (skipped depth : ℕ) (lines : List (List ℕ)) where
   capture_at count = replay c (history_at count).edits
 
   -- what is said to each, on the capture after the lines before it
-  abbrev pub answers : List (Read (List (List ℕ)))
+  abbrev pub answers : List (ReadResult (List (List ℕ)))
   answers = map (λ p. line_answer c skipped (history_at p.0) p.1) (enumerate_from 0 lines)
 
   -- line `at`, counted from 0, asks for this step and is not refused
   abbrev pub IsStepAt : (at : ℕ) → Step → Type 0
-  IsStepAt at s = let line = get_or lines at [] in (asked_by c skipped (history_at at) line ≡ Ok (step s))
+  IsStepAt at s = let line = get_or lines at [] in (line_request c skipped (history_at at) line ≡ Ok (step s))
       × (is_err (line_answer c skipped (history_at at) line) ≡ false)
 
   -- what is written where these lines are run

@@ -1,4 +1,4 @@
--- How a run ends: for each ending, the state of its writers and readers. The rules are the project's own.
+-- How a run ends: for each ending, the state of its sources and writers. The rules are the project's own.
 use Rattle.std.proofs.Common.{inl, inr}
 use Rattle.std.specs.Prelude.{◌≡◌, ◌<◌, ◌≤◌, ◌⊎◌, ℕ, zero, suc, Bool, true, false, List, length, take, Option, Some}
 use Rattle.std.specs.Prelude.{None, Result, Ok, Err, IfSome, IsSomeAnd}
@@ -18,9 +18,9 @@ use Rattle.vcdedit.specs.declared.running.run_error.RunError.TheVariants.{NoMemo
 use Rattle.vcdedit.specs.declared.running.run_error.Summary.{Summary}
 use Rattle.vcdedit.specs.Run.{RunOutcome, IsRun}
 
--- ---- readers and writers
+-- ---- sources and writers
 
--- a device: the bytes to come from a reader, or taken by a writer, if shown, before and after; whether it failed
+-- a device: the bytes to come from a source, or taken by a writer, if shown, before and after; whether it failed
 pub record DeviceEnd : Type 0 where
   pub before : Option (List ℕ)
   pub after : Option (List ℕ)
@@ -30,7 +30,7 @@ pub record DeviceEnd : Type 0 where
 abbrev pub IsUntouched : DeviceEnd → Type 0
 IsUntouched d = (d.after ≡ d.before) × (d.has_failed ≡ false)
 
--- a reader did not fail: it was read to its end, and had at most so many bytes
+-- a source did not fail: it was read to its end, and had at most so many bytes
 abbrev pub IsRead : (limit : ℕ) → DeviceEnd → Type 0
 IsRead limit r = (r.has_failed ≡ false) × IsAtEnd r.after × IfSome r.before (λ bytes. length bytes ≤ limit)
 
@@ -61,9 +61,9 @@ module _ {D : Type 0} (shown : D → Option (List ℕ)) (has_failed : D → Bool
 
 -- ---- runs
 
--- a run of this depth, and the ends of its two readers
+-- a run of this depth, and the ends of its two sources
 module _ (depth : ℕ) (capture script : DeviceEnd) where
-  -- if the readers show their bytes: holds of what the run of the script on the capture file writes
+  -- if the sources show their bytes: holds of what the run of the script on the capture file writes
   abbrev pub OfRun : (RunOutcome → Type 0) → Type 0
   OfRun said = IfSome capture.before (λ file. IfSome script.before (λ lines.
       (written : RunOutcome) × IsRun file lines depth written × said written))
@@ -80,13 +80,13 @@ module _ (depth : ℕ) (capture script : DeviceEnd) where
     RunEnds (Ok summary) = IsAccepted capture × IsRead SCRIPT_LIMIT script × (replies.has_failed ≡ false)
         × IfSome output (λ out. out.has_failed ≡ false) × OfRun (λ written. HasText replies (concat written.replies)
         × IfSome output (λ out. HasText out written.output) × (summary.refused ≡ written.refused))
-    -- the capture is refused for a fault, its length, its reader or memory: the script is unread
+    -- the capture is refused for a fault, its length, its source or memory: the script is unread
     RunEnds (Err (Capture e)) = IfSome capture.before (λ file. IsRefusal file capture.has_failed capture.after e)
         × (e.fault ≡ faults.ReadFault → capture.has_failed ≡ true) × IsUntouched script × IsUnwritten
     -- the script is above its limit
     RunEnds (Err ScriptTooLarge) = IsAccepted capture × IfSome script.before (λ bytes. SCRIPT_LIMIT < length bytes)
         × IsUnwritten
-    -- the reader of the script failed
+    -- the source of the script failed
     RunEnds (Err ScriptReadFault) = IsAccepted capture × (script.has_failed ≡ true) × IsUnwritten
     -- memory ran out before the first line
     RunEnds (Err (NoMemory zero)) = IsAccepted capture × IsUnwritten

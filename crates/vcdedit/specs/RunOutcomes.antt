@@ -23,7 +23,7 @@ run_outcome c skipped script depth = record {
 }
 
 -- the capture file is accepted, and the run of the script on its meaning writes this
-pub record RunWrites (file script : List ℕ) (depth : ℕ) (written : RunOutcome) : Type 0 where
+pub record IsMachineRun (file script : List ℕ) (depth : ℕ) (written : RunOutcome) : Type 0 where
   pub contents : Contents
   pub skipped : ℕ
   pub means : FileMeans file contents skipped

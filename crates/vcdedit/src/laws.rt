@@ -1,15 +1,15 @@
 //! Laws about the definitions: each function has an empty body, and its contract is the law.
 
-ghost use Rattle.vcdedit.specs.Laws.{EveryRunIs, EveryRunIsOfReplays, EveryRunWritesOneThing, ReplaysAreOfRun, RunsAreOfReplays, RefusedLineChangesNothing, ReplyIsAnswer, RunIsReplay, UndoGivesBack, UndoInRunGivesBack, UndoTakesBackTheLast};
+ghost use Rattle.vcdedit.specs.Laws.{MachineRunIsRun, MachineRunIsOfReplays, RunIsUnique, ReplaysAreMachineRun, RunIsOfReplays, RefusedLineChangesNothing, ReplyIsAnswer, RunIsReplay, UndoGivesBack, UndoInRunGivesBack, UndoTakesBackTheLast};
 
 /// A run writes what replaying the edits in force gives, line by line, and nothing else. So a file and a script
 /// determine what a run writes.
 pub fn run_is_of_replays()
-    ensures run { EveryRunIs }
-    ensures of_machine { RunsAreOfReplays }
-    ensures replays { EveryRunIsOfReplays }
-    ensures of_run { ReplaysAreOfRun }
-    ensures one_thing { EveryRunWritesOneThing }
+    ensures run { MachineRunIsRun }
+    ensures of_machine { RunIsOfReplays }
+    ensures replays { MachineRunIsOfReplays }
+    ensures of_run { ReplaysAreMachineRun }
+    ensures one_thing { RunIsUnique }
 {}
 
 /// After any lines of a script the capture is what the edits in force make of the first capture. An undo gives the

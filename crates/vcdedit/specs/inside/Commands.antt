@@ -3,7 +3,7 @@ use Rattle.std.specs.Prelude.{◌≡◌, ℕ, List, Result, Ok, Err}
 use Rattle.vcd_edit.specs.declared.edit.Rule.{Rule}
 use Rattle.vcdedit.specs.declared.script.command.Command.{Command}
 use Rattle.vcdedit.specs.declared.script.line_error.LineError.{LineError}
-use Rattle.vcdedit.specs.Addressless.{command_without_address}
+use Rattle.vcdedit.specs.WithoutAddress.{command_without_address}
 use Rattle.vcdedit.specs.inside.ParsedCommands.{derive_by}
 
 -- the result is the expected command or fault

@@ -2,7 +2,7 @@
 
 ghost use Rattle.std.specs.Prelude.{◌≡◌, false, Err, IfOk, OnErr};
 ghost use Rattle.vcd_journal.specs.StepErrorNames.{step_error_name};
-ghost use Rattle.vcdedit.specs.CommandSignals.{HasItsSignals};
+ghost use Rattle.vcdedit.specs.CommandSignals.{HasCommandSignals};
 ghost use Rattle.vcdedit.specs.inside.Answering.{AnswersStep, AnswersCommand, AnswersLine, is_no_memory as no_memory_test};
 ghost use Rattle.vcdedit.specs.inside.Replies.{IsReplyTo};
 
@@ -45,7 +45,7 @@ fn answer_command(
     number: u64,
     command: &Command,
 ) -> MemoryResult<Reply>
-    requires signals { HasItsSignals session.old.now command.now }
+    requires signals { HasCommandSignals session.old.now command.now }
     ensures answers { IfOk result (λ reply.
         AnswersCommand skipped number command.now session.old session.new reply) }
     ensures unchanged { OnErr result (session.new ≡ session.old) }

@@ -101,15 +101,15 @@ fn append_full_name(text: &mut Vec<u8>, signal: &Signal) -> MemoryResult<()>
 {
     let scopes = signal.scopes.as_slice();
     for scope in scopes {
-        append_joined(text, scope.words.as_slice())?;
+        append_words(text, scope.words.as_slice())?;
         text.push(b'.')?;
     }
-    append_joined(text, signal.words.as_slice())?;
+    append_words(text, signal.words.as_slice())?;
     Ok(())
 }
 
 /// Appends words without a separator.
-fn append_joined(text: &mut Vec<u8>, words: &[Word]) -> MemoryResult<()>
+fn append_words(text: &mut Vec<u8>, words: &[Word]) -> MemoryResult<()>
     ensures { OnOk result (text.new.items ≡ text.old.items ++ concat words.now) }
 {
     for word in words {

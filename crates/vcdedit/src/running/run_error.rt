@@ -25,7 +25,7 @@ pub enum RunError {
     /// The script has more than `SCRIPT_LIMIT` bytes.
     #[error("ScriptTooLarge")]
     ScriptTooLarge,
-    /// The script's reader failed.
+    /// The script's source failed.
     #[error("ScriptReadFault")]
     ScriptReadFault,
     /// Memory ran out at this line of the script, counted from 1, or at 0 before the first. Exactly the replies to the

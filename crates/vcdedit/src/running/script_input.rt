@@ -13,18 +13,18 @@ pub const SCRIPT_LIMIT: usize = 1_048_576;
 
 /// Reads the whole script.
 #[tactic(auto, unfolding(crate::specs::RunEnds::RunEnds))]
-pub fn read_script<S: Source>(alloc: Global, reader: &mut S) -> Result<Vec<u8>, RunError>
-    requires { S.has_failed reader.old ≡ false }
-    ensures all { IfOk result (λ script. IfSome (S.coming reader.old)
+pub fn read_script<S: Source>(alloc: Global, source: &mut S) -> Result<Vec<u8>, RunError>
+    requires { S.has_failed source.old ≡ false }
+    ensures all { IfOk result (λ script. IfSome (S.coming source.old)
         (λ bytes. script.items ≡ bytes)) }
     ensures short { IfOk result (λ script. length script.items ≤ SCRIPT_LIMIT) }
     ensures whole { OnOk result (IsRead SCRIPT_LIMIT
-        (device_end S.coming S.has_failed reader.old reader.new)) }
+        (device_end S.coming S.has_failed source.old source.new)) }
     ensures ended { IfErr result (EndsAfterCapture
-        (device_end S.coming S.has_failed reader.old reader.new)) }
+        (device_end S.coming S.has_failed source.old source.new)) }
 {
     let mut bytes = Vec::new(alloc);
-    match read_whole(reader, SCRIPT_LIMIT, &mut bytes) {
+    match read_whole(source, SCRIPT_LIMIT, &mut bytes) {
         Ok(()) => Ok(bytes),
         Err(Incomplete::TooLarge) => Err(RunError::ScriptTooLarge),
         Err(Incomplete::ReadFault) => Err(RunError::ScriptReadFault),

@@ -78,7 +78,7 @@ pub fn order_of_word(word: &[u8]) -> Result<BitOrder, LineError>
 }
 
 /// The position of the signal that a word names, or none if the word is `-`: the line is absent.
-pub fn find_or_absent(capture: &Capture, word: &[u8]) -> Result<Option<usize>, LineError>
+pub fn signal_or_absent(capture: &Capture, word: &[u8]) -> Result<Option<usize>, LineError>
     ensures named { result ≡ spec.signal_or_absent (contents capture.now) word.now }
     ensures within { IfOk result (λ line.
         IfSome line (λ k. k < length capture.now.signals)) }
@@ -111,13 +111,13 @@ pub fn one_bit_signal_or_absent(
     ensures { result ≡ spec.one_bit_signal_or_absent (contents capture.now) line }
 {
     match line {
-        Some(signal) => some_scalar(capture, signal),
+        Some(signal) => present_one_bit_signal(capture, signal),
         None => Ok(None),
     }
 }
 
 /// Checks that a line that is there has one bit.
-fn some_scalar(capture: &Capture, signal: usize) -> Result<Option<usize>, LineError>
+fn present_one_bit_signal(capture: &Capture, signal: usize) -> Result<Option<usize>, LineError>
     requires { signal < length capture.now.signals }
     ensures { result ≡ spec.one_bit_signal_or_absent (contents capture.now) (Some signal) }
 {

@@ -6,8 +6,8 @@ ghost use Rattle.vcdedit.specs.inside.ParsedDecoders.{uart_command, spi_command,
 ghost use Rattle.vcdedit.specs.inside.Commands.{ReadsAs};
 
 use crate::script::decoder_words::{
-    find_or_absent, one_bit_signal, one_bit_signal_or_absent, order_of_word, parity_of_word,
-    ratio_of_word, spi_of, uart_of,
+    one_bit_signal, one_bit_signal_or_absent, order_of_word, parity_of_word, ratio_of_word,
+    signal_or_absent, spi_of, uart_of,
 };
 use crate::script::edits::signal_of_name;
 use crate::script::line_words::{take_five, take_seven, take_two};
@@ -37,9 +37,9 @@ pub fn parse_spi<'a>(words: &mut Words<'a>, capture: &Capture) -> Parsed<'a>
 {
     let (clk, mosi, miso, cs, mode, bits, order) = take_seven(words)?;
     let clk = signal_of_name(capture, clk)?;
-    let mosi = find_or_absent(capture, mosi)?;
-    let miso = find_or_absent(capture, miso)?;
-    let cs = find_or_absent(capture, cs)?;
+    let mosi = signal_or_absent(capture, mosi)?;
+    let miso = signal_or_absent(capture, miso)?;
+    let cs = signal_or_absent(capture, cs)?;
     let mode = number_of_word(mode)?;
     let bits = number_of_word(bits)?;
     let order = order_of_word(order)?;

@@ -3,8 +3,8 @@
 ghost use Rattle.std.specs.Prelude.{◌≡◌, ◌∷◌, Ok, Err, IfOk, IfErr};
 ghost use Rattle.vcd_core.specs.Contents.{contents};
 ghost use Rattle.vcd_text.specs.Grammar.{word_texts};
-ghost use Rattle.vcdedit.specs.CommandSignals.{HasItsSignals};
-ghost use Rattle.vcdedit.specs.Addressless.{command_without_address};
+ghost use Rattle.vcdedit.specs.CommandSignals.{HasCommandSignals};
+ghost use Rattle.vcdedit.specs.WithoutAddress.{command_without_address};
 ghost use Rattle.vcdedit.specs.ParsedLines.{command_of_line};
 ghost use Rattle.vcdedit.specs.ScriptCommands.{is_comment as comment_test};
 ghost use Rattle.vcdedit.specs.inside.ParsedCommands.{words_command, keyword_command, depth_command};
@@ -38,7 +38,7 @@ pub fn parse_line<'a>(line: &'a [u8], capture: &Capture) -> Result<Command<'a>, 
         command_of_line (contents capture.now) line.now ≡ Ok (command_without_address command)) }
     ensures fault { IfErr result (λ fault.
         command_of_line (contents capture.now) line.now ≡ Err fault) }
-    ensures signals { IfOk result (HasItsSignals (contents capture.now)) }
+    ensures signals { IfOk result (HasCommandSignals (contents capture.now)) }
 {
     let mut words = Words::new(line);
     match next_text(&mut words) {

@@ -10,7 +10,7 @@ use crate::script::LineError;
 use vcd_core::number_up_to;
 
 /// The greatest distance to an earlier tick, in ticks.
-const MOST_BACK: u64 = 1 << 63;
+const GREATEST_BACK: u64 = 1 << 63;
 
 /// The number that a word writes: a decimal number of 64 bits.
 pub fn number_of_word(word: &[u8]) -> Result<u64, LineError>
@@ -20,12 +20,12 @@ pub fn number_of_word(word: &[u8]) -> Result<u64, LineError>
     if !last.is_ascii_digit() {
         return Err(LineError::BadNumber);
     }
-    let tens = tens_of(front).ok_or(LineError::BadNumber)?;
-    with_ones(tens, u64::from(*last - b'0')).ok_or(LineError::BadNumber)
+    let tens = leading_number(front).ok_or(LineError::BadNumber)?;
+    with_last_digit(tens, u64::from(*last - b'0')).ok_or(LineError::BadNumber)
 }
 
 /// The number that the digits before the last write. A greater number than `u64::MAX` is given as that.
-fn tens_of(digits: &[u8]) -> Option<u64>
+fn leading_number(digits: &[u8]) -> Option<u64>
     ensures { result ≡ (if list_all is_ascii_digit digits.now
         then Some (min (number_of digits.now) (2 ^ 64 - 1)) else None) }
 {
@@ -36,7 +36,7 @@ fn tens_of(digits: &[u8]) -> Option<u64>
 }
 
 /// The number with one more digit, if it has 64 bits.
-fn with_ones(tens: u64, ones: u64) -> Option<u64>
+fn with_last_digit(tens: u64, ones: u64) -> Option<u64>
     ensures { result ≡ (if nat_lt (tens * 10 + ones) (2 ^ 64) then Some (tens * 10 + ones) else None) }
 {
     tens.checked_mul(10)?.checked_add(ones)
@@ -56,13 +56,13 @@ pub fn distance_of_word(word: &[u8]) -> Result<i64, LineError>
 fn distance_forth(digits: &[u8]) -> Result<i64, LineError>
     ensures { result ≡ forth digits.now }
 {
-    let ticks = number_up_to(digits, MOST_BACK).ok_or(LineError::BadNumber)?;
+    let ticks = number_up_to(digits, GREATEST_BACK).ok_or(LineError::BadNumber)?;
     0i64.checked_add_unsigned(ticks).ok_or(LineError::BadNumber)
 }
 
 fn distance_back(digits: &[u8]) -> Result<i64, LineError>
     ensures { result ≡ back digits.now }
 {
-    let ticks = number_up_to(digits, MOST_BACK + 1).ok_or(LineError::BadNumber)?;
+    let ticks = number_up_to(digits, GREATEST_BACK + 1).ok_or(LineError::BadNumber)?;
     0i64.checked_sub_unsigned(ticks).ok_or(LineError::BadNumber)
 }

@@ -107,12 +107,12 @@ fn options_of<'a>(matches: &ArgMatches<'a>) -> Options<'a>
         input: matches.get_str("input-file"),
         script: matches.get_str("script"),
         output: matches.get_str("output-file"),
-        depth: depth_in(matches),
+        depth: depth_of(matches),
     }
 }
 
 /// The error for a word that is no text.
-pub fn no_text(alloc: Global) -> Result<Error, AllocError>
+pub fn not_text_error(alloc: Global) -> Result<Error, AllocError>
     ensures { IfOk result (λ e. kind_of e ≡ ErrorKind.ValueValidation) }
 {
     command_line(alloc)?.error(
@@ -122,7 +122,7 @@ pub fn no_text(alloc: Global) -> Result<Error, AllocError>
 }
 
 /// The depth that was asked for, or the default.
-fn depth_in(matches: &ArgMatches<'_>) -> u64
+fn depth_of(matches: &ArgMatches<'_>) -> u64
     ensures depth { result ≡ depth_asked (one_text (found_of matches.now) (codes "depth")) }
     ensures least { 1 ≤ result }
     ensures most { result ≤ DEPTH_LIMIT }

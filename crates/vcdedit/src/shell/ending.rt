@@ -61,7 +61,7 @@ pub fn ending_without_run<R: Runtime + AllocGlobal>(rt: &R, error: &Error) -> En
         return Ending::Failed(NO_MEMORY);
     };
     if asks_for_text(error.kind()) {
-        return show(rt, text.as_str());
+        return show_text(rt, text.as_str());
     }
     Ending::Refused(text)
 }
@@ -74,7 +74,7 @@ fn asks_for_text(kind: ErrorKind) -> bool
 }
 
 /// Writes a text to standard output, where the replies go too.
-fn show<R: Runtime>(rt: &R, text: &str) -> Ending
+fn show_text<R: Runtime>(rt: &R, text: &str) -> Ending
     ensures kind { (kind : Kind) → kind_asks_for_text kind ≡ true → IsEndingOfKind kind result }
     ensures not_done { is_done result ≡ false }
 {

@@ -7,13 +7,13 @@ ghost use Rattle.std.specs.String.{string_bytes};
 ghost use Rattle.std.specs.Vec.Iter.{into_iter_items};
 ghost use Rattle.clap.specs.Words.{fault_of};
 ghost use Rattle.vcdedit.specs.CommandLine.{option_app, options_in};
-ghost use Rattle.vcdedit.specs.ProgramEnds.{is_done, ending_of, IsRunOn, IsOutcome, IsEndingOf, program_status, program_text};
+ghost use Rattle.vcdedit.specs.ProgramEnds.{is_done, ending_of, IsOutcomeOn, IsOutcomeOfOptions, IsEndingOf, program_status, program_text};
 ghost use Rattle.vcdedit.specs.RunEnds.{DeviceEnd, device_end, RunEnds};
 ghost use Rattle.vcdedit.specs.inside.SentReplies.{HasSentReplies};
 ghost use Rattle.vcdedit.specs.declared.shell.ending.Ending.{Ending as ProgramEnding};
 
 use crate::running::{RunError, Summary, run};
-use crate::shell::command_line::{Options, no_text, parse_words};
+use crate::shell::command_line::{Options, not_text_error, parse_words};
 use crate::shell::ending::{Ending, NO_MEMORY, ending_without_run, report_ending};
 use crate::shell::late_file::LateFile;
 use crate::shell::opening::{open_capture, open_script};
@@ -62,7 +62,7 @@ fn ending_without_words<R: Runtime + AllocGlobal>(rt: &R, error: &io::Error) -> 
     if error.kind() == ErrorKind::OutOfMemory {
         return Ending::Failed(NO_MEMORY);
     }
-    match no_text(rt.alloc()) {
+    match not_text_error(rt.alloc()) {
         Ok(error) => ending_without_run(rt, &error),
         Err(_) => Ending::Failed(NO_MEMORY),
     }
@@ -77,7 +77,7 @@ fn ending_of_words<R: Runtime + AllocGlobal>(rt: &R, words: Args) -> Ending
     ensures done { is_done result ≡ true →
         fault_of option_app (map string_bytes (drop 1 (into_iter_items words))) ≡ [] }
 {
-    let Ok(words) = after_name(rt.alloc(), words) else {
+    let Ok(words) = words_after_name(rt.alloc(), words) else {
         return Ending::Failed(NO_MEMORY);
     };
     match parse_words(rt.alloc(), words.as_slice()) {
@@ -87,7 +87,7 @@ fn ending_of_words<R: Runtime + AllocGlobal>(rt: &R, words: Args) -> Ending
 }
 
 /// All words but the first.
-fn after_name(alloc: Global, words: Args) -> Result<Vec<String>, AllocError>
+fn words_after_name(alloc: Global, words: Args) -> Result<Vec<String>, AllocError>
     ensures { IfOk result (λ after. after.items ≡ drop 1 (into_iter_items words)) }
 {
     words.skip(1).collect(alloc)
@@ -106,7 +106,7 @@ fn ending_of_run(outcome: Result<Summary, RunError>) -> Ending
 fn run_options<R: Runtime + AllocGlobal>(rt: &R, options: &Options<'_>) -> Result<Summary, RunError>
     requires depth_least { 1 ≤ options.now.depth }
     requires depth_most { options.now.depth ≤ DEPTH_LIMIT }
-    ensures { IsOutcome (options_in options.now) result }
+    ensures { IsOutcomeOfOptions (options_in options.now) result }
 {
     let capture = open_capture(rt, options.input).map_err(|_| NOT_OPENED)?;
     let script = open_script(rt, options.script).map_err(|_| RunError::ScriptReadFault)?;
@@ -131,7 +131,7 @@ fn run_inputs<R: Runtime + AllocGlobal, C: Source, S: Source>(
     requires depth_most { depth ≤ DEPTH_LIMIT }
     requires capture_ready { C.has_failed capture.old ≡ false }
     requires script_ready { S.has_failed script.old ≡ false }
-    ensures { (result ≡ Err NO_MEMORY) ⊎ IsRunOn output.entry result depth
+    ensures { (result ≡ Err NO_MEMORY) ⊎ IsOutcomeOn output.entry result depth
         (device_end C.coming C.has_failed capture.old capture.new)
         (device_end S.coming S.has_failed script.old script.new) }
 {

@@ -4,7 +4,7 @@ use Rattle.std.proofs.lemmas.Result.{IfOk-weaker}
 use Rattle.vcdedit.specs.declared.script.command.Command.{Command}
 use Rattle.vcdedit.specs.declared.script.command.Command.TheVariants as commands
 use Rattle.vcdedit.specs.inside.Answering.{AnswersStep, AnswersCommand}
-use Rattle.vcdedit.proofs.Answered.{command_steps}
+use Rattle.vcdedit.proofs.AnsweredLines.{command_steps}
 use Rattle.vcdedit.proofs.replies.answering.answer_command.Goals as goal
 
 pub returns-in-Step-clause-answers : goal.returns-in-Step-clause-answers

@@ -5,7 +5,7 @@ use Rattle.vcd_text.specs.Grammar.{word_texts}
 use Rattle.vcd_text.specs.Words.{words_of}
 use Rattle.vcdedit.specs.declared.script.command.Command.{Command}
 use Rattle.vcdedit.specs.declared.script.line_error.LineError.{LineError}
-use Rattle.vcdedit.specs.Addressless.{command_without_address}
+use Rattle.vcdedit.specs.WithoutAddress.{command_without_address}
 use Rattle.vcdedit.specs.ParsedLines.{command_of_line}
 use Rattle.vcdedit.specs.ScriptCommands.{command_of_words}
 use Rattle.vcdedit.specs.inside.Commands.{ReadsAs}

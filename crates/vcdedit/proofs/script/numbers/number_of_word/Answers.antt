@@ -10,7 +10,7 @@ pub returns : goal.returns
 returns c =
     let last : c.split_last.result ≡ Some (c.in_ok-last.last, c.in_ok-last.front) = grind arith in
     let parts = MatchOption-at_some _ _ _ last c.split_last.ensures.cases in
-    c.ok_or-3.ensures.value ∙ ap (λ (o : Option ℕ). ok_or o BadNumber) c.with_ones.ensures
+    c.ok_or-3.ensures.value ∙ ap (λ (o : Option ℕ). ok_or o BadNumber) c.with_last_digit.ensures
     ∙ number_pushed c.args.word.now c.in_ok-last.front.now c.in_ok-last.last.now c.in_ok-tens.tens c.from.result parts.0
     (sym c.is_ascii_digit.ensures.value ∙ c.if-not-is_ascii_digit.false)
-    (c.in_ok-tens.ensures.value ∙ ap (λ (o : Option ℕ). ok_or o BadNumber) c.tens_of.ensures) c.from.ensures
+    (c.in_ok-tens.ensures.value ∙ ap (λ (o : Option ℕ). ok_or o BadNumber) c.leading_number.ensures) c.from.ensures

@@ -3,7 +3,7 @@ use Rattle.std.proofs.Common.{Err, inl, inr, refl, ap, subst, map, ◌∙◌}
 use Rattle.std.specs.String.{string_bytes}
 use Rattle.clap.specs.Words.{fault_of}
 use Rattle.vcdedit.specs.CommandLine.{asked_options, option_app}
-use Rattle.vcdedit.specs.ProgramEnds.{IsOutcome}
+use Rattle.vcdedit.specs.ProgramEnds.{IsOutcomeOfOptions}
 use Rattle.vcdedit.specs.declared.running.run_error.RunError.TheVariants as run_errors
 use Rattle.vcdedit.proofs.ProgramRuns.{failed_for_memory}
 use Rattle.vcdedit.proofs.shell.program.ending_of_words.Goals as goal
@@ -18,7 +18,7 @@ returns-in_default-clause-of_run g c none = (
 pub returns-in-Ok-parse_words-clause-of_run : goal.returns-in-Ok-parse_words-clause-of_run
 returns-in-Ok-parse_words-clause-of_run g c none = (
   c.run_options.result,
-  subst (λ options. IsOutcome options c.run_options.result)
+  subst (λ options. IsOutcomeOfOptions options c.run_options.result)
       (c.in-Ok-parse_words.ensures.asked
       ∙ ap (λ words. asked_options (map string_bytes words)) (c.as_slice.ensures.value ∙ c.in-Ok.ensures))
       c.run_options.ensures,

@@ -3,7 +3,7 @@ use Rattle.std.proofs.lemmas.Iterator.{items_from_collect}
 use Rattle.std.proofs.lemmas.Iterator.Adapters.{YieldsList-from_vec, YieldsList-from_skip}
 use Rattle.std.proofs.Common.{ap, ◌∙◌}
 use Rattle.std.specs.Vec.Iter.{into_iter_items, into_iter_len}
-use Rattle.vcdedit.proofs.shell.program.after_name.Goals as goal
+use Rattle.vcdedit.proofs.shell.program.words_after_name.Goals as goal
 
 pub returns : goal.returns
 returns c =

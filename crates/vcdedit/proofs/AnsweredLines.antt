@@ -20,7 +20,7 @@ use Rattle.vcd_journal.proofs.Steps.{outcome_of_step}
 use Rattle.vcdedit.specs.declared.script.command.Command.{Command}
 use Rattle.vcdedit.specs.declared.script.command.Command.TheVariants as commands
 use Rattle.vcdedit.specs.declared.script.line_error.LineError.{LineError}
-use Rattle.vcdedit.specs.Addressless.{edit_without_address, step_without_address, command_without_address}
+use Rattle.vcdedit.specs.WithoutAddress.{edit_without_address, step_without_address, command_without_address}
 use Rattle.vcdedit.specs.Laws.{answer_reply}
 use Rattle.vcdedit.specs.ParsedLines.{command_of_line}
 use Rattle.vcdedit.specs.MachineReplies.{LineReply, ok_reply}
