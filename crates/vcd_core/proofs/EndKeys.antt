@@ -9,20 +9,20 @@ use Rattle.std.proofs.lemmas.Bool.{cases_lt, lt-ltb, le-ltb}
 use Rattle.vcd_core.specs.declared.capture.ScopeName.{ScopeName}
 use Rattle.vcd_core.specs.declared.end_keys.TextKey.{TextKey}
 use Rattle.vcd_core.specs.declared.end_keys.EndKeys.{EndKeys}
-use Rattle.vcd_core.specs.declared.end_keys.TheConstants.{KEYED}
+use Rattle.vcd_core.specs.declared.end_keys.TheConstants.{KEY_LIMIT}
 use Rattle.vcd_core.specs.inside.EndKeys.{longer_key, text_key, dotted_scope, AreKeysOf}
 
 -- the key of a text with one byte more in front: of one byte more, or the same where it has enough
-pub key_more : (byte : ℕ) (text : List ℕ) → (text_key text).len < KEYED
+pub key_more : (byte : ℕ) (text : List ℕ) → (text_key text).len < KEY_LIMIT
     → text_key (byte ∷ text) ≡ longer_key byte (text_key text)
 unfolding text_key
 key_more byte text short =
-    ap (λ t. if t then longer_key byte (text_key text) else text_key text) (lt-ltb (text_key text).len KEYED short)
+    ap (λ t. if t then longer_key byte (text_key text) else text_key text) (lt-ltb (text_key text).len KEY_LIMIT short)
 
-pub key_same : (byte : ℕ) (text : List ℕ) → KEYED ≤ (text_key text).len → text_key (byte ∷ text) ≡ text_key text
+pub key_same : (byte : ℕ) (text : List ℕ) → KEY_LIMIT ≤ (text_key text).len → text_key (byte ∷ text) ≡ text_key text
 unfolding text_key
 key_same byte text long =
-    ap (λ t. if t then longer_key byte (text_key text) else text_key text) (le-ltb (text_key text).len KEYED long)
+    ap (λ t. if t then longer_key byte (text_key text) else text_key text) (le-ltb (text_key text).len KEY_LIMIT long)
 
 pub key_nil : text_key [] ≡ record { len = 0; number = 0 }
 unfolding text_key
@@ -30,7 +30,7 @@ key_nil = refl
 
 -- the key of a text with more bytes in front is of no fewer bytes
 pub key_grows : (byte : ℕ) (text : List ℕ) → (text_key text).len ≤ (text_key (byte ∷ text)).len
-key_grows byte text = elim (cases_lt (text_key text).len KEYED) [
+key_grows byte text = elim (cases_lt (text_key text).len KEY_LIMIT) [
   | inl short ↦ omega (arith, ap (λ k. k.len) (key_more byte text short))
   | inr long ↦ omega (arith, ap (λ k. k.len) (key_same byte text long))
 ]
@@ -40,17 +40,17 @@ key_of_end [] end = omega arith
 key_of_end (byte ∷ front) end = omega (arith, key_of_end front end, key_grows byte (front ++ end))
 
 -- the keys of a text with one byte more in front
-pub keys_longer : (old new : EndKeys) (byte : ℕ) (text : List ℕ) → AreKeysOf old text → old.whole.len < KEYED
+pub keys_longer : (old new : EndKeys) (byte : ℕ) (text : List ℕ) → AreKeysOf old text → old.whole.len < KEY_LIMIT
     → new.whole ≡ longer_key byte old.whole
     → new.numbers ≡ set old.numbers new.whole.len new.whole.number → AreKeysOf new (byte ∷ text)
 keys_longer old new byte text keys short longer stored = record { sized = sized; whole = whole; ends = ends }
   where
-    sized : length new.numbers ≡ KEYED + 1
+    sized : length new.numbers ≡ KEY_LIMIT + 1
     sized = ap length stored ∙ length-set old.numbers new.whole.len new.whole.number ∙ keys.sized
 
     whole : new.whole ≡ text_key (byte ∷ text)
     whole = longer ∙ ap (longer_key byte) keys.whole
-        ∙ sym (key_more byte text (subst (λ k. k.len < KEYED) keys.whole short))
+        ∙ sym (key_more byte text (subst (λ k. k.len < KEY_LIMIT) keys.whole short))
 
     grown : new.whole.len ≡ old.whole.len + 1
     grown = ap (λ k. k.len) longer
@@ -76,12 +76,12 @@ keys_longer old new byte text keys short longer stored = record { sized = sized;
         ∙ keys.ends front end rest
 
 -- the keys of a text with one byte more in front, where the key has enough bytes
-pub keys_full : (keys : EndKeys) (byte : ℕ) (text : List ℕ) → AreKeysOf keys text → KEYED ≤ keys.whole.len
+pub keys_full : (keys : EndKeys) (byte : ℕ) (text : List ℕ) → AreKeysOf keys text → KEY_LIMIT ≤ keys.whole.len
     → AreKeysOf keys (byte ∷ text)
 keys_full keys byte text are long = record { sized = are.sized; whole = whole; ends = ends }
   where
     same : text_key (byte ∷ text) ≡ text_key text
-    same = key_same byte text (subst (λ k. KEYED ≤ k.len) are.whole long)
+    same = key_same byte text (subst (λ k. KEY_LIMIT ≤ k.len) are.whole long)
 
     whole : keys.whole ≡ text_key (byte ∷ text)
     whole = are.whole ∙ sym same
@@ -94,9 +94,9 @@ keys_full keys byte text are long = record { sized = are.sized; whole = whole; e
 
 -- nothing has the keys of nothing
 pub keys_of_none : (keys : EndKeys) → keys.whole ≡ record { len = 0; number = 0 }
-    → keys.numbers ≡ replicate (KEYED + 1) 0 → AreKeysOf keys []
+    → keys.numbers ≡ replicate (KEY_LIMIT + 1) 0 → AreKeysOf keys []
 keys_of_none keys whole numbers = record {
-  sized = ap length numbers ∙ length-replicate {A = ℕ} (KEYED + 1) 0;
+  sized = ap length numbers ∙ length-replicate {A = ℕ} (KEY_LIMIT + 1) 0;
   whole = whole ∙ sym key_nil;
   ends = λ front end is. ends front end is;
 }

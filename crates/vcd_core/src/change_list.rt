@@ -82,7 +82,7 @@ fn make_room(changes: &mut Vec<Change>) -> Result<(), NoMemory>
 }
 
 /// Puts a change after the others, for which there is room.
-fn push_in_room(changes: &mut Vec<Change>, change: Change)
+fn push_change_in_room(changes: &mut Vec<Change>, change: Change)
     requires { vec_len changes.old < vec_capacity changes.old }
     ensures changes { changes.new.items ≡ changes.old.items ++ change ∷ [] }
     ensures room { vec_capacity changes.new ≡ vec_capacity changes.old }
@@ -117,7 +117,7 @@ pub(crate) fn push_change(
     pop_at(changes, tick);
     if !has_last_value(changes.as_slice(), &value) {
         make_room(changes)?;
-        push_in_room(changes, Change { tick, value });
+        push_change_in_room(changes, Change { tick, value });
     }
     Ok(())
 }
@@ -168,7 +168,7 @@ pub(crate) fn push_word_change(
     if !has_last_word(changes.as_slice(), width, word) {
         make_room(changes)?;
         let value = Value::from_word(width, word);
-        push_in_room(changes, Change { tick, value });
+        push_change_in_room(changes, Change { tick, value });
     }
     Ok(())
 }

@@ -144,13 +144,13 @@ pub(crate) fn next_of(a: &[Change], b: &[Change], c: &[Change], d: &[Change]) ->
         (earlier_tick (next_tick c.now) (earlier_tick (next_tick d.now) None))) }
 {
     // From the last wave to the first, in the order in which `next_tick_of` goes over a list.
-    let last = earlier(first_tick(d), None);
-    let later = earlier(first_tick(c), last);
-    earlier(first_tick(a), earlier(first_tick(b), later))
+    let last = earlier_tick(next_tick(d), None);
+    let later = earlier_tick(next_tick(c), last);
+    earlier_tick(next_tick(a), earlier_tick(next_tick(b), later))
 }
 
 /// The tick of the first change.
-fn first_tick(changes: &[Change]) -> Option<u64>
+fn next_tick(changes: &[Change]) -> Option<u64>
     ensures { result ≡ next_tick changes.now }
 {
     match changes {
@@ -160,7 +160,7 @@ fn first_tick(changes: &[Change]) -> Option<u64>
 }
 
 /// The lesser of two ticks that may be absent.
-fn earlier(left: Option<u64>, right: Option<u64>) -> Option<u64>
+fn earlier_tick(left: Option<u64>, right: Option<u64>) -> Option<u64>
     ensures { result ≡ earlier_tick left right }
 {
     match (left, right) {

@@ -7,7 +7,7 @@ ghost use Rattle.vcd_core.specs.inside.EndKeys.{text_key, longer_key, dotted_sco
 use crate::capture::{ScopeName, Word};
 
 /// The most bytes of which a key is made.
-const KEYED: usize = 64;
+const KEY_LIMIT: usize = 64;
 
 /// The key of a text: how many of its last bytes it is made of, and a number made of these. Equal
 /// texts have equal keys.
@@ -21,8 +21,8 @@ impl TextKey {
     ghost use Rattle.vcd_core.specs.inside.EndKeys.{longer_key};
 
     /// The key of the text with one byte more in front.
-    fn longer(self, byte: u8) -> TextKey
-        requires { self.len < KEYED }
+    fn longer_key(self, byte: u8) -> TextKey
+        requires { self.len < KEY_LIMIT }
         ensures { result ≡ longer_key byte self }
     {
         TextKey {
@@ -37,7 +37,7 @@ impl TextKey {
 pub(crate) struct EndKeys {
     whole: TextKey,
     /// The number of the end that has a key of this length.
-    numbers: [u64; KEYED + 1],
+    numbers: [u64; KEY_LIMIT + 1],
 }
 
 impl EndKeys {
@@ -47,7 +47,7 @@ impl EndKeys {
     {
         EndKeys {
             whole: TextKey { len: 0, number: 0 },
-            numbers: [0; KEYED + 1],
+            numbers: [0; KEY_LIMIT + 1],
         }
     }
 
@@ -74,15 +74,15 @@ impl EndKeys {
         ensures { (text front end : List ℕ) → AreKeysOf self.now text → key ≡ text_key end
             → text ≡ front ++ end → IsTrue result }
     {
-        key.len > KEYED || self.numbers[key.len] == key.number
+        key.len > KEY_LIMIT || self.numbers[key.len] == key.number
     }
 
     /// Puts a byte in front of the text.
     fn prepend_byte(&mut self, byte: u8)
         ensures { (text : List ℕ) → AreKeysOf self.old text → AreKeysOf self.new (byte ∷ text) }
     {
-        if self.whole.len < KEYED {
-            self.whole = self.whole.longer(byte);
+        if self.whole.len < KEY_LIMIT {
+            self.whole = self.whole.longer_key(byte);
             self.numbers[self.whole.len] = self.whole.number;
         }
     }

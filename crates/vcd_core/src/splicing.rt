@@ -48,7 +48,7 @@ fn swap_fronts(changes: &mut Vec<Change>, at: usize, piece: &mut Vec<Change>, co
 
 /// Moves the changes from `to` on down to `from`, and each by `by` ticks. The old changes at the
 /// end are left over.
-fn pull_down(changes: &mut [Change], from: usize, to: usize, by: i64)
+fn move_down(changes: &mut [Change], from: usize, to: usize, by: i64)
     requires ordered { from ≤ to }
     requires within { to ≤ length changes.old }
     requires fit { AllTicksFit by (drop to changes.old) }
@@ -66,7 +66,7 @@ fn pull_down(changes: &mut [Change], from: usize, to: usize, by: i64)
 
 /// Moves the changes from `from` on up by `gap` places, and each by `by` ticks. The last `gap`
 /// changes are overwritten, and the old changes in the gap are left over.
-fn push_up(changes: &mut [Change], from: usize, gap: usize, by: i64)
+fn move_up(changes: &mut [Change], from: usize, gap: usize, by: i64)
     requires within { from + gap ≤ length changes.old }
     requires fit { AllTicksFit by (drop from (take (length changes.old - gap) changes.old)) }
     ensures { changes.new ≡ take (from + gap) changes.old
@@ -112,7 +112,7 @@ fn take_out(changes: &mut Vec<Change>, from: usize, to: usize, piece: &mut Vec<C
     }
     let kept = changes.len() - (to - from);
     piece.extend_from_slice(&changes[from..to]).unwrap();
-    pull_down(changes.as_mut_slice(), from, to, by);
+    move_down(changes.as_mut_slice(), from, to, by);
     changes.truncate(kept);
 }
 
@@ -131,7 +131,7 @@ fn put_in(changes: &mut Vec<Change>, at: usize, piece: &mut Vec<Change>, kept: u
 {
     let rest = &piece[kept..];
     changes.extend_from_slice(rest).unwrap();
-    push_up(changes.as_mut_slice(), at, rest.len(), by);
+    move_up(changes.as_mut_slice(), at, rest.len(), by);
     write_at(changes, at, rest);
     piece.truncate(kept);
 }
@@ -161,10 +161,10 @@ pub(crate) fn splice_changes(
     ensures piece_capacity { vec_capacity piece.old ≤ vec_capacity piece.new }
 {
     let part = to - from;
-    let come = piece.len();
-    if come <= part {
-        swap_fronts(changes, from, piece, come);
-        take_out(changes, from + come, to, piece, by);
+    let piece_len = piece.len();
+    if piece_len <= part {
+        swap_fronts(changes, from, piece, piece_len);
+        take_out(changes, from + piece_len, to, piece, by);
     } else {
         swap_fronts(changes, from, piece, part);
         put_in(changes, to, piece, part, by);

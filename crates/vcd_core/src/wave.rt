@@ -153,7 +153,7 @@ impl Wave {
         ensures grown_room { 0 < self.old.room → self.new.room ≤ max self.old.room
             (length self.old.changes + max (length self.old.changes) LEAST_ROOM + 1) }
     {
-        self.list.part(1)?;
+        self.list.make_own(1)?;
         match &mut self.list {
             WaveList::Own(list) => push_change(list, self.width, tick, value)?,
             _ => unreachable!(),
@@ -191,7 +191,7 @@ impl Wave {
         ensures grown_room { 0 < self.old.room → self.new.room ≤ max self.old.room
             (length self.old.changes + max (length self.old.changes) LEAST_ROOM + 1) }
     {
-        self.list.part(1)?;
+        self.list.make_own(1)?;
         match &mut self.list {
             WaveList::Own(list) => push_word_change(list, self.width, tick, word)?,
             _ => unreachable!(),

@@ -40,7 +40,7 @@ fn copy_with_room(alloc: Global, changes: &[Change], more: usize) -> Result<Vec<
 
 /// The list for one owner: taken back where nobody shares it, and otherwise copied, with room for
 /// `more` changes.
-fn part_shared(
+fn unshared_list(
     alloc: Global,
     shared: Rc<Vec<Change>>,
     more: usize,
@@ -58,7 +58,7 @@ fn part_shared(
 }
 
 /// The list for one owner, whatever its form; a copy has room for `more` changes.
-fn part_list(alloc: Global, list: WaveList, more: usize) -> (WaveList, Result<(), NoMemory>)
+fn own_list(alloc: Global, list: WaveList, more: usize) -> (WaveList, Result<(), NoMemory>)
     ensures changes { changes_of_list result.0 ≡ changes_of_list list }
     ensures own { OnOk result.1 (0 < room_of_list result.0) }
     ensures in_place { 0 < room_of_list list → IsOk result.1 }
@@ -66,8 +66,8 @@ fn part_list(alloc: Global, list: WaveList, more: usize) -> (WaveList, Result<()
 {
     match list {
         WaveList::Own(own) => (WaveList::Own(own), Ok(())),
-        WaveList::Shared(shared) => part_shared(alloc, shared, more),
-        WaveList::SharedWithRoom { list, .. } => part_shared(alloc, list, more),
+        WaveList::Shared(shared) => unshared_list(alloc, shared, more),
+        WaveList::SharedWithRoom { list, .. } => unshared_list(alloc, list, more),
     }
 }
 
@@ -293,7 +293,7 @@ impl WaveList {
     }
 
     /// Gives the wave its own list, if it has none yet; a copy has room for `more` changes.
-    pub fn part(&mut self, more: usize) -> Result<(), NoMemory>
+    pub fn make_own(&mut self, more: usize) -> Result<(), NoMemory>
         ensures changes { changes_of_list self.new ≡ changes_of_list self.old }
         ensures own { OnOk result (0 < room_of_list self.new) }
         ensures in_place { 0 < room_of_list self.old → IsOk result × (self.new ≡ self.old) }
@@ -302,9 +302,9 @@ impl WaveList {
             return Ok(());
         }
         let alloc = self.alloc();
-        let (list, parted) = part_list(alloc, replace(self, WaveList::Own(Vec::new(alloc))), more);
+        let (list, outcome) = own_list(alloc, replace(self, WaveList::Own(Vec::new(alloc))), more);
         *self = list;
-        parted
+        outcome
     }
 
     /// Gives the wave its own list, with room for `more` changes.
@@ -318,7 +318,7 @@ impl WaveList {
         ensures refused { OnErr result (0 < room_of_list self.old →
             room_of_list self.new ≡ room_of_list self.old) }
     {
-        self.part(more)?;
+        self.make_own(more)?;
         match self {
             WaveList::Own(list) => Ok(list.reserve(more)?),
             _ => unreachable!(),
@@ -339,7 +339,7 @@ impl WaveList {
         ensures refused { OnErr result (0 < room_of_list self.old →
             room_of_list self.new ≡ room_of_list self.old) }
     {
-        self.part(more)?;
+        self.make_own(more)?;
         match self {
             WaveList::Own(list) => Ok(list.reserve_exact(more)?),
             _ => unreachable!(),

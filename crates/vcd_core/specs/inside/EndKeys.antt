@@ -5,7 +5,7 @@ use Rattle.std.specs.List.{concat}
 use Rattle.vcd_core.specs.declared.capture.ScopeName.{ScopeName}
 use Rattle.vcd_core.specs.declared.end_keys.TextKey.{TextKey}
 use Rattle.vcd_core.specs.declared.end_keys.EndKeys.{EndKeys}
-use Rattle.vcd_core.specs.declared.end_keys.TheConstants.{KEYED}
+use Rattle.vcd_core.specs.declared.end_keys.TheConstants.{KEY_LIMIT}
 
 -- the key of a text with one byte more in front
 abbrev pub longer_key : ℕ → TextKey → TextKey
@@ -14,11 +14,11 @@ longer_key byte key = record { len = key.len + 1; number = (key.number * 257 % 2
 -- the key of a text, made of its last bytes
 unfoldable pub text_key : List ℕ → TextKey
 text_key [] = record { len = 0; number = 0 }
-text_key (byte ∷ text) = if nat_lt (text_key text).len KEYED then longer_key byte (text_key text) else text_key text
+text_key (byte ∷ text) = if nat_lt (text_key text).len KEY_LIMIT then longer_key byte (text_key text) else text_key text
 
 -- these are the keys of a text and of its ends
 pub record AreKeysOf (keys : EndKeys) (text : List ℕ) : Type 0 where
-  pub sized : length keys.numbers ≡ KEYED + 1
+  pub sized : length keys.numbers ≡ KEY_LIMIT + 1
   pub whole : keys.whole ≡ text_key text
   pub ends : (front end : List ℕ) → text ≡ front ++ end
       → slice_index_or keys.numbers (text_key end).len 0 ≡ (text_key end).number

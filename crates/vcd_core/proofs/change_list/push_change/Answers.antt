@@ -26,7 +26,8 @@ returns-in_err-make_room-clause-adds_none c same =
 
 pub returns-in_ok-make_room-clause-pushed : goal.returns-in_ok-make_room-clause-pushed
 returns-in_ok-make_room-clause-pushed c =
-    c.push_in_room.ensures.changes ∙ ap (λ l. l ++ change c.args.tick c.args.value ∷ []) c.make_room.ensures.changes
+    c.push_change_in_room.ensures.changes
+    ∙ ap (λ l. l ++ change c.args.tick c.args.value ∷ []) c.make_room.ensures.changes
     ∙ pushed_other _ _ _ _ _ c.pop_at.ensures.kept
     (told _ _ _ _ _ false c.as_slice.ensures.value c.requires.wide c.has_last_value.ensures
     c.if-not-has_last_value.true)

@@ -31,7 +31,7 @@ returns-in_err-make_room-clause-adds_none c same =
 
 pub returns-in_ok-make_room-clause-pushed : goal.returns-in_ok-make_room-clause-pushed
 returns-in_ok-make_room-clause-pushed c =
-    c.push_in_room.ensures.changes
+    c.push_change_in_room.ensures.changes
     ∙ ap (λ v. c.make_room.new.changes.items ++ change c.args.tick v ∷ []) c.from_word-value.ensures
     ∙ ap (λ l. l ++ change c.args.tick (letters_of c.args.width (c.args.word ∷ [])) ∷ [])
     c.make_room.ensures.changes

@@ -12,7 +12,7 @@ use Rattle.vcd_core.proofs.wave.Wave.push.Goals as goal
 pub invariant_of-self-2 : goal.invariant_of-self-2
 invariant_of-self-2 c =
     let here : c.in-Own.list.items ≡ changes_of_list c.self.inside.list = ap changes_of_list (sym c.in-Own.is)
-    ∙ c.part.ensures.changes in
+    ∙ c.make_own.ensures.changes in
     let wide = c.requires.width ∙ ap (λ (w : WaveView). w.width) (sym c.self.view_is)
     ∙ sym (length-replicate c.self.inside.width _) in (
       c.self.invariant.0,
@@ -26,7 +26,7 @@ invariant_of-self-2 c =
 pub returns-clause-values : goal.returns-clause-values
 returns-clause-values c t =
     let here : c.in-Own.list.items ≡ changes_of_list c.self.inside.list = ap changes_of_list (sym c.in-Own.is)
-    ∙ c.part.ensures.changes in
+    ∙ c.make_own.ensures.changes in
     ap (λ l. value_at c.self.inside.width l t) c.in_ok-push_change-in-Own.ensures.pushed
     ∙ ap (λ l. value_at c.self.inside.width (changes_after_push c.self.inside.width l c.args.tick c.args.value) t) here
     ∙ value_at-pushed c.self.inside.width _ c.args.tick _ t c.self.invariant.2
@@ -41,7 +41,7 @@ returns-clause-last c =
 pub returns-in_err-push_change-in-Own-clause-replaces : goal.returns-in_err-push_change-in-Own-clause-replaces
 returns-in_err-push_change-in-Own-clause-replaces c own some =
     let here : c.in-Own.list.items ≡ changes_of_list c.self.inside.list = ap changes_of_list (sym c.in-Own.is)
-    ∙ c.part.ensures.changes in
+    ∙ c.make_own.ensures.changes in
     let there = subst (Any (λ (x : Change). x.tick ≡ c.args.tick))
     (ap (λ (w : WaveView). w.changes) (sym c.self.view_is)) some in
     let e = c.in_err-push_change-in-Own.ensures.replaces
@@ -51,7 +51,7 @@ returns-in_err-push_change-in-Own-clause-replaces c own some =
 pub returns-in_err-push_change-in-Own-clause-adds_none : goal.returns-in_err-push_change-in-Own-clause-adds_none
 returns-in_err-push_change-in-Own-clause-adds_none c own same =
     let here : c.in-Own.list.items ≡ changes_of_list c.self.inside.list = ap changes_of_list (sym c.in-Own.is)
-    ∙ c.part.ensures.changes in
+    ∙ c.make_own.ensures.changes in
     let upto = upto_from_all c.args.tick _
     (subst (λ (w : WaveView). All (λ (x : Change). x.tick ≤ c.args.tick) w.changes) (sym c.self.view_is)
     c.requires.late) in

@@ -1,7 +1,7 @@
 use Rattle.std.proofs.Common.{w64, ◌-◌, length, arith}
 use Rattle.std.proofs.lemmas.Int.{to_z-of_z}
 use Rattle.vcd_core.proofs.Shifts.{lifted_fits, lifted_more}
-use Rattle.vcd_core.proofs.splicing.push_up.Goals as goal
+use Rattle.vcd_core.proofs.splicing.move_up.Goals as goal
 
 pub moved_change-next-requires : goal.moved_change-next-requires
 moved_change-next-requires c =

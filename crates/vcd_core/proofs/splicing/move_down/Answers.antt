@@ -1,7 +1,7 @@
 use Rattle.std.proofs.Common.{w64, arith}
 use Rattle.std.proofs.lemmas.Int.{to_z-of_z}
 use Rattle.vcd_core.proofs.Shifts.{pulled_fits, pulled_more}
-use Rattle.vcd_core.proofs.splicing.pull_down.Goals as goal
+use Rattle.vcd_core.proofs.splicing.move_down.Goals as goal
 
 pub moved_change-next-requires : goal.moved_change-next-requires
 moved_change-next-requires c =
