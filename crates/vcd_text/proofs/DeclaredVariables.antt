@@ -211,11 +211,6 @@ module _ (old new : Variables) (c : ParseState) (scopes : List ScopeName) (code 
     gives = grind (arith, cases_lt, slice_get_within, nil_from_length, gives_as, gives_nothing);
   }
 
-  keep_here : (v : Option VariableDeclaration) → TargetAgrees old c code (target_of old code) v
-      → TargetMatches (old.kept.items ++ variable_at code s first ∷ []) (logged old.log.items) c.value_changes
-      c.tick code (Some (Kept first)) (option_or v (Some (declaration_in scopes code s)))
-  keep_here v h1 = grind (arith, silent_wave, stands_longer)
-
   keep_stands : (key : List ℕ) → TargetAgrees new c key (target_of new key)
       (variable_of (with_declaration c (declaration_in scopes code s)) key)
   keep_stands key =
@@ -227,7 +222,7 @@ module _ (old new : Variables) (c : ParseState) (scopes : List ScopeName) (code 
       (option_or (variable_of c key) (if b then Some d else None))) key code
       (λ is. subst (λ name. TargetMatches all (logged old.log.items) c.value_changes c.tick name
       (Some (Kept first)) (option_or (variable_of c name) (Some d))) (sym is)
-      (keep_here (variable_of c code) (k.stand code)))
+      (grind (arith, silent_wave, stands_longer)))
       (λ _. stands_still (logged old.log.items) c.value_changes c.tick all key (target_of old key)
       (variable_of c key)
       (stands_longer (logged old.log.items) c.value_changes c.tick old.kept.items (variable_at code s first ∷ [])

@@ -25,11 +25,6 @@ use Rattle.vcd_text.proofs.HeldScopes.{so_deep}
 use Rattle.vcd_text.proofs.OneAnswer.{accepted-not_refused, stopped-not_refused}
 use Rattle.vcd_text.proofs.Changing.{among_first, among_last}
 
--- the kind of a header entry is one of three
-is_header : (kind : HeaderKind)
-    → IsTrue (is_one_of (codes "$timescale" ∷ codes "$scope" ∷ header_words) (header_word kind))
-is_header kind = grind arith
-
 collecting : (m : Reader) (c : ParseState) (begun : List PlacedWord) (keyword : List ℕ) → ReaderMatches m c
     → Collects m begun keyword → IsTrue (is_one_of (codes "$timescale" ∷ codes "$scope" ∷ header_words) keyword)
     → IsUnfinished c (word_texts begun)
@@ -48,7 +43,7 @@ unfinished : (m : Reader) (c : ParseState) (begun : List PlacedWord) (item : Ope
     → IsBegun m begun item → IsFalse (m.changing && is_nothing item) → IsUnfinished c (word_texts begun)
 unfinished m c begun items.Nothing agrees none no_end = grind arith
 unfinished m c begun (items.Entry kind) agrees is no_end =
-    collecting m c begun (header_word kind) agrees is (is_header kind)
+    collecting m c begun (header_word kind) agrees is (grind arith)
 unfinished m c begun items.Timescale agrees is no_end = collecting m c begun (codes "$timescale") agrees is refl
 unfinished m c begun items.Scope agrees is no_end = collecting m c begun (codes "$scope") agrees is refl
 unfinished m c begun items.Upscope agrees is no_end = grind (arith, so_deep)

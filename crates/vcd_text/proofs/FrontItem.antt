@@ -238,19 +238,10 @@ whole_front c (other word words) rest a = other_front c.changing c word _ a.0 �
 
 -- ---- faults
 
-variable_open : (c : ParseState) (words : List (List ℕ)) → IsTrue (has_no_end_word words) → IsTrue (has_good_size words)
-    → variable_front c words ≡ unfinished
-variable_open c words h2 h3 = grind (arith, cond-false, not-true, and_parts, cond-true, closing_none)
-
 -- the distance of a fault from the first word of its item
 abbrev pub place_of : Bool → List (List ℕ) → ℕ
 place_of false begun = length begun
 place_of true begun = 0
-
-declaration_faulty : (c : ParseState) (begun : List (List ℕ)) (word : List ℕ) (fault : Fault) (more : List (List ℕ))
-    → DeclarationFault c begun word fault → front false c (begun ++ word ∷ more) ≡ faulty (length begun) fault
-declaration_faulty c begun word fault more h5 =
-    grind (arith, cond-false, closing_end, upscope_some, variable_closing, cond-true)
 
 change_faulty : (c : ParseState) (begun : List (List ℕ)) (word : List ℕ) (fault : Fault) (more : List (List ℕ))
     → ChangeFault c begun word fault → front true c (begun ++ word ∷ more) ≡ faulty 0 fault
@@ -282,7 +273,7 @@ change_faulty c begun word fault more (no_change first text b w l n f) = grind (
 pub fault_front : (c : ParseState) (begun : List (List ℕ)) (word : List ℕ) (fault : Fault) (more : List (List ℕ))
     → WordFault c begun word fault → front_of c (begun ++ word ∷ more) ≡ faulty (place_of c.changing begun) fault
 fault_front c begun word fault more (among_declarations h d) =
-    front_at false c _ _ h (declaration_faulty c begun word fault more d)
+    front_at false c _ _ h (grind (arith, cond-false, closing_end, upscope_some, variable_closing, cond-true))
     ∙ ap (λ b. faulty (place_of b begun) fault) (sym h)
 fault_front c begun word fault more (among_changes h d) =
     front_at true c _ _ h (change_faulty c begun word fault more d) ∙ ap (λ b. faulty (place_of b begun) fault) (sym h)
@@ -298,7 +289,8 @@ unfinished_front c begun (words_due word words h b k n) =
     (by_one_of (λ w. declaration_front c w words ≡ unfinished) (codes "$timescale" ∷ codes "$scope" ∷ header_words)
     word k (none _, (none _, (none _, (none _, (none _, tt)))))))
 unfinished_front c begun (upscope_due h b s) = rw b (front_at false c _ _ h (upscope_some c.scopes [] s))
-unfinished_front c begun (variable_due words h b n g) = rw b (front_at false c _ _ h (variable_open c words n g))
+unfinished_front c begun (variable_due words h b n g) =
+    rw b (front_at false c _ _ h (grind (arith, cond-false, not-true, and_parts, cond-true, closing_none)))
 unfinished_front c begun (definitions_due h b) = rw b (front_at false c _ _ h refl)
 unfinished_front c begun (code_due first text h b k) =
     rw b (front_at true c _ _ h (by_among (λ x. change_front c (x ∷ text) [] ≡ unfinished) pair_prefixes first k

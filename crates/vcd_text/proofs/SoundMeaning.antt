@@ -263,9 +263,6 @@ clean_items c (i ∷ is) clean all allows =
 
 -- ---- waves
 
-length-ext : (width : ℕ) (s : List Bit) → length s ≤ width → length (extension width s) ≡ width
-length-ext width s fits = grind (arith, length-append, length-replicate)
-
 -- a value change of this code has letters for this number of bits
 abbrev FitsWidth : ℕ → List ℕ → ValueChange → Type 0
 FitsWidth width code r = bytes_eq r.code code ≡ true → length r.letters ≤ width
@@ -276,7 +273,8 @@ unfolding latest_value
 latest_length width code t before [] long all = long
 latest_length width code t before (r ∷ rs) long all =
     latest_length width code t (cond (bytes_eq r.code code && nat_le r.tick t) (extension width r.letters) before) rs
-    (grind (arith, by_test, length-ext, and_parts, All-head)) (All-tail (FitsWidth width code) r rs all)
+    (grind (arith, by_test, length-append, length-replicate, and_parts, All-head))
+    (All-tail (FitsWidth width code) r rs all)
 
 sound_signal : (c : ParseState) (d : VariableDeclaration) → IsClean c → IsCleanDeclaration d → IsAgreed c d
     → is_skipped d ≡ false → IsSoundSignal c.tick (declared_signal c.value_changes c.tick d)

@@ -72,9 +72,6 @@ longer_unbroken : (b : ℕ) (w : List ℕ) → has_no_space b ≡ true → list_
     → is_unbroken (b ∷ w) ≡ true
 longer_unbroken b w first rest = and_from (has_no_space b) (list_all has_no_space w) first rest
 
-header_word_unbroken : (kind : HeaderKind) → is_unbroken (header_word kind) ≡ true
-header_word_unbroken kind = grind arith
-
 -- ---- items
 
 -- words up to `$end`
@@ -117,7 +114,7 @@ header_spelled (h ∷ hs) sound =
     let parts : (is_sound_header h ≡ true) × (list_all is_sound_header hs ≡ true) = grind (arith, and_parts) in
     and_from (is_spelled (entry h.kind h.words)) (list_all is_spelled (header_items hs))
     (and_from (is_unbroken (header_word h.kind)) (list_all is_unbroken (h.words ++ end_word ∷ []))
-    (header_word_unbroken h.kind) (with_end_unbroken h.words (words_are_unbroken h.words parts.0)))
+    (grind arith) (with_end_unbroken h.words (words_are_unbroken h.words parts.0)))
     (header_spelled hs parts.1)
 
 timescale_is_spelled : (t : Option Timescale) → IfSome t (λ t. IsTrue (is_sound_timescale t))

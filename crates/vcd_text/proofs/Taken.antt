@@ -56,11 +56,6 @@ error_shown words line fault (inr shows) = grind arith
 
 -- ---- lines
 
--- after another command no word shows a fault
-passed_over : (c : ParseState) (keyword : List ℕ) (words : List (List ℕ)) (word : List ℕ) (fault : Fault)
-    → IsTrue (is_other c.changing keyword) → ChangeFault c (keyword ∷ words) word fault → ⊥
-passed_over c keyword words word fault h5 h6 = grind (arith, and_parts, eqb-true)
-
 declaring : (m : Reader) (c : ParseState) (begun : List PlacedWord) (w : PlacedWord) → ReaderMatches m c
     → IsFalse m.changing → w.line ≡ fault_line c.changing begun w
 declaring m c begun w agrees none = sym (ap (λ b. fault_line b begun w) (sym agrees.changing ∙ none))
@@ -78,9 +73,7 @@ line_shown m c begun w fault items.Variable agrees is decided = declaring m c be
 line_shown m c begun w fault items.EndDefinitions agrees is decided = declaring m c begun w agrees is.0
 line_shown m c begun w fault items.Other agrees is (among_declarations none shows) = grind arith
 line_shown m c begun w fault items.Other agrees is (among_changes all shows) =
-    absurd (passed_over c is.keyword is.words w.text fault
-    (subst (λ b. IsTrue (is_other b is.keyword)) agrees.changing is.other)
-    (subst (λ ws. ChangeFault c ws w.text fault) is.spelled shows))
+    absurd (grind (arith, and_parts, eqb-true))
 line_shown m c begun w fault items.Vector agrees is decided = grind arith
 line_shown m c begun w fault items.Dropped agrees (text, is) decided = grind arith
 

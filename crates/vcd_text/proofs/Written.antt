@@ -135,15 +135,11 @@ nothing_taken : (t : Option (List ℕ)) → Appends t t []
 nothing_taken None = tt
 nothing_taken (Some xs) = sym (append-nil xs)
 
-nothing_written : (o : WriteBuffer) (t : Option (List ℕ)) (f : Bool) → o.waiting.items ≡ [] → o.sent ≡ 0
-    → HasEmitted t t f o []
-nothing_written o t f empty none = grind (arith, nothing_taken)
-
 -- the text since the buffer was empty
 pub whole_written : {W : Type 0} {t : W → Option (List ℕ)} {f : W → Bool} {s0 s1 : WriteBuffer × W} {whole : List ℕ}
     → s0.0.waiting.items ≡ [] → s0.0.sent ≡ 0 → Emits t f s0 s1 whole → HasEmitted (t s0.1) (t s1.1) (f s1.1) s1.0 whole
 whole_written {t = t} {f = f} {s0 = s0} empty none writes =
-    writes.following (t s0.1) [] (nothing_written s0.0 (t s0.1) (f s0.1) empty none)
+    writes.following (t s0.1) [] (grind (arith, nothing_taken))
 
 -- the number of bytes of a text that was written to a writer that has not failed
 pub length_written : (before after : Option (List ℕ)) (failed : Bool) (o : WriteBuffer) (text : List ℕ) → failed ≡ false
