@@ -3,7 +3,7 @@
 use crate::decoders::call_decoder;
 use crate::edits::{call_apply, call_held, call_revert};
 use crate::files::{call_read, call_write, count_write, read_bytes};
-use crate::printing::Stopped;
+use crate::printing::Failure;
 use crate::sessions::{call_new, call_run, call_step};
 use crate::waves::call_on_wave;
 use std::rt::Runtime;
@@ -23,7 +23,7 @@ pub struct Call<'a> {
 }
 
 /// Makes the named call, and prints what it left.
-pub fn make_call<R: Runtime + AllocGlobal>(rt: &R, call: &Call) -> Result<(), Stopped> {
+pub fn make_call<R: Runtime + AllocGlobal>(rt: &R, call: &Call) -> Result<(), Failure> {
     match call.name {
         "push" | "share" | "reserve" | "reserve_exact" | "reserve_splice" => call_on_wave(rt, call),
         "read" => call_read(rt, call),
@@ -37,6 +37,6 @@ pub fn make_call<R: Runtime + AllocGlobal>(rt: &R, call: &Call) -> Result<(), St
         "Session::new" => call_new(rt, call),
         "step" => call_step(rt, call),
         "run" => call_run(rt, call),
-        _ => Err(Stopped),
+        _ => Err(Failure),
     }
 }

@@ -5,20 +5,20 @@ ghost use Rattle.vcd_core.specs.Wave.{AllUpTo};
 
 use crate::calls::Call;
 use crate::files::capture_of_text;
-use crate::printing::{DONE, Stopped, allow, print_capture, refuse};
+use crate::printing::{DONE, Failure, allow, print_capture, refuse};
 use std::alloc::Global;
 use std::rt::Runtime;
 use vcd_core::{Capture, NoMemory, Wave, ends_by};
 use vcd_decode::{Annotation, BitOrder, Parity, SetupError, Spi, Uart, i2c, spi, uart};
 
-impl From<SetupError> for Stopped {
-    fn from(_fault: SetupError) -> Stopped {
-        Stopped
+impl From<SetupError> for Failure {
+    fn from(_fault: SetupError) -> Failure {
+        Failure
     }
 }
 
 /// `uart`, `spi` and `i2c`, by their names.
-pub fn call_decoder<R: Runtime + AllocGlobal>(rt: &R, call: &Call) -> Result<(), Stopped> {
+pub fn call_decoder<R: Runtime + AllocGlobal>(rt: &R, call: &Call) -> Result<(), Failure> {
     let capture = capture_of_text(rt.alloc(), call.text)?;
     if call.makes {
         let first = scalar_wave(&capture, 0)?;
@@ -35,7 +35,7 @@ fn make_decoder<R: Runtime + AllocGlobal>(
     first: &Wave,
     second: &Wave,
     end: u64,
-) -> Result<(), Stopped>
+) -> Result<(), Failure>
     requires first_one_bit { first.now.width ≡ 1 }
     requires second_one_bit { second.now.width ≡ 1 }
     requires first_within { AllUpTo end first.now.changes }
@@ -55,20 +55,20 @@ fn make_decoder<R: Runtime + AllocGlobal>(
 }
 
 /// The wave of a signal of one bit.
-fn scalar_wave(capture: &Capture, signal: usize) -> Result<&Wave, Stopped>
+fn scalar_wave(capture: &Capture, signal: usize) -> Result<&Wave, Failure>
     ensures one_bit { IfOk result (λ w. w.now.width ≡ 1) }
     ensures within { IfOk result (λ w. AllUpTo capture.now.end w.now.changes) }
 {
     let signals = capture.signals();
     if signal >= signals.len() {
-        return Err(Stopped);
+        return Err(Failure);
     }
     let wave = &signals[signal].wave;
     if wave.width() != 1 {
-        return Err(Stopped);
+        return Err(Failure);
     }
     if !ends_by(wave.changes(), capture.end()) {
-        return Err(Stopped);
+        return Err(Failure);
     }
     Ok(wave)
 }
@@ -77,7 +77,7 @@ fn scalar_wave(capture: &Capture, signal: usize) -> Result<&Wave, Stopped>
 fn print_found<R: Runtime>(
     rt: &R,
     found: Result<Vec<Annotation>, NoMemory>,
-) -> Result<(), Stopped> {
+) -> Result<(), Failure> {
     match found {
         Ok(found) => {
             allow(rt, DONE)?;
@@ -88,7 +88,7 @@ fn print_found<R: Runtime>(
 }
 
 /// Each annotation on a line of its own.
-fn print_annotations<R: Runtime>(rt: &R, annotations: &[Annotation]) -> Result<(), Stopped> {
+fn print_annotations<R: Runtime>(rt: &R, annotations: &[Annotation]) -> Result<(), Failure> {
     for annotation in annotations {
         println!(rt; "{annotation:?}")?;
     }

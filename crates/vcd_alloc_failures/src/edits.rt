@@ -7,7 +7,7 @@ ghost use Rattle.vcd_edit.specs.AppliedRecords.{Fits};
 
 use crate::calls::Call;
 use crate::files::capture_of_text;
-use crate::printing::{DONE, Stopped, allow, print_capture, refuse};
+use crate::printing::{DONE, Failure, allow, print_capture, refuse};
 use std::alloc::Global;
 use std::rt::Runtime;
 use vcd_core::{Bit, Capture, NoMemory, ToWrite, Value};
@@ -40,9 +40,9 @@ pub fn edit_named<'a>(name: &'a str) -> Option<Edit<'a>> {
 }
 
 /// `apply`.
-pub fn call_apply<R: Runtime + AllocGlobal>(rt: &R, call: &Call) -> Result<(), Stopped> {
+pub fn call_apply<R: Runtime + AllocGlobal>(rt: &R, call: &Call) -> Result<(), Failure> {
     let Some(edit) = edit_named(call.argument) else {
-        return Err(Stopped);
+        return Err(Failure);
     };
     let mut capture = capture_of_text(rt.alloc(), call.text)?;
     if !call.makes {
@@ -56,7 +56,7 @@ fn make_edit<R: Runtime + AllocGlobal>(
     rt: &R,
     capture: &mut Capture,
     edit: &Edit,
-) -> Result<(), Stopped>
+) -> Result<(), Failure>
     requires { IsSound (contents capture.old) }
 {
     refuse(rt)?;
@@ -74,32 +74,32 @@ fn make_edit<R: Runtime + AllocGlobal>(
 
 /// `revert` of the edit's record, on a capture like the edited one that was read again. Its waves have only the room
 /// that reading gives; those of the edited one have the room that they need.
-pub fn call_revert<R: Runtime + AllocGlobal>(rt: &R, call: &Call) -> Result<(), Stopped> {
+pub fn call_revert<R: Runtime + AllocGlobal>(rt: &R, call: &Call) -> Result<(), Failure> {
     let Some(edit) = edit_named(call.argument) else {
-        return Err(Stopped);
+        return Err(Failure);
     };
     let mut capture = capture_of_text(rt.alloc(), call.text)?;
-    let Ok(way) = apply(rt.alloc(), &mut capture, &edit) else {
-        return Err(Stopped);
+    let Ok(undo_record) = apply(rt.alloc(), &mut capture, &edit) else {
+        return Err(Failure);
     };
-    let mut capture = read_anew(rt.alloc(), &capture)?;
-    if !way.fits(&capture) {
-        return Err(Stopped);
+    let mut capture = reread(rt.alloc(), &capture)?;
+    if !undo_record.fits(&capture) {
+        return Err(Failure);
     }
     if !call.makes {
-        return print_record(rt, &mut capture, way);
+        return print_record(rt, &mut capture, undo_record);
     }
-    make_revert(rt, &mut capture, way)
+    make_revert(rt, &mut capture, undo_record)
 }
 
 /// The capture read again from its own text.
-fn read_anew(alloc: Global, capture: &Capture) -> Result<Capture, Stopped>
+fn reread(alloc: Global, capture: &Capture) -> Result<Capture, Failure>
     requires { IsSound (contents capture.now) }
     ensures { IfOk result (λ c. IsSound (contents c)) }
 {
     let mut sink = ToWrite::new(Vec::new(alloc));
     if write(alloc, capture, &mut sink).is_err() {
-        return Err(Stopped);
+        return Err(Failure);
     }
     capture_of_text(alloc, sink.into_inner().as_slice())
 }
@@ -108,16 +108,16 @@ fn read_anew(alloc: Global, capture: &Capture) -> Result<Capture, Stopped>
 fn make_revert<R: Runtime + AllocGlobal>(
     rt: &R,
     capture: &mut Capture,
-    way: Record,
-) -> Result<(), Stopped>
+    undo_record: Record,
+) -> Result<(), Failure>
     requires sound { IsSound (contents capture.old) }
-    requires fits { Fits way (contents capture.old) }
+    requires fits { Fits undo_record (contents capture.old) }
 {
     refuse(rt)?;
-    match revert(rt.alloc(), capture, way) {
-        Ok(forth) => {
+    match revert(rt.alloc(), capture, undo_record) {
+        Ok(redo_record) => {
             allow(rt, DONE)?;
-            print_record(rt, capture, forth)
+            print_record(rt, capture, redo_record)
         }
         Err(kept) => {
             allow(rt, NoMemory.name())?;
@@ -126,27 +126,27 @@ fn make_revert<R: Runtime + AllocGlobal>(
     }
 }
 
-/// `apply`, and `revert` if `undo` is asked for. The last record is then let go between the two lines, so that what it
+/// `apply`, and `revert` if `undo` is asked for. The last record is then dropped between the two lines, so that what it
 /// holds can be counted.
-pub fn call_held<R: Runtime + AllocGlobal>(rt: &R, call: &Call) -> Result<(), Stopped> {
+pub fn call_held<R: Runtime + AllocGlobal>(rt: &R, call: &Call) -> Result<(), Failure> {
     let Some(edit) = edit_named(call.argument) else {
-        return Err(Stopped);
+        return Err(Failure);
     };
     let mut capture = capture_of_text(rt.alloc(), call.text)?;
-    let Ok(way) = apply(rt.alloc(), &mut capture, &edit) else {
-        return Err(Stopped);
+    let Ok(undo_record) = apply(rt.alloc(), &mut capture, &edit) else {
+        return Err(Failure);
     };
     if call.before != "undo" {
-        return let_go(rt, way);
+        return drop_record(rt, undo_record);
     }
-    match revert(rt.alloc(), &mut capture, way) {
-        Ok(forth) => let_go(rt, forth),
-        Err(_) => Err(Stopped),
+    match revert(rt.alloc(), &mut capture, undo_record) {
+        Ok(redo_record) => drop_record(rt, redo_record),
+        Err(_) => Err(Failure),
     }
 }
 
-/// Prints how many changes a record stores, and lets it go between the two lines.
-fn let_go<R: Runtime>(rt: &R, record: Record) -> Result<(), Stopped> {
+/// Prints how many changes a record stores, and drops it between the two lines.
+fn drop_record<R: Runtime>(rt: &R, record: Record) -> Result<(), Failure> {
     println!(rt; "stored {}", record.stored())?;
     refuse(rt)?;
     drop(record);
@@ -157,15 +157,15 @@ fn let_go<R: Runtime>(rt: &R, record: Record) -> Result<(), Stopped> {
 fn print_record<R: Runtime + AllocGlobal>(
     rt: &R,
     capture: &mut Capture,
-    way: Record,
-) -> Result<(), Stopped>
+    edit_record: Record,
+) -> Result<(), Failure>
     requires sound { IsSound (contents capture.old) }
-    requires fits { Fits way (contents capture.old) }
+    requires fits { Fits edit_record (contents capture.old) }
 {
     print_capture(rt, capture)?;
-    println!(rt; "record of {}", way.stored())?;
-    match revert(rt.alloc(), capture, way) {
+    println!(rt; "record of {}", edit_record.stored())?;
+    match revert(rt.alloc(), capture, edit_record) {
         Ok(_) => print_capture(rt, capture),
-        Err(_) => Err(Stopped),
+        Err(_) => Err(Failure),
     }
 }

@@ -7,7 +7,7 @@ ghost use Rattle.vcd_core.specs.Sound.{IsSound};
 use crate::TEXT_LIMIT;
 use crate::calls::Call;
 use crate::counting::CountingSink;
-use crate::printing::{DONE, Stopped, allow, print_capture, refuse};
+use crate::printing::{DONE, Failure, allow, print_capture, refuse};
 use std::alloc::Global;
 use std::io;
 use std::io::Write;
@@ -19,17 +19,17 @@ use vcd_text::{read, write};
 const ROOM: usize = 1_000_000;
 
 /// The capture that a text means.
-pub fn capture_of_text(alloc: Global, text: &[u8]) -> Result<Capture, Stopped>
+pub fn capture_of_text(alloc: Global, text: &[u8]) -> Result<Capture, Failure>
     ensures { IfOk result (λ c. IsSound (contents c)) }
 {
     match read(alloc, &mut FromRead::new(text)) {
         Ok(loaded) => Ok(loaded.capture),
-        Err(_) => Err(Stopped),
+        Err(_) => Err(Failure),
     }
 }
 
 /// `read`, and the line of a fault. Prints whether the source has failed, and whether the rest ends the text.
-pub fn call_read<R: Runtime + AllocGlobal>(rt: &R, call: &Call) -> Result<(), Stopped> {
+pub fn call_read<R: Runtime + AllocGlobal>(rt: &R, call: &Call) -> Result<(), Failure> {
     let mut source = FromRead::new(call.text);
     if call.makes {
         refuse(rt)?;
@@ -48,7 +48,7 @@ pub fn call_read<R: Runtime + AllocGlobal>(rt: &R, call: &Call) -> Result<(), St
 }
 
 /// `write`, into memory that was taken before.
-pub fn call_write<R: Runtime + AllocGlobal>(rt: &R, call: &Call) -> Result<(), Stopped> {
+pub fn call_write<R: Runtime + AllocGlobal>(rt: &R, call: &Call) -> Result<(), Failure> {
     let capture = capture_of_text(rt.alloc(), call.text)?;
     let mut sink = ToWrite::new(Vec::with_capacity(rt.alloc(), ROOM)?);
     if call.makes {
@@ -64,11 +64,11 @@ pub fn call_write<R: Runtime + AllocGlobal>(rt: &R, call: &Call) -> Result<(), S
 }
 
 /// `write` to a sink that counts its calls. No memory is refused.
-pub fn count_write<R: Runtime + AllocGlobal>(rt: &R, call: &Call) -> Result<(), Stopped> {
+pub fn count_write<R: Runtime + AllocGlobal>(rt: &R, call: &Call) -> Result<(), Failure> {
     let capture = capture_of_text(rt.alloc(), call.text)?;
     let mut sink = CountingSink::new();
     if write(rt.alloc(), &capture, &mut sink).is_err() {
-        return Err(Stopped);
+        return Err(Failure);
     }
     println!(rt;
         "{} bytes, {} writes, {} flushes",
@@ -79,7 +79,7 @@ pub fn count_write<R: Runtime + AllocGlobal>(rt: &R, call: &Call) -> Result<(), 
 }
 
 /// A capture's text read by reads of one byte: how many gave a byte, and whether the source has failed.
-pub fn read_bytes<R: Runtime>(rt: &R, call: &Call) -> Result<(), Stopped> {
+pub fn read_bytes<R: Runtime>(rt: &R, call: &Call) -> Result<(), Failure> {
     let mut source = FromRead::new(call.text);
     let count = count_bytes(&mut source);
     println!(rt; "{count} bytes, failed {}", source.failed())?;

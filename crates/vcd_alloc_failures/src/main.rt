@@ -30,7 +30,7 @@ mod sessions;
 mod waves;
 
 use calls::{Call, make_call};
-use printing::Stopped;
+use printing::Failure;
 use std::process::ExitCode;
 use std::rt::Runtime;
 use std::{env, io};
@@ -42,24 +42,24 @@ pub const TEXT_LIMIT: usize = 32_000_000;
 fn main(rt: HostRuntime) -> ExitCode {
     match answer_words(&rt) {
         Ok(()) => ExitCode::from(0),
-        Err(Stopped) => ExitCode::from(1),
+        Err(Failure) => ExitCode::from(1),
     }
 }
 
 /// Does what the words of the command line ask for.
-fn answer_words<R: Runtime + AllocGlobal>(rt: &R) -> Result<(), Stopped> {
+fn answer_words<R: Runtime + AllocGlobal>(rt: &R) -> Result<(), Failure> {
     let words: Vec<String> = env::args(rt)?.skip(1).collect(rt.alloc())?;
     let mut text = Vec::new(rt.alloc());
     let mut source = FromRead::new(rt.reader());
     if read_whole(&mut source, TEXT_LIMIT, &mut text).is_err() {
-        return Err(Stopped);
+        return Err(Failure);
     }
     let call = call_of(words.as_slice(), text.as_slice())?;
     make_call(rt, &call)
 }
 
 /// The call that words ask for, on the capture that a text means.
-fn call_of<'a>(words: &'a [String], text: &'a [u8]) -> Result<Call<'a>, Stopped> {
+fn call_of<'a>(words: &'a [String], text: &'a [u8]) -> Result<Call<'a>, Failure> {
     let (way, name, argument, before) = match words {
         [way, name] => (way.as_str(), name.as_str(), "", ""),
         [way, name, argument] => (way.as_str(), name.as_str(), argument.as_str(), ""),
@@ -69,7 +69,7 @@ fn call_of<'a>(words: &'a [String], text: &'a [u8]) -> Result<Call<'a>, Stopped>
             argument.as_str(),
             before.as_str(),
         ),
-        _ => return Err(Stopped),
+        _ => return Err(Failure),
     };
     Ok(Call {
         makes: way == "make",

@@ -14,34 +14,34 @@ use vcd_text::write;
 
 /// The words are not understood, or something but the call itself failed.
 #[derive(Clone, Copy, Debug)]
-pub struct Stopped;
+pub struct Failure;
 
-impl From<io::Error> for Stopped {
-    fn from(_fault: io::Error) -> Stopped {
-        Stopped
+impl From<io::Error> for Failure {
+    fn from(_fault: io::Error) -> Failure {
+        Failure
     }
 }
 
-impl From<AllocError> for Stopped {
-    fn from(_refused: AllocError) -> Stopped {
-        Stopped
+impl From<AllocError> for Failure {
+    fn from(_refused: AllocError) -> Failure {
+        Failure
     }
 }
 
-impl<T: Drop> From<AllocFailed<T>> for Stopped {
-    fn from(_refused: AllocFailed<T>) -> Stopped {
-        Stopped
+impl<T: Drop> From<AllocFailed<T>> for Failure {
+    fn from(_refused: AllocFailed<T>) -> Failure {
+        Failure
     }
 }
 
-impl From<NoMemory> for Stopped {
-    fn from(_refused: NoMemory) -> Stopped {
-        Stopped
+impl From<NoMemory> for Failure {
+    fn from(_refused: NoMemory) -> Failure {
+        Failure
     }
 }
 
 /// Memory may be refused from here on.
-pub fn refuse<R: Runtime>(rt: &R) -> Result<(), Stopped> {
+pub fn refuse<R: Runtime>(rt: &R) -> Result<(), Failure> {
     io::writer(rt).write_all(b"refuse\n")?;
     Ok(())
 }
@@ -50,14 +50,14 @@ pub fn refuse<R: Runtime>(rt: &R) -> Result<(), Stopped> {
 pub const DONE: &str = "done";
 
 /// Memory is refused no more; the call had this outcome: `DONE`, or the name of a fault.
-pub fn allow<R: Runtime>(rt: &R, outcome: &str) -> Result<(), Stopped> {
+pub fn allow<R: Runtime>(rt: &R, outcome: &str) -> Result<(), Failure> {
     io::writer(rt).write_all(b"allow\n")?;
     println!(rt; "{outcome}")?;
     Ok(())
 }
 
 /// Each change of a wave.
-pub fn print_wave<R: Runtime>(rt: &R, wave: &Wave) -> Result<(), Stopped> {
+pub fn print_wave<R: Runtime>(rt: &R, wave: &Wave) -> Result<(), Failure> {
     for change in wave.changes() {
         println!(rt; "{} {:?}", change.tick, change.value)?;
     }
@@ -65,12 +65,12 @@ pub fn print_wave<R: Runtime>(rt: &R, wave: &Wave) -> Result<(), Stopped> {
 }
 
 /// The whole capture as text.
-pub fn print_capture<R: Runtime + AllocGlobal>(rt: &R, capture: &Capture) -> Result<(), Stopped>
+pub fn print_capture<R: Runtime + AllocGlobal>(rt: &R, capture: &Capture) -> Result<(), Failure>
     requires { IsSound (contents capture.now) }
 {
     match write(rt.alloc(), capture, &mut ToWrite::new(io::writer(rt))) {
         Ok(()) => Ok(()),
-        Err(_) => Err(Stopped),
+        Err(_) => Err(Failure),
     }
 }
 
@@ -78,39 +78,39 @@ pub fn print_capture<R: Runtime + AllocGlobal>(rt: &R, capture: &Capture) -> Res
 pub fn print_session<R: Runtime + AllocGlobal>(
     rt: &R,
     session: &mut Session,
-) -> Result<(), Stopped> {
-    print_now(rt, session)?;
-    print_way(rt, session, &Step::Undo)?;
-    print_way(rt, session, &Step::Redo)?;
+) -> Result<(), Failure> {
+    print_state(rt, session)?;
+    print_reached(rt, session, &Step::Undo)?;
+    print_reached(rt, session, &Step::Redo)?;
     print_depth(rt, session)
 }
 
 /// How many steps can be undone and redone, and the current capture.
-fn print_now<R: Runtime + AllocGlobal>(rt: &R, session: &Session) -> Result<(), Stopped> {
+fn print_state<R: Runtime + AllocGlobal>(rt: &R, session: &Session) -> Result<(), Failure> {
     println!(rt; "{} back, {} forth", session.undoable(), session.redoable())?;
     print_capture(rt, session.capture())
 }
 
 /// The captures after each of several steps, up to the first refusal.
-fn print_way<R: Runtime + AllocGlobal>(
+fn print_reached<R: Runtime + AllocGlobal>(
     rt: &R,
     session: &mut Session,
     step: &Step,
-) -> Result<(), Stopped> {
+) -> Result<(), Failure> {
     for _ in 0..DEPTH_LIMIT {
         if session.make_step(step).is_err() {
             return Ok(());
         }
-        print_now(rt, session)?;
+        print_state(rt, session)?;
     }
     Ok(())
 }
 
 /// The depth, counted with many steps.
-fn print_depth<R: Runtime>(rt: &R, session: &mut Session) -> Result<(), Stopped> {
+fn print_depth<R: Runtime>(rt: &R, session: &mut Session) -> Result<(), Failure> {
     for _ in 0..=DEPTH_LIMIT {
         if session.apply(&Edit::Invert { signal: 0 }).is_err() {
-            return Err(Stopped);
+            return Err(Failure);
         }
     }
     println!(rt; "depth {}", session.undoable())?;

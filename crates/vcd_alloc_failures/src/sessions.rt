@@ -5,7 +5,7 @@ ghost use Rattle.std.specs.Prelude.{◌≤◌};
 use crate::calls::Call;
 use crate::edits::edit_named;
 use crate::files::capture_of_text;
-use crate::printing::{DONE, Stopped, allow, print_capture, print_session, refuse};
+use crate::printing::{DONE, Failure, allow, print_capture, print_session, refuse};
 use std::alloc::Global;
 use std::rt::Runtime;
 use vcd_core::NoMemory;
@@ -16,7 +16,7 @@ use vcd_journal::{Answer, DEPTH_LIMIT, Session, Step, run};
 const DEPTH: u64 = 5;
 
 /// `Session::new`.
-pub fn call_new<R: Runtime + AllocGlobal>(rt: &R, call: &Call) -> Result<(), Stopped> {
+pub fn call_new<R: Runtime + AllocGlobal>(rt: &R, call: &Call) -> Result<(), Failure> {
     let capture = capture_of_text(rt.alloc(), call.text)?;
     if !call.makes {
         return print_capture(rt, &capture);
@@ -36,12 +36,12 @@ pub fn call_new<R: Runtime + AllocGlobal>(rt: &R, call: &Call) -> Result<(), Sto
 
 /// A step by its name, after the steps that `before` names: `Session::apply`, `undo`, `redo`, and `set_depth`, which
 /// begins at a depth of 1.
-pub fn call_step<R: Runtime + AllocGlobal>(rt: &R, call: &Call) -> Result<(), Stopped> {
+pub fn call_step<R: Runtime + AllocGlobal>(rt: &R, call: &Call) -> Result<(), Failure> {
     let depth = if call.argument == "depth" { 1 } else { DEPTH };
     let mut session = new_session(rt.alloc(), call.text, depth)?;
     make_steps(&mut session, call.before)?;
     let Some(step) = step_named(call.argument) else {
-        return Err(Stopped);
+        return Err(Failure);
     };
     if call.makes {
         refuse(rt)?;
@@ -67,33 +67,33 @@ fn step_named<'a>(name: &'a str) -> Option<Step<'a>> {
 }
 
 /// Makes the steps that words name, which are all accepted.
-fn make_steps(session: &mut Session, words: &str) -> Result<(), Stopped> {
+fn make_steps(session: &mut Session, words: &str) -> Result<(), Failure> {
     for name in words.split_whitespace() {
         let Some(step) = step_named(name) else {
-            return Err(Stopped);
+            return Err(Failure);
         };
         if session.make_step(&step).is_err() {
-            return Err(Stopped);
+            return Err(Failure);
         }
     }
     Ok(())
 }
 
 /// A session on the capture of a text.
-fn new_session(alloc: Global, text: &[u8], depth: u64) -> Result<Session, Stopped>
+fn new_session(alloc: Global, text: &[u8], depth: u64) -> Result<Session, Failure>
     requires least { 1 ≤ depth }
     requires most { depth ≤ DEPTH_LIMIT }
 {
     let capture = capture_of_text(alloc, text)?;
     match Session::new(alloc, capture, depth) {
         Ok(session) => Ok(session),
-        Err(_) => Err(Stopped),
+        Err(_) => Err(Failure),
     }
 }
 
 /// `run` of steps that do not depend on those before them. If the call is omitted, only the step at the position in
 /// `argument` is.
-pub fn call_run<R: Runtime + AllocGlobal>(rt: &R, call: &Call) -> Result<(), Stopped> {
+pub fn call_run<R: Runtime + AllocGlobal>(rt: &R, call: &Call) -> Result<(), Failure> {
     let steps = [
         Step::Edit(Edit::Rename {
             signal: 0,
@@ -119,14 +119,14 @@ pub fn call_run<R: Runtime + AllocGlobal>(rt: &R, call: &Call) -> Result<(), Sto
         allow(rt, DONE)?;
     } else {
         let position = call.argument.parse::<usize>().unwrap_or(0);
-        run_but(&mut session, &steps, position, &mut answers)?;
+        run_without(&mut session, &steps, position, &mut answers)?;
     }
     print_answers(rt, answers.as_slice())?;
     print_session(rt, &mut session)
 }
 
 /// Makes all steps except the one at a position.
-fn run_but(
+fn run_without(
     session: &mut Session,
     steps: &[Step],
     position: usize,
@@ -143,7 +143,7 @@ fn run_but(
 }
 
 /// The outcome of each step, on a line of its own: `DONE`, or the name of a fault.
-fn print_answers<R: Runtime>(rt: &R, answers: &[Answer]) -> Result<(), Stopped> {
+fn print_answers<R: Runtime>(rt: &R, answers: &[Answer]) -> Result<(), Failure> {
     for answer in answers {
         let outcome = match answer {
             Answer::Done => DONE,

@@ -3,7 +3,7 @@
 ghost use Rattle.std.specs.Prelude.{◌≡◌, ◌≤◌, All, IfOk};
 
 use crate::calls::Call;
-use crate::printing::{DONE, Stopped, allow, print_wave, refuse};
+use crate::printing::{DONE, Failure, allow, print_wave, refuse};
 use std::alloc::Global;
 use std::rt::Runtime;
 use vcd_core::{Bit, Change, NoMemory, Value, Wave};
@@ -24,24 +24,24 @@ fn full_wave(alloc: Global) -> Result<Wave, NoMemory>
 
 /// `Wave::push`, `share`, `reserve`, `reserve_exact` and `reserve_splice`, by their names. With the word `shared`
 /// another wave shares the list, and is printed, too.
-pub fn call_on_wave<R: Runtime + AllocGlobal>(rt: &R, call: &Call) -> Result<(), Stopped> {
+pub fn call_on_wave<R: Runtime + AllocGlobal>(rt: &R, call: &Call) -> Result<(), Failure> {
     let piece = full_wave(rt.alloc())?;
     let mut wave = full_wave(rt.alloc())?;
     if call.argument == "shared" {
         let other = wave.share()?;
-        grow_and_tell(rt, call, &mut wave, piece.changes())?;
+        make_growth(rt, call, &mut wave, piece.changes())?;
         return print_wave(rt, &other);
     }
-    grow_and_tell(rt, call, &mut wave, piece.changes())
+    make_growth(rt, call, &mut wave, piece.changes())
 }
 
 /// Makes the call unless it is omitted, and prints its outcome and the wave. A splice puts in this piece.
-fn grow_and_tell<R: Runtime + AllocGlobal>(
+fn make_growth<R: Runtime + AllocGlobal>(
     rt: &R,
     call: &Call,
     wave: &mut Wave,
     piece: &[Change],
-) -> Result<(), Stopped>
+) -> Result<(), Failure>
     requires width { wave.old.width ≡ 1 }
     requires early { All (λ c. c.tick ≤ 0) wave.old.changes }
 {
