@@ -23,7 +23,7 @@ use Rattle.vcdedit.specs.Script.{script_lines}
 use Rattle.vcdedit.specs.Run.{RunOutcome, IsRun}
 use Rattle.vcdedit.specs.RunOutcomes.{run_outcome}
 use Rattle.vcdedit.specs.RunEnds.{DeviceEnd, IsRead, IsAccepted, IsUntouched, HasText, RunEnds}
-use Rattle.vcdedit.specs.inside.RunLines.{IfReplyFault, RunsLines, StopsInLines}
+use Rattle.vcdedit.specs.inside.RunLines.{HasFailedAt, RunsLines, StopsInLines}
 use Rattle.vcdedit.specs.inside.RunStages.{EndsBeforeOutput, EndsBeforeReplies, EndsAfterCapture}
 use Rattle.vcdedit.specs.inside.ScriptRuns.{ScriptGives}
 use Rattle.vcdedit.specs.inside.SentReplies.{HasSentReplies}
@@ -149,7 +149,7 @@ pub lines_end : (capture script replies : DeviceEnd) (bytes : List ℕ) (depth s
     (e : RunError) →
     IsAccepted capture → IsRead SCRIPT_LIMIT script → IfSome capture.before (λ f. FileMeans f c skipped)
     → IfSome script.before (λ s. bytes ≡ s) →
-    IfReplyFault e (λ _. replies.has_failed ≡ true)
+    HasFailedAt replies.has_failed e
     → StopsInLines skipped (script_lines bytes) (first_machine c depth) replies.before replies.after e →
     EndsBeforeOutput depth capture script replies e
 unfolding RunEnds
@@ -162,6 +162,7 @@ lines_end capture script replies bytes depth skipped c (run_errors.NoMemory (suc
     (concat (take n (run_outcome c skipped bytes depth).replies))) one_less stops.2 in (
       accepted,
       whole,
+      failed,
       kept,
       where_told capture.before script.before bytes depth skipped c _ means is (omega (arith, stops.1), took),
     )
@@ -276,7 +277,7 @@ replies_sent (Err (run_errors.NoMemory zero)) depth capture script replies outpu
 replies_sent (Err (run_errors.NoMemory (suc count))) depth capture script replies output later ends kept =
     of_replies capture.before script.before depth _ _
     (λ written told. appends_kept replies.before replies.after later (concat (take count written.replies)) told.1 kept)
-    ends.3
+    ends.4
 replies_sent (Err (run_errors.Capture e)) depth capture script replies output later ends kept = tt
 replies_sent (Err run_errors.ScriptTooLarge) depth capture script replies output later ends kept = tt
 replies_sent (Err run_errors.ScriptReadFault) depth capture script replies output later ends kept = tt

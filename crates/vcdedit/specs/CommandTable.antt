@@ -94,8 +94,8 @@ command_rows c skipped =
     ∷ row (codes "i2c") 2 (λ scl sda. read_signal c scl ▷ λ j. read_signal c sda ▷ λ k.
     unless_refused (scalar_test c (j ∷ k ∷ []) ∷ []) (reply (i2c_lines c j k))) ∷ []
 
--- what the words of a line ask for on a capture, or the name of the refusal; `skipped`: the variables that were left
--- out
+-- what the words of a line ask for on a capture, or the name of the refusal; `skipped`: how many variables were
+-- left out
 abbrev pub request_of_words : Contents → (skipped : ℕ) → List (List ℕ) → ReadResult Request
 request_of_words c skipped [] = Ok (reply [])
 request_of_words c skipped (first ∷ words) = if bytes_eq (take 1 first) (codes "#") then Ok (reply [])

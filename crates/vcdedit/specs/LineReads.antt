@@ -88,8 +88,7 @@ scalar_test c ks = (list_any (is_vector c) ks, codes "NotScalar")
 
 -- the tests of a UART setup, each with the name of its refusal
 abbrev pub uart_tests : UartSetup → Tests
-uart_tests u =
-    (not (is_between 1 RATIO_LIMIT u.numerator && is_between 1 RATIO_LIMIT u.denominator), codes "BadRatio")
+uart_tests u = (not (is_between 1 RATIO_LIMIT u.numerator && is_between 1 RATIO_LIMIT u.denominator), codes "BadRatio")
     ∷ (nat_lt u.numerator (2 * u.denominator), codes "BitTooShort")
     ∷ (not (is_between 5 9 u.data_bits), codes "BadData") ∷ (not (is_between 1 2 u.stop_bits), codes "BadStop") ∷ []
 

@@ -75,7 +75,7 @@ module _ (c : Contents) (skipped depth : ℕ) (lines : List (List ℕ)) where
     -- a refused line j changes nothing: neither edits in force, and so the capture, nor what can be undone or redone
     pub unchanged : (j : ℕ) → is_err (line_answer c skipped (history_at j) (get_or lines j [])) ≡ true
         → history_at (j + 1) ≡ history_at j
-    -- the capture after an undo at line j is that before the line i that made the undone edit, the last one in force
+    -- the capture after an undo at line j is that before a line i that made the undone edit, the last one in force
     pub undo_restores : (j : ℕ) → IsStepAt j steps.Undo → (i : ℕ) × (e : Edit) × (i < j) × IsStepAt i (steps.Edit e)
         × ((history_at j).edits ≡ e ∷ (history_at i).edits) × (capture_at (j + 1) ≡ capture_at i)
     -- the replies, with the number of their lines, and how many are refusals

@@ -91,8 +91,9 @@ module _ (depth : ℕ) (capture script : DeviceEnd) where
     -- memory ran out before the first line
     RunEnds (Err (NoMemory zero)) = IsAccepted capture × IsUnwritten
     -- memory ran out at a line, counted from 1: exactly the replies to the lines before it are written
-    RunEnds (Err (NoMemory (suc before))) = IsAccepted capture × IsRead SCRIPT_LIMIT script × IfSome output IsUntouched
-        × OfRun (λ written. (before < length written.replies) × HasText replies (concat (take before written.replies)))
+    RunEnds (Err (NoMemory (suc before))) = IsAccepted capture × IsRead SCRIPT_LIMIT script
+        × (replies.has_failed ≡ false) × IfSome output IsUntouched × OfRun (λ written.
+        (before < length written.replies) × HasText replies (concat (take before written.replies)))
     -- the writer of the replies failed: it took exactly so many bytes of them
     RunEnds (Err (ReplyFault count)) = IsAccepted capture × IsRead SCRIPT_LIMIT script × (replies.has_failed ≡ true)
         × IfSome output IsUntouched × OfRun (λ written. HasFront replies count (concat written.replies))

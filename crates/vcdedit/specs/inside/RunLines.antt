@@ -1,5 +1,5 @@
 -- The effect of a run of lines on a history and on the writer of the replies.
-use Rattle.std.specs.Prelude.{◌≡◌, ◌≤◌, ℕ, ◌+◌, ◌-◌, if◌then◌else◌, List, length, take, Option}
+use Rattle.std.specs.Prelude.{◌≡◌, ◌≤◌, ℕ, ◌+◌, ◌-◌, if◌then◌else◌, Bool, true, false, List, length, take, Option}
 use Rattle.std.specs.List.{concat}
 use Rattle.std.specs.Io.KnownBytes.{Appends, Keeps}
 use Rattle.vcd_journal.specs.Machine.{Machine}
@@ -34,10 +34,11 @@ RunsLines skipped lines old new refused before after = (sent : List (List ℕ)) 
 
 -- ---- faults
 
--- if the fault is one of the writer of the replies, this holds of the number of bytes that it took
-abbrev pub IfReplyFault : RunError → (ℕ → Type 0) → Type 0
-IfReplyFault (run_errors.ReplyFault written) said = said written
-IfReplyFault _ said = Unit {0}
+-- at this fault the writer of the replies has failed, or has not
+abbrev pub HasFailedAt : (has_failed : Bool) → RunError → Type 0
+HasFailedAt has_failed (run_errors.ReplyFault written) = has_failed ≡ true
+HasFailedAt has_failed (run_errors.NoMemory line) = has_failed ≡ false
+HasFailedAt has_failed _ = Unit {0}
 
 -- the fault is one of a line
 abbrev pub IsLineFault : RunError → Type 0

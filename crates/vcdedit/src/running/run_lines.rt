@@ -3,7 +3,7 @@
 ghost use Rattle.std.specs.Prelude.{◌≡◌, ◌≤◌, ◌<◌, ◌^◌, ℕ, false, true, length, IfOk, IfErr, OnOk};
 ghost use Rattle.std.specs.Io.KnownBytes.{Appends};
 ghost use Rattle.vcdedit.specs.Script.{script_lines};
-ghost use Rattle.vcdedit.specs.inside.RunLines.{IfReplyFault, LineStep, RunsLines, IsLineFault, StopsAtReply, StopsAtLine, StopsInLines};
+ghost use Rattle.vcdedit.specs.inside.RunLines.{HasFailedAt, LineStep, RunsLines, IsLineFault, StopsAtReply, StopsAtLine, StopsInLines};
 
 use crate::replies::answer_line;
 use crate::running::RunError;
@@ -32,7 +32,7 @@ pub fn run_lines<P: Sink>(
         (P.taken replies.old) (P.taken replies.new)) }
     ensures not_failed { OnOk result (P.has_failed replies.new ≡ false) }
     ensures fault { IfErr result IsLineFault }
-    ensures failed { IfErr result (λ e. IfReplyFault e (λ _. P.has_failed replies.new ≡ true)) }
+    ensures failed { IfErr result (HasFailedAt (P.has_failed replies.new)) }
     ensures stopped { IfErr result (StopsInLines skipped (script_lines script.now) session.old
         (P.taken replies.old) (P.taken replies.new)) }
 {
@@ -73,7 +73,7 @@ fn run_line<P: Sink>(
     ensures short { IfOk result (λ outcome. outcome.1 < 2 ^ 64) }
     ensures not_failed { OnOk result (P.has_failed replies.new ≡ false) }
     ensures fault { IfErr result IsLineFault }
-    ensures failed { IfErr result (λ e. IfReplyFault e (λ _. P.has_failed replies.new ≡ true)) }
+    ensures failed { IfErr result (HasFailedAt (P.has_failed replies.new)) }
     ensures stopped { IfErr result (StopsAtLine skipped number line.now session.old written
         (P.taken replies.old) (P.taken replies.new)) }
 {
@@ -94,7 +94,7 @@ fn write_reply<P: Sink>(text: &[u8], replies: &mut P, written: u128) -> Result<(
         (Appends (P.taken replies.old) (P.taken replies.new) text.now) }
     ensures not_failed { OnOk result (P.has_failed replies.new ≡ false) }
     ensures fault { IfErr result IsLineFault }
-    ensures failed { IfErr result (λ e. IfReplyFault e (λ _. P.has_failed replies.new ≡ true)) }
+    ensures failed { IfErr result (HasFailedAt (P.has_failed replies.new)) }
     ensures stopped { IfErr result (λ e. (number : ℕ) → StopsAtReply number text.now written
         (P.taken replies.old) (P.taken replies.new) e) }
 {
