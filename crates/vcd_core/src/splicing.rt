@@ -92,7 +92,7 @@ fn write_at(changes: &mut Vec<Change>, at: usize, others: &[Change])
     part.copy_from_slice(others);
 }
 
-/// Moves the changes at positions `from` to before `to` to the end of the piece, which has room for
+/// Moves the changes at places `from` to before `to` to the end of the piece, which has room for
 /// them. The later ones move down and get their new ticks.
 ///
 /// Where none goes out and `by` is 0, it looks at no later change.

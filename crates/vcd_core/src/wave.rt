@@ -249,7 +249,7 @@ impl Wave {
         self.list.reserve_exact(more)
     }
 
-    /// Makes room for a [`Wave::splice`] of these positions and of this piece. The changes of the
+    /// Makes room for a [`Wave::splice`] of these places and of this piece. The changes of the
     /// wave stay the same, also where the memory is refused.
     ///
     /// It takes no memory where the room is there already. A wave with its own list gets room for
@@ -287,7 +287,7 @@ impl Wave {
         self.list.cancel_splice();
     }
 
-    /// Swaps the changes at positions `from` to before `to` with the contents of `piece`, and moves
+    /// Swaps the changes at places `from` to before `to` with the contents of `piece`, and moves
     /// the later changes by `by` ticks.
     ///
     /// It takes no memory: each list has the room for what it gets. The cost is that of the piece

@@ -78,7 +78,7 @@ fn clone_shared(shared: &Rc<Vec<Change>>) -> Result<WaveList, NoMemory>
     Ok(WaveList::Shared(shared.clone()?))
 }
 
-/// The list in a form that can be shared, and a second owner of it.
+/// An own list in a form that can be shared, and a second owner of it.
 fn share_own(alloc: Global, own: Vec<Change>) -> (WaveList, Result<WaveList, NoMemory>)
     ensures kept { changes_of_list result.0 ≡ own.items }
     ensures same { IfOk result.1 (λ other. changes_of_list other ≡ own.items) }

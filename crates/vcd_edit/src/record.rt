@@ -8,7 +8,7 @@ ghost use Rattle.vcd_edit.specs.Records.{moved_signal_view};
 use std::marker::Model;
 use vcd_core::{Change, Signal};
 
-/// A replacement for a range of a signal's changes. Those at positions `from` up to before `to` become `changes`, and
+/// A replacement for a range of a signal's changes. Those at places `from` up to before `to` become `changes`, and
 /// the later ones move by `by` ticks.
 #[derive(Drop)]
 pub struct Piece {

@@ -62,7 +62,7 @@ pub struct Loaded {
 /// Memory: those bytes, the longest word, the log and the capture. The log has 32 bytes for each
 /// change; its 128 groups are freed one by one as their waves are made. In the capture each change
 /// takes a tick and a value of `WIDTH_LIMIT` bits. Each signal also takes a copy of its code and
-/// its width, and the map takes each code once more. A table takes four bytes for each possible
+/// its width, and the map of codes takes each once more. A table takes four bytes for each possible
 /// code of up to three bytes before the last one declared.
 pub fn read<R: Source>(alloc: Global, reader: &mut R) -> Result<Loaded, ReadError>
     requires ready { R.has_failed reader.old ≡ false }

@@ -8,7 +8,7 @@ ghost use Rattle.vcd_edit.specs.inside.Exchanges.{wave_at, HasNoLessRoom, HasRoo
 use crate::record::Piece;
 use vcd_core::{Capture, Change, NoMemory};
 
-/// Makes room in a signal for a splice of these positions and changes. The contents of the capture stay the same, also
+/// Makes room in a signal for a splice of these places and changes. The contents of the capture stay the same, also
 /// if the memory is refused.
 fn reserve_wave(
     capture: &mut Capture,

@@ -22,8 +22,8 @@ pub enum CodeTarget {
 pub struct CodeTargets {
     /// Each code with its target.
     pub codes: IndexMap<Vec<u8>, CodeTarget>,
-    /// At the place of a short code: one more than its position, or 0 where the table does not have
-    /// it.
+    /// At the place of a short code: one more than the position of its variable, or 0 where the
+    /// table does not have it.
     pub short: Vec<u32>,
     ghost agrees: { TableAgrees (code_target codes) short.items },
 }

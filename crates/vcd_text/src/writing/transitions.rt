@@ -136,7 +136,8 @@ fn look_ahead(signals: &[Signal], first_tried: &mut [NextChange], keys: &[u64], 
     }
 }
 
-/// Looks at the change of a key. Nothing waits for what it reads.
+/// Looks at the change of a key, so that it is in the cache when it is written. Nothing waits for
+/// what it reads.
 fn look_at(signals: &[Signal], first_tried: &mut [NextChange], key: u64)
     ensures { length first_tried.new ≡ length first_tried.old }
 {

@@ -14,9 +14,10 @@ use std::alloc::Global;
 use std::mem::swap;
 use vcd_core::{Change, NoMemory, Signal};
 
-/// The limit of the positions in a key, and of the ticks. Both fit together in a word.
+/// The limit of the positions in a key. Positions and ticks fit together in 64 bits.
 pub const POSITIONS: u64 = 65536;
 
+/// The limit of the ticks in a key.
 pub const SPAN: u64 = u64::MAX / POSITIONS;
 
 /// The least number of changes that a window has room for. A short list is sorted faster, and stays
@@ -31,8 +32,8 @@ pub struct Window {
     pub keys: Vec<u64>,
     /// The next change of each signal after the window.
     pub next_changes: Vec<NextChange>,
-    /// The next changes from the window's first tick on; as it is written, the places where they are
-    /// looked up first.
+    /// The next change of each signal from the window's first tick on. While the window is written:
+    /// the place at which its next change is looked up first.
     pub first_tried: Vec<NextChange>,
 }
 

@@ -75,7 +75,7 @@ fn finished_signal(variable: Variable, before: &mut [Signal]) -> Result<Signal, 
     if first < before.len() {
         return with_wave_of(signal, &mut before[first]);
     }
-    // Called for its clause alone: the wave has its one form.
+    // No effect: the call's clause shows the prover that the list is a wave.
     signal.wave.changes();
     Ok(signal)
 }
