@@ -79,7 +79,7 @@ impl Reader {
         requires word { 0 < length text.now }
         ensures { WordsResult self.old (word_on text.now line ∷ []) result self.new }
     {
-        let shown = self.fault_line(line);
+        let shown = self.item_fault_line(line);
         match self.take(alloc, text, line) {
             Ok(()) => Ok(()),
             Err(fault) => Err(ReadError::at(shown, fault)),
@@ -106,7 +106,7 @@ impl Reader {
     }
 
     /// The line of a fault of the next word, which is on this line.
-    fn fault_line(&self, line: u64) -> u64
+    fn item_fault_line(&self, line: u64) -> u64
         ensures { result ≡ item_fault_line self.now.item self.now.line line }
     {
         match self.item {

@@ -14,6 +14,6 @@ returns-in-Ok c = λ taken r. words_taken c.args.self.now c.take.new.self taken
 pub returns-in-Err : goal.returns-in-Err
 returns-in-Err c = λ taken more r.
     let w = word_on c.args.text.now c.args.line in
-    let is = ap (λ line. error_at line c.in-Err.fault) (sym c.fault_line-shown.ensures) ∙ sym c.at.ensures in
+    let is = ap (λ line. error_at line c.in-Err.fault) (sym c.item_fault_line-shown.ensures) ∙ sym c.at.ensures in
     subst (λ (e : ReadError). (e ≡ memory_error) ⊎ ShowsFault (taken ++ w ∷ more) e.line e.fault) is
     (one_shown c.args.self.now taken more w r c.in-Err.fault (c.in-Err.ensures r.told r.begun r.at))
