@@ -23,7 +23,7 @@ use Rattle.vcd_text.specs.inside.Variables.{VariablesMatch, Sets, BinaryNumberFa
 use Rattle.vcd_text.specs.inside.Variables.{too_long, ChangeResult}
 use Rattle.vcd_text.specs.declared.reading.change_log.LoggedChange.{LoggedChange}
 use Rattle.vcd_text.specs.declared.reading.code_targets.CodeTarget.{CodeTarget}
-use Rattle.vcd_text.specs.declared.reading.code_targets.CodeTarget.TheVariants.{Skipped, Kept}
+use Rattle.vcd_text.specs.declared.reading.code_targets.CodeTarget.TheVariants.{Skipped, Position}
 use Rattle.vcd_text.specs.declared.reading.variables.Variable.{Variable}
 use Rattle.vcd_text.specs.declared.reading.variables.Variables.{Variables}
 use Rattle.vcd_text.proofs.LoggedValues.{gives_late, gives_as, gives_appended, gives_pushed}
@@ -77,7 +77,7 @@ with_changes vs list log = record vs { kept = list; log = log }
 
 -- the variable of a code
 module _ (old : Variables) (c : ParseState) (code digits : List ℕ) (first : ℕ) (k : VariablesMatch old c)
-    (had : target_of old code ≡ Some (Kept first)) where
+    (had : target_of old code ≡ Some (Position first)) where
   pub own_wave : (d : VariableDeclaration) × (variable_of c code ≡ Some d) × (is_skipped d ≡ false)
       × HasWave old.kept.items (logged old.log.items) first code d.size c.value_changes c.tick
   own_wave = grind (arith, stands_kept)
@@ -111,7 +111,7 @@ module _ (old : Variables) (c : ParseState) (code digits : List ℕ) (first : �
 module _ (old : Variables) (list : Vec Variable) (log : Vec (Vec LoggedChange)) (c : ParseState)
     (code digits : List ℕ) (first : ℕ)
     (v w : Variable) (k : VariablesMatch old c)
-    (had : target_of old code ≡ Some (Kept first)) (is_first : v ≡ (own_wave old c code digits first k had).3.first)
+    (had : target_of old code ≡ Some (Position first)) (is_first : v ≡ (own_wave old c code digits first k had).3.first)
     (items : list.items ≡ set old.kept.items first w) (same : declaration w ≡ declaration v)
     (same_first : w.first ≡ v.first)
     (value : IsTrue (is_binary_number digits)) (short : length digits ≤ v.signal.wave.width)
@@ -143,7 +143,7 @@ module _ (old : Variables) (list : Vec Variable) (log : Vec (Vec LoggedChange)) 
   new_value_change = record { tick = c.tick; code = code; letters = letters_of_digits digits }
 
   -- the wave of the code takes the value
-  wave_changed : (key : List ℕ) (position size : ℕ) → code ≡ key → target_of old key ≡ Some (Kept position)
+  wave_changed : (key : List ℕ) (position size : ℕ) → code ≡ key → target_of old key ≡ Some (Position position)
       → HasWave old.kept.items (logged old.log.items) position key size c.value_changes c.tick
       → HasWave list.items (logged log.items) position key size (c.value_changes ++ new_value_change ∷ []) c.tick
   unfolding new_value_change
@@ -227,7 +227,7 @@ module _ (old : Variables) (list : Vec Variable) (log : Vec (Vec LoggedChange)) 
 -- the result of a change of a wide variable
 pub wide_changes : (old : Variables) (list : Vec Variable) (c : ParseState) (code digits : List ℕ) (first width : ℕ)
     (v w : Variable) (result : Result (Unit {0}) Fault) (k : VariablesMatch old c)
-    (had : target_of old code ≡ Some (Kept first)) → v ≡ get_or old.kept.items first v
+    (had : target_of old code ≡ Some (Position first)) → v ≡ get_or old.kept.items first v
     → width ≡ get_or old.widths.items first width → 64 < width
     → list.items ≡ set old.kept.items first w → OnOk result (Sets c.tick digits v w)
     → IfErr result (λ fault. (fault ≡ faults.NoMemory) ⊎ RefusesBinaryNumber v.signal.wave.width digits fault)
@@ -252,7 +252,7 @@ wide_changes old list c code digits first width v w (Err fault) k had read row w
 -- the result of a change of another variable, which goes to the log
 pub narrow_changes : (old : Variables) (log : Vec (Vec LoggedChange)) (c : ParseState) (code digits : List ℕ)
     (first width : ℕ) (e : LoggedChange) (k : VariablesMatch old c)
-    (had : target_of old code ≡ Some (Kept first)) → width ≡ get_or old.widths.items first width → width ≤ 64
+    (had : target_of old code ≡ Some (Position first)) → width ≡ get_or old.widths.items first width → width ≤ 64
     → e.tick ≡ c.tick → e.position ≡ first → WritesValue width digits (logged_letters width e) → AreGrouped 0 log.items
     → ((position : ℕ) → logged log.items position ≡ (if e.position == position then logged old.log.items position
     ++ e ∷ [] else logged old.log.items position))

@@ -14,7 +14,7 @@ use Rattle.vcd_text.specs.Grammar.{VariableDeclaration, ValueChange, is_skipped}
 use Rattle.vcd_text.specs.inside.Variables.{HasWave, TargetMatches}
 use Rattle.vcd_text.specs.declared.reading.change_log.LoggedChange.{LoggedChange}
 use Rattle.vcd_text.specs.declared.reading.code_targets.CodeTarget.{CodeTarget}
-use Rattle.vcd_text.specs.declared.reading.code_targets.CodeTarget.TheVariants.{Skipped, Kept}
+use Rattle.vcd_text.specs.declared.reading.code_targets.CodeTarget.TheVariants.{Skipped, Position}
 use Rattle.vcd_text.specs.declared.reading.variables.Variable.{Variable}
 
 -- ---- codes
@@ -53,7 +53,7 @@ module _ (vs : List Variable) (log : ℕ → List LoggedChange) (value_changes :
     (code : List ℕ) where
   -- the target of a kept variable has its wave
   pub stands_kept : (declared : Option VariableDeclaration) (position : ℕ)
-      → TargetMatches vs log value_changes tick code (Some (Kept position)) declared
+      → TargetMatches vs log value_changes tick code (Some (Position position)) declared
       → (d : VariableDeclaration) × (declared ≡ Some d) × (is_skipped d ≡ false)
       × HasWave vs log position code d.size value_changes tick
   stands_kept None position s = absurd s
@@ -62,7 +62,7 @@ module _ (vs : List Variable) (log : ℕ → List LoggedChange) (value_changes :
 -- a fact about the waves in one list is one about another
 pub stands_moved : (vs ws : List Variable) (log rest : ℕ → List LoggedChange) (rs ss : List ValueChange)
     (early late : ℕ) (code : List ℕ) (target : Option CodeTarget) (declared : Option VariableDeclaration)
-    → ((position size : ℕ) → target ≡ Some (Kept position) → HasWave vs log position code size rs early
+    → ((position size : ℕ) → target ≡ Some (Position position) → HasWave vs log position code size rs early
     → HasWave ws rest position code size ss late)
     → TargetMatches vs log rs early code target declared → TargetMatches ws rest ss late code target declared
 stands_moved vs ws log rest rs ss early late code target declared h11 h12 = grind arith

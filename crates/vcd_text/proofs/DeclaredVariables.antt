@@ -31,7 +31,7 @@ use Rattle.vcd_text.specs.inside.Variables.{TargetMatches, HasFirst, HasLogs, Va
 use Rattle.vcd_text.specs.inside.Variables.{many, DeclaresAs, code_mixed, no_room, Declares}
 use Rattle.vcd_text.specs.declared.reading.code_targets.CodeTargets.{CodeTargets}
 use Rattle.vcd_text.specs.declared.reading.code_targets.CodeTarget.{CodeTarget}
-use Rattle.vcd_text.specs.declared.reading.code_targets.CodeTarget.TheVariants.{Skipped, Kept}
+use Rattle.vcd_text.specs.declared.reading.code_targets.CodeTarget.TheVariants.{Skipped, Position}
 use Rattle.vcd_text.specs.declared.reading.variables.Variable.{Variable}
 use Rattle.vcd_text.specs.declared.reading.variables.Variables.{Variables}
 use Rattle.vcd_text.proofs.CodeTargets.{own_code, by_code, stands_kept, stands_moved, found_with}
@@ -134,7 +134,8 @@ module _ (old : Variables) (targets : CodeTargets) (c : ParseState) (d : Variabl
         let before = k.firsts position v at in
         record {
           owned = puts v.code
-              ∙ by_code (λ b. (if b then Some Skipped else target_of old v.code) ≡ Some (Kept v.first)) v.code d.code
+              ∙ by_code (λ b. (if b then Some Skipped else target_of old v.code) ≡ Some (Position v.first))
+                  v.code d.code
               (λ is. absurd (grind arith)) (λ _. before.owned);
           no_later = before.no_later;
           same_size = before.same_size;
@@ -172,7 +173,7 @@ variable_at code s first = record { code = code; signal = s; first = first }
 abbrev pub IsFree : Variables → (code : List ℕ) → Signal → (first : ℕ) → Type 0
 IsFree old code s first =
     ((target_of old code ≡ None) × (first ≡ length old.kept.items))
-    ⊎ ((target_of old code ≡ Some (Kept first))
+    ⊎ ((target_of old code ≡ Some (Position first))
     × ((w : Variable) → slice_get old.kept.items first ≡ Some w → w.signal.wave.width ≡ s.wave.width))
 
 module _ (old : Variables) (c : ParseState) (scopes : List ScopeName) (code : List ℕ) (s : Signal) (first : ℕ)
@@ -199,7 +200,7 @@ module _ (old new : Variables) (c : ParseState) (scopes : List ScopeName) (code 
     ++ variable_at code s first ∷ [])
     (widths : new.widths.items ≡ old.widths.items ++ s.wave.width ∷ []) (log : new.log ≡ old.log)
     (free : IsFree old code s first)
-    (puts : Puts old new code (Kept first)) where
+    (puts : Puts old new code (Position first)) where
   silent_wave : HasWave (old.kept.items ++ variable_at code s first ∷ []) (logged old.log.items)
       (length old.kept.items) code s.wave.width c.value_changes c.tick
   unfolding latest_value value_from
@@ -218,10 +219,10 @@ module _ (old new : Variables) (c : ParseState) (scopes : List ScopeName) (code 
       let d = declaration_in scopes code s in
       let both =
       by_code (λ b. TargetMatches all (logged old.log.items) c.value_changes c.tick key
-      (if b then Some (Kept first) else target_of old key)
+      (if b then Some (Position first) else target_of old key)
       (option_or (variable_of c key) (if b then Some d else None))) key code
       (λ is. subst (λ name. TargetMatches all (logged old.log.items) c.value_changes c.tick name
-      (Some (Kept first)) (option_or (variable_of c name) (Some d))) (sym is)
+      (Some (Position first)) (option_or (variable_of c name) (Some d))) (sym is)
       (grind (arith, silent_wave, stands_longer)))
       (λ _. stands_still (logged old.log.items) c.value_changes c.tick all key (target_of old key)
       (variable_of c key)
@@ -234,7 +235,8 @@ module _ (old new : Variables) (c : ParseState) (scopes : List ScopeName) (code 
       (subst (λ o. TargetMatches all (logged old.log.items) c.value_changes c.tick key o
       (variable_of (with_declaration c d) key)) (sym (puts key))
       (subst (TargetMatches all (logged old.log.items) c.value_changes c.tick key
-      (if bytes_eq key code then Some (Kept first) else target_of old key)) (sym (found_with key c.declared d)) both)))
+      (if bytes_eq key code then Some (Position first) else target_of old key))
+        (sym (found_with key c.declared d)) both)))
 
   -- the variables before it have the positions of their first ones
   keep_earlier : (position : ℕ) (v : Variable) → slice_get old.kept.items position ≡ Some v → HasFirst new position v
@@ -243,9 +245,10 @@ module _ (old new : Variables) (c : ParseState) (scopes : List ScopeName) (code 
       let within : position < length old.kept.items = slice_get_within old.kept.items position v at in
       record {
         owned = puts v.code
-            ∙ by_code (λ b. (if b then Some (Kept first) else target_of old v.code) ≡ Some (Kept v.first)) v.code code
+            ∙ by_code (λ b. (if b then Some (Position first) else target_of old v.code) ≡ Some (Position v.first))
+                v.code code
             (λ is. elim free [
-              | inl (none, end) ↦ let no : None ≡ Some (Kept v.first) = sym none ∙ ap (target_of old) (sym is)
+              | inl (none, end) ↦ let no : None ≡ Some (Position v.first) = sym none ∙ ap (target_of old) (sym is)
                   ∙ before.owned in absurd (cc)
               | inr (had, width) ↦ sym had ∙ ap (target_of old) (sym is) ∙ before.owned
             ])
@@ -263,7 +266,7 @@ module _ (old new : Variables) (c : ParseState) (scopes : List ScopeName) (code 
       (subst (λ vs. slice_get vs position ≡ Some v) items at)) [
         | inl stood ↦ keep_earlier position v stood
         | inr (end, is) ↦ subst (HasFirst new position) is (record {
-          owned = puts code ∙ ap (λ b. if b then Some (Kept first) else target_of old code) (own_code code);
+          owned = puts code ∙ ap (λ b. if b then Some (Position first) else target_of old code) (own_code code);
           no_later = omega (arith, end, first_within);
           same_size = λ w there. (grind (arith, either_of, slice_get_within));
         })
@@ -297,7 +300,7 @@ pub push_declares : (old new : Variables) (c : ParseState) (scopes : List ScopeN
     → OnOk result (length old.kept.items < SIGNAL_LIMIT)
     → OnOk result (new.kept.items ≡ old.kept.items ++ variable_at code s first ∷ [])
     → OnOk result (new.widths.items ≡ old.widths.items ++ s.wave.width ∷ []) → new.log ≡ old.log
-    → OnOk result (Puts old new code (Kept first)) → new.skipped ≡ old.skipped
+    → OnOk result (Puts old new code (Position first)) → new.skipped ≡ old.skipped
     → IfErr result (λ fault. (fault ≡ faults.NoMemory)
     ⊎ ((fault ≡ faults.TooManySignals) × (SIGNAL_LIMIT ≤ length old.kept.items)))
     → DeclaresAs c (declaration_in scopes code s) result new

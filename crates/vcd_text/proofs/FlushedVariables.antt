@@ -12,7 +12,7 @@ use Rattle.vcd_text.specs.Meaning.{latest_value}
 use Rattle.vcd_text.specs.inside.ChangeLog.{GivesLoggedValues, changes_of_position, logged, AreGrouped, CanTake}
 use Rattle.vcd_text.specs.inside.ChangeLog.{AppliesToVariable, AppliesLogged, CanFlush, FlushesOne, FlushesLog}
 use Rattle.vcd_text.specs.inside.Variables.{declaration, target_of, HasWave, HasFirst, VariablesMatch}
-use Rattle.vcd_text.specs.declared.reading.code_targets.CodeTarget.TheVariants.{Kept}
+use Rattle.vcd_text.specs.declared.reading.code_targets.CodeTarget.TheVariants.{Position}
 use Rattle.vcd_text.specs.declared.reading.change_log.LoggedChange.{LoggedChange}
 use Rattle.vcd_text.specs.declared.reading.variables.Variable.{Variable}
 use Rattle.vcd_text.specs.declared.reading.variables.Variables.{Variables}
@@ -87,7 +87,7 @@ pub variables_can_flush : (vs : Variables) (c : ParseState) → VariablesMatch v
     → CanFlush vs.kept.items (logged vs.log.items)
 variables_can_flush vs c k = λ position some.
     let u = k.logs position some in
-    let had : target_of vs u.0.code ≡ Some (Kept position) = grind arith in
+    let had : target_of vs u.0.code ≡ Some (Position position) = grind arith in
     let own = own_wave vs c u.0.code [] position k had in
     let f : ℕ → List Bit = λ t. latest_value own.0.size u.0.code t (all_x own.0.size) c.value_changes in
     let wave = own.3 in (
@@ -140,7 +140,7 @@ module _ (old : Variables) (list : Vec Variable) (log : Vec (Vec LoggedChange)) 
       let v = stood position w at in
       let before = k.firsts position v.0 v.1 in
       record {
-        owned = ap (target_of old) v.2.same.code ∙ before.owned ∙ ap (λ n. Some (Kept n)) (sym v.2.same.first);
+        owned = ap (target_of old) v.2.same.code ∙ before.owned ∙ ap (λ n. Some (Position n)) (sym v.2.same.first);
         no_later = omega (arith, v.2.same.first, before.no_later);
         same_size = grind (arith, stood);
       }

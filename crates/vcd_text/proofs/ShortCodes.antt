@@ -3,7 +3,7 @@ use Rattle.std.proofs.Common.{◌≡◌, ◌⊎◌, inl, inr, ℕ, ◌+◌, ◌-
 use Rattle.std.proofs.Common.{Some, refl, ap, subst, ◌∙◌, arith}
 use Rattle.std.specs.Prelude.{slice_get, codes}
 use Rattle.vcd_text.specs.declared.reading.code_targets.CodeTarget.{CodeTarget}
-use Rattle.vcd_text.specs.declared.reading.code_targets.CodeTarget.TheVariants.{Kept}
+use Rattle.vcd_text.specs.declared.reading.code_targets.CodeTarget.TheVariants.{Position}
 use Rattle.vcd_text.specs.inside.ShortCodes.{HasPlace, TableAgrees}
 
 pub one_code : (a b : List ℕ) (place : ℕ) → HasPlace a place → HasPlace b place → a ≡ b
@@ -29,7 +29,7 @@ place_of_three (k ∷ l ∷ m ∷ n ∷ ns) long short x y z p q r a b c d e f =
 
 -- a table that matches still does with one more number
 pub agrees_more : (target : List ℕ → Option CodeTarget) (old new : List ℕ) (code : List ℕ) (place position : ℕ)
-    → TableAgrees target old → HasPlace code place → target code ≡ Some (Kept position)
+    → TableAgrees target old → HasPlace code place → target code ≡ Some (Position position)
     → ((i n : ℕ) → slice_get new i ≡ Some n → 0 < n → ((i ≡ place) × (n ≡ position + 1)) ⊎ (slice_get old i ≡ Some n))
     → TableAgrees target new
 agrees_more target old new code place position agrees has owned puts other i n there at some =
@@ -37,7 +37,7 @@ agrees_more target old new code place position agrees has owned puts other i n t
       | inl (same, number) ↦
           let is : other ≡ code = one_code other code place (subst (HasPlace other) same there) has in
           let back : position ≡ n - 1 = omega (arith, number) in
-          ap target is ∙ owned ∙ ap (λ k. Some (Kept k)) back
+          ap target is ∙ owned ∙ ap (λ k. Some (Position k)) back
       | inr before ↦ agrees other i n there before some
     ]
 

@@ -1,4 +1,4 @@
--- The line of a declaration, piece by piece.
+-- The line of a declaration, part by part.
 use Rattle.std.proofs.Common.{arith}
 use Rattle.std.proofs.Common.{◌≡◌, ℕ, Bool, List, [], ◌∷◌, ◌++◌, sym, ap, ◌∙◌, append_assoc, codes}
 use Rattle.std.specs.Prelude.{Option}

@@ -11,10 +11,10 @@ use Rattle.std.proofs.lemmas.List.{drop_more}
 use Rattle.vcd_text.specs.declared.writing.buffer.WriteBuffer.{WriteBuffer}
 use Rattle.vcd_text.specs.inside.Written.{HasEmitted, Emits}
 
--- a piece from the front of the rest is written
-carried : (out piece rest left whole : List ℕ) → left ≡ piece ++ rest → out ++ left ≡ whole
-    → (out ++ piece) ++ rest ≡ whole
-carried out piece rest left whole split is = append_assoc out piece rest ∙ ap (λ l. out ++ l) (sym split) ∙ is
+-- a part from the front of the rest is written
+carried : (out part rest left whole : List ℕ) → left ≡ part ++ rest → out ++ left ≡ whole
+    → (out ++ part) ++ rest ≡ whole
+carried out part rest left whole split is = append_assoc out part rest ∙ ap (λ l. out ++ l) (sym split) ∙ is
 
 -- two pieces
 pub writes_both : {W : Type 0} {t : W → Option (List ℕ)} {f : W → Bool} {s0 s1 s2 : WriteBuffer × W} {a b : List ℕ}
@@ -25,7 +25,7 @@ writes_both {t = t} {f = f} {s2 = s2} {a = a} {b = b} first second = grind (arit
 pub writes_none : {W : Type 0} {t : W → Option (List ℕ)} {f : W → Bool} {s : WriteBuffer × W} → Emits t f s s []
 writes_none {t = t} {f = f} {s = s} = grind (arith, append-nil)
 
--- the same piece by another name
+-- the same part by another name
 pub writes_as : {W : Type 0} {t : W → Option (List ℕ)} {f : W → Bool} {s0 s1 : WriteBuffer × W} {a b : List ℕ} → a ≡ b
     → Emits t f s0 s1 a → Emits t f s0 s1 b
 writes_as {t = t} {f = f} {s0 = s0} {s1 = s1} same writes = grind arith
@@ -44,12 +44,12 @@ pub front_begun : {W : Type 0} {t : W → Option (List ℕ)} {f : W → Bool} {s
 front_begun same = record { done = []; writes = writes_none; split = same }
 
 pub front_grows : {W : Type 0} {t : W → Option (List ℕ)} {f : W → Bool} {s0 s1 s2 : WriteBuffer × W}
-    {piece left whole : List ℕ} (rest : List ℕ)
-    → WritesFront t f s0 s1 left whole → Emits t f s1 s2 piece → left ≡ piece ++ rest → WritesFront t f s0 s2 rest whole
-front_grows {piece = piece} {left = left} {whole = whole} rest front more is = record {
-  done = front.done ++ piece;
+    {part left whole : List ℕ} (rest : List ℕ)
+    → WritesFront t f s0 s1 left whole → Emits t f s1 s2 part → left ≡ part ++ rest → WritesFront t f s0 s2 rest whole
+front_grows {part = part} {left = left} {whole = whole} rest front more is = record {
+  done = front.done ++ part;
   writes = writes_both front.writes more;
-  split = carried front.done piece rest left whole is front.split;
+  split = carried front.done part rest left whole is front.split;
 }
 
 pub front_whole : {W : Type 0} {t : W → Option (List ℕ)} {f : W → Bool} {s0 s1 : WriteBuffer × W} {left whole : List ℕ}
@@ -58,9 +58,9 @@ front_whole {left = left} {whole = whole} front none = search (arith, writes_as,
 
 -- the items before one of a list are written, and then that item
 pub front_item : {W : Type 0} {t : W → Option (List ℕ)} {f : W → Bool} {s0 s1 s2 : WriteBuffer × W} {X : Type 0}
-    (F : List X → List ℕ) (xs : List X) (k : ℕ) (x : X) {piece whole : List ℕ}
-    → WritesFront t f s0 s1 (F (drop k xs)) whole → Emits t f s1 s2 piece → k < length xs
-    → x ≡ get_or xs k x → F (x ∷ drop (k + 1) xs) ≡ piece ++ F (drop (k + 1) xs)
+    (F : List X → List ℕ) (xs : List X) (k : ℕ) (x : X) {part whole : List ℕ}
+    → WritesFront t f s0 s1 (F (drop k xs)) whole → Emits t f s1 s2 part → k < length xs
+    → x ≡ get_or xs k x → F (x ∷ drop (k + 1) xs) ≡ part ++ F (drop (k + 1) xs)
     → WritesFront t f s0 s2 (F (drop (k + 1) xs)) whole
 front_item F xs k x front more within is split = grind (arith, front_grows, drop_more)
 
@@ -74,11 +74,11 @@ sent_bytes before t0 t1 false n k text bytes is none front more = grind (arith, 
 sent_bytes before t0 t1 true n k text bytes is none front more = grind (arith, append-nil, Appends-trans)
 
 -- the bytes sent before and now are within the text
-within_whole : (f0 : Bool) (n k : ℕ) (text piece bytes : List ℕ) → n ≤ length text
-    → (f0 ≡ false → drop n (text ++ piece) ≡ bytes) → (f0 ≡ true → k ≡ 0) → k ≤ length bytes
-    → n + k ≤ length (text ++ piece)
-within_whole true n k text piece bytes within is none few = omega (arith, none refl, within, length-append text piece)
-within_whole false n k text piece bytes within is none few = grind (arith, length-drop, length-append)
+within_whole : (f0 : Bool) (n k : ℕ) (text part bytes : List ℕ) → n ≤ length text
+    → (f0 ≡ false → drop n (text ++ part) ≡ bytes) → (f0 ≡ true → k ≡ 0) → k ≤ length bytes
+    → n + k ≤ length (text ++ part)
+within_whole true n k text part bytes within is none few = omega (arith, none refl, within, length-append text part)
+within_whole false n k text part bytes within is none few = grind (arith, length-drop, length-append)
 
 -- nothing is left after the bytes sent
 none_left : (f0 f1 : Bool) (n k : ℕ) (whole bytes : List ℕ) → (f0 ≡ false → drop n whole ≡ bytes)
@@ -91,42 +91,42 @@ count_within : (n k few whole : ℕ) → n ≤ whole → (n < 2 ^ 128 - 1 → n 
     → few ≤ whole
 count_within n k few whole within fits counted = grind (arith, ltb-true, ltb-false)
 
--- bytes are sent that are the rest of the text with the piece
+-- bytes are sent that are the rest of the text with the part
 pub bytes_sent : {W : Type 0} (t : W → Option (List ℕ)) (f : W → Bool) (s0 s1 : WriteBuffer × W) (k : ℕ)
-    (piece bytes : List ℕ) → ((text : List ℕ) → s0.0.sent ≤ length text → drop s0.0.sent text ≡ s0.0.waiting.items
-    → drop s0.0.sent (text ++ piece) ≡ bytes)
+    (part bytes : List ℕ) → ((text : List ℕ) → s0.0.sent ≤ length text → drop s0.0.sent text ≡ s0.0.unsent.items
+    → drop s0.0.sent (text ++ part) ≡ bytes)
     → Appends (t s0.1) (t s1.1) (take k bytes) → k ≤ length bytes → (f s1.1 ≡ false → k ≡ length bytes)
     → (f s0.1 ≡ true → k ≡ 0) → (f s0.1 ≡ true → f s1.1 ≡ true)
-    → s1.0.sent ≡ min (s0.0.sent + k) (2 ^ 128 - 1) → s1.0.waiting.items ≡ [] → Emits t f s0 s1 piece
-bytes_sent t f s0 s1 k piece bytes left more few all none stays counted empty = record {
+    → s1.0.sent ≡ min (s0.0.sent + k) (2 ^ 128 - 1) → s1.0.unsent.items ≡ [] → Emits t f s0 s1 part
+bytes_sent t f s0 s1 k part bytes left more few all none stays counted empty = record {
   following = λ before text stands.
       let n = s0.0.sent in
       let now = s1.0.sent in
-      let is : n < 2 ^ 128 - 1 → f s0.1 ≡ false → drop n (text ++ piece) ≡ bytes = grind arith in
-      let held : n < 2 ^ 128 - 1 → Appends before (t s0.1) (take n (text ++ piece)) = grind (arith, take-append-le) in
+      let is : n < 2 ^ 128 - 1 → f s0.1 ≡ false → drop n (text ++ part) ≡ bytes = grind arith in
+      let held : n < 2 ^ 128 - 1 → Appends before (t s0.1) (take n (text ++ part)) = grind (arith, take-append-le) in
       let early : now < 2 ^ 128 - 1 → n < 2 ^ 128 - 1 = λ small. omega (arith, counted, small) in
       let count : now < 2 ^ 128 - 1 → now ≡ n + k = λ small. omega (arith, counted, small) in
       record {
         within =
-            count_within n k now (length (text ++ piece)) (omega (arith, stands.within, length-append text piece))
-            (λ small. within_whole (f s0.1) n k text piece bytes stands.within (is small) none few) counted;
+            count_within n k now (length (text ++ part)) (omega (arith, stands.within, length-append text part))
+            (λ small. within_whole (f s0.1) n k text part bytes stands.within (is small) none few) counted;
         front = λ small.
-            subst (λ m. Appends before (t s1.1) (take m (text ++ piece))) (sym (count small))
-            (sent_bytes before (t s0.1) (t s1.1) (f s0.1) n k (text ++ piece) bytes (is (early small)) none
+            subst (λ m. Appends before (t s1.1) (take m (text ++ part))) (sym (count small))
+            (sent_bytes before (t s0.1) (t s1.1) (f s0.1) n k (text ++ part) bytes (is (early small)) none
             (held (early small)) more);
         rest = grind (arith, none_left);
       };
 }
 
--- the waiting bytes are the rest
-pub waiting_left : (o : WriteBuffer) (text : List ℕ) → o.sent ≤ length text → drop o.sent text ≡ o.waiting.items
-    → drop o.sent (text ++ []) ≡ o.waiting.items
-waiting_left o text within is = ap (drop o.sent) (append-nil text) ∙ is
+-- the unsent bytes are the rest
+pub unsent_left : (o : WriteBuffer) (text : List ℕ) → o.sent ≤ length text → drop o.sent text ≡ o.unsent.items
+    → drop o.sent (text ++ []) ≡ o.unsent.items
+unsent_left o text within is = ap (drop o.sent) (append-nil text) ∙ is
 
--- where nothing waits, a piece is the rest
-pub piece_left : (o : WriteBuffer) (piece text : List ℕ) → o.waiting.items ≡ [] → o.sent ≤ length text
-    → drop o.sent text ≡ o.waiting.items → drop o.sent (text ++ piece) ≡ piece
-piece_left o piece text none within is = drop-append-le o.sent text piece within ∙ ap (λ l. l ++ piece) (is ∙ none)
+-- where nothing waits, a part is the rest
+pub part_left : (o : WriteBuffer) (part text : List ℕ) → o.unsent.items ≡ [] → o.sent ≤ length text
+    → drop o.sent text ≡ o.unsent.items → drop o.sent (text ++ part) ≡ part
+part_left o part text none within is = drop-append-le o.sent text part within ∙ ap (λ l. l ++ part) (is ∙ none)
 
 -- ---- the whole
 
@@ -137,11 +137,11 @@ nothing_taken (Some xs) = sym (append-nil xs)
 
 -- the text since the buffer was empty
 pub whole_written : {W : Type 0} {t : W → Option (List ℕ)} {f : W → Bool} {s0 s1 : WriteBuffer × W} {whole : List ℕ}
-    → s0.0.waiting.items ≡ [] → s0.0.sent ≡ 0 → Emits t f s0 s1 whole → HasEmitted (t s0.1) (t s1.1) (f s1.1) s1.0 whole
+    → s0.0.unsent.items ≡ [] → s0.0.sent ≡ 0 → Emits t f s0 s1 whole → HasEmitted (t s0.1) (t s1.1) (f s1.1) s1.0 whole
 whole_written {t = t} {f = f} {s0 = s0} empty none writes =
     writes.following (t s0.1) [] (grind (arith, nothing_taken))
 
 -- the number of bytes of a text that was written to a writer that has not failed
 pub length_written : (before after : Option (List ℕ)) (failed : Bool) (o : WriteBuffer) (text : List ℕ) → failed ≡ false
-    → o.sent < 2 ^ 128 - 1 → HasEmitted before after failed o text → length text ≡ o.sent + length o.waiting.items
+    → o.sent < 2 ^ 128 - 1 → HasEmitted before after failed o text → length text ≡ o.sent + length o.unsent.items
 length_written before after failed o text ready few stands = grind (arith, length-drop)

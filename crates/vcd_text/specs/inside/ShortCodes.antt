@@ -3,7 +3,7 @@ use Rattle.std.specs.Prelude.{◌≡◌, ℕ, ◌+◌, ◌-◌, ◌*◌, ◌<◌
 use Rattle.std.specs.Global.{Vec}
 use Rattle.indexmap.specs.IndexMap.{IndexMap, get_by}
 use Rattle.vcd_text.specs.declared.reading.code_targets.CodeTarget.{CodeTarget}
-use Rattle.vcd_text.specs.declared.reading.code_targets.CodeTarget.TheVariants.{Kept}
+use Rattle.vcd_text.specs.declared.reading.code_targets.CodeTarget.TheVariants.{Position}
 
 -- the place of a code whose bytes are 1 to 127: they are its digits to the base 128, the lowest first
 abbrev pub HasPlace : List ℕ → ℕ → Type 0
@@ -13,7 +13,7 @@ HasPlace (b ∷ bs) place = (0 < b) × (b < 128) × ((rest : ℕ) × HasPlace bs
 -- a number above 0 at the place of a code is one more than the position of the code
 abbrev pub TableAgrees : (List ℕ → Option CodeTarget) → List ℕ → Type 0
 TableAgrees target table = (code : List ℕ) (place number : ℕ) → HasPlace code place
-    → slice_get table place ≡ Some number → 0 < number → target code ≡ Some (Kept (number - 1))
+    → slice_get table place ≡ Some number → 0 < number → target code ≡ Some (Position (number - 1))
 
 -- the target of a code
 abbrev pub code_target : {S : Type 0} → IndexMap (Vec ℕ) CodeTarget S → List ℕ → Option CodeTarget

@@ -20,7 +20,7 @@ use Rattle.vcd_text.specs.inside.ShortCodes.{code_target}
 use Rattle.vcd_text.specs.inside.ChangeLog.{GivesLoggedValues, logged, AreGrouped}
 use Rattle.vcd_text.specs.declared.reading.change_log.LoggedChange.{LoggedChange}
 use Rattle.vcd_text.specs.declared.reading.code_targets.CodeTarget.{CodeTarget}
-use Rattle.vcd_text.specs.declared.reading.code_targets.CodeTarget.TheVariants.{Skipped, Kept}
+use Rattle.vcd_text.specs.declared.reading.code_targets.CodeTarget.TheVariants.{Skipped, Position}
 use Rattle.vcd_text.specs.declared.reading.variables.Variable.{Variable}
 use Rattle.vcd_text.specs.declared.reading.variables.Variables.{Variables}
 
@@ -63,7 +63,7 @@ abbrev pub TargetMatches : List Variable → (ℕ → List LoggedChange) → Lis
     → Option VariableDeclaration → Type 0
 TargetMatches vs log value_changes tick code None None = Unit {0}
 TargetMatches vs log value_changes tick code (Some Skipped) (Some d) = IsTrue (is_skipped d)
-TargetMatches vs log value_changes tick code (Some (Kept position)) (Some d) =
+TargetMatches vs log value_changes tick code (Some (Position position)) (Some d) =
     IsFalse (is_skipped d) × HasWave vs log position code d.size value_changes tick
 TargetMatches vs log value_changes tick code target declared = ⊥
 
@@ -73,7 +73,7 @@ TargetAgrees vs c = TargetMatches vs.kept.items (logged vs.log.items) c.value_ch
 
 -- a kept variable has the position of the first one with its code, which is no later and has the same size
 pub record HasFirst (vs : Variables) (position : ℕ) (v : Variable) : Type 0 where
-  pub owned : target_of vs v.code ≡ Some (Kept v.first)
+  pub owned : target_of vs v.code ≡ Some (Position v.first)
   pub no_later : v.first ≤ position
   pub same_size : (w : Variable) → slice_get vs.kept.items v.first ≡ Some w → w.signal.wave.width ≡ v.signal.wave.width
 

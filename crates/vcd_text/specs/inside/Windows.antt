@@ -29,4 +29,4 @@ pub record IsReady (end from : ℕ) (signals : List Signal) (window : Window) : 
   pub some : 1 ≤ from
   pub room : length signals ≤ vec_capacity window.keys
   pub next : AreNext from signals window.next_changes.items
-  pub first_tried : length window.first_tried.items ≡ length signals
+  pub search_hints : length window.search_hints.items ≡ length signals

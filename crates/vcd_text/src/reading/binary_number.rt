@@ -27,7 +27,7 @@ pub fn read_value(width: u64, digits: &[u8]) -> Result<Value, Fault>
 }
 
 /// Does what [`read_value`] does, for a width of at most 64 bits.
-pub fn read_word(width: u64, digits: &[u8]) -> Result<LetterWord, Fault>
+pub fn read_letter_word(width: u64, digits: &[u8]) -> Result<LetterWord, Fault>
     requires { width ≤ 64 }
     ensures { MatchResult result (λ word. WritesValue width digits.now (letters_of width (word ∷ [])))
         (λ fault. RefusesBinaryNumber width digits.now fault) }

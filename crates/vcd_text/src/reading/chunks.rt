@@ -93,7 +93,7 @@ impl Progress {
             TakesChunk bytes result self.new }
         ensures left { self.new.left ≡ self.old.left }
     {
-        let len = closed_len(self.buffer.as_slice(), from);
+        let len = words_len(self.buffer.as_slice(), from);
         let closed = WordWalk {
             rest: &self.buffer.as_slice()[..len],
             line_feeds: self.line_feeds,
@@ -141,7 +141,7 @@ fn check_complete(reader: &Reader, line: u64) -> Result<(), ReadError>
 }
 
 /// The number of bytes up to the last white space, which is not among the first `from`.
-fn closed_len(bytes: &[u8], from: usize) -> usize
+fn words_len(bytes: &[u8], from: usize) -> usize
     requires within { from ≤ length bytes.now }
     requires no_space { list_all (λ b. not (white b)) (take from bytes.now) ≡ true }
     ensures within { result ≤ length bytes.now }

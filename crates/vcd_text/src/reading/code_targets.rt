@@ -1,7 +1,7 @@
 //! The targets of a file's codes: a map, and a table for short codes.
 
 ghost use Rattle.std.specs.Prelude.{◌≡◌, ◌⊎◌, ◌+◌, ◌<◌, ◌≤◌, ◌^◌, ℕ, List, length, if◌then◌else◌, slice_get, Some, None, IfSome, IfOk, OnOk, bytes_eq};
-ghost use Rattle.vcd_text.specs.declared.reading.code_targets.CodeTarget.TheVariants.{Kept as KeptAt};
+ghost use Rattle.vcd_text.specs.declared.reading.code_targets.CodeTarget.TheVariants.{Position as PositionAt};
 ghost use Rattle.vcd_text.specs.inside.ShortCodes.{HasPlace, TableAgrees, code_target};
 
 use indexmap::IndexMap;
@@ -13,8 +13,8 @@ use vcd_core::{NoMemory, SIGNAL_LIMIT, copy_word};
 pub enum CodeTarget {
     /// A skipped variable.
     Skipped,
-    /// The kept variable at this position, the first with the code.
-    Kept(usize),
+    /// The position of the first kept variable with the code.
+    Position(usize),
 }
 
 /// The targets of the codes.
@@ -44,7 +44,7 @@ impl CodeTargets {
         ensures { result ≡ code_target self.now.codes code.now }
     {
         if let Some(position) = self.position_of_short(code) {
-            return Some(CodeTarget::Kept(position));
+            return Some(CodeTarget::Position(position));
         }
         target_in(&self.codes, code)
     }
@@ -52,7 +52,7 @@ impl CodeTargets {
     /// The position of a short code, where the table has it.
     fn position_of_short(&self, code: &[u8]) -> Option<usize>
         ensures { IfSome result (λ position.
-            code_target self.now.codes code.now ≡ Some (KeptAt position)) }
+            code_target self.now.codes code.now ≡ Some (PositionAt position)) }
     {
         let place = short_place(code)?;
         let number = *self.short.get(place)?;
@@ -129,7 +129,7 @@ fn enter(
     let Some(place) = short_place(code) else {
         return Ok(());
     };
-    let Some(CodeTarget::Kept(position)) = target_in(codes, code) else {
+    let Some(CodeTarget::Position(position)) = target_in(codes, code) else {
         return Ok(());
     };
     if position >= SIGNAL_LIMIT {

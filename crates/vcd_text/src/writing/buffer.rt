@@ -16,84 +16,84 @@ const ROOM: usize = 65536;
 /// the writer, nothing more is sent.
 #[derive(Drop)]
 pub struct WriteBuffer {
-    pub waiting: Vec<u8>,
+    pub unsent: Vec<u8>,
     pub sent: u128,
 }
 
 impl WriteBuffer {
     /// An empty buffer.
     pub fn new(alloc: Global) -> Result<WriteBuffer, NoMemory>
-        ensures waiting { IfOk result (λ buffer. buffer.waiting.items ≡ []) }
+        ensures unsent { IfOk result (λ buffer. buffer.unsent.items ≡ []) }
         ensures sent { IfOk result (λ buffer. buffer.sent ≡ 0) }
-        ensures room { IfOk result (λ buffer. vec_capacity buffer.waiting ≡ ROOM) }
+        ensures room { IfOk result (λ buffer. vec_capacity buffer.unsent ≡ ROOM) }
     {
-        let waiting = Vec::with_capacity(alloc, ROOM)?;
-        Ok(WriteBuffer { waiting, sent: 0 })
+        let unsent = Vec::with_capacity(alloc, ROOM)?;
+        Ok(WriteBuffer { unsent, sent: 0 })
     }
 }
 
-/// Appends a piece to the text. It takes no memory.
-pub fn write_piece<W: Sink>(buffer: &mut WriteBuffer, writer: &mut W, piece: &[u8])
+/// Appends bytes to the text. It takes no memory.
+pub fn write_bytes<W: Sink>(buffer: &mut WriteBuffer, writer: &mut W, bytes: &[u8])
     ensures written { Emits W.taken W.has_failed (buffer.old, writer.old) (buffer.new, writer.new)
-        piece.now }
+        bytes.now }
     // where there is room the writer is not called
-    ensures gathered { vec_len buffer.old.waiting + length piece.now ≤ vec_capacity buffer.old.waiting →
+    ensures buffered { vec_len buffer.old.unsent + length bytes.now ≤ vec_capacity buffer.old.unsent →
         writer.new ≡ writer.old }
-    ensures room { vec_capacity buffer.old.waiting ≤ vec_capacity buffer.new.waiting }
+    ensures room { vec_capacity buffer.old.unsent ≤ vec_capacity buffer.new.unsent }
 {
-    if has_space_for(&buffer.waiting, piece.len()) {
-        let _ = buffer.waiting.extend_from_slice(piece);
+    if has_space_for(&buffer.unsent, bytes.len()) {
+        let _ = buffer.unsent.extend_from_slice(bytes);
         return;
     }
-    send_waiting(buffer, writer);
-    if has_space_for(&buffer.waiting, piece.len()) {
-        let _ = buffer.waiting.extend_from_slice(piece);
+    send_buffer(buffer, writer);
+    if has_space_for(&buffer.unsent, bytes.len()) {
+        let _ = buffer.unsent.extend_from_slice(bytes);
         return;
     }
-    send_piece(buffer, writer, piece);
+    send_directly(buffer, writer, bytes);
 }
 
 /// Appends a byte to the text.
 pub fn write_byte<W: Sink>(buffer: &mut WriteBuffer, writer: &mut W, byte: u8)
     ensures written { Emits W.taken W.has_failed (buffer.old, writer.old) (buffer.new, writer.new)
         (byte ∷ []) }
-    ensures gathered { vec_len buffer.old.waiting + 1 ≤ vec_capacity buffer.old.waiting →
+    ensures buffered { vec_len buffer.old.unsent + 1 ≤ vec_capacity buffer.old.unsent →
         writer.new ≡ writer.old }
-    ensures room { vec_capacity buffer.old.waiting ≤ vec_capacity buffer.new.waiting }
+    ensures room { vec_capacity buffer.old.unsent ≤ vec_capacity buffer.new.unsent }
 {
-    if has_space_for(&buffer.waiting, 1) {
-        let _ = buffer.waiting.push(byte);
+    if has_space_for(&buffer.unsent, 1) {
+        let _ = buffer.unsent.push(byte);
         return;
     }
-    write_piece(buffer, writer, &[byte]);
+    write_bytes(buffer, writer, &[byte]);
 }
 
-fn has_space_for(waiting: &Vec<u8>, count: usize) -> bool
-    ensures { result ≡ nat_le (vec_len waiting.now + count) (vec_capacity waiting.now) }
+fn has_space_for(unsent: &Vec<u8>, count: usize) -> bool
+    ensures { result ≡ nat_le (vec_len unsent.now + count) (vec_capacity unsent.now) }
 {
-    count <= waiting.capacity() - waiting.len()
+    count <= unsent.capacity() - unsent.len()
 }
 
-/// Sends all waiting bytes.
-fn send_waiting<W: Sink>(buffer: &mut WriteBuffer, writer: &mut W)
+/// Sends all bytes of the buffer.
+fn send_buffer<W: Sink>(buffer: &mut WriteBuffer, writer: &mut W)
     ensures written { Emits W.taken W.has_failed (buffer.old, writer.old) (buffer.new, writer.new)
         [] }
-    ensures empty { buffer.new.waiting.items ≡ [] }
-    ensures room { vec_capacity buffer.new.waiting ≡ vec_capacity buffer.old.waiting }
+    ensures empty { buffer.new.unsent.items ≡ [] }
+    ensures room { vec_capacity buffer.new.unsent ≡ vec_capacity buffer.old.unsent }
 {
-    let count = send_bytes(writer, buffer.waiting.as_slice());
+    let count = send_bytes(writer, buffer.unsent.as_slice());
     buffer.sent = buffer.sent.saturating_add(count);
-    buffer.waiting.clear();
+    buffer.unsent.clear();
 }
 
-/// Sends a piece, where nothing waits.
-fn send_piece<W: Sink>(buffer: &mut WriteBuffer, writer: &mut W, piece: &[u8])
-    requires empty { buffer.old.waiting.items ≡ [] }
+/// Sends bytes past the buffer, which is empty.
+fn send_directly<W: Sink>(buffer: &mut WriteBuffer, writer: &mut W, bytes: &[u8])
+    requires empty { buffer.old.unsent.items ≡ [] }
     ensures written { Emits W.taken W.has_failed (buffer.old, writer.old) (buffer.new, writer.new)
-        piece.now }
-    ensures room { vec_capacity buffer.new.waiting ≡ vec_capacity buffer.old.waiting }
+        bytes.now }
+    ensures room { vec_capacity buffer.new.unsent ≡ vec_capacity buffer.old.unsent }
 {
-    let count = send_bytes(writer, piece);
+    let count = send_bytes(writer, bytes);
     buffer.sent = buffer.sent.saturating_add(count);
 }
 
@@ -114,7 +114,7 @@ fn send_bytes<W: Sink>(writer: &mut W, bytes: &[u8]) -> u128
     }
 }
 
-/// Sends the waiting bytes and flushes the writer.
+/// Sends the unsent bytes and flushes the writer.
 ///
 /// An error means that the writer has failed. It gives the number of bytes of the text that the
 /// writer took.
@@ -128,7 +128,7 @@ pub fn send_and_flush<W: Sink>(buffer: WriteBuffer, writer: &mut W) -> Result<()
         → TookBefore text before (W.taken writer.new) (W.has_failed writer.new) e) }
 {
     let mut buffer = buffer;
-    send_waiting(&mut buffer, writer);
+    send_buffer(&mut buffer, writer);
     let written = buffer.sent;
     if writer.failed() {
         return Err(WriteError::WriteFault { written });

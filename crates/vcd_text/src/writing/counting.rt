@@ -43,8 +43,8 @@ pub fn check_countable(alloc: Global, capture: &Capture) -> Result<(), NoMemory>
     ensures counted { OnOk result (length (declarations_text (contents capture.now)) < 2 ^ 127) }
     ensures refused { OnErr result (2 ^ 126 ≤ length (declarations_text (contents capture.now))) }
 {
-    let waiting = Vec::new(alloc);
-    let mut buffer = WriteBuffer { waiting, sent: 0 };
+    let unsent = Vec::new(alloc);
+    let mut buffer = WriteBuffer { unsent, sent: 0 };
     write_declarations(&mut buffer, &mut NullSink, capture);
     if buffer.sent >= COUNT_LIMIT {
         return Err(NoMemory);

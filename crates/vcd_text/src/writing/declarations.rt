@@ -11,7 +11,7 @@ ghost use Rattle.vcd_text.specs.Text.{header_items, item_line, same_scope, scope
 ghost use Rattle.vcd_text.specs.inside.TextParts.{declarations_text};
 ghost use Rattle.vcd_text.specs.inside.Written.{Emits};
 
-use super::buffer::{WriteBuffer, write_byte, write_piece};
+use super::buffer::{WriteBuffer, write_byte, write_bytes};
 use super::codes::write_code;
 use super::lines::{write_end, write_word, write_words};
 use itoa::Buffer;
@@ -27,7 +27,7 @@ pub fn write_declarations<W: Sink>(buffer: &mut WriteBuffer, writer: &mut W, cap
     write_header(buffer, writer, capture.header());
     write_timescale(buffer, writer, capture.timescale());
     write_signals(buffer, writer, capture.signals());
-    write_piece(buffer, writer, b"$enddefinitions $end\n");
+    write_bytes(buffer, writer, b"$enddefinitions $end\n");
 }
 
 /// Writes a line for each header entry.
@@ -44,7 +44,7 @@ fn write_entry<W: Sink>(buffer: &mut WriteBuffer, writer: &mut W, header: &Heade
     ensures { Emits W.taken W.has_failed (buffer.old, writer.old) (buffer.new, writer.new)
         (item_line (entry header.now.kind header.now.words)) }
 {
-    write_piece(buffer, writer, header_keyword(header.kind).as_bytes());
+    write_bytes(buffer, writer, header_keyword(header.kind).as_bytes());
     write_words(buffer, writer, header.words.as_slice());
     write_end(buffer, writer);
 }
@@ -65,7 +65,7 @@ fn write_timescale<W: Sink>(buffer: &mut WriteBuffer, writer: &mut W, timescale:
         (flat_map item_line (timescale_items timescale)) }
 {
     if let Some(timescale) = timescale {
-        write_piece(buffer, writer, b"$timescale");
+        write_bytes(buffer, writer, b"$timescale");
         write_word(
             buffer,
             writer,
@@ -103,7 +103,7 @@ fn write_variable<W: Sink>(
     ensures { Emits W.taken W.has_failed (buffer.old, writer.old) (buffer.new, writer.new)
         (item_line (variable_item position (signal_contents signal.now))) }
 {
-    write_piece(buffer, writer, b"$var");
+    write_bytes(buffer, writer, b"$var");
     write_word(buffer, writer, signal.kind.as_slice());
     write_word(
         buffer,
@@ -136,7 +136,7 @@ fn write_upscopes<W: Sink>(buffer: &mut WriteBuffer, writer: &mut W, count: usiz
         (flat_map item_line (replicate count upscope)) }
 {
     for _closed in 0..count {
-        write_piece(buffer, writer, b"$upscope $end\n");
+        write_bytes(buffer, writer, b"$upscope $end\n");
     }
 }
 
@@ -153,7 +153,7 @@ fn write_scope<W: Sink>(buffer: &mut WriteBuffer, writer: &mut W, name: &ScopeNa
     ensures { Emits W.taken W.has_failed (buffer.old, writer.old) (buffer.new, writer.new)
         (item_line (scope name.now.kind name.now.words)) }
 {
-    write_piece(buffer, writer, b"$scope");
+    write_bytes(buffer, writer, b"$scope");
     write_word(buffer, writer, name.kind.as_slice());
     write_words(buffer, writer, name.words.as_slice());
     write_end(buffer, writer);

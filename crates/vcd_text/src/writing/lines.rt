@@ -4,7 +4,7 @@ ghost use Rattle.std.specs.Prelude.{◌≡◌, ◌∷◌, [], codes};
 ghost use Rattle.vcd_text.specs.inside.SpacedWords.{spaced_words};
 ghost use Rattle.vcd_text.specs.inside.Written.{Emits};
 
-use super::buffer::{WriteBuffer, write_byte, write_piece};
+use super::buffer::{WriteBuffer, write_byte, write_bytes};
 use vcd_core::{Sink, Word};
 
 /// Writes a space and a word.
@@ -13,7 +13,7 @@ pub fn write_word<W: Sink>(buffer: &mut WriteBuffer, writer: &mut W, word: &[u8]
         (spaced_words (word.now ∷ [])) }
 {
     write_byte(buffer, writer, b' ');
-    write_piece(buffer, writer, word);
+    write_bytes(buffer, writer, word);
 }
 
 /// Writes words, each after a space.
@@ -31,5 +31,5 @@ pub fn write_end<W: Sink>(buffer: &mut WriteBuffer, writer: &mut W)
     ensures { Emits W.taken W.has_failed (buffer.old, writer.old) (buffer.new, writer.new)
         (codes " $end\n") }
 {
-    write_piece(buffer, writer, b" $end\n");
+    write_bytes(buffer, writer, b" $end\n");
 }

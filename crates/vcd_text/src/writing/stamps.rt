@@ -7,7 +7,7 @@ ghost use Rattle.vcd_core.specs.declared.capture.TheConstants.{SIGNAL_LIMIT};
 ghost use Rattle.vcd_text.specs.Text.{all_values, first_items, item_line, stamp_of};
 ghost use Rattle.vcd_text.specs.inside.Written.{Emits};
 
-use super::buffer::{WriteBuffer, write_byte, write_piece};
+use super::buffer::{WriteBuffer, write_byte, write_bytes};
 use super::values::write_value_near;
 use itoa::Buffer;
 use vcd_core::{Signal, Sink};
@@ -19,9 +19,9 @@ pub fn write_first_values<W: Sink>(buffer: &mut WriteBuffer, writer: &mut W, sig
         (flat_map item_line (first_items (map signal_contents signals.now))) }
 {
     write_stamp(buffer, writer, 0);
-    write_piece(buffer, writer, b"$dumpvars\n");
+    write_bytes(buffer, writer, b"$dumpvars\n");
     write_all_values(buffer, writer, signals);
-    write_piece(buffer, writer, b"$end\n");
+    write_bytes(buffer, writer, b"$end\n");
 }
 
 fn write_all_values<W: Sink>(buffer: &mut WriteBuffer, writer: &mut W, signals: &[Signal])
@@ -59,6 +59,6 @@ fn write_stamp<W: Sink>(buffer: &mut WriteBuffer, writer: &mut W, tick: u64)
         (flat_map item_line (stamp_of tick ∷ [])) }
 {
     write_byte(buffer, writer, b'#');
-    write_piece(buffer, writer, Buffer::new().format(tick).as_bytes());
+    write_bytes(buffer, writer, Buffer::new().format(tick).as_bytes());
     write_byte(buffer, writer, b'\n');
 }

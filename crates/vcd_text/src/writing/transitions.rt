@@ -41,8 +41,8 @@ pub fn write_transitions<W: Sink>(
         }
         let count = fill_window(window, signals, from, most.min(end - from + 1), end);
         let keys = window.keys.as_slice();
-        let first_tried = window.first_tried.as_mut_slice();
-        last = write_keys(buffer, writer, signals, keys, first_tried, from, last);
+        let search_hints = window.search_hints.as_mut_slice();
+        last = write_keys(buffer, writer, signals, keys, search_hints, from, last);
         most = next_most(count, window.keys.len(), window.keys.capacity());
         from += count;
     }
@@ -80,31 +80,31 @@ fn next_most(count: u64, used: usize, room: usize) -> u64
 }
 
 /// Writes the changes of keys, after the text up to tick `last`. Returns the last tick. At
-/// `first_tried` is the place where the next change of each signal is looked up first.
+/// `search_hints` is the place where the next change of each signal is looked up first.
 fn write_keys<W: Sink>(
     buffer: &mut WriteBuffer,
     writer: &mut W,
     signals: &[Signal],
     keys: &[u64],
-    first_tried: &mut [NextChange],
+    search_hints: &mut [NextChange],
     from: u64,
     last: u64,
 ) -> u64
     requires few { length signals.now ≤ SIGNAL_LIMIT }
     requires keys { All (IsKey from (length signals.now)) keys.now }
-    requires first_tried { length first_tried.old ≡ length signals.now }
+    requires search_hints { length search_hints.old ≡ length signals.now }
     ensures text { Emits W.taken W.has_failed (buffer.old, writer.old) (buffer.new, writer.new)
         (flat_map item_line (transition_items (map signal_contents signals.now) last
         (transitions_of from keys.now))) }
     ensures last { result ≡ last_tick last (transitions_of from keys.now) }
-    ensures first_tried { length first_tried.new ≡ length first_tried.old }
+    ensures search_hints { length search_hints.new ≡ length search_hints.old }
 {
     let mut last = last;
     for (k, key) in keys.iter().enumerate() {
-        look_ahead(signals, first_tried, keys, k);
+        prefetch_changes(signals, search_hints, keys, k);
         let tick = from + *key / POSITIONS;
         let position = (*key % POSITIONS) as usize;
-        let place = first_tried[position].place;
+        let place = search_hints[position].place;
         write_new_stamp(buffer, writer, last, tick);
         write_value_near(
             buffer,
@@ -114,7 +114,7 @@ fn write_keys<W: Sink>(
             tick,
             place,
         );
-        first_tried[position].place = place.saturating_add(1);
+        search_hints[position].place = place.saturating_add(1);
         last = tick;
     }
     last
@@ -122,29 +122,29 @@ fn write_keys<W: Sink>(
 
 /// The number of changes that are looked at before they are written: enough for the memory accesses
 /// to overlap.
-const AHEAD: usize = 32;
+const PREFETCH_COUNT: usize = 32;
 
-/// Looks at the changes of the next `AHEAD` keys, where the place is a multiple of that number.
-fn look_ahead(signals: &[Signal], first_tried: &mut [NextChange], keys: &[u64], place: usize)
-    ensures { length first_tried.new ≡ length first_tried.old }
+/// Reads the changes of the next `PREFETCH_COUNT` keys, where the place is a multiple of that number.
+fn prefetch_changes(signals: &[Signal], search_hints: &mut [NextChange], keys: &[u64], place: usize)
+    ensures { length search_hints.new ≡ length search_hints.old }
 {
-    if place % AHEAD != 0 {
+    if place % PREFETCH_COUNT != 0 {
         return;
     }
-    for k in place..keys.len().min(place.saturating_add(AHEAD)) {
-        look_at(signals, first_tried, keys[k]);
+    for k in place..keys.len().min(place.saturating_add(PREFETCH_COUNT)) {
+        prefetch_change(signals, search_hints, keys[k]);
     }
 }
 
 /// Looks at the change of a key, so that it is in the cache when it is written. Nothing waits for
 /// what it reads.
-fn look_at(signals: &[Signal], first_tried: &mut [NextChange], key: u64)
-    ensures { length first_tried.new ≡ length first_tried.old }
+fn prefetch_change(signals: &[Signal], search_hints: &mut [NextChange], key: u64)
+    ensures { length search_hints.new ≡ length search_hints.old }
 {
     let position = (key % POSITIONS) as usize;
-    if position >= first_tried.len() || position >= signals.len() {
+    if position >= search_hints.len() || position >= signals.len() {
         return;
     }
     let changes = signals[position].wave.changes();
-    first_tried[position].tick = tick_at_place(changes, first_tried[position].place);
+    search_hints[position].tick = tick_at_place(changes, search_hints[position].place);
 }

@@ -11,7 +11,7 @@ ghost use Rattle.vcd_text.specs.Text.{code_of, item_line, value_item};
 ghost use Rattle.vcd_text.specs.inside.ValueFronts.{IsKept, is_spare_above, value_front};
 ghost use Rattle.vcd_text.specs.inside.Written.{Emits};
 
-use super::buffer::{WriteBuffer, write_byte, write_piece};
+use super::buffer::{WriteBuffer, write_byte, write_bytes};
 use super::codes::write_code;
 use vcd_core::{Bit, LetterWord, Sink, Value, Wave};
 
@@ -117,7 +117,7 @@ fn write_letters<W: Sink>(buffer: &mut WriteBuffer, writer: &mut W, count: u64, 
 {
     let mut letters = [0; 64];
     fill_letters(&mut letters, count as usize, word);
-    write_piece(buffer, writer, &letters[64 - count as usize..]);
+    write_bytes(buffer, writer, &letters[64 - count as usize..]);
 }
 
 /// Fills the end of a row with the `count` lowest letters of a word, the lowest last. They are

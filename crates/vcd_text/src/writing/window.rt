@@ -34,7 +34,7 @@ pub struct Window {
     pub next_changes: Vec<NextChange>,
     /// The next change of each signal from the window's first tick on. While the window is written:
     /// the place at which its next change is looked up first.
-    pub first_tried: Vec<NextChange>,
+    pub search_hints: Vec<NextChange>,
 }
 
 impl Window {
@@ -47,11 +47,11 @@ impl Window {
     {
         let keys = Vec::with_capacity(alloc, signals.len().max(LEAST))?;
         let next_changes = first_changes(alloc, signals)?;
-        let first_tried = next_changes.clone()?;
+        let search_hints = next_changes.clone()?;
         Ok(Window {
             keys,
             next_changes,
-            first_tried,
+            search_hints,
         })
     }
 }
@@ -69,12 +69,12 @@ pub fn fill_window(window: &mut Window, signals: &[Signal], from: u64, most: u64
     ensures keys { All (IsKey from (length signals.now)) window.new.keys.items }
     ensures ready { IsReady end (from + result) signals.now window.new }
 {
-    swap(&mut window.next_changes, &mut window.first_tried);
+    swap(&mut window.next_changes, &mut window.search_hints);
     let mut count = most;
     while !list_window(
         &mut window.keys,
         signals,
-        window.first_tried.as_slice(),
+        window.search_hints.as_slice(),
         window.next_changes.as_mut_slice(),
         from,
         from + count,
@@ -91,7 +91,7 @@ pub fn fill_window(window: &mut Window, signals: &[Signal], from: u64, most: u64
 fn list_window(
     keys: &mut Vec<u64>,
     signals: &[Signal],
-    first_tried: &[NextChange],
+    search_hints: &[NextChange],
     next_changes: &mut [NextChange],
     from: u64,
     to: u64,
@@ -99,7 +99,7 @@ fn list_window(
 ) -> bool
     requires few { length signals.now ≤ SIGNAL_LIMIT }
     requires sound { All (IsSoundSignal end) (map signal_contents signals.now) }
-    requires first_tried { AreNext from signals.now first_tried.now }
+    requires search_hints { AreNext from signals.now search_hints.now }
     requires next { length next_changes.old ≡ length signals.now }
     requires order { from ≤ to }
     requires end { to ≤ END_LIMIT + 1 }
@@ -115,7 +115,7 @@ fn list_window(
     keys.clear();
     for (position, signal) in signals.iter().enumerate() {
         let changes = signal.wave.changes();
-        match list_signal(keys, position, changes, first_tried[position], from, to) {
+        match list_signal(keys, position, changes, search_hints[position], from, to) {
             Some(next) => next_changes[position] = next,
             None => return false,
         }

@@ -5,10 +5,10 @@ ghost use Rattle.vcd_text.specs.Grammar.{ParseState, variable_of};
 ghost use Rattle.vcd_text.specs.inside.Variables.{target_of, VariablesMatch, ChangeResult, Sets};
 ghost use Rattle.vcd_text.specs.inside.ValueDigits.{RefusesBinaryNumber};
 ghost use Rattle.vcd_text.specs.declared.fault.Fault.TheVariants.{NoMemory as NoMemoryFault};
-ghost use Rattle.vcd_text.specs.declared.reading.code_targets.CodeTarget.TheVariants.{Kept as KeptAt};
+ghost use Rattle.vcd_text.specs.declared.reading.code_targets.CodeTarget.TheVariants.{Position as PositionAt};
 
 use crate::fault::Fault;
-use crate::reading::binary_number::{read_value, read_word};
+use crate::reading::binary_number::{read_letter_word, read_value};
 use crate::reading::change_log::{LoggedChange, append};
 use crate::reading::code_targets::CodeTarget;
 use crate::reading::variables::{Variable, Variables};
@@ -45,7 +45,7 @@ impl Variables {
         match self.code_targets.get(code) {
             None => Err(Fault::UnknownCode),
             Some(CodeTarget::Skipped) => Ok(()),
-            Some(CodeTarget::Kept(first)) => self.change_at(alloc, first, tick, digits),
+            Some(CodeTarget::Position(first)) => self.change_at(alloc, first, tick, digits),
         }
     }
 
@@ -59,16 +59,16 @@ impl Variables {
         digits: &[u8],
     ) -> Result<(), Fault>
         requires known { (c : ParseState) × (code : List ℕ) × VariablesMatch self.old c × (c.tick ≤ tick)
-            × (target_of self.old code ≡ Some (KeptAt first)) }
+            × (target_of self.old code ≡ Some (PositionAt first)) }
         ensures { (c : ParseState) (code : List ℕ) → c.tick ≡ tick → VariablesMatch self.old c →
-            target_of self.old code ≡ Some (KeptAt first) →
+            target_of self.old code ≡ Some (PositionAt first) →
             ChangeResult c code digits.now result self.new }
     {
         let width = self.widths[first];
         if width > 64 {
             return self.kept[first].set(tick, digits);
         }
-        let word = read_word(width, digits)?;
+        let word = read_letter_word(width, digits)?;
         let change = LoggedChange {
             tick,
             position: first,

@@ -8,7 +8,7 @@ ghost use Rattle.vcd_core.specs.Word.{is_skipped_kind as skips_kind};
 ghost use Rattle.vcd_text.specs.Grammar.{ParseState, VariableDeclaration, has_good_size, is_skipped};
 ghost use Rattle.vcd_text.specs.inside.Variables.{target_of, declaration_in, VariablesMatch, Declares, DeclaresAs};
 ghost use Rattle.vcd_text.specs.declared.fault.Fault.TheVariants.{NoMemory as NoMemoryFault, TooManySignals};
-ghost use Rattle.vcd_text.specs.declared.reading.code_targets.CodeTarget.TheVariants.{Kept as KeptAt};
+ghost use Rattle.vcd_text.specs.declared.reading.code_targets.CodeTarget.TheVariants.{Position as PositionAt};
 
 use crate::fault::Fault;
 use crate::reading::code_targets::CodeTarget;
@@ -60,7 +60,7 @@ impl Variables {
         match self.code_targets.get(code) {
             None => self.code_targets.insert(alloc, code, CodeTarget::Skipped)?,
             Some(CodeTarget::Skipped) => {}
-            Some(CodeTarget::Kept(_)) => return Err(Fault::MixedCode),
+            Some(CodeTarget::Position(_)) => return Err(Fault::MixedCode),
         }
         self.skipped += 1;
         Ok(())
@@ -77,7 +77,7 @@ impl Variables {
     {
         match self.code_targets.get(code) {
             None => self.keep_first(alloc, code, signal),
-            Some(CodeTarget::Kept(first)) => {
+            Some(CodeTarget::Position(first)) => {
                 if !self.has_width(first, signal.wave.width()) {
                     return Err(Fault::MixedCode);
                 }
@@ -95,7 +95,7 @@ impl Variables {
         ensures widths { OnOk result (self.new.widths.items ≡
             self.old.widths.items ++ signal.wave.width ∷ []) }
         ensures code_targets { OnOk result ((key : List ℕ) → target_of self.new key ≡
-            (if bytes_eq key code.now then Some (KeptAt (length self.old.kept.items))
+            (if bytes_eq key code.now then Some (PositionAt (length self.old.kept.items))
             else target_of self.old key)) }
         ensures skipped { self.new.skipped ≡ self.old.skipped }
         ensures log { self.new.log ≡ self.old.log }
@@ -105,7 +105,7 @@ impl Variables {
         let first = self.kept.len();
         self.push(alloc, code, signal, first)?;
         self.code_targets
-            .insert(alloc, code, CodeTarget::Kept(first))?;
+            .insert(alloc, code, CodeTarget::Position(first))?;
         Ok(())
     }
 

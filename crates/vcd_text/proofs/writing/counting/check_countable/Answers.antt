@@ -11,5 +11,5 @@ returns-clause-counted c =
     let count =
     length_written _ _ _ buffer (declarations_text (contents c.args.capture.now)) refl
     (omega (arith, c.if-buffer-ge-COUNT_LIMIT.false))
-    (whole_written c.new-waiting.ensures.items refl c.write_declarations.ensures) in
-    omega (arith, count, c.if-buffer-ge-COUNT_LIMIT.false, buffer.waiting.small)
+    (whole_written c.new-unsent.ensures.items refl c.write_declarations.ensures) in
+    omega (arith, count, c.if-buffer-ge-COUNT_LIMIT.false, buffer.unsent.small)

@@ -17,4 +17,4 @@ returns g c =
     let signals = writes_as
     (ap (λ (l : List Signal). flat_map item_line (signal_items [] 0 (map signal_contents l))) c.signals.ensures)
     c.write_signals.ensures in
-    writes_both (writes_both (writes_both header timescale) signals) c.write_piece.ensures.written
+    writes_both (writes_both (writes_both header timescale) signals) c.write_bytes.ensures.written

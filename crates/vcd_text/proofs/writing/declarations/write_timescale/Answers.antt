@@ -19,5 +19,5 @@ returns-in-Some g c =
     let second = writes_as (ap (λ l. spaced_words (l ∷ [])) (c.as_bytes-in-Some.ensures.value ∙ c.symbol.ensures))
     c.write_word-in-Some.ensures in
     writes_as (sym (append-nil _) ∙ ap (λ o. flat_map item_line (timescale_items o)) (sym c.in-Some.is))
-    (writes_line (codes "$timescale") (count ∷ unit ∷ []) c.write_piece.ensures.written
+    (writes_line (codes "$timescale") (count ∷ unit ∷ []) c.write_bytes.ensures.written
     (writes_words (count ∷ []) (unit ∷ []) first second) c.write_end.ensures)

@@ -10,13 +10,13 @@ use Rattle.vcd_text.proofs.Written.{front_begun, front_grows, front_whole, write
 use Rattle.vcd_text.proofs.writing.transitions.write_keys.Goals as goal
 
 pub loop-k-init : goal.loop-k-init
-loop-k-init g c = record { text = front_begun refl; last = refl; first_tried = refl }
+loop-k-init g c = record { text = front_begun refl; last = refl; search_hints = refl }
 
 pub overflow_add-tick : goal.overflow_add-tick
 overflow_add-tick g c = omega (arith, (c.requires.keys c.loop-k.k 0 (omega arith)).tick)
 
-pub bounds-first_tried-position : goal.bounds-first_tried-position
-bounds-first_tried-position g c = grind arith
+pub bounds-search_hints-position : goal.bounds-search_hints-position
+bounds-search_hints-position g c = grind arith
 
 pub bounds-signals-position : goal.bounds-signals-position
 bounds-signals-position g c = omega (arith, (c.requires.keys c.loop-k.k 0 (omega arith)).position)
@@ -42,8 +42,8 @@ loop-k-preserved g c =
           c.write_value_near.ensures))
           (one_written (map signal_contents signals) c.args.from c.loop-k.last k keys inside);
       last = one_later c.args.from c.loop-k.last k _ keys inside kept.last;
-      first_tried = length-set c.look_ahead.new.first_tried (key % POSITIONS) _ ∙ c.look_ahead.ensures
-          ∙ kept.first_tried;
+      search_hints = length-set c.prefetch_changes.new.search_hints (key % POSITIONS) _ ∙ c.prefetch_changes.ensures
+          ∙ kept.search_hints;
     }
 
 pub returns-clause-text : goal.returns-clause-text

@@ -18,5 +18,5 @@ invariant-loop-k g l =
           (transitions_of l.from l.keys)));
       last : last_tick l.last (transitions_of l.from (drop l.k l.keys))
           ≡ last_tick l.initial.last (transitions_of l.from l.keys);
-      first_tried : length l.first_tried ≡ length l.initial.first_tried;
+      search_hints : length l.search_hints ≡ length l.initial.search_hints;
     }

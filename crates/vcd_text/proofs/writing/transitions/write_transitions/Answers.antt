@@ -31,7 +31,7 @@ loop-from-preserved g c =
         some = ready.some;
         room = ready.room;
         next = ready.next;
-        first_tried = grind (arith, with_items_is);
+        search_hints = grind (arith, with_items_is);
       };
       within = following;
       some = c.next_most-most.ensures;

@@ -6,7 +6,7 @@ abbrev pub invariant-loop-count : goal.invariant-loop-count
 invariant-loop-count l =
     record {
       next : length l.window.next_changes.items ≡ length l.signals;
-      tried : l.window.first_tried ≡ l.initial.window.first_tried;
+      tried : l.window.search_hints ≡ l.initial.window.search_hints;
       some : 1 ≤ l.count;
       most : l.count ≤ l.most;
       room : vec_capacity l.initial.window.keys ≤ vec_capacity l.window.keys;

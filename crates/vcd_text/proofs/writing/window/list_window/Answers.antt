@@ -19,9 +19,9 @@ list_signal-requires-clause-next c =
     let k = c.loop-position.position in
     let s = c.index-signals-position.result in
     let none : NextChange = record { place = 0; tick = 0; following = 0 } in
-    subst (λ (l : List Change). IsNext c.args.from c.args.from l (get_or c.args.first_tried.now k none))
+    subst (λ (l : List Change). IsNext c.args.from c.args.from l (get_or c.args.search_hints.now k none))
     (ap (λ (x : Signal). x.wave.changes) (sym c.index-signals-position.is) ∙ sym c.changes-changes.ensures.changes)
-    (c.requires.first_tried.each k s none (omega arith))
+    (c.requires.search_hints.each k s none (omega arith))
 
 pub returns-in-None-clause-keys : goal.returns-in-None-clause-keys
 returns-in-None-clause-keys c =

@@ -16,26 +16,26 @@ read_words-requires-clause-room c = grind (arith, word_is_first, length-append, 
 pub returns-in_err-self-clause-taken : goal.returns-in_err-self-clause-taken
 returns-in_err-self-clause-taken c = λ bytes come.
     let p = c.args.self.now in
-    let len = c.closed_len-len.result in
+    let len = c.words_len-len.result in
     let value = c.as_slice.ensures in
     let front = c.as_slice-2.ensures in
     let refused = err_from_is_err_and c.from_residual.result c.from_residual.ensures.1 in
     subst (λ r. TakesChunk bytes r (record p { reader = c.read_words.new.reader })) (sym (refused.1 ∙ ap Err refused.2))
     (now_shown p c.args.from len bytes (take len c.as_slice-2.result.now) come
-    (ap (λ l. is_closed (take len l)) (sym value) ∙ c.closed_len-len.ensures.closed)
-    (ap (λ l. list_all (λ b. not (is_white_space b)) (drop len l)) (sym value) ∙ c.closed_len-len.ensures.no_space)
+    (ap (λ l. is_closed (take len l)) (sym value) ∙ c.words_len-len.ensures.closed)
+    (ap (λ l. list_all (λ b. not (is_white_space b)) (drop len l)) (sym value) ∙ c.words_len-len.ensures.no_space)
     (ap (take len) front) c.in_err-self.field-0.0
     (c.in_err-self.ensures.words (closed_words come.before) come.taken.reads))
 
 pub returns-clause-taken : goal.returns-clause-taken
 returns-clause-taken c = λ bytes come.
     let p = c.args.self.now in
-    let len = c.closed_len-len.result in
+    let len = c.words_len-len.result in
     let value = c.as_slice.ensures in
     let front = c.as_slice-2.ensures in
     let taken = now_taken p c.args.from len bytes (take len c.as_slice-2.result.now) come
-    (ap (λ l. is_closed (take len l)) (sym value) ∙ c.closed_len-len.ensures.closed)
-    (ap (λ l. list_all (λ b. not (is_white_space b)) (drop len l)) (sym value) ∙ c.closed_len-len.ensures.no_space)
+    (ap (λ l. is_closed (take len l)) (sym value) ∙ c.words_len-len.ensures.closed)
+    (ap (λ l. list_all (λ b. not (is_white_space b)) (drop len l)) (sym value) ∙ c.words_len-len.ensures.no_space)
     (ap (take len) front) c.read_words.new.reader
     (c.in_ok-self.ensures.words (closed_words come.before) come.taken.reads) in
     subst (λ word. HasTaken c.read_words.new.reader word c.in_ok-self.field-0 p.left bytes) (sym c.drop_front.ensures)

@@ -2,7 +2,7 @@ use Rattle.std.proofs.Common.{arith}
 use Rattle.std.proofs.Common.{◌∙◌, ap, sym, inr, Some, ◌==◌, false}
 use Rattle.std.specs.Option.{option_map_or}
 use Rattle.std.specs.Prelude.{slice_get}
-use Rattle.vcd_text.specs.declared.reading.code_targets.CodeTarget.TheVariants.{Kept}
+use Rattle.vcd_text.specs.declared.reading.code_targets.CodeTarget.TheVariants.{Position}
 use Rattle.vcd_text.specs.declared.reading.variables.Variable.{Variable}
 use Rattle.vcd_text.proofs.DeclaredVariables.{Puts, puts_same, push_declares, same_width, when_ok}
 use Rattle.vcd_text.proofs.reading.variables.Variables.keep.Goals as goal
@@ -13,13 +13,13 @@ returns-in-None c = grind (arith, push_declares)
 pub returns-else-not-has_width : goal.returns-else-not-has_width
 returns-else-not-has_width c = λ told scopes k value_changes keeps.
     let old = c.args.self.now in
-    let first = c.in-Some-Kept.first in
+    let first = c.in-Some-Position.first in
     let e = c.push.ensures in
-    let had = sym c.get.ensures ∙ c.in-Some-Kept.is ∙ ap Some c.in-Some-Kept.field-0-is in
+    let had = sym c.get.ensures ∙ c.in-Some-Position.is ∙ ap Some c.in-Some-Position.field-0-is in
     let test = ap (λ n. option_map_or (λ (v : Variable). v.signal.wave.width == n) (slice_get old.kept.items first)
     false) (sym c.width.ensures.width) ∙ sym c.has_width.ensures ∙ c.if-not-has_width.false in
     push_declares old c.push.new.self told scopes c.args.code.now c.args.signal first c.push.result k value_changes
     c.requires.silent c.requires.bare keeps
     (inr (had, same_width (slice_get old.kept.items first) c.args.signal.wave.width test)) e.few e.kept e.widths e.log
-    (when_ok c.push.result (Puts old c.push.new.self c.args.code.now (Kept first))
-    (puts_same old c.push.new.self c.args.code.now (Kept first) e.code_targets had)) e.skipped e.refuses
+    (when_ok c.push.result (Puts old c.push.new.self c.args.code.now (Position first))
+    (puts_same old c.push.new.self c.args.code.now (Position first) e.code_targets had)) e.skipped e.refuses

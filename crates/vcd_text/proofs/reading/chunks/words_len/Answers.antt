@@ -4,7 +4,7 @@ use Rattle.std.proofs.lemmas.List.{take-append-drop}
 use Rattle.std.proofs.lemmas.List.Folds.{list_all-append}
 use Rattle.vcd_core.specs.Word.{is_white_space}
 use Rattle.vcd_text.proofs.Chunks.{closed_at}
-use Rattle.vcd_text.proofs.reading.chunks.closed_len.Goals as goal
+use Rattle.vcd_text.proofs.reading.chunks.words_len.Goals as goal
 
 pub returns-then-is_white_space-clause-closed : goal.returns-then-is_white_space-clause-closed
 returns-then-is_white_space-clause-closed c = grind (arith, closed_at)
