@@ -34,7 +34,7 @@ shows : (bytes : List ℕ) (line : ℕ) (fault : Fault) (items : List Item) (who
     → line ≡ fault_line (state_after initial_state items).changing begun word → FoundFault bytes line fault
 shows bytes line fault items whole begun word more parts spelled allowed decided at =
     word_shows (shown_by (words_of bytes) whole begun more word items (state_after initial_state items) line fault
-    (record { allowed = allowed; tells = refl }) parts spelled decided at)
+    (record { allowed = allowed; state_is = refl }) parts spelled decided at)
 
 -- a stamp below the one before it, also where only the closed words are known
 abbrev time_back : List ℕ
@@ -232,6 +232,6 @@ front_without_fault line fault =
       items = one_variable ++ stamp (codes "10") ∷ [];
       spelled = refl;
       allowed = search arith;
-      tells = refl;
+      state_is = refl;
       definitions_ended = refl;
     })

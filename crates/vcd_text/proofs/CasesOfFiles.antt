@@ -20,8 +20,8 @@ means_by : (bytes : List ℕ) (items : List Item) (contents : Contents) (skipped
     → IsTrue (state_after initial_state items).changing → contents ≡ meaning (state_after initial_state items)
     → skipped ≡ count_by is_skipped (state_after initial_state items).declared → FileMeans bytes contents skipped
 means_by bytes items contents skipped spelled allowed ended means left_out = record {
-  told = state_after initial_state items;
-  accepted = record { items = items; spelled = spelled; allowed = allowed; tells = refl; definitions_ended = ended };
+  state = state_after initial_state items;
+  accepted = record { items = items; spelled = spelled; allowed = allowed; state_is = refl; definitions_ended = ended };
   means = means;
   left_out = left_out;
 }

@@ -135,7 +135,7 @@ module _ (old : Variables) (targets : CodeTargets) (c : ParseState) (d : Variabl
         record {
           owned = puts v.code
               ∙ by_code (λ b. (if b then Some Skipped else target_of old v.code) ≡ Some (Position v.first))
-                  v.code d.code
+              v.code d.code
               (λ is. absurd (grind arith)) (λ _. before.owned);
           no_later = before.no_later;
           same_size = before.same_size;
@@ -236,7 +236,7 @@ module _ (old new : Variables) (c : ParseState) (scopes : List ScopeName) (code 
       (variable_of (with_declaration c d) key)) (sym (puts key))
       (subst (TargetMatches all (logged old.log.items) c.value_changes c.tick key
       (if bytes_eq key code then Some (Position first) else target_of old key))
-        (sym (found_with key c.declared d)) both)))
+      (sym (found_with key c.declared d)) both)))
 
   -- the variables before it have the positions of their first ones
   keep_earlier : (position : ℕ) (v : Variable) → slice_get old.kept.items position ≡ Some v → HasFirst new position v
@@ -246,7 +246,7 @@ module _ (old new : Variables) (c : ParseState) (scopes : List ScopeName) (code 
       record {
         owned = puts v.code
             ∙ by_code (λ b. (if b then Some (Position first) else target_of old v.code) ≡ Some (Position v.first))
-                v.code code
+            v.code code
             (λ is. elim free [
               | inl (none, end) ↦ let no : None ≡ Some (Position v.first) = sym none ∙ ap (target_of old) (sym is)
                   ∙ before.owned in absurd (cc)

@@ -69,12 +69,12 @@ stops m words r incomplete = record {
   begun = word_texts r.begun;
   spelled = texts_are m words r;
   allowed = r.allowed;
-  unfinished = subst (λ c. IsUnfinished c (word_texts r.begun)) (sym r.tells)
-      (unfinished m r.told r.begun m.item r.at.0 r.at.1 incomplete);
+  unfinished = subst (λ c. IsUnfinished c (word_texts r.begun)) (sym r.state_is)
+      (unfinished m r.state r.begun m.item r.at.0 r.at.1 incomplete);
 }
 
 -- words that are a whole file are accepted
-pub accepts : (m : Reader) (words : List PlacedWord) (r : Reads m words) → is_complete m ≡ true → Accepts words r.told
+pub accepts : (m : Reader) (words : List PlacedWord) (r : Reads m words) → is_complete m ≡ true → Accepts words r.state
 accepts m words r complete = grind (arith, and_parts, texts_are, append-nil)
 
 -- words that have been taken show no fault
@@ -83,5 +83,5 @@ pub no_fault : (m : Reader) (words : List PlacedWord) → Reads m words → (lin
 no_fault m words r line fault refuses = by_test (is_complete m) refl
   where
     by_test : (b : Bool) → is_complete m ≡ b → ⊥
-    by_test true complete = accepted-not_refused words r.told line fault (accepts m words r complete) refuses
+    by_test true complete = accepted-not_refused words r.state line fault (accepts m words r complete) refuses
     by_test false incomplete = stopped-not_refused words line fault (stops m words r incomplete) refuses

@@ -26,7 +26,7 @@ use Rattle.vcd_text.proofs.ItemsInTurn.{shown_by}
 
 -- the result of all words of a file
 data AnswerTo (words : List PlacedWord) : Type 0 where
-  is_accepted : (told : ParseState) → Accepts words told → AnswerTo words
+  is_accepted : (state : ParseState) → Accepts words state → AnswerTo words
   stops_early : Stops words → AnswerTo words
   is_refused : (line : ℕ) (fault : Fault) → ShowsFault words line fault → AnswerTo words
 
@@ -35,11 +35,11 @@ record WordsSoFar (words rest : List PlacedWord) : Type 0 where
   items : List Item
   whole : List PlacedWord
   begun : List PlacedWord
-  told : ParseState
+  state : ParseState
   parts : words ≡ whole ++ (begun ++ rest)
   spelled : word_texts whole ≡ spellings items
-  leads : Leads initial_state items told
-  open_item : IsOpen told (word_texts begun)
+  leads : Leads initial_state items state
+  open_item : IsOpen state (word_texts begun)
 
 -- ---- one word
 
@@ -57,34 +57,34 @@ spelled_more (j ∷ items) i = grind (arith, append_assoc, spelled_more items i)
 
 -- the word goes on with the open item
 with_word : (words rest : List PlacedWord) (w : PlacedWord) (u : WordsSoFar words (w ∷ rest))
-    → IsUnfinished u.told (word_texts u.begun ++ w.text ∷ []) → WordsSoFar words rest
+    → IsUnfinished u.state (word_texts u.begun ++ w.text ∷ []) → WordsSoFar words rest
 with_word words rest w u due = record {
   items = u.items;
   whole = u.whole;
   begun = u.begun ++ w ∷ [];
-  told = u.told;
+  state = u.state;
   parts = u.parts ∙ ap (λ ws. u.whole ++ ws) (word_after u.begun rest w);
   spelled = u.spelled;
   leads = u.leads;
-  open_item = inside (subst (IsUnfinished u.told) (sym (texts_more u.begun w)) due);
+  open_item = inside (subst (IsUnfinished u.state) (sym (texts_more u.begun w)) due);
 }
 
 -- the word ends the item
 with_item : (words rest : List PlacedWord) (w : PlacedWord) (u : WordsSoFar words (w ∷ rest)) (i : Item)
-    → spelling i ≡ word_texts u.begun ++ w.text ∷ [] → Allows u.told i → WordsSoFar words rest
+    → spelling i ≡ word_texts u.begun ++ w.text ∷ [] → Allows u.state i → WordsSoFar words rest
 with_item words rest w u i spelled allows = record {
   items = u.items ++ i ∷ [];
   whole = u.whole ++ (u.begun ++ w ∷ []);
   begun = [];
-  told = state_after_item u.told i;
+  state = state_after_item u.state i;
   parts = u.parts ∙ ap (λ ws. u.whole ++ ws) (word_after u.begun rest w)
       ∙ sym (append_assoc u.whole (u.begun ++ w ∷ []) rest);
   spelled =
       map-append (λ (v : PlacedWord). v.text) u.whole (u.begun ++ w ∷ [])
       ∙ ap (λ ws. ws ++ word_texts (u.begun ++ w ∷ [])) u.spelled
       ∙ ap (λ ws. spellings u.items ++ ws) (texts_more u.begun w ∙ sym spelled) ∙ sym (spelled_more u.items i);
-  leads = leads_both initial_state u.told (state_after_item u.told i) u.items (i ∷ []) u.leads
-      (leads_one u.told (state_after_item u.told i) i allows refl);
+  leads = leads_both initial_state u.state (state_after_item u.state i) u.items (i ∷ []) u.leads
+      (leads_one u.state (state_after_item u.state i) i allows refl);
   open_item = between refl;
 }
 
@@ -96,31 +96,31 @@ texts_are : (words : List PlacedWord) (u : WordsSoFar words [])
 texts_are words u = grind (arith, append-nil, map-append)
 
 -- a word must follow the last one
-stops_here : (words : List PlacedWord) (u : WordsSoFar words []) → IsUnfinished u.told (word_texts u.begun)
+stops_here : (words : List PlacedWord) (u : WordsSoFar words []) → IsUnfinished u.state (word_texts u.begun)
     → AnswerTo words
 stops_here words u due = stops_early (record {
   items = u.items;
   begun = word_texts u.begun;
   spelled = texts_are words u;
   allowed = u.leads.allowed;
-  unfinished = subst (λ c. IsUnfinished c (word_texts u.begun)) (sym u.leads.tells) due;
+  unfinished = subst (λ c. IsUnfinished c (word_texts u.begun)) (sym u.leads.state_is) due;
 })
 
 -- nothing is open after the last word, and `$enddefinitions $end` has come
-accepts_here : (words : List PlacedWord) (u : WordsSoFar words []) → word_texts u.begun ≡ [] → IsTrue u.told.changing
+accepts_here : (words : List PlacedWord) (u : WordsSoFar words []) → word_texts u.begun ≡ [] → IsTrue u.state.changing
     → AnswerTo words
-accepts_here words u none changing = is_accepted u.told (record {
+accepts_here words u none changing = is_accepted u.state (record {
   items = u.items;
   spelled = texts_are words u ∙ ap (λ ws. spellings u.items ++ ws) none ∙ append-nil (spellings u.items);
   allowed = u.leads.allowed;
-  tells = u.leads.tells;
+  state_is = u.leads.state_is;
   definitions_ended = changing;
 })
 
-at_end : (words : List PlacedWord) (u : WordsSoFar words []) → IsOpen u.told (word_texts u.begun) → AnswerTo words
+at_end : (words : List PlacedWord) (u : WordsSoFar words []) → IsOpen u.state (word_texts u.begun) → AnswerTo words
 at_end words u (inside due) = stops_here words u due
 at_end words u (between none) =
-    elim (cases_Bool u.told.changing) [
+    elim (cases_Bool u.state.changing) [
       | inl changing ↦ accepts_here words u none changing
       | inr declares ↦ stops_here words u (declaration_due declares none)
     ]
@@ -131,11 +131,11 @@ answer_after : (words rest : List PlacedWord) → All (λ (w : PlacedWord). is_r
     → AnswerTo words
 answer_after words [] runs u = at_end words u u.open_item
 answer_after words (w ∷ rest) runs u =
-    elim (word_outcome u.told (word_texts u.begun) w.text (All-head (λ (v : PlacedWord). is_run v.text) w rest runs).0
+    elim (word_outcome u.state (word_texts u.begun) w.text (All-head (λ (v : PlacedWord). is_run v.text) w rest runs).0
     u.open_item) [
       | shows_fault fault decided ↦
-          is_refused (fault_line u.told.changing u.begun w) fault
-          (shown_by words u.whole u.begun rest w u.items u.told _ fault u.leads u.parts u.spelled decided refl)
+          is_refused (fault_line u.state.changing u.begun w) fault
+          (shown_by words u.whole u.begun rest w u.items u.state _ fault u.leads u.parts u.spelled decided refl)
       | ends_item i spelled allows ↦
           answer_after words rest (All-tail (λ (v : PlacedWord). is_run v.text) w rest runs)
           (with_item words rest w u i spelled allows)
@@ -149,7 +149,7 @@ nothing_taken words = record {
   items = [];
   whole = [];
   begun = [];
-  told = initial_state;
+  state = initial_state;
   parts = refl;
   spelled = refl;
   leads = leads_none initial_state;
@@ -161,11 +161,11 @@ pub a_found_answer : (bytes : List ℕ) → ((c : Contents) × (n : ℕ) × File
 a_found_answer bytes =
     elim (answer_after (words_of bytes) (words_of bytes) (words_are_words true 1 bytes)
     (nothing_taken (words_of bytes))) [
-      | is_accepted told accepts ↦
+      | is_accepted state accepts ↦
           inl (
-            meaning told,
-            skipped_count told,
-            record { told = told; accepted = accepts; means = refl; left_out = refl },
+            meaning state,
+            skipped_count state,
+            record { state = state; accepted = accepts; means = refl; left_out = refl },
           )
       | stops_early stops ↦ inr (last_line bytes, Truncated, too_early stops refl refl)
       | is_refused line fault s ↦ inr (line, fault, word_shows s)

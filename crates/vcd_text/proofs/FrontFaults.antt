@@ -46,7 +46,7 @@ shown_further : (words all : List PlacedWord) (line : ℕ) (fault : Fault) → I
     → ShowsFault words line fault → ShowsFault all line fault
 shown_further words all line fault front s =
     shown_by all s.whole s.begun (s.more ++ front.0) s.word s.items (state_after initial_state s.items) line fault
-    (record { allowed = s.allowed; tells = refl })
+    (record { allowed = s.allowed; state_is = refl })
     (front.1 ∙ ap (λ ws. ws ++ front.0) s.parts ∙ append_assoc s.whole (s.begun ++ s.word ∷ s.more) front.0
     ∙ ap (λ ws. s.whole ++ ws) (append_assoc s.begun (s.word ∷ s.more) front.0)) s.spelled s.decided s.at
 

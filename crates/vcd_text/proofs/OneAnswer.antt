@@ -43,21 +43,21 @@ same_end c (i ∷ is) (j ∷ js) r s e a b p q =
     (ap (λ x. x ∷ is) same ∙ ap (λ x. j ∷ x) further.0, further.1)
 
 -- the words are read up to a rest that does not begin with a whole item
-record Ends (words : List (List ℕ)) (told : ParseState) (rest : List (List ℕ)) (last : Front) : Type 0 where
+record Ends (words : List (List ℕ)) (state : ParseState) (rest : List (List ℕ)) (last : Front) : Type 0 where
   items : List Item
   spelled : words ≡ spellings items ++ rest
   allowed : AllowsAll initial_state items
-  tells : state_after initial_state items ≡ told
-  shows : front_of told rest ≡ last
+  state_is : state_after initial_state items ≡ state
+  shows : front_of state rest ≡ last
   is_last : IsLast last
 
 one_end : (words : List (List ℕ)) (c d : ParseState) (r s : List (List ℕ)) (f g : Front) → Ends words c r f
     → Ends words d s g → (c ≡ d) × (r ≡ s) × (f ≡ g)
 one_end words c d r s f g a b = grind (arith, same_end)
 
-accepts_ends : (words : List PlacedWord) (told : ParseState) → Accepts words told
-    → Ends (word_texts words) told [] ended
-accepts_ends words told a = grind (arith, append-nil, front_at)
+accepts_ends : (words : List PlacedWord) (state : ParseState) → Accepts words state
+    → Ends (word_texts words) state [] ended
+accepts_ends words state a = grind (arith, append-nil, front_at)
 
 stops_ends : (words : List PlacedWord) (s : Stops words)
     → Ends (word_texts words) (state_after initial_state s.items) s.begun unfinished
@@ -70,7 +70,7 @@ refuses_ends words line fault r = record {
   items = r.items;
   spelled = grind (arith, map-append);
   allowed = r.allowed;
-  tells = refl;
+  state_is = refl;
   shows = ap (front_of (state_after initial_state r.items)) (map-append _ r.begun (r.word ∷ r.more))
       ∙ fault_front (state_after initial_state r.items) (word_texts r.begun) r.word.text fault (word_texts r.more)
       r.decided;
@@ -123,15 +123,17 @@ one_fault words line other_line fault other_fault p q =
       cc (e.2),
     )
 
-pub accepted-not_refused : (words : List PlacedWord) (told : ParseState) (line : ℕ) (fault : Fault) → Accepts words told
+pub accepted-not_refused : (words : List PlacedWord) (state : ParseState) (line : ℕ) (fault : Fault)
+    → Accepts words state
     → ShowsFault words line fault → ⊥
-accepted-not_refused words told line fault p q =
-    let e = one_end (word_texts words) _ _ _ _ _ _ (accepts_ends words told p) (refuses_ends words line fault q) in
+accepted-not_refused words state line fault p q =
+    let e = one_end (word_texts words) _ _ _ _ _ _ (accepts_ends words state p) (refuses_ends words line fault q) in
     absurd (cc (e.2))
 
-pub accepted-not_stopped : (words : List PlacedWord) (told : ParseState) → Accepts words told → Stops words → ⊥
-accepted-not_stopped words told p q =
-    let e = one_end (word_texts words) _ _ _ _ _ _ (accepts_ends words told p) (stops_ends words q) in absurd (cc (e.2))
+pub accepted-not_stopped : (words : List PlacedWord) (state : ParseState) → Accepts words state → Stops words → ⊥
+accepted-not_stopped words state p q =
+    let e = one_end (word_texts words) _ _ _ _ _ _ (accepts_ends words state p) (stops_ends words q)
+    in absurd (cc (e.2))
 
 pub stopped-not_refused : (words : List PlacedWord) (line : ℕ) (fault : Fault) → Stops words
     → ShowsFault words line fault → ⊥
@@ -144,7 +146,7 @@ stopped-not_refused words line fault p q =
 pub one_meaning : (bytes : List ℕ) (c d : Contents) (m n : ℕ) → FileMeans bytes c m → FileMeans bytes d n
     → (c ≡ d) × (m ≡ n)
 one_meaning bytes c d m n p q =
-    let e = one_telling (words_of bytes) p.told q.told p.accepted q.accepted in
+    let e = one_telling (words_of bytes) p.state q.state p.accepted q.accepted in
     (p.means ∙ ap meaning e ∙ sym q.means, p.left_out ∙ ap skipped_count e ∙ sym q.left_out)
 
 pub one_found_fault : (bytes : List ℕ) (line other_line : ℕ) (fault other_fault : Fault) → FoundFault bytes line fault
@@ -160,6 +162,6 @@ one_found_fault bytes line other_line fault other_fault (too_early p l f) (too_e
 pub meaning-no_found_fault : (bytes : List ℕ) (c : Contents) (n line : ℕ) (fault : Fault) → FileMeans bytes c n
     → FoundFault bytes line fault → ⊥
 meaning-no_found_fault bytes c n line fault p (word_shows q) =
-    accepted-not_refused (words_of bytes) p.told line fault p.accepted q
+    accepted-not_refused (words_of bytes) p.state line fault p.accepted q
 meaning-no_found_fault bytes c n line fault p (too_early q l f) =
-    accepted-not_stopped (words_of bytes) p.told p.accepted q
+    accepted-not_stopped (words_of bytes) p.state p.accepted q

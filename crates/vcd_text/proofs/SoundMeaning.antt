@@ -281,19 +281,19 @@ sound_signal : (c : ParseState) (d : VariableDeclaration) → IsClean c → IsCl
 sound_signal c d clean is agrees keeps =
     search (arith, kept_is, latest_length, length-replicate, bytes_eq-Decides, changes_rise, changes_end)
 
-pub meaning_is_sound : (bytes : List ℕ) (told : ParseState) → Accepts (words_of bytes) told → IsSound (meaning told)
-meaning_is_sound bytes told accepted =
-    let clean : IsClean told = grind (arith, clean_items, texts_are_runs) in
-    let declared = All-filter (λ d. not (is_skipped d)) IsCleanDeclaration told.declared clean.declared in
-    let agree = All-filter (λ d. not (is_skipped d)) (IsAgreed told) told.declared clean.agree in
-    let keeps = filter_passes (λ d. not (is_skipped d)) told.declared in
+pub meaning_is_sound : (bytes : List ℕ) (state : ParseState) → Accepts (words_of bytes) state → IsSound (meaning state)
+meaning_is_sound bytes state accepted =
+    let clean : IsClean state = grind (arith, clean_items, texts_are_runs) in
+    let declared = All-filter (λ d. not (is_skipped d)) IsCleanDeclaration state.declared clean.declared in
+    let agree = All-filter (λ d. not (is_skipped d)) (IsAgreed state) state.declared clean.agree in
+    let keeps = filter_passes (λ d. not (is_skipped d)) state.declared in
     record {
       header = clean.header;
       timescale = clean.timescale;
       end = clean.tick;
       few = grind (arith, length-map);
-      signals = All-map (IsSoundSignal told.tick) (declared_signal told.value_changes told.tick)
-          (kept_variables told.declared)
-          (λ k d within. sound_signal told _ clean (declared k d within) (agree k d within)
+      signals = All-map (IsSoundSignal state.tick) (declared_signal state.value_changes state.tick)
+          (kept_variables state.declared)
+          (λ k d within. sound_signal state _ clean (declared k d within) (agree k d within)
           (not-true _ (keeps k d within)));
     }

@@ -31,20 +31,21 @@ use Rattle.vcd_text.proofs.FileAnswers.{spelled_more}
 
 -- words that go on with the open item, or end it
 pub words_taken : (old new : Reader) (taken words : List PlacedWord) (r : Reads old taken)
-    → WordStep r.told (r.begun ++ words) new → Reads new (taken ++ words)
+    → WordStep r.state (r.begun ++ words) new → Reads new (taken ++ words)
 words_taken old new taken words r (goes_on at) = grind (arith, append_assoc)
 words_taken old new taken words r (ends_item i spelled allows at) =
-    let leads = leads_both initial_state r.told (state_after_item r.told i) r.items (i ∷ [])
-    (record { allowed = r.allowed; tells = r.tells }) (leads_one r.told (state_after_item r.told i) i allows refl) in
+    let leads = leads_both initial_state r.state (state_after_item r.state i) r.items (i ∷ [])
+    (record { allowed = r.allowed; state_is = r.state_is })
+    (leads_one r.state (state_after_item r.state i) i allows refl) in
     record {
       items = r.items ++ i ∷ [];
       whole = taken ++ words;
       begun = [];
-      told = state_after_item r.told i;
+      state = state_after_item r.state i;
       parts = sym (append-nil (taken ++ words));
       spelled = grind (arith, append_assoc, map-append, spelled_more);
       allowed = leads.allowed;
-      tells = leads.tells;
+      state_is = leads.state_is;
       at = at;
     }
 
@@ -79,7 +80,7 @@ line_shown m c begun w fault items.Dropped agrees (text, is) decided = grind ari
 
 -- the fault of a word is that of the definition, with its line, whatever follows
 pub one_shown : (old : Reader) (taken more : List PlacedWord) (w : PlacedWord) (r : Reads old taken) (fault : Fault)
-    → (fault ≡ NoMemory) ⊎ WordFault r.told (word_texts r.begun) w.text fault
+    → (fault ≡ NoMemory) ⊎ WordFault r.state (word_texts r.begun) w.text fault
     → (let e : ReadError = error_at (item_fault_line old.item old.line w.line) fault in
     (e ≡ memory_error) ⊎ ShowsFault (taken ++ w ∷ more) e.line e.fault)
 one_shown old taken more w r fault refused =
@@ -89,9 +90,9 @@ one_shown old taken more w r fault refused =
     ∙ append_assoc r.whole r.begun (w ∷ more) in
     error_shown words line fault (elim refused [
       | inl memory ↦ inl memory
-      | inr row ↦ inr (shown_by words r.whole r.begun more w r.items r.told line fault
-          (record { allowed = r.allowed; tells = r.tells }) parts r.spelled row
-          (line_shown old r.told r.begun w fault old.item r.at.0 r.at.1 row))
+      | inr row ↦ inr (shown_by words r.whole r.begun more w r.items r.state line fault
+          (record { allowed = r.allowed; state_is = r.state_is }) parts r.spelled row
+          (line_shown old r.state r.begun w fault old.item r.at.0 r.at.1 row))
     ])
 
 -- ---- both words of a change of several bits
@@ -105,9 +106,9 @@ whole_vector_taken m vs text digits code line code_line b takes taken r =
     let words : List PlacedWord = word_on text line ∷ word_on code code_line ∷ [] in
     let none = none_begun m r.begun b.between r.at.1 in
     words_taken m (record m { variables = vs }) taken words r
-    (whole_vector m r.told vs m.item (r.begun ++ words) b.letter digits code r.at.0 b.changes b.between b.among
+    (whole_vector m r.state vs m.item (r.begun ++ words) b.letter digits code r.at.0 b.changes b.between b.among
     (sym (ap (λ bs. word_texts (bs ++ words)) none ∙ ap (λ t. t ∷ code ∷ []) b.spelled))
-    (takes r.told (sym r.at.0.tick) r.at.0.variables))
+    (takes r.state (sym r.at.0.tick) r.at.0.variables))
 
 -- the code shows a fault, with the line of the first
 pub whole_vector_refused : (m new : Reader) (text digits code : List ℕ) (line code_line : ℕ) (fault : Fault)
@@ -119,12 +120,12 @@ whole_vector_refused m new text digits code line code_line fault b refuses taken
     let words : List PlacedWord = taken ++ first ∷ word_on code code_line ∷ more in
     let none = none_begun m r.begun b.between r.at.1 in
     let parts : words ≡ r.whole ++ first ∷ word_on code code_line ∷ more = grind (arith, append-nil) in
-    error_shown words line fault (elim (refuses r.told (sym r.at.0.tick) r.at.0.variables) [
+    error_shown words line fault (elim (refuses r.state (sym r.at.0.tick) r.at.0.variables) [
       | inl memory ↦ inl memory
-      | inr row ↦ inr (shown_by words r.whole (first ∷ []) more (word_on code code_line) r.items r.told line fault
-          (record { allowed = r.allowed; tells = r.tells }) parts r.spelled
-          (subst (λ t. WordFault r.told (t ∷ []) code fault) (sym b.spelled)
-          (vector_shown m r.told b.letter digits code fault r.at.0 b.changes b.among row))
+      | inr row ↦ inr (shown_by words r.whole (first ∷ []) more (word_on code code_line) r.items r.state line fault
+          (record { allowed = r.allowed; state_is = r.state_is }) parts r.spelled
+          (subst (λ t. WordFault r.state (t ∷ []) code fault) (sym b.spelled)
+          (vector_shown m r.state b.letter digits code fault r.at.0 b.changes b.among row))
           (ap (λ changing. fault_line changing (first ∷ []) (word_on code code_line)) (sym b.changes
           ∙ r.at.0.changing)))
     ])

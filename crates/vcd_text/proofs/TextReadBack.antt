@@ -21,12 +21,12 @@ pub read_back : (c : Contents) → IsSound c → FileMeans (text c) c 0
 read_back c sound =
     let all = items_lead c sound in
     record {
-      told = state_at c (value_changes_of c) c.end;
+      state = state_at c (value_changes_of c) c.end;
       accepted = record {
         items = items_of c;
         spelled = words_of_text c sound;
         allowed = all.allowed;
-        tells = all.tells;
+        state_is = all.state_is;
         definitions_ended = refl;
       };
       means = text_means c sound;

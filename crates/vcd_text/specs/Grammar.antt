@@ -165,9 +165,9 @@ word_texts words = map (λ word. word.text) words
 
 -- the words are accepted with this state: they spell items, with `$enddefinitions $end` among them, whose conditions
 -- hold
-pub record Accepts (words : List PlacedWord) (told : ParseState) : Type 0 where
+pub record Accepts (words : List PlacedWord) (state : ParseState) : Type 0 where
   pub items : List Item
   pub spelled : word_texts words ≡ spellings items
   pub allowed : AllowsAll initial_state items
-  pub tells : state_after initial_state items ≡ told
-  pub definitions_ended : IsTrue told.changing
+  pub state_is : state_after initial_state items ≡ state
+  pub definitions_ended : IsTrue state.changing

@@ -37,7 +37,7 @@ meaning c = record {
 
 -- the file is accepted and means these contents, with this number of skipped variables
 pub record FileMeans (bytes : List ℕ) (contents : Contents) (skipped : ℕ) : Type 0 where
-  pub told : ParseState
-  pub accepted : Accepts (words_of bytes) told
-  pub means : contents ≡ meaning told
-  pub left_out : skipped ≡ count_by is_skipped told.declared
+  pub state : ParseState
+  pub accepted : Accepts (words_of bytes) state
+  pub means : contents ≡ meaning state
+  pub left_out : skipped ≡ count_by is_skipped state.declared

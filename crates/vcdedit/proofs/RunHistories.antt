@@ -375,7 +375,7 @@ lines_are_run c depth skipped lines sound =
 
 -- what a file means is sound
 pub file_sound : (file : List ℕ) (c : Contents) (skipped : ℕ) → FileMeans file c skipped → IsSound c
-file_sound file c skipped means = subst IsSound (sym means.means) (meaning_is_sound file means.told means.accepted)
+file_sound file c skipped means = subst IsSound (sym means.means) (meaning_is_sound file means.state means.accepted)
 
 pub run_is : MachineRunIsRun
 run_is file script depth written writes = record {

@@ -219,7 +219,7 @@ lines_of_replays c depth skipped lines sound =
 pub run_is_of_replays : MachineRunIsOfReplays
 run_is_of_replays file script depth written writes =
     let sound : IsSound writes.contents =
-    subst IsSound (sym writes.means.means) (meaning_is_sound file writes.means.told writes.means.accepted) in
+    subst IsSound (sym writes.means.means) (meaning_is_sound file writes.means.state writes.means.accepted) in
     record {
       contents = writes.contents;
       skipped = writes.skipped;
@@ -261,5 +261,5 @@ replays_are_of_run file script depth written is = record {
   run = one_of_replays is.contents depth is.skipped (script_lines script) written
       (run_outcome is.contents is.skipped script depth) is.run
       (lines_of_replays is.contents depth is.skipped (script_lines script)
-      (subst IsSound (sym is.means.means) (meaning_is_sound file is.means.told is.means.accepted)));
+      (subst IsSound (sym is.means.means) (meaning_is_sound file is.means.state is.means.accepted)));
 }

@@ -97,12 +97,12 @@ pub record Reads (m : Reader) (words : List PlacedWord) : Type 0 where
   pub items : List Item
   pub whole : List PlacedWord
   pub begun : List PlacedWord
-  pub told : ParseState
+  pub state : ParseState
   pub parts : words ≡ whole ++ begun
   pub spelled : word_texts whole ≡ spellings items
   pub allowed : AllowsAll initial_state items
-  pub tells : state_after initial_state items ≡ told
-  pub at : IsAtState m told begun
+  pub state_is : state_after initial_state items ≡ state
+  pub at : IsAtState m state begun
 
 -- some words have been taken, fewer than 64 bits can count
 pub record IsUnderway (m : Reader) : Type 0 where

@@ -15,5 +15,5 @@ returns-in_err-declare c =
 pub returns : goal.returns
 returns c =
     closes_variable c.args.self.now c.declare.new.self c.note_place.new.self c.deref.result.now c.deref.ensures.value
-    (λ told words h many. c.in_ok-note_place.ensures told words h
+    (λ state words h many. c.in_ok-note_place.ensures state words h
     (omega (arith, c.len.ensures, c.declare.new.self.kept.ok.0, many))) c.in_ok-declare.ensures c.requires.item

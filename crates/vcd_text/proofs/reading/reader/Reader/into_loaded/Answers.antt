@@ -21,7 +21,7 @@ returns c =
       c.place_signals.auto.signals,
       ap (length {A = Signal}) c.deref_mut.ensures.value,
     )) in
-    let same : (bytes : List ℕ) (r : Reads c.args.self (words_of bytes)) → contents capture ≡ meaning r.told =
+    let same : (bytes : List ℕ) (r : Reads c.args.self (words_of bytes)) → contents capture ≡ meaning r.state =
     λ bytes r.
     let at = r.at.0 in
     λ i. record {
@@ -29,14 +29,14 @@ returns c =
       timescale = (parts.timescale ∙ at.timescale) i;
       end = (parts.end ∙ at.tick) i;
       signals = (ap (map signal_contents) (parts.signals ∙ whole)
-          ∙ c.in_ok-place_signals.ensures r.told at.scopes (ap (map signal_contents) c.deref_mut.ensures.value
-          ∙ c.in_ok-signals.ensures r.told at.variables)) i;
+          ∙ c.in_ok-place_signals.ensures r.state at.scopes (ap (map signal_contents) c.deref_mut.ensures.value
+          ∙ c.in_ok-signals.ensures r.state at.variables)) i;
     } in
     record {
       sound = λ bytes r. subst IsSound (sym (same bytes r))
-          (meaning_is_sound bytes r.told (accepts c.args.self (words_of bytes) r c.requires.complete));
+          (meaning_is_sound bytes r.state (accepts c.args.self (words_of bytes) r c.requires.complete));
       means = λ bytes r. record {
-        told = r.told;
+        state = r.state;
         accepted = accepts c.args.self (words_of bytes) r c.requires.complete;
         means = same bytes r;
         left_out = r.at.0.variables.skipped;

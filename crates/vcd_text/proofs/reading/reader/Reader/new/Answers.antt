@@ -7,11 +7,11 @@ returns c = record {
   items = [];
   whole = [];
   begun = [];
-  told = initial_state;
+  state = initial_state;
   parts = refl;
   spelled = refl;
   allowed = tt;
-  tells = refl;
+  state_is = refl;
   at = (
     record {
       header = c.new.ensures.items;

@@ -9,11 +9,11 @@ use Rattle.vcd_text.proofs.reading.reader.Reader.take_word.Goals as goal
 
 pub returns-in-Ok : goal.returns-in-Ok
 returns-in-Ok c = λ taken r. words_taken c.args.self.now c.take.new.self taken
-    (word_on c.args.text.now c.args.line ∷ []) r (c.in-Ok.ensures r.told r.begun r.at)
+    (word_on c.args.text.now c.args.line ∷ []) r (c.in-Ok.ensures r.state r.begun r.at)
 
 pub returns-in-Err : goal.returns-in-Err
 returns-in-Err c = λ taken more r.
     let w = word_on c.args.text.now c.args.line in
     let is = ap (λ line. error_at line c.in-Err.fault) (sym c.item_fault_line-shown.ensures) ∙ sym c.at.ensures in
     subst (λ (e : ReadError). (e ≡ memory_error) ⊎ ShowsFault (taken ++ w ∷ more) e.line e.fault) is
-    (one_shown c.args.self.now taken more w r c.in-Err.fault (c.in-Err.ensures r.told r.begun r.at))
+    (one_shown c.args.self.now taken more w r c.in-Err.fault (c.in-Err.ensures r.state r.begun r.at))

@@ -4,9 +4,9 @@ use Rattle.vcd_text.proofs.HeldScopes.{chain_begins}
 use Rattle.vcd_text.proofs.reading.scopes.Scopes.begin_chain.Goals as goal
 
 pub returns-clause-same : goal.returns-clause-same
-returns-clause-same c = λ told h.
+returns-clause-same c = λ state h.
     let old = c.args.self.now in
-    chain_begins old _ told
+    chain_begins old _ state
     (c.in_ok-push.ensures.items
     ∙ ap (λ (p : List ScopeName). old.chains.items ++ p ∷ []) (c.in_ok-shared.ensures
     ∙ ap (λ v. v.items) c.replace-chain.ensures.value))

@@ -4,4 +4,4 @@ use Rattle.vcd_text.proofs.reading.scopes.Scopes.cut_chain.Goals as goal
 
 pub returns-clause-same : goal.returns-clause-same
 returns-clause-same c =
-    λ told h. chain_cut c.args.self.now _ told refl c.truncate.ensures.items refl refl refl c.requires.reached h
+    λ state h. chain_cut c.args.self.now _ state refl c.truncate.ensures.items refl refl refl c.requires.reached h

@@ -13,43 +13,43 @@ use Rattle.vcd_text.proofs.reading.variables.Variables.change_at.Goals as goal
 pub set-requires : goal.set-requires
 set-requires c =
     let old = c.args.self.now in
-    let (told, code, k, later, had) = c.requires.known in
+    let (state, code, k, later, had) = c.requires.known in
     let digits = c.args.digits.now in
     let v = c.index_mut.result.now in
-    let wave = (own_wave old told code digits c.args.first k had).3.first.signal.wave.changes in
+    let wave = (own_wave old state code digits c.args.first k had).3.first.signal.wave.changes in
     record {
       late = subst (λ (u : Variable). All (λ (e : Change). e.tick ≤ c.args.tick) u.signal.wave.changes)
-          (sym (read_is old told code digits c.args.first k had v c.index_mut.ensures.value))
-          (All-weaker (λ (e : Change). e.tick ≤ told.tick) (λ (e : Change). e.tick ≤ c.args.tick)
-          (λ e le. omega (arith, le, later)) wave (wave_late old told code digits c.args.first k had));
+          (sym (read_is old state code digits c.args.first k had v c.index_mut.ensures.value))
+          (All-weaker (λ (e : Change). e.tick ≤ state.tick) (λ (e : Change). e.tick ≤ c.args.tick)
+          (λ e le. omega (arith, le, later)) wave (wave_late old state code digits c.args.first k had));
     }
 
 pub returns-then-width-gt64 : goal.returns-then-width-gt64
-returns-then-width-gt64 c = λ told code tick k had.
+returns-then-width-gt64 c = λ state code tick k had.
     let old = c.args.self.now in
     let digits = c.args.digits.now in
     let v = c.index_mut.result.now in
-    wide_changes old (with_item old.kept c.args.first c.set.new.self) told code digits c.args.first
+    wide_changes old (with_item old.kept c.args.first c.set.new.self) state code digits c.args.first
     c.index-width.result.now v c.set.new.self c.set.result k had
     c.index_mut.ensures.value c.index-width.ensures c.if-width-gt64.true refl
     (subst (λ t. OnOk c.set.result (Sets t digits v c.set.new.self)) (sym tick) c.set.ensures.sets)
     c.set.ensures.refuses
 
 pub returns-in_err-word : goal.returns-in_err-word
-returns-in_err-word c = λ told code tick k had.
+returns-in_err-word c = λ state code tick k had.
     let old = c.args.self.now in
     let digits = c.args.digits.now in
     let width = c.index-width.result.now in
     let failed = err_from_is_err_and c.from_residual.result c.from_residual.ensures.1 in
-    subst (λ r. ChangeResult told code digits r old) (sym (failed.1 ∙ ap Err failed.2))
-    (inr (refused old told code digits c.args.first k had width c.in_err-word.field-0.0
-    (width_is old told code digits c.args.first k had width c.index-width.ensures) c.in_err-word.ensures))
+    subst (λ r. ChangeResult state code digits r old) (sym (failed.1 ∙ ap Err failed.2))
+    (inr (refused old state code digits c.args.first k had width c.in_err-word.field-0.0
+    (width_is old state code digits c.args.first k had width c.index-width.ensures) c.in_err-word.ensures))
 
 pub returns : goal.returns
-returns c = λ told code tick k had.
+returns c = λ state code tick k had.
     let e : LoggedChange =
     record { tick = c.args.tick; position = c.args.first; word = c.in_ok-word.word } in
-    narrow_changes c.args.self.now c.append.new.groups told code c.args.digits.now c.args.first
+    narrow_changes c.args.self.now c.append.new.groups state code c.args.digits.now c.args.first
     c.index-width.result.now e k had c.index-width.ensures
     (omega (arith, c.if-width-gt64.false)) (sym tick) refl c.in_ok-word.ensures c.in_ok-append.ensures.grouped
     c.in_ok-append.ensures.logged tt

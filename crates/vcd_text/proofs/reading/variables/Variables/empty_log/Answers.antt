@@ -13,8 +13,8 @@ flush_log-requires c = grind (arith, variables_can_flush)
 pub returns-clause-same : goal.returns-clause-same
 returns-clause-same c =
     on_ok_weaker c.flush_log.result
-    (λ d told k.
-    flushed_match c.args.self.now c.flush_log.new.kept c.replace-groups.new.dest told k
+    (λ d state k.
+    flushed_match c.args.self.now c.flush_log.new.kept c.replace-groups.new.dest state k
     (ap (λ (gs : Vec (Vec LoggedChange)). gs.items) c.replace-groups.ensures.after ∙ c.new.ensures.items)
     (subst (λ (gs : Vec (Vec LoggedChange)). FlushesLog c.args.self.now.kept.items c.flush_log.new.kept.items
     (logged gs.items) (λ _. [])) c.replace-groups.ensures.value d)) c.flush_log.ensures

@@ -11,14 +11,14 @@ pub returns-in-None : goal.returns-in-None
 returns-in-None c = grind (arith, push_declares)
 
 pub returns-else-not-has_width : goal.returns-else-not-has_width
-returns-else-not-has_width c = λ told scopes k value_changes keeps.
+returns-else-not-has_width c = λ state scopes k value_changes keeps.
     let old = c.args.self.now in
     let first = c.in-Some-Position.first in
     let e = c.push.ensures in
     let had = sym c.get.ensures ∙ c.in-Some-Position.is ∙ ap Some c.in-Some-Position.field-0-is in
     let test = ap (λ n. option_map_or (λ (v : Variable). v.signal.wave.width == n) (slice_get old.kept.items first)
     false) (sym c.width.ensures.width) ∙ sym c.has_width.ensures ∙ c.if-not-has_width.false in
-    push_declares old c.push.new.self told scopes c.args.code.now c.args.signal first c.push.result k value_changes
+    push_declares old c.push.new.self state scopes c.args.code.now c.args.signal first c.push.result k value_changes
     c.requires.silent c.requires.bare keeps
     (inr (had, same_width (slice_get old.kept.items first) c.args.signal.wave.width test)) e.few e.kept e.widths e.log
     (when_ok c.push.result (Puts old c.push.new.self c.args.code.now (Position first))
