@@ -38,7 +38,7 @@ map_twice f (v ∷ vs) = ap (λ l. f (declaration v) ∷ l) (map_twice f vs)
 
 module _ (vs : Variables) (c : ParseState) (yielded rest : List Variable) (v : Variable) (signals : List Signal)
     (k : VariablesMatch vs c) (empty : vs.log.items ≡ []) (all : vs.kept.items ≡ yielded ++ v ∷ rest)
-    (state : map signal_contents signals ≡ map (declared_signal c.value_changes c.tick) (map declaration yielded)) where
+    (equal : map signal_contents signals ≡ map (declared_signal c.value_changes c.tick) (map declaration yielded)) where
   stands_at : slice_get vs.kept.items (length yielded) ≡ Some v
   stands_at = ap (λ l. slice_get l (length yielded)) all ∙ middle_of yielded rest v
 

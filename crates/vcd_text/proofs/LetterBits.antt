@@ -202,7 +202,7 @@ needed_where_one false n is one = refl
 pub kept_is : (count : ℕ) (word : LetterWord) (marks mask : ℕ) → 1 ≤ count → count ≤ 64 → mask < 2 ^ 64
     → mask ≡ 2 ^ (count - 1) - 1 → ((i : ℕ) → i < 64 → bit_at marks i ≡ (if is_spare_above word i then 0 else 1))
     → IsKept count word (65 - count_leading_zeros 64 (bit_and marks mask))
-kept_is count word marks mask least most fits is_mask state_is =
+kept_is count word marks mask least most fits is_mask marks_are =
     let m : ℕ = bit_and marks mask in
     let small : m < 2 ^ 64 = omega (arith, and_le_r marks mask, fits) in
     let length = has_length m small in
@@ -220,5 +220,5 @@ kept_is count word marks mask least most fits is_mask state_is =
           let place : 65 - count_leading_zeros 64 m - 2 ≡ n - 1 = omega (arith, kept) in
           let one = (both (omega (arith, kept))).0 in
           ap (is_spare_above word) place
-          ∙ needed_where_one _ _ (state_is (n - 1) (omega (arith, length.1.counted))) one;
+          ∙ needed_where_one _ _ (marks_are (n - 1) (omega (arith, length.1.counted))) one;
     }

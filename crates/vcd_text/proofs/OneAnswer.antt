@@ -124,8 +124,7 @@ one_fault words line other_line fault other_fault p q =
     )
 
 pub accepted-not_refused : (words : List PlacedWord) (state : ParseState) (line : ℕ) (fault : Fault)
-    → Accepts words state
-    → ShowsFault words line fault → ⊥
+    → Accepts words state → ShowsFault words line fault → ⊥
 accepted-not_refused words state line fault p q =
     let e = one_end (word_texts words) _ _ _ _ _ _ (accepts_ends words state p) (refuses_ends words line fault q) in
     absurd (cc (e.2))

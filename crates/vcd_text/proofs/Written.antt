@@ -16,7 +16,7 @@ carried : (out part rest left whole : List ℕ) → left ≡ part ++ rest → ou
     → (out ++ part) ++ rest ≡ whole
 carried out part rest left whole split is = append_assoc out part rest ∙ ap (λ l. out ++ l) (sym split) ∙ is
 
--- two pieces
+-- two parts
 pub writes_both : {W : Type 0} {t : W → Option (List ℕ)} {f : W → Bool} {s0 s1 s2 : WriteBuffer × W} {a b : List ℕ}
     → Emits t f s0 s1 a → Emits t f s1 s2 b → Emits t f s0 s2 (a ++ b)
 writes_both {t = t} {f = f} {s2 = s2} {a = a} {b = b} first second = grind (arith, append_assoc)
